@@ -1,0 +1,9 @@
+pub mod Numbers
+pub mod Texts
+pub mod Parts
+pub mod Known
+pub mod MonthOfDay
+pub mod Padded
+pub mod ReadBack
+pub mod RateGrammar
+pub mod DenomTexts

@@ -1,0 +1,51 @@
+ghost use Rattle.std.specs.Prelude.{◌≡◌, ◌≤◌};
+ghost use Rattle.ee_units.specs.Spelling.{in_range};
+
+use std::marker::Model;
+
+/// A bond's age: the count of calendar months from its issue month, 0 to 2335.
+#[derive(Clone, Copy, Debug, PartialEq, Eq, PartialOrd, Ord, Hash)]
+pub struct Age {
+    months: u16,
+}
+
+impl Model for Age {
+    ghost use Rattle.std.specs.Prelude.{ℕ, ◌≤◌};
+
+    ghost Value = { ℕ };
+
+    ghost view = { λ a. a.months };
+
+    ghost invariant = { λ a. a.months ≤ 2335 };
+
+    ghost inverse = { λ n. record { months = n } };
+}
+
+impl Age {
+    /// The age of so many months, where it is in range.
+    pub const fn new(months: u16) -> Option<Age>
+        ensures { result ≡ in_range 0 2335 months }
+    {
+        if months <= 2335 {
+            Some(Age { months })
+        } else {
+            None
+        }
+    }
+
+    /// The age of so many months.
+    pub const fn from_months(months: u16) -> Age
+        requires { months ≤ 2335 }
+        ensures { result ≡ months }
+    {
+        Age { months }
+    }
+
+    /// The count of months.
+    pub const fn months(self) -> u16
+        ensures value { result ≡ self }
+        ensures range { self ≤ 2335 }
+    {
+        self.months
+    }
+}

@@ -1,0 +1,98 @@
+ghost use Rattle.std.specs.Prelude.{◌≡◌, ◌≤◌};
+ghost use Rattle.std.specs.Option.{ok_or};
+ghost use Rattle.ee_units.specs.Spelling.{in_range, customer_of};
+
+use crate::faults::UnitFault;
+use crate::pieces::number;
+use std::fmt;
+use std::marker::Model;
+use std::str::FromStr;
+
+/// A customer's number, 1 to 999,999,999.
+#[derive(Clone, Copy, Debug, PartialEq, Eq, PartialOrd, Ord, Hash)]
+pub struct Customer {
+    number: u32,
+}
+
+impl Model for Customer {
+    ghost use Rattle.std.specs.Prelude.{ℕ, ◌≤◌};
+
+    ghost Value = { ℕ };
+
+    ghost view = { λ c. c.number };
+
+    ghost invariant = { λ c. (1 ≤ c.number) × (c.number ≤ 999999999) };
+
+    ghost inverse = { λ n. record { number = n } };
+}
+
+impl Customer {
+    /// The customer of that number, where it is in range.
+    pub const fn new(number: u32) -> Option<Customer>
+        ensures { result ≡ in_range 1 999999999 number }
+    {
+        if 1 <= number && number <= 999_999_999 {
+            Some(Customer { number })
+        } else {
+            None
+        }
+    }
+
+    /// The number.
+    pub const fn number(self) -> u32
+        ensures value { result ≡ self }
+        ensures low { 1 ≤ self }
+        ensures high { self ≤ 999999999 }
+    {
+        self.number
+    }
+}
+
+/// The plain number.
+impl fmt::Display for Customer {
+    ghost use Rattle.std.specs.Prelude.{Some};
+    ghost use Rattle.std.specs.Fmt.{decimal};
+
+    ghost output = { λ v. Some (decimal v) };
+
+    fn fmt<W: fmt::Write>(&self, f: &mut fmt::Formatter<W>) -> fmt::Result {
+        let number = self.number;
+        write!(f, "{number}")
+    }
+}
+
+/// The customer that one to nine digits spell, or `BadCustomer`. Leading zeros don't matter.
+pub fn read_customer(text: &str) -> Result<Customer, UnitFault>
+    ensures { result ≡ ok_or (customer_of text.now) UnitFault.BadCustomer }
+{
+    customer_in(text).ok_or(UnitFault::BadCustomer)
+}
+
+impl FromStr for Customer {
+    ghost use Rattle.std.specs.Prelude.{◌≡◌};
+    ghost use Rattle.std.specs.Option.{ok_or};
+    ghost use Rattle.ee_units.specs.Spelling.{customer_of};
+    ghost use Rattle.ee_units.specs.declared.faults.UnitFault.TheVariants.{BadCustomer};
+
+    type Err = UnitFault;
+
+    ghost from_str_gives = { λ text r. r ≡ ok_or (customer_of text) BadCustomer };
+
+    fn from_str(text: &str) -> Result<Customer, UnitFault> {
+        read_customer(text)
+    }
+}
+
+#[tactic(auto, unfolding(crate::specs::Spelling::customer_of))]
+fn customer_in(text: &str) -> Option<Customer>
+    ensures { result ≡ customer_of text.now }
+{
+    let number = number(text, 9)?;
+    if (1..=999_999_999).contains(&number) {
+        Some(Customer {
+            number: number as u32,
+        })
+    } else {
+        None
+    }
+}

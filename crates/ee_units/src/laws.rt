@@ -1,0 +1,42 @@
+//! Laws of the definitions: a body does nothing, and the clauses are the laws.
+
+ghost use Rattle.std.specs.Prelude.{◌≡◌, ℕ, ◌≤◌, ◌*◌, List, Some};
+ghost use Rattle.std.specs.Fmt.{decimal};
+ghost use Rattle.ee_units.specs.Calendar.{IsPeriod, period_start, is_announcement};
+ghost use Rattle.ee_units.specs.Denoms.{dollars, units_of, price_of, denom_of};
+ghost use Rattle.ee_units.specs.Grammar.{IsRateText};
+ghost use Rattle.ee_units.specs.Spelling.{rate_of, month_of, issue_of, day_of, customer_of, serial_of, SerialNumber};
+ghost use Rattle.ee_units.specs.Texts.{rate_text, month_text, day_text, serial_text};
+
+use crate::denoms::Denom;
+
+/// The grammar of rates: `rate_of` finds a rate in a text just where the text writes that rate.
+pub const fn rate_law()
+    ensures complete { (text : List ℕ) (r : ℕ) → IsRateText text r → rate_of text ≡ Some r }
+    ensures sound { (text : List ℕ) (r : ℕ) → rate_of text ≡ Some r → IsRateText text r }
+{}
+
+/// Each printed text reads back as the value that it was printed of.
+pub const fn texts_law()
+    ensures rate { (r : ℕ) → r ≤ 2000 → rate_of (rate_text r) ≡ Some r }
+    ensures month { (m : ℕ) → m ≤ 2335 → month_of (month_text m) ≡ Some m }
+    ensures issue { (m : ℕ) → m ≤ 1135 → issue_of (month_text m) ≡ Some m }
+    ensures day { (n : ℕ) → 12904 ≤ n → n ≤ 84005 → day_of (day_text n) ≡ Some n }
+    ensures customer { (n : ℕ) → 1 ≤ n → n ≤ 999999999 → customer_of (decimal n) ≡ Some n }
+    ensures serial { (s : SerialNumber) → 1 ≤ s.letter → s.letter ≤ 26 → 1 ≤ s.number → s.number ≤ 9999999999
+        → serial_of (serial_text s) ≡ Some s }
+    ensures denom { (d : Denom) → denom_of (decimal (dollars d)) ≡ Some d }
+{}
+
+/// Units and price: a denomination is 25 dollars a unit, and its price 12.50 dollars a unit.
+pub const fn denom_law()
+    ensures dollars { (d : Denom) → dollars d ≡ 25 * units_of d }
+    ensures price { (d : Denom) → price_of d ≡ 1250 * units_of d }
+{}
+
+/// Periods: the months of announcement are those that are their own period, and each month has just
+/// one period.
+pub const fn calendar_law()
+    ensures period { (m : ℕ) → IsPeriod m (period_start m) }
+    ensures unique { (m p q : ℕ) → IsPeriod m p → IsPeriod m q → p ≡ q }
+{}

@@ -1,0 +1,29 @@
+//! The units of the counter: money, rates, months, days, ages, denominations, serial numbers and
+//! customers, with the one spelling that is printed of each and the spellings that are read.
+#![tactic(auto)]
+
+mod ages;
+pub mod calendar;
+mod customers;
+mod days;
+mod denoms;
+mod faults;
+mod laws;
+mod money;
+mod months;
+mod pieces;
+mod precision;
+mod rates;
+mod serials;
+
+pub use ages::Age;
+pub use customers::{Customer, read_customer};
+pub use days::{Day, read_day};
+pub use denoms::{Denom, price, read_denom, units};
+pub use faults::UnitFault;
+pub use laws::{calendar_law, denom_law, rate_law, texts_law};
+pub use money::{Cents, Total};
+pub use months::{IssueMonth, Month, read_issue, read_month};
+pub use precision::Bits;
+pub use rates::{Rate, read_rate};
+pub use serials::{Serial, read_serial};

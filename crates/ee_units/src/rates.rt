@@ -1,0 +1,127 @@
+ghost use Rattle.std.specs.Prelude.{◌≡◌, ◌<◌, ◌≤◌, IfSome};
+ghost use Rattle.std.specs.Option.{ok_or};
+ghost use Rattle.std.specs.Io.BufRead.{strip_last};
+ghost use Rattle.ee_units.specs.Spelling.{in_range, hundredths_of, decimal_of, rate_of};
+
+use crate::faults::UnitFault;
+use crate::pieces::{number, parts_at_point};
+use std::fmt;
+use std::marker::Model;
+use std::str::FromStr;
+
+/// A yearly rate in hundredths of a percent, 0 to 2000.
+#[derive(Clone, Copy, Debug, PartialEq, Eq, PartialOrd, Ord, Hash)]
+pub struct Rate {
+    hundredths: u16,
+}
+
+impl Model for Rate {
+    ghost use Rattle.std.specs.Prelude.{ℕ, ◌≤◌};
+
+    ghost Value = { ℕ };
+
+    ghost view = { λ r. r.hundredths };
+
+    ghost invariant = { λ r. r.hundredths ≤ 2000 };
+
+    ghost inverse = { λ n. record { hundredths = n } };
+}
+
+impl Rate {
+    /// The rate of so many hundredths of a percent, where it is in range.
+    pub const fn new(hundredths: u16) -> Option<Rate>
+        ensures { result ≡ in_range 0 2000 hundredths }
+    {
+        if hundredths <= 2000 {
+            Some(Rate { hundredths })
+        } else {
+            None
+        }
+    }
+
+    /// The rate of so many hundredths of a percent.
+    pub const fn from_hundredths(hundredths: u16) -> Rate
+        requires { hundredths ≤ 2000 }
+        ensures { result ≡ hundredths }
+    {
+        Rate { hundredths }
+    }
+
+    /// The hundredths of a percent.
+    pub const fn hundredths(self) -> u16
+        ensures value { result ≡ self }
+        ensures range { self ≤ 2000 }
+    {
+        self.hundredths
+    }
+}
+
+/// The percents with two places and a percent sign, as `3.50%`.
+impl fmt::Display for Rate {
+    ghost use Rattle.std.specs.Prelude.{Some};
+    ghost use Rattle.ee_units.specs.Texts.{rate_text};
+
+    ghost output = { λ v. Some (rate_text v) };
+
+    fn fmt<W: fmt::Write>(&self, f: &mut fmt::Formatter<W>) -> fmt::Result {
+        let whole = self.hundredths / 100;
+        let part = self.hundredths % 100;
+        write!(f, "{whole}.{part:02}%")
+    }
+}
+
+/// The rate that the text spells, or `BadRate`: percents of one or two digits, then perhaps a point
+/// and one or two digits, then perhaps a percent sign.
+pub fn read_rate(text: &str) -> Result<Rate, UnitFault>
+    ensures { result ≡ ok_or (rate_of text.now) UnitFault.BadRate }
+{
+    rate_in(text).ok_or(UnitFault::BadRate)
+}
+
+impl FromStr for Rate {
+    ghost use Rattle.std.specs.Prelude.{◌≡◌};
+    ghost use Rattle.std.specs.Option.{ok_or};
+    ghost use Rattle.ee_units.specs.Spelling.{rate_of};
+    ghost use Rattle.ee_units.specs.declared.faults.UnitFault.TheVariants.{BadRate};
+
+    type Err = UnitFault;
+
+    ghost from_str_gives = { λ text r. r ≡ ok_or (rate_of text) BadRate };
+
+    fn from_str(text: &str) -> Result<Rate, UnitFault> {
+        read_rate(text)
+    }
+}
+
+#[tactic(auto, unfolding(crate::specs::Spelling::rate_of))]
+fn rate_in(text: &str) -> Option<Rate>
+    ensures { result ≡ rate_of text.now }
+{
+    let hundredths = decimal(without_percent(text))?;
+    Rate::new(u16::try_from(hundredths).ok()?)
+}
+
+fn without_percent(text: &str) -> &str
+    ensures { result.now ≡ strip_last 37 text.now }
+{
+    text.strip_suffix('%').unwrap_or(text)
+}
+
+#[tactic(auto, unfolding(crate::specs::Spelling::decimal_of))]
+fn decimal(text: &str) -> Option<u64>
+    ensures { result ≡ decimal_of text.now }
+{
+    match parts_at_point(text) {
+        Some((whole, part)) => Some(100 * number(whole, 2)? + hundredths(part)?),
+        None => Some(100 * number(text, 2)?),
+    }
+}
+
+#[tactic(auto, unfolding(crate::specs::Spelling::hundredths_of))]
+fn hundredths(text: &str) -> Option<u64>
+    ensures value { result ≡ hundredths_of text.now }
+    ensures bound { IfSome result (λ n. n < 1000) }
+{
+    let n = number(text, 2)?;
+    Some(if text.len() == 1 { 10 * n } else { n })
+}

@@ -1,0 +1,144 @@
+ghost use Rattle.std.specs.Prelude.{◌≡◌, ◌≤◌, option_map, codes};
+ghost use Rattle.std.specs.Option.{ok_or};
+ghost use Rattle.std.specs.Io.BufRead.{strip_last};
+ghost use Rattle.ee_units.specs.Spelling.{strip_first, before_end, serial_at, serial_from, serial_of};
+
+use crate::faults::UnitFault;
+use crate::pieces::number;
+use std::fmt;
+use std::marker::Model;
+use std::str::FromStr;
+
+/// A bond's serial number: a letter, and a number 1 to 9,999,999,999. Serials are ordered by letter,
+/// then by number. Leading zeros and hyphens belong to a spelling, and not to the serial.
+#[derive(Clone, Copy, Debug, PartialEq, Eq, PartialOrd, Ord, Hash)]
+pub struct Serial {
+    letter: u8,
+    number: u64,
+}
+
+impl Model for Serial {
+    ghost use Rattle.std.specs.Prelude.{◌≤◌};
+    ghost use Rattle.ee_units.specs.Spelling.{SerialNumber};
+
+    ghost Value = { SerialNumber };
+
+    ghost view = { λ s. record { letter = s.letter; number = s.number } };
+
+    ghost invariant = { λ s. (1 ≤ s.letter) × (s.letter ≤ 26) × (1 ≤ s.number) × (s.number ≤ 9999999999) };
+
+    ghost inverse = { λ v. record { letter = v.letter; number = v.number } };
+}
+
+impl Serial {
+    /// The serial of a letter, from 1 for A to 26 for Z, and a number, where both are in range.
+    #[tactic(auto, unfolding(crate::specs::Spelling::serial_at))]
+    pub const fn new(letter: u8, number: u64) -> Option<Serial>
+        ensures { result ≡ serial_at letter number }
+    {
+        if 1 <= letter && letter <= 26 && 1 <= number && number <= 9_999_999_999 {
+            Some(Serial { letter, number })
+        } else {
+            None
+        }
+    }
+
+    /// The letter, from 1 for A to 26 for Z.
+    pub const fn letter(self) -> u8
+        ensures value { result ≡ self.letter }
+        ensures low { 1 ≤ self.letter }
+        ensures high { self.letter ≤ 26 }
+    {
+        self.letter
+    }
+
+    /// The number, 1 to 9,999,999,999.
+    pub const fn number(self) -> u64
+        ensures value { result ≡ self.number }
+        ensures low { 1 ≤ self.number }
+        ensures high { self.number ≤ 9999999999 }
+    {
+        self.number
+    }
+}
+
+/// Letter, number without leading zeros and `EE`, as `C12EE`.
+impl fmt::Display for Serial {
+    ghost use Rattle.std.specs.Prelude.{Some};
+    ghost use Rattle.ee_units.specs.Texts.{serial_text};
+
+    ghost output = { λ v. Some (serial_text v) };
+
+    fn fmt<W: fmt::Write>(&self, f: &mut fmt::Formatter<W>) -> fmt::Result {
+        let letter = char::from(64 + self.letter);
+        let number = self.number;
+        write!(f, "{letter}{number}EE")
+    }
+}
+
+/// The serial that the text spells, or `BadSerial`: a letter A to Z, perhaps a hyphen, one to ten
+/// digits, perhaps a hyphen, and `EE`.
+pub fn read_serial(text: &str) -> Result<Serial, UnitFault>
+    ensures { result ≡ ok_or (serial_of text.now) UnitFault.BadSerial }
+{
+    serial_in(text).ok_or(UnitFault::BadSerial)
+}
+
+impl FromStr for Serial {
+    ghost use Rattle.std.specs.Prelude.{◌≡◌};
+    ghost use Rattle.std.specs.Option.{ok_or};
+    ghost use Rattle.ee_units.specs.Spelling.{serial_of};
+    ghost use Rattle.ee_units.specs.declared.faults.UnitFault.TheVariants.{BadSerial};
+
+    type Err = UnitFault;
+
+    ghost from_str_gives = { λ text r. r ≡ ok_or (serial_of text) BadSerial };
+
+    fn from_str(text: &str) -> Result<Serial, UnitFault> {
+        read_serial(text)
+    }
+}
+
+fn serial_in(text: &str) -> Option<Serial>
+    ensures { result ≡ serial_of text.now }
+{
+    let (letter, rest) = text.split_at_checked(1)?;
+    serial_from(letter.as_bytes()[0], rest)
+}
+
+#[tactic(auto, unfolding(crate::specs::Spelling::serial_from))]
+fn serial_from(letter: u8, rest: &str) -> Option<Serial>
+    ensures { result ≡ serial_from letter rest.now }
+{
+    if !letter.is_ascii_uppercase() {
+        return None;
+    }
+    let body = before_series(rest)?;
+    let number = number(without_first_hyphen(without_last_hyphen(body)), 10)?;
+    if (1..=9_999_999_999).contains(&number) {
+        Some(Serial {
+            letter: letter - 64,
+            number,
+        })
+    } else {
+        None
+    }
+}
+
+fn before_series(text: &str) -> Option<&str>
+    ensures { option_map (λ s. s.now) result ≡ before_end (codes "EE") text.now }
+{
+    text.strip_suffix("EE")
+}
+
+fn without_last_hyphen(text: &str) -> &str
+    ensures { result.now ≡ strip_last 45 text.now }
+{
+    text.strip_suffix('-').unwrap_or(text)
+}
+
+fn without_first_hyphen(text: &str) -> &str
+    ensures { result.now ≡ strip_first 45 text.now }
+{
+    text.strip_prefix('-').unwrap_or(text)
+}
