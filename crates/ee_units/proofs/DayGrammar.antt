@@ -1,6 +1,6 @@
 -- `day_of` finds just the days that the grammar has.
-use Rattle.std.proofs.Common.{◌≡◌, ◌∙◌, ℕ, ◌≤◌, true, false, List, ◌∷◌, ◌++◌, Option, Some, None, refl, sym, ap, arith, inl, inr, ℤ, pos, negsuc}
-use Rattle.std.specs.Prelude.{◌&&◌, nat_le, if◌then◌else◌, option_and_then}
+use Rattle.std.proofs.Common.{◌≡◌, ◌∙◌, ℕ, ◌≤◌, true, List, ◌∷◌, ◌++◌, Some, None, refl, ap, arith, inl, inr, ℤ, pos, negsuc}
+use Rattle.std.specs.Prelude.{◌&&◌, nat_le}
 use Rattle.std.proofs.lemmas.Bool.{cases_Bool, and_parts, leb-true, le-leb}
 use Rattle.std.proofs.lemmas.Option.{none-some, same_Some, option_and_then_some}
 use Rattle.jiff_core.specs.Calendar.{days_from_civil}
@@ -53,23 +53,23 @@ pub day_sound : (text : List ℕ) (n : ℕ) → day_of text ≡ Some n → IsDay
 unfolding day_of
 day_sound text n e = option_and_then_some _ (parts_at 45 text) n e (λ parts parts_is a.
     option_and_then_some _ (parts_at 45 (parts.1)) n a (λ rest rest_is b.
-      option_and_then_some _ (digits_of 4 (parts.0)) n b (λ year year_is d.
-        option_and_then_some _ (digits_of 2 (rest.0)) n d (λ month month_is f.
-          option_and_then_some _ (digits_of 2 (rest.1)) n f (λ day day_is at.
-            let found = date_only year month day n at in
-            record {
-              ys = parts.0;
-              ms = rest.0;
-              ds = rest.1;
-              year = year;
-              month = month;
-              day = day;
-              parts = parts_at-split 45 text (parts.0) (parts.1) parts_is ∙ ap (λ t. parts.0 ++ 45 ∷ t) (parts_at-split 45 (parts.1) (rest.0) (rest.1) rest_is);
-              year_is = digits_of-only 4 (parts.0) year year_is;
-              month_is = digits_of-only 2 (rest.0) month month_is;
-              day_is = digits_of-only 2 (rest.1) day day_is;
-              date = found.date;
-              value = found.days.is;
-              low = found.days.low;
-              high = found.days.high;
-            })))))
+    option_and_then_some _ (digits_of 4 (parts.0)) n b (λ year year_is d.
+    option_and_then_some _ (digits_of 2 (rest.0)) n d (λ month month_is f.
+    option_and_then_some _ (digits_of 2 (rest.1)) n f (λ day day_is at.
+    let found = date_only year month day n at in
+    record {
+      ys = parts.0;
+      ms = rest.0;
+      ds = rest.1;
+      year = year;
+      month = month;
+      day = day;
+      parts = parts_at-split 45 text (parts.0) (parts.1) parts_is ∙ ap (λ t. parts.0 ++ 45 ∷ t) (parts_at-split 45 (parts.1) (rest.0) (rest.1) rest_is);
+      year_is = digits_of-only 4 (parts.0) year year_is;
+      month_is = digits_of-only 2 (rest.0) month month_is;
+      day_is = digits_of-only 2 (rest.1) day day_is;
+      date = found.date;
+      value = found.days.is;
+      low = found.days.low;
+      high = found.days.high;
+    })))))

@@ -1,16 +1,16 @@
 -- `month_of`, `day_of` and `serial_of` find just the values that the grammar has.
-use Rattle.std.proofs.Common.{◌≡◌, ◌∙◌, ℕ, suc, ◌<◌, ◌≤◌, ◌+◌, ◌-◌, ◌*◌, true, false, List, [], ◌∷◌, ◌++◌, length, get_or, Option, Some, None, Bool, refl, sym, ap, arith, inl, inr, length-append}
-use Rattle.std.specs.Prelude.{◌==◌, nat_lt, nat_le, if◌then◌else◌, option_and_then}
+use Rattle.std.proofs.Common.{◌≡◌, ◌∙◌, ℕ, suc, ◌<◌, ◌≤◌, ◌+◌, ◌-◌, ◌*◌, true, false, List, ◌∷◌, ◌++◌, length, get_or, Option, Some, None, Bool, refl, ap, arith, inl, inr, length-append}
+use Rattle.std.specs.Prelude.{◌==◌, nat_lt, nat_le}
 use Rattle.std.specs.Char.{is_ascii_digit}
 use Rattle.std.specs.List.{position_or_len}
 use Rattle.std.proofs.Common.{eqb-true}
-use Rattle.std.proofs.lemmas.Bool.{cases_Bool, cases_lt, and_parts, leb-true, le-leb}
+use Rattle.std.proofs.lemmas.Bool.{cases_Bool, cases_lt, leb-true, le-leb}
 use Rattle.std.proofs.lemmas.Bool.Decides.{nat_tests}
 use Rattle.std.proofs.lemmas.List.Sums.{position_or_len_is}
 use Rattle.std.proofs.lemmas.List.{get_or_append_left, get_or-append-add}
 use Rattle.std.proofs.lemmas.Option.{none-some, same_Some, option_and_then_some}
 use Rattle.std.proofs.Math.Seq.{get_or-append_seam}
-use Rattle.ee_units.specs.Spelling.{number_of, digits_of, parts_at, in_range, month_at, month_from, month_of}
+use Rattle.ee_units.specs.Spelling.{digits_of, parts_at, in_range, month_at, month_from, month_of}
 use Rattle.ee_units.specs.Grammar.{WritesDigits, WritesMonth, year_first, month_first, IsMonthText}
 use Rattle.ee_units.proofs.Numbers.{IsDigits}
 use Rattle.ee_units.proofs.Parts.{number_of-writes, number_of-only, digit_at, digit_is_not, parts_at-joined, parts_at-split}
@@ -80,24 +80,24 @@ unfolding month_at
 month_only text year month n written e = option_and_then_some _ (in_range 1 12 month) n e (λ m is rest.
     let mm = in_range-is 1 12 month m is in
     option_and_then_some _ (in_range 2005 2199 year) n rest (λ y is_y at.
-      let yy = in_range-is 2005 2199 year y is_y in
-      elim (cases_Bool (nat_le 24065 (12 * y + m))) [
-        | inl holds ↦
-            let start : 24065 ≤ 12 * y + m = leb-true _ _ holds in
-            let value : 12 * y + m - 24065 ≡ n = same_Some _ _ (rw holds at at) in
-            record {
-              year = year;
-              month = month;
-              written = written;
-              first = omega (arith, mm);
-              last = omega (arith, mm);
-              range = omega (arith, yy);
-              value = omega (arith, mm, yy, start, value);
-            }
-        | inr fails ↦
-            let none : None ≡ Some n = rw fails at at in
-            absurd (none-some n none)
-      ]))
+    let yy = in_range-is 2005 2199 year y is_y in
+    elim (cases_Bool (nat_le 24065 (12 * y + m))) [
+      | inl holds ↦
+          let start : 24065 ≤ 12 * y + m = leb-true _ _ holds in
+          let value : 12 * y + m - 24065 ≡ n = same_Some _ _ (rw holds at at) in
+          record {
+            year = year;
+            month = month;
+            written = written;
+            first = omega (arith, mm);
+            last = omega (arith, mm);
+            range = omega (arith, yy);
+            value = omega (arith, mm, yy, start, value);
+          }
+      | inr fails ↦
+          let none : None ≡ Some n = rw fails at at in
+          absurd (none-some n none)
+    ]))
 
 pub month_sound : (text : List ℕ) (n : ℕ) → month_of text ≡ Some n → IsMonthText text n
 unfolding month_of
@@ -105,9 +105,9 @@ month_sound text n e = go (parts_at 45 text) (parts_at 47 text) refl refl e
   where
     go : (hyphen slash : Option (List ℕ × List ℕ)) → parts_at 45 text ≡ hyphen → parts_at 47 text ≡ slash → month_from hyphen slash ≡ Some n → IsMonthText text n
     go (Some p) slash is other e = option_and_then_some _ (digits_of 4 (p.0)) n e (λ y y_is rest.
-      option_and_then_some _ (digits_of 2 (p.1)) n rest (λ m m_is at.
+        option_and_then_some _ (digits_of 2 (p.1)) n rest (λ m m_is at.
         month_only text y m n (rw (parts_at-split 45 text (p.0) (p.1) is) (year_first (p.0) (p.1) y m (digits_of-only 4 (p.0) y y_is) (digits_of-only 2 (p.1) m m_is))) at))
     go None (Some p) other is e = option_and_then_some _ (digits_of 2 (p.0)) n e (λ m m_is rest.
-      option_and_then_some _ (digits_of 4 (p.1)) n rest (λ y y_is at.
+        option_and_then_some _ (digits_of 4 (p.1)) n rest (λ y y_is at.
         month_only text y m n (rw (parts_at-split 47 text (p.0) (p.1) is) (month_first (p.1) (p.0) y m (digits_of-only 4 (p.1) y y_is) (digits_of-only 2 (p.0) m m_is))) at))
     go None None _ _ e = absurd (none-some n e)

@@ -1,11 +1,11 @@
 -- `serial_of` finds just the serials that the grammar has.
-use Rattle.std.proofs.Common.{◌≡◌, ◌∙◌, ℕ, ◌<◌, ◌≤◌, ◌+◌, ◌-◌, true, false, List, [], ◌∷◌, ◌++◌, length, get_or, take, drop, Option, Some, None, Bool, refl, sym, ap, ap₂, arith, inl, inr, length-append, eqb-true, ltb-true}
-use Rattle.std.specs.Prelude.{◌==◌, ◌&&◌, codes, nat_eq, nat_lt, nat_le, if◌then◌else◌, option_and_then}
+use Rattle.std.proofs.Common.{◌≡◌, ◌∙◌, ℕ, ◌<◌, ◌≤◌, ◌+◌, ◌-◌, true, false, List, [], ◌∷◌, ◌++◌, length, get_or, take, drop, Some, None, refl, sym, ap, ap₂, arith, inl, inr, length-append, eqb-true, ltb-true}
+use Rattle.std.specs.Prelude.{◌==◌, ◌&&◌, codes, nat_eq}
 use Rattle.std.specs.List.{ends_with}
 use Rattle.std.specs.Cmp.Lexicographic.{pointwise}
 use Rattle.std.specs.Io.BufRead.{strip_last, ends_with_byte}
 use Rattle.std.proofs.Common.{take-append-drop}
-use Rattle.std.proofs.lemmas.Bool.{cases_Bool, and_parts, false≢true, leb-true, le-leb}
+use Rattle.std.proofs.lemmas.Bool.{cases_Bool, and_parts, false≢true, le-leb}
 use Rattle.std.proofs.lemmas.List.{append-nil}
 use Rattle.std.proofs.lemmas.Option.{none-some, same_Some, option_and_then_some}
 use Rattle.std.proofs.Math.Seq.{drop-append_seam, take-append_seam}
@@ -100,31 +100,31 @@ first_of (b ∷ bs) = elim (cases_Bool (b == 45)) [
 from_letter : (letter : ℕ) (rest : List ℕ) (s : SerialNumber) → serial_from letter rest ≡ Some s → IsSerialText (letter ∷ rest) s
 unfolding serial_from
 from_letter letter rest s e = option_and_then_some _ (in_range 65 90 letter) s e (λ l l_is a.
-  option_and_then_some _ (before_end (codes "EE") rest) s a (λ body body_is b.
+    option_and_then_some _ (before_end (codes "EE") rest) s a (λ body body_is b.
     option_and_then_some _ (number_of 10 (strip_first 45 (strip_last 45 body))) s b (λ n n_is d.
-      option_and_then_some _ (in_range 1 9999999999 n) s d (λ m m_is f.
-        let ll = in_range-is 65 90 letter l l_is in
-        let mm = in_range-is 1 9999999999 n m m_is in
-        let same = same_Some _ _ f in
-        let is_letter : l - 64 ≡ s.letter = ap (λ (t : SerialNumber). t.letter) same in
-        let is_number : m ≡ s.number = ap (λ (t : SerialNumber). t.number) same in
-        let front = first_of (strip_last 45 body) in
-        let end = last_of body in
-        let whole : body ≡ front.first ++ strip_first 45 (strip_last 45 body) ++ end.last = end.parts ∙ ap (λ t. t ++ end.last) front.parts in
-        let first_letter : letter ≡ 64 + s.letter = omega (arith, ll, is_letter) in
-        record {
-          first = front.first;
-          digits = strip_first 45 (strip_last 45 body);
-          last = end.last;
-          parts = ap₂ (λ x y. x ∷ y) first_letter (before_end-split rest body body_is ∙ ap (λ t. t ++ codes "EE") whole);
-          first_is = front.is;
-          digits_is = number_of-only 10 (strip_first 45 (strip_last 45 body)) s.number (n_is ∙ ap Some (mm.0 ∙ is_number));
-          last_is = end.is;
-          letter_low = omega (arith, ll, is_letter);
-          letter_high = omega (arith, ll, is_letter);
-          number_low = omega (arith, mm, is_number);
-          number_high = omega (arith, mm, is_number);
-        }))))
+    option_and_then_some _ (in_range 1 9999999999 n) s d (λ m m_is f.
+    let ll = in_range-is 65 90 letter l l_is in
+    let mm = in_range-is 1 9999999999 n m m_is in
+    let same = same_Some _ _ f in
+    let is_letter : l - 64 ≡ s.letter = ap (λ (t : SerialNumber). t.letter) same in
+    let is_number : m ≡ s.number = ap (λ (t : SerialNumber). t.number) same in
+    let front = first_of (strip_last 45 body) in
+    let end = last_of body in
+    let whole : body ≡ front.first ++ strip_first 45 (strip_last 45 body) ++ end.last = end.parts ∙ ap (λ t. t ++ end.last) front.parts in
+    let first_letter : letter ≡ 64 + s.letter = omega (arith, ll, is_letter) in
+    record {
+      first = front.first;
+      digits = strip_first 45 (strip_last 45 body);
+      last = end.last;
+      parts = ap₂ (λ x y. x ∷ y) first_letter (before_end-split rest body body_is ∙ ap (λ t. t ++ codes "EE") whole);
+      first_is = front.is;
+      digits_is = number_of-only 10 (strip_first 45 (strip_last 45 body)) s.number (n_is ∙ ap Some (mm.0 ∙ is_number));
+      last_is = end.is;
+      letter_low = omega (arith, ll, is_letter);
+      letter_high = omega (arith, ll, is_letter);
+      number_low = omega (arith, mm, is_number);
+      number_high = omega (arith, mm, is_number);
+    }))))
 
 pub serial_sound : (text : List ℕ) (s : SerialNumber) → serial_of text ≡ Some s → IsSerialText text s
 serial_sound [] s e = absurd (none-some s e)

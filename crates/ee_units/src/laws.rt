@@ -20,22 +20,19 @@ pub const fn rate_law()
 pub const fn month_law()
     ensures complete { (text : List ℕ) (n : ℕ) → IsMonthText text n → month_of text ≡ Some n }
     ensures sound { (text : List ℕ) (n : ℕ) → month_of text ≡ Some n → IsMonthText text n }
-{
-}
+{}
 
 /// The grammar of days.
 pub const fn day_law()
     ensures complete { (text : List ℕ) (n : ℕ) → IsDayText text n → day_of text ≡ Some n }
     ensures sound { (text : List ℕ) (n : ℕ) → day_of text ≡ Some n → IsDayText text n }
-{
-}
+{}
 
 /// The grammar of serials.
 pub const fn serial_law()
     ensures complete { (text : List ℕ) (s : SerialNumber) → IsSerialText text s → serial_of text ≡ Some s }
     ensures sound { (text : List ℕ) (s : SerialNumber) → serial_of text ≡ Some s → IsSerialText text s }
-{
-}
+{}
 
 /// Each printed text reads back as the value that it was printed of.
 pub const fn texts_law()

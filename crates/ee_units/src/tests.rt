@@ -179,7 +179,10 @@ fn printed_texts(rt: HostRuntime) -> Result<(), Fail> {
         (Cents(u64::MAX).to_string(alloc)?, "184467440737095516.15"),
         (Total(0).to_string(alloc)?, "0.00"),
         (Total(519_622).to_string(alloc)?, "5196.22"),
-        (Total(u128::MAX).to_string(alloc)?, "3402823669209384634633746074317682114.55"),
+        (
+            Total(u128::MAX).to_string(alloc)?,
+            "3402823669209384634633746074317682114.55",
+        ),
         (Rate::from_hundredths(0).to_string(alloc)?, "0.00%"),
         (Rate::from_hundredths(350).to_string(alloc)?, "3.50%"),
         (Rate::from_hundredths(2000).to_string(alloc)?, "20.00%"),
@@ -215,7 +218,11 @@ fn calendar(rt: HostRuntime) -> Result<(), Fail> {
         ("2010-04", "2009-11"),
         ("2099-12", "2099-11"),
     ] {
-        assert_eq!(rt; calendar::period_of(read_issue(issued)?), read_issue(wanted)?, "{issued}");
+        assert_eq!(rt;
+            calendar::period_of(read_issue(issued)?),
+            read_issue(wanted)?,
+            "{issued}"
+        );
     }
     for (day, wanted) in [
         ("2005-05-01", "2005-05"),
@@ -223,7 +230,11 @@ fn calendar(rt: HostRuntime) -> Result<(), Fail> {
         ("2012-03-01", "2012-03"),
         ("2199-12-31", "2199-12"),
     ] {
-        assert_eq!(rt; calendar::month_of(read_day(day)?), read_month(wanted)?, "{day}");
+        assert_eq!(rt;
+            calendar::month_of(read_day(day)?),
+            read_month(wanted)?,
+            "{day}"
+        );
     }
     for (denom, count, cents) in [
         ("50", 2, 2500),
