@@ -1,11 +1,11 @@
 -- How far directed powers lie from exact ones, and from one another.
-use Rattle.std.proofs.Common.{◌≡◌, ◌≢◌, ℕ, zero, suc, ◌+◌, ◌-◌, ◌*◌, ◌/◌, ◌^◌, ◌<◌, ◌≤◌, arith, add-one, zero-mul, refl, sym, ap, ◌∙◌, subst, inl, inr}
+use Rattle.std.proofs.Common.{◌≡◌, ◌≢◌, ℕ, zero, suc, ◌+◌, ◌-◌, ◌*◌, ◌^◌, ◌<◌, ◌≤◌, arith, add-one, zero-mul, sym, ap, ◌∙◌, subst, inl, inr}
 use Rattle.std.proofs.Math.Nat.{mul-le-mul_left, lt_of_mul-lt-mul_left, pow-suc, pow-zero, one-mul, pow-le-pow_left, pow-lt-pow_left, one-le-pow, mul-lt-mul_of_pos_left}
 use Rattle.std.proofs.lemmas.Nat.{pow_pos, pow-add, mul-le}
 use Rattle.std.proofs.lemmas.Bool.{cases_lt}
 use Rattle.ee_roots.specs.Products.{down, up, power_down, power_up}
-use Rattle.ee_roots.specs.Roots.{IsBelow, IsAbove, IsLow, IsHigh, Encloses}
-use Rattle.ee_roots.proofs.Directed.{power_up-none, power_down-none, down_le, down_gt, up_ge, up_lt, power_down-le-up, power_up-near, one-ge-256}
+use Rattle.ee_roots.specs.Roots.{IsLow, IsHigh, Encloses}
+use Rattle.ee_roots.proofs.Directed.{power_up-none, power_down-none, down_le, down_gt, up_ge, up_lt, power_down-le-up, power_up-near}
 
 pow-one : (n : ℕ) → n ^ (0 + 1) ≡ n
 pow-one n = pow-suc n 0 ∙ ap (λ x. x * n) (pow-zero n) ∙ one-mul n
@@ -80,7 +80,7 @@ low_next b r low l =
     let s6 : 2 ^ (6 * b) ≡ (2 ^ b) ^ 6 = pow-pow 2 6 b in
     let t : (2 ^ b) ^ 6 ≡ (2 ^ b) ^ 5 * 2 ^ b = pow-suc (2 ^ b) 5 in
     let over : 2 ^ b * (20000 + r) < power_up b (low + 1) 5 * 20000 =
-        elim (cases_lt (2 ^ b * (20000 + r)) (power_up b (low + 1) 5 * 20000)) [ inl lt ↦ lt | inr le ↦ absurd (omega (arith, l.2 (low + 1) le)) ] in
+    elim (cases_lt (2 ^ b * (20000 + r)) (power_up b (low + 1) 5 * 20000)) [ inl lt ↦ lt | inr le ↦ absurd (omega (arith, l.2 (low + 1) le)) ] in
     let u : power_up b (low + 1) 5 * (2 ^ b) ^ 5 ≤ (low + 1 + 1) ^ 6 = power_up-le_next b (low + 1) 5 (omega (arith, l.0)) in
     let two : low + 1 + 1 ≡ low + 2 = omega arith in
     let u' : power_up b (low + 1) 5 * (2 ^ b) ^ 5 ≤ (low + 2) ^ 6 = rw two at u in
@@ -94,7 +94,7 @@ high_before b r n from_one h =
     let s6 : 2 ^ (6 * b) ≡ (2 ^ b) ^ 6 = pow-pow 2 6 b in
     let t : (2 ^ b) ^ 6 ≡ (2 ^ b) ^ 5 * 2 ^ b = pow-suc (2 ^ b) 5 in
     let under : power_down b (n + 1) 5 * 20000 < 2 ^ b * (20000 + r) =
-        elim (cases_lt (power_down b (n + 1) 5 * 20000) (2 ^ b * (20000 + r))) [ inl lt ↦ lt | inr le ↦ absurd (omega (arith, h.2 (n + 1) (omega arith) le)) ] in
+    elim (cases_lt (power_down b (n + 1) 5 * 20000) (2 ^ b * (20000 + r))) [ inl lt ↦ lt | inr le ↦ absurd (omega (arith, h.2 (n + 1) (omega arith) le)) ] in
     let u : n ^ 6 ≤ power_down b (n + 1) 5 * (2 ^ b) ^ 5 = power_down-ge_before b n 5 from_one in
     let pos : 0 < (2 ^ b) ^ 5 = one-le-pow 5 (2 ^ b) (pow_pos b) in
     let v : (2 ^ b) ^ 5 * (power_down b (n + 1) 5 * 20000) < (2 ^ b) ^ 5 * (2 ^ b * (20000 + r)) = mul-lt-mul_of_pos_left under pos in
@@ -114,14 +114,15 @@ sixth_le m n h =
 pub high-le : (b r low high : ℕ) → IsLow b r low → IsHigh b r high → high ≤ low + 3
 high-le b r low high l h =
     elim (cases_lt high (2 ^ b + 2)) [
-      inl near ↦ omega (arith, l.0)
-    | inr far ↦
-        let e : high ≡ (high - 2) + 2 = omega arith in
-        let h' : IsHigh b r ((high - 2) + 2) = subst (λ n. IsHigh b r n) e h in
-        let x : (high - 2) ^ 6 * 20000 < 2 ^ (6 * b) * (20000 + r) = high_before b r (high - 2) (omega arith) h' in
-        let y = low_next b r low l in
-        let z : (high - 2) ^ 6 < (low + 2) ^ 6 = omega (arith, x, y) in
-        omega (arith, sixth_below (high - 2) (low + 2) z) ]
+      | inl near ↦ omega (arith, l.0)
+      | inr far ↦
+          let e : high ≡ (high - 2) + 2 = omega arith in
+          let h' : IsHigh b r ((high - 2) + 2) = subst (λ n. IsHigh b r n) e h in
+          let x : (high - 2) ^ 6 * 20000 < 2 ^ (6 * b) * (20000 + r) = high_before b r (high - 2) (omega arith) h' in
+          let y = low_next b r low l in
+          let z : (high - 2) ^ 6 < (low + 2) ^ 6 = omega (arith, x, y) in
+          omega (arith, sixth_below (high - 2) (low + 2) z)
+    ]
 
 pub low-le_high : (b r low high : ℕ) → IsLow b r low → IsHigh b r high → low ≤ high
 low-le_high b r low high l h =
@@ -132,7 +133,7 @@ low-le_high b r low high l h =
 
 -- one product adds at most six to the distance
 apart-step : (s p q l h l' h' k : ℕ) → k ≤ 4 → 0 < s → q ≤ p + 3 → 32 * q ≤ 33 * s → 32 * l ≤ (33 + 2 * k) * s
-  → h ≤ l + (3 + 6 * k) → h' * s < h * q + s → l * p < l' * s + s → h' ≤ l' + (9 + 6 * k)
+    → h ≤ l + (3 + 6 * k) → h' * s < h * q + s → l * p < l' * s + s → h' ≤ l' + (9 + 6 * k)
 apart-step s p q l h l' h' k few some close near_q near_l apart up_bound down_bound =
     let a : h * q ≤ (l + (3 + 6 * k)) * q = mul-le h q (l + (3 + 6 * k)) q apart (omega arith) in
     let c : l * q ≤ l * (p + 3) = mul-le-mul_left l close in
@@ -142,14 +143,14 @@ apart-step s p q l h l' h' k few some close near_q near_l apart up_bound down_bo
     omega (arith, lt_of_mul-lt-mul_left s e)
 
 pub powers_apart : (b p q k : ℕ) → 8 ≤ b → k ≤ 4 → p ≤ q → q ≤ p + 3 → 32 * q ≤ 33 * 2 ^ b
-  → power_up b q k ≤ power_down b p k + (3 + 6 * k)
+    → power_up b q k ≤ power_down b p k + (3 + 6 * k)
 unfolding power_up power_down
 powers_apart b p q zero big few order close near = omega arith
 powers_apart b p q (suc k) big few order close near =
     let ih = powers_apart b p q k big (omega arith) order close near in
     let near_p : 32 * p ≤ 33 * 2 ^ b = omega arith in
     let near_l : 32 * power_down b p k ≤ (33 + 2 * k) * 2 ^ b =
-        omega (arith, power_down-le-up b p k, power_up-near b p k big (omega arith) near_p) in
+    omega (arith, power_down-le-up b p k, power_up-near b p k big (omega arith) near_p) in
     let g = apart-step (2 ^ b) p q (power_down b p k) (power_up b q k) (down b (power_down b p k) p) (up b (power_up b q k) q) k (omega arith) (pow_pos b) close near near_l ih
-        (up_lt b (power_up b q k) q) (down_gt b (power_down b p k) p) in
+    (up_lt b (power_up b q k) q) (down_gt b (power_down b p k) p) in
     omega (arith, g)

@@ -1,10 +1,9 @@
 -- What directed products and powers keep.
 use Rattle.std.proofs.Common.{◌≡◌, ℕ, zero, suc, ◌+◌, ◌-◌, ◌*◌, ◌/◌, ◌^◌, ◌<◌, ◌≤◌, arith, add-one, refl, sym, ap, ◌∙◌, subst, inl, inr}
-use Rattle.std.proofs.Math.Nat.{div-mul-le_self, lt-div-mul-add, mul-le-mul_left, le_of_mul-le-mul_left, lt_of_mul-lt-mul_left}
+use Rattle.std.proofs.Math.Nat.{div-mul-le_self, lt-div-mul-add, mul-le-mul_left, lt_of_mul-lt-mul_left}
 use Rattle.std.proofs.lemmas.Grind.{div_ceil_times}
 use Rattle.std.proofs.lemmas.Nat.{pow_pos, pow-add, mul-le}
 use Rattle.std.proofs.Math.Pow.{pow_mono}
-use Rattle.std.specs.Int.{div_ceil}
 use Rattle.ee_roots.specs.Products.{down, up, power_down, power_up}
 use Rattle.ee_roots.specs.Roots.{IsLow, IsHigh}
 use Rattle.std.proofs.lemmas.Bool.{cases_lt}
@@ -110,7 +109,7 @@ power_up-near b p (suc k) h few near =
     let q = power_up b p k in
     let ih : 32 * power_up b p k ≤ (33 + 2 * k) * 2 ^ b = power_up-near b p k h (omega arith) near in
     let step : 32 * up b (power_up b p k) p ≤ (33 + 2 * k + 2) * 2 ^ b =
-        up-near (2 ^ b) (power_up b p k) p (up b (power_up b p k) p) (33 + 2 * k) (one-ge-256 b h) (omega arith) near ih (up_lt b (power_up b p k) p) in
+    up-near (2 ^ b) (power_up b p k) p (up b (power_up b p k) p) (33 + 2 * k) (one-ge-256 b h) (omega arith) near ih (up_lt b (power_up b p k) p) in
     omega (arith, step)
 
 -- ---- five products of 33 / 32 are above 1.1
@@ -127,7 +126,7 @@ unfolding power_down
 power_down-grows b k zero one = omega arith
 power_down-grows b k (suc j) one =
     let g : (33 + j + 1) * k ≤ down b (power_down b (33 * k) j) (33 * k) =
-        down-grows b k (33 + j) (power_down b (33 * k) j) one (omega arith) (power_down-grows b k j one) in
+    down-grows b k (33 + j) (power_down b (33 * k) j) one (omega arith) (power_down-grows b k j one) in
     omega (arith, g)
 
 -- the sixth power of 33 / 32 is above that of each root
@@ -205,18 +204,26 @@ top_exceeds b r s w big small one wanted =
     omega (arith, top_reaches b r s w big small one wanted, power_down-le-up b (s + s / 32) 5)
 
 pub IsLow-from_next : (b r p above w : ℕ) → w ≡ 2 ^ b * (20000 + r) → 2 ^ b ≤ p → above ≤ p + 1
-  → power_up b p 5 * 20000 ≤ w → w < power_up b above 5 * 20000 → IsLow b r p
-IsLow-from_next b r p above w wanted from_one next fits exceeds =
-    (from_one, omega arith, λ q h. elim (cases_lt p q) [
-      inl lt ↦ absurd (omega (arith, h, power_up-mono b above q 5 (omega arith)))
-    | inr le ↦ le ])
+    → power_up b p 5 * 20000 ≤ w → w < power_up b above 5 * 20000 → IsLow b r p
+IsLow-from_next b r p above w wanted from_one next fits exceeds = (
+  from_one,
+  omega arith,
+  λ q h. elim (cases_lt p q) [
+    | inl lt ↦ absurd (omega (arith, h, power_up-mono b above q 5 (omega arith)))
+    | inr le ↦ le
+  ],
+)
 
 pub IsHigh-from_last : (b r p below w : ℕ) → w ≡ 2 ^ b * (20000 + r) → 2 ^ b ≤ p → p ≤ below + 1
-  → power_down b below 5 * 20000 < w → w ≤ power_down b p 5 * 20000 → IsHigh b r p
-IsHigh-from_last b r p below w wanted from_one last misses reaches =
-    (from_one, omega arith, λ q one h. elim (cases_lt q p) [
-      inl lt ↦ absurd (omega (arith, h, power_down-mono b q below 5 (omega arith)))
-    | inr le ↦ le ])
+    → power_down b below 5 * 20000 < w → w ≤ power_down b p 5 * 20000 → IsHigh b r p
+IsHigh-from_last b r p below w wanted from_one last misses reaches = (
+  from_one,
+  omega arith,
+  λ q one h. elim (cases_lt q p) [
+    | inl lt ↦ absurd (omega (arith, h, power_down-mono b q below 5 (omega arith)))
+    | inr le ↦ le
+  ],
+)
 
 pub IsHigh-one : (b p : ℕ) → p ≡ 2 ^ b → IsHigh b 0 p
 IsHigh-one b p one =

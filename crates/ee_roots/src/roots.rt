@@ -23,10 +23,8 @@ impl Model for Root {
 
     ghost view = { λ a. record { low = a.low; high = a.high; bits = a.bits } };
 
-    ghost invariant = {
-        λ a. (2 ^ a.bits ≤ a.low) × (a.low ≤ a.high) × (a.high ≤ a.low + 3)
-            × (32 * a.high ≤ 33 * 2 ^ a.bits) × (8 ≤ a.bits) × (a.bits ≤ 62)
-    };
+    ghost invariant = { λ a. (2 ^ a.bits ≤ a.low) × (a.low ≤ a.high) × (a.high ≤ a.low + 3)
+        × (32 * a.high ≤ 33 * 2 ^ a.bits) × (8 ≤ a.bits) × (a.bits ≤ 62) };
 }
 
 /// The bounds of the sixth root of `1 + rate / 20000`: the greatest number whose sixth power, each

@@ -1,5 +1,5 @@
 use Rattle.std.proofs.Common.{arith, sym, ◌∙◌, ap}
-use Rattle.ee_roots.specs.Products.{down, power_down}
+use Rattle.ee_roots.specs.Products.{down}
 use Rattle.ee_roots.proofs.Directed.{power_down-none, power_down-more, power_down-small, near-small}
 use Rattle.ee_roots.proofs.products.raise_down.Goals as goal
 

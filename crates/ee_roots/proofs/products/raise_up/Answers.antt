@@ -1,5 +1,5 @@
 use Rattle.std.proofs.Common.{arith, sym, ◌∙◌, ap}
-use Rattle.ee_roots.specs.Products.{up, power_up}
+use Rattle.ee_roots.specs.Products.{up}
 use Rattle.ee_roots.proofs.Directed.{power_up-none, power_up-more, power_up-small, near-small}
 use Rattle.ee_roots.proofs.products.raise_up.Goals as goal
 

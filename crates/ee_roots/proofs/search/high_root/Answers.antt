@@ -22,7 +22,7 @@ loop-high-init c =
       apart = omega (arith, one-ge-256 b c.requires.precise);
       near_one = omega (arith, one-div-32 b (omega arith), c.requires.one);
       below_misses = one_misses b r s w (omega arith) c.requires.one is;
-      high_reaches = omega (arith, top_reaches b r s w c.requires.precise c.wanted-wanted.ensures.range c.requires.one is)
+      high_reaches = omega (arith, top_reaches b r s w c.requires.precise c.wanted-wanted.ensures.range c.requires.one is);
     }
 
 pub overflow_mul-raise_down : goal.overflow_mul-raise_down
@@ -34,4 +34,4 @@ returns-clause-high c =
     let is : c.wanted-wanted.result ≡ 2 ^ c.args.bits * (20000 + c.args.rate) = c.wanted-wanted.ensures.value ∙ ap (λ n. n * (20000 + c.args.rate)) c.requires.one in
     let i = c.loop-high.invariant in
     IsHigh-from_last c.args.bits c.args.rate c.loop-high.high c.loop-high.below c.wanted-wanted.result
-      is (omega arith) (omega arith) i.below_misses i.high_reaches
+    is (omega arith) (omega arith) i.below_misses i.high_reaches

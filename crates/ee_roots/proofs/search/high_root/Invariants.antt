@@ -1,4 +1,4 @@
-use Rattle.std.proofs.Common.{◌+◌, ◌-◌, ◌*◌, ◌^◌, ◌<◌, ◌≤◌}
+use Rattle.std.proofs.Common.{◌-◌, ◌*◌, ◌^◌, ◌<◌, ◌≤◌}
 use Rattle.ee_roots.specs.Products.{power_down}
 use Rattle.ee_roots.proofs.search.high_root.Given as goal
 
@@ -8,7 +8,7 @@ invariant-loop-high l = record {
   apart : l.below < l.high;
   near_one : 32 * l.high ≤ 33 * 2 ^ l.bits;
   below_misses : power_down l.bits l.below 5 * 20000 < l.wanted;
-  high_reaches : l.wanted ≤ power_down l.bits l.high 5 * 20000
+  high_reaches : l.wanted ≤ power_down l.bits l.high 5 * 20000;
 }
 
 abbrev pub decreases-loop-high : goal.decreases-loop-high

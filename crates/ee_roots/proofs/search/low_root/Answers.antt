@@ -16,7 +16,7 @@ loop-above-init c =
       apart = omega (arith, one-ge-256 b c.requires.precise);
       near_one = omega (arith, one-div-32 b (omega arith), c.requires.one);
       low_fits = one_fits b r s w c.requires.one is;
-      above_exceeds = top_exceeds b r s w c.requires.precise c.wanted-wanted.ensures.range c.requires.one is
+      above_exceeds = top_exceeds b r s w c.requires.precise c.wanted-wanted.ensures.range c.requires.one is;
     }
 
 pub overflow_mul-raise_up : goal.overflow_mul-raise_up
@@ -28,4 +28,4 @@ returns-clause-low c =
     let is : c.wanted-wanted.result ≡ 2 ^ c.args.bits * (20000 + c.args.rate) = c.wanted-wanted.ensures.value ∙ ap (λ n. n * (20000 + c.args.rate)) c.requires.one in
     let i = c.loop-above.invariant in
     IsLow-from_next c.args.bits c.args.rate c.loop-above.low c.loop-above.above c.wanted-wanted.result
-      is (omega arith) (omega arith) i.low_fits i.above_exceeds
+    is (omega arith) (omega arith) i.low_fits i.above_exceeds
