@@ -27,6 +27,31 @@ impl Model for Root {
         × (32 * a.high ≤ 33 * 2 ^ a.bits) × (8 ≤ a.bits) × (a.bits ≤ 62) };
 }
 
+impl Root {
+    /// The low bound.
+    pub fn low(&self) -> u128
+        ensures { result ≡ self.now.low }
+    {
+        self.low
+    }
+
+    /// The high bound.
+    pub fn high(&self) -> u128
+        ensures { result ≡ self.now.high }
+    {
+        self.high
+    }
+
+    /// The precision.
+    pub fn bits(&self) -> Bits
+        ensures value { result ≡ self.now.bits }
+        ensures precise { 8 ≤ self.now.bits }
+        ensures fits { self.now.bits ≤ 62 }
+    {
+        self.bits
+    }
+}
+
 /// The bounds of the sixth root of `1 + rate / 20000`: the greatest number whose sixth power, each
 /// product rounded up, doesn't exceed that fraction, and the least whose sixth power, each product
 /// rounded down, reaches it; both from 1 on.

@@ -5,7 +5,7 @@ use Rattle.ee_value.specs.declared.rates.Rates.{Rates}
 use Rattle.ee_value.specs.Rounding.{grown}
 
 -- the rate in force in half-year k, from 0 on
-abbrev pub rate_in : Rates → ℕ → ℕ
+unfoldable pub rate_in : Rates → ℕ → ℕ
 rate_in rates k = rates.fixed
 
 -- each rate is at most 20 %
