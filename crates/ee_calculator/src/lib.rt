@@ -2,5 +2,24 @@
 #![tactic(auto)]
 
 mod bonds;
+mod cells;
+mod columns;
+mod laws;
+mod notes;
+mod row_values;
+mod rows;
+mod sheets;
+mod totals;
+mod writing;
+
+#[cfg(test)]
+mod tests;
 
 pub use bonds::Bond;
+pub use laws::adds_up_law;
+pub use notes::Note;
+pub use row_values::{plain_row, row};
+pub use rows::{Row, SERIES};
+pub use sheets::Sheet;
+pub use totals::sheet;
+pub use writing::{WriteFailed, write_sheet};

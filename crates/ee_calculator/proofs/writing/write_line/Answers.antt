@@ -1,0 +1,15 @@
+use Rattle.std.proofs.Common.{◌≡◌, ◌∙◌, subst, sym, ◌++◌, ◌∷◌, [], Bool, List, ℕ}
+use Rattle.ee_device.specs.Written.{WritesFront}
+use Rattle.std.specs.List.{flat_map}
+use Rattle.ee_calculator.specs.Sheets.{placed, line, columns}
+use Rattle.ee_calculator.specs.Lines.{cell_of}
+use Rattle.ee_device.proofs.Fronts.{then_all, then_cut}
+use Rattle.ee_calculator.proofs.writing.write_line.Goals as goal
+
+pub returns-then-write_cells : goal.returns-then-write_cells
+unfolding line
+returns-then-write_cells g c = then_all _ _ _ _ _ _ _ c.write_cells.ensures c.if-write_cells.true c.write_whole.ensures
+
+pub returns-else-write_cells : goal.returns-else-write_cells
+unfolding line
+returns-else-write_cells g c = then_cut _ _ _ (10 ∷ []) _ c.write_cells.ensures c.if-write_cells.false
