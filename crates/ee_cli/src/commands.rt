@@ -106,10 +106,22 @@ fn value_command<'a>(alloc: Global) -> Result<clap::Command<'a>, AllocError>
     ensures local { IfOk result (λ c. (fields_of c).has_globals ≡ false) }
 {
     let row = named(alloc, "value", "Print the value of a bond in a month");
-    let row = with(row, positional(alloc, "denom", "Denomination in dollars, as 50"))?;
-    let row = with(row, positional(alloc, "issued", "Issue month, as 2010-05 or 05/2010"))?;
-    let row = with(row, positional(alloc, "month", "Month of the value, as 2015-05"))?;
-    with(row, positional(alloc, "rate", "Fixed rate in percent, as 3.50"))
+    let row = with(
+        row,
+        positional(alloc, "denom", "Denomination in dollars, as 50"),
+    )?;
+    let row = with(
+        row,
+        positional(alloc, "issued", "Issue month, as 2010-05 or 05/2010"),
+    )?;
+    let row = with(
+        row,
+        positional(alloc, "month", "Month of the value, as 2015-05"),
+    )?;
+    with(
+        row,
+        positional(alloc, "rate", "Fixed rate in percent, as 3.50"),
+    )
 }
 
 fn named<'a>(alloc: Global, name: &'a str, about: &'a str) -> clap::Command<'a>

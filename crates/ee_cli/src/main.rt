@@ -4,6 +4,9 @@
 mod commands;
 mod lines;
 mod run;
+#[cfg(test)]
+mod tests;
+mod values;
 
 use run::run_words;
 use std::io;

@@ -1,7 +1,20 @@
 //! Running one command line.
 
+ghost use Rattle.std.specs.Prelude.{◌≡◌, ◌≢◌, ℕ, OnOk, map, string_bytes};
+ghost use Rattle.std.specs.Io.KnownBytes.{Appends};
+ghost use Rattle.ee_units.specs.declared.denoms.Denom.{Denom};
+ghost use Rattle.ee_cli.specs.Answer.{IsAsked, view_of};
+ghost use Rattle.ee_cli.specs.CommandLine.{value};
+ghost use Rattle.ee_cli.specs.Printed.{value_line};
+
 use crate::commands::{Command, CommandFault, read_command};
-use std::io::{self, Read, Write};
+use crate::values::value_text;
+use ee_device::write_whole;
+use ee_units::Age;
+use ee_value::ValueFault;
+use std::alloc::Global;
+use std::io::{Read, Write};
+use thiserror::Error;
 
 /// The line was carried out.
 pub const DONE: u8 = 0;
@@ -15,39 +28,98 @@ pub const BAD_LINE: u8 = 2;
 /// A file, a socket, memory or a store failed.
 pub const FAILED: u8 = 3;
 
-/// Runs the line of those words, the first of which is the program's name: the exit status.
+/// Why a good line was not carried out.
+#[derive(Clone, Copy, Debug, PartialEq, Eq, Error)]
+enum RunFault {
+    #[error("unsettled at age {}", .0.months())]
+    Unsettled(Age),
+    #[error("input or output failed")]
+    Device,
+    #[error("no memory")]
+    NoMemory,
+}
+
+impl From<ValueFault> for RunFault {
+    fn from(fault: ValueFault) -> RunFault {
+        match fault {
+            ValueFault::Unsettled { month } => RunFault::Unsettled(month),
+            ValueFault::NoMemory => RunFault::NoMemory,
+        }
+    }
+}
+
+/// Runs the line of those words, the first of which is the program's name: the exit status. Where the
+/// words ask for a value and the status is 0, the output gained just that value's line.
 pub fn run_words<R: Read, W: Write, E: Write>(
     rt: &HostRuntime,
     words: &[String],
     _input: &mut R,
     output: &mut W,
     faults: &mut E,
-) -> u8 {
+) -> u8
+    ensures { (denom : Denom) (issued month rate : ℕ)
+        → IsAsked (map (λ w. string_bytes w) words.now) (Ok (value denom issued month rate)) → result ≡ 0
+        → Appends (W.contents output.old) (W.contents output.new) (value_line denom issued month rate) }
+{
     match read_command(rt.alloc(), words) {
-        Ok(command) => run_command(command, output),
-        Err(fault) => report(&fault, output, faults),
+        Ok(command) => match run_command(rt.alloc(), command, output) {
+            Ok(()) => DONE,
+            Err(fault) => report(fault, faults),
+        },
+        Err(CommandFault::Help(text)) => help(&text, output, faults),
+        Err(fault) => refuse(&fault, faults),
     }
 }
 
-fn run_command<W: Write>(command: Command, output: &mut W) -> u8 {
+// Carries out a command.
+fn run_command<W: Write>(alloc: Global, command: Command, output: &mut W) -> Result<(), RunFault>
+    ensures { (denom : Denom) (issued month rate : ℕ) → view_of command ≡ value denom issued month rate
+        → OnOk result (Appends (W.contents output.old) (W.contents output.new) (value_line denom issued month rate)) }
+{
     match command {
         Command::Value(denom, issued, month, rate) => {
-            status_of(writeln!(output, "{denom} {issued} {month} {rate}"), DONE)
+            let text = value_text(alloc, denom, issued, month, rate)?;
+            print(&text, output)
         }
     }
 }
 
-fn report<W: Write, E: Write>(fault: &CommandFault, output: &mut W, faults: &mut E) -> u8 {
+fn print<W: Write>(text: &str, output: &mut W) -> Result<(), RunFault>
+    ensures { OnOk result (Appends (W.contents output.old) (W.contents output.new) text.now) }
+{
+    if write_whole(output, text.as_bytes()) {
+        Ok(())
+    } else {
+        Err(RunFault::Device)
+    }
+}
+
+// Tells why a command was not carried out.
+fn report<E: Write>(fault: RunFault, faults: &mut E) -> u8
+    ensures { result ≢ 0 }
+{
+    let told = writeln!(faults, "{fault}");
     match fault {
-        CommandFault::Help(text) => status_of(write!(output, "{text}"), DONE),
-        CommandFault::Line(text) => status_of(write!(faults, "{text}"), BAD_LINE),
-        CommandFault::Argument(name) => {
-            status_of(writeln!(faults, "bad argument: {name}"), BAD_LINE)
-        }
-        CommandFault::NoMemory => status_of(writeln!(faults, "no memory"), FAILED),
+        RunFault::Unsettled(_) if told.is_ok() => REFUSED,
+        _ => FAILED,
     }
 }
 
-fn status_of(written: io::Result<()>, status: u8) -> u8 {
-    if written.is_ok() { status } else { FAILED }
+fn help<W: Write, E: Write>(text: &str, output: &mut W, faults: &mut E) -> u8 {
+    match print(text, output) {
+        Ok(()) => DONE,
+        Err(fault) => report(fault, faults),
+    }
+}
+
+// Tells why the words ask for nothing.
+fn refuse<E: Write>(fault: &CommandFault, faults: &mut E) -> u8
+    ensures { result ≢ 0 }
+{
+    let told = match fault {
+        CommandFault::Help(text) | CommandFault::Line(text) => write!(faults, "{text}"),
+        CommandFault::Argument(name) => writeln!(faults, "bad argument: {name}"),
+        CommandFault::NoMemory => return report(RunFault::NoMemory, faults),
+    };
+    if told.is_ok() { BAD_LINE } else { FAILED }
 }
