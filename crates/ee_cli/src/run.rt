@@ -89,7 +89,8 @@ fn report<E: Write>(fault: RunFault, faults: &mut E) -> u8
 }
 
 fn help<W: Write, E: Write>(text: &str, output: &mut W, faults: &mut E) -> u8
-    ensures { (result ≡ 0) ⊎ (result ≡ 3) }
+    ensures status { (result ≡ 0) ⊎ (result ≡ 3) }
+    ensures printed { result ≡ 0 → Appends (W.contents output.old) (W.contents output.new) text.now }
 {
     match print(text, output) {
         Ok(()) => DONE,
