@@ -1,5 +1,9 @@
-ghost use Rattle.std.specs.Prelude.{◌≡◌, ◌≤◌, ◌↔◌, IsTrue};
-ghost use Rattle.ee_value.specs.Value.{redemption};
+ghost use Rattle.std.specs.Prelude.{◌≡◌, ◌↔◌, IsTrue};
+ghost use Rattle.std.specs.Option.{option_copied};
+ghost use Rattle.std.specs.Ordering.{nat_cmp};
+ghost use Rattle.std.specs.BTreeMap.{get};
+ghost use Rattle.ee_units.specs.Calendar.{age_of, period_start};
+ghost use Rattle.published_values.specs.Agreement.{Pays, PaysOf};
 
 use crate::published::Published;
 use anyhow::{Context, Result};
@@ -33,13 +37,23 @@ impl RateTables {
     }
 
     /// Whether a bond of that issue month pays the published value in that month.
-    pub fn agree_with(&self, row: &Published) -> bool {
-        let table = self.periods.get(&calendar::period_of(row.issued));
-        let age = calendar::age(row.issued, row.redeemed);
-        match (table, age) {
-            (Some(table), Some(age)) => pays(table, age, row.unit),
-            _ => false,
+    pub fn agree_with(&self, row: &Published) -> bool
+        ensures { IsTrue result ↔ PaysOf (get nat_cmp self.now.periods (period_start row.now.issued))
+            (age_of row.now.issued row.now.redeemed) row.now.unit.0 }
+    {
+        let Some(table) = self.table_of(row.issued) else {
+            return false;
+        };
+        match calendar::age(row.issued, row.redeemed) {
+            Some(age) => pays(table, age, row.unit),
+            None => false,
         }
+    }
+
+    fn table_of(&self, issued: IssueMonth) -> Option<&UnitTable>
+        ensures { option_copied result ≡ get nat_cmp self.now.periods (period_start issued) }
+    {
+        self.periods.get(&calendar::period_of(issued))
     }
 }
 
@@ -51,7 +65,7 @@ fn period(record: &StringRecord) -> Result<(IssueMonth, Rate)> {
 
 /// Whether a bond pays so much a unit at an age: 50 dollars of denomination are two units.
 fn pays(table: &UnitTable, age: Age, unit: Cents) -> bool
-    ensures { IsTrue result ↔ ((12 ≤ age) × (unit.0 ≡ redemption table.now age)) }
+    ensures { IsTrue result ↔ Pays table.now age unit.0 }
 {
     match bond_value(table, Denom::Fifty, age) {
         Quote::NotEligible => false,
