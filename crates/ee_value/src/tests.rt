@@ -5,7 +5,9 @@ use ee_units::{Age, Bits, Cents, Denom, Rate};
 use std::test::Fail;
 
 fn rates(hundredths: u16) -> Rates {
-    Rates { fixed: Rate::from_hundredths(hundredths.min(2000)) }
+    Rates {
+        fixed: Rate::from_hundredths(hundredths.min(2000)),
+    }
 }
 
 fn age(months: u16) -> Age {
@@ -17,7 +19,11 @@ fn bits(places: u8) -> Bits {
 }
 
 fn pays(cents: u64, penalty: bool, matured: bool) -> Quote {
-    Quote::Pays { cents: Cents(cents), penalty, matured }
+    Quote::Pays {
+        cents: Cents(cents),
+        penalty,
+        matured,
+    }
 }
 
 /// The unit at the start of a half-year and of the four after it.
@@ -51,10 +57,16 @@ fn months(rt: HostRuntime) -> Result<(), Fail> {
         assert_eq!(rt; found, wanted, "{hundredths} at {months}");
     }
     let fault = Unsettled { month: age(1) };
-    assert_eq!(rt; format!(in rt.alloc(); "{fault}")?.as_str(), "unsettled at age 1");
+    assert_eq!(rt;
+        format!(in rt.alloc(); "{fault}")?.as_str(),
+        "unsettled at age 1"
+    );
     let refused = unit_table(rt.alloc(), rates(350), bits(8)).err();
     assert_eq!(rt; refused, Some(ValueFault::from(fault)));
-    assert_eq!(rt; format!(in rt.alloc(); "{}", ValueFault::from(fault))?.as_str(), "unsettled at age 1");
+    assert_eq!(rt;
+        format!(in rt.alloc(); "{}", ValueFault::from(fault))?.as_str(),
+        "unsettled at age 1"
+    );
     Ok(())
 }
 
@@ -118,10 +130,30 @@ fn quotes(rt: HostRuntime) -> Result<(), Fail> {
         (340, Denom::Fifty, 241, pays(5014, false, false)),
         (360, Denom::Fifty, 240, pays(5104, false, false)),
         (2000, Denom::Fifty, 12, pays(2884, true, false)),
-        (2000, Denom::TenThousand, 359, pays(149_847_200, false, false)),
-        (2000, Denom::TenThousand, 360, pays(152_246_800, false, true)),
-        (2000, Denom::TenThousand, 361, pays(152_246_800, false, true)),
-        (2000, Denom::TenThousand, 2335, pays(152_246_800, false, true)),
+        (
+            2000,
+            Denom::TenThousand,
+            359,
+            pays(149_847_200, false, false),
+        ),
+        (
+            2000,
+            Denom::TenThousand,
+            360,
+            pays(152_246_800, false, true),
+        ),
+        (
+            2000,
+            Denom::TenThousand,
+            361,
+            pays(152_246_800, false, true),
+        ),
+        (
+            2000,
+            Denom::TenThousand,
+            2335,
+            pays(152_246_800, false, true),
+        ),
         (0, Denom::TenThousand, 12, pays(500_000, true, false)),
         (0, Denom::TenThousand, 239, pays(500_000, false, false)),
         (0, Denom::TenThousand, 240, pays(1_000_000, false, false)),
