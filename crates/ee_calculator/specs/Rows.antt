@@ -23,6 +23,7 @@ pub record Columns : Type 0 where
 unfoldable pub value_in : ℕ → ℕ → Rates → ℕ → ℕ
 value_in units issued rates month = units * redemption rates (month - issued)
 
+-- columns, in the order of the table below
 abbrev pub columns_with : Note → ℕ → ℕ → ℕ → Option ℕ → Option ℕ → Option ℕ → Columns
 columns_with note price interest value rate next last = record {
   next_accrual = next;
