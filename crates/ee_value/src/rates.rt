@@ -16,7 +16,6 @@ impl Rates {
         ensures value { result ≡ rate_in self.now _half_year }
         ensures range { InRange self.now }
     {
-        let _hundredths = self.fixed.hundredths();
-        self.fixed
+        Rate::from_hundredths(self.fixed.hundredths())
     }
 }
