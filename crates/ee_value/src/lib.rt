@@ -15,5 +15,5 @@ pub use accrual::unit_at;
 pub use bonds::bond_value;
 pub use faults::{Unsettled, ValueFault};
 pub use quotes::Quote;
-pub use rates::Rates;
+pub use rates::{RateRow, Rates};
 pub use tables::{UnitTable, unit_table};
