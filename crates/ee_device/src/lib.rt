@@ -1,11 +1,15 @@
-//! Whole writes to a device: either all of a text, or a front of it where the device failed.
+//! Devices: reading a source whole, and writing a text whole or a front of it where the device failed.
 #![tactic(auto)]
 
 ghost use Rattle.std.specs.Prelude.{◌≡◌, length};
 ghost use Rattle.ee_device.specs.Written.{WritesFront};
 
+mod reading;
+
 #[cfg(test)]
 mod tests;
+
+pub use reading::{ReadFault, read_whole};
 
 use std::io::Write;
 

@@ -19,5 +19,5 @@ pub use bonds::bond_value;
 pub use faults::{Unsettled, ValueFault};
 pub use laws::{chain_law, exact_law, examples_law, open_law, rounding_law, value_law};
 pub use quotes::Quote;
-pub use rates::Rates;
+pub use rates::{RateRow, Rates};
 pub use tables::{UnitTable, unit_table};

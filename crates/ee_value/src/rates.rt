@@ -1,4 +1,4 @@
-use ee_units::Rate;
+use ee_units::{IssueMonth, Rate};
 
 /// The terms that a bond earns by: a fixed yearly rate, for each half-year of its life.
 #[derive(Clone, Copy, Debug, PartialEq, Eq, PartialOrd, Ord, Hash)]
@@ -19,4 +19,12 @@ impl Rates {
     {
         Rate::from_hundredths(self.fixed.hundredths())
     }
+}
+
+/// The rates of the bonds that are issued in the six months from a May or November on.
+#[derive(Clone, Copy, Debug, PartialEq, Eq)]
+pub struct RateRow {
+    /// The May or November.
+    pub from: IssueMonth,
+    pub rates: Rates,
 }

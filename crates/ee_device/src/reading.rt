@@ -1,0 +1,45 @@
+ghost use Rattle.std.specs.Prelude.{◌≡◌, ◌+◌, ◌≤◌, ℕ, List, Some, IfOk, length};
+ghost use Rattle.ee_device.specs.ReadWhole.{ReadsWhole, TakesAtMost};
+
+use std::alloc::Global;
+use std::io::Read;
+use thiserror::Error;
+
+/// Why a source was not read whole.
+#[derive(Clone, Copy, Debug, PartialEq, Eq, PartialOrd, Ord, Hash, Error)]
+pub enum ReadFault {
+    /// The source has more bytes than the caller takes.
+    #[error("too many bytes")]
+    TooLong,
+    /// A read failed, or was interrupted.
+    #[error("the reader failed")]
+    ReadFailed,
+    /// Memory was refused.
+    #[error("out of memory")]
+    NoMemory,
+}
+
+/// All that the reader has left, where that is at most `most` bytes. The first failed read ends it,
+/// with no second try; an interrupted read is a failed one. Of a longer source `most + 1` bytes are
+/// taken, of no source more.
+pub fn read_whole<R: Read>(alloc: Global, reader: &mut R, most: usize) -> Result<Vec<u8>, ReadFault>
+    ensures whole { (source : List ℕ) → R.remaining reader.old ≡ Some source → ReadsWhole (λ v. v.items) most source result }
+    ensures taken { (source : List ℕ) → R.remaining reader.old ≡ Some source → TakesAtMost (most + 1) source (R.remaining reader.new) }
+    ensures few { IfOk result (λ v. length v.items ≤ most) }
+{
+    let mut bytes = Vec::new(alloc);
+    let mut chunk = [0u8; 4096];
+    while bytes.len() <= most {
+        let room = chunk.len().min((most - bytes.len()).saturating_add(1));
+        let Ok(count) = reader.read(&mut chunk[..room]) else {
+            return Err(ReadFault::ReadFailed);
+        };
+        if count == 0 {
+            return Ok(bytes);
+        }
+        if bytes.extend_from_slice(&chunk[..count]).is_err() {
+            return Err(ReadFault::NoMemory);
+        }
+    }
+    Err(ReadFault::TooLong)
+}

@@ -1,0 +1,7 @@
+pub mod Taking
+pub mod Entries
+pub mod Fuel
+pub mod RowsWritten
+pub mod RowsRead
+pub mod BondsBack
+pub mod NamesInPlace

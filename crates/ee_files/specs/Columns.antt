@@ -1,0 +1,14 @@
+-- The columns of files (this project's rule).
+use Rattle.std.specs.Prelude.{ℕ, List, codes}
+use Rattle.ee_files.specs.declared.columns.Column.{Column}
+use Rattle.ee_files.specs.declared.columns.Column.TheVariants as column
+
+-- a column's name, as it stands in a header
+abbrev pub column_name : Column → List ℕ
+column_name column.From = codes "from"
+column_name column.Rate = codes "rate"
+column_name column.Serial = codes "serial"
+column_name column.Denom = codes "denom"
+column_name column.Issued = codes "issued"
+column_name column.Owner = codes "owner"
+column_name column.Coowner = codes "coowner"

@@ -1,0 +1,9 @@
+pub mod Columns
+pub mod Faults
+pub mod Fields
+pub mod Rows
+pub mod RateFile
+pub mod BondFile
+pub mod Answers
+pub mod Left
+pub mod WriterState

@@ -1,0 +1,43 @@
+-- The rows of a file (this project's rule): the records of its bytes by csv's default dialect.
+use Rattle.std.specs.Prelude.{ℕ, zero, suc, ◌+◌, ◌&&◌, Bool, true, false, List, [], ◌∷◌, Result, Ok, Err, length, map, nat_lt, unwrap_or, if◌then◌else◌}
+use Rattle.std.specs.Str.{bytes_eq}
+use Rattle.csv.specs.Records.{field_at}
+use Rattle.csv.specs.Reading.{default_config, records, strip_bom}
+use Rattle.ee_files.specs.Columns.{column_name}
+use Rattle.ee_files.specs.Fields.{Bytes, ◌>>=◌}
+use Rattle.ee_files.specs.declared.columns.Column.{Column}
+use Rattle.ee_files.specs.declared.faults.FileCode.TheVariants.{BadHeader, FileTooLong}
+use Rattle.ee_files.specs.declared.faults.FileFault.{FileFault}
+
+-- the rows of the records from this row on, at most so many, or the first fault
+unfoldable pub rows_from : {A : Type 0} → (ℕ → List Bytes → Result A FileFault) → ℕ → ℕ → List (List Bytes) → Result (List A) FileFault
+rows_from entry row zero rest = Ok []
+rows_from entry row (suc most) [] = Ok []
+rows_from entry row (suc most) (fields ∷ rest) = do
+  first ← entry row fields
+  others ← rows_from entry (row + 1) most rest
+  Ok (first ∷ others)
+
+abbrev pub same_fields : List Bytes → List Bytes → Bool
+same_fields [] [] = true
+same_fields (a ∷ as_) (b ∷ bs) = bytes_eq a b && same_fields as_ bs
+same_fields [] (b ∷ bs) = false
+same_fields (a ∷ as_) [] = false
+
+-- whether the field at a place is this column's name
+abbrev pub name_at : List Bytes → ℕ → Column → Bool
+name_at fields place column = bytes_eq (unwrap_or (field_at fields place) []) (column_name column)
+
+abbrev pub header_of : List Column → List Bytes
+header_of columns = map column_name columns
+
+-- the first 501 rows under the header; a file with no record has no rows
+unfoldable pub rows_of_records : {A : Type 0} → List Column → (ℕ → List Bytes → Result A FileFault) → List (List Bytes) → Result (List A) FileFault
+rows_of_records columns entry [] = Ok []
+rows_of_records columns entry (header ∷ rest) =
+    if same_fields header (header_of columns) then rows_from entry 2 501 rest else Err (record { row = 1; code = BadHeader })
+
+-- the rows of a file: at most 1,048,576 bytes, and a byte order mark before the first record is dropped
+unfoldable pub rows_of_file : {A : Type 0} → List Column → (ℕ → List Bytes → Result A FileFault) → Bytes → Result (List A) FileFault
+rows_of_file columns entry bytes = if nat_lt 1048576 (length bytes) then Err (record { row = 1; code = FileTooLong })
+    else rows_of_records columns entry (records default_config (strip_bom bytes))

@@ -1,0 +1,53 @@
+use std::fmt;
+
+/// A column of a file.
+#[derive(Clone, Copy, Debug, PartialEq, Eq, PartialOrd, Ord, Hash)]
+pub enum Column {
+    /// The month from which rates hold.
+    From,
+    /// The fixed rate.
+    Rate,
+    /// A bond's serial number.
+    Serial,
+    /// Its denomination.
+    Denom,
+    /// Its month of issue.
+    Issued,
+    /// Its owner.
+    Owner,
+    /// Its coowner, or nothing.
+    Coowner,
+}
+
+impl Column {
+    ghost use Rattle.std.specs.Prelude.{◌≡◌};
+    ghost use Rattle.ee_files.specs.Columns.{column_name};
+
+    /// The name that stands in a file's header.
+    pub const fn name(self) -> &'static str
+        ensures { result.now ≡ column_name self }
+    {
+        match self {
+            Column::From => "from",
+            Column::Rate => "rate",
+            Column::Serial => "serial",
+            Column::Denom => "denom",
+            Column::Issued => "issued",
+            Column::Owner => "owner",
+            Column::Coowner => "coowner",
+        }
+    }
+}
+
+/// The column's name.
+impl fmt::Display for Column {
+    ghost use Rattle.std.specs.Prelude.{Some};
+    ghost use Rattle.ee_files.specs.Columns.{column_name};
+
+    ghost output = { λ c. Some (column_name c) };
+
+    fn fmt<W: fmt::Write>(&self, f: &mut fmt::Formatter<W>) -> fmt::Result {
+        let name = self.name();
+        write!(f, "{name}")
+    }
+}

@@ -1,0 +1,72 @@
+//! The values of fields.
+
+ghost use Rattle.std.specs.Prelude.{◌≡◌, option_map};
+ghost use Rattle.std.specs.Option.{ok_or};
+ghost use Rattle.ee_units.specs.Denoms.{denom_of};
+ghost use Rattle.ee_units.specs.Spelling.{customer_of, issue_of, rate_of, serial_of};
+ghost use Rattle.ee_files.specs.BondFile.{coowner_of};
+ghost use Rattle.ee_files.specs.Fields.{field_value, text_of};
+
+use crate::columns::Column;
+use crate::faults::{FileCode, FileFault};
+use ee_units::{
+    Customer, Denom, IssueMonth, Rate, Serial, read_customer, read_denom, read_issue, read_rate, read_serial,
+};
+use std::str;
+
+// The value, or the fault that this column's field spells none.
+pub fn value_or_fault<T>(value: Option<T>, row: u64, column: Column) -> Result<T, FileFault>
+    ensures { result ≡ ok_or value (record { row = row; code = FileCode.BadValue column }) }
+{
+    value.ok_or(FileFault {
+        row,
+        code: FileCode::BadValue(column),
+    })
+}
+
+fn text_in(field: Option<&[u8]>) -> Option<&str>
+    ensures { option_map (λ s. s.now) result ≡ text_of (option_map (λ f. f.now) field.entry) }
+{
+    str::from_utf8(field?).ok()
+}
+
+pub fn rate_in(field: Option<&[u8]>) -> Option<Rate>
+    ensures { result ≡ field_value rate_of (option_map (λ f. f.now) field.entry) }
+{
+    read_rate(text_in(field)?).ok()
+}
+
+pub fn serial_in(field: Option<&[u8]>) -> Option<Serial>
+    ensures { result ≡ field_value serial_of (option_map (λ f. f.now) field.entry) }
+{
+    read_serial(text_in(field)?).ok()
+}
+
+pub fn denom_in(field: Option<&[u8]>) -> Option<Denom>
+    ensures { result ≡ field_value denom_of (option_map (λ f. f.now) field.entry) }
+{
+    read_denom(text_in(field)?).ok()
+}
+
+pub fn issue_in(field: Option<&[u8]>) -> Option<IssueMonth>
+    ensures { result ≡ field_value issue_of (option_map (λ f. f.now) field.entry) }
+{
+    read_issue(text_in(field)?).ok()
+}
+
+pub fn customer_in(field: Option<&[u8]>) -> Option<Customer>
+    ensures { result ≡ field_value customer_of (option_map (λ f. f.now) field.entry) }
+{
+    read_customer(text_in(field)?).ok()
+}
+
+// An empty field is no coowner.
+pub fn coowner_in(field: Option<&[u8]>) -> Option<Option<Customer>>
+    ensures { result ≡ field_value coowner_of (option_map (λ f. f.now) field.entry) }
+{
+    let text = text_in(field)?;
+    if text.is_empty() {
+        return Some(None);
+    }
+    Some(Some(read_customer(text).ok()?))
+}

@@ -1,0 +1,64 @@
+//! Inventory files.
+
+ghost use Rattle.std.specs.Prelude.{◌≡◌, ℕ, List, Some};
+ghost use Rattle.csv.specs.Records.{fields_of};
+ghost use Rattle.ee_files.specs.Answers.{Gives};
+ghost use Rattle.ee_files.specs.BondFile.{bond_columns, bond_entry, bonds_of_file};
+
+use crate::columns::Column;
+use crate::faults::{FileCode, FileFault};
+use crate::fields::{coowner_in, customer_in, denom_in, issue_in, serial_in, value_or_fault};
+use crate::headers::is_bond_header;
+use crate::records::{FileRow, read_rows};
+use csv::ByteRecord;
+use ee_calculator::Bond;
+use std::alloc::Global;
+use std::io::Read;
+
+/// The first 501 bonds of an inventory file, or its first fault: the header
+/// `serial,denom,issued,owner,coowner`, and a record for each bond, with an empty coowner for none. The
+/// file is read whole first; a failed or interrupted read is `ReadFailed`, and want of memory `NoMemory`.
+pub fn read_inventory<R: Read>(alloc: Global, reader: &mut R) -> Result<Vec<Bond>, FileFault>
+    ensures { (source : List ℕ) → R.remaining reader.old ≡ Some source
+        → Gives (λ v. v.items) result (bonds_of_file source) }
+{
+    read_rows(alloc, reader)
+}
+
+impl FileRow for Bond {
+    ghost columns = { bond_columns };
+
+    ghost entry = { bond_entry };
+
+    fn is_header(fields: &ByteRecord) -> bool {
+        is_bond_header(fields)
+    }
+
+    fn from_record(fields: &ByteRecord, row: u64) -> Result<Bond, FileFault> {
+        bond_row(fields, row)
+    }
+}
+
+#[tactic(auto, unfolding(crate::specs::BondFile::bond_entry))]
+fn bond_row(fields: &ByteRecord, row: u64) -> Result<Bond, FileFault>
+    ensures { Gives (λ row. row) result (bond_entry row (fields_of fields.now)) }
+{
+    if fields.len() != 5 {
+        return Err(FileFault {
+            row,
+            code: FileCode::WrongFieldCount,
+        });
+    }
+    let serial = value_or_fault(serial_in(fields.get(0)), row, Column::Serial)?;
+    let denom = value_or_fault(denom_in(fields.get(1)), row, Column::Denom)?;
+    let issued = value_or_fault(issue_in(fields.get(2)), row, Column::Issued)?;
+    let owner = value_or_fault(customer_in(fields.get(3)), row, Column::Owner)?;
+    let coowner = value_or_fault(coowner_in(fields.get(4)), row, Column::Coowner)?;
+    Ok(Bond {
+        serial,
+        denom,
+        issued,
+        owner,
+        coowner,
+    })
+}

@@ -1,0 +1,23 @@
+//! Files of comma-separated values: rates and inventories of bonds are read, inventories are written.
+#![tactic(auto)]
+
+mod columns;
+mod export;
+mod faults;
+mod fields;
+mod headers;
+mod inventory;
+mod laws;
+mod rates;
+mod records;
+
+#[cfg(test)]
+mod tests;
+
+pub use columns::Column;
+pub use export::write_inventory;
+pub use faults::{FileCode, FileFault, WriteFault};
+pub use inventory::read_inventory;
+pub use laws::inventory_law;
+pub use rates::read_rates;
+pub use records::MOST_BYTES;

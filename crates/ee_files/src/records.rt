@@ -1,0 +1,112 @@
+//! Records of a file, and the rows that they give under a header.
+
+ghost use Rattle.std.specs.Prelude.{◌≡◌, ℕ, List, Some, Result, IfOk, IfErr};
+ghost use Rattle.csv.specs.Reading.{default_config, records, strip_bom};
+ghost use Rattle.csv.specs.Records.{fields_of};
+ghost use Rattle.ee_files.specs.Answers.{Gives};
+ghost use Rattle.ee_files.specs.Left.{HasLeft, TakesNext};
+ghost use Rattle.ee_files.specs.Rows.{header_of, rows_from, rows_of_file, rows_of_records, same_fields};
+ghost use Rattle.ee_files.specs.declared.columns.Column.{Column};
+ghost use Rattle.ee_files.specs.declared.faults.FileFault.{FileFault};
+
+use crate::faults::{FileCode, FileFault};
+use csv::{ByteRecord, Reader, ReaderBuilder};
+use ee_device::{ReadFault, read_whole};
+use std::alloc::Global;
+use std::io::Read;
+
+/// A file of more bytes isn't read.
+pub const MOST_BYTES: usize = 1_048_576;
+
+/// What a record of a file is read as.
+pub trait FileRow: Copy + Drop {
+    ghost columns: { List Column };
+
+    ghost entry: { ℕ → List (List ℕ) → Result Self FileFault };
+
+    /// Whether these are the names of the columns.
+    fn is_header(fields: &ByteRecord) -> bool
+        ensures { result ≡ same_fields (fields_of fields.now) (header_of columns) };
+
+    /// The row of one record, or the first fault from the left.
+    fn from_record(fields: &ByteRecord, row: u64) -> Result<Self, FileFault>
+        ensures { Gives (λ row. row) result (entry row (fields_of fields.now)) };
+}
+
+const fn unreadable(code: FileCode) -> FileFault
+    ensures { (result.row ≡ 1) × (result.code ≡ code) }
+{
+    FileFault { row: 1, code }
+}
+
+fn next_record(records: &mut Reader<&[u8]>, fields: &mut ByteRecord) -> Result<bool, FileFault>
+    ensures ok { IfOk result (λ found. (rest : List (List (List ℕ))) → HasLeft records.old rest → TakesNext records.new rest found (fields_of fields.new)) }
+    ensures err { IfErr result (λ e. (e.row ≡ 1) × (e.code ≡ FileCode.NoMemory)) }
+{
+    let Ok(found) = records.read_byte_record(fields) else {
+        return Err(unreadable(FileCode::NoMemory));
+    };
+    Ok(found)
+}
+
+// The rows of the records that are left, at most 501.
+fn rows_under_header<T: FileRow>(alloc: Global, records: &mut Reader<&[u8]>) -> Result<Vec<T>, FileFault>
+    ensures { (rest : List (List (List ℕ))) → HasLeft records.old rest
+        → Gives (λ v. v.items) result (rows_from T.entry 2 501 rest) }
+{
+    let mut rows = Vec::new(alloc);
+    let mut fields = ByteRecord::new(alloc);
+    for row in 2..503u64 {
+        if !next_record(records, &mut fields)? {
+            return Ok(rows);
+        }
+        let entry = T::from_record(&fields, row)?;
+        if rows.push(entry).is_err() {
+            return Err(unreadable(FileCode::NoMemory));
+        }
+    }
+    Ok(rows)
+}
+
+// A reader over a text with all of its records left.
+fn reader_of(alloc: Global, bytes: &[u8]) -> Reader<&[u8]>
+    ensures { HasLeft result (records default_config (strip_bom bytes.entry.now)) }
+{
+    ReaderBuilder::new()
+        .has_headers(false)
+        .flexible(true)
+        .from_reader(alloc, bytes)
+}
+
+#[tactic(auto, unfolding(crate::specs::Rows::rows_of_records))]
+fn rows_in<T: FileRow>(alloc: Global, bytes: &[u8]) -> Result<Vec<T>, FileFault>
+    ensures { Gives (λ v. v.items) result
+        (rows_of_records T.columns T.entry (records default_config (strip_bom bytes.now))) }
+{
+    let mut records = reader_of(alloc, bytes);
+    let mut header = ByteRecord::new(alloc);
+    if !next_record(&mut records, &mut header)? {
+        return Ok(Vec::new(alloc));
+    }
+    if !T::is_header(&header) {
+        return Err(FileFault {
+            row: 1,
+            code: FileCode::BadHeader,
+        });
+    }
+    rows_under_header(alloc, &mut records)
+}
+
+/// The rows of a file, which is read whole first.
+#[tactic(auto, unfolding(crate::specs::Rows::rows_of_file))]
+pub fn read_rows<T: FileRow, R: Read>(alloc: Global, reader: &mut R) -> Result<Vec<T>, FileFault>
+    ensures { (source : List ℕ) → R.remaining reader.old ≡ Some source
+        → Gives (λ v. v.items) result (rows_of_file T.columns T.entry source) }
+{
+    match read_whole(alloc, reader, MOST_BYTES) {
+        Ok(bytes) => rows_in(alloc, &bytes),
+        Err(ReadFault::TooLong) => Err(unreadable(FileCode::FileTooLong)),
+        Err(ReadFault::ReadFailed) => Err(unreadable(FileCode::ReadFailed)),
+        Err(ReadFault::NoMemory) => Err(unreadable(FileCode::NoMemory)),
+    }
+}
