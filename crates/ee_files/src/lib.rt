@@ -18,6 +18,6 @@ pub use columns::Column;
 pub use export::write_inventory;
 pub use faults::{FileCode, FileFault, WriteFault};
 pub use inventory::read_inventory;
-pub use laws::inventory_law;
+pub use laws::{header_law, inventory_law, rows_law};
 pub use rates::read_rates;
 pub use records::MOST_BYTES;
