@@ -42,15 +42,18 @@ takes_next a b true fields (x ∷ rest) h r first =
     let (q, was, is, more) = reached in
     let (z, source, step) = rows-more over a b fields default_config (reader_state a) h.text h.text [] h.config h.source (refl, refl) r in
     let (p, next, same, after) = step in
-    let both : p ≡ q = same_Some p q (sym next ∙ was) in
-    (refl, same ∙ ap (λ (t : Read). t.0) both ∙ sym is, record {
-      plain = r.3 ∙ h.plain;
-      ready = inl first;
-      config = r.2 ∙ h.config;
-      text = z;
-      source = source;
-      records = (s2, ys, moved q.1 (reader_state b) s2 q.2 z ys rest (ap (λ (t : Read). t.1) (sym both) ∙ after.0) (ap (λ (t : Read). t.2) (sym both) ∙ after.1) more, none);
-    })
+    let both : p ≡ q = same_Some p q (sym next ∙ was) in (
+      refl,
+      same ∙ ap (λ (t : Read). t.0) both ∙ sym is,
+      record {
+        plain = r.3 ∙ h.plain;
+        ready = inl first;
+        config = r.2 ∙ h.config;
+        text = z;
+        source = source;
+        records = (s2, ys, moved q.1 (reader_state b) s2 q.2 z ys rest (ap (λ (t : Read). t.1) (sym both) ∙ after.0) (ap (λ (t : Read). t.2) (sym both) ∙ after.1) more, none);
+      },
+    )
 takes_next a b false fields (x ∷ rest) h r first =
     let (s2, ys, reached, none) = h.records in
     let (q, was, is, more) = reached in

@@ -10,7 +10,6 @@ mod inventory;
 mod laws;
 mod rates;
 mod records;
-
 #[cfg(test)]
 mod tests;
 

@@ -51,7 +51,10 @@ fn next_record(records: &mut Reader<&[u8]>, fields: &mut ByteRecord) -> Result<b
 }
 
 // The rows of the records that are left, at most 501.
-fn rows_under_header<T: FileRow>(alloc: Global, records: &mut Reader<&[u8]>) -> Result<Vec<T>, FileFault>
+fn rows_under_header<T: FileRow>(
+    alloc: Global,
+    records: &mut Reader<&[u8]>,
+) -> Result<Vec<T>, FileFault>
     ensures { (rest : List (List (List ℕ))) → HasLeft records.old rest
         → Gives (λ v. v.items) result (rows_from T.entry 2 501 rest) }
 {

@@ -11,16 +11,32 @@ fn first_fault_of_a_rate_file(rt: HostRuntime) {
     let from = FileCode::BadValue(Column::From);
     let rate = FileCode::BadValue(Column::Rate);
     for (file, row, code) in [
-        (b"from;rate\n2010-05;2.00\n".as_slice(), 1, FileCode::BadHeader),
+        (
+            b"from;rate\n2010-05;2.00\n".as_slice(),
+            1,
+            FileCode::BadHeader,
+        ),
         (b"rate,from\n".as_slice(), 1, FileCode::BadHeader),
         (b"from,rate,\n".as_slice(), 1, FileCode::BadHeader),
         (b"from\n".as_slice(), 1, FileCode::BadHeader),
         (b"From,rate\n".as_slice(), 1, FileCode::BadHeader),
         (b"from, rate\n".as_slice(), 1, FileCode::BadHeader),
         (b"\xff\n".as_slice(), 1, FileCode::BadHeader),
-        (b"from,rate\n2010-05\n".as_slice(), 2, FileCode::WrongFieldCount),
-        (b"from,rate\n2010-05,2.00,\n".as_slice(), 2, FileCode::WrongFieldCount),
-        (b"from,rate\n\"2010-05,2.00\"\n".as_slice(), 2, FileCode::WrongFieldCount),
+        (
+            b"from,rate\n2010-05\n".as_slice(),
+            2,
+            FileCode::WrongFieldCount,
+        ),
+        (
+            b"from,rate\n2010-05,2.00,\n".as_slice(),
+            2,
+            FileCode::WrongFieldCount,
+        ),
+        (
+            b"from,rate\n\"2010-05,2.00\"\n".as_slice(),
+            2,
+            FileCode::WrongFieldCount,
+        ),
         (b"from,rate\n2010-05,20.01\n".as_slice(), 2, rate),
         (b"from,rate\n2010-05, 2.00\n".as_slice(), 2, rate),
         (b"from,rate\n2010-05 ,2.00\n".as_slice(), 2, from),
@@ -28,11 +44,23 @@ fn first_fault_of_a_rate_file(rt: HostRuntime) {
         (b"from,rate\n,\n".as_slice(), 2, from),
         (b"from,rate\n\"2010,05\",2.00\n".as_slice(), 2, from),
         (b"from,rate\n2010-05,\"2\n.00\"\n".as_slice(), 2, rate),
-        (b"from,rate\n2010-05,2.00\n\n\"2010\r\n05\",2\n".as_slice(), 3, from),
+        (
+            b"from,rate\n2010-05,2.00\n\n\"2010\r\n05\",2\n".as_slice(),
+            3,
+            from,
+        ),
         (b"from,rate\n\xff,2.00\n".as_slice(), 2, from),
         (b"from,rate\n2010-05,2.00\xff\n".as_slice(), 2, rate),
-        (b"from,rate\n2010-05,2.00\nx,y\n2010-11\n".as_slice(), 3, from),
-        (b"from,rate\n2010-05,2.00\n2010-11\nx,y\n".as_slice(), 3, FileCode::WrongFieldCount),
+        (
+            b"from,rate\n2010-05,2.00\nx,y\n2010-11\n".as_slice(),
+            3,
+            from,
+        ),
+        (
+            b"from,rate\n2010-05,2.00\n2010-11\nx,y\n".as_slice(),
+            3,
+            FileCode::WrongFieldCount,
+        ),
     ] {
         let wanted = Some(FileFault { row, code });
         assert_eq!(rt; rates_of(&rt, file).err(), wanted, "{file:?}");

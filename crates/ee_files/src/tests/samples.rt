@@ -7,7 +7,8 @@ use std::test::Fail;
 
 pub const RATES: &str = "from,rate\n2010-05,2.00\n2010-11,3.50%\n";
 
-pub const INVENTORY: &str = "serial,denom,issued,owner,coowner\nL1EE,50,2010-11,7,\nK-0002-EE,75,10/2010,7,8\nM3EE,10000,2011-02,7,\n";
+pub const INVENTORY: &str =
+    "serial,denom,issued,owner,coowner\nL1EE,50,2010-11,7,\nK-0002-EE,75,10/2010,7,8\nM3EE,10000,2011-02,7,\n";
 
 pub fn rates_of(rt: &HostRuntime, mut file: &[u8]) -> Result<Vec<RateRow>, FileFault> {
     read_rates(rt.alloc(), &mut file)
@@ -74,16 +75,26 @@ fn other_spellings_give_the_same_rows(rt: HostRuntime) -> Result<(), Fail> {
         ("CR", "from,rate\r2010-05,2.00\r2010-11,3.50%\r"),
         ("no end", "from,rate\n2010-05,2.00\n2010-11,3.50%"),
         ("mark", "\u{feff}from,rate\n2010-05,2.00\n2010-11,3.50%\n"),
-        ("quotes", "\"from\",\"rate\"\n\"2010-05\",\"2.00\"\n\"2010-11\",\"3.50%\"\n"),
-        ("mark, quotes", "\u{feff}\"from\",\"rate\"\r\n\"2010-05\",2.00\r\n2010-11,\"3.50%\"\r\n"),
-        ("empty lines", "\n\nfrom,rate\n\n2010-05,2.00\r\n\r\n\r\n2010-11,3.50%\n\n"),
+        (
+            "quotes",
+            "\"from\",\"rate\"\n\"2010-05\",\"2.00\"\n\"2010-11\",\"3.50%\"\n",
+        ),
+        (
+            "mark, quotes",
+            "\u{feff}\"from\",\"rate\"\r\n\"2010-05\",2.00\r\n2010-11,\"3.50%\"\r\n",
+        ),
+        (
+            "empty lines",
+            "\n\nfrom,rate\n\n2010-05,2.00\r\n\r\n\r\n2010-11,3.50%\n\n",
+        ),
         ("spellings", "from,rate\n05/2010,2\n11/2010,03.5\n"),
     ] {
         let rows = rates_of(&rt, file.as_bytes())?;
         assert_eq!(rt; &rows[..], &wanted[..], "{name}");
     }
     let wanted = [bond("C12EE", "100", "2010-05", Some("9"))?];
-    let file = "serial,denom,issued,owner,coowner\r\n\"C-0012-EE\",\"100\",\"05/2010\",\"007\",\"9\"\r\n";
+    let file =
+        "serial,denom,issued,owner,coowner\r\n\"C-0012-EE\",\"100\",\"05/2010\",\"007\",\"9\"\r\n";
     let bonds = bonds_of(&rt, file.as_bytes())?;
     assert_eq!(rt; &bonds[..], &wanted[..]);
     Ok(())

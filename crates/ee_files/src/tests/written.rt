@@ -31,7 +31,10 @@ fn bonds_are_written_in_order_or_a_front_of_them(rt: HostRuntime) -> Result<(), 
     assert_eq!(rt; &back[..], &bonds[..]);
     let mut page = Page::new(None);
     write_inventory(rt.alloc(), &mut page, &[])?;
-    assert_eq!(rt; page.text(), b"serial,denom,issued,owner,coowner\n".as_slice());
+    assert_eq!(rt;
+        page.text(),
+        b"serial,denom,issued,owner,coowner\n".as_slice()
+    );
     Ok(())
 }
 
