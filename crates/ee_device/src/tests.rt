@@ -147,7 +147,11 @@ fn reads_all_or_says_why_not(rt: HostRuntime) {
         let case = (text, most, step, trouble);
         let read = read_whole(rt.alloc(), &mut source, most);
         let bytes = read.as_ref().map(|bytes| &bytes[..]);
-        assert_eq!(rt; bytes.map_err(|fault| *fault), wanted.map(str::as_bytes), "{case:?}");
+        assert_eq!(rt;
+            bytes.map_err(|fault| *fault),
+            wanted.map(str::as_bytes),
+            "{case:?}"
+        );
         assert_eq!(rt; source.bytes, left.as_bytes(), "{case:?}");
     }
 }
@@ -158,7 +162,10 @@ fn reads_more_than_a_chunk(rt: HostRuntime) -> Result<(), Fail> {
     let mut source = &text[..];
     assert_eq!(rt; read_whole(rt.alloc(), &mut source, 10_000)?, text);
     let mut source = &text[..];
-    assert_eq!(rt; read_whole(rt.alloc(), &mut source, 9_998), Err(ReadFault::TooLong));
+    assert_eq!(rt;
+        read_whole(rt.alloc(), &mut source, 9_998),
+        Err(ReadFault::TooLong)
+    );
     assert_eq!(rt; source.len(), 1);
     Ok(())
 }

@@ -1,5 +1,5 @@
 -- What is written of bonds reads back, and how long it is at most.
-use Rattle.std.proofs.Common.{◌≡◌, ◌∙◌, ℕ, zero, suc, ◌+◌, ◌*◌, ◌/◌, ◌%◌, ◌<◌, ◌≤◌, ◌^◌, false, List, [], ◌∷◌, ◌++◌, Option, Some, None, Ok, Result, map, length, refl, ap, arith, lit<, length-append}
+use Rattle.std.proofs.Common.{◌≡◌, ◌∙◌, ℕ, zero, suc, ◌+◌, ◌*◌, ◌/◌, ◌%◌, ◌<◌, ◌≤◌, ◌^◌, false, List, [], ◌∷◌, ◌++◌, Option, Some, None, Ok, map, length, refl, ap, arith, lit<, length-append}
 use Rattle.std.specs.Prelude.{All, option_map, IfSome, codes, nat_lt}
 use Rattle.std.specs.List.{flat_map}
 use Rattle.std.specs.Fmt.{decimal}
@@ -23,7 +23,6 @@ use Rattle.ee_calculator.specs.declared.bonds.Bond.{Bond}
 use Rattle.ee_files.specs.BondFile.{bond_columns, bond_entry, bonds_of_file, bond_fields, inventory_text, coowner_of, coowner_text, IsBond}
 use Rattle.ee_files.specs.Fields.{Bytes, field_value}
 use Rattle.ee_files.specs.Rows.{header_of, rows_from, rows_of_file, rows_of_records}
-use Rattle.ee_files.specs.declared.faults.FileFault.{FileFault}
 use Rattle.ee_files.proofs.RowsRead.{rows_back, rows_long, row_short, total}
 
 read_back-bonds : (bonds : List Bond) → map read_back (map bond_fields bonds) ≡ map bond_fields bonds

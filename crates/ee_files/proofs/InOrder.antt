@@ -1,8 +1,6 @@
 -- The rows of a file, by each of its records.
-use Rattle.std.proofs.Common.{◌≡◌, ◌∙◌, ℕ, zero, suc, ◌+◌, ◌&&◌, true, false, List, [], ◌∷◌, take, Result, Ok, Err, refl, ap, ap₂, inl, inr, sym, true≢false}
-use Rattle.std.specs.Str.{bytes_eq}
+use Rattle.std.proofs.Common.{◌≡◌, ℕ, zero, suc, ◌+◌, List, [], ◌∷◌, take, Result, Ok, Err, refl, ap}
 use Rattle.std.specs.Bool.{Decides}
-use Rattle.std.proofs.lemmas.Bool.{cases_Bool}
 use Rattle.std.proofs.lemmas.Slice.Eq.{bytes_eq-Decides, slice_eq-Decides}
 use Rattle.ee_files.specs.Fields.{Bytes, ◌>>=◌}
 use Rattle.ee_files.specs.Order.{AllOrFirstFault, each}

@@ -1,5 +1,5 @@
-use Rattle.std.proofs.Common.{◌≡◌, ◌∙◌, ℕ, Bool, true, false, List, [], ◌∷◌, ◌++◌, Option, Some, None, Result, Ok, Err, Bor, refl, sym, ap, subst, inl, inr, rules}
-use Rattle.std.specs.Prelude.{IfOk, OnOk, MatchResult, IsUtf8, option_map}
+use Rattle.std.proofs.Common.{◌≡◌, ◌∙◌, ℕ, Bool, true, false, List, [], ◌∷◌, Option, Some, None, Result, Ok, Err, Bor, refl, sym, ap, inl, inr}
+use Rattle.std.specs.Prelude.{MatchResult, IsUtf8, option_map}
 use Rattle.std.specs.Result.{result_ok}
 use Rattle.std.specs.Str.{is_utf8}
 use Rattle.std.proofs.lemmas.Str.{IsUtf8-from_is_utf8, is_utf8-from_IsUtf8}
@@ -8,7 +8,7 @@ use Rattle.csv.specs.declared.parser.State.{State}
 use Rattle.csv.specs.Machine.{next_record, Read}
 use Rattle.std.proofs.lemmas.Option.{none-some, same_Some}
 use Rattle.csv.specs.declared.reader.Trim.TheVariants as trim
-use Rattle.csv.specs.Reading.{AreRecords, Reached, ReadRecord, Ready, default_config, reader_state, reader_trim, source_of, took_first}
+use Rattle.csv.specs.Reading.{Reached, ReadRecord, Ready, default_config, reader_state, reader_trim, took_first}
 use Rattle.csv.proofs.ReadFacts.{rows-more, rows-end}
 use Rattle.ee_files.specs.Left.{HasLeft, TakesNext, TextReader}
 use Rattle.ee_files.specs.Fields.{text_of}

@@ -1,4 +1,4 @@
-use Rattle.std.proofs.Common.{◌≡◌, List, ℕ, [], sym, rules, true, false}
+use Rattle.std.proofs.Common.{◌≡◌, [], rules, true, false}
 use Rattle.csv.specs.Reading.{default_config, records, strip_bom}
 use Rattle.csv.specs.Records.{fields_of}
 use Rattle.ee_files.specs.Rows.{header_of, same_fields}
