@@ -1,5 +1,5 @@
 -- What is read of a source (this project's rule: no failed read is tried again, and no byte beyond the limit and one is taken).
-use Rattle.std.specs.Prelude.{◌≡◌, ℕ, ◌+◌, ◌<◌, ◌≤◌, List, ◌++◌, length, Option, Some, Result, Ok, Err, ⊤}
+use Rattle.std.specs.Prelude.{◌≡◌, ℕ, ◌<◌, ◌≤◌, List, ◌++◌, length, Option, Some, Result, Ok, Err, ⊤}
 use Rattle.ee_device.specs.declared.reading.ReadFault.{ReadFault}
 use Rattle.ee_device.specs.declared.reading.ReadFault.TheVariants as fault
 

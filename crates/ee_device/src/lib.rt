@@ -5,12 +5,10 @@ ghost use Rattle.std.specs.Prelude.{◌≡◌, length};
 ghost use Rattle.ee_device.specs.Written.{WritesFront};
 
 mod reading;
-
 #[cfg(test)]
 mod tests;
 
 pub use reading::{ReadFault, read_whole};
-
 use std::io::Write;
 
 /// Writes the text, and answers whether the writer took all of it. The first failed write ends it,

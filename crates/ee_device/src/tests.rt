@@ -1,5 +1,6 @@
-use super::write_whole;
-use std::io::{self, ErrorKind, Write};
+use super::{ReadFault, read_whole, write_whole};
+use std::io::{self, ErrorKind, Read, Write};
+use std::test::Fail;
 
 /// What becomes of a write in trouble.
 #[derive(Clone, Copy, Debug, PartialEq, Eq)]
@@ -83,4 +84,100 @@ fn writes_nothing_of_an_empty_text(rt: HostRuntime) {
     };
     assert!(rt; write_whole(&mut device, b""));
     assert_eq!(rt; device.calls, 0);
+}
+
+/// Gives at most `step` bytes a read; one read is in trouble, and a second try would read on.
+#[derive(Drop)]
+struct Source<'a> {
+    bytes: &'a [u8],
+    step: usize,
+    calls: usize,
+    trouble: Option<(usize, ErrorKind)>,
+}
+
+impl Read for Source<'_> {
+    fn read(&mut self, buf: &mut [u8]) -> io::Result<usize> {
+        self.calls = self.calls.saturating_add(1);
+        if let Some((call, kind)) = self.trouble
+            && self.calls == call
+        {
+            return Err(kind.into());
+        }
+        let count = buf.len().min(self.step).min(self.bytes.len());
+        buf[..count].copy_from_slice(&self.bytes[..count]);
+        self.bytes = &self.bytes[count..];
+        Ok(count)
+    }
+}
+
+// `left` is what the source still has.
+#[test]
+fn reads_all_or_says_why_not(rt: HostRuntime) {
+    let other = ErrorKind::Other;
+    let interrupted = ErrorKind::Interrupted;
+    let long = Err(ReadFault::TooLong);
+    let failed = Err(ReadFault::ReadFailed);
+    for (text, most, step, trouble, wanted, left) in [
+        ("", 0, 9, None, Ok(""), ""),
+        ("", 6, 9, None, Ok(""), ""),
+        ("abcdef", 6, 9, None, Ok("abcdef"), ""),
+        ("abcdef", 6, 1, None, Ok("abcdef"), ""),
+        ("abcdef", usize::MAX, 4, None, Ok("abcdef"), ""),
+        ("abcdef", 5, 9, None, long, ""),
+        ("abcdef", 5, 1, None, long, ""),
+        ("abcdef", 3, 9, None, long, "ef"),
+        ("abcdef", 0, 9, None, long, "bcdef"),
+        ("abcdef", 6, 9, Some((1, other)), failed, "abcdef"),
+        ("abcdef", 6, 9, Some((2, other)), failed, ""),
+        ("abcdef", 6, 1, Some((1, interrupted)), failed, "abcdef"),
+        ("abcdef", 6, 2, Some((2, interrupted)), failed, "cdef"),
+        ("abcdef", 6, 1, Some((3, other)), failed, "cdef"),
+        ("abcdef", 6, 1, Some((4, other)), failed, "def"),
+        ("abcdef", 6, 1, Some((5, other)), failed, "ef"),
+        ("abcdef", 6, 1, Some((6, other)), failed, "f"),
+        ("abcdef", 6, 1, Some((7, other)), failed, ""),
+        ("abcdef", 6, 1, Some((8, other)), Ok("abcdef"), ""),
+    ] {
+        let mut source = Source {
+            bytes: text.as_bytes(),
+            step,
+            calls: 0,
+            trouble,
+        };
+        let case = (text, most, step, trouble);
+        let read = read_whole(rt.alloc(), &mut source, most);
+        let bytes = read.as_ref().map(|bytes| &bytes[..]);
+        assert_eq!(rt;
+            bytes.map_err(|fault| *fault),
+            wanted.map(str::as_bytes),
+            "{case:?}"
+        );
+        assert_eq!(rt; source.bytes, left.as_bytes(), "{case:?}");
+    }
+}
+
+#[test]
+fn reads_more_than_a_chunk(rt: HostRuntime) -> Result<(), Fail> {
+    let text = vec![in rt.alloc(); b'a'; 10_000]?;
+    let mut source = &text[..];
+    assert_eq!(rt; read_whole(rt.alloc(), &mut source, 10_000)?, text);
+    let mut source = &text[..];
+    assert_eq!(rt;
+        read_whole(rt.alloc(), &mut source, 9_998),
+        Err(ReadFault::TooLong)
+    );
+    assert_eq!(rt; source.len(), 1);
+    Ok(())
+}
+
+#[test]
+fn texts_of_faults(rt: HostRuntime) -> Result<(), Fail> {
+    for (fault, text) in [
+        (ReadFault::TooLong, "too many bytes"),
+        (ReadFault::ReadFailed, "the reader failed"),
+        (ReadFault::NoMemory, "out of memory"),
+    ] {
+        assert_eq!(rt; fault.to_string(rt.alloc())?.as_str(), text);
+    }
+    Ok(())
 }

@@ -1,5 +1,5 @@
 -- What is written of bonds reads back, and how long it is at most.
-use Rattle.std.proofs.Common.{◌≡◌, ◌∙◌, ℕ, zero, suc, ◌+◌, ◌*◌, ◌/◌, ◌%◌, ◌<◌, ◌≤◌, ◌^◌, false, List, [], ◌∷◌, ◌++◌, Option, Some, None, Ok, Result, map, length, refl, ap, arith, lit<, length-append}
+use Rattle.std.proofs.Common.{◌≡◌, ◌∙◌, ℕ, zero, suc, ◌+◌, ◌*◌, ◌/◌, ◌%◌, ◌<◌, ◌≤◌, ◌^◌, false, List, [], ◌∷◌, ◌++◌, Option, Some, None, Ok, map, length, refl, ap, arith, lit<, length-append}
 use Rattle.std.specs.Prelude.{All, option_map, IfSome, codes, nat_lt}
 use Rattle.std.specs.List.{flat_map}
 use Rattle.std.specs.Fmt.{decimal}
@@ -23,7 +23,6 @@ use Rattle.ee_calculator.specs.declared.bonds.Bond.{Bond}
 use Rattle.ee_files.specs.BondFile.{bond_columns, bond_entry, bonds_of_file, bond_fields, inventory_text, coowner_of, coowner_text, IsBond}
 use Rattle.ee_files.specs.Fields.{Bytes, field_value}
 use Rattle.ee_files.specs.Rows.{header_of, rows_from, rows_of_file, rows_of_records}
-use Rattle.ee_files.specs.declared.faults.FileFault.{FileFault}
 use Rattle.ee_files.proofs.RowsRead.{rows_back, rows_long, row_short, total}
 
 read_back-bonds : (bonds : List Bond) → map read_back (map bond_fields bonds) ≡ map bond_fields bonds
@@ -53,7 +52,7 @@ unfolding serial_text
 serial_ascii s l n =
     let wide : 9999999999 < 2 ^ 64 = lit< tt in
     IsAscii-append ((64 + s.letter) ∷ []) (decimal s.number ++ codes "EE") (one_ascii (64 + s.letter) (omega (arith, l)))
-      (IsAscii-append (decimal s.number) (codes "EE") (IsAscii-decimal s.number (omega (arith, n))) (IsAscii-append (69 ∷ []) (69 ∷ []) (one_ascii 69 (lit< tt)) (one_ascii 69 (lit< tt))))
+    (IsAscii-append (decimal s.number) (codes "EE") (IsAscii-decimal s.number (omega (arith, n))) (IsAscii-append (69 ∷ []) (69 ∷ []) (one_ascii 69 (lit< tt)) (one_ascii 69 (lit< tt))))
 
 month_ascii : (m : ℕ) → m ≤ 2335 → IsAscii (month_text m)
 unfolding month_text
@@ -62,7 +61,7 @@ month_ascii m few =
     let a = 48 + month_of_year m / 10 in
     let b = 48 + month_of_year m % 10 in
     IsAscii-append (decimal (year_of m)) (45 ∷ a ∷ b ∷ []) (IsAscii-decimal (year_of m) (omega arith))
-      (IsAscii-append (45 ∷ []) (a ∷ b ∷ []) (one_ascii 45 (lit< tt)) (IsAscii-append (a ∷ []) (b ∷ []) (one_ascii a (omega arith)) (one_ascii b (omega arith))))
+    (IsAscii-append (45 ∷ []) (a ∷ b ∷ []) (one_ascii 45 (lit< tt)) (IsAscii-append (a ∷ []) (b ∷ []) (one_ascii a (omega arith)) (one_ascii b (omega arith))))
 
 coowner_ascii : (c : Option ℕ) → IfSome c (λ n. (1 ≤ n) × (n ≤ 999999999)) → IsAscii (coowner_text c)
 coowner_ascii None h = IsAscii-nil
@@ -82,11 +81,13 @@ entry_back : (row : ℕ) (b : Bond) → IsBond b → bond_entry row (bond_fields
 unfolding bond_entry field_at
 entry_back row b h =
     let wide : 9999999999 < 2 ^ 64 = lit< tt in
-    rw (field_back serial_of (serial_text b.serial) b.serial (serial_ascii b.serial (h.0.1) (h.0.3)) (serial_back b.serial (h.0.0) (h.0.1) (h.0.2) (h.0.3)),
+    rw (
+      field_back serial_of (serial_text b.serial) b.serial (serial_ascii b.serial (h.0.1) (h.0.3)) (serial_back b.serial (h.0.0) (h.0.1) (h.0.2) (h.0.3)),
       field_back denom_of (decimal (dollars b.denom)) b.denom (IsAscii-decimal (dollars b.denom) (dollars_small b.denom)) (denom_back b.denom),
       field_back issue_of (month_text b.issued) b.issued (month_ascii b.issued (omega (arith, h.1))) (issue_back b.issued (h.1)),
       field_back customer_of (decimal b.owner) b.owner (IsAscii-decimal b.owner (omega (arith, h.2.1))) (customer_back b.owner (h.2.0) (h.2.1)),
-      field_back coowner_of (coowner_text b.coowner) b.coowner (coowner_ascii b.coowner (h.3)) (coowner_back b.coowner (h.3))) refl
+      field_back coowner_of (coowner_text b.coowner) b.coowner (coowner_ascii b.coowner (h.3)) (coowner_back b.coowner (h.3)),
+    ) refl
 
 entries_back : (row most : ℕ) (bonds : List Bond) → All IsBond bonds → length bonds ≤ most → rows_from bond_entry row most (map bond_fields bonds) ≡ Ok bonds
 unfolding rows_from

@@ -18,10 +18,6 @@ Entry A = ℕ → List Bytes → Result A FileFault
 abbrev pub with_front : {A : Type 0} → List A → Result (List A) FileFault → Result (List A) FileFault
 with_front front read = read >>= λ rest. Ok (front ++ rest)
 
-pub with_front-nil : {A : Type 0} (read : Result (List A) FileFault) → with_front [] read ≡ read
-with_front-nil (Ok xs) = refl
-with_front-nil (Err e) = refl
-
 with_front-more : {A : Type 0} (front : List A) (e : A) (read : Result (List A) FileFault) → with_front front (read >>= λ rest. Ok (e ∷ rest)) ≡ with_front (front ++ e ∷ []) read
 with_front-more front e (Ok xs) = ap Ok (sym (append_assoc front (e ∷ []) xs))
 with_front-more front e (Err f) = refl

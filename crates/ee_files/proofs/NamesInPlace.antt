@@ -1,7 +1,7 @@
 -- A header that is compared name by name, at its places.
-use Rattle.std.proofs.Common.{◌≡◌, ◌∙◌, ℕ, suc, ◌+◌, ◌==◌, ◌&&◌, ◌≢◌, Bool, true, false, List, [], ◌∷◌, length, refl, sym, ap, arith}
+use Rattle.std.proofs.Common.{◌≡◌, ℕ, suc, ◌==◌, ◌&&◌, Bool, true, false, List, [], ◌∷◌, length, refl, sym, ap, arith}
+use Rattle.std.proofs.Math.Bool.{and-true, and-false, and_assoc}
 use Rattle.std.proofs.lemmas.Bool.{ne_eqb}
-use Rattle.std.specs.Prelude.{unwrap_or}
 use Rattle.std.specs.Str.{bytes_eq}
 use Rattle.csv.specs.Records.{field_at}
 use Rattle.ee_files.specs.BondFile.{bond_columns}
@@ -12,32 +12,20 @@ use Rattle.ee_files.specs.Rows.{header_of, name_at, same_fields}
 use Rattle.ee_files.specs.declared.columns.Column.{Column}
 use Rattle.ee_files.specs.declared.columns.Column.TheVariants as column
 
-and_true : (b : Bool) → b && true ≡ b
-and_true true = refl
-and_true false = refl
-
-and_false : (b : Bool) → b && false ≡ false
-and_false true = refl
-and_false false = refl
-
-and_right : (a b c : Bool) → (a && b) && c ≡ a && (b && c)
-and_right true b c = refl
-and_right false b c = refl
-
 none_of_two : (a b : Bool) → false ≡ a && (b && false)
-none_of_two a b = rw (and_false b, and_false a) refl
+none_of_two a b = rw (and-false b, and-false a) refl
 
 none_of_three : (a b c : Bool) → false ≡ a && (b && (c && false))
-none_of_three a b c = rw (and_false c, and_false b, and_false a) refl
+none_of_three a b c = rw (and-false c, and-false b, and-false a) refl
 
 none_of_four : (a b c d : Bool) → false ≡ a && (b && (c && (d && false)))
-none_of_four a b c d = rw (and_false d, and_false c, and_false b, and_false a) refl
+none_of_four a b c d = rw (and-false d, and-false c, and-false b, and-false a) refl
 
 none_of_five : (a b c d e : Bool) → false ≡ a && (b && (c && (d && (e && false))))
-none_of_five a b c d e = rw (and_false e, and_false d, and_false c, and_false b, and_false a) refl
+none_of_five a b c d e = rw (and-false e, and-false d, and-false c, and-false b, and-false a) refl
 
 all_five : (a b c d e : Bool) → (a && (b && c)) && (d && e) ≡ a && (b && (c && (d && (e && true))))
-all_five a b c d e = rw (and_true e, and_right a (b && c) (d && e), and_right b c (d && e)) refl
+all_five a b c d e = rw (and-true e, and_assoc a (b && c) (d && e), and_assoc b c (d && e)) refl
 
 -- whether a field is a column's name
 abbrev is : Bytes → Column → Bool
@@ -53,14 +41,14 @@ not_five n = ne_eqb _ _ (λ e. omega (arith, e))
 pub two_names : (fields : List Bytes) → (length fields == 2) && (name_at fields 0 column.From && name_at fields 1 column.Rate) ≡ same_fields fields (header_of rate_columns)
 unfolding field_at
 two_names [] = refl
-two_names (x ∷ []) = sym (and_false _)
-two_names (x ∷ y ∷ []) = ap (λ t. bytes_eq x (column_name column.From) && t) (sym (and_true _))
+two_names (x ∷ []) = sym (and-false _)
+two_names (x ∷ y ∷ []) = ap (λ t. bytes_eq x (column_name column.From) && t) (sym (and-true _))
 two_names (x ∷ y ∷ z ∷ rest) = rw (not_two (length rest)) (none_of_two _ _)
 
 pub five_names : (fields : List Bytes) → (length fields == 5) && ((name_at fields 0 column.Serial && (name_at fields 1 column.Denom && name_at fields 2 column.Issued)) && (name_at fields 3 column.Owner && name_at fields 4 column.Coowner)) ≡ same_fields fields (header_of bond_columns)
 unfolding field_at
 five_names [] = refl
-five_names (a ∷ []) = sym (and_false _)
+five_names (a ∷ []) = sym (and-false _)
 five_names (a ∷ b ∷ []) = none_of_two (is a column.Serial) (is b column.Denom)
 five_names (a ∷ b ∷ c ∷ []) = none_of_three (is a column.Serial) (is b column.Denom) (is c column.Issued)
 five_names (a ∷ b ∷ c ∷ d ∷ []) = none_of_four (is a column.Serial) (is b column.Denom) (is c column.Issued) (is d column.Owner)

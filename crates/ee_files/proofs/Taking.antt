@@ -1,5 +1,5 @@
-use Rattle.std.proofs.Common.{◌≡◌, ◌∙◌, ℕ, Bool, true, false, List, [], ◌∷◌, ◌++◌, Option, Some, None, Result, Ok, Err, Bor, refl, sym, ap, subst, inl, inr, rules}
-use Rattle.std.specs.Prelude.{IfOk, OnOk, MatchResult, IsUtf8, option_map}
+use Rattle.std.proofs.Common.{◌≡◌, ◌∙◌, ℕ, Bool, true, false, List, [], ◌∷◌, Option, Some, None, Result, Ok, Err, Bor, refl, sym, ap, inl, inr}
+use Rattle.std.specs.Prelude.{MatchResult, IsUtf8, option_map}
 use Rattle.std.specs.Result.{result_ok}
 use Rattle.std.specs.Str.{is_utf8}
 use Rattle.std.proofs.lemmas.Str.{IsUtf8-from_is_utf8, is_utf8-from_IsUtf8}
@@ -8,7 +8,7 @@ use Rattle.csv.specs.declared.parser.State.{State}
 use Rattle.csv.specs.Machine.{next_record, Read}
 use Rattle.std.proofs.lemmas.Option.{none-some, same_Some}
 use Rattle.csv.specs.declared.reader.Trim.TheVariants as trim
-use Rattle.csv.specs.Reading.{AreRecords, Reached, ReadRecord, Ready, default_config, reader_state, reader_trim, source_of, took_first}
+use Rattle.csv.specs.Reading.{Reached, ReadRecord, Ready, default_config, reader_state, reader_trim, took_first}
 use Rattle.csv.proofs.ReadFacts.{rows-more, rows-end}
 use Rattle.ee_files.specs.Left.{HasLeft, TakesNext, TextReader}
 use Rattle.ee_files.specs.Fields.{text_of}
@@ -42,15 +42,18 @@ takes_next a b true fields (x ∷ rest) h r first =
     let (q, was, is, more) = reached in
     let (z, source, step) = rows-more over a b fields default_config (reader_state a) h.text h.text [] h.config h.source (refl, refl) r in
     let (p, next, same, after) = step in
-    let both : p ≡ q = same_Some p q (sym next ∙ was) in
-    (refl, same ∙ ap (λ (t : Read). t.0) both ∙ sym is, record {
-      plain = r.3 ∙ h.plain;
-      ready = inl first;
-      config = r.2 ∙ h.config;
-      text = z;
-      source = source;
-      records = (s2, ys, moved q.1 (reader_state b) s2 q.2 z ys rest (ap (λ (t : Read). t.1) (sym both) ∙ after.0) (ap (λ (t : Read). t.2) (sym both) ∙ after.1) more, none);
-    })
+    let both : p ≡ q = same_Some p q (sym next ∙ was) in (
+      refl,
+      same ∙ ap (λ (t : Read). t.0) both ∙ sym is,
+      record {
+        plain = r.3 ∙ h.plain;
+        ready = inl first;
+        config = r.2 ∙ h.config;
+        text = z;
+        source = source;
+        records = (s2, ys, moved q.1 (reader_state b) s2 q.2 z ys rest (ap (λ (t : Read). t.1) (sym both) ∙ after.0) (ap (λ (t : Read). t.2) (sym both) ∙ after.1) more, none);
+      },
+    )
 takes_next a b false fields (x ∷ rest) h r first =
     let (s2, ys, reached, none) = h.records in
     let (q, was, is, more) = reached in

@@ -1,5 +1,5 @@
 -- An inventory file (this project's rule).
-use Rattle.std.specs.Prelude.{◌≡◌, ◌≤◌, ℕ, ◌==◌, List, [], ◌∷◌, Option, Some, None, Result, Ok, Err, IfSome, length, map, option_map, if◌then◌else◌}
+use Rattle.std.specs.Prelude.{◌≤◌, ℕ, ◌==◌, List, [], ◌∷◌, Option, Some, None, Result, Ok, Err, IfSome, length, map, option_map, if◌then◌else◌}
 use Rattle.std.specs.List.{flat_map}
 use Rattle.std.specs.Fmt.{decimal}
 use Rattle.csv.specs.Writing.{row_text, default_writer}
@@ -26,13 +26,13 @@ coowner_of (b ∷ bs) = option_map Some (customer_of (b ∷ bs))
 -- the bond of one record, or its first fault from the left
 unfoldable pub bond_entry : ℕ → List Bytes → Result Bond FileFault
 bond_entry row fields = if length fields == 5 then (do
-    serial ← value_at row column.Serial serial_of (field_at fields 0)
-    denom ← value_at row column.Denom denom_of (field_at fields 1)
-    issued ← value_at row column.Issued issue_of (field_at fields 2)
-    owner ← value_at row column.Owner customer_of (field_at fields 3)
-    coowner ← value_at row column.Coowner coowner_of (field_at fields 4)
-    Ok (record { serial = serial; denom = denom; issued = issued; owner = owner; coowner = coowner }))
-  else Err (record { row = row; code = WrongFieldCount })
+  serial ← value_at row column.Serial serial_of (field_at fields 0)
+  denom ← value_at row column.Denom denom_of (field_at fields 1)
+  issued ← value_at row column.Issued issue_of (field_at fields 2)
+  owner ← value_at row column.Owner customer_of (field_at fields 3)
+  coowner ← value_at row column.Coowner coowner_of (field_at fields 4)
+  Ok (record { serial = serial; denom = denom; issued = issued; owner = owner; coowner = coowner }))
+    else Err (record { row = row; code = WrongFieldCount })
 
 -- the bonds of an inventory file, or its first fault
 abbrev pub bonds_of_file : Bytes → Result (List Bond) FileFault

@@ -1,5 +1,5 @@
 -- The records that a reader over a text has left.
-use Rattle.std.specs.Prelude.{◌≡◌, ℕ, List, [], ◌∷◌, Option, Some, true, false, Bool}
+use Rattle.std.specs.Prelude.{◌≡◌, ℕ, List, [], ◌∷◌, Some, true, false, Bool}
 use Rattle.std.specs.Borrow.{Bor}
 use Rattle.csv.specs.Reading.{AreRecords, Ready, default_config, reader_config, reader_state, reader_trim, source_of}
 use Rattle.csv.specs.declared.reader.Reader.{Reader}

@@ -16,10 +16,10 @@ rate_columns = column.From ∷ column.Rate ∷ []
 -- the row of one record, or its first fault from the left
 unfoldable pub rate_entry : ℕ → List Bytes → Result RateRow FileFault
 rate_entry row fields = if length fields == 2 then (do
-    from ← value_at row column.From issue_of (field_at fields 0)
-    rate ← value_at row column.Rate rate_of (field_at fields 1)
-    Ok (record { from = from; rates = record { fixed = rate } }))
-  else Err (record { row = row; code = WrongFieldCount })
+  from ← value_at row column.From issue_of (field_at fields 0)
+  rate ← value_at row column.Rate rate_of (field_at fields 1)
+  Ok (record { from = from; rates = record { fixed = rate } }))
+    else Err (record { row = row; code = WrongFieldCount })
 
 -- the rows of a rate file, or its first fault
 abbrev pub rates_of_file : Bytes → Result (List RateRow) FileFault

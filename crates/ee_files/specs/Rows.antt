@@ -1,5 +1,6 @@
 -- The rows of a file (this project's rule): the records of its bytes by csv's default dialect.
-use Rattle.std.specs.Prelude.{ℕ, zero, suc, ◌+◌, ◌&&◌, Bool, true, false, List, [], ◌∷◌, Result, Ok, Err, length, map, nat_lt, unwrap_or, if◌then◌else◌}
+use Rattle.std.specs.Prelude.{ℕ, zero, suc, ◌+◌, Bool, List, [], ◌∷◌, Result, Ok, Err, length, map, nat_lt, unwrap_or, if◌then◌else◌}
+use Rattle.std.specs.Cmp.Lexicographic.{pointwise}
 use Rattle.std.specs.Str.{bytes_eq}
 use Rattle.csv.specs.Records.{field_at}
 use Rattle.csv.specs.Reading.{default_config, records, strip_bom}
@@ -18,11 +19,9 @@ rows_from entry row (suc most) (fields ∷ rest) = do
   others ← rows_from entry (row + 1) most rest
   Ok (first ∷ others)
 
+-- whether two records have the same fields
 abbrev pub same_fields : List Bytes → List Bytes → Bool
-same_fields [] [] = true
-same_fields (a ∷ as_) (b ∷ bs) = bytes_eq a b && same_fields as_ bs
-same_fields [] (b ∷ bs) = false
-same_fields (a ∷ as_) [] = false
+same_fields fields others = pointwise bytes_eq fields others
 
 -- whether the field at a place is this column's name
 abbrev pub name_at : List Bytes → ℕ → Column → Bool

@@ -18,7 +18,11 @@ use std::io::Write;
 
 /// Writes an inventory file: the header, and a line for each bond in the order given. Memory is taken
 /// before the first byte. Where the writer fails, it has taken a front of the file.
-pub fn write_inventory<W: Write>(alloc: Global, writer: &mut W, bonds: &[Bond]) -> Result<(), WriteFault>
+pub fn write_inventory<W: Write>(
+    alloc: Global,
+    writer: &mut W,
+    bonds: &[Bond],
+) -> Result<(), WriteFault>
     ensures { Writes W.contents writer.old writer.new (inventory_text bonds.now) result }
 {
     let text = inventory_bytes(alloc, bonds)?;

@@ -1,5 +1,4 @@
 use crate::columns::Column;
-
 use std::fmt;
 use thiserror::Error;
 

@@ -10,7 +10,8 @@ ghost use Rattle.ee_files.specs.Fields.{field_value, text_of};
 use crate::columns::Column;
 use crate::faults::{FileCode, FileFault};
 use ee_units::{
-    Customer, Denom, IssueMonth, Rate, Serial, read_customer, read_denom, read_issue, read_rate, read_serial,
+    Customer, Denom, IssueMonth, Rate, Serial, read_customer, read_denom, read_issue, read_rate,
+    read_serial,
 };
 use std::str;
 

@@ -24,7 +24,9 @@ fn names_bond(fields: &ByteRecord) -> bool
     ensures { result ≡ name_at (fields_of fields.now) 0 Column.Serial
         && (name_at (fields_of fields.now) 1 Column.Denom && name_at (fields_of fields.now) 2 Column.Issued) }
 {
-    names(fields, 0, Column::Serial) && names(fields, 1, Column::Denom) && names(fields, 2, Column::Issued)
+    names(fields, 0, Column::Serial)
+        && names(fields, 1, Column::Denom)
+        && names(fields, 2, Column::Issued)
 }
 
 fn names_owners(fields: &ByteRecord) -> bool

@@ -1,8 +1,24 @@
 //! Laws of the definitions: a body does nothing, and the clauses are the laws.
 
-ghost use Rattle.std.specs.Prelude.{◌≡◌, ◌≤◌, List, All, Ok, length};
+ghost use Rattle.std.specs.Prelude.{◌≡◌, ◌≤◌, ℕ, List, All, Ok, length, take};
+ghost use Rattle.std.specs.Bool.{Decides};
 ghost use Rattle.ee_calculator.specs.declared.bonds.Bond.{Bond};
-ghost use Rattle.ee_files.specs.BondFile.{IsBond, bonds_of_file, inventory_text};
+ghost use Rattle.ee_files.specs.BondFile.{IsBond, bond_entry, bonds_of_file, inventory_text};
+ghost use Rattle.ee_files.specs.Order.{AllOrFirstFault, each};
+ghost use Rattle.ee_files.specs.RateFile.{rate_entry};
+ghost use Rattle.ee_files.specs.Rows.{rows_from, same_fields};
+
+/// The rows under a header are those of the first 501 records, each read by itself, where none is at
+/// fault; else the answer is the first fault. Records are numbered from 2.
+pub const fn rows_law()
+    ensures rates { (rest : List (List (List ℕ))) → AllOrFirstFault (each rate_entry 2 (take 501 rest)) (rows_from rate_entry 2 501 rest) }
+    ensures bonds { (rest : List (List (List ℕ))) → AllOrFirstFault (each bond_entry 2 (take 501 rest)) (rows_from bond_entry 2 501 rest) }
+{}
+
+/// A header is compared exactly: name by name, and no name more.
+pub const fn header_law()
+    ensures { (fields names : List (List ℕ)) → Decides (same_fields fields names) (fields ≡ names) }
+{}
 
 /// What is written of up to 500 bonds reads back as those bonds.
 pub const fn inventory_law()

@@ -10,7 +10,6 @@ mod inventory;
 mod laws;
 mod rates;
 mod records;
-
 #[cfg(test)]
 mod tests;
 
@@ -18,6 +17,6 @@ pub use columns::Column;
 pub use export::write_inventory;
 pub use faults::{FileCode, FileFault, WriteFault};
 pub use inventory::read_inventory;
-pub use laws::inventory_law;
+pub use laws::{header_law, inventory_law, rows_law};
 pub use rates::read_rates;
 pub use records::MOST_BYTES;

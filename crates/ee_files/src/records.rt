@@ -3,7 +3,7 @@
 ghost use Rattle.std.specs.Prelude.{◌≡◌, ℕ, List, Some, Result, IfOk, IfErr};
 ghost use Rattle.csv.specs.Reading.{default_config, records, strip_bom};
 ghost use Rattle.csv.specs.Records.{fields_of};
-ghost use Rattle.ee_files.specs.Answers.{Gives};
+ghost use Rattle.ee_files.specs.Answers.{Gives, Unreadable};
 ghost use Rattle.ee_files.specs.Left.{HasLeft, TakesNext};
 ghost use Rattle.ee_files.specs.Rows.{header_of, rows_from, rows_of_file, rows_of_records, same_fields};
 ghost use Rattle.ee_files.specs.declared.columns.Column.{Column};
@@ -41,16 +41,20 @@ const fn unreadable(code: FileCode) -> FileFault
 
 fn next_record(records: &mut Reader<&[u8]>, fields: &mut ByteRecord) -> Result<bool, FileFault>
     ensures ok { IfOk result (λ found. (rest : List (List (List ℕ))) → HasLeft records.old rest → TakesNext records.new rest found (fields_of fields.new)) }
-    ensures err { IfErr result (λ e. (e.row ≡ 1) × (e.code ≡ FileCode.NoMemory)) }
+    ensures err { IfErr result Unreadable }
 {
-    let Ok(found) = records.read_byte_record(fields) else {
-        return Err(unreadable(FileCode::NoMemory));
-    };
-    Ok(found)
+    match records.read_byte_record(fields) {
+        Ok(found) => Ok(found),
+        Err(error) if error.is_io_error() => Err(unreadable(FileCode::ReadFailed)),
+        Err(_) => Err(unreadable(FileCode::NoMemory)),
+    }
 }
 
 // The rows of the records that are left, at most 501.
-fn rows_under_header<T: FileRow>(alloc: Global, records: &mut Reader<&[u8]>) -> Result<Vec<T>, FileFault>
+fn rows_under_header<T: FileRow>(
+    alloc: Global,
+    records: &mut Reader<&[u8]>,
+) -> Result<Vec<T>, FileFault>
     ensures { (rest : List (List (List ℕ))) → HasLeft records.old rest
         → Gives (λ v. v.items) result (rows_from T.entry 2 501 rest) }
 {

@@ -1,4 +1,4 @@
-use Rattle.std.proofs.Common.{◌≡◌, ◌∙◌, ap, sym}
+use Rattle.std.proofs.Common.{◌∙◌}
 use Rattle.std.proofs.lemmas.Option.{same_Some}
 use Rattle.csv.specs.Writing.{row_text, default_writer}
 use Rattle.ee_files.specs.BondFile.{bond_columns, bond_fields}

@@ -1,7 +1,4 @@
-use Rattle.std.proofs.Common.{◌∙◌, ap}
 use Rattle.std.proofs.lemmas.Result.{MatchResult-weaker}
-use Rattle.ee_files.specs.Fields.{text_of}
-use Rattle.std.specs.Prelude.{option_map}
 use Rattle.ee_files.proofs.Taking.{text_is}
 use Rattle.ee_files.proofs.fields.text_in.Goals as goal
 

@@ -1,5 +1,5 @@
-use Rattle.std.proofs.Common.{◌≡◌, ◌∙◌, refl, sym, inr, rules, List, ℕ, Some}
-use Rattle.csv.specs.Reading.{AreRecords, default_config, records, strip_bom, reader_state}
+use Rattle.std.proofs.Common.{sym, inr, rules}
+use Rattle.csv.specs.Reading.{AreRecords, default_config, records, strip_bom}
 use Rattle.ee_files.proofs.Fuel.{all_records}
 use Rattle.csv.specs.declared.parser.State.{State}
 use Rattle.std.proofs.Common.{subst}

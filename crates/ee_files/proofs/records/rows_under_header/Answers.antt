@@ -1,4 +1,4 @@
-use Rattle.std.proofs.Common.{◌≡◌, ◌∙◌, ◌+◌, ◌-◌, ℕ, List, [], ◌∷◌, sym, ap, arith, rules, suc, true}
+use Rattle.std.proofs.Common.{◌≡◌, ◌∙◌, ◌+◌, ◌-◌, [], ◌∷◌, sym, ap, arith, rules, suc, true}
 use Rattle.std.specs.Result.{is_ok}
 use Rattle.std.proofs.lemmas.Result.{err_from_is_err_and}
 use Rattle.csv.specs.Records.{fields_of}
@@ -46,11 +46,13 @@ loop-row-preserved g c = λ all h.
     let good : is_ok c.push.result ≡ true = search rules in
     let items = rw good at c.push.ensures.items in
     let front = c.loop-row.rows.items in
-    let step = one_more entry c.loop-row.row left_over front fields t.rest c.in_ok-entry.entry c.in_ok-entry.ensures in
-    (t.rest, t.left,
-    ap (λ xs. with_front xs (rows_from entry (c.loop-row.row + 1) left_over t.rest)) items
-    ∙ sym step ∙ ap (λ k. with_front front (rows_from entry c.loop-row.row k (fields ∷ t.rest))) (sym more)
-    ∙ ap (λ xs. with_front front (rows_from entry c.loop-row.row (503 - c.loop-row.row) xs)) (sym t.is) ∙ whole)
+    let step = one_more entry c.loop-row.row left_over front fields t.rest c.in_ok-entry.entry c.in_ok-entry.ensures in (
+      t.rest,
+      t.left,
+      ap (λ xs. with_front xs (rows_from entry (c.loop-row.row + 1) left_over t.rest)) items
+          ∙ sym step ∙ ap (λ k. with_front front (rows_from entry c.loop-row.row k (fields ∷ t.rest))) (sym more)
+          ∙ ap (λ xs. with_front front (rows_from entry c.loop-row.row (503 - c.loop-row.row) xs)) (sym t.is) ∙ whole,
+    )
 
 pub returns : goal.returns
 returns g c = λ all h.

@@ -1,4 +1,4 @@
-use Rattle.std.proofs.Common.{◌≡◌, ◌∙◌}
+use Rattle.std.proofs.Common.{◌∙◌}
 use Rattle.csv.specs.Records.{fields_of}
 use Rattle.ee_files.proofs.NamesInPlace.{five_names}
 use Rattle.ee_files.proofs.inventory.BondFileRow.is_header.Goals as goal

@@ -1,4 +1,4 @@
-use Rattle.std.proofs.Common.{◌≡◌, ◌∙◌}
+use Rattle.std.proofs.Common.{◌∙◌}
 use Rattle.csv.specs.Records.{fields_of}
 use Rattle.ee_files.proofs.NamesInPlace.{two_names}
 use Rattle.ee_files.proofs.rates.RateRowFileRow.is_header.Goals as goal
