@@ -1,0 +1,9 @@
+use Rattle.std.proofs.Common.{◌≡◌, ◌==◌, ◌≤◌, ◌*◌, ◌^◌, ◌++◌, [], map, length, take, drop, find, sum_by}
+use Rattle.std.specs.List.{list_any}
+use Rattle.ee_acts.specs.Refusals as is
+use Rattle.ee_acts.specs.Serials.{same_serial}
+use Rattle.ee_acts.specs.Views.{shown_by}
+use Rattle.ee_decide.proofs.checks.first_repeated_bond.Given as goal
+
+abbrev pub invariant-loop-i : goal.invariant-loop-i
+invariant-loop-i l = is.repeated_bond (take l.i l.bonds) (drop l.i l.bonds) ≡ is.repeated_bond [] l.bonds

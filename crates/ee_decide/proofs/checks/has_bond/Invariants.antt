@@ -1,0 +1,9 @@
+use Rattle.std.proofs.Common.{◌≡◌, ◌==◌, ◌≤◌, ◌*◌, ◌^◌, ◌++◌, [], map, length, take, drop, find, sum_by}
+use Rattle.std.specs.List.{list_any}
+use Rattle.ee_acts.specs.Refusals as is
+use Rattle.ee_acts.specs.Serials.{same_serial}
+use Rattle.ee_acts.specs.Views.{shown_by}
+use Rattle.ee_decide.proofs.checks.has_bond.Given as goal
+
+abbrev pub invariant-loop-other : goal.invariant-loop-other
+invariant-loop-other l = list_any (λ other. same_serial l.serial other.serial) (drop l.other-index l.bonds) ≡ list_any (λ other. same_serial l.serial other.serial) l.bonds
