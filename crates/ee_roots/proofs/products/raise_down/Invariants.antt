@@ -1,0 +1,6 @@
+use Rattle.std.proofs.Common.{◌≡◌}
+use Rattle.ee_roots.specs.Products.{power_down}
+use Rattle.ee_roots.proofs.products.raise_down.Given as goal
+
+abbrev pub invariant-loop-i : goal.invariant-loop-i
+invariant-loop-i l = l.product ≡ power_down l.bits l.p l._i

@@ -1,0 +1,12 @@
+//! Bounds of the sixth root of a half-year's growth, in fixed point with directed rounding: a number
+//! `p` stands for `p / 2^b`, where `b` is the precision, 8 to 62 binary places.
+#![tactic(auto)]
+
+mod amounts;
+mod products;
+mod roots;
+mod search;
+
+pub use amounts::settle;
+pub use products::{mul_down, mul_up};
+pub use roots::{Root, power_bounds, root_bounds};

@@ -1,0 +1,63 @@
+//! The searches for the bounds, between 1 and 33/32.
+
+ghost use Rattle.std.specs.Prelude.{◌≡◌, ◌+◌, ◌*◌, ◌^◌, ◌≤◌};
+ghost use Rattle.ee_roots.specs.Roots.{IsLow, IsHigh};
+
+use crate::products::{raise_down, raise_up};
+use ee_units::{Bits, Rate};
+
+/// The sixth power of the root that is wanted, times 20000.
+fn wanted(one: u128, rate: Rate) -> u128
+    requires { one ≤ 2 ^ 62 }
+    ensures value { result ≡ one * (20000 + rate) }
+    ensures range { rate ≤ 2000 }
+{
+    one * (20_000 + u128::from(rate.hundredths()))
+}
+
+/// The low bound of the root.
+pub fn low_root(one: u128, rate: Rate, bits: Bits) -> u128
+    requires one { one ≡ 2 ^ bits }
+    requires precise { 8 ≤ bits }
+    requires fits { bits ≤ 62 }
+    ensures low { IsLow bits rate result }
+    ensures near_one { 32 * result ≤ 33 * 2 ^ bits }
+{
+    let wanted = wanted(one, rate);
+    let mut low = one;
+    let mut above = one + one / 32;
+    while above - low > 1 {
+        let middle = low + (above - low) / 2;
+        if raise_up(middle, 5, bits) * 20_000 <= wanted {
+            low = middle;
+        } else {
+            above = middle;
+        }
+    }
+    low
+}
+
+/// The high bound of the root.
+pub fn high_root(one: u128, rate: Rate, bits: Bits) -> u128
+    requires one { one ≡ 2 ^ bits }
+    requires precise { 8 ≤ bits }
+    requires fits { bits ≤ 62 }
+    ensures high { IsHigh bits rate result }
+    ensures near_one { 32 * result ≤ 33 * 2 ^ bits }
+{
+    if rate.hundredths() == 0 {
+        return one;
+    }
+    let wanted = wanted(one, rate);
+    let mut below = one;
+    let mut high = one + one / 32;
+    while high - below > 1 {
+        let middle = below + (high - below) / 2;
+        if raise_down(middle, 5, bits) * 20_000 < wanted {
+            below = middle;
+        } else {
+            high = middle;
+        }
+    }
+    high
+}

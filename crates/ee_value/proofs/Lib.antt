@@ -1,0 +1,5 @@
+pub mod Rounding
+pub mod Starts
+pub mod Settled
+pub mod OpenAges
+pub mod Accruals

@@ -1,0 +1,6 @@
+pub mod Rounding
+pub mod Chain
+pub mod Value
+pub mod Open
+pub mod Fault
+pub mod Payment

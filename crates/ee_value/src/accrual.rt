@@ -1,0 +1,35 @@
+ghost use Rattle.std.specs.Prelude.{◌≡◌, ◌/◌, ◌%◌, true, false, min, MatchResult, IfOk, IfErr};
+ghost use Rattle.ee_value.specs.Rounding.{Rounds};
+ghost use Rattle.ee_value.specs.Chain.{rate_in, start};
+ghost use Rattle.ee_value.specs.Value.{accrued};
+ghost use Rattle.ee_value.specs.Open.{is_open, Close};
+
+use crate::faults::Unsettled;
+use crate::growth::grown_unit;
+use crate::halves::start_unit;
+use crate::rates::Rates;
+use ee_roots::root_bounds;
+use ee_units::{Age, Bits};
+
+/// The age at which interest stops, in months.
+pub const FINAL_MATURITY: u16 = 360;
+
+/// The accrued value of one unit at an age, in cents and without penalty, or `Unsettled` where the
+/// precision doesn't settle it: then the true value is close to a half cent. Above an age of 360
+/// months it is the value at 360. It takes no memory.
+pub fn unit_at(rates: Rates, age: Age, bits: Bits) -> Result<u64, Unsettled>
+    ensures value { MatchResult result
+        (λ cents. (is_open rates age bits ≡ false) × (cents ≡ accrued rates age))
+        (λ e. (is_open rates age bits ≡ true) × (e.month ≡ age)) }
+    ensures rounds { IfOk result (λ cents.
+        Rounds (start rates (min age 360 / 6)) (rate_in rates (min age 360 / 6)) (min age 360 % 6) cents) }
+    ensures close { IfErr result
+        (λ _. Close (start rates (age / 6)) (rate_in rates (age / 6)) (age % 6) bits) }
+{
+    let counted = age.months().min(FINAL_MATURITY);
+    let half_year = counted / 6;
+    let start = start_unit(&rates, half_year);
+    let rate = rates.rate_in(half_year);
+    let root = root_bounds(rate, bits);
+    grown_unit(start, rate, (counted % 6) as u8, &root).ok_or(Unsettled { month: age })
+}

@@ -1,0 +1,55 @@
+use ee_units::Age;
+use std::alloc::{AllocError, AllocFailed};
+use thiserror::Error;
+
+/// The precision doesn't settle the value at an age: its bounds round to different cents.
+#[derive(Clone, Copy, Debug, PartialEq, Eq, PartialOrd, Ord, Hash, Error)]
+#[error("unsettled at age {}", month.months())]
+pub struct Unsettled {
+    /// The age that was asked for.
+    pub month: Age,
+}
+
+/// Why there is no table of unit values.
+#[derive(Clone, Copy, Debug, PartialEq, Eq, PartialOrd, Ord, Hash, Error)]
+pub enum ValueFault {
+    /// The precision doesn't settle the value at this age, nor is there an earlier such age.
+    #[error("unsettled at age {}", month.months())]
+    Unsettled { month: Age },
+    /// Memory was refused.
+    #[error("out of memory")]
+    NoMemory,
+}
+
+impl From<Unsettled> for ValueFault {
+    ghost use Rattle.std.specs.Prelude.{◌≡◌};
+    ghost use Rattle.ee_value.specs.declared.faults.ValueFault.TheVariants.{Unsettled};
+
+    ghost from_gives = { λ f e. e ≡ Unsettled f.month };
+
+    fn from(fault: Unsettled) -> ValueFault {
+        ValueFault::Unsettled { month: fault.month }
+    }
+}
+
+impl From<AllocError> for ValueFault {
+    ghost use Rattle.std.specs.Prelude.{◌≡◌};
+    ghost use Rattle.ee_value.specs.declared.faults.ValueFault.TheVariants.{NoMemory};
+
+    ghost from_gives = { λ _ e. e ≡ NoMemory };
+
+    fn from(_fault: AllocError) -> ValueFault {
+        ValueFault::NoMemory
+    }
+}
+
+impl<T: Drop> From<AllocFailed<T>> for ValueFault {
+    ghost use Rattle.std.specs.Prelude.{◌≡◌};
+    ghost use Rattle.ee_value.specs.declared.faults.ValueFault.TheVariants.{NoMemory};
+
+    ghost from_gives = { λ _ e. e ≡ NoMemory };
+
+    fn from(_fault: AllocFailed<T>) -> ValueFault {
+        ValueFault::NoMemory
+    }
+}

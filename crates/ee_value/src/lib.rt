@@ -1,0 +1,19 @@
+//! The value of Series EE savings bonds that earn a fixed rate (31 CFR Part 351): what one unit,
+//! 12.50 dollars of issue price, has accrued to at an age, and what a bond pays.
+#![tactic(auto)]
+
+mod accrual;
+mod bonds;
+mod faults;
+mod growth;
+mod halves;
+mod quotes;
+mod rates;
+mod tables;
+
+pub use accrual::unit_at;
+pub use bonds::bond_value;
+pub use faults::{Unsettled, ValueFault};
+pub use quotes::Quote;
+pub use rates::Rates;
+pub use tables::{UnitTable, unit_table};

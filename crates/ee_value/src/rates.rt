@@ -1,0 +1,22 @@
+use ee_units::Rate;
+
+/// The terms that a bond earns by: a fixed yearly rate, for each half-year of its life.
+#[derive(Clone, Copy, Debug, PartialEq, Eq, PartialOrd, Ord, Hash)]
+pub struct Rates {
+    pub fixed: Rate,
+}
+
+impl Rates {
+    ghost use Rattle.std.specs.Prelude.{◌≡◌};
+    ghost use Rattle.ee_value.specs.Chain.{InRange, rate_in};
+
+    /// The rate in force in a half-year from issue: the fixed rate, in each.
+    #[tactic(auto, unfolding(crate::specs::Chain::rate_in))]
+    pub fn rate_in(&self, _half_year: u16) -> Rate
+        ensures value { result ≡ rate_in self.now _half_year }
+        ensures range { InRange self.now }
+    {
+        let _hundredths = self.fixed.hundredths();
+        self.fixed
+    }
+}
