@@ -1,5 +1,5 @@
 -- Counts and sums of sound books are small.
-use Rattle.std.proofs.Common.{◌≡◌, ℕ, suc, ◌+◌, ◌*◌, ◌<◌, ◌≤◌, eqb, List, [], ◌∷◌, map, length, unwrap_or, arith, refl, sym, ap, ◌∙◌, subst, ◌-◌}
+use Rattle.std.proofs.Common.{◌≡◌, ℕ, suc, ◌+◌, ◌*◌, ◌<◌, ◌≤◌, eqb, List, [], ◌∷◌, map, length, unwrap_or, if◌then◌else◌, nat_lt, arith, refl, sym, ap, ◌∙◌, subst, ◌-◌}
 use Rattle.std.specs.Option.{IfSome}
 use Rattle.std.specs.List.{AllByRecursion, filter, sum_by, count_by}
 use Rattle.std.specs.FinMap as finite
@@ -11,14 +11,15 @@ use Rattle.ee_units.specs.declared.denoms.Denom.{Denom}
 use Rattle.ee_units.specs.declared.denoms.Denom.TheVariants as denom
 use Rattle.ee_value.specs.declared.rates.Rates.{Rates}
 use Rattle.ee_value.specs.Value.{redemption}
-use Rattle.ee_value.proofs.Growth.{redemption-le}
+use Rattle.ee_value.proofs.Accruals.{accrued-le}
+use Rattle.ee_value.specs.Chain.{InRange}
 use Rattle.ee_calculator.specs.declared.bonds.Bond.{Bond}
 use Rattle.ee_acts.specs.declared.replies.Line.{Line}
 use Rattle.ee_acts.specs.declared.replies.Ticket.{Ticket}
 use Rattle.ee_acts.specs.Lists.{Rising}
 use Rattle.ee_acts.specs.Values.{value_of}
 use Rattle.ee_acts.specs.PlainBooks.{PlainBooks, of_day, total_of, bonds_on, cents_of}
-use Rattle.ee_acts.specs.Sound.{IsSound, IsDay, AreRates, IsRightRate, IsRightLine, IsRightTicket, days}
+use Rattle.ee_acts.specs.Sound.{IsSound, IsDay, IsRightRate, IsRightLine, IsRightTicket, days}
 use Rattle.ee_acts.proofs.Maps.{all_map}
 use Rattle.ee_acts.proofs.Orders.{all_filter}
 use Rattle.ee_acts.proofs.Conservation.{day_sum, spread}
@@ -54,8 +55,12 @@ units_le denom.Thousand = omega arith
 units_le denom.FiveThousand = omega arith
 units_le denom.TenThousand = omega arith
 
+redemption-le : (rates : Rates) (a : ℕ) → InRange rates → redemption rates a ≤ 761234
+unfolding redemption
+redemption-le rates a range = accrued-le rates (if nat_lt a 60 then a - 3 else a) range
+
 -- a bond is worth less than 3.1 million dollars
-pub value_le : (rates : Rates) (bond : Bond) (month : ℕ) → AreRates rates → value_of rates bond month ≤ 304493600
+pub value_le : (rates : Rates) (bond : Bond) (month : ℕ) → InRange rates → value_of rates bond month ≤ 304493600
 value_le rates bond month range = mul-le-mul (units_le bond.denom) (redemption-le rates (month - bond.issued) range)
 
 line_le : (books : PlainBooks) → IsSound books → (ticket : Ticket) (line : Line) → IsRightLine books.rates books.bonds ticket line → cents_of line ≤ 304493600

@@ -12,6 +12,7 @@ use Rattle.ee_acts.specs.declared.replies.Batch.{Batch}
 use Rattle.ee_acts.specs.Serials.{serial_cmp, same_serial}
 use Rattle.ee_units.specs.Denoms.{units_of}
 use Rattle.ee_value.specs.declared.rates.Rates.{Rates}
+use Rattle.ee_value.specs.Chain.{InRange}
 use Rattle.ee_acts.specs.Paid.{paid_lines, NoneTwice}
 use Rattle.ee_units.specs.Calendar.{month_of_day, period_start, is_announcement}
 use Rattle.ee_acts.specs.Values.{value_of, unsettled}
@@ -26,15 +27,11 @@ IsDay day = (12904 ≤ day) × (day ≤ 84005)
 abbrev pub IsIssueMonth : ℕ → Type 0
 IsIssueMonth month = month ≤ 1135
 
--- up to 20 percent, in hundredths of a percent
-abbrev pub AreRates : Rates → Type 0
-AreRates rates = rates.fixed ≤ 2000
-
 -- rates stand at an announced month, and leave no value unsettled
 pub record IsRightRate (month : ℕ) (rates : Rates) : Type 0 where
   pub announced : is_announcement month ≡ true
   pub settled : unsettled rates ≡ None
-  pub in_range : IsIssueMonth month × AreRates rates
+  pub in_range : IsIssueMonth month × InRange rates
 
 -- a registered bond stands under its serial, has rates, and no coowner who is the owner
 pub record IsRightBond (rates : FinMap nat_cmp Rates) (serial : SerialNumber) (bond : Bond) : Type 0 where

@@ -2,7 +2,8 @@
 use Rattle.std.specs.Prelude.{ℕ, ◌-◌, ◌*◌, Bool, ◌==◌, Option}
 use Rattle.ee_units.specs.Denoms.{units_of}
 use Rattle.ee_value.specs.declared.rates.Rates.{Rates}
-use Rattle.ee_value.specs.Value.{redemption, first_open}
+use Rattle.ee_value.specs.Value.{redemption}
+use Rattle.ee_value.specs.Open.{first_open}
 use Rattle.ee_calculator.specs.declared.bonds.Bond.{Bond}
 
 -- the value of a bond in a month, in cents: its units times the redemption value of one unit at its
