@@ -27,7 +27,7 @@ use Rattle.ee_units.specs.Calendar.{period_start, month_of_day, is_announcement}
 
 use Rattle.ee_acts.specs.Values.{value_of, unsettled}
 use Rattle.ee_acts.specs.Lists.{Rising, NeverFalling}
-use Rattle.ee_acts.specs.PlainBooks.{PlainBooks, no_books, ticket_of, names, has_coowner, is_payee, of_day, batch_of, bonds_on, total_of, cents_of}
+use Rattle.ee_acts.specs.PlainBooks.{PlainBooks, no_books, ticket_of, names, has_coowner, is_payee, of_day, batch_of, batch_so_far, bonds_on, total_of, cents_of}
 use Rattle.ee_acts.specs.Paid.{paid_lines}
 use Rattle.ee_acts.specs.Seen.{Seen, shown, held_as, held_of, rate_of, worth, value_in, line_for, ticket_for, closing_batch}
 use Rattle.ee_acts.specs.Refusals.{first, first_of, when, known_rate, tests_of, tests_of_rates, tests_of_bonds, tests_of_redeem, tests_of_held, refusal_of, refusal_of_day, refusal_of_held, refusal_of_serial, unannounced, near, own_coowner, unrated, repeated}
@@ -58,7 +58,7 @@ pub no_refusal : (tests : List (Option Refusal)) → first tests ≡ None → Al
 no_refusal [] e = tt
 no_refusal (t ∷ tests) e = let p = or_none t (first tests) e in (p.0, no_refusal tests p.1)
 
-test_passed : {A : Type 0} (b : Bool) (r : A) (rest : Option A) → cond b (Some r) rest ≡ None → (b ≡ false) × (rest ≡ None)
+pub test_passed : {A : Type 0} (b : Bool) (r : A) (rest : Option A) → cond b (Some r) rest ≡ None → (b ≡ false) × (rest ≡ None)
 test_passed true r rest e = absurd (cc)
 test_passed false r rest e = (refl, e)
 
@@ -66,7 +66,7 @@ pub all_of : {A : Type 0} (refusal : A → Option Refusal) (rows : List A) → f
 all_of refusal [] e = tt
 all_of refusal (row ∷ rows) e = let p = or_none (refusal row) (first_of refusal rows) e in (p.0, all_of refusal rows p.1)
 
-mapped_none : {A B : Type 0} (f : A → B) (o : Option A) → option_map f o ≡ None → o ≡ None
+pub mapped_none : {A B : Type 0} (f : A → B) (o : Option A) → option_map f o ≡ None → o ≡ None
 mapped_none f None e = refl
 mapped_none f (Some x) e = absurd (cc)
 
@@ -279,7 +279,7 @@ close_sound : (books : PlainBooks) (day : ℕ) → IsSound books → refusal_of 
 close_sound books day sound none =
     let opened = open_is books.day day (no_refusal (tests_of (shown books) (CloseDay day)) none).0 in
     let batch = closing_batch (shown books) day in
-    let is : batch ≡ batch_of day books.tickets = ap (λ o. let b = batch_of (unwrap_or o 0) books.tickets in record { day = day; tickets = b.tickets; bonds = b.bonds; total = b.total }) opened in
+    let is : batch ≡ batch_of day books.tickets = ap (λ o. let b = batch_so_far o books.tickets in record { day = day; tickets = b.tickets; bonds = b.bonds; total = b.total }) opened in
     let same : days books ≡ days (done books (CloseDay day)) =
         ap (λ o. map day_of_batch books.batches ++ open_days o) opened ∙ sym (map-append day_of_batch books.batches (batch ∷ [])) ∙ sym (append-nil (map day_of_batch (books.batches ++ batch ∷ []))) in
     record {
@@ -446,7 +446,7 @@ redeem_sound books day payee ss sound none =
     let some = some_serials ss (test_passed (length ss == 0) Empty None tests.0).0 in
     let few = ltb-false 100 (length ss) (test_passed (nat_lt 100 (length ss)) TooMany None tests.1.0).0 in
     let full = leb-false 1000 (shown books).day_tickets (test_passed (nat_le 1000 (shown books).day_tickets) DayFull None tests.1.1.1.1.0).0 in
-    let count : (shown books).day_tickets ≡ count_by (λ u. eqb u.day day) books.tickets = ap (λ o. length (of_day (unwrap_or o 0) books.tickets)) opened ∙ length-filter (λ u. eqb u.day day) books.tickets in
+    let count : (shown books).day_tickets ≡ count_by (λ u. eqb u.day day) books.tickets = ap (λ o. (batch_so_far o books.tickets).tickets) opened ∙ length-filter (λ u. eqb u.day day) books.tickets in
     let dated = subst (λ (ds : List ℕ). AllByRecursion (λ (t : Ticket). list_any (λ d. eqb t.day d) ds ≡ true) books.tickets) are sound.dated in
     let top : AllByRecursion (λ t. t.day ≤ day) books.tickets =
         all_map _ _ (λ (t : Ticket) e. any_has (λ x. x ≤ day) (λ d. eqb t.day d) (t.day ≤ day) (λ x le same. let s = eqb-true t.day x same in omega (arith, le, s)) (closed ++ day ∷ []) (rising_most closed day rising) e) books.tickets dated in
@@ -464,7 +464,7 @@ redeem_sound books day payee ss sound none =
       batches = batches_stay books.batches books.tickets ticket (all_unmapped (λ x. x < day) day_of_batch books.batches (rising_below closed day rising)) sound.batches;
     }
 
-done_sound : (books : PlainBooks) (asked : Act) → IsSound books → refusal_of (shown books) asked ≡ None → AllByRecursion IsInRange (accepted (shown books) asked).changes → IsSound (done books asked)
+pub done_sound : (books : PlainBooks) (asked : Act) → IsSound books → refusal_of (shown books) asked ≡ None → AllByRecursion IsInRange (accepted (shown books) asked).changes → IsSound (done books asked)
 done_sound books (AddRates rows) sound none ranges = rates_sound books rows sound none ranges
 done_sound books (AddBonds bonds) sound none ranges = bonds_sound books bonds sound none ranges
 done_sound books (OpenDay day) sound none ranges = opens_sound books day sound none ranges.0
@@ -478,3 +478,44 @@ act_sound books asked sound ranges = unless (refusal_of (shown books) asked) ref
     unless : (o : Option Refusal) → refusal_of (shown books) asked ≡ o → AllByRecursion IsInRange (effects.unless_refused (shown books) asked o).changes → IsSound (unless_refused books asked o)
     unless None none h = done_sound books asked sound none h
     unless (Some refusal) is h = sound
+
+-- a serial that isn't registered stands on no ticket
+unnamed : (books : PlainBooks) (s : SerialNumber) → finite.get books.bonds s ≡ None → (t : Ticket) (lines : List Line) → AllByRecursion (IsRightLine books.rates books.bonds t) lines
+    → list_any (λ line. same_serial s line.serial) lines ≡ false
+unnamed books s none t [] h = refl
+unnamed books s none t (line ∷ lines) h = or_from (same_serial s line.serial) (list_any (λ l. same_serial s l.serial) lines) apart (unnamed books s none t lines h.1)
+  where
+    apart : same_serial s line.serial ≡ false
+    apart = false_from_ne_true (same_serial s line.serial) (λ e. let p = sym none ∙ ap (finite.get books.bonds) (serial_is s line.serial e) ∙ h.0.2 in absurd (cc))
+
+unregistered : (books : PlainBooks) (s : SerialNumber) → finite.get books.bonds s ≡ None → (tickets : List Ticket) → AllByRecursion (IsRightTicket books.rates books.bonds) tickets
+    → ticket_of tickets s ≡ None
+unregistered books s none [] h = refl
+unregistered books s none (t ∷ tickets) h =
+    ap (λ b. option_map (λ x. x.ticket) (cond b (Some t) (find (names s) tickets))) (unnamed books s none t t.lines h.0.lines) ∙ unregistered books s none tickets h.1
+
+pub unregistered_unpaid : (books : PlainBooks) → IsSound books → (s : SerialNumber) → finite.get books.bonds s ≡ None → ticket_of books.tickets s ≡ None
+unregistered_unpaid books sound s none = unregistered books s none books.tickets sound.tickets
+
+-- a day that can be opened has no tickets
+none_on : (tickets : List Ticket) (day : ℕ) → AllByRecursion (λ t. t.day < day) tickets → of_day day tickets ≡ []
+none_on [] day h = refl
+none_on (t ∷ tickets) day h = ap (λ b. cond b (t ∷ of_day day tickets) (of_day day tickets)) (not_after t.day day h.0) ∙ none_on tickets day h.1
+  where
+    not_after : (x y : ℕ) → x < y → eqb x y ≡ false
+    not_after x y h = false_from_ne_true (eqb x y) (λ e. let s = eqb-true x y e in absurd (omega (arith, s)))
+
+pub opens_empty : (books : PlainBooks) (day : ℕ) → IsSound books → refusal_of (shown books) (OpenDay day) ≡ None → of_day day books.tickets ≡ []
+opens_empty books day sound none =
+    let tests = no_refusal (tests_of (shown books) (OpenDay day)) none in
+    let closed : books.day ≡ None = none_from_not books.day (test_passed (is_some books.day) DayOpen None tests.0).0 in
+    let later = (test_passed (option_map_or (λ c. nat_le day c) books.last_day false) DayNotLater None tests.1.0).0 in
+    let ds = map day_of_batch books.batches in
+    let were : days books ≡ ds = ap (λ o. ds ++ open_days o) closed ∙ append-nil ds in
+    let below = closed_below books.batches books.last_day day (subst Rising were sound.rising) sound.last later in
+    none_on books.tickets day (all_map _ _ (λ (t : Ticket) e. any_has (λ x. x < day) (λ d. eqb t.day d) (t.day < day)
+        (λ x lt same. let s = eqb-true t.day x same in omega (arith, lt, s)) ds below (ap (list_any (λ d. eqb t.day d)) (sym were) ∙ e)) books.tickets sound.dated)
+
+-- a ticket is made on the open day
+pub redeem_opened : (books : PlainBooks) (day payee : ℕ) (ss : List SerialNumber) → refusal_of (shown books) (Redeem day payee ss) ≡ None → books.day ≡ Some day
+redeem_opened books day payee ss none = open_is books.day day (no_refusal (tests_of (shown books) (Redeem day payee ss)) none).1.1.1.0

@@ -53,6 +53,14 @@ batch_of day tickets =
     let own = of_day day tickets in
     record { day = day; tickets = length own; bonds = sum_by bonds_on own; total = record { 0 = sum_by total_of own } }
 
+abbrev pub no_batch : Batch
+no_batch = record { day = 0; tickets = 0; bonds = 0; total = record { 0 = 0 } }
+
+-- the batch of the open day's tickets so far: zeros where none is open
+abbrev pub batch_so_far : Option ℕ → List Ticket → Batch
+batch_so_far None tickets = no_batch
+batch_so_far (Some day) tickets = batch_of day tickets
+
 abbrev pub has_coowner : Bond → ℕ → Bool
 has_coowner bond customer = option_map_or (λ other. other == customer) bond.coowner false
 

@@ -12,7 +12,7 @@ use Rattle.ee_units.specs.Denoms.{units_of}
 use Rattle.ee_units.specs.Calendar.{month_of_day, period_start}
 use Rattle.ee_acts.specs.Values.{value_of}
 use Rattle.ee_value.specs.declared.rates.Rates.{Rates}
-use Rattle.ee_acts.specs.PlainBooks.{PlainBooks, ticket_of, batch_of, cents_of}
+use Rattle.ee_acts.specs.PlainBooks.{PlainBooks, ticket_of, batch_so_far, cents_of}
 
 pub record Seen : Type 0 where
   pub rate : ℕ → Option Rates          -- by period
@@ -33,7 +33,7 @@ held_of books serial = option_map (held_as books.tickets serial) (finite.get boo
 
 -- what the open day has
 abbrev pub open_batch : PlainBooks → Batch
-open_batch books = batch_of (unwrap_or books.day 0) books.tickets
+open_batch books = batch_so_far books.day books.tickets
 
 -- all that books show
 abbrev pub shown : PlainBooks → Seen

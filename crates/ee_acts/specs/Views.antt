@@ -14,7 +14,7 @@ use Rattle.ee_acts.specs.declared.acts.Act.TheVariants.{AddRates, AddBonds, Open
 use Rattle.ee_acts.specs.Serials.{serial_cmp}
 use Rattle.ee_units.specs.Calendar.{period_start}
 use Rattle.ee_value.specs.declared.rates.Rates.{Rates}
-use Rattle.ee_acts.specs.PlainBooks.{PlainBooks}
+use Rattle.ee_acts.specs.PlainBooks.{PlainBooks, no_batch}
 use Rattle.ee_acts.specs.Seen.{Seen, shown, held_of, open_batch}
 
 pub record PlainView : Type 0 where
@@ -64,9 +64,6 @@ periods_of books (AddBonds bonds) = map (λ bond. period_start bond.issued) bond
 periods_of books (Redeem day payee serials) = filter_map (λ serial. option_map period_of_held (held_of books serial)) serials
 periods_of books (OpenDay day) = []
 periods_of books (CloseDay day) = []
-
-abbrev pub no_batch : Batch
-no_batch = record { day = 0; tickets = 0; bonds = 0; total = record { 0 = 0 } }
 
 -- the open day's tickets, for the acts that count them
 abbrev pub counted : PlainBooks → Act → Batch

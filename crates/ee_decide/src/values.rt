@@ -20,7 +20,7 @@ pub fn unsettled(alloc: Global, rates: Rates) -> Result<Option<Age>, AllocError>
     ensures { IfOk result (λ age. age ≡ unsettled rates) }
 {
     match unit_table(alloc, rates, precision()) {
-        Ok(_) => Ok(None),
+        Ok(_table) => Ok(None),
         Err(fault) => unsettled_age(fault),
     }
 }

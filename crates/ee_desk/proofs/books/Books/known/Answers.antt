@@ -1,0 +1,7 @@
+use Rattle.std.proofs.Common.{subst}
+use Rattle.ee_acts.specs.Conserved.{IsConserved}
+use Rattle.ee_acts.proofs.Conservation.{conserved}
+use Rattle.ee_desk.proofs.books.Books.known.Goals as goal
+
+pub returns-clause-conserved : goal.returns-clause-conserved
+returns-clause-conserved c = subst IsConserved c.self.view_is (conserved c.self.inside.ledger c.self.invariant)
