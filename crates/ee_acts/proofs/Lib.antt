@@ -8,3 +8,5 @@ pub mod Conservation
 pub mod SameActs
 pub mod Bounds
 pub mod PaidRight
+pub mod KeptReplies
+pub mod Turns

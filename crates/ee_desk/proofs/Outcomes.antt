@@ -1,6 +1,6 @@
 -- What holds by how a call ended.
 use Rattle.std.proofs.Common.{Result, Ok, Err}
-use Rattle.std.specs.Result.{OnOk, OnErr}
+use Rattle.std.specs.Result.{IfOk, OnOk, OnErr}
 use Rattle.std.proofs.Common.{◌≡◌, ℕ, Option, Some, None}
 use Rattle.std.specs.Option.{IfSome}
 use Rattle.ee_value.specs.declared.rates.Rates.{Rates}
@@ -10,6 +10,10 @@ use Rattle.ee_acts.specs.Sound.{IsRightRate}
 pub on_ok : {A E : Type 0} {P Q : Type 0} (r : Result A E) → (P → Q) → OnOk r P → OnOk r Q
 on_ok (Ok x) f h = f h
 on_ok (Err e) f h = h
+
+pub if_ok : {A E : Type 0} {P Q : A → Type 0} (r : Result A E) → ((x : A) → P x → Q x) → IfOk r P → IfOk r Q
+if_ok (Ok x) f h = f x h
+if_ok (Err e) f h = h
 
 pub on_err : {A E : Type 0} {P Q : Type 0} (r : Result A E) → (P → Q) → OnErr r P → OnErr r Q
 on_err (Ok x) f h = h

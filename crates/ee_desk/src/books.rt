@@ -2,6 +2,7 @@ ghost use Rattle.std.specs.Prelude.{◌≡◌, IfOk, OnOk, OnErr};
 ghost use Rattle.ee_acts.specs.declared.acts.Act.{Act};
 ghost use Rattle.ee_acts.specs.PlainBooks.{no_books};
 ghost use Rattle.ee_acts.specs.Sound.{IsSound};
+ghost use Rattle.ee_acts.specs.Paid.{paid_lines, NoneTwice, ArePaidRight};
 ghost use Rattle.ee_acts.specs.Conserved.{IsConserved};
 ghost use Rattle.ee_acts.specs.Effects.{effects_of};
 ghost use Rattle.ee_acts.specs.Acts.{applied, books_after, reply_to};
@@ -50,9 +51,13 @@ impl Books {
         }
     }
 
-    /// What all books are: sound, and what was paid stands in the batches and on the open day.
+    /// What all books are: sound, so that no serial is paid twice and each line pays the value of its
+    /// bond in the month of its ticket's day; and what was paid stands in the batches and on the open
+    /// day.
     pub fn known(&self)
         ensures sound { IsSound self.now }
+        ensures once { NoneTwice (paid_lines self.now.tickets) }
+        ensures right { ArePaidRight self.now }
         ensures conserved { IsConserved self.now }
     {
         let _ledger = &self.ledger;
@@ -63,6 +68,15 @@ impl Books {
         ensures { IfOk result (λ v. v ≡ view_of self.now act.now) }
     {
         seeing::view_of(self.alloc, &self.ledger, act)
+    }
+
+    /// The effects of an act on the books.
+    pub(crate) fn effects_of(&self, act: &Act) -> Result<Effects, AllocError>
+        ensures { IfOk result (λ e. e ≡ effects_of (shown_by (view_of self.now act.now)) act.now) }
+    {
+        let view = self.view_of(act)?;
+        let effects = decide(self.alloc, &view, act)?;
+        Ok(effects)
     }
 
     /// Makes the effects of an act: all of them, or none where memory is refused.
@@ -81,8 +95,7 @@ impl Books {
         ensures books { OnOk result (self.new ≡ books_after self.old act.now) }
         ensures err { OnErr result (self.new ≡ self.old) }
     {
-        let view = self.view_of(act)?;
-        let effects = decide(self.alloc, &view, act)?;
+        let effects = self.effects_of(act)?;
         self.apply(&effects)?;
         let Effects { reply, .. } = effects;
         Ok(reply)

@@ -8,6 +8,7 @@ mod ledger;
 mod marks;
 mod ranges;
 mod seeing;
+pub mod thin;
 
 pub use books::Books;
 pub use ee_acts::{
