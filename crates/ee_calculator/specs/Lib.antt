@@ -1,0 +1,4 @@
+pub mod Notes
+pub mod Rows
+pub mod Sheets
+pub mod Lines

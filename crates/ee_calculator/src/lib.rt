@@ -2,5 +2,23 @@
 #![tactic(auto)]
 
 mod bonds;
+mod cells;
+mod columns;
+mod laws;
+mod notes;
+mod row_values;
+mod rows;
+mod sheets;
+#[cfg(test)]
+mod tests;
+mod totals;
+mod writing;
 
 pub use bonds::Bond;
+pub use laws::adds_up_law;
+pub use notes::Note;
+pub use row_values::{plain_row, row};
+pub use rows::{Row, SERIES};
+pub use sheets::Sheet;
+pub use totals::sheet;
+pub use writing::{WriteFailed, write_sheet};

@@ -7,3 +7,6 @@ pub mod Padded
 pub mod ReadBack
 pub mod RateGrammar
 pub mod DenomTexts
+pub mod MonthGrammar
+pub mod DayGrammar
+pub mod SerialGrammar

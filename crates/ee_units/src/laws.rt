@@ -4,7 +4,7 @@ ghost use Rattle.std.specs.Prelude.{◌≡◌, ℕ, ◌≤◌, ◌*◌, List, So
 ghost use Rattle.std.specs.Fmt.{decimal};
 ghost use Rattle.ee_units.specs.Calendar.{IsPeriod, period_start, is_announcement};
 ghost use Rattle.ee_units.specs.Denoms.{dollars, units_of, price_of, denom_of};
-ghost use Rattle.ee_units.specs.Grammar.{IsRateText};
+ghost use Rattle.ee_units.specs.Grammar.{IsRateText, IsMonthText, IsDayText, IsSerialText};
 ghost use Rattle.ee_units.specs.Spelling.{rate_of, month_of, issue_of, day_of, customer_of, serial_of, SerialNumber};
 ghost use Rattle.ee_units.specs.Texts.{rate_text, month_text, day_text, serial_text};
 
@@ -14,6 +14,24 @@ use crate::denoms::Denom;
 pub const fn rate_law()
     ensures complete { (text : List ℕ) (r : ℕ) → IsRateText text r → rate_of text ≡ Some r }
     ensures sound { (text : List ℕ) (r : ℕ) → rate_of text ≡ Some r → IsRateText text r }
+{}
+
+/// The grammar of months: `month_of` finds a month in a text just where the text writes that month.
+pub const fn month_law()
+    ensures complete { (text : List ℕ) (n : ℕ) → IsMonthText text n → month_of text ≡ Some n }
+    ensures sound { (text : List ℕ) (n : ℕ) → month_of text ≡ Some n → IsMonthText text n }
+{}
+
+/// The grammar of days.
+pub const fn day_law()
+    ensures complete { (text : List ℕ) (n : ℕ) → IsDayText text n → day_of text ≡ Some n }
+    ensures sound { (text : List ℕ) (n : ℕ) → day_of text ≡ Some n → IsDayText text n }
+{}
+
+/// The grammar of serials.
+pub const fn serial_law()
+    ensures complete { (text : List ℕ) (s : SerialNumber) → IsSerialText text s → serial_of text ≡ Some s }
+    ensures sound { (text : List ℕ) (s : SerialNumber) → serial_of text ≡ Some s → IsSerialText text s }
 {}
 
 /// Each printed text reads back as the value that it was printed of.

@@ -21,9 +21,12 @@ pub use customers::{Customer, read_customer};
 pub use days::{Day, read_day};
 pub use denoms::{Denom, price, read_denom, units};
 pub use faults::UnitFault;
-pub use laws::{calendar_law, denom_law, rate_law, texts_law};
+pub use laws::{calendar_law, day_law, denom_law, month_law, rate_law, serial_law, texts_law};
 pub use money::{Cents, Total};
 pub use months::{IssueMonth, Month, read_issue, read_month};
 pub use precision::Bits;
 pub use rates::{Rate, read_rate};
 pub use serials::{Serial, read_serial};
+
+#[cfg(test)]
+mod tests;

@@ -198,7 +198,6 @@ unit_none rates a b h =
           (open-inside rates a b lt ∙ (rw e at h.0), rw e at h.1)
       | inr le ↦
           let e : min a 360 % 6 ≡ 0 = omega arith in
-          let k = min a 360 / 6 in
           absurd (false≢true (sym (unsettled-none (start rates (min a 360 / 6)) (rate_in rates (min a 360 / 6)) b)
           ∙ ap (λ m. is_unsettled (start rates (min a 360 / 6)) (rate_in rates (min a 360 / 6)) m b) (sym e) ∙ h.0))
     ]

@@ -84,7 +84,6 @@ pub start-is : (rates : Rates) (k : ℕ) → InRange rates → (start rates k �
 unfolding start linear-start step
 start-is rates zero h = (refl, omega arith)
 start-is rates (suc k) h =
-    let r = rate_in rates k in
     let ih = start-is rates k h in
     let e : grown (start rates k) (rate_in rates k) 6 ≡ linear (linear-start (rate_in rates) k) (rate_in rates k) =
     grown-half_year (start rates k) (rate_in rates k) (omega (arith, ih.1)) (rate-le rates k h) ∙ ap (λ u. linear u (rate_in rates k)) ih.0 in

@@ -1,0 +1,15 @@
+ghost use Rattle.std.specs.Prelude.{◌≡◌, ◌+◌};
+
+use crate::rows::Row;
+use ee_units::Total;
+
+/// Rows with the sums of their prices, values and interest. The value is the price and the interest
+/// together.
+#[derive(Debug, PartialEq, Eq, Drop)]
+pub struct Sheet {
+    pub rows: Vec<Row>,
+    pub price: Total,
+    pub value: Total,
+    pub interest: Total,
+    pub ghost adds_up: { value.0 ≡ price.0 + interest.0 },
+}

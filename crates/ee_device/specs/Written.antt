@@ -1,0 +1,12 @@
+-- What a writer has taken of a text (this project's rule: no failed write is tried again).
+use Rattle.std.specs.Prelude.{◌≡◌, ◌≢◌, ℕ, List, [], ◌++◌, Option, Bool, true, false}
+use Rattle.std.specs.Io.KnownBytes.{Appends}
+
+-- a writer took the front of the text: all of it where it was done, and else not all of it
+pub record WritesFront (old new : Option (List ℕ)) (text : List ℕ) (done : Bool) : Type 0 where
+  pub front : List ℕ
+  pub rest : List ℕ
+  pub parts : text ≡ front ++ rest
+  pub written : Appends old new front
+  pub whole : done ≡ true → front ≡ text
+  pub cut : done ≡ false → rest ≢ []
