@@ -1,8 +1,7 @@
 -- Counts and sums of sound books are small.
-use Rattle.std.proofs.Common.{◌≡◌, ℕ, suc, ◌+◌, ◌*◌, ◌<◌, ◌≤◌, eqb, List, [], ◌∷◌, map, length, unwrap_or, if◌then◌else◌, nat_lt, arith, refl, sym, ap, ◌∙◌, subst, ◌-◌}
+use Rattle.std.proofs.Common.{◌≡◌, ℕ, suc, ◌+◌, ◌*◌, ◌<◌, ◌≤◌, eqb, List, [], ◌∷◌, length, if◌then◌else◌, nat_lt, arith, refl, subst, ◌-◌}
 use Rattle.std.specs.Option.{IfSome}
-use Rattle.std.specs.List.{AllByRecursion, filter, sum_by, count_by}
-use Rattle.std.specs.FinMap as finite
+use Rattle.std.specs.List.{AllByRecursion, sum_by}
 use Rattle.std.proofs.Math.Nat.{mul-le-mul}
 use Rattle.std.proofs.lemmas.List.Sums.{sum_by-cons, length-filter}
 use Rattle.ee_units.specs.Calendar.{period_start, month_of_day}
@@ -19,7 +18,7 @@ use Rattle.ee_acts.specs.declared.replies.Ticket.{Ticket}
 use Rattle.ee_acts.specs.Lists.{Rising}
 use Rattle.ee_acts.specs.Values.{value_of}
 use Rattle.ee_acts.specs.PlainBooks.{PlainBooks, of_day, total_of, bonds_on, cents_of}
-use Rattle.ee_acts.specs.Sound.{IsSound, IsDay, IsRightRate, IsRightLine, IsRightTicket, days}
+use Rattle.ee_acts.specs.Sound.{IsSound, IsRightRate, IsRightLine, IsRightTicket, days}
 use Rattle.ee_acts.proofs.Maps.{all_map}
 use Rattle.ee_acts.proofs.Orders.{all_filter}
 use Rattle.ee_acts.proofs.Conservation.{day_sum, spread}

@@ -1,22 +1,20 @@
 -- What a keeper in memory keeps, and what it tells.
-use Rattle.std.proofs.Common.{◌≡◌, Bool, true, false, cond, List, [], ◌∷◌, Some, None, refl, sym, ap, ◌∙◌, subst}
+use Rattle.std.proofs.Common.{◌≡◌, Bool, true, false, cond, List, [], ◌∷◌, Some, None, refl, sym, ap, ◌∙◌}
 use Rattle.std.specs.Option.{is_some}
 use Rattle.std.specs.Map.{lookup}
 use Rattle.std.specs.BTreeMap.{is_at}
 use Rattle.std.specs.FinMap as finite
 use Rattle.std.specs.FinMap.{FinMap, get-insert, get-remove, same_map}
 use Rattle.std.specs.Ordering.{eq_by_cmp}
-use Rattle.ee_acts.specs.declared.acts.Act.{Act}
 use Rattle.ee_acts.specs.declared.acts.Request.{Request}
 use Rattle.ee_acts.specs.declared.changes.Kept.{Kept}
-use Rattle.ee_acts.specs.Numbers.{Number, number_cmp, same_number, number_of}
-use Rattle.ee_acts.specs.PlainBooks.{PlainBooks}
+use Rattle.ee_acts.specs.Numbers.{Number, number_cmp, number_of}
 use Rattle.ee_acts.specs.Outcomes.{act}
 use Rattle.ee_acts.specs.Repeats.{Content}
 use Rattle.ee_acts.specs.Contents.{content_after}
 use Rattle.ee_acts.specs.Answers.{reply_again, answer, answer_for}
 use Rattle.ee_acts.proofs.Maps.{get_lookup, same_key}
-use Rattle.ee_acts.proofs.RequestNumbers.{numbers_total, numbers_tied, numbers_exact}
+use Rattle.ee_acts.proofs.RequestNumbers.{numbers_total, numbers_exact}
 use Rattle.ee_acts.proofs.Repeats.{one_new, one_known}
 
 -- a new number: its act and its reply become the content together

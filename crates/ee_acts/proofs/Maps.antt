@@ -1,11 +1,11 @@
 -- Finite maps, and what is picked of them.
-use Rattle.std.proofs.Common.{◌≡◌, ◌==◌, ℕ, suc, ◌+◌, ◌<◌, ◌++◌, length, take, drop, get_or, drop-cons, add-one, Bool, true, false, cond, ◌&&◌, ◌||◌, eqb, List, [], ◌∷◌, Option, Some, None, map, true≢false, refl, sym, ap, ◌∙◌}
+use Rattle.std.proofs.Common.{◌≡◌, ◌==◌, ℕ, suc, ◌+◌, ◌<◌, ◌++◌, length, take, drop, get_or, drop-cons, add-one, Bool, true, false, cond, ◌&&◌, ◌||◌, List, [], ◌∷◌, Option, Some, None, map, true≢false, refl, sym, ap, ◌∙◌}
 use Rattle.std.specs.Option.{option_map, IfSome}
 use Rattle.std.specs.List.{list_any, filter_map, cons_option, AllByRecursion}
 use Rattle.std.specs.Map.{lookup}
 use Rattle.std.specs.BTreeMap.{is_at}
 use Rattle.std.specs.FinMap as finite
-use Rattle.std.specs.FinMap.{FinMap, find, get-from_entries, get-insert, same_map}
+use Rattle.std.specs.FinMap.{find, get-from_entries, get-insert, same_map}
 use Rattle.std.specs.Ordering.{nat_cmp, eq_by_cmp, is_eq, ordering_then}
 use Rattle.std.specs.declared.cmp.Ordering.TheVariants.{Less, Equal, Greater}
 use Rattle.std.proofs.lemmas.Bool.{and_parts, eqb-true}
@@ -97,9 +97,10 @@ or_there b false e = absurd (true≢false (sym e))
 -- each key is among the keys
 pub all_named : {A K : Type 0} {R : K → K → Ordering} (o : IsTotalOrder R) (key : A → K) (xs : List A) → AllByRecursion (λ x. list_any (eq_by_cmp R (key x)) (map key xs) ≡ true) xs
 all_named o key [] = tt
-all_named {R = R} o key (x ∷ xs) =
-    (or_here _ (list_any (eq_by_cmp R (key x)) (map key xs)) ((eq_by_cmp_equiv o).refl (key x)),
-     all_map _ _ (λ y h. or_there (eq_by_cmp R (key y) (key x)) _ h) xs (all_named o key xs))
+all_named {R = R} o key (x ∷ xs) = (
+  or_here _ (list_any (eq_by_cmp R (key x)) (map key xs)) ((eq_by_cmp_equiv o).refl (key x)),
+  all_map _ _ (λ y h. or_there (eq_by_cmp R (key y) (key x)) _ h) xs (all_named o key xs),
+)
 
 or_some : {A : Type 0} (P Q : A → Type 0) → ((x : A) → P x → Q x) → (v : Option A) → IfSome v P → IfSome v Q
 or_some P Q f None h = tt
@@ -114,6 +115,7 @@ all_found {K = K} {R = R} o key (x ∷ xs) =
     here : (v : Option K) → IfSome v (λ k. list_any (eq_by_cmp R k) (cons_option v (filter_map key xs)) ≡ true)
     here None = tt
     here (Some k) = or_here _ (list_any (eq_by_cmp R k) (filter_map key xs)) ((eq_by_cmp_equiv o).refl k)
+
     there : (v : Option K) (k : K) → list_any (eq_by_cmp R k) (filter_map key xs) ≡ true → list_any (eq_by_cmp R k) (cons_option v (filter_map key xs)) ≡ true
     there None k e = e
     there (Some j) k e = or_there (eq_by_cmp R k j) _ e

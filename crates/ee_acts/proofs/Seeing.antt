@@ -1,7 +1,7 @@
 -- What an act names is all that it is decided by.
-use Rattle.std.proofs.Common.{◌≡◌, ◌==◌, ℕ, suc, ◌+◌, ◌-◌, ◌*◌, ◌++◌, length, Bool, true, false, cond, not, List, [], ◌∷◌, Option, Some, None, map, map-id, nat_lt, nat_le, refl, sym, ap, ◌∙◌, subst}
-use Rattle.std.specs.Option.{option_map, option_or, option_map_or, IfSome, is_none, unwrap_or}
-use Rattle.std.specs.List.{list_any, filter, find, AllByRecursion, sum_by}
+use Rattle.std.proofs.Common.{◌≡◌, ◌==◌, ℕ, suc, ◌++◌, length, true, cond, List, [], ◌∷◌, Option, Some, None, map, map-id, nat_lt, nat_le, refl, sym, ap, ◌∙◌, subst}
+use Rattle.std.specs.Option.{option_map, option_or, option_map_or, IfSome, is_none}
+use Rattle.std.specs.List.{list_any, find, AllByRecursion, sum_by}
 use Rattle.std.specs.FinMap as finite
 use Rattle.std.specs.Ordering.{nat_cmp, eq_by_cmp}
 use Rattle.std.specs.Cmp.{nat_cmp_total}
@@ -20,15 +20,14 @@ use Rattle.ee_acts.specs.declared.changes.Change.TheVariants as change
 use Rattle.ee_acts.specs.declared.replies.Reply.TheVariants as reply
 use Rattle.ee_acts.specs.Serials.{serial_cmp}
 use Rattle.ee_units.specs.Calendar.{month_of_day, period_start}
-use Rattle.ee_units.specs.Denoms.{units_of}
 use Rattle.ee_acts.specs.Values.{value_of}
 use Rattle.ee_acts.specs.PlainBooks.{PlainBooks, cents_of}
-use Rattle.ee_acts.specs.Seen.{Seen, shown, rate_of, held_of, value_in, worth, line_for, ticket_for}
+use Rattle.ee_acts.specs.Seen.{Seen, shown, rate_of, held_of, value_in, worth, line_for}
 use Rattle.ee_acts.specs.Refusals.{first, first_of, when, is_other, known_rate, rate_conflict, near, unannounced, repeated, repeated_bond, own_coowner, unrated, bond_conflict, is_other_bond, refusal_of_day, refusal_of_held, refusal_of_serial, refusal_of, most_rows, most_serials, most_tickets}
 use Rattle.ee_acts.specs.Effects.{new_rates, new_bonds, accepted, unless_refused, effects_of, rate_change, added}
 use Rattle.ee_acts.specs.Acts as acts
 use Rattle.ee_acts.specs.Acts.{done, applied, changed, with_rates, with_bonds, books_after}
-use Rattle.ee_acts.specs.Views.{PlainView, view_of, shown_by, picked, periods_of, period_of_held, serials_of}
+use Rattle.ee_acts.specs.Views.{PlainView, view_of, shown_by, picked, periods_of, period_of_held}
 use Rattle.ee_acts.proofs.Maps.{serials_total, exact_serials, get_named, all_named, all_found, all_map, all_both}
 
 -- effects are alike where refusals and what is accepted are
@@ -109,9 +108,9 @@ module _ (v b : Seen) where
   same_of_redeem day payee ss opened count number h = same_effects v b (Redeem day payee ss)
       (λ i. first (when (length ss == 0) Empty ∷ when (nat_lt most_serials (length ss)) TooMany ∷ repeated [] ss ∷ refusal_of_day (opened i) day ∷ when (nat_le most_tickets (count i)) DayFull ∷ same_refused (month_of_day day) payee ss h i ∷ []))
       (λ i.
-          let lines = same_lines (month_of_day day) ss h i in
-          let ticket : Ticket = record { ticket = suc (number i); day = day; payee = payee; lines = lines; total = record { 0 = sum_by cents_of lines } } in
-          record { changes = change.Ticket ticket ∷ []; reply = reply.Ticket ticket })
+      let lines = same_lines (month_of_day day) ss h i in
+      let ticket : Ticket = record { ticket = suc (number i); day = day; payee = payee; lines = lines; total = record { 0 = sum_by cents_of lines } } in
+      record { changes = change.Ticket ticket ∷ []; reply = reply.Ticket ticket })
 
 -- what the view of an act shows gives the effects that the books give
 pub seen_enough : (books : PlainBooks) (asked : Act) → effects_of (shown_by (view_of books asked)) asked ≡ effects_of (shown books) asked
@@ -119,13 +118,13 @@ seen_enough books (AddRates rows) = same_of_rates (shown_by (view_of books (AddR
     (all_map _ _ (λ row named. get_named nat_cmp_total exact_unsigned (finite.get books.rates) (map (λ r. r.from) rows) row.from named) rows (all_named nat_cmp_total (λ r. r.from) rows))
 seen_enough books (AddBonds bonds) = same_of_bonds (shown_by (view_of books (AddBonds bonds))) (shown books) bonds
     (all_both _ _ bonds
-        (all_map _ _ (λ x named. get_named nat_cmp_total exact_unsigned (finite.get books.rates) (map (λ x. period_start x.issued) bonds) (period_start x.issued) named) bonds (all_named nat_cmp_total (λ x. period_start x.issued) bonds))
-        (all_map _ _ (λ x named. get_named serials_total exact_serials (held_of books) (map (λ x. x.serial) bonds) x.serial named) bonds (all_named serials_total (λ x. x.serial) bonds)))
+    (all_map _ _ (λ x named. get_named nat_cmp_total exact_unsigned (finite.get books.rates) (map (λ x. period_start x.issued) bonds) (period_start x.issued) named) bonds (all_named nat_cmp_total (λ x. period_start x.issued) bonds))
+    (all_map _ _ (λ x named. get_named serials_total exact_serials (held_of books) (map (λ x. x.serial) bonds) x.serial named) bonds (all_named serials_total (λ x. x.serial) bonds)))
 seen_enough books (OpenDay day) = refl
 seen_enough books (Redeem day payee ss) = same_of_redeem (shown_by (view_of books (Redeem day payee ss))) (shown books) day payee ss refl refl refl
     (all_both _ _ ss
-        (all_map _ _ (λ s named. get_named serials_total exact_serials (held_of books) ss s (subst (λ l. list_any (eq_by_cmp serial_cmp s) l ≡ true) (map-id ss) named)) ss (all_named serials_total (λ s. s) ss))
-        (all_map _ _ (λ s found. rated (held_of books s) found) ss (all_found nat_cmp_total (λ s. option_map period_of_held (held_of books s)) ss)))
+    (all_map _ _ (λ s named. get_named serials_total exact_serials (held_of books) ss s (subst (λ l. list_any (eq_by_cmp serial_cmp s) l ≡ true) (map-id ss) named)) ss (all_named serials_total (λ s. s) ss))
+    (all_map _ _ (λ s found. rated (held_of books s) found) ss (all_found nat_cmp_total (λ s. option_map period_of_held (held_of books s)) ss)))
   where
     rated : (o : Option Held) → IfSome (option_map period_of_held o) (λ k. list_any (eq_by_cmp nat_cmp k) (periods_of books (Redeem day payee ss)) ≡ true)
         → IfSome o (λ held. finite.get (picked {R = nat_cmp} (finite.get books.rates) (periods_of books (Redeem day payee ss))) (period_start held.bond.issued) ≡ finite.get books.rates (period_start held.bond.issued))

@@ -1,10 +1,10 @@
 -- Acts keep books sound.
-use Rattle.std.proofs.Common.{◌≡◌, ◌==◌, ℕ, suc, ◌+◌, ◌-◌, ◌*◌, ◌<◌, ◌≤◌, Bool, true, false, cond, not, ◌&&◌, ◌||◌, eqb, nat_eq, List, [], ◌∷◌, ◌++◌, map, Option, Some, None, true≢false, length, nat_lt, nat_le, arith, refl, sym, ap, ◌∙◌, subst, append-nil, append_assoc}
-use Rattle.std.specs.Option.{IfSome, IsSome, option_or, option_map, option_map_or, is_none, is_some, unwrap_or}
-use Rattle.std.specs.List.{AllByRecursion, list_any, find, filter, sum_by, count_by}
+use Rattle.std.proofs.Common.{◌≡◌, ◌==◌, ℕ, suc, ◌+◌, ◌-◌, ◌<◌, ◌≤◌, Bool, true, false, cond, not, eqb, List, [], ◌∷◌, ◌++◌, map, Option, Some, None, true≢false, length, nat_lt, nat_le, arith, refl, sym, ap, ◌∙◌, subst, append-nil, append_assoc}
+use Rattle.std.specs.Option.{IfSome, IsSome, option_or, option_map, option_map_or, is_none, is_some}
+use Rattle.std.specs.List.{AllByRecursion, list_any, find, sum_by, count_by}
 use Rattle.std.specs.Ordering.{nat_cmp}
 use Rattle.std.specs.Cmp.{nat_cmp_total, unsigned_tied}
-use Rattle.std.proofs.lemmas.Bool.{eqb-true, eq-eqb, not-false, and_parts, or_parts, or_from, lt-ltb, le-ltb, leb-false, ltb-false, false_from_ne_true}
+use Rattle.std.proofs.lemmas.Bool.{eqb-true, eq-eqb, not-false, or_parts, or_from, leb-false, ltb-false, false_from_ne_true}
 use Rattle.std.proofs.lemmas.List.Sums.{sum_by-append, length-filter}
 use Rattle.std.proofs.lemmas.List.Elements.{filter-append}
 use Rattle.std.proofs.lemmas.List.{map-append}
@@ -24,14 +24,12 @@ use Rattle.ee_acts.specs.declared.refusals.Refusal.{Refusal}
 use Rattle.ee_acts.specs.declared.refusals.Refusal.TheVariants.{Empty, TooMany, Repeated, SameCoowner, NotAnnouncementMonth, RateUnsettled, NoRate, DayOpen, DayNotLater, DayIsOther, DayFull, NotPayee, AlreadyPaid, NotIssued, NotEligible}
 use Rattle.ee_acts.specs.Serials.{serial_cmp, same_serial}
 use Rattle.ee_units.specs.Calendar.{period_start, month_of_day, is_announcement}
-
 use Rattle.ee_acts.specs.Values.{value_of, unsettled}
 use Rattle.ee_acts.specs.Lists.{Rising, NeverFalling}
-use Rattle.ee_acts.specs.PlainBooks.{PlainBooks, no_books, ticket_of, names, has_coowner, is_payee, of_day, batch_of, batch_so_far, bonds_on, total_of, cents_of}
+use Rattle.ee_acts.specs.PlainBooks.{PlainBooks, no_books, ticket_of, names, has_coowner, is_payee, of_day, batch_of, batch_so_far, bonds_on, total_of}
 use Rattle.ee_acts.specs.Paid.{paid_lines}
-use Rattle.ee_acts.specs.Seen.{Seen, shown, held_as, held_of, rate_of, worth, value_in, line_for, ticket_for, closing_batch}
-use Rattle.ee_acts.specs.Refusals.{first, first_of, when, known_rate, tests_of, tests_of_rates, tests_of_bonds, tests_of_redeem, tests_of_held, refusal_of, refusal_of_day, refusal_of_held, refusal_of_serial, unannounced, near, own_coowner, unrated, repeated}
-use Rattle.ee_acts.specs.declared.changes.Change.{Change}
+use Rattle.ee_acts.specs.Seen.{Seen, shown, held_as, held_of, rate_of, value_in, line_for, ticket_for, closing_batch}
+use Rattle.ee_acts.specs.Refusals.{first, first_of, known_rate, tests_of, tests_of_held, refusal_of, refusal_of_day, refusal_of_held, refusal_of_serial, unannounced, near, own_coowner, unrated, repeated}
 use Rattle.ee_acts.specs.declared.changes.Change.TheVariants as change
 use Rattle.ee_acts.specs.Effects as effects
 use Rattle.ee_acts.specs.Effects.{new_rates, new_bonds, rate_change, accepted, effects_of}
@@ -46,7 +44,16 @@ pub empty_is_sound : IsSound no_books
 empty_is_sound = record {
   rates = λ m. subst (λ o. IfSome o (IsRightRate m)) (sym (get-empty nat_cmp m)) tt;
   bonds = λ s. subst (λ o. IfSome o (IsRightBond no_books.rates s)) (sym (get-empty serial_cmp s)) tt;
-  numbered = tt; tickets = tt; once = tt; in_order = tt; few = λ day. omega arith; dated = tt; rising = tt; in_range = tt; last = refl; batches = tt;
+  numbered = tt;
+  tickets = tt;
+  once = tt;
+  in_order = tt;
+  few = λ day. omega arith;
+  dated = tt;
+  rising = tt;
+  in_range = tt;
+  last = refl;
+  batches = tt;
 }
 
 -- ---- no test refuses
@@ -162,7 +169,7 @@ rates_right : (now : FinMap nat_cmp Rates) (new : List RateRow) → AllByRecursi
 rates_right now [] h have m = have m
 rates_right now (row ∷ new) h have m = rates_right (finite.insert now row.from row.rates) new h.1
     (λ q. subst (λ o. IfSome o (IsRightRate q)) (sym (rate_after now row.from row.rates q))
-        (if_cond (IsRightRate q) (eqb q row.from) row.rates (finite.get now q) (λ e. subst (λ k. IsRightRate k row.rates) (sym (eqb-true q row.from e)) h.0) (have q))) m
+    (if_cond (IsRightRate q) (eqb q row.from) row.rates (finite.get now q) (λ e. subst (λ k. IsRightRate k row.rates) (sym (eqb-true q row.from e)) h.0) (have q))) m
 
 -- a row that stands at an announced month and leaves no value unsettled
 abbrev IsGoodRow : RateRow → Type 0
@@ -182,13 +189,20 @@ rates_sound books rows sound none ranges =
     let gains : Gains books after = record { rates = λ q v had. rate_stays books.rates books.rates new q v (new_absent (shown books) [] rows) had had; bonds = λ s b h. h } in
     let good = all_new IsGoodRow (shown books) [] rows (right_rows rows (all_of unannounced rows tests.1.1.0) (all_of near rows tests.1.1.1.1.0)) in
     let right = all_map (λ row. IsGoodRow row × IsInRange (rate_change row)) (λ row. IsRightRate row.from row.rates) (λ row h. record { announced = h.0.0; settled = h.0.1; in_range = h.1 }) new
-        (all_both IsGoodRow (λ row. IsInRange (rate_change row)) new good (all_unmapped IsInRange rate_change new ranges)) in
+    (all_both IsGoodRow (λ row. IsInRange (rate_change row)) new good (all_unmapped IsInRange rate_change new ranges)) in
     record {
       rates = rates_right books.rates new right sound.rates;
       bonds = λ s. bonds_right books after gains s (finite.get books.bonds s) (sound.bonds s);
       numbered = sound.numbered;
       tickets = ticket_stays books after gains books.tickets sound.tickets;
-      once = sound.once; in_order = sound.in_order; few = sound.few; dated = sound.dated; rising = sound.rising; in_range = sound.in_range; last = sound.last; batches = sound.batches;
+      once = sound.once;
+      in_order = sound.in_order;
+      few = sound.few;
+      dated = sound.dated;
+      rising = sound.rising;
+      in_range = sound.in_range;
+      last = sound.last;
+      batches = sound.batches;
     }
 
 -- ---- bonds
@@ -197,7 +211,7 @@ bonds_all_right : (books : PlainBooks) (now : FinMap serial_cmp Bond) (new : Lis
 bonds_all_right books now [] h have s = have s
 bonds_all_right books now (b ∷ new) h have s = bonds_all_right books (finite.insert now b.serial b) new h.1
     (λ q. subst (λ o. IfSome o (IsRightBond books.rates q)) (sym (bond_after now b.serial b q))
-        (if_cond (IsRightBond books.rates q) (same_serial q b.serial) b (finite.get now q) (λ e. subst (λ k. IsRightBond books.rates k b) (sym (serial_is q b.serial e)) h.0) (have q))) s
+    (if_cond (IsRightBond books.rates q) (same_serial q b.serial) b (finite.get now q) (λ e. subst (λ k. IsRightBond books.rates k b) (sym (serial_is q b.serial e)) h.0) (have q))) s
 
 -- a bond that has rates, and no coowner who is the owner
 abbrev IsGoodBond : PlainBooks → Bond → Type 0
@@ -206,10 +220,13 @@ IsGoodBond books b = IsSome (rate_of (shown books) b) × (has_coowner b b.owner 
 right_bonds : (books : PlainBooks) (bonds : List Bond) → AllByRecursion (λ b. own_coowner b ≡ None) bonds → AllByRecursion (λ b. unrated (shown books) b ≡ None) bonds
     → AllByRecursion (IsGoodBond books) bonds
 right_bonds books [] h k = tt
-right_bonds books (b ∷ bonds) h k =
-    ((some_from_not (rate_of (shown books) b) (test_passed (is_none (rate_of (shown books) b)) (NoRate b.serial) None k.0).0,
-      (test_passed (has_coowner b b.owner) (SameCoowner b.serial) None h.0).0),
-     right_bonds books bonds h.1 k.1)
+right_bonds books (b ∷ bonds) h k = (
+  (
+    some_from_not (rate_of (shown books) b) (test_passed (is_none (rate_of (shown books) b)) (NoRate b.serial) None k.0).0,
+    (test_passed (has_coowner b b.owner) (SameCoowner b.serial) None h.0).0,
+  ),
+  right_bonds books bonds h.1 k.1,
+)
 
 bonds_sound : (books : PlainBooks) (bonds : List Bond) → IsSound books → refusal_of (shown books) (AddBonds bonds) ≡ None
     → AllByRecursion IsInRange (map change.Bond (new_bonds (shown books) bonds)) → IsSound (done books (AddBonds bonds))
@@ -218,20 +235,27 @@ bonds_sound books bonds sound none ranges =
     let new = new_bonds (shown books) bonds in
     let after : PlainBooks = record books { bonds = with_bonds books.bonds new } in
     let absent = all_map (λ b. is_none (held_of books b.serial) ≡ true) (λ b. finite.get books.bonds b.serial ≡ None)
-        (λ b e. mapped_none (held_as books.tickets b.serial) (finite.get books.bonds b.serial) (none_is (held_of books b.serial) e)) new (all_passed (λ b. is_none (held_of books b.serial)) bonds) in
+    (λ b e. mapped_none (held_as books.tickets b.serial) (finite.get books.bonds b.serial) (none_is (held_of books b.serial) e)) new (all_passed (λ b. is_none (held_of books b.serial)) bonds) in
     let gains : Gains books after = record { rates = λ q v h. h; bonds = λ s b had. bond_stays books.bonds books.bonds new s b absent had had } in
     let good = all_filter (IsGoodBond books) (λ b. is_none (held_of books b.serial)) bonds
-        (right_bonds books bonds (all_of own_coowner bonds tests.1.1.1.0) (all_of (unrated (shown books)) bonds tests.1.1.1.1.0)) in
+    (right_bonds books bonds (all_of own_coowner bonds tests.1.1.1.0) (all_of (unrated (shown books)) bonds tests.1.1.1.1.0)) in
     let right = all_map (λ b. IsGoodBond books b × IsInRange (change.Bond b)) (λ b. IsRightBond books.rates b.serial b)
-        (λ b h. record { keyed = refl; rated = h.0.0; owned = h.0.1; in_range = h.1 }) new
-        (all_both (IsGoodBond books) (λ b. IsInRange (change.Bond b)) new good (all_unmapped IsInRange change.Bond new ranges)) in
+    (λ b h. record { keyed = refl; rated = h.0.0; owned = h.0.1; in_range = h.1 }) new
+    (all_both (IsGoodBond books) (λ b. IsInRange (change.Bond b)) new good (all_unmapped IsInRange change.Bond new ranges)) in
     record {
       rates = sound.rates;
       bonds = λ s. bonds_right books after gains s (finite.get after.bonds s)
           (bonds_all_right books books.bonds new right sound.bonds s);
       numbered = sound.numbered;
       tickets = ticket_stays books after gains books.tickets sound.tickets;
-      once = sound.once; in_order = sound.in_order; few = sound.few; dated = sound.dated; rising = sound.rising; in_range = sound.in_range; last = sound.last; batches = sound.batches;
+      once = sound.once;
+      in_order = sound.in_order;
+      few = sound.few;
+      dated = sound.dated;
+      rising = sound.rising;
+      in_range = sound.in_range;
+      last = sound.last;
+      batches = sound.batches;
     }
 
 -- ---- days
@@ -259,11 +283,18 @@ opens_sound books day sound none range =
     let were : days books ≡ ds = ap (λ o. ds ++ open_days o) closed ∙ append-nil ds in
     let rising = subst Rising were sound.rising in
     record {
-      rates = sound.rates; bonds = sound.bonds; numbered = sound.numbered; tickets = sound.tickets; once = sound.once; in_order = sound.in_order; few = sound.few;
+      rates = sound.rates;
+      bonds = sound.bonds;
+      numbered = sound.numbered;
+      tickets = sound.tickets;
+      once = sound.once;
+      in_order = sound.in_order;
+      few = sound.few;
       dated = all_map _ _ (λ (t : Ticket) e. any_left (λ d. eqb t.day d) ds (day ∷ []) (ap (list_any (λ d. eqb t.day d)) (sym were) ∙ e)) books.tickets sound.dated;
       rising = rising_push ds day rising (closed_below books.batches books.last_day day rising sound.last later);
       in_range = all_append IsDay ds (day ∷ []) (subst (AllByRecursion IsDay) were sound.in_range) (range, tt);
-      last = sound.last; batches = sound.batches;
+      last = sound.last;
+      batches = sound.batches;
     }
 
 open_is : (o : Option ℕ) (day : ℕ) → refusal_of_day o day ≡ None → o ≡ Some day
@@ -281,9 +312,15 @@ close_sound books day sound none =
     let batch = closing_batch (shown books) day in
     let is : batch ≡ batch_of day books.tickets = ap (λ o. let b = batch_so_far o books.tickets in record { day = day; tickets = b.tickets; bonds = b.bonds; total = b.total }) opened in
     let same : days books ≡ days (done books (CloseDay day)) =
-        ap (λ o. map day_of_batch books.batches ++ open_days o) opened ∙ sym (map-append day_of_batch books.batches (batch ∷ [])) ∙ sym (append-nil (map day_of_batch (books.batches ++ batch ∷ []))) in
+    ap (λ o. map day_of_batch books.batches ++ open_days o) opened ∙ sym (map-append day_of_batch books.batches (batch ∷ [])) ∙ sym (append-nil (map day_of_batch (books.batches ++ batch ∷ []))) in
     record {
-      rates = sound.rates; bonds = sound.bonds; numbered = sound.numbered; tickets = sound.tickets; once = sound.once; in_order = sound.in_order; few = sound.few;
+      rates = sound.rates;
+      bonds = sound.bonds;
+      numbered = sound.numbered;
+      tickets = sound.tickets;
+      once = sound.once;
+      in_order = sound.in_order;
+      few = sound.few;
       dated = subst (λ (ds : List ℕ). AllByRecursion (λ (t : Ticket). list_any (λ d. eqb t.day d) ds ≡ true) books.tickets) same sound.dated;
       rising = subst Rising same sound.rising;
       in_range = subst (AllByRecursion IsDay) same sound.in_range;
@@ -361,12 +398,15 @@ payable month payee s None e = absurd (cc)
 payable month payee s (Some held) e =
     let tests = no_refusal (tests_of_held month payee s held) e in
     let issued = ltb-false month held.bond.issued (test_passed (nat_lt month held.bond.issued) (NotIssued s) None tests.1.1.0).0 in
-    let aged = ltb-false (month - held.bond.issued) 12 (test_passed (nat_lt (month - held.bond.issued) 12) (NotEligible s) None tests.1.1.1.0).0 in
-    (held, refl, record {
+    let aged = ltb-false (month - held.bond.issued) 12 (test_passed (nat_lt (month - held.bond.issued) 12) (NotEligible s) None tests.1.1.1.0).0 in (
+      held,
+      refl,
+      record {
         payee = not-false (is_payee held.bond payee) (test_passed (not (is_payee held.bond payee)) (NotPayee s) None tests.0).0;
         unpaid = mapped_none (AlreadyPaid s) held.ticket tests.1.0;
         old = omega (arith, issued, aged);
-    })
+      },
+    )
 
 pub held_bond : (tickets : List Ticket) (s : SerialNumber) (o : Option Bond) (held : Held) → option_map (held_as tickets s) o ≡ Some held → (o ≡ Some held.bond) × (held.ticket ≡ ticket_of tickets s)
 held_bond tickets s None held e = absurd (cc)
@@ -383,12 +423,20 @@ module _ (books : PlainBooks) (sound : IsSound books) (day payee : ℕ) where
       let held = p.0 in
       let here = held_bond books.tickets s (finite.get books.bonds s) held p.1 in
       let right = subst (λ o. IfSome o (IsRightBond books.rates s)) here.0 (sound.bonds s) in
-      let r = some_is (finite.get books.rates (period_start held.bond.issued)) right.rated in
-      ((held.bond, r.0, here.0, r.1, ap (is_payee held.bond) by ∙ p.2.payee, subst (λ d. held.bond.issued + 12 ≤ month_of_day d) (sym on) p.2.old,
+      let r = some_is (finite.get books.rates (period_start held.bond.issued)) right.rated in (
+        (
+          held.bond,
+          r.0,
+          here.0,
+          r.1,
+          ap (is_payee held.bond) by ∙ p.2.payee,
+          subst (λ d. held.bond.issued + 12 ≤ month_of_day d) (sym on) p.2.old,
           ap (λ o. option_map_or (λ h. value_in (shown books) (month_of_day day) h.bond) o 0) p.1
-          ∙ ap (λ o. option_map_or (λ rates. value_of rates held.bond (month_of_day day)) o 0) r.1
-          ∙ ap (λ d. value_of r.0 held.bond (month_of_day d)) (sym on)),
-       unpaid books.tickets s (sym here.1 ∙ p.2.unpaid))
+              ∙ ap (λ o. option_map_or (λ rates. value_of rates held.bond (month_of_day day)) o 0) r.1
+              ∙ ap (λ d. value_of r.0 held.bond (month_of_day d)) (sym on),
+        ),
+        unpaid books.tickets s (sym here.1 ∙ p.2.unpaid),
+      )
 
   new_lines : (t : Ticket) → t.day ≡ day → t.payee ≡ payee → (ss : List SerialNumber) → AllByRecursion (λ s. refusal_of_serial (shown books) (month_of_day day) payee s ≡ None) ss
       → AllByRecursion (IsRightLine books.rates books.bonds t) (map line_of ss) × AllByRecursion (λ line. AllByRecursion (Apart line.serial) (paid_lines books.tickets)) (map line_of ss)
@@ -408,9 +456,10 @@ of_day_push d tickets t other = filter-append (λ u. eqb u.day d) tickets (t ∷
 batches_stay : (batches : List Batch) (tickets : List Ticket) (t : Ticket) → AllByRecursion (λ b. b.day < t.day) batches → AllByRecursion (λ b. b ≡ batch_of b.day tickets) batches
     → AllByRecursion (λ b. b ≡ batch_of b.day (tickets ++ t ∷ [])) batches
 batches_stay [] tickets t below h = tt
-batches_stay (b ∷ batches) tickets t below h =
-    (h.0 ∙ ap (λ (own : List Ticket). record { day = b.day; tickets = length own; bonds = sum_by bonds_on own; total = record { 0 = sum_by total_of own } }) (sym (of_day_push b.day tickets t (not_below b.day t.day below.0))),
-     batches_stay batches tickets t below.1 h.1)
+batches_stay (b ∷ batches) tickets t below h = (
+  h.0 ∙ ap (λ (own : List Ticket). record { day = b.day; tickets = length own; bonds = sum_by bonds_on own; total = record { 0 = sum_by total_of own } }) (sym (of_day_push b.day tickets t (not_below b.day t.day below.0))),
+  batches_stay batches tickets t below.1 h.1,
+)
 
 length-map : {A B : Type 0} (f : A → B) (xs : List A) → length (map f xs) ≡ length xs
 length-map f [] = refl
@@ -449,9 +498,10 @@ redeem_sound books day payee ss sound none =
     let count : (shown books).day_tickets ≡ count_by (λ u. eqb u.day day) books.tickets = ap (λ o. (batch_so_far o books.tickets).tickets) opened ∙ length-filter (λ u. eqb u.day day) books.tickets in
     let dated = subst (λ (ds : List ℕ). AllByRecursion (λ (t : Ticket). list_any (λ d. eqb t.day d) ds ≡ true) books.tickets) are sound.dated in
     let top : AllByRecursion (λ t. t.day ≤ day) books.tickets =
-        all_map _ _ (λ (t : Ticket) e. any_has (λ x. x ≤ day) (λ d. eqb t.day d) (t.day ≤ day) (λ x le same. let s = eqb-true t.day x same in omega (arith, le, s)) (closed ++ day ∷ []) (rising_most closed day rising) e) books.tickets dated in
+    all_map _ _ (λ (t : Ticket) e. any_has (λ x. x ≤ day) (λ d. eqb t.day d) (t.day ≤ day) (λ x le same. let s = eqb-true t.day x same in omega (arith, le, s)) (closed ++ day ∷ []) (rising_most closed day rising) e) books.tickets dated in
     record {
-      rates = sound.rates; bonds = sound.bonds;
+      rates = sound.rates;
+      bonds = sound.bonds;
       numbered = numbered_push 1 books.tickets ticket sound.numbered (omega arith);
       tickets = all_append (IsRightTicket books.rates books.bonds) books.tickets (ticket ∷ []) sound.tickets
           (record { some = subst (λ n. 1 ≤ n) (sym long) some; few = subst (λ n. n ≤ 100) (sym long) few; lines = lines.0; total = refl }, tt);
@@ -460,7 +510,9 @@ redeem_sound books day payee ss sound none =
       few = λ d. few_push books.tickets ticket d (omega (arith, full, count)) (sound.few d);
       dated = all_append (λ t. list_any (λ d. eqb t.day d) (days books) ≡ true) books.tickets (ticket ∷ []) sound.dated
           (ap (list_any (λ d. eqb day d)) are ∙ any_last (λ d. eqb day d) closed day (eq-eqb day day refl), tt);
-      rising = sound.rising; in_range = sound.in_range; last = sound.last;
+      rising = sound.rising;
+      in_range = sound.in_range;
+      last = sound.last;
       batches = batches_stay books.batches books.tickets ticket (all_unmapped (λ x. x < day) day_of_batch books.batches (rising_below closed day rising)) sound.batches;
     }
 
@@ -514,7 +566,7 @@ opens_empty books day sound none =
     let were : days books ≡ ds = ap (λ o. ds ++ open_days o) closed ∙ append-nil ds in
     let below = closed_below books.batches books.last_day day (subst Rising were sound.rising) sound.last later in
     none_on books.tickets day (all_map _ _ (λ (t : Ticket) e. any_has (λ x. x < day) (λ d. eqb t.day d) (t.day < day)
-        (λ x lt same. let s = eqb-true t.day x same in omega (arith, lt, s)) ds below (ap (list_any (λ d. eqb t.day d)) (sym were) ∙ e)) books.tickets sound.dated)
+    (λ x lt same. let s = eqb-true t.day x same in omega (arith, lt, s)) ds below (ap (list_any (λ d. eqb t.day d)) (sym were) ∙ e)) books.tickets sound.dated)
 
 -- a ticket is made on the open day
 pub redeem_opened : (books : PlainBooks) (day payee : ℕ) (ss : List SerialNumber) → refusal_of (shown books) (Redeem day payee ss) ≡ None → books.day ≡ Some day

@@ -1,5 +1,5 @@
 -- Acts on the books.
-use Rattle.std.specs.Prelude.{ℕ, Bool, false, ◌&&◌, nat_eq, List, [], ◌∷◌, ◌++◌, Option, Some, None}
+use Rattle.std.specs.Prelude.{Bool, false, ◌&&◌, nat_eq, List, [], ◌∷◌, ◌++◌, Option, Some, None}
 use Rattle.std.specs.Cmp.Lexicographic.{pointwise}
 use Rattle.std.specs.FinMap as finite
 use Rattle.std.specs.FinMap.{FinMap}
@@ -16,9 +16,9 @@ use Rattle.ee_acts.specs.Serials.{serial_cmp, same_serial}
 use Rattle.ee_value.specs.declared.rates.Rates.{Rates}
 use Rattle.ee_acts.specs.Values.{same_rates}
 use Rattle.ee_acts.specs.PlainBooks.{PlainBooks, same_bond}
-use Rattle.ee_acts.specs.Seen.{Seen, shown, ticket_for, closing_batch}
+use Rattle.ee_acts.specs.Seen.{shown, ticket_for, closing_batch}
 use Rattle.ee_acts.specs.Refusals.{refusal_of}
-use Rattle.ee_acts.specs.Effects.{new_rates, new_bonds, accepted, effects_of}
+use Rattle.ee_acts.specs.Effects.{new_rates, new_bonds, effects_of}
 
 abbrev pub same_act : Act → Act → Bool
 same_act (AddRates xs) (AddRates ys) = pointwise (λ x y. nat_eq x.from y.from && same_rates x.rates y.rates) xs ys

@@ -1,6 +1,5 @@
 -- What an act does, by what it sees.
-use Rattle.std.specs.Prelude.{ℕ, ◌-◌, List, [], ◌∷◌, ◌++◌, length, map, filter, is_none, Option, Some, None, if◌then◌else◌}
-use Rattle.ee_units.specs.Spelling.{SerialNumber}
+use Rattle.std.specs.Prelude.{◌-◌, List, [], ◌∷◌, ◌++◌, length, map, filter, is_none, Option, Some, None, if◌then◌else◌}
 use Rattle.ee_acts.specs.declared.acts.RateRow.{RateRow}
 use Rattle.ee_calculator.specs.declared.bonds.Bond.{Bond}
 use Rattle.ee_acts.specs.declared.acts.Act.{Act}

@@ -70,7 +70,10 @@ impl Act {
         ensures { result ≡ same_act self.now other.now }
     {
         match (self, other) {
-            (Act::AddBonds(one), Act::AddBonds(other)) => same_bonds(one.as_slice(), other.as_slice()),
+            (Act::AddBonds(one), Act::AddBonds(other)) => same_bonds(
+                one.as_slice(),
+                other.as_slice(),
+            ),
             _ => *self == *other,
         }
     }

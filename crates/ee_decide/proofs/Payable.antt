@@ -1,5 +1,5 @@
 -- Where none of the rows is refused, each of them isn't.
-use Rattle.std.proofs.Common.{◌≡◌, ℕ, zero, suc, ◌<◌, List, [], ◌∷◌, length, get_or, Option, None, arith, refl, sym, ap, ◌∙◌}
+use Rattle.std.proofs.Common.{◌≡◌, ℕ, zero, suc, ◌<◌, List, [], ◌∷◌, length, get_or, Option, None, arith, ap, ◌∙◌}
 use Rattle.ee_acts.specs.declared.refusals.Refusal.{Refusal}
 use Rattle.ee_acts.specs.Refusals.{first_of}
 use Rattle.ee_acts.proofs.Soundness.{or_none}

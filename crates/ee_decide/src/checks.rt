@@ -18,7 +18,9 @@ use ee_value::Rates;
 use std::alloc::{AllocError, Global};
 
 const MOST_ROWS: usize = 500;
+
 const MOST_SERIALS: usize = 100;
+
 const MOST_TICKETS: u64 = 1000;
 
 /// Whether a month is a May or November.
@@ -85,7 +87,11 @@ fn first_rate_conflict(view: &View, rows: &[RateRow]) -> Option<Refusal>
     None
 }
 
-fn refusal_of_rates(alloc: Global, view: &View, rows: &[RateRow]) -> Result<Option<Refusal>, AllocError>
+fn refusal_of_rates(
+    alloc: Global,
+    view: &View,
+    rows: &[RateRow],
+) -> Result<Option<Refusal>, AllocError>
     ensures { IfOk result (λ refusal. refusal ≡ is.first (is.tests_of_rates (shown_by view.now) rows.now)) }
 {
     if rows.is_empty() {
@@ -246,7 +252,12 @@ fn refusal_of_day(opened: Option<Day>, day: Day) -> Option<Refusal>
 }
 
 /// A serial through the tests of its own.
-fn refusal_of_held(month: Month, payee: Customer, serial: Serial, held: Option<Held>) -> Option<Refusal>
+fn refusal_of_held(
+    month: Month,
+    payee: Customer,
+    serial: Serial,
+    held: Option<Held>,
+) -> Option<Refusal>
     ensures { result ≡ is.refusal_of_held month payee serial held }
 {
     let Some(Held { bond, ticket }) = held else {
@@ -268,7 +279,12 @@ fn refusal_of_held(month: Month, payee: Customer, serial: Serial, held: Option<H
     None
 }
 
-fn first_unpayable(view: &View, month: Month, payee: Customer, serials: &[Serial]) -> Option<Refusal>
+fn first_unpayable(
+    view: &View,
+    month: Month,
+    payee: Customer,
+    serials: &[Serial],
+) -> Option<Refusal>
     ensures { result ≡ is.first_of (is.refusal_of_serial (shown_by view.now) month payee) serials.now }
 {
     for serial in serials {

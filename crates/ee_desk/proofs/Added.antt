@@ -1,5 +1,5 @@
 -- Rows that are added and taken out again.
-use Rattle.std.proofs.Common.{◌≡◌, ℕ, suc, ◌+◌, ◌<◌, zero, Bool, true, false, cond, ◌||◌, List, [], ◌∷◌, ◌++◌, length, take, drop, get_or, Option, Some, None, true≢false, refl, sym, ap, ◌∙◌, drop-cons, add-one}
+use Rattle.std.proofs.Common.{◌≡◌, ℕ, suc, ◌+◌, ◌<◌, zero, Bool, true, false, cond, ◌||◌, List, [], ◌∷◌, ◌++◌, length, take, get_or, Option, Some, None, true≢false, refl, sym, ap, ◌∙◌}
 use Rattle.std.specs.Option.{IfSome, option_map_or}
 use Rattle.std.specs.Map.{lookup}
 use Rattle.std.specs.BTreeMap.{is_at}
@@ -69,6 +69,7 @@ module _ {K V : Type 0} {R : K → K → Ordering} (o : IsTotalOrder R) (exact :
       here : (k : K) (b : Bool) → eq_by_cmp R q k ≡ b → finite.get m k ≡ None → (b || has q cs) ≡ true → (has q cs ≡ true → finite.get m q ≡ None) → finite.get m q ≡ None
       here k true same none any rest = ap (finite.get m) (same_key o exact (finite.get m) q k same) ∙ none
       here k false apart none any rest = rest any
+
       by_case : (added : Option (K × V)) → IfSome added (λ r. finite.get m r.0 ≡ None) → (is_row q added || has q cs) ≡ true → (has q cs ≡ true → finite.get m q ≡ None) → finite.get m q ≡ None
       by_case None none any rest = rest any
       by_case (Some r) none any rest = here r.0 (eq_by_cmp R q r.0) refl none any rest

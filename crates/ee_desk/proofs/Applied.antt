@@ -1,5 +1,5 @@
 -- Changes that the books take.
-use Rattle.std.proofs.Common.{◌≡◌, ℕ, ◌<◌, List, [], ◌∷◌, length, get_or, arith, refl, sym, ap, ◌∙◌, subst}
+use Rattle.std.proofs.Common.{◌≡◌, ◌<◌, List, [], ◌∷◌, length, get_or, arith, refl, sym, ap, subst}
 use Rattle.std.specs.List.{AllByRecursion}
 use Rattle.ee_acts.specs.declared.changes.Change.{Change}
 use Rattle.ee_acts.specs.declared.changes.Change.TheVariants as change

@@ -1,6 +1,6 @@
 -- The counts of a day with one ticket more.
-use Rattle.std.proofs.Common.{◌≡◌, ℕ, suc, ◌+◌, eqb, Bool, true, false, cond, List, [], ◌∷◌, ◌++◌, length, Some, arith, refl, sym, ap, ◌∙◌}
-use Rattle.std.specs.List.{filter, sum_by}
+use Rattle.std.proofs.Common.{◌≡◌, ℕ, ◌+◌, eqb, cond, List, [], ◌∷◌, ◌++◌, length, Some, arith, refl, sym, ap, ◌∙◌}
+use Rattle.std.specs.List.{sum_by}
 use Rattle.std.proofs.lemmas.Bool.{eq-eqb}
 use Rattle.std.proofs.lemmas.List.Elements.{filter-append}
 use Rattle.std.proofs.lemmas.List.Sums.{sum_by-append}
@@ -40,7 +40,7 @@ counts_more day tickets pushed t counts now are opened push one two three =
     let y = sum_push bonds_on tickets t in
     let z = sum_push total_of tickets t in
     subst (λ (p : Option ℕ × List Ticket). AreCounts (batch_so_far p.0 p.1) now) (λ i. (sym opened i, sym push i))
-        (omega (arith, one, a, x), omega (arith, two, b, y), omega (arith, three, c, z))
+    (omega (arith, one, a, x), omega (arith, two, b, y), omega (arith, three, c, z))
 
 -- with room for the ticket no count overflows
 pub room_for : (day : Option ℕ) (tickets : List Ticket) (t : Ticket) (counts : DayCounts) → AreCounts (batch_so_far day tickets) counts → day ≡ Some t.day → HasRoom tickets t

@@ -1,13 +1,13 @@
 -- What is decided can be applied, and leaves sound books.
-use Rattle.std.proofs.Common.{◌≡◌, ◌==◌, ℕ, ◌+◌, ◌<◌, ◌≤◌, eqb, Bool, true, false, cond, not, ◌||◌, List, [], ◌∷◌, ◌++◌, map, length, Option, Some, None, true≢false, arith, refl, sym, ap, ◌∙◌, subst}
+use Rattle.std.proofs.Common.{◌≡◌, ◌==◌, ℕ, eqb, Bool, true, false, cond, ◌||◌, List, [], ◌∷◌, ◌++◌, map, Option, Some, None, true≢false, arith, refl, sym, ap, ◌∙◌, subst}
 use Rattle.std.specs.Prelude.{Result, Ok, Err, OnOk, OnErr}
-use Rattle.std.specs.Option.{IfSome, option_map, option_or, is_none}
-use Rattle.std.specs.List.{AllByRecursion, find, filter, list_any, sum_by}
+use Rattle.std.specs.Option.{option_map, option_or, is_none}
+use Rattle.std.specs.List.{AllByRecursion, find, filter, list_any}
 use Rattle.std.specs.FinMap as finite
 use Rattle.std.specs.FinMap.{FinMap, get-insert}
-use Rattle.std.specs.Ordering.{nat_cmp, eq_by_cmp}
+use Rattle.std.specs.Ordering.{nat_cmp}
 use Rattle.std.specs.Cmp.{nat_cmp_total, unsigned_tied}
-use Rattle.std.proofs.lemmas.Bool.{eqb-true, eq-eqb, or_parts, false_from_ne_true}
+use Rattle.std.proofs.lemmas.Bool.{eqb-true, eq-eqb, or_parts}
 use Rattle.ee_units.specs.Calendar.{month_of_day}
 use Rattle.ee_units.specs.Spelling.{SerialNumber}
 use Rattle.ee_value.specs.declared.rates.Rates.{Rates}
@@ -19,23 +19,22 @@ use Rattle.ee_acts.specs.declared.refusals.Refusal.{Refusal}
 use Rattle.ee_acts.specs.declared.refusals.Refusal.TheVariants.{Repeated}
 use Rattle.ee_acts.specs.declared.replies.Ticket.{Ticket}
 use Rattle.ee_acts.specs.declared.changes.Effects.{Effects}
-use Rattle.ee_acts.specs.declared.changes.Change.{Change}
 use Rattle.ee_acts.specs.declared.changes.Change.TheVariants as change
 use Rattle.ee_acts.specs.Serials.{serial_cmp, same_serial}
 use Rattle.ee_acts.specs.PlainBooks.{PlainBooks, ticket_of}
 use Rattle.ee_acts.specs.Seen.{Seen, shown, line_for, held_of, held_as, ticket_for}
 use Rattle.ee_acts.specs.Refusals.{known_rate, tests_of, refusal_of, refusal_of_serial, repeated_bond}
 use Rattle.ee_acts.specs.Effects.{new_rates, new_bonds, rate_change, accepted, unless_refused, effects_of}
-use Rattle.ee_acts.specs.Acts.{done, applied, books_after}
+use Rattle.ee_acts.specs.Acts.{done, applied}
 use Rattle.ee_acts.specs.Ranges.{IsInRange}
 use Rattle.ee_acts.specs.Sound.{IsSound}
 use Rattle.ee_acts.specs.Views.{view_of, shown_by}
-use Rattle.ee_acts.proofs.Maps.{serials_total, serials_tied, serials_swap, all_map}
+use Rattle.ee_acts.proofs.Maps.{serials_total, serials_tied, all_map}
 use Rattle.ee_acts.proofs.Orders.{all_filter, all_passed}
 use Rattle.ee_acts.proofs.Seeing.{seen_enough, applied_is}
 use Rattle.ee_acts.proofs.Soundness.{done_sound, act_sound, no_refusal, all_of, payable, held_bond, none_is, or_none, mapped_none, test_passed, unregistered_unpaid, opens_empty, redeem_opened}
 use Rattle.ee_acts.proofs.Bounds.{few_on, bonds_small, total_small}
-use Rattle.ee_desk.specs.Added.{rate_row, bond_row, with_row, AreNew}
+use Rattle.ee_desk.specs.Added.{rate_row, bond_row, AreNew}
 use Rattle.ee_desk.specs.Applicable.{IsRate, IsBond, IsUnpaid, HasRoom, AreApplicable}
 
 find_push : (q : ℕ) (rows : List RateRow) (row : RateRow) → option_map (λ r. r.rates) (find (λ r. r.from == q) (rows ++ row ∷ [])) ≡ None
@@ -78,9 +77,9 @@ new_rows : (seen : Seen) (m : FinMap nat_cmp Rates) (earlier rows : List RateRow
 new_rows seen m earlier [] free = tt
 new_rows seen m earlier (row ∷ rows) free =
     by_case (is_none (known_rate seen earlier row.from)) refl
-        (λ (here : known_rate seen earlier row.from ≡ None). new_rows seen (finite.insert m row.from row.rates) (earlier ++ row ∷ []) rows
-            (λ q e. let p = known_push seen earlier row q e in new_after m row.from row.rates q p.1 (free q p.0)))
-        (new_rows seen m (earlier ++ row ∷ []) rows (λ q e. free q (known_push seen earlier row q e).0))
+    (λ (here : known_rate seen earlier row.from ≡ None). new_rows seen (finite.insert m row.from row.rates) (earlier ++ row ∷ []) rows
+    (λ q e. let p = known_push seen earlier row q e in new_after m row.from row.rates q p.1 (free q p.0)))
+    (new_rows seen m (earlier ++ row ∷ []) rows (λ q e. free q (known_push seen earlier row q e).0))
   where
     by_case : (b : Bool) → is_none (known_rate seen earlier row.from) ≡ b
         → (known_rate seen earlier row.from ≡ None → AreNew rate_row (finite.insert m row.from row.rates) (map rate_change (new_rates seen (earlier ++ row ∷ []) rows)))
@@ -141,9 +140,10 @@ new_registered m (bond ∷ bonds) h absent =
     stay : (more : List Bond) → AllByRecursion (λ other. same_serial other.serial bond.serial ≡ false) more → AllByRecursion (λ other. finite.get m other.serial ≡ None) more
         → AllByRecursion (λ other. finite.get (finite.insert m bond.serial bond) other.serial ≡ None) more
     stay [] apart none = tt
-    stay (x ∷ more) apart none =
-        (get-insert serials_total m bond.serial bond x.serial ∙ ap (λ b. cond b (Some bond) (finite.get m x.serial)) (serials_tied x.serial bond.serial ∙ apart.0) ∙ none.0,
-         stay more apart.1 none.1)
+    stay (x ∷ more) apart none = (
+      get-insert serials_total m bond.serial bond x.serial ∙ ap (λ b. cond b (Some bond) (finite.get m x.serial)) (serials_tied x.serial bond.serial ∙ apart.0) ∙ none.0,
+      stay more apart.1 none.1,
+    )
 
 bonds_applicable : (books : PlainBooks) (bonds : List Bond) → AreNew bond_row books.bonds (map change.Bond bonds) → AllByRecursion (IsUnpaid books) (map change.Bond bonds) → AreApplicable books (map change.Bond bonds)
 bonds_applicable books [] h unpaid = tt
@@ -159,7 +159,7 @@ add_bonds_applicable books bonds sound none =
     let new = new_bonds (shown books) bonds in
     let distinct = distinct_filter (λ b. is_none (held_of books b.serial)) bonds (unrepeated [] bonds tests.1.1.0).1 in
     let absent = all_map (λ b. is_none (held_of books b.serial) ≡ true) (λ b. finite.get books.bonds b.serial ≡ None)
-        (λ b e. mapped_none (held_as books.tickets b.serial) (finite.get books.bonds b.serial) (none_is (held_of books b.serial) e)) new (all_passed (λ b. is_none (held_of books b.serial)) bonds) in
+    (λ b e. mapped_none (held_as books.tickets b.serial) (finite.get books.bonds b.serial) (none_is (held_of books b.serial) e)) new (all_passed (λ b. is_none (held_of books b.serial)) bonds) in
     bonds_applicable books new (new_registered books.bonds new distinct absent) (all_unpaid books sound new absent)
 
 -- ---- tickets
@@ -186,10 +186,14 @@ accepted_applicable books (AddRates rows) sound ranges none =
 accepted_applicable books (AddBonds bonds) sound ranges none = add_bonds_applicable books bonds sound none
 accepted_applicable books (OpenDay day) sound ranges none = (refl, opens_empty books day sound none)
 accepted_applicable books (Redeem day payee ss) sound ranges none =
-    let tests = no_refusal (tests_of (shown books) (Redeem day payee ss)) none in
-    (refl, (unpaid_lines books (month_of_day day) payee ss (all_of (refusal_of_serial (shown books) (month_of_day day) payee) ss tests.1.1.1.1.1.0),
+    let tests = no_refusal (tests_of (shown books) (Redeem day payee ss)) none in (
+      refl,
+      (
+        unpaid_lines books (month_of_day day) payee ss (all_of (refusal_of_serial (shown books) (month_of_day day) payee) ss tests.1.1.1.1.1.0),
         redeem_opened books day payee ss none,
-        room books (ticket_for (shown books) day payee ss) (done_sound books (Redeem day payee ss) sound none ranges)))
+        room books (ticket_for (shown books) day payee ss) (done_sound books (Redeem day payee ss) sound none ranges),
+      ),
+    )
 accepted_applicable books (CloseDay day) sound ranges none = refl
 
 unless_applicable : (books : PlainBooks) (asked : Act) (o : Option Refusal) → refusal_of (shown books) asked ≡ o → IsSound books → AllByRecursion IsInRange (unless_refused (shown books) asked o).changes
@@ -205,7 +209,7 @@ pub applicable : (books : PlainBooks) (effects : Effects) → IsSound books → 
 applicable books effects sound ranges (asked, is) =
     let same = is ∙ seen_enough books asked in
     subst (λ (e : Effects). AreApplicable books e.changes) (sym same)
-        (unless_applicable books asked (refusal_of (shown books) asked) refl sound (subst (λ (e : Effects). AllByRecursion IsInRange e.changes) same ranges))
+    (unless_applicable books asked (refusal_of (shown books) asked) refl sound (subst (λ (e : Effects). AllByRecursion IsInRange e.changes) same ranges))
 
 by_result : {A E : Type 0} (r : Result A E) (old new done : PlainBooks) → OnOk r (new ≡ done) → OnErr r (new ≡ old) → IsSound old → IsSound done → IsSound new
 by_result (Ok x) old new done ok err before after = subst IsSound (sym ok) after
@@ -216,5 +220,5 @@ pub sound_after : {A E : Type 0} (r : Result A E) (old new : PlainBooks) (effect
 sound_after r old new effects ranges (asked, is) ok err sound =
     let same = is ∙ seen_enough old asked in
     by_result r old new (applied old effects.changes) ok err sound
-        (subst IsSound (sym (ap (λ (e : Effects). applied old e.changes) is ∙ applied_is old asked))
-            (act_sound old asked sound (subst (λ (e : Effects). AllByRecursion IsInRange e.changes) same ranges)))
+    (subst IsSound (sym (ap (λ (e : Effects). applied old e.changes) is ∙ applied_is old asked))
+    (act_sound old asked sound (subst (λ (e : Effects). AllByRecursion IsInRange e.changes) same ranges)))

@@ -1,5 +1,5 @@
 -- Marks of tickets on bonds.
-use Rattle.std.proofs.Common.{◌≡◌, ◌==◌, ℕ, ◌+◌, Bool, true, false, cond, ◌&&◌, ◌||◌, eqb, List, [], ◌∷◌, ◌++◌, Option, Some, None, map, true≢false, refl, sym, ap, ◌∙◌, subst}
+use Rattle.std.proofs.Common.{◌≡◌, ℕ, Bool, true, false, cond, ◌||◌, List, [], ◌∷◌, ◌++◌, Option, Some, None, map, true≢false, refl, sym, ap, ◌∙◌, subst}
 use Rattle.std.specs.Option.{option_map, option_or, IfSome}
 use Rattle.std.specs.List.{list_any, find, AllByRecursion}
 use Rattle.std.specs.Map.{lookup}
@@ -7,7 +7,6 @@ use Rattle.std.specs.BTreeMap.{is_at}
 use Rattle.std.specs.FinMap as finite
 use Rattle.std.specs.FinMap.{same_map}
 use Rattle.ee_units.specs.Spelling.{SerialNumber}
-use Rattle.ee_calculator.specs.declared.bonds.Bond.{Bond}
 use Rattle.ee_acts.specs.declared.changes.Held.{Held}
 use Rattle.ee_acts.specs.declared.replies.Line.{Line}
 use Rattle.ee_acts.specs.declared.replies.Ticket.{Ticket}
@@ -52,7 +51,6 @@ pub mark_one : (es fs : List (SerialNumber × Held)) (s : SerialNumber) (h : Hel
 mark_one es fs s h n at is q = mark_case es fs s h n q (same_serial q s) at refl
     (is q ∙ ap (λ b. cond b (Some (record { bond = h.bond; ticket = Some n })) (held_at es q)) (serials_tied s q ∙ serials_swap s q))
 
-
 or_push : (b c : Bool) (t u : Ticket) (o p : Option Ticket) → option_map (λ x. x.ticket) o ≡ option_or (option_map (λ x. x.ticket) p) (cond c (Some t.ticket) None)
     → option_map (λ x. x.ticket) (cond b (Some u) o) ≡ option_or (option_map (λ x. x.ticket) (cond b (Some u) p)) (cond c (Some t.ticket) None)
 or_push true c t u o p h = refl
@@ -91,4 +89,4 @@ pub ticket_kept : (bonds new : List (SerialNumber × Held)) (tickets pushed : Li
     → AreMarked new pushed
 ticket_kept bonds new tickets pushed t kept free push marks q =
     subst (λ (p : Option Held × Option ℕ). IfSome p.0 (λ h. h.ticket ≡ p.1)) (λ i. (sym (marks q) i, sym (ap (λ ts. ticket_of ts q) push ∙ ticket_of_push tickets t q) i))
-        (mark_paid (ticket_of tickets q) t.ticket (held_at bonds q) (names q t) (unpaid_of tickets q t.lines free) (kept q))
+    (mark_paid (ticket_of tickets q) t.ticket (held_at bonds q) (names q t) (unpaid_of tickets q t.lines free) (kept q))

@@ -1,25 +1,21 @@
 -- One more key of what is picked.
-use Rattle.std.proofs.Common.{◌≡◌, ℕ, suc, ◌+◌, ◌<◌, Bool, true, false, cond, ◌||◌, List, [], ◌∷◌, ◌++◌, map, append-nil, length, take, get_or, Option, Some, None, refl, sym, ap, ◌∙◌}
+use Rattle.std.proofs.Common.{◌≡◌, ℕ, ◌+◌, ◌<◌, Bool, true, false, cond, ◌||◌, List, [], ◌∷◌, ◌++◌, map, append-nil, length, take, get_or, Option, Some, None, refl, sym, ap, ◌∙◌}
 use Rattle.std.specs.Option.{option_map, option_map_or, IfSome}
 use Rattle.std.specs.List.{list_any, filter_map, cons_option}
-use Rattle.std.specs.Map.{lookup}
-use Rattle.std.specs.BTreeMap.{is_at}
 use Rattle.std.specs.FinMap as finite
 use Rattle.std.specs.FinMap.{FinMap, get-insert, same_map}
 use Rattle.std.specs.Ordering.{nat_cmp, eq_by_cmp}
 use Rattle.std.specs.declared.cmp.Ordering.{Ordering}
 use Rattle.std.specs.Cmp.{IsTotalOrder, nat_cmp_total}
-use Rattle.std.proofs.lemmas.Map.Lookups.{CmpEqualImpliesEq, exact_unsigned}
+use Rattle.std.proofs.lemmas.Map.Lookups.{CmpEqualImpliesEq}
 use Rattle.std.proofs.lemmas.List.{take_more, map-append}
 use Rattle.ee_units.specs.Spelling.{SerialNumber}
-use Rattle.ee_calculator.specs.declared.bonds.Bond.{Bond}
 use Rattle.ee_acts.specs.declared.changes.Held.{Held}
 use Rattle.ee_acts.specs.declared.replies.Ticket.{Ticket}
-use Rattle.ee_acts.specs.Serials.{serial_cmp}
 use Rattle.ee_acts.specs.PlainBooks.{ticket_of}
 use Rattle.ee_acts.specs.Seen.{held_as}
 use Rattle.ee_acts.specs.Views.{picked}
-use Rattle.ee_acts.proofs.Maps.{serials_total, exact_serials, get_picked, same_key}
+use Rattle.ee_acts.proofs.Maps.{get_picked, same_key}
 use Rattle.ee_desk.specs.Kept.{noted, noted_at, held_at, bonds_in}
 use Rattle.ee_desk.proofs.PaidMarks.{get_bond}
 use Rattle.std.proofs.Common.{subst}
@@ -92,7 +88,7 @@ held_is bonds tickets q h = ap (option_map (held_as tickets q)) (get_bond bonds 
 pub picked_settled : (rates : FinMap nat_cmp Rates) (ks : List ℕ) → AreSettled rates → AreSettled (picked (finite.get rates) ks)
 picked_settled rates ks settled q =
     subst (λ o. IfSome o (λ terms. unsettled terms ≡ None)) (sym (get_picked nat_cmp_total nat_cmp-IsAntisymmetric (finite.get rates) ks q))
-        (among (list_any (eq_by_cmp nat_cmp q) ks) (finite.get rates q) (settled q))
+    (among (list_any (eq_by_cmp nat_cmp q) ks) (finite.get rates q) (settled q))
   where
     among : (b : Bool) (o : Option Rates) → IfSome o (λ terms. unsettled terms ≡ None) → IfSome (cond b o None) (λ terms. unsettled terms ≡ None)
     among true o h = h

@@ -1,5 +1,5 @@
 -- Bonds that are registered and taken out again.
-use Rattle.std.proofs.Common.{◌≡◌, ℕ, Bool, true, false, cond, List, [], ◌∷◌, Option, Some, None, refl, sym, ap, ◌∙◌, subst}
+use Rattle.std.proofs.Common.{◌≡◌, Bool, true, false, cond, List, [], ◌∷◌, Option, Some, None, refl, sym, ap, ◌∙◌, subst}
 use Rattle.std.specs.Option.{IfSome, option_map}
 use Rattle.std.specs.List.{AllByRecursion}
 use Rattle.std.specs.FinMap as finite
@@ -41,9 +41,9 @@ bonds_more held bonds (change.Batch batch) are = are
 bonds_more held bonds (change.Bond bond) are =
     let new : Held = record { bond = bond; ticket = None } in
     λ q. get-insert serials_total bonds bond.serial bond q
-      ∙ ap (cond (eq_by_cmp serial_cmp q bond.serial) (Some bond)) (are q)
-      ∙ mapped_if (eq_by_cmp serial_cmp q bond.serial) new (finite.get held q)
-      ∙ sym (ap (option_map bond_of) (get-insert serials_total held bond.serial new q))
+    ∙ ap (cond (eq_by_cmp serial_cmp q bond.serial) (Some bond)) (are q)
+    ∙ mapped_if (eq_by_cmp serial_cmp q bond.serial) new (finite.get held q)
+    ∙ sym (ap (option_map bond_of) (get-insert serials_total held bond.serial new q))
 
 bonds_after : (held : FinMap serial_cmp Held) (bonds : FinMap serial_cmp Bond) (cs : List Change) → AreBondsOf held bonds
     → AreBondsOf (with_changes held_row held cs) (with_changes bond_row bonds cs)
@@ -79,8 +79,8 @@ marked_more books held (change.Batch batch) unpaid are = are
 marked_more books held (change.Bond bond) unpaid are =
     let new : Held = record { bond = bond; ticket = None } in
     λ q. subst (λ o. IfSome o (λ h. h.ticket ≡ ticket_of books.tickets q)) (sym (get-insert serials_total held bond.serial new q))
-      (marked_if (eq_by_cmp serial_cmp q bond.serial) books.tickets q new (finite.get held q)
-        (λ same. sym (ap (ticket_of books.tickets) (same_key serials_total exact_serials (finite.get held) q bond.serial same) ∙ unpaid)) (are q))
+    (marked_if (eq_by_cmp serial_cmp q bond.serial) books.tickets q new (finite.get held q)
+    (λ same. sym (ap (ticket_of books.tickets) (same_key serials_total exact_serials (finite.get held) q bond.serial same) ∙ unpaid)) (are q))
 
 marked_after : (books : PlainBooks) (held : FinMap serial_cmp Held) (cs : List Change) → AllByRecursion (IsUnpaid books) cs → AreMarkedIn held books.tickets → AreMarkedIn (with_changes held_row held cs) books.tickets
 marked_after books held [] unpaid are = are

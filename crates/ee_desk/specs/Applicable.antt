@@ -1,5 +1,5 @@
 -- Changes that the books in memory take.
-use Rattle.std.specs.Prelude.{◌≡◌, ℕ, ◌<◌, List, [], ◌∷◌, ◌++◌, length, sum_by, Some, None, IfSome, ⊤}
+use Rattle.std.specs.Prelude.{◌≡◌, ◌<◌, List, [], ◌∷◌, ◌++◌, length, sum_by, Some, None, IfSome, ⊤}
 use Rattle.std.specs.List.{AllByRecursion}
 use Rattle.ee_acts.specs.declared.changes.Change.{Change}
 use Rattle.ee_acts.specs.declared.changes.Change.TheVariants as change

@@ -1,5 +1,5 @@
 -- How the maps in memory are read.
-use Rattle.std.specs.Prelude.{◌≡◌, ℕ, Bool, List, Option, Some, None, IfSome, map, if◌then◌else◌}
+use Rattle.std.specs.Prelude.{◌≡◌, ℕ, Bool, List, Option, Some, IfSome, map, if◌then◌else◌}
 use Rattle.std.specs.Option.{option_map_or}
 use Rattle.std.specs.declared.cmp.Ordering.{Ordering}
 use Rattle.std.specs.Map.{lookup}
@@ -17,7 +17,7 @@ use Rattle.ee_decide.specs.declared.views.DayCounts.{DayCounts}
 use Rattle.ee_acts.specs.declared.changes.Kept.{Kept}
 use Rattle.ee_acts.specs.Numbers.{Number, number_cmp}
 use Rattle.ee_acts.specs.Serials.{serial_cmp}
-use Rattle.ee_acts.specs.PlainBooks.{PlainBooks, ticket_of, batch_so_far}
+use Rattle.ee_acts.specs.PlainBooks.{PlainBooks, ticket_of}
 
 abbrev pub rates_in : List (ℕ × Rates) → FinMap nat_cmp Rates
 rates_in rates = finite.from_entries rates

@@ -11,7 +11,10 @@ use std::alloc::AllocError;
 use std::collections::BTreeMap;
 
 /// Adds rates whose periods are new: all of them, or none.
-pub fn add_rates(rates: &mut BTreeMap<IssueMonth, Rates>, changes: &[Change]) -> Result<(), AllocError>
+pub fn add_rates(
+    rates: &mut BTreeMap<IssueMonth, Rates>,
+    changes: &[Change],
+) -> Result<(), AllocError>
     requires { AreNew rate_row (rates_in rates.old.entries) changes.now }
     ensures ok { OnOk result (rates_in rates.new.entries ≡ with_changes rate_row (rates_in rates.old.entries) changes.now) }
     ensures err { OnErr result (rates_in rates.new.entries ≡ rates_in rates.old.entries) }
@@ -78,7 +81,10 @@ fn add_bond(bonds: &mut BTreeMap<Serial, Held>, change: &Change) -> Result<(), A
     ensures err { OnErr result (bonds.new.entries ≡ bonds.old.entries) }
 {
     if let Change::Bond(bond) = change {
-        let held = Held { bond: *bond, ticket: None };
+        let held = Held {
+            bond: *bond,
+            ticket: None,
+        };
         bonds.insert(bond.serial, held)?;
     }
     Ok(())

@@ -8,6 +8,8 @@ mod ledger;
 mod marks;
 mod ranges;
 mod seeing;
+#[cfg(test)]
+mod tests;
 pub mod thin;
 
 pub use books::Books;

@@ -22,7 +22,11 @@ use std::alloc::{AllocError, Global};
 use std::collections::BTreeMap;
 
 /// Notes the rate of a period, where there is one.
-fn note_rate(found: &mut BTreeMap<IssueMonth, Rates>, ledger: &Ledger, period: IssueMonth) -> Result<(), AllocError>
+fn note_rate(
+    found: &mut BTreeMap<IssueMonth, Rates>,
+    ledger: &Ledger,
+    period: IssueMonth,
+) -> Result<(), AllocError>
     ensures { OnOk result (rates_in found.new.entries ≡ noted (finite.get ledger.now.rates) (rates_in found.old.entries) period) }
 {
     if let Some(rates) = ledger.rates(period) {
@@ -32,7 +36,11 @@ fn note_rate(found: &mut BTreeMap<IssueMonth, Rates>, ledger: &Ledger, period: I
 }
 
 /// Notes the rate of the issue period of a bond, where it is registered.
-fn note_rate_of(found: &mut BTreeMap<IssueMonth, Rates>, ledger: &Ledger, serial: Serial) -> Result<(), AllocError>
+fn note_rate_of(
+    found: &mut BTreeMap<IssueMonth, Rates>,
+    ledger: &Ledger,
+    serial: Serial,
+) -> Result<(), AllocError>
     ensures { OnOk result (rates_in found.new.entries ≡ noted_at (finite.get ledger.now.rates) (rates_in found.old.entries) (option_map period_of_held (held_of ledger.now serial))) }
 {
     match ledger.held(serial) {
@@ -52,7 +60,11 @@ fn put(found: &mut BTreeMap<Serial, Held>, serial: Serial, held: &Held) -> Resul
 }
 
 /// Notes what is held of a serial, where it is registered.
-fn note_held(found: &mut BTreeMap<Serial, Held>, ledger: &Ledger, serial: Serial) -> Result<(), AllocError>
+fn note_held(
+    found: &mut BTreeMap<Serial, Held>,
+    ledger: &Ledger,
+    serial: Serial,
+) -> Result<(), AllocError>
     ensures { OnOk result (held_in found.new.entries ≡ noted (held_of ledger.now) (held_in found.old.entries) serial) }
 {
     match ledger.held(serial) {
@@ -62,7 +74,11 @@ fn note_held(found: &mut BTreeMap<Serial, Held>, ledger: &Ledger, serial: Serial
 }
 
 /// The rates of the months of rows.
-fn rates_of_rows(alloc: Global, ledger: &Ledger, rows: &[RateRow]) -> Result<BTreeMap<IssueMonth, Rates>, AllocError>
+fn rates_of_rows(
+    alloc: Global,
+    ledger: &Ledger,
+    rows: &[RateRow],
+) -> Result<BTreeMap<IssueMonth, Rates>, AllocError>
     ensures { IfOk result (λ m. rates_in m.entries ≡ picked (finite.get ledger.now.rates) (map (λ row. row.from) rows.now)) }
 {
     let mut found = BTreeMap::new(alloc);
@@ -73,7 +89,11 @@ fn rates_of_rows(alloc: Global, ledger: &Ledger, rows: &[RateRow]) -> Result<BTr
 }
 
 /// The rates of the issue periods of the registered bonds that are named.
-fn rates_of_serials(alloc: Global, ledger: &Ledger, serials: &[Serial]) -> Result<BTreeMap<IssueMonth, Rates>, AllocError>
+fn rates_of_serials(
+    alloc: Global,
+    ledger: &Ledger,
+    serials: &[Serial],
+) -> Result<BTreeMap<IssueMonth, Rates>, AllocError>
     ensures { IfOk result (λ m. rates_in m.entries ≡ picked (finite.get ledger.now.rates) (filter_map (λ s. option_map period_of_held (held_of ledger.now s)) serials.now)) }
 {
     let mut found = BTreeMap::new(alloc);
@@ -84,7 +104,11 @@ fn rates_of_serials(alloc: Global, ledger: &Ledger, serials: &[Serial]) -> Resul
 }
 
 /// What is held of the serials that are named.
-fn held_of_serials(alloc: Global, ledger: &Ledger, serials: &[Serial]) -> Result<BTreeMap<Serial, Held>, AllocError>
+fn held_of_serials(
+    alloc: Global,
+    ledger: &Ledger,
+    serials: &[Serial],
+) -> Result<BTreeMap<Serial, Held>, AllocError>
     ensures { IfOk result (λ m. held_in m.entries ≡ picked (held_of ledger.now) serials.now) }
 {
     let mut found = BTreeMap::new(alloc);
@@ -95,7 +119,11 @@ fn held_of_serials(alloc: Global, ledger: &Ledger, serials: &[Serial]) -> Result
 }
 
 /// The rates of the issue periods of rows.
-fn rates_of_bonds(alloc: Global, ledger: &Ledger, bonds: &[Bond]) -> Result<BTreeMap<IssueMonth, Rates>, AllocError>
+fn rates_of_bonds(
+    alloc: Global,
+    ledger: &Ledger,
+    bonds: &[Bond],
+) -> Result<BTreeMap<IssueMonth, Rates>, AllocError>
     ensures { IfOk result (λ m. rates_in m.entries ≡ picked (finite.get ledger.now.rates) (map (λ bond. period_start bond.issued) bonds.now)) }
 {
     let mut found = BTreeMap::new(alloc);
@@ -106,7 +134,11 @@ fn rates_of_bonds(alloc: Global, ledger: &Ledger, bonds: &[Bond]) -> Result<BTre
 }
 
 /// What is held of the serials of rows.
-fn held_of_bonds(alloc: Global, ledger: &Ledger, bonds: &[Bond]) -> Result<BTreeMap<Serial, Held>, AllocError>
+fn held_of_bonds(
+    alloc: Global,
+    ledger: &Ledger,
+    bonds: &[Bond],
+) -> Result<BTreeMap<Serial, Held>, AllocError>
     ensures { IfOk result (λ m. held_in m.entries ≡ picked (held_of ledger.now) (map (λ bond. bond.serial) bonds.now)) }
 {
     let mut found = BTreeMap::new(alloc);
@@ -129,7 +161,11 @@ fn no_bonds(alloc: Global) -> BTreeMap<Serial, Held>
 }
 
 /// The rates that an act names.
-fn rates_of(alloc: Global, ledger: &Ledger, act: &Act) -> Result<BTreeMap<IssueMonth, Rates>, AllocError>
+fn rates_of(
+    alloc: Global,
+    ledger: &Ledger,
+    act: &Act,
+) -> Result<BTreeMap<IssueMonth, Rates>, AllocError>
     ensures { IfOk result (λ m. rates_in m.entries ≡ picked (finite.get ledger.now.rates) (is.periods_of ledger.now act.now)) }
 {
     match act {
@@ -175,5 +211,12 @@ pub fn view_of(alloc: Global, ledger: &Ledger, act: &Act) -> Result<View, AllocE
     let bonds = bonds_of(alloc, ledger, act)?;
     let counts = counted(ledger, act);
     let tickets = ledger.tickets().len() as u64;
-    Ok(View::new(rates, bonds, ledger.day(), ledger.last_day(), tickets, counts))
+    Ok(View::new(
+        rates,
+        bonds,
+        ledger.day(),
+        ledger.last_day(),
+        tickets,
+        counts,
+    ))
 }

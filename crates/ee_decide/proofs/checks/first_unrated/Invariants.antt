@@ -1,7 +1,5 @@
-use Rattle.std.proofs.Common.{◌≡◌, ◌==◌, ◌≤◌, ◌*◌, ◌^◌, ◌++◌, [], map, length, take, drop, find, sum_by}
-use Rattle.std.specs.List.{list_any}
+use Rattle.std.proofs.Common.{◌≡◌, drop}
 use Rattle.ee_acts.specs.Refusals as is
-use Rattle.ee_acts.specs.Serials.{same_serial}
 use Rattle.ee_acts.specs.Views.{shown_by}
 use Rattle.ee_decide.proofs.checks.first_unrated.Given as goal
 

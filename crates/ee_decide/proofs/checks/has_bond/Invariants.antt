@@ -1,8 +1,6 @@
-use Rattle.std.proofs.Common.{◌≡◌, ◌==◌, ◌≤◌, ◌*◌, ◌^◌, ◌++◌, [], map, length, take, drop, find, sum_by}
+use Rattle.std.proofs.Common.{◌≡◌, drop}
 use Rattle.std.specs.List.{list_any}
-use Rattle.ee_acts.specs.Refusals as is
 use Rattle.ee_acts.specs.Serials.{same_serial}
-use Rattle.ee_acts.specs.Views.{shown_by}
 use Rattle.ee_decide.proofs.checks.has_bond.Given as goal
 
 abbrev pub invariant-loop-other : goal.invariant-loop-other

@@ -1,8 +1,5 @@
-use Rattle.std.proofs.Common.{◌≡◌, ◌==◌, ◌≤◌, ◌*◌, ◌^◌, ◌++◌, [], map, length, take, drop, find, sum_by}
-use Rattle.std.specs.List.{list_any}
+use Rattle.std.proofs.Common.{◌≡◌, ◌≤◌, ◌++◌, map, length, drop}
 use Rattle.ee_acts.specs.Effects as is
-use Rattle.ee_acts.specs.Seen.{line_for}
-use Rattle.ee_acts.specs.PlainBooks.{cents_of}
 use Rattle.ee_acts.specs.declared.changes.Change.TheVariants as change
 use Rattle.ee_acts.specs.Views.{shown_by}
 use Rattle.ee_decide.proofs.decisions.new_bonds.Given as goal

@@ -1,11 +1,7 @@
-use Rattle.std.proofs.Common.{◌≡◌, ◌≤◌, map, take, length, sum_by}
-use Rattle.std.specs.Option.{option_map}
-use Rattle.std.specs.List.{filter_map}
-use Rattle.std.specs.FinMap as finite
-use Rattle.ee_acts.specs.PlainBooks.{batch_of}
+use Rattle.std.proofs.Common.{◌≡◌, map, take}
 use Rattle.ee_acts.specs.Seen.{held_of}
-use Rattle.ee_acts.specs.Views.{picked, period_of_held}
-use Rattle.ee_desk.specs.Kept.{rates_in, held_in}
+use Rattle.ee_acts.specs.Views.{picked}
+use Rattle.ee_desk.specs.Kept.{held_in}
 use Rattle.ee_desk.proofs.seeing.held_of_bonds.Given as goal
 
 abbrev pub invariant-loop-bond : goal.invariant-loop-bond

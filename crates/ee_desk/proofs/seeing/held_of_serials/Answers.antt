@@ -1,6 +1,4 @@
-use Rattle.std.proofs.Common.{◌≡◌, sym, ap, ◌∙◌, get_or}
-use Rattle.ee_units.specs.Spelling.{SerialNumber}
-use Rattle.std.specs.FinMap as finite
+use Rattle.std.proofs.Common.{sym, ◌∙◌}
 use Rattle.ee_acts.specs.Seen.{held_of}
 use Rattle.ee_acts.proofs.Maps.{serials_total, exact_serials}
 use Rattle.ee_desk.specs.Kept.{noted}

@@ -3,9 +3,8 @@ use Rattle.std.specs.Option.{option_map_or}
 use Rattle.std.specs.FinMap as finite
 use Rattle.std.specs.FinMap.{nat_cmp-IsAntisymmetric}
 use Rattle.std.specs.Cmp.{nat_cmp_total}
-use Rattle.ee_acts.specs.Seen.{held_of}
-use Rattle.ee_acts.proofs.Maps.{serials_total, exact_serials, one_more}
-use Rattle.ee_desk.specs.Kept.{rates_in, held_in}
+use Rattle.ee_acts.proofs.Maps.{one_more}
+use Rattle.ee_desk.specs.Kept.{rates_in}
 use Rattle.ee_desk.proofs.seeing.note_rate.Goals as goal
 
 pub returns-in_ok-insert : goal.returns-in_ok-insert

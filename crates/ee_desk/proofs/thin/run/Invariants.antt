@@ -1,4 +1,4 @@
-use Rattle.std.proofs.Common.{◌≡◌, ◌≤◌, [], length, take, vec_len, vec_capacity}
+use Rattle.std.proofs.Common.{◌≡◌, [], length, take, vec_len, vec_capacity}
 use Rattle.ee_acts.specs.Contents.{content_after}
 use Rattle.ee_acts.specs.Answers.{served, AreAnswers}
 use Rattle.ee_desk.proofs.thin.run.Given as goal

@@ -2,8 +2,6 @@ use Rattle.std.proofs.Common.{rules, ◌≡◌, sym, ap, ◌∙◌}
 use Rattle.std.specs.Map.{lookup}
 use Rattle.std.specs.BTreeMap.{is_at}
 use Rattle.std.specs.FinMap as finite
-use Rattle.std.specs.Ordering.{nat_cmp}
-use Rattle.std.specs.Cmp.{nat_cmp_total}
 use Rattle.ee_acts.specs.Serials.{serial_cmp}
 use Rattle.ee_acts.proofs.Maps.{get_lookup, serials_total}
 use Rattle.ee_decide.proofs.views.View.held.Goals as goal

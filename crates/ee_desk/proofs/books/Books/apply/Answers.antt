@@ -20,4 +20,4 @@ invariant_of-self c =
     let decided = subst (λ (b : PlainBooks). AreDecided b c.args.effects.now) (sym c.self.view_is) c.requires in
     let ranges = subst (AllByRecursion IsInRange) c.as_slice.ensures c.in_range.ensures in
     sound_after c.apply.result c.self.inside.ledger c.apply.new.self c.args.effects.now ranges decided
-        (subst (λ (cs : List Change). OnOk c.apply.result (c.apply.new.self ≡ applied c.self.inside.ledger cs)) c.as_slice-2.ensures c.apply.ensures.ok) c.apply.ensures.err c.self.invariant
+    (subst (λ (cs : List Change). OnOk c.apply.result (c.apply.new.self ≡ applied c.self.inside.ledger cs)) c.as_slice-2.ensures c.apply.ensures.ok) c.apply.ensures.err c.self.invariant

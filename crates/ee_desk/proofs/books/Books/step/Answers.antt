@@ -1,4 +1,4 @@
-use Rattle.std.proofs.Common.{ap, ◌∙◌, ◌≡◌}
+use Rattle.std.proofs.Common.{ap, ◌∙◌}
 use Rattle.ee_acts.specs.declared.changes.Effects.{Effects}
 use Rattle.ee_acts.specs.Acts.{applied}
 use Rattle.ee_acts.proofs.Seeing.{seen_enough, applied_is}

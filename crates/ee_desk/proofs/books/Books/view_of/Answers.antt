@@ -1,7 +1,5 @@
-use Rattle.std.proofs.Common.{ℕ, arith}
-use Rattle.std.specs.Option.{IfSome}
+use Rattle.std.proofs.Common.{arith}
 use Rattle.std.specs.FinMap as finite
-use Rattle.ee_acts.specs.Sound.{IsRightRate}
 use Rattle.ee_acts.proofs.Bounds.{tickets_small}
 use Rattle.ee_desk.proofs.Outcomes.{settled_if}
 use Rattle.ee_desk.proofs.books.Books.view_of.Goals as goal

@@ -1,4 +1,4 @@
-use Rattle.std.proofs.Common.{rules, ◌≡◌, ◌<◌, length, subst, ap, sym, ◌∙◌, arith}
+use Rattle.std.proofs.Common.{rules, ◌<◌, length, subst, ◌∙◌}
 use Rattle.ee_desk.proofs.Applied.{FirstSays, first_says, rates_applied, bonds_applied}
 use Rattle.ee_desk.proofs.Outcomes.{on_ok}
 use Rattle.ee_desk.proofs.ledger.Ledger.apply.Goals as goal

@@ -4,8 +4,7 @@ use Rattle.std.specs.BTreeMap.{is_at}
 use Rattle.std.specs.FinMap as finite
 use Rattle.std.specs.Ordering.{nat_cmp}
 use Rattle.std.specs.Cmp.{nat_cmp_total}
-use Rattle.ee_acts.specs.Serials.{serial_cmp}
-use Rattle.ee_acts.proofs.Maps.{get_lookup, serials_total}
+use Rattle.ee_acts.proofs.Maps.{get_lookup}
 use Rattle.ee_desk.proofs.ledger.Ledger.rates.Goals as goal
 
 pub returns : goal.returns

@@ -1,7 +1,6 @@
-use Rattle.std.proofs.Common.{◌≡◌, ap, sym, ◌∙◌}
+use Rattle.std.proofs.Common.{◌≡◌, ap, ◌∙◌}
 use Rattle.std.specs.FinMap as finite
 use Rattle.ee_acts.specs.declared.changes.Effects.{Effects}
-use Rattle.ee_acts.specs.declared.changes.Kept.{Kept}
 use Rattle.ee_acts.specs.declared.replies.Reply.{Reply}
 use Rattle.ee_acts.specs.Numbers.{number_of}
 use Rattle.ee_acts.specs.Acts.{applied, books_after, reply_to}
@@ -22,13 +21,13 @@ returns-in-Ok-clause-reply c =
 pub returns-in-Ok-clause-content : goal.returns-in-Ok-clause-content
 returns-in-Ok-clause-content c =
     let reply : c.in_ok-effects.effects.reply ≡ reply_to c.args.self.now.books c.args.request.now.act =
-        ap (λ (e : Effects). e.reply) (c.in_ok-effects.ensures ∙ seen_enough c.self.inside.books c.args.request.now.act)
-        ∙ ap (λ (S : Content). reply_to S.books c.args.request.now.act) c.self.view_is in
+    ap (λ (e : Effects). e.reply) (c.in_ok-effects.ensures ∙ seen_enough c.self.inside.books c.args.request.now.act)
+    ∙ ap (λ (S : Content). reply_to S.books c.args.request.now.act) c.self.view_is in
     let kept = c.in_ok-kept.ensures ∙ ap (λ (r : Reply). record { act = c.args.request.now.act; reply = r }) reply in
     decided c.args.self.now (record { books = c.apply.new.self; kept = kept_in c.keep.new.kept.entries }) c.args.request.now c.requires
-        (c.in-Ok.ensures.ok ∙ ap (λ (e : Effects). applied c.self.inside.books e.changes) c.in_ok-effects.ensures ∙ applied_is c.self.inside.books c.args.request.now.act
-            ∙ ap (λ (S : Content). books_after S.books c.args.request.now.act) c.self.view_is)
-        (c.in_ok-keep.ensures.ok ∙ (λ i. finite.insert (c.self.view_is i).kept (number_of c.args.request.now) (kept i)))
+    (c.in-Ok.ensures.ok ∙ ap (λ (e : Effects). applied c.self.inside.books e.changes) c.in_ok-effects.ensures ∙ applied_is c.self.inside.books c.args.request.now.act
+    ∙ ap (λ (S : Content). books_after S.books c.args.request.now.act) c.self.view_is)
+    (c.in_ok-keep.ensures.ok ∙ (λ i. finite.insert (c.self.view_is i).kept (number_of c.args.request.now) (kept i)))
 
 pub returns-clause-err : goal.returns-clause-err
 returns-clause-err c =
@@ -36,5 +35,5 @@ returns-clause-err c =
     let none = ap (λ (S : Content). finite.get S.kept number) c.self.view_is ∙ c.requires in
     let kept = c.forget.ensures ∙ ap (λ m. finite.remove m number) c.in_ok-keep.ensures.ok ∙ forgotten (kept_in c.self.inside.kept.entries) number c.in_ok-kept.kept none in
     let back : ◌≡◌ {A = Content} (record { books = c.apply.new.self; kept = kept_in c.forget.new.kept.entries }) (record { books = c.self.inside.books; kept = kept_in c.self.inside.kept.entries }) =
-        (λ i. record { books = c.in-Err.ensures.err i; kept = kept i }) in
+    (λ i. record { books = c.in-Err.ensures.err i; kept = kept i }) in
     back ∙ c.self.view_is
