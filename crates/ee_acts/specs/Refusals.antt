@@ -1,4 +1,4 @@
--- When an act is refused, in the one order of the tests (this project's rule; eligibility: 31 CFR 351.35, payees: 31 CFR 353.37).
+-- When an act is refused, in the one order of the tests (this project's rule; eligibility: 31 CFR Part 351, payees: 31 CFR Part 353).
 use Rattle.std.specs.Prelude.{ℕ, ◌-◌, Bool, false, not, ◌==◌, nat_lt, nat_le, List, [], ◌∷◌, ◌++◌, length, is_some, is_none, find, Option, Some, None, if◌then◌else◌}
 use Rattle.std.specs.Option.{option_map, option_or, option_map_or}
 use Rattle.std.specs.List.{list_any}

@@ -252,15 +252,10 @@ fn refusal_of_day(opened: Option<Day>, day: Day) -> Option<Refusal>
 }
 
 /// A serial through the tests of its own.
-fn refusal_of_held(
-    month: Month,
-    payee: Customer,
-    serial: Serial,
-    held: Option<Held>,
-) -> Option<Refusal>
-    ensures { result ≡ is.refusal_of_held month payee serial held }
+fn refusal_of_serial(view: &View, month: Month, payee: Customer, serial: Serial) -> Option<Refusal>
+    ensures { result ≡ is.refusal_of_serial (shown_by view.now) month payee serial }
 {
-    let Some(Held { bond, ticket }) = held else {
+    let Some(Held { bond, ticket }) = view.held(serial) else {
         return Some(Refusal::UnknownSerial(serial));
     };
     if !is_payee(&bond, payee) {
@@ -288,7 +283,7 @@ fn first_unpayable(
     ensures { result ≡ is.first_of (is.refusal_of_serial (shown_by view.now) month payee) serials.now }
 {
     for serial in serials {
-        if let Some(refusal) = refusal_of_held(month, payee, *serial, view.held(*serial)) {
+        if let Some(refusal) = refusal_of_serial(view, month, payee, *serial) {
             return Some(refusal);
         }
     }

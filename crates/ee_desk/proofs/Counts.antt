@@ -5,11 +5,10 @@ use Rattle.std.proofs.lemmas.Bool.{eq-eqb}
 use Rattle.std.proofs.lemmas.List.Elements.{filter-append}
 use Rattle.std.proofs.lemmas.List.Sums.{sum_by-append}
 use Rattle.ee_acts.specs.declared.replies.Ticket.{Ticket}
-use Rattle.std.proofs.Common.{◌<◌, Option, subst}
+use Rattle.std.proofs.Common.{Option, subst}
 use Rattle.ee_acts.specs.PlainBooks.{of_day, batch_so_far, bonds_on, total_of}
 use Rattle.ee_decide.specs.declared.views.DayCounts.{DayCounts}
 use Rattle.ee_desk.specs.Kept.{AreCounts}
-use Rattle.ee_desk.specs.Applicable.{HasRoom}
 
 pub of_day_push : (tickets : List Ticket) (t : Ticket) → of_day t.day (tickets ++ t ∷ []) ≡ of_day t.day tickets ++ t ∷ []
 of_day_push tickets t =
@@ -41,19 +40,3 @@ counts_more day tickets pushed t counts now are opened push one two three =
     let z = sum_push total_of tickets t in
     subst (λ (p : Option ℕ × List Ticket). AreCounts (batch_so_far p.0 p.1) now) (λ i. (sym opened i, sym push i))
     (omega (arith, one, a, x), omega (arith, two, b, y), omega (arith, three, c, z))
-
--- with room for the ticket no count overflows
-pub room_for : (day : Option ℕ) (tickets : List Ticket) (t : Ticket) (counts : DayCounts) → AreCounts (batch_so_far day tickets) counts → day ≡ Some t.day → HasRoom tickets t
-    → (counts.tickets + 1 < 4294967296) × (counts.bonds + length t.lines < 4611686018427387904) × (counts.total.0 + t.total.0 < 4611686018427387904)
-room_for day tickets t counts are opened room =
-    let old = subst (λ o. AreCounts (batch_so_far o tickets) counts) opened are in
-    let a = old.0 in
-    let b = old.1 in
-    let c = old.2 in
-    let x = count_push tickets t in
-    let y = sum_push bonds_on tickets t in
-    let z = sum_push total_of tickets t in
-    let p = room.0 in
-    let q = room.1 in
-    let r = room.2 in
-    (omega (arith, a, x, p), omega (arith, b, y, q), omega (arith, c, z, r))

@@ -17,4 +17,5 @@ pub use ee_acts::{
     Act, Batch, Change, Effects, Held, Kept, Line, Number, RateRow, Refusal, Reply, Request, Rows,
     Ticket, Unserved,
 };
+pub use ee_calculator::Bond;
 pub use ee_decide::{DayCounts, View, decide};
