@@ -104,9 +104,15 @@ fn timed(
     let answers = run(rt.alloc(), keeper, requests)?;
     let nanos = start.elapsed(rt)?.as_nanos();
     let (count, total) = paid(answers.as_slice());
-    println!(rt; "{what}: {} answers, {count} tickets, {total} cents", answers.len())?;
+    println!(rt;
+        "{what}: {} answers, {count} tickets, {total} cents",
+        answers.len()
+    )?;
     let one = nanos / (answers.len() as u128).max(1);
-    eprintln!(rt; "{what}: {one} ns a request, {} a second", 1_000_000_000 / one.max(1))?;
+    eprintln!(rt;
+        "{what}: {one} ns a request, {} a second",
+        1_000_000_000 / one.max(1)
+    )?;
     Ok(())
 }
 
