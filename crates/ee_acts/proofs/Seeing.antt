@@ -7,7 +7,7 @@ use Rattle.std.specs.Ordering.{nat_cmp, eq_by_cmp}
 use Rattle.std.specs.Cmp.{nat_cmp_total}
 use Rattle.std.proofs.lemmas.Map.Lookups.{exact_unsigned}
 use Rattle.ee_units.specs.Spelling.{SerialNumber}
-use Rattle.ee_acts.specs.declared.acts.RateRow.{RateRow}
+use Rattle.ee_value.specs.declared.rates.RateRow.{RateRow}
 use Rattle.ee_calculator.specs.declared.bonds.Bond.{Bond}
 use Rattle.ee_acts.specs.declared.changes.Held.{Held}
 use Rattle.ee_acts.specs.declared.acts.Act.{Act}

@@ -6,16 +6,9 @@ ghost use Rattle.ee_acts.specs.PlainBooks.{same_bond};
 use crate::numbers::Number;
 use crate::rows::Rows;
 use ee_calculator::Bond;
-use ee_units::{Customer, Day, IssueMonth, Serial};
-use ee_value::Rates;
+use ee_units::{Customer, Day, Serial};
+use ee_value::RateRow;
 use std::alloc::AllocError;
-
-/// The rates of the bonds that are issued in the six months from a May or November on.
-#[derive(Clone, Copy, Debug, PartialEq, Eq)]
-pub struct RateRow {
-    pub from: IssueMonth,
-    pub rates: Rates,
-}
 
 /// What a desk is asked to do. Each act is done whole or not at all.
 #[derive(Debug, Drop, PartialEq, Eq)]

@@ -10,8 +10,9 @@ mod refusals;
 mod replies;
 mod rows;
 
-pub use acts::{Act, RateRow, Request};
+pub use acts::{Act, Request};
 pub use changes::{Change, Effects, Held, Kept};
+pub use ee_value::RateRow;
 pub use laws::{one_view, same_acts};
 pub use numbers::Number;
 pub use refusals::{Refusal, Unserved};

@@ -12,7 +12,7 @@ use Rattle.ee_units.specs.Calendar.{month_of_day}
 use Rattle.ee_units.specs.Spelling.{SerialNumber}
 use Rattle.ee_value.specs.declared.rates.Rates.{Rates}
 use Rattle.ee_calculator.specs.declared.bonds.Bond.{Bond}
-use Rattle.ee_acts.specs.declared.acts.RateRow.{RateRow}
+use Rattle.ee_value.specs.declared.rates.RateRow.{RateRow}
 use Rattle.ee_acts.specs.declared.acts.Act.{Act}
 use Rattle.ee_acts.specs.declared.acts.Act.TheVariants.{AddRates, AddBonds, OpenDay, Redeem, CloseDay}
 use Rattle.ee_acts.specs.declared.refusals.Refusal.{Refusal}

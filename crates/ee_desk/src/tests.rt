@@ -484,6 +484,9 @@ fn what_was_served_stands(rt: HostRuntime) -> Result<(), Fail> {
     requests.push(ask(6, close(DAY)?)?)?;
     let mut keeper = ListKeeper::empty(alloc);
     let answers = run(alloc, &mut keeper, requests.as_slice())?;
+    if answers.iter().any(|answer| answer.is_err()) {
+        println!(rt; "refused: a delivery")?;
+    }
     let mut ample = ListKeeper::empty(alloc);
     for (request, answer) in requests.iter().zip(&answers) {
         if answer.is_ok() {
