@@ -62,7 +62,7 @@ cents_back n fits =
     let value : 100 * (n / 100) + n % 100 ≡ n = omega arith in
     let top : n ≤ 2 ^ 64 - 1 = omega (arith, fits) in
     rw (parts_at-joined 46 (decimal (n / 100)) (two_digits (n % 100)) refl w.digits, number_of-writes 18 (decimal (n / 100)) (n / 100) w, digits_of-writes 2 (two_digits (n % 100)) (n % 100) (two_fits (n % 100) part), value)
-      (in_range_back 0 (2 ^ 64 - 1) n (omega arith) top)
+    (in_range_back 0 (2 ^ 64 - 1) n (omega arith) top)
 
 pub denom_back : (d : Denom) → denom_with (dollars d) ≡ Some d
 denom_back denom.Fifty = refl

@@ -8,7 +8,7 @@ use Rattle.json.specs.Tree as tree
 use Rattle.json.proofs.Printed.Tokens.{tokens-print}
 use Rattle.json.proofs.Printed.Decimals.{IsNumber-decimal}
 use Rattle.json.proofs.Printed.Trees.{value-json_tokens, ArePrintable-json_tokens}
-use Rattle.serde_json.specs.Data.{Data, Items, string, object, member, no_members}
+use Rattle.serde_json.specs.Data.{Data, Items, object, member, no_members}
 use Rattle.serde_json.specs.Read.{read, of_json, of_items, max_depth}
 use Rattle.serde_json.specs.View.{items_of}
 use Rattle.serde_json.specs.Written.{outline, items_outline, compact_text}
@@ -30,8 +30,8 @@ use Rattle.ee_acts.specs.declared.refusals.Refusal.{Refusal}
 use Rattle.ee_acts.specs.declared.refusals.Refusal.TheVariants as refusal
 use Rattle.ee_texts.specs.declared.refusals.Named.{Named}
 use Rattle.ee_texts.specs.declared.refusals.Named.TheVariants as named
-use Rattle.ee_texts.specs.Data.{number_data, month_data, serial_data, with_coowner, rate_row_data, bond_data, act_data, line_data, ticket_data, batch_data, names, refused_data, refusal_data, reply_data}
-use Rattle.ee_texts.specs.Ranges.{IsCustomer, IsCount, IsSerial, RateRowFits, BondFits, ActFits, LineFits, TicketFits, BatchFits, NamedFits, ReplyFits}
+use Rattle.ee_texts.specs.Data.{number_data, month_data, serial_data, with_coowner, rate_row_data, bond_data, act_data, line_data, ticket_data, batch_data, names, refused_data, reply_data}
+use Rattle.ee_texts.specs.Ranges.{IsCustomer, IsSerial, RateRowFits, BondFits, ActFits, LineFits, TicketFits, BatchFits, NamedFits, ReplyFits}
 use Rattle.ee_texts.proofs.Amounts.{dollars_small}
 
 -- what reads back at some depth
@@ -50,7 +50,7 @@ data_back d r =
     let ts = tree.json_tokens (outline d) in
     let text : tokens (compact_text d) ≡ ts ++ [] = ap tokens (sym (print-outline d)) ∙ tokens-print ts (ArePrintable-json_tokens (outline d) r.numbers) ∙ sym (append-nil ts) in
     ap (λ v. option_and_then of_json (option_and_then (λ p. json.if_last p.0 p.1) v))
-      (ap (json.value max_depth) text ∙ value-json_tokens (outline d) max_depth [] r.level)
+    (ap (json.value max_depth) text ∙ value-json_tokens (outline d) max_depth [] r.level)
     ∙ r.same
 
 -- a list of rows, each of which reads back

@@ -1,6 +1,5 @@
 -- The JSON of an act, and of a reply, is read as it; so what a text was written of is read from it, and nothing else.
-use Rattle.std.proofs.Common.{◌≡◌, ℕ, ◌≤◌, Bool, false, List, [], ◌∷◌, Some, None, Option, IfSome, refl, sym, ap, ◌∙◌, arith, map, option_and_then, bytes_eq}
-use Rattle.std.specs.Prelude.{codes}
+use Rattle.std.proofs.Common.{◌≡◌, ℕ, false, List, [], ◌∷◌, Some, None, Option, IfSome, refl, sym, ap, ◌∙◌, arith, map, option_and_then, bytes_eq}
 use Rattle.std.specs.List.{AllByRecursion}
 use Rattle.std.proofs.lemmas.Bool.{false≢true}
 use Rattle.std.proofs.lemmas.Slice.Eq.{bytes_eq-Decides}

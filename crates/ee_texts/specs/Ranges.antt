@@ -1,5 +1,5 @@
 -- Acts and replies whose plain numbers are in the ranges of their types, as all that a program holds are.
-use Rattle.std.specs.Prelude.{ℕ, ◌^◌, ◌<◌, ◌≤◌, Option, Some, None, IfSome, ⊤}
+use Rattle.std.specs.Prelude.{ℕ, ◌^◌, ◌<◌, ◌≤◌, IfSome, ⊤}
 use Rattle.std.specs.List.{AllByRecursion}
 use Rattle.ee_units.specs.Spelling.{SerialNumber}
 use Rattle.ee_value.specs.Chain.{InRange}

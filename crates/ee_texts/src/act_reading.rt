@@ -35,7 +35,10 @@ fn rate_row_of(value: &Value) -> Option<RateRow>
 {
     let from = issue_at(value, "from")?;
     let fixed = read_rate(text_at(value, "rate")?).ok()?;
-    Some(RateRow { from, rates: Rates { fixed } })
+    Some(RateRow {
+        from,
+        rates: Rates { fixed },
+    })
 }
 
 fn rate_rows_of(alloc: Global, values: &[Value]) -> Result<Option<Vec<RateRow>>, AllocError>

@@ -92,7 +92,12 @@ fn open_value(alloc: Global, day: Day) -> Result<Value, AllocError>
     json!(in alloc; {"act": "open", "day": day})
 }
 
-fn redeem_value(alloc: Global, day: Day, payee: Customer, serials: &[Serial]) -> Result<Value, AllocError>
+fn redeem_value(
+    alloc: Global,
+    day: Day,
+    payee: Customer,
+    serials: &[Serial],
+) -> Result<Value, AllocError>
     ensures { IfOk result (λ v. view v ≡ act_data (act.Redeem day payee serials.now)) }
 {
     let day = day_value(alloc, day)?;

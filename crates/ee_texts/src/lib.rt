@@ -19,3 +19,6 @@ pub use acts::canonical;
 pub use laws::texts_law;
 pub use replies::reply_text;
 pub use reply_reading::read_reply;
+
+#[cfg(test)]
+mod tests;

@@ -39,7 +39,11 @@ fn number(text: &str, most: usize) -> Option<u64>
 fn two_digits(text: &str) -> Option<u64>
     ensures { result ≡ digits_of 2 text.now }
 {
-    if text.len() == 2 { number(text, 2) } else { None }
+    if text.len() == 2 {
+        number(text, 2)
+    } else {
+        None
+    }
 }
 
 #[tactic(auto, unfolding(ee_units::specs::Spelling::parts_at))]

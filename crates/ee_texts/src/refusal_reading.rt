@@ -21,7 +21,12 @@ fn age_at(value: &Value, key: &str) -> Option<Age>
     }
 }
 
-fn named_by(serial: Option<Serial>, ticket: Option<u64>, month: Option<IssueMonth>, age: Option<Age>) -> Named
+fn named_by(
+    serial: Option<Serial>,
+    ticket: Option<u64>,
+    month: Option<IssueMonth>,
+    age: Option<Age>,
+) -> Named
     ensures { result ≡ named_by serial ticket month age }
 {
     match (serial, ticket, month, age) {
@@ -38,7 +43,12 @@ fn named_of(value: &Value) -> Named
 {
     let serial = serial_at(value, "serial");
     let ticket = count_at(value, "ticket");
-    named_by(serial, ticket, issue_at(value, "month"), age_at(value, "month"))
+    named_by(
+        serial,
+        ticket,
+        issue_at(value, "month"),
+        age_at(value, "month"),
+    )
 }
 
 fn refusal_of_nothing(code: u64) -> Option<Refusal>
