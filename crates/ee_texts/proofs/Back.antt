@@ -18,7 +18,7 @@ use Rattle.ee_units.specs.Spelling.{SerialNumber}
 use Rattle.ee_units.specs.Denoms.{dollars}
 use Rattle.ee_calculator.specs.declared.bonds.Bond.{Bond}
 use Rattle.ee_acts.specs.Codes.{code_of, name_of}
-use Rattle.ee_acts.specs.declared.acts.RateRow.{RateRow}
+use Rattle.ee_value.specs.declared.rates.RateRow.{RateRow}
 use Rattle.ee_acts.specs.declared.acts.Act.{Act}
 use Rattle.ee_acts.specs.declared.acts.Act.TheVariants as act
 use Rattle.ee_acts.specs.declared.replies.Line.{Line}

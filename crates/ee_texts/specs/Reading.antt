@@ -7,7 +7,7 @@ use Rattle.ee_units.specs.Spelling.{◌>>=◌, SerialNumber, in_range, parts_at,
 use Rattle.ee_units.specs.declared.denoms.Denom.{Denom}
 use Rattle.ee_units.specs.declared.denoms.Denom.TheVariants as denom
 use Rattle.ee_calculator.specs.declared.bonds.Bond.{Bond}
-use Rattle.ee_acts.specs.declared.acts.RateRow.{RateRow}
+use Rattle.ee_value.specs.declared.rates.RateRow.{RateRow}
 use Rattle.ee_acts.specs.declared.acts.Act.{Act}
 use Rattle.ee_acts.specs.declared.acts.Act.TheVariants as act
 use Rattle.ee_acts.specs.declared.replies.Line.{Line}
