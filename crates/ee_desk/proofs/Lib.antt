@@ -6,3 +6,6 @@ pub mod Picked
 pub mod Counts
 pub mod Applied
 pub mod Deciding
+pub mod Ordered
+pub mod OwnBonds
+pub mod Batches

@@ -6,6 +6,7 @@ mod additions;
 mod books;
 mod ledger;
 mod marks;
+mod queries;
 mod ranges;
 mod seeing;
 #[cfg(test)]
