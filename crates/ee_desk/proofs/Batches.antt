@@ -10,8 +10,8 @@ use Rattle.ee_acts.specs.PlainBooks.{batch_of}
 pub found_is_right : (tickets : List Ticket) (day : ℕ) (batches : List Batch) → AllByRecursion (λ batch. batch ≡ batch_of batch.day tickets) batches
     → IfSome (find (λ batch. batch.day == day) batches) (λ batch. batch ≡ batch_of day tickets)
 found_is_right tickets day [] h = tt
-found_is_right tickets day (batch ∷ batches) h = at (batch.day == day) refl
+found_is_right tickets day (batch ∷ batches) h = at (found_is_right tickets day batches h.1) (batch.day == day) refl
   where
-    at : (b : Bool) → (batch.day == day) ≡ b → IfSome (cond b (Some batch) (find (λ batch. batch.day == day) batches)) (λ batch. batch ≡ batch_of day tickets)
-    at true is = h.0 ∙ ap (λ d. batch_of d tickets) (eqb-true batch.day day is)
-    at false is = found_is_right tickets day batches h.1
+    at : IfSome (find (λ batch. batch.day == day) batches) (λ batch. batch ≡ batch_of day tickets) → (b : Bool) → (batch.day == day) ≡ b → IfSome (cond b (Some batch) (find (λ batch. batch.day == day) batches)) (λ batch. batch ≡ batch_of day tickets)
+    at rest true is = h.0 ∙ ap (λ d. batch_of d tickets) (eqb-true batch.day day is)
+    at rest false is = rest

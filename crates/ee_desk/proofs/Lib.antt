@@ -9,3 +9,4 @@ pub mod Deciding
 pub mod Ordered
 pub mod OwnBonds
 pub mod Batches
+pub mod SheetRows

@@ -28,7 +28,7 @@ module _ {K V : Type 0} {R : K → K → Ordering} (o : IsTotalOrder R) (P : K �
   after : (e : K × V) (es : List (K × V)) (q : K) → IsStrictlySortedBy R (keys_of (e ∷ es)) → (b : Bool) → is_at (R q) e.0 ≡ b
       → IfSome (cond b (Some e.1) (lookup (is_at (R q)) es)) (P q) → IfSome (lookup (is_at (R q)) es) (P q)
   after e es q h true is p =
-      let none = lookup-none (is_at (R q)) es (none_past_head (eq_by_cmp_equiv o) q e es (IsDistinct-from_sorted o (keys_of (e ∷ es)) h) is) in
+      let none = lookup-none (is_at (R q)) es (none_past_head (eq_by_cmp_equiv o) q e es (IsDistinct-from_sorted R (keys_of (e ∷ es)) h) is) in
       subst (λ (v : Option V). IfSome v (P q)) (sym none) tt
   after e es q h false is p = p
 

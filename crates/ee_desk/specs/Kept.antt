@@ -63,3 +63,7 @@ noted_at look found key = option_map_or (λ k. noted look found k) key found
 -- an unpaid bond of this customer
 abbrev pub own_bond : ℕ → Held → Option Bond
 own_bond customer held = if (held.bond.owner == customer) && is_none held.ticket then Some held.bond else None
+
+-- each bond stands under its serial
+abbrev pub AreKeyed : PlainBooks → Type 0
+AreKeyed books = (serial : SerialNumber) → IfSome (finite.get books.bonds serial) (λ bond. bond.serial ≡ serial)
