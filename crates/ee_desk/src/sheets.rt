@@ -1,8 +1,10 @@
 //! Rows of bonds, at the rates of a ledger.
 
-ghost use Rattle.std.specs.Prelude.{◌≡◌, ◌++◌, [], map, Some, None, IfOk, OnOk};
+ghost use Rattle.std.specs.Prelude.{◌≡◌, ◌++◌, [], map, Some, None, IfOk, IfSome, OnOk};
 ghost use Rattle.std.specs.Option.{option_map};
 ghost use Rattle.std.specs.List.{filter_map, cons_option};
+ghost use Rattle.std.specs.FinMap as finite;
+ghost use Rattle.ee_units.specs.Calendar.{period_start};
 ghost use Rattle.ee_acts.specs.Values.{unsettled};
 ghost use Rattle.ee_acts.specs.Queries as is;
 ghost use Rattle.ee_acts.specs.Queries.{shown_in_row};
@@ -11,7 +13,7 @@ ghost use Rattle.ee_decide.specs.Settled.{AreSettled};
 use crate::ledger::Ledger;
 use ee_calculator::{Bond, Row, plain_row, row};
 use ee_units::calendar::period_of;
-use ee_units::{Bits, Denom, IssueMonth, Month};
+use ee_units::{Bits, Denom, IssueMonth, Month, Rate};
 use ee_value::{Rates, UnitTable, ValueFault, unit_table};
 use std::alloc::{AllocError, Global};
 
@@ -51,18 +53,28 @@ fn plain_row_at(
     Ok(plain_row(denom, issued, *rates, &table, month))
 }
 
-/// The row of a bond at the rates of its issue period, where there are rates.
+/// The rate that a bond earns by, where there are rates for its issue period.
+fn rate_of(ledger: &Ledger, bond: &Bond) -> Option<Rate>
+    ensures { option_map (λ fixed. record { fixed = fixed }) result ≡ finite.get ledger.now.rates (period_start bond.now.issued) }
+{
+    match ledger.rates(period_of(bond.issued)) {
+        Some(rates) => Some(rates.fixed),
+        None => None,
+    }
+}
+
+/// The row of a bond, where there is a rate.
 fn row_of(
     alloc: Global,
-    ledger: &Ledger,
+    rate: Option<Rate>,
     bond: &Bond,
     month: Month,
 ) -> Result<Option<Row>, AllocError>
-    requires { AreSettled ledger.now.rates }
-    ensures { IfOk result (λ row. option_map shown_in_row row ≡ is.row_of ledger.now.rates month bond.now) }
+    requires { IfSome rate (λ fixed. unsettled (record { fixed = fixed }) ≡ None) }
+    ensures { IfOk result (λ row. option_map shown_in_row row ≡ option_map (λ fixed. is.plain_row (Some bond.now.serial) bond.now.denom bond.now.issued month (record { fixed = fixed })) rate) }
 {
-    match ledger.rates(period_of(bond.issued)) {
-        Some(rates) => Ok(Some(row_at(alloc, &rates, bond, month)?)),
+    match rate {
+        Some(fixed) => Ok(Some(row_at(alloc, &Rates { fixed }, bond, month)?)),
         None => Ok(None),
     }
 }
@@ -105,7 +117,8 @@ pub fn rows_of(
 {
     let mut rows = Vec::new(alloc);
     for bond in bonds {
-        let row = row_of(alloc, ledger, bond, month)?;
+        let rate = rate_of(ledger, bond);
+        let row = row_of(alloc, rate, bond, month)?;
         push_some(&mut rows, row)?;
     }
     Ok(rows)
