@@ -12,7 +12,7 @@ mod rows;
 
 pub use acts::{Act, RateRow, Request};
 pub use changes::{Change, Effects, Held, Kept};
-pub use laws::{one_view, same_acts};
+pub use laws::{one_view, same_acts, shows_own_bonds_alone};
 pub use numbers::Number;
 pub use refusals::{Refusal, Unserved};
 pub use replies::{Batch, Line, Reply, Ticket};
