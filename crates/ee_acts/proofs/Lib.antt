@@ -10,3 +10,4 @@ pub mod Bounds
 pub mod PaidRight
 pub mod KeptReplies
 pub mod Turns
+pub mod Inventories

@@ -17,3 +17,4 @@ pub mod Numbers
 pub mod Repeats
 pub mod Contents
 pub mod Answers
+pub mod Queries

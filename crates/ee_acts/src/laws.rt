@@ -1,16 +1,23 @@
 //! Laws of the definitions: a body does nothing, and the clauses are the laws.
 
-ghost use Rattle.std.specs.Prelude.{◌≡◌, ◌↔◌, true};
+ghost use Rattle.std.specs.Prelude.{◌≡◌, ◌↔◌, ℕ, true};
 ghost use Rattle.ee_acts.specs.declared.acts.Act.{Act};
 ghost use Rattle.ee_acts.specs.PlainBooks.{PlainBooks};
 ghost use Rattle.ee_acts.specs.Seen.{shown};
 ghost use Rattle.ee_acts.specs.Views.{view_of};
 ghost use Rattle.ee_acts.specs.Acts.{same_act};
 ghost use Rattle.ee_acts.specs.Effects.{effects_of};
+ghost use Rattle.ee_acts.specs.Queries.{bonds_of, inventory};
 
 /// Two books of which an act sees the same have the same effects.
 pub const fn one_view()
     ensures { (one other : PlainBooks) (asked : Act) → view_of one asked ≡ view_of other asked → effects_of (shown one) asked ≡ effects_of (shown other) asked }
+{}
+
+/// An inventory shows that owner's unpaid bonds, the rates and the month alone: books that agree
+/// there have the same sheet.
+pub const fn shows_own_bonds_alone()
+    ensures { (one other : PlainBooks) (customer month : ℕ) → one.rates ≡ other.rates → bonds_of one customer ≡ bonds_of other customer → inventory one customer month ≡ inventory other customer month }
 {}
 
 /// Acts that compare as the same are equal.

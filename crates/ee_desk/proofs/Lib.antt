@@ -6,3 +6,7 @@ pub mod Picked
 pub mod Counts
 pub mod Applied
 pub mod Deciding
+pub mod Ordered
+pub mod OwnBonds
+pub mod Batches
+pub mod SheetRows

@@ -1,5 +1,5 @@
 -- How the maps in memory are read.
-use Rattle.std.specs.Prelude.{◌≡◌, ℕ, Bool, List, Option, Some, IfSome, map, if◌then◌else◌}
+use Rattle.std.specs.Prelude.{◌≡◌, ℕ, Bool, ◌&&◌, ◌==◌, List, Option, Some, None, IfSome, is_none, map, if◌then◌else◌}
 use Rattle.std.specs.Option.{option_map_or}
 use Rattle.std.specs.declared.cmp.Ordering.{Ordering}
 use Rattle.std.specs.Map.{lookup}
@@ -59,3 +59,11 @@ noted look found key = option_map_or (λ value. finite.insert found key value) (
 -- with what is found for a key, if there is one
 abbrev pub noted_at : {K V : Type 0} {R : K → K → Ordering} → (K → Option V) → FinMap R V → Option K → FinMap R V
 noted_at look found key = option_map_or (λ k. noted look found k) key found
+
+-- an unpaid bond of this customer
+abbrev pub own_bond : ℕ → Held → Option Bond
+own_bond customer held = if (held.bond.owner == customer) && is_none held.ticket then Some held.bond else None
+
+-- each bond stands under its serial
+abbrev pub AreKeyed : PlainBooks → Type 0
+AreKeyed books = (serial : SerialNumber) → IfSome (finite.get books.bonds serial) (λ bond. bond.serial ≡ serial)

@@ -1,18 +1,23 @@
-ghost use Rattle.std.specs.Prelude.{◌≡◌, IfOk, OnOk, OnErr};
+ghost use Rattle.std.specs.Prelude.{◌≡◌, IfOk, IfSome, OnOk, OnErr};
+ghost use Rattle.std.specs.Option.{option_map};
 ghost use Rattle.ee_acts.specs.declared.acts.Act.{Act};
-ghost use Rattle.ee_acts.specs.PlainBooks.{no_books};
+ghost use Rattle.ee_acts.specs.PlainBooks.{no_books, batch_of};
 ghost use Rattle.ee_acts.specs.Sound.{IsSound};
 ghost use Rattle.ee_acts.specs.Paid.{paid_lines, NoneTwice, ArePaidRight};
 ghost use Rattle.ee_acts.specs.Conserved.{IsConserved};
 ghost use Rattle.ee_acts.specs.Effects.{effects_of};
 ghost use Rattle.ee_acts.specs.Acts.{applied, books_after, reply_to};
 ghost use Rattle.ee_acts.specs.Views.{shown_by, view_of};
+ghost use Rattle.ee_acts.specs.Queries.{ticket_numbered, batch_on, bonds_of, inventory, quote_of, shown_in_row, shown_in_sheet};
 
 use crate::ledger::Ledger;
 use crate::ranges::in_range;
 use crate::seeing;
-use ee_acts::{Act, Effects, Reply};
+use crate::sheets;
+use ee_acts::{Act, Batch, Effects, Reply, Ticket};
+use ee_calculator::{Bond, Row, Sheet, sheet};
 use ee_decide::{View, decide};
+use ee_units::{Customer, Day, Denom, IssueMonth, Month};
 use std::alloc::{AllocError, Global};
 use std::marker::Model;
 
@@ -99,5 +104,52 @@ impl Books {
         self.apply(&effects)?;
         let Effects { reply, .. } = effects;
         Ok(reply)
+    }
+}
+
+impl Books {
+    /// A copy of the ticket of a number; tickets are numbered from 1 on.
+    pub fn ticket(&self, number: u64) -> Result<Option<Ticket>, AllocError>
+        ensures { IfOk result (λ ticket. ticket ≡ ticket_numbered self.now number) }
+    {
+        self.ledger.ticket(number)
+    }
+
+    /// The batch of a closed day: how many tickets that day has, how many bonds they paid, and their
+    /// sum.
+    pub fn batch(&self, day: Day) -> Option<Batch>
+        ensures found { result ≡ batch_on self.now day }
+        ensures sums { IfSome result (λ batch. batch ≡ batch_of day self.now.tickets) }
+    {
+        self.ledger.batch(day)
+    }
+
+    /// The unpaid bonds whose owner is this customer, in order of serial.
+    pub fn bonds_of(&self, customer: Customer) -> Result<Vec<Bond>, AllocError>
+        ensures { IfOk result (λ bonds. bonds.items ≡ bonds_of self.now customer) }
+    {
+        self.ledger.bonds_of(self.alloc, customer)
+    }
+
+    /// The sheet in a month of the unpaid bonds whose owner is this customer, in order of serial.
+    pub fn inventory(&self, customer: Customer, month: Month) -> Result<Sheet, AllocError>
+        ensures { IfOk result (λ sheet. shown_in_sheet sheet ≡ inventory self.now customer month) }
+    {
+        let bonds = self.bonds_of(customer)?;
+        let rows = sheets::rows_of(self.alloc, &self.ledger, bonds.as_slice(), month)?;
+        Ok(sheet(rows))
+    }
+
+    /// The row in a month of a bond of that denomination and issue month, whether or not one is
+    /// registered; None without rates for its issue period.
+    pub fn quote(
+        &self,
+        denom: Denom,
+        issued: IssueMonth,
+        month: Month,
+    ) -> Result<Option<Row>, AllocError>
+        ensures { IfOk result (λ row. option_map shown_in_row row ≡ quote_of self.now denom issued month) }
+    {
+        sheets::quote(self.alloc, &self.ledger, denom, issued, month)
     }
 }

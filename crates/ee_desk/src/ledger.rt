@@ -1,21 +1,24 @@
 //! What a desk keeps, in memory.
 
-ghost use Rattle.std.specs.Prelude.{◌≡◌, OnOk, OnErr, [], Some};
+ghost use Rattle.std.specs.Prelude.{◌≡◌, IfOk, OnOk, OnErr, [], Some};
 ghost use Rattle.std.specs.List.{AllByRecursion};
 ghost use Rattle.std.specs.FinMap as finite;
 ghost use Rattle.ee_acts.specs.PlainBooks.{no_books, of_day, batch_so_far};
 ghost use Rattle.ee_acts.specs.Acts.{changed, applied};
 ghost use Rattle.ee_acts.specs.Seen.{held_of, open_batch};
+ghost use Rattle.ee_acts.specs.Queries.{ticket_numbered, batch_on, bonds_of};
 ghost use Rattle.ee_acts.specs.declared.changes.Change.TheVariants as change;
-ghost use Rattle.ee_desk.specs.Kept.{AreCounts};
+ghost use Rattle.ee_desk.specs.Kept.{AreCounts, AreKeyed};
 ghost use Rattle.ee_desk.specs.Added.{rate_row, bond_row, with_changes, AreNew};
 ghost use Rattle.ee_desk.specs.Applicable.{IsUnpaid, IsNextTicket, AreApplicable};
 
 use crate::additions::{add_bonds, add_rates};
 use crate::marks::mark_all;
+use crate::queries;
 use ee_acts::{Batch, Change, Held, Ticket};
+use ee_calculator::Bond;
 use ee_decide::DayCounts;
-use ee_units::{Cents, Day, IssueMonth, Serial};
+use ee_units::{Cents, Customer, Day, IssueMonth, Serial};
 use ee_value::Rates;
 use std::alloc::{AllocError, Global};
 use std::collections::BTreeMap;
@@ -200,5 +203,29 @@ impl Ledger {
         ensures { AreCounts (open_batch self.now) result }
     {
         self.counts
+    }
+}
+
+impl Ledger {
+    /// A copy of the ticket of a number.
+    pub fn ticket(&self, number: u64) -> Result<Option<Ticket>, AllocError>
+        ensures { IfOk result (λ ticket. ticket ≡ ticket_numbered self.now number) }
+    {
+        queries::ticket_numbered(self.tickets.as_slice(), number)
+    }
+
+    /// The batch of a closed day.
+    pub fn batch(&self, day: Day) -> Option<Batch>
+        ensures { result ≡ batch_on self.now day }
+    {
+        queries::batch_on(self.batches.as_slice(), day)
+    }
+
+    /// The unpaid bonds of an owner, in order of serial.
+    pub fn bonds_of(&self, alloc: Global, customer: Customer) -> Result<Vec<Bond>, AllocError>
+        requires { AreKeyed self.now }
+        ensures { IfOk result (λ bonds. bonds.items ≡ bonds_of self.now customer) }
+    {
+        queries::own_bonds(alloc, &self.bonds, customer)
     }
 }

@@ -6,8 +6,10 @@ mod additions;
 mod books;
 mod ledger;
 mod marks;
+mod queries;
 mod ranges;
 mod seeing;
+mod sheets;
 #[cfg(test)]
 mod tests;
 pub mod thin;
@@ -17,5 +19,5 @@ pub use ee_acts::{
     Act, Batch, Change, Effects, Held, Kept, Line, Number, RateRow, Refusal, Reply, Request, Rows,
     Ticket, Unserved,
 };
-pub use ee_calculator::Bond;
+pub use ee_calculator::{Bond, Row, Sheet};
 pub use ee_decide::{DayCounts, View, decide};

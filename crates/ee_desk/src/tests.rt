@@ -1,5 +1,7 @@
 use crate::thin::{ListKeeper, run};
-use crate::{Act, Line, Number, RateRow, Refusal, Reply, Request, Rows, Ticket, Unserved};
+use crate::{
+    Act, Books, Line, Number, RateRow, Refusal, Reply, Request, Rows, Sheet, Ticket, Unserved,
+};
 use ee_calculator::Bond;
 use ee_units::{Serial, read_serial};
 use ee_value::Rates;
@@ -500,5 +502,67 @@ fn what_was_served_stands(rt: HostRuntime) -> Result<(), Fail> {
     let one = settle(alloc, &mut keeper, requests.as_slice())?;
     let other = settle(alloc, &mut ample, requests.as_slice())?;
     assert_eq!(rt; one.as_str(), other.as_str());
+    Ok(())
+}
+
+fn sheet_told(alloc: Global, sheet: &Sheet) -> Result<String, Fail> {
+    let mut text = String::new(alloc);
+    for row in &sheet.rows {
+        if let Some(serial) = row.serial {
+            write!(text, "{serial} ")?;
+        }
+        let note = row.note.as_str();
+        writeln!(text, "{} {} {} {note}", row.price, row.interest, row.value)?;
+    }
+    let (price, interest, value) = (sheet.price, sheet.interest, sheet.value);
+    write!(text, "{price} {interest} {value}")?;
+    Ok(text)
+}
+
+#[test]
+fn what_books_are_asked(rt: HostRuntime) -> Result<(), Fail> {
+    let alloc = rt.alloc();
+    let mut books = Books::empty(alloc);
+    for request in begun(alloc)? {
+        let _ = books.step(&request.act)?;
+    }
+    let month = "2012-02".parse()?;
+    let seven = "7".parse()?;
+    let three = "\
+        K2EE 37.50 0.84 38.34 P5\n\
+        L1EE 25.00 0.88 25.88 P5\n\
+        M3EE 5000.00 132.00 5132.00 P5\n\
+        5062.50 133.72 5196.22";
+    let empty = "0.00 0.00 0.00";
+    for (customer, wanted) in [("7", three), ("8", empty)] {
+        let sheet = books.inventory(customer.parse()?, month)?;
+        let text = sheet_told(alloc, &sheet)?;
+        assert_eq!(rt; text.as_str(), wanted, "customer {customer}");
+    }
+    let own = books.bonds_of(seven)?;
+    assert_eq!(rt; own.len(), 3);
+    assert!(rt; books.ticket(1)?.is_none());
+    for (issued, wanted) in [("2010-11", Some("25.88")), ("2009-01", None)] {
+        let row = books.quote("50".parse()?, issued.parse()?, month)?;
+        let value = match row {
+            Some(row) => Some(format!(in alloc; "{}", row.value)?),
+            None => None,
+        };
+        assert_eq!(rt; value.as_ref().map(|v| v.as_str()), wanted, "{issued}");
+    }
+    let _ = books.step(&redeem(alloc, DAY, "7", &["L1EE", "K2EE", "M3EE"])?)?;
+    assert!(rt; books.batch(DAY.parse()?).is_none());
+    let _ = books.step(&close(DAY)?)?;
+    let sheet = books.inventory(seven, month)?;
+    let text = sheet_told(alloc, &sheet)?;
+    assert_eq!(rt; text.as_str(), empty);
+    let ticket = books.ticket(1)?.ok_or("ticket 1")?;
+    let text = ticket_told(alloc, &ticket)?;
+    let wanted = "Ticket 1 of 2012-02-06 to 7: L1EE 25.88 K2EE 38.34 M3EE 5132.00 = 5196.22";
+    assert_eq!(rt; text.as_str(), wanted);
+    assert!(rt; books.ticket(2)?.is_none());
+    let batch = books.batch(DAY.parse()?).ok_or("batch")?;
+    let text = format!(in alloc; "{} {} {}", batch.tickets, batch.bonds, batch.total)?;
+    assert_eq!(rt; text.as_str(), "1 3 5196.22");
     Ok(())
 }
