@@ -10,16 +10,17 @@ use std::alloc::Global;
 use std::io::Read;
 use std::marker::Model;
 
-/// How a stream ended.
-#[derive(Clone, Copy)]
+/// How a stream ended, which each later call answers again.
+#[derive(Clone, Copy, Debug, PartialEq, Eq)]
 pub enum Stop {
     End,
     Fault(FramingFault),
     ReadFailed,
 }
 
-/// Where the parts of a message stand in the buffer.
-#[derive(Clone, Copy)]
+/// Where the parts of a message stand in the buffer, and whether it asks to close the connection
+/// (HTTP/1.0, or a header `Connection: close`).
+#[derive(Clone, Copy, Debug, PartialEq, Eq)]
 pub struct Message {
     pub method: Span,
     pub target: Span,
@@ -27,14 +28,22 @@ pub struct Message {
     pub closes: bool,
 }
 
+/// What comes next.
+#[derive(Clone, Copy, Debug, PartialEq, Eq)]
 pub enum Next {
     Message(Message),
+    /// The stream ends, before the first byte of a message.
     End,
 }
 
+/// Why no message comes.
+#[derive(Clone, Copy, Debug, PartialEq, Eq)]
 pub enum WireEnd {
+    /// The bytes are no message. Each later call answers this again.
     Fault(FramingFault),
+    /// The reader failed, or was interrupted. Each later call answers this again.
     ReadFailed,
+    /// A growth was refused. No byte is lost, and the call may be made again.
     NoMemory,
 }
 
@@ -44,7 +53,8 @@ pub enum ReadFault {
     NoMemory,
 }
 
-/// Bytes that were read.
+/// Bytes that were read: those of the message that was answered last, and those that come after
+/// it, at most `BUFFER_LIMIT` in all.
 #[derive(Drop)]
 pub struct Buffer {
     bytes: Vec<u8>,
@@ -67,6 +77,7 @@ impl Model for Buffer {
 }
 
 impl Buffer {
+    /// A buffer without bytes, for a new stream.
     pub fn new(alloc: Global) -> Buffer
         ensures { result ≡ record { shown = []; held = []; ended = None } }
     {
@@ -84,7 +95,7 @@ impl Buffer {
         self.ended
     }
 
-    /// A part of the message that was answered last.
+    /// A part of the message that was answered last: what of the range lies in it.
     pub fn part(&self, span: Span) -> &[u8]
         ensures bytes { result.now ≡ slice_range self.now.shown span.start span.end }
         ensures room { length self.now.shown + length self.now.held ≤ BUFFER_LIMIT }
@@ -171,7 +182,9 @@ impl Buffer {
     }
 }
 
-/// The next message, or how the stream ends.
+/// The next message, or how the stream ends, whatever pieces the reader hands out. It reads at most
+/// 4,096 bytes at a time, only while what it holds decides nothing, and tests no line of a head
+/// twice. The parts of the message stay in the buffer until the next call.
 pub fn next_message<R: Read>(reader: &mut R, buffer: &mut Buffer) -> Result<Next, WireEnd>
     ensures answers { buffer.old.ended ≡ None
         → Answers buffer.old (R.remaining reader.old) result buffer.new (R.remaining reader.new) }
