@@ -23,25 +23,40 @@ pub record Columns : Type 0 where
 unfoldable pub value_in : ℕ → ℕ → Rates → ℕ → ℕ
 value_in units issued rates month = units * redemption rates (month - issued)
 
--- what the columns show under each note, of a price, a value, a rate, the month after, and the last month of interest
+-- columns, in the order of the table below
+abbrev pub columns_with : Note → ℕ → ℕ → ℕ → Option ℕ → Option ℕ → Option ℕ → Columns
+columns_with note price interest value rate next last = record {
+  next_accrual = next;
+  final_maturity = last;
+  price = price;
+  interest = interest;
+  rate = rate;
+  value = value;
+  note = note;
+}
+
+-- what the columns show under each note, of a price, a value, a rate, the month after, and the last month of interest:
+-- the note, price, interest, value, rate, next accrual and final maturity
 abbrev pub shown : Note → ℕ → ℕ → ℕ → ℕ → ℕ → Columns
-shown note.Ni price value rate next last = record {
-  next_accrual = None; final_maturity = None; price = 0; interest = 0; rate = None; value = 0; note = note.Ni }
-shown note.Ne price value rate next last = record {
-  next_accrual = Some next; final_maturity = Some last; price = price; interest = 0; rate = Some rate; value = price; note = note.Ne }
-shown note.P5 price value rate next last = record {
-  next_accrual = Some next; final_maturity = Some last; price = price; interest = value - price; rate = Some rate; value = value; note = note.P5 }
-shown note.Plain price value rate next last = record {
-  next_accrual = Some next; final_maturity = Some last; price = price; interest = value - price; rate = Some rate; value = value; note = note.Plain }
-shown note.Ma price value rate next last = record {
-  next_accrual = None; final_maturity = Some last; price = price; interest = value - price; rate = None; value = value; note = note.Ma }
+shown note.Ni price value rate next last = columns_with note.Ni 0 0 0 None None None
+shown note.Ne price value rate next last = columns_with note.Ne price 0 price (Some rate) (Some next) (Some last)
+shown note.P5 price value rate next last = columns_with note.P5 price (value - price) value (Some rate) (Some next) (Some last)
+shown note.Plain price value rate next last = columns_with note.Plain price (value - price) value (Some rate) (Some next) (Some last)
+shown note.Ma price value rate next last = columns_with note.Ma price (value - price) value None None (Some last)
 
 -- the columns in a month of a bond of so many units, with a price of 12.50 dollars a unit and 30 years of interest
 unfoldable pub columns_of : ℕ → ℕ → Rates → ℕ → Columns
 columns_of units issued rates month =
     shown (note_at (age_of issued month)) (1250 * units) (value_in units issued rates month) rates.fixed (month + 1) (issued + 360)
 
+-- the same columns of a row
 abbrev pub columns_in : Row → Columns
 columns_in row = record {
-  next_accrual = row.next_accrual; final_maturity = row.final_maturity; price = row.price.0; interest = row.interest.0;
-  rate = row.rate; value = row.value.0; note = row.note }
+  next_accrual = row.next_accrual;
+  final_maturity = row.final_maturity;
+  price = row.price.0;
+  interest = row.interest.0;
+  rate = row.rate;
+  value = row.value.0;
+  note = row.note;
+}

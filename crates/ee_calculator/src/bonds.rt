@@ -1,7 +1,7 @@
 use ee_units::{Customer, Denom, IssueMonth, Serial};
 
 /// A paper bond, as the register holds it. A bond in coownership form is paid to either coowner;
-/// beneficiaries aren't recorded (31 CFR 353.37, 353.38).
+/// beneficiaries aren't recorded (31 CFR Part 353).
 #[derive(Clone, Copy, Debug, PartialEq, Eq, PartialOrd, Ord, Hash)]
 pub struct Bond {
     pub serial: Serial,

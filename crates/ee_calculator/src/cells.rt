@@ -1,4 +1,4 @@
-//! The text of each column, in a line's own room.
+//! The text of a column in a line, in a fixed room, so that it takes no memory.
 
 ghost use Rattle.std.specs.Prelude.{◌≡◌, ◌+◌, ◌<◌, ◌≤◌, length};
 ghost use Rattle.std.specs.Fmt.{decimal};

@@ -9,11 +9,10 @@ mod notes;
 mod row_values;
 mod rows;
 mod sheets;
-mod totals;
-mod writing;
-
 #[cfg(test)]
 mod tests;
+mod totals;
+mod writing;
 
 pub use bonds::Bond;
 pub use laws::adds_up_law;

@@ -1,6 +1,15 @@
 use ee_units::Age;
 use std::fmt;
 
+/// The age from which a bond can be redeemed, in months.
+const REDEEMABLE: u16 = 12;
+
+/// The age from which no interest is withheld, in months.
+const FREE_OF_PENALTY: u16 = 60;
+
+/// The age at which interest stops, in months.
+pub(crate) const FINAL_MATURITY: u16 = 360;
+
 /// What the calculator notes of a bond in a month.
 #[derive(Clone, Copy, Debug, PartialEq, Eq, PartialOrd, Ord, Hash)]
 pub enum Note {
@@ -28,9 +37,9 @@ impl Note {
             return Note::Ni;
         };
         match age.months() {
-            months if months < 12 => Note::Ne,
-            months if months < 60 => Note::P5,
-            months if months < 360 => Note::Plain,
+            months if months < REDEEMABLE => Note::Ne,
+            months if months < FREE_OF_PENALTY => Note::P5,
+            months if months < FINAL_MATURITY => Note::Plain,
             _ => Note::Ma,
         }
     }

@@ -1,9 +1,9 @@
 ghost use Rattle.std.specs.Prelude.{◌≡◌, ◌+◌, ◌-◌, ◌<◌, ◌≤◌, Some, None};
-ghost use Rattle.ee_calculator.specs.Rows.{columns_in, columns_of, shown};
+ghost use Rattle.ee_calculator.specs.Rows.{columns_in, columns_of, columns_with, shown};
 ghost use Rattle.ee_units.specs.Denoms.{units_of};
 
 use crate::bonds::Bond;
-use crate::notes::Note;
+use crate::notes::{FINAL_MATURITY, Note};
 use crate::rows::Row;
 use ee_units::{Cents, Denom, IssueMonth, Month, Rate, calendar, price};
 use ee_value::{Quote, Rates, UnitTable, bond_value};
@@ -25,7 +25,13 @@ pub fn row(bond: &Bond, rates: Rates, table: &UnitTable, month: Month) -> Row
 /// The row, without a serial, of a bond of that denomination and issue month. The table is that of the
 /// rates.
 #[tactic(auto, unfolding(crate::specs::Rows::columns_of, crate::specs::Rows::value_in))]
-pub fn plain_row(denom: Denom, issued: IssueMonth, rates: Rates, table: &UnitTable, month: Month) -> Row
+pub fn plain_row(
+    denom: Denom,
+    issued: IssueMonth,
+    rates: Rates,
+    table: &UnitTable,
+    month: Month,
+) -> Row
     requires { table.now ≡ rates }
     ensures columns { columns_in result ≡ columns_of (units_of denom) issued rates month }
     ensures serial { result.serial ≡ None }
@@ -39,7 +45,11 @@ pub fn plain_row(denom: Denom, issued: IssueMonth, rates: Rates, table: &UnitTab
     let price = price(denom);
     match bond_value(table, denom, age) {
         Quote::NotEligible => earning(denom, issued, rates.fixed, month, price, price, note),
-        Quote::Pays { cents, matured: true, .. } => matured(denom, issued, price, cents),
+        Quote::Pays {
+            cents,
+            matured: true,
+            ..
+        } => matured(denom, issued, price, cents),
         Quote::Pays { cents, .. } => earning(denom, issued, rates.fixed, month, price, cents, note),
     }
 }
@@ -64,12 +74,19 @@ const fn not_issued(denom: Denom, issued: IssueMonth) -> Row
     }
 }
 
-fn earning(denom: Denom, issued: IssueMonth, rate: Rate, month: Month, price: Cents, value: Cents, note: Note) -> Row
+fn earning(
+    denom: Denom,
+    issued: IssueMonth,
+    rate: Rate,
+    month: Month,
+    price: Cents,
+    value: Cents,
+    note: Note,
+) -> Row
     requires worth { price.0 ≤ value.0 }
     requires early { month < issued + 360 }
-    ensures columns { columns_in result ≡ record {
-        next_accrual = Some (month + 1); final_maturity = Some (issued + 360);
-        price = price.0; interest = value.0 - price.0; rate = Some rate; value = value.0; note = note } }
+    ensures columns { columns_in result ≡ columns_with note price.0 (value.0 - price.0) value.0
+        (Some rate) (Some (month + 1)) (Some (issued + 360)) }
     ensures serial { result.serial ≡ None }
     ensures denom { result.denom ≡ denom }
     ensures issued { result.issued ≡ issued }
@@ -79,7 +96,7 @@ fn earning(denom: Denom, issued: IssueMonth, rate: Rate, month: Month, price: Ce
         denom,
         issued,
         next_accrual: Month::new(month.count() + 1),
-        final_maturity: Month::new(issued.count() + 360),
+        final_maturity: Month::new(issued.count() + FINAL_MATURITY),
         price,
         interest: Cents(value.0 - price.0),
         rate: Some(rate),
@@ -100,7 +117,7 @@ fn matured(denom: Denom, issued: IssueMonth, price: Cents, value: Cents) -> Row
         denom,
         issued,
         next_accrual: None, // interest has stopped
-        final_maturity: Month::new(issued.count() + 360),
+        final_maturity: Month::new(issued.count() + FINAL_MATURITY),
         price,
         interest: Cents(value.0 - price.0),
         rate: None,

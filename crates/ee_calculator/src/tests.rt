@@ -130,7 +130,11 @@ fn writes_the_sheet_or_a_front_of_it(rt: HostRuntime) -> Result<(), Fail> {
     for room in 0..=text.len() {
         let bytes = Vec::new(rt.alloc());
         let mut device = Device { bytes, room };
-        let want = if room < text.len() { Err(WriteFailed) } else { Ok(()) };
+        let want = if room < text.len() {
+            Err(WriteFailed)
+        } else {
+            Ok(())
+        };
         assert_eq!(rt; write_sheet(&sheet, &mut device), want, "{room} bytes");
         assert_eq!(rt; &device.bytes[..], &text[..room], "{room} bytes");
     }

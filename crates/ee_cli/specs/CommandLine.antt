@@ -1,5 +1,5 @@
 -- The command line: the rows that clap is asked to match, and what the words that it matched ask for.
-use Rattle.std.specs.Prelude.{ℕ, List, [], ◌∷◌, Option, Result, Ok, Err, true, codes, option_and_then, option_map}
+use Rattle.std.specs.Prelude.{ℕ, List, Option, Result, Ok, Err, true, codes, option_and_then, option_map}
 use Rattle.std.specs.Option.{ok_or}
 use Rattle.clap.specs.Words.{App, Row, Rule, Text, first_of, new_app, new_rule, subcommand_of, with_rule, with_subcommand}
 use Rattle.ee_units.specs.Spelling.{rate_of, month_of, issue_of}

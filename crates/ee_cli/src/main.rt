@@ -2,6 +2,7 @@
 #![tactic(auto)]
 
 mod commands;
+mod faults;
 mod lines;
 mod run;
 #[cfg(test)]

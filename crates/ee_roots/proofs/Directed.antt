@@ -106,7 +106,6 @@ pub power_up-near : (b p k : ℕ) → 8 ≤ b → k ≤ 5 → 32 * p ≤ 33 * 2 
 unfolding power_up
 power_up-near b p zero h few near = omega (arith, near)
 power_up-near b p (suc k) h few near =
-    let q = power_up b p k in
     let ih : 32 * power_up b p k ≤ (33 + 2 * k) * 2 ^ b = power_up-near b p k h (omega arith) near in
     let step : 32 * up b (power_up b p k) p ≤ (33 + 2 * k + 2) * 2 ^ b =
     up-near (2 ^ b) (power_up b p k) p (up b (power_up b p k) p) (33 + 2 * k) (one-ge-256 b h) (omega arith) near ih (up_lt b (power_up b p k) p) in
@@ -181,9 +180,6 @@ one-div-32 b h =
     let e : b ≡ (b - 5) + 5 = omega arith in
     let one : 2 ^ b ≡ 2 ^ (b - 5) * 2 ^ 5 = ap (λ n. 2 ^ n) e ∙ pow-add 2 (b - 5) 5 in
     omega (arith, one)
-
-pub middle_near : (s low above m : ℕ) → m ≤ above → 32 * above ≤ 33 * s → 32 * m ≤ 33 * s
-middle_near s low above m h k = omega arith
 
 pub one_fits : (b r s w : ℕ) → s ≡ 2 ^ b → w ≡ 2 ^ b * (20000 + r) → power_up b s 5 * 20000 ≤ w
 one_fits b r s w one wanted =

@@ -11,11 +11,11 @@ year_of m = 2005 + (m + 4) / 12
 abbrev pub month_of_year : ℕ → ℕ
 month_of_year m = (m + 4) % 12 + 1
 
--- a bond's age in a month: the calendar months from its issue month (31 CFR 351.35); none before it
+-- a bond's age in a month: the calendar months from its issue month (31 CFR Part 351); none before it
 abbrev pub age_of : ℕ → ℕ → Option ℕ
 age_of issued month = if nat_le issued month then Some (month - issued) else None
 
--- the months in which Treasury announces rates: each May and November (31 CFR 351.34)
+-- the months in which Treasury announces rates: each May and November (31 CFR Part 351)
 abbrev pub is_announcement : ℕ → Bool
 is_announcement m = month_of_year m == 5 || month_of_year m == 11
 

@@ -1,4 +1,4 @@
--- The denominations of paper bonds (31 CFR 351.40 names them; the unit is this project's rule).
+-- The denominations of paper bonds (31 CFR Part 351; the unit is this project's rule).
 use Rattle.std.specs.Prelude.{ℕ, List, Option, Some, None, ◌*◌, codes, if◌then◌else◌}
 use Rattle.std.specs.Str.{bytes_eq}
 use Rattle.ee_units.specs.declared.denoms.Denom.{Denom}

@@ -3,3 +3,4 @@ pub mod Starts
 pub mod Settled
 pub mod OpenAges
 pub mod Accruals
+pub mod FirstOpen

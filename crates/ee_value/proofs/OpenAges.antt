@@ -198,7 +198,6 @@ unit_none rates a b h =
           (open-inside rates a b lt ∙ (rw e at h.0), rw e at h.1)
       | inr le ↦
           let e : min a 360 % 6 ≡ 0 = omega arith in
-          let k = min a 360 / 6 in
           absurd (false≢true (sym (unsettled-none (start rates (min a 360 / 6)) (rate_in rates (min a 360 / 6)) b)
           ∙ ap (λ m. is_unsettled (start rates (min a 360 / 6)) (rate_in rates (min a 360 / 6)) m b) (sym e) ∙ h.0))
     ]
@@ -216,3 +215,24 @@ unit_answer rates a b s r k (Some c) e Q counted begun rate h answer =
 pub err_part : {E : Type 0} (x : Result ℕ E) (Q : ℕ → Type 0) (R : E → Type 0) → MatchResult x Q R → IfErr x R
 err_part (Ok c) Q R h = tt
 err_part (Err e) Q R h = h
+
+-- ---- ages that are never open
+
+open-not : (rates : Rates) (a b : ℕ) → is_unsettled (start rates (a / 6)) (rate_in rates (a / 6)) (a % 6) b ≡ false → is_open rates a b ≡ false
+open-not rates a b h =
+    elim (cases_lt a 360) [
+      | inl lt ↦ open-inside rates a b lt ∙ h
+      | inr le ↦ open-past rates a b le
+    ]
+
+pub open-whole : (rates : Rates) (a b : ℕ) → a % 6 ≡ 0 → is_open rates a b ≡ false
+open-whole rates a b h =
+    open-not rates a b (ap (λ m. is_unsettled (start rates (a / 6)) (rate_in rates (a / 6)) m b) h ∙ unsettled-none (start rates (a / 6)) (rate_in rates (a / 6)) b)
+
+pub open-zero : (rates : Rates) (a b : ℕ) → rate_in rates (a / 6) ≡ 0 → is_open rates a b ≡ false
+open-zero rates a b h =
+    open-not rates a b (ap (λ r. is_unsettled (start rates (a / 6)) r (a % 6) b) h ∙ unsettled-zero (start rates (a / 6)) (a % 6) b)
+
+pub open-exact : (rates : Rates) (a b : ℕ) → a % 6 ≡ 3 → is_exact (rate_in rates (a / 6)) ≡ true → is_open rates a b ≡ false
+open-exact rates a b h exact =
+    open-not rates a b (ap (λ m. is_unsettled (start rates (a / 6)) (rate_in rates (a / 6)) m b) h ∙ unsettled-exact (start rates (a / 6)) (rate_in rates (a / 6)) b exact)

@@ -202,7 +202,6 @@ pub Rounds-grown : (u r m : ℕ) → 1 ≤ u → m ≤ 6 → r ≤ 2000 → Roun
 unfolding grown
 Rounds-grown u r m some few small =
     let test : ℕ → Bool = λ c. nat_le ((2 * c - 1) ^ 6 * 20000 ^ m) ((2 * u) ^ 6 * (20000 + r) ^ m) in
-    let c : ℕ = greatest (λ c. nat_le ((2 * c - 1) ^ 6 * 20000 ^ m) ((2 * u) ^ 6 * (20000 + r) ^ m)) (2 * u) in
     let ge : u ≤ grown u r m = grown-ge u r m in
     let le : grown u r m ≤ 2 * u = grown-le u r m in
     let one : 1 ≤ grown u r m = omega arith in (

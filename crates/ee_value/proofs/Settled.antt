@@ -181,7 +181,6 @@ value-is b u f =
 pub Close-from_bounds : (u r b low high k : ℕ) → 1 ≤ b → Encloses b r low high → power_up b high k ≤ power_down b low k + 32
     → cents b (u * power_down b low k) < cents b (u * power_up b high k) → Close u r (k + 1) b
 Close-from_bounds u r b low high k places enc narrow apart =
-    let n : ℕ = cents b (u * power_up b high k) in
     let one : 2 * (cents b (u * power_up b high k) - 1) + 1 ≡ 2 * cents b (u * power_up b high k) - 1 = omega arith in
     let m : (2 * cents b (u * power_up b high k) - 1) * 2 ^ b ≤ 2 * (u * power_up b high k) = cents_le b (u * power_up b high k) places in
     let w : u * power_up b high k ≤ u * (power_down b low k + 32) = mul-le-mul_left u narrow in

@@ -1,5 +1,7 @@
 -- The starts of the half-years.
 use Rattle.std.proofs.Common.{◌≡◌, ◌≢◌, eq-eqb, ne_eqb, ℕ, zero, suc, ◌+◌, ◌-◌, ◌*◌, ◌≤◌, ◌==◌, max, true, false, arith, add-one, add-zero, refl, ap, ◌∙◌}
+use Rattle.std.proofs.Common.{List, [], ◌∷◌, map}
+use Rattle.std.specs.List.{range_with_len}
 use Rattle.std.specs.Prelude.{if◌then◌else◌}
 use Rattle.std.proofs.lemmas.Nat.{mul-le}
 use Rattle.ee_value.specs.declared.rates.Rates.{Rates}
@@ -82,7 +84,6 @@ pub start-is : (rates : Rates) (k : ℕ) → InRange rates → (start rates k �
 unfolding start linear-start step
 start-is rates zero h = (refl, omega arith)
 start-is rates (suc k) h =
-    let r = rate_in rates k in
     let ih = start-is rates k h in
     let e : grown (start rates k) (rate_in rates k) 6 ≡ linear (linear-start (rate_in rates) k) (rate_in rates k) =
     grown-half_year (start rates k) (rate_in rates k) (omega (arith, ih.1)) (rate-le rates k h) ∙ ap (λ u. linear u (rate_in rates k)) ih.0 in
@@ -113,3 +114,15 @@ start-at_20_years rates k h =
 pub start-else : (rates : Rates) (k : ℕ) → k + 1 ≢ 40 → start rates (k + 1) ≡ grown (start rates k) (rate_in rates k) 6
 start-else rates k h =
     start-more rates k ∙ ap (λ b. if b then max (grown (start rates k) (rate_in rates k) 6) 2500 else grown (start rates k) (rate_in rates k) 6) (ne_eqb (k + 1) 40 h)
+
+pub rate-fixed : (rates : Rates) (k : ℕ) → rate_in rates k ≡ rates.fixed
+unfolding rate_in
+rate-fixed rates k = refl
+
+starts-of : (rates : Rates) → InRange rates → (ks : List ℕ) → map (start rates) ks ≡ map (linear-start (rate_in rates)) ks
+starts-of rates small [] = refl
+starts-of rates small (k ∷ ks) = ap (λ x. x ∷ map (start rates) ks) (start-is rates k small).0 ∙ ap (λ xs. linear-start (rate_in rates) k ∷ xs) (starts-of rates small ks)
+
+-- starts, computed
+pub starts-are : (rates : Rates) → InRange rates → (k n : ℕ) → map (start rates) (range_with_len k n) ≡ map (linear-start (rate_in rates)) (range_with_len k n)
+starts-are rates small k n = starts-of rates small (range_with_len k n)

@@ -26,7 +26,8 @@ pub fn unit_at(rates: Rates, age: Age, bits: Bits) -> Result<u64, Unsettled>
     ensures close { IfErr result
         (λ _. Close (start rates (age / 6)) (rate_in rates (age / 6)) (age % 6) bits) }
 {
-    let counted = age.months().min(FINAL_MATURITY);
+    let months = age.months();
+    let counted = months.min(FINAL_MATURITY);
     let half_year = counted / 6;
     let start = start_unit(&rates, half_year);
     let rate = rates.rate_in(half_year);

@@ -8,6 +8,9 @@ ghost use Rattle.ee_value.specs.Open.{is_exact, is_unsettled, bounds_differ, Clo
 use ee_roots::{Root, power_bounds, settle};
 use ee_units::Rate;
 
+/// The months of a quarter year, the only ones whose growth can be a fraction.
+const QUARTER: u8 = 3;
+
 /// A hundred times the growth of three months, where it is a whole number.
 fn exact_root(rate: Rate) -> Option<u64>
     ensures { MatchOption result
@@ -43,7 +46,7 @@ pub fn grown_unit(unit: u64, rate: Rate, months: u8, root: &Root) -> Option<u64>
     if months == 0 || hundredths == 0 {
         return Some(unit);
     }
-    if months == 3 {
+    if months == QUARTER {
         if let Some(growth) = exact_root(rate) {
             return Some((2 * unit * growth + 100) / 200);
         }

@@ -19,7 +19,8 @@ fn next_unit(unit: u64, rate: Rate) -> u64
     requires small { unit < 2 ^ 32 }
     ensures { result ≡ grown unit rate 6 }
 {
-    (2 * unit * (20_000 + u64::from(rate.hundredths())) + 20_000) / 40_000
+    let doubled = 2 * unit * (20_000 + u64::from(rate.hundredths()));
+    (doubled + 20_000) / 40_000
 }
 
 /// The unit at the start of the next half-year: at 20 years at least twice its price.

@@ -7,13 +7,17 @@ mod bonds;
 mod faults;
 mod growth;
 mod halves;
+mod laws;
 mod quotes;
 mod rates;
 mod tables;
+#[cfg(test)]
+mod tests;
 
 pub use accrual::unit_at;
 pub use bonds::bond_value;
 pub use faults::{Unsettled, ValueFault};
+pub use laws::{chain_law, exact_law, examples_law, open_law, rounding_law, value_law};
 pub use quotes::Quote;
 pub use rates::Rates;
 pub use tables::{UnitTable, unit_table};

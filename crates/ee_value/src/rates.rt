@@ -3,6 +3,7 @@ use ee_units::Rate;
 /// The terms that a bond earns by: a fixed yearly rate, for each half-year of its life.
 #[derive(Clone, Copy, Debug, PartialEq, Eq, PartialOrd, Ord, Hash)]
 pub struct Rates {
+    /// The yearly rate.
     pub fixed: Rate,
 }
 
@@ -16,7 +17,6 @@ impl Rates {
         ensures value { result ≡ rate_in self.now _half_year }
         ensures range { InRange self.now }
     {
-        let _hundredths = self.fixed.hundredths();
-        self.fixed
+        Rate::from_hundredths(self.fixed.hundredths())
     }
 }

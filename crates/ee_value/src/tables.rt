@@ -1,10 +1,10 @@
-ghost use Rattle.std.specs.Prelude.{◌≡◌, ℕ, ◌+◌, ◌*◌, ◌<◌, ◌≤◌, map, false, MatchResult};
+ghost use Rattle.std.specs.Prelude.{◌≡◌, ℕ, ◌+◌, ◌*◌, ◌<◌, ◌≤◌, map, false, MatchResult, None};
 ghost use Rattle.std.specs.List.{range_with_len};
 ghost use Rattle.ee_roots.specs.Roots.{IsLow, IsHigh};
 ghost use Rattle.ee_value.specs.Chain.{rate_in, start};
 ghost use Rattle.ee_value.specs.Value.{accrued};
 ghost use Rattle.ee_value.specs.Open.{is_open, NeverOpen, first_open};
-ghost use Rattle.ee_value.specs.Fault.{IsFaultOf};
+ghost use Rattle.ee_value.specs.Fault.{IsFaultOf, IsFaultAt};
 
 use crate::accrual::FINAL_MATURITY;
 use crate::faults::ValueFault;
@@ -82,10 +82,14 @@ fn push_half_year(
 
 /// The unit values of these rates at each age, or the least age at which the precision doesn't
 /// settle one. It takes memory once, for 361 values.
+#[tactic(auto, using(crate::proofs::FirstOpen::fault_at))]
 pub fn unit_table(alloc: Global, rates: Rates, bits: Bits) -> Result<UnitTable, ValueFault>
-    ensures { MatchResult result
+    ensures value { MatchResult result
         (λ table. NeverOpen rates bits × (table ≡ rates))
         (IsFaultOf rates bits) }
+    ensures first_open { MatchResult result
+        (λ _. first_open rates bits ≡ None)
+        (IsFaultAt (first_open rates bits)) }
 {
     let root = root_bounds(rates.rate_in(0), bits);
     let mut units = Vec::with_capacity(alloc, 361)?;

@@ -1,4 +1,4 @@
-use Rattle.std.proofs.Common.{◌≡◌, ℕ, ◌+◌, ◌*◌, ◌≤◌, ◌^◌, sum_by, take}
+use Rattle.std.proofs.Common.{◌≡◌, ◌+◌, ◌*◌, ◌≤◌, ◌^◌, sum_by, take}
 use Rattle.ee_calculator.proofs.totals.sheet.Given as goal
 
 abbrev pub invariant-loop-row : goal.invariant-loop-row

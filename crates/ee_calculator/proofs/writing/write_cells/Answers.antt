@@ -1,5 +1,5 @@
-use Rattle.std.proofs.Common.{sym, refl}
-use Rattle.ee_calculator.specs.Sheets.{placed, line, row_cell}
+use Rattle.std.proofs.Common.{refl}
+use Rattle.ee_calculator.specs.Sheets.{placed}
 use Rattle.ee_calculator.specs.Lines.{cell_of}
 use Rattle.ee_calculator.specs.declared.columns.Column.TheVariants as column
 use Rattle.ee_device.proofs.Fronts.{piece_done, piece_cut, all_done}

@@ -1,7 +1,7 @@
 use Rattle.std.proofs.Common.{take}
 use Rattle.std.specs.List.{flat_map}
 use Rattle.std.specs.Io.KnownBytes.{Appends}
-use Rattle.ee_calculator.specs.Sheets.{placed, line, row_cell}
+use Rattle.ee_calculator.specs.Sheets.{placed}
 use Rattle.ee_calculator.specs.Lines.{cell_of}
 use Rattle.ee_calculator.proofs.writing.write_cells.Given as goal
 

@@ -1,8 +1,5 @@
-use Rattle.std.proofs.Common.{◌≡◌, ◌∙◌, subst, sym, ◌++◌, ◌∷◌, [], Bool, List, ℕ}
-use Rattle.ee_device.specs.Written.{WritesFront}
-use Rattle.std.specs.List.{flat_map}
-use Rattle.ee_calculator.specs.Sheets.{placed, line, columns}
-use Rattle.ee_calculator.specs.Lines.{cell_of}
+use Rattle.std.proofs.Common.{◌∷◌, []}
+use Rattle.ee_calculator.specs.Sheets.{line}
 use Rattle.ee_device.proofs.Fronts.{then_all, then_cut}
 use Rattle.ee_calculator.proofs.writing.write_line.Goals as goal
 

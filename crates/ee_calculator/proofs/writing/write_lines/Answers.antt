@@ -1,4 +1,4 @@
-use Rattle.ee_calculator.specs.Sheets.{sheet_text, line, total_cell}
+use Rattle.ee_calculator.specs.Sheets.{sheet_text}
 use Rattle.ee_device.proofs.Fronts.{then_all, then_cut}
 use Rattle.ee_calculator.proofs.writing.write_lines.Goals as goal
 

@@ -1,6 +1,4 @@
-use Rattle.std.proofs.Common.{sym, refl}
-use Rattle.ee_calculator.specs.Sheets.{placed, line, row_cell}
-use Rattle.ee_calculator.specs.Lines.{cell_of}
+use Rattle.ee_calculator.specs.Sheets.{line, row_cell}
 use Rattle.ee_device.proofs.Fronts.{piece_done, piece_cut, all_done}
 use Rattle.ee_calculator.proofs.writing.write_rows.Goals as goal
 

@@ -1,8 +1,7 @@
 use Rattle.std.proofs.Common.{take}
 use Rattle.std.specs.List.{flat_map}
 use Rattle.std.specs.Io.KnownBytes.{Appends}
-use Rattle.ee_calculator.specs.Sheets.{placed, line, row_cell}
-use Rattle.ee_calculator.specs.Lines.{cell_of}
+use Rattle.ee_calculator.specs.Sheets.{line, row_cell}
 use Rattle.ee_calculator.proofs.writing.write_rows.Given as goal
 
 abbrev pub invariant-loop-row : goal.invariant-loop-row

@@ -1,4 +1,3 @@
-use Rattle.ee_calculator.specs.Sheets.{sheet_text, line}
 use Rattle.ee_device.proofs.Fronts.{then_all, then_cut}
 use Rattle.ee_calculator.proofs.writing.write_rows_below_heading.Goals as goal
 

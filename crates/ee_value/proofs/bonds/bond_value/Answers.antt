@@ -1,4 +1,4 @@
-use Rattle.std.proofs.Common.{◌≡◌, ◌-◌, ◌*◌, ℕ, sym, ap, ◌∙◌, arith, rules, tests}
+use Rattle.std.proofs.Common.{◌≡◌, ◌-◌, ◌*◌, sym, ap, ◌∙◌, arith, rules, tests}
 use Rattle.std.proofs.Math.Nat.{mul-le-mul_left}
 use Rattle.ee_units.specs.Denoms.{units_of}
 use Rattle.ee_value.specs.Value.{accrued, redemption}
@@ -8,7 +8,7 @@ use Rattle.ee_value.proofs.bonds.bond_value.Goals.{then-months-lt-FREE_REDEMPTIO
 
 pub returns : goal.returns
 returns c =
-    let rates = c.args.table.now in let a = c.args.age in let n : ℕ = units_of c.args.denom in
+    let rates = c.args.table.now in let a = c.args.age in
     let counted : accrued c.args.table.now c.if-months-lt-FREE_REDEMPTION.counted ≡ redemption c.args.table.now c.args.age =
     elim c.if-months-lt-FREE_REDEMPTION.branch [
       | then-months-lt-FREE_REDEMPTION w ↦
@@ -19,7 +19,6 @@ returns c =
           ap (λ k. accrued rates k) e ∙ sym (redemption-whole rates a (omega arith))
     ] in
     let value : c.at.result ≡ redemption c.args.table.now c.args.age = c.at.ensures.value ∙ ap (λ k. accrued rates k) c.from_months.ensures ∙ counted in
-    let units = c.units.ensures in
     rw (c.units.ensures) (
       omega arith,
       ap (λ v. units_of c.args.denom * v) value,

@@ -6,6 +6,7 @@ use Rattle.ee_value.specs.Chain.{start}
 use Rattle.ee_value.specs.Value.{accrued}
 use Rattle.ee_value.proofs.Starts.{start-none, rate-same}
 use Rattle.ee_value.proofs.OpenAges.{open-past}
+use Rattle.ee_value.proofs.FirstOpen.{first_open-None}
 use Rattle.ee_value.proofs.Accruals.{accrued-start}
 use Rattle.ee_value.proofs.tables.unit_table.Goals as goal
 
@@ -37,11 +38,14 @@ invariant_of-result c =
       small,
     )
 
-pub returns : goal.returns
-returns c = (
+pub returns-clause-value : goal.returns-clause-value
+returns-clause-value c = (
   λ a. elim (cases_lt a 360) [
     | inl lt ↦ rw c.root_bounds-root.ensures.bits at (c.loop-half_year.invariant.settled a (omega arith))
     | inr le ↦ open-past c.args.rates a c.args.bits le
   ],
   refl,
 )
+
+pub returns-clause-first_open : goal.returns-clause-first_open
+returns-clause-first_open c = first_open-None c.args.rates c.args.bits (returns-clause-value c).0

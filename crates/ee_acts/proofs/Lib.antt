@@ -1,0 +1,12 @@
+pub mod RequestNumbers
+pub mod Maps
+pub mod Orders
+pub mod Repeats
+pub mod Seeing
+pub mod Soundness
+pub mod Conservation
+pub mod SameActs
+pub mod Bounds
+pub mod PaidRight
+pub mod KeptReplies
+pub mod Turns

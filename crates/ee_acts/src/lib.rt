@@ -1,0 +1,19 @@
+//! What the desk of a paying agent is asked, what it answers, and what these mean: acts and replies
+//! as types, the books, the order of refusals, and requests that may come again as definitions.
+#![tactic(auto)]
+
+mod acts;
+mod changes;
+mod laws;
+mod numbers;
+mod refusals;
+mod replies;
+mod rows;
+
+pub use acts::{Act, RateRow, Request};
+pub use changes::{Change, Effects, Held, Kept};
+pub use laws::{one_view, same_acts};
+pub use numbers::Number;
+pub use refusals::{Refusal, Unserved};
+pub use replies::{Batch, Line, Reply, Ticket};
+pub use rows::Rows;

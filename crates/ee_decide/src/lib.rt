@@ -1,0 +1,10 @@
+//! What an act sees of the books, and what it does by that alone.
+#![tactic(auto)]
+
+mod checks;
+mod decisions;
+mod values;
+mod views;
+
+pub use decisions::decide;
+pub use views::{DayCounts, View};

@@ -1,0 +1,56 @@
+-- Rows that changes add to a map, and take out again.
+use Rattle.std.specs.Prelude.{◌≡◌, ℕ, List, [], ◌∷◌, Option, Some, None, IfSome, ⊤}
+use Rattle.std.specs.declared.cmp.Ordering.{Ordering}
+use Rattle.std.specs.FinMap as finite
+use Rattle.std.specs.FinMap.{FinMap}
+use Rattle.ee_units.specs.Spelling.{SerialNumber}
+use Rattle.ee_value.specs.declared.rates.Rates.{Rates}
+use Rattle.ee_calculator.specs.declared.bonds.Bond.{Bond}
+use Rattle.ee_acts.specs.declared.changes.Held.{Held}
+use Rattle.ee_acts.specs.declared.changes.Change.{Change}
+use Rattle.ee_acts.specs.declared.changes.Change.TheVariants as change
+
+-- the row that a change adds to the rates
+abbrev pub rate_row : Change → Option (ℕ × Rates)
+rate_row (change.Rates from rates) = Some (from, rates)
+rate_row (change.Bond bond) = None
+rate_row (change.Day day) = None
+rate_row (change.Ticket ticket) = None
+rate_row (change.Batch batch) = None
+
+-- and to the bonds
+abbrev pub bond_row : Change → Option (SerialNumber × Bond)
+bond_row (change.Rates from rates) = None
+bond_row (change.Bond bond) = Some (bond.serial, bond)
+bond_row (change.Day day) = None
+bond_row (change.Ticket ticket) = None
+bond_row (change.Batch batch) = None
+
+-- and to the bonds in memory
+abbrev pub held_row : Change → Option (SerialNumber × Held)
+held_row (change.Rates from rates) = None
+held_row (change.Bond bond) = Some (bond.serial, record { bond = bond; ticket = None })
+held_row (change.Day day) = None
+held_row (change.Ticket ticket) = None
+held_row (change.Batch batch) = None
+
+abbrev pub with_row : {K V : Type 0} {R : K → K → Ordering} → FinMap R V → Option (K × V) → FinMap R V
+with_row found None = found
+with_row found (Some row) = finite.insert found row.0 row.1
+
+abbrev pub without_row : {K V : Type 0} {R : K → K → Ordering} → FinMap R V → Option (K × V) → FinMap R V
+without_row found None = found
+without_row found (Some row) = finite.remove found row.0
+
+abbrev pub with_changes : {K V : Type 0} {R : K → K → Ordering} → (Change → Option (K × V)) → FinMap R V → List Change → FinMap R V
+with_changes row found [] = found
+with_changes row found (c ∷ cs) = with_changes row (with_row found (row c)) cs
+
+abbrev pub without_changes : {K V : Type 0} {R : K → K → Ordering} → (Change → Option (K × V)) → FinMap R V → List Change → FinMap R V
+without_changes row found [] = found
+without_changes row found (c ∷ cs) = without_changes row (without_row found (row c)) cs
+
+-- each key is new, also after the changes before it
+abbrev pub AreNew : {K V : Type 0} {R : K → K → Ordering} → (Change → Option (K × V)) → FinMap R V → List Change → Type 0
+AreNew row found [] = ⊤
+AreNew row found (c ∷ cs) = IfSome (row c) (λ r. finite.get found r.0 ≡ None) × AreNew row (with_row found (row c)) cs

@@ -1,0 +1,61 @@
+-- How the maps in memory are read.
+use Rattle.std.specs.Prelude.{◌≡◌, ℕ, Bool, List, Option, Some, IfSome, map, if◌then◌else◌}
+use Rattle.std.specs.Option.{option_map_or}
+use Rattle.std.specs.declared.cmp.Ordering.{Ordering}
+use Rattle.std.specs.Map.{lookup}
+use Rattle.std.specs.BTreeMap.{is_at}
+use Rattle.std.specs.FinMap as finite
+use Rattle.std.specs.FinMap.{FinMap}
+use Rattle.std.specs.Ordering.{nat_cmp}
+use Rattle.ee_units.specs.Spelling.{SerialNumber}
+use Rattle.ee_value.specs.declared.rates.Rates.{Rates}
+use Rattle.ee_calculator.specs.declared.bonds.Bond.{Bond}
+use Rattle.ee_acts.specs.declared.changes.Held.{Held}
+use Rattle.ee_acts.specs.declared.replies.Ticket.{Ticket}
+use Rattle.ee_acts.specs.declared.replies.Batch.{Batch}
+use Rattle.ee_decide.specs.declared.views.DayCounts.{DayCounts}
+use Rattle.ee_acts.specs.declared.changes.Kept.{Kept}
+use Rattle.ee_acts.specs.Numbers.{Number, number_cmp}
+use Rattle.ee_acts.specs.Serials.{serial_cmp}
+use Rattle.ee_acts.specs.PlainBooks.{PlainBooks, ticket_of}
+
+abbrev pub rates_in : List (ℕ × Rates) → FinMap nat_cmp Rates
+rates_in rates = finite.from_entries rates
+
+abbrev pub bonds_in : List (SerialNumber × Held) → FinMap serial_cmp Bond
+bonds_in bonds = finite.from_entries (map (λ e. (e.0, e.1.bond)) bonds)
+
+abbrev pub held_in : List (SerialNumber × Held) → FinMap serial_cmp Held
+held_in bonds = finite.from_entries bonds
+
+abbrev pub kept_in : List (Number × Kept) → FinMap number_cmp Kept
+kept_in kept = finite.from_entries kept
+
+-- what is kept of a serial
+abbrev pub held_at : List (SerialNumber × Held) → SerialNumber → Option Held
+held_at bonds serial = lookup (is_at (serial_cmp serial)) bonds
+
+-- each bond is marked with the ticket that pays it
+abbrev pub AreMarked : List (SerialNumber × Held) → List Ticket → Type 0
+AreMarked bonds tickets = (serial : SerialNumber) → IfSome (held_at bonds serial) (λ held. held.ticket ≡ ticket_of tickets serial)
+
+-- the counts are those of a batch
+abbrev pub AreCounts : Batch → DayCounts → Type 0
+AreCounts batch counts = (counts.tickets ≡ batch.tickets) × (counts.bonds ≡ batch.bonds) × (counts.total.0 ≡ batch.total.0)
+
+-- the books that the parts in memory stand for
+abbrev pub books_of : List (ℕ × Rates) → List (SerialNumber × Held) → Option ℕ → Option ℕ → List Ticket → List Batch → PlainBooks
+books_of rates bonds day last tickets batches =
+    record { rates = rates_in rates; bonds = bonds_in bonds; day = day; last_day = last; tickets = tickets; batches = batches }
+
+-- a bond as a ticket leaves it, if the ticket pays it
+abbrev pub marked : Bool → ℕ → Held → Held
+marked pays ticket held = record { bond = held.bond; ticket = if pays then Some ticket else held.ticket }
+
+-- with what is found for one more key
+abbrev pub noted : {K V : Type 0} {R : K → K → Ordering} → (K → Option V) → FinMap R V → K → FinMap R V
+noted look found key = option_map_or (λ value. finite.insert found key value) (look key) found
+
+-- with what is found for a key, if there is one
+abbrev pub noted_at : {K V : Type 0} {R : K → K → Ordering} → (K → Option V) → FinMap R V → Option K → FinMap R V
+noted_at look found key = option_map_or (λ k. noted look found k) key found

@@ -1,0 +1,108 @@
+//! Rows that are added to a map whole or not at all.
+
+ghost use Rattle.std.specs.Prelude.{◌≡◌, OnOk, OnErr};
+ghost use Rattle.ee_desk.specs.Kept.{rates_in, held_in};
+ghost use Rattle.ee_desk.specs.Added.{rate_row, held_row, with_row, without_row, with_changes, without_changes, AreNew};
+
+use ee_acts::{Change, Held};
+use ee_units::{IssueMonth, Serial};
+use ee_value::Rates;
+use std::alloc::AllocError;
+use std::collections::BTreeMap;
+
+/// Adds rates whose periods are new: all of them, or none.
+pub fn add_rates(
+    rates: &mut BTreeMap<IssueMonth, Rates>,
+    changes: &[Change],
+) -> Result<(), AllocError>
+    requires { AreNew rate_row (rates_in rates.old.entries) changes.now }
+    ensures ok { OnOk result (rates_in rates.new.entries ≡ with_changes rate_row (rates_in rates.old.entries) changes.now) }
+    ensures err { OnErr result (rates_in rates.new.entries ≡ rates_in rates.old.entries) }
+{
+    for (i, change) in changes.iter().enumerate() {
+        match add_rate(rates, change) {
+            Ok(_) => {}
+            Err(_) => {
+                take_rates(rates, &changes[..i]);
+                return Err(AllocError);
+            }
+        }
+    }
+    Ok(())
+}
+
+fn add_rate(rates: &mut BTreeMap<IssueMonth, Rates>, change: &Change) -> Result<(), AllocError>
+    ensures ok { OnOk result (rates_in rates.new.entries ≡ with_row (rates_in rates.old.entries) (rate_row change.now)) }
+    ensures err { OnErr result (rates.new.entries ≡ rates.old.entries) }
+{
+    if let Change::Rates(from, terms) = change {
+        rates.insert(*from, *terms)?;
+    }
+    Ok(())
+}
+
+fn take_rate(rates: &mut BTreeMap<IssueMonth, Rates>, change: &Change)
+    ensures { rates_in rates.new.entries ≡ without_row (rates_in rates.old.entries) (rate_row change.now) }
+{
+    if let Change::Rates(from, _) = change {
+        let _ = rates.remove(from);
+    }
+}
+
+/// Takes the rates of these changes out.
+fn take_rates(rates: &mut BTreeMap<IssueMonth, Rates>, changes: &[Change])
+    ensures { rates_in rates.new.entries ≡ without_changes rate_row (rates_in rates.old.entries) changes.now }
+{
+    for change in changes {
+        take_rate(rates, change);
+    }
+}
+
+/// Registers bonds whose serials are new: all of them, or none.
+pub fn add_bonds(bonds: &mut BTreeMap<Serial, Held>, changes: &[Change]) -> Result<(), AllocError>
+    requires { AreNew held_row (held_in bonds.old.entries) changes.now }
+    ensures ok { OnOk result (held_in bonds.new.entries ≡ with_changes held_row (held_in bonds.old.entries) changes.now) }
+    ensures err { OnErr result (held_in bonds.new.entries ≡ held_in bonds.old.entries) }
+{
+    for (i, change) in changes.iter().enumerate() {
+        match add_bond(bonds, change) {
+            Ok(_) => {}
+            Err(_) => {
+                take_bonds(bonds, &changes[..i]);
+                return Err(AllocError);
+            }
+        }
+    }
+    Ok(())
+}
+
+fn add_bond(bonds: &mut BTreeMap<Serial, Held>, change: &Change) -> Result<(), AllocError>
+    ensures ok { OnOk result (held_in bonds.new.entries ≡ with_row (held_in bonds.old.entries) (held_row change.now)) }
+    ensures err { OnErr result (bonds.new.entries ≡ bonds.old.entries) }
+{
+    if let Change::Bond(bond) = change {
+        let held = Held {
+            bond: *bond,
+            ticket: None,
+        };
+        bonds.insert(bond.serial, held)?;
+    }
+    Ok(())
+}
+
+fn take_bond(bonds: &mut BTreeMap<Serial, Held>, change: &Change)
+    ensures { held_in bonds.new.entries ≡ without_row (held_in bonds.old.entries) (held_row change.now) }
+{
+    if let Change::Bond(bond) = change {
+        let _ = bonds.remove(&bond.serial);
+    }
+}
+
+/// Takes the bonds of these changes out.
+fn take_bonds(bonds: &mut BTreeMap<Serial, Held>, changes: &[Change])
+    ensures { held_in bonds.new.entries ≡ without_changes held_row (held_in bonds.old.entries) changes.now }
+{
+    for change in changes {
+        take_bond(bonds, change);
+    }
+}

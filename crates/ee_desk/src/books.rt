@@ -1,0 +1,103 @@
+ghost use Rattle.std.specs.Prelude.{◌≡◌, IfOk, OnOk, OnErr};
+ghost use Rattle.ee_acts.specs.declared.acts.Act.{Act};
+ghost use Rattle.ee_acts.specs.PlainBooks.{no_books};
+ghost use Rattle.ee_acts.specs.Sound.{IsSound};
+ghost use Rattle.ee_acts.specs.Paid.{paid_lines, NoneTwice, ArePaidRight};
+ghost use Rattle.ee_acts.specs.Conserved.{IsConserved};
+ghost use Rattle.ee_acts.specs.Effects.{effects_of};
+ghost use Rattle.ee_acts.specs.Acts.{applied, books_after, reply_to};
+ghost use Rattle.ee_acts.specs.Views.{shown_by, view_of};
+
+use crate::ledger::Ledger;
+use crate::ranges::in_range;
+use crate::seeing;
+use ee_acts::{Act, Effects, Reply};
+use ee_decide::{View, decide};
+use std::alloc::{AllocError, Global};
+use std::marker::Model;
+
+/// The books of a desk: rates by period, registered bonds, the open day, tickets and batches. They
+/// are always sound: no serial is paid twice, and each bond is paid its value in the month of its
+/// ticket's day.
+#[derive(Drop)]
+pub struct Books {
+    alloc: Global,
+    ledger: Ledger,
+}
+
+impl Model for Books {
+    ghost use Rattle.std.specs.Coded.{codes};
+    ghost use Rattle.std.specs.FinMap as finite;
+    ghost use Rattle.ee_acts.specs.PlainBooks.{PlainBooks};
+    ghost use Rattle.ee_acts.specs.Sound.{IsSound};
+
+    ghost Value = { PlainBooks };
+
+    ghost coded = { Prim.hlevel (codes, finite.code) };
+
+    ghost view = { λ b. b.ledger };
+
+    ghost invariant = { λ b. IsSound b.ledger };
+}
+
+impl Books {
+    /// Books with nothing in them. It takes no memory.
+    pub fn empty(alloc: Global) -> Books
+        ensures { result ≡ no_books }
+    {
+        Books {
+            alloc,
+            ledger: Ledger::empty(alloc),
+        }
+    }
+
+    /// What all books are: sound, so that no serial is paid twice and each line pays the value of its
+    /// bond in the month of its ticket's day; and what was paid stands in the batches and on the open
+    /// day.
+    pub fn known(&self)
+        ensures sound { IsSound self.now }
+        ensures once { NoneTwice (paid_lines self.now.tickets) }
+        ensures right { ArePaidRight self.now }
+        ensures conserved { IsConserved self.now }
+    {
+        let _ledger = &self.ledger;
+    }
+
+    /// What an act sees of the books: only what it names.
+    pub fn view_of(&self, act: &Act) -> Result<View, AllocError>
+        ensures { IfOk result (λ v. v ≡ view_of self.now act.now) }
+    {
+        seeing::view_of(self.alloc, &self.ledger, act)
+    }
+
+    /// The effects of an act on the books.
+    pub(crate) fn effects_of(&self, act: &Act) -> Result<Effects, AllocError>
+        ensures { IfOk result (λ e. e ≡ effects_of (shown_by (view_of self.now act.now)) act.now) }
+    {
+        let view = self.view_of(act)?;
+        let effects = decide(self.alloc, &view, act)?;
+        Ok(effects)
+    }
+
+    /// Makes the effects of an act: all of them, or none where memory is refused.
+    pub fn apply(&mut self, effects: &Effects) -> Result<(), AllocError>
+        requires { (asked : Act) × (effects.now ≡ effects_of (shown_by (view_of self.old asked)) asked) }
+        ensures ok { OnOk result (self.new ≡ applied self.old effects.now.changes) }
+        ensures err { OnErr result (self.new ≡ self.old) }
+    {
+        in_range(effects.changes.as_slice());
+        self.ledger.apply(effects.changes.as_slice())
+    }
+
+    /// Does an act and answers it. Where memory is refused nothing has changed.
+    pub fn step(&mut self, act: &Act) -> Result<Reply, AllocError>
+        ensures reply { IfOk result (λ r. r ≡ reply_to self.old act.now) }
+        ensures books { OnOk result (self.new ≡ books_after self.old act.now) }
+        ensures err { OnErr result (self.new ≡ self.old) }
+    {
+        let effects = self.effects_of(act)?;
+        self.apply(&effects)?;
+        let Effects { reply, .. } = effects;
+        Ok(reply)
+    }
+}

@@ -1,0 +1,204 @@
+//! What a desk keeps, in memory.
+
+ghost use Rattle.std.specs.Prelude.{◌≡◌, OnOk, OnErr, [], Some};
+ghost use Rattle.std.specs.List.{AllByRecursion};
+ghost use Rattle.std.specs.FinMap as finite;
+ghost use Rattle.ee_acts.specs.PlainBooks.{no_books, of_day, batch_so_far};
+ghost use Rattle.ee_acts.specs.Acts.{changed, applied};
+ghost use Rattle.ee_acts.specs.Seen.{held_of, open_batch};
+ghost use Rattle.ee_acts.specs.declared.changes.Change.TheVariants as change;
+ghost use Rattle.ee_desk.specs.Kept.{AreCounts};
+ghost use Rattle.ee_desk.specs.Added.{rate_row, bond_row, with_changes, AreNew};
+ghost use Rattle.ee_desk.specs.Applicable.{IsUnpaid, IsNextTicket, AreApplicable};
+
+use crate::additions::{add_bonds, add_rates};
+use crate::marks::mark_all;
+use ee_acts::{Batch, Change, Held, Ticket};
+use ee_decide::DayCounts;
+use ee_units::{Cents, Day, IssueMonth, Serial};
+use ee_value::Rates;
+use std::alloc::{AllocError, Global};
+use std::collections::BTreeMap;
+use std::marker::Model;
+
+/// Rates, bonds, days, tickets and batches. Each bond is marked with the ticket that pays it, and
+/// the open day's tickets are counted.
+#[derive(Drop)]
+pub struct Ledger {
+    rates: BTreeMap<IssueMonth, Rates>,
+    bonds: BTreeMap<Serial, Held>,
+    day: Option<Day>,
+    last_day: Option<Day>,
+    tickets: Vec<Ticket>,
+    batches: Vec<Batch>,
+    counts: DayCounts,
+}
+
+impl Model for Ledger {
+    ghost use Rattle.std.specs.Coded.{codes};
+    ghost use Rattle.std.specs.FinMap as finite;
+    ghost use Rattle.ee_acts.specs.PlainBooks.{PlainBooks, batch_so_far};
+    ghost use Rattle.ee_desk.specs.Kept.{books_of, AreMarked, AreCounts};
+
+    ghost Value = { PlainBooks };
+
+    ghost coded = { Prim.hlevel (codes, finite.code) };
+
+    ghost view = { λ b. books_of b.rates.entries b.bonds.entries b.day b.last_day b.tickets.items b.batches.items };
+
+    ghost invariant = { λ b. AreMarked b.bonds.entries b.tickets.items × AreCounts (batch_so_far b.day b.tickets.items) b.counts };
+}
+
+fn no_counts() -> DayCounts
+    ensures tickets { result.tickets ≡ 0 }
+    ensures bonds { result.bonds ≡ 0 }
+    ensures total { result.total.0 ≡ 0 }
+{
+    DayCounts {
+        tickets: 0,
+        bonds: 0,
+        total: Cents(0),
+    }
+}
+
+impl Ledger {
+    /// Nothing.
+    pub fn empty(alloc: Global) -> Ledger
+        ensures { result ≡ no_books }
+    {
+        Ledger {
+            rates: BTreeMap::new(alloc),
+            bonds: BTreeMap::new(alloc),
+            day: None,
+            last_day: None,
+            tickets: Vec::new(alloc),
+            batches: Vec::new(alloc),
+            counts: no_counts(),
+        }
+    }
+
+    /// Adds rates whose periods are new: all of them, or none.
+    fn add_rates(&mut self, changes: &[Change]) -> Result<(), AllocError>
+        requires { AreNew rate_row self.old.rates changes.now }
+        ensures ok { OnOk result (self.new ≡ record self.old { rates = with_changes rate_row self.old.rates changes.now }) }
+        ensures err { OnErr result (self.new ≡ self.old) }
+    {
+        add_rates(&mut self.rates, changes)
+    }
+
+    /// Registers bonds whose serials are new, and which no ticket names: all of them, or none.
+    fn add_bonds(&mut self, changes: &[Change]) -> Result<(), AllocError>
+        requires fresh { AreNew bond_row self.old.bonds changes.now }
+        requires unpaid { AllByRecursion (IsUnpaid self.old) changes.now }
+        ensures ok { OnOk result (self.new ≡ record self.old { bonds = with_changes bond_row self.old.bonds changes.now }) }
+        ensures err { OnErr result (self.new ≡ self.old) }
+    {
+        add_bonds(&mut self.bonds, changes)
+    }
+
+    /// Opens a day that has no tickets.
+    fn open_day(&mut self, day: Day)
+        requires { of_day day self.old.tickets ≡ [] }
+        ensures { self.new ≡ changed self.old (change.Day day) }
+    {
+        self.day = Some(day);
+        self.counts = no_counts();
+    }
+
+    /// Closes the open day.
+    fn close_day(&mut self, batch: Batch) -> Result<(), AllocError>
+        ensures ok { OnOk result (self.new ≡ changed self.old (change.Batch batch)) }
+        ensures err { OnErr result (self.new ≡ self.old) }
+    {
+        let day = batch.day;
+        self.batches.push(batch)?;
+        self.last_day = Some(day);
+        self.day = None;
+        self.counts = no_counts();
+        Ok(())
+    }
+
+    /// Takes a ticket of the open day, whose bonds no ticket has paid.
+    fn add_ticket(&mut self, ticket: &Ticket) -> Result<(), AllocError>
+        requires { IsNextTicket self.old ticket.now }
+        ensures ok { OnOk result (self.new ≡ changed self.old (change.Ticket ticket.now)) }
+        ensures err { OnErr result (self.new ≡ self.old) }
+    {
+        let copy = ticket.copy()?;
+        self.tickets.push(copy)?;
+        mark_all(&mut self.bonds, ticket.lines.as_slice(), ticket.ticket);
+        let total = self.counts.total;
+        let paid = ticket.total;
+        self.counts = DayCounts {
+            tickets: self.counts.tickets + 1,
+            bonds: self.counts.bonds + ticket.lines.as_slice().len() as u64,
+            total: Cents(total.0 + paid.0),
+        };
+        Ok(())
+    }
+}
+
+impl Ledger {
+    /// Makes changes, one after the other: all of them, or none.
+    pub fn apply(&mut self, changes: &[Change]) -> Result<(), AllocError>
+        requires { AreApplicable self.old changes.now }
+        ensures ok { OnOk result (self.new ≡ applied self.old changes.now) }
+        ensures err { OnErr result (self.new ≡ self.old) }
+    {
+        if changes.is_empty() {
+            return Ok(());
+        }
+        match &changes[0] {
+            Change::Rates(_, _) => self.add_rates(changes),
+            Change::Bond(_) => self.add_bonds(changes),
+            Change::Day(day) => {
+                self.open_day(*day);
+                Ok(())
+            }
+            Change::Ticket(ticket) => self.add_ticket(ticket),
+            Change::Batch(batch) => self.close_day(*batch),
+        }
+    }
+
+    /// The rates of a period.
+    pub fn rates(&self, period: IssueMonth) -> Option<Rates>
+        ensures { result ≡ finite.get self.now.rates period }
+    {
+        self.rates.get(&period).copied()
+    }
+
+    /// A registered bond, and the ticket that paid it.
+    pub fn held(&self, serial: Serial) -> Option<Held>
+        ensures { result ≡ held_of self.now serial }
+    {
+        self.bonds.get(&serial).copied()
+    }
+
+    /// The open day.
+    pub fn day(&self) -> Option<Day>
+        ensures { result ≡ self.now.day }
+    {
+        self.day
+    }
+
+    /// The last closed day.
+    pub fn last_day(&self) -> Option<Day>
+        ensures { result ≡ self.now.last_day }
+    {
+        self.last_day
+    }
+
+    /// The tickets in order of number.
+    pub fn tickets(&self) -> &[Ticket]
+        ensures { result.now ≡ self.now.tickets }
+    {
+        self.tickets.as_slice()
+    }
+
+    /// What the open day's tickets are: zeros where no day is open.
+    pub fn counts(&self) -> DayCounts
+        ensures { AreCounts (open_batch self.now) result }
+    {
+        self.counts
+    }
+}

@@ -1,0 +1,20 @@
+//! The desk of a paying agent: it keeps rates, bonds, tickets and batches, does acts on them, and
+//! answers each numbered request once.
+#![tactic(auto)]
+
+mod additions;
+mod books;
+mod ledger;
+mod marks;
+mod ranges;
+mod seeing;
+#[cfg(test)]
+mod tests;
+pub mod thin;
+
+pub use books::Books;
+pub use ee_acts::{
+    Act, Batch, Change, Effects, Held, Kept, Line, Number, RateRow, Refusal, Reply, Request, Rows,
+    Ticket, Unserved,
+};
+pub use ee_decide::{DayCounts, View, decide};

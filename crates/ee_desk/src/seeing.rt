@@ -1,0 +1,222 @@
+//! What an act sees of the books.
+
+ghost use Rattle.std.specs.Prelude.{◌≡◌, ◌≤◌, IfOk, OnOk, map, length};
+ghost use Rattle.std.specs.Option.{option_map};
+ghost use Rattle.std.specs.List.{filter_map};
+ghost use Rattle.std.specs.FinMap as finite;
+ghost use Rattle.ee_units.specs.Calendar.{period_start};
+ghost use Rattle.ee_acts.specs.Seen.{held_of};
+ghost use Rattle.ee_acts.specs.Views as is;
+ghost use Rattle.ee_acts.specs.Views.{picked, period_of_held};
+ghost use Rattle.ee_decide.specs.Settled.{AreSettled};
+ghost use Rattle.ee_desk.specs.Kept.{rates_in, held_in, noted, noted_at, AreCounts};
+
+use crate::ledger::Ledger;
+use ee_acts::{Act, Held, RateRow};
+use ee_calculator::Bond;
+use ee_decide::{DayCounts, View};
+use ee_units::calendar::period_of;
+use ee_units::{Cents, IssueMonth, Serial};
+use ee_value::Rates;
+use std::alloc::{AllocError, Global};
+use std::collections::BTreeMap;
+
+/// Notes the rate of a period, where there is one.
+fn note_rate(
+    found: &mut BTreeMap<IssueMonth, Rates>,
+    ledger: &Ledger,
+    period: IssueMonth,
+) -> Result<(), AllocError>
+    ensures { OnOk result (rates_in found.new.entries ≡ noted (finite.get ledger.now.rates) (rates_in found.old.entries) period) }
+{
+    if let Some(rates) = ledger.rates(period) {
+        found.insert(period, rates)?;
+    }
+    Ok(())
+}
+
+/// Notes the rate of the issue period of a bond, where it is registered.
+fn note_rate_of(
+    found: &mut BTreeMap<IssueMonth, Rates>,
+    ledger: &Ledger,
+    serial: Serial,
+) -> Result<(), AllocError>
+    ensures { OnOk result (rates_in found.new.entries ≡ noted_at (finite.get ledger.now.rates) (rates_in found.old.entries) (option_map period_of_held (held_of ledger.now serial))) }
+{
+    match ledger.held(serial) {
+        Some(held) => note_rate(found, ledger, period_of(held.bond.issued)),
+        None => Ok(()),
+    }
+}
+
+/// Notes a registered bond.
+fn put(found: &mut BTreeMap<Serial, Held>, serial: Serial, held: &Held) -> Result<(), AllocError>
+    ensures { OnOk result (held_in found.new.entries ≡ finite.insert (held_in found.old.entries) serial held.now) }
+{
+    let bond = held.bond;
+    let ticket = held.ticket;
+    found.insert(serial, Held { bond, ticket })?;
+    Ok(())
+}
+
+/// Notes what is held of a serial, where it is registered.
+fn note_held(
+    found: &mut BTreeMap<Serial, Held>,
+    ledger: &Ledger,
+    serial: Serial,
+) -> Result<(), AllocError>
+    ensures { OnOk result (held_in found.new.entries ≡ noted (held_of ledger.now) (held_in found.old.entries) serial) }
+{
+    match ledger.held(serial) {
+        Some(held) => put(found, serial, &held),
+        None => Ok(()),
+    }
+}
+
+/// The rates of the months of rows.
+fn rates_of_rows(
+    alloc: Global,
+    ledger: &Ledger,
+    rows: &[RateRow],
+) -> Result<BTreeMap<IssueMonth, Rates>, AllocError>
+    ensures { IfOk result (λ m. rates_in m.entries ≡ picked (finite.get ledger.now.rates) (map (λ row. row.from) rows.now)) }
+{
+    let mut found = BTreeMap::new(alloc);
+    for row in rows {
+        note_rate(&mut found, ledger, row.from)?;
+    }
+    Ok(found)
+}
+
+/// The rates of the issue periods of the registered bonds that are named.
+fn rates_of_serials(
+    alloc: Global,
+    ledger: &Ledger,
+    serials: &[Serial],
+) -> Result<BTreeMap<IssueMonth, Rates>, AllocError>
+    ensures { IfOk result (λ m. rates_in m.entries ≡ picked (finite.get ledger.now.rates) (filter_map (λ s. option_map period_of_held (held_of ledger.now s)) serials.now)) }
+{
+    let mut found = BTreeMap::new(alloc);
+    for serial in serials {
+        note_rate_of(&mut found, ledger, *serial)?;
+    }
+    Ok(found)
+}
+
+/// What is held of the serials that are named.
+fn held_of_serials(
+    alloc: Global,
+    ledger: &Ledger,
+    serials: &[Serial],
+) -> Result<BTreeMap<Serial, Held>, AllocError>
+    ensures { IfOk result (λ m. held_in m.entries ≡ picked (held_of ledger.now) serials.now) }
+{
+    let mut found = BTreeMap::new(alloc);
+    for serial in serials {
+        note_held(&mut found, ledger, *serial)?;
+    }
+    Ok(found)
+}
+
+/// The rates of the issue periods of rows.
+fn rates_of_bonds(
+    alloc: Global,
+    ledger: &Ledger,
+    bonds: &[Bond],
+) -> Result<BTreeMap<IssueMonth, Rates>, AllocError>
+    ensures { IfOk result (λ m. rates_in m.entries ≡ picked (finite.get ledger.now.rates) (map (λ bond. period_start bond.issued) bonds.now)) }
+{
+    let mut found = BTreeMap::new(alloc);
+    for bond in bonds {
+        note_rate(&mut found, ledger, period_of(bond.issued))?;
+    }
+    Ok(found)
+}
+
+/// What is held of the serials of rows.
+fn held_of_bonds(
+    alloc: Global,
+    ledger: &Ledger,
+    bonds: &[Bond],
+) -> Result<BTreeMap<Serial, Held>, AllocError>
+    ensures { IfOk result (λ m. held_in m.entries ≡ picked (held_of ledger.now) (map (λ bond. bond.serial) bonds.now)) }
+{
+    let mut found = BTreeMap::new(alloc);
+    for bond in bonds {
+        note_held(&mut found, ledger, bond.serial)?;
+    }
+    Ok(found)
+}
+
+fn no_rates(alloc: Global) -> BTreeMap<IssueMonth, Rates>
+    ensures { rates_in result.entries ≡ finite.empty }
+{
+    BTreeMap::new(alloc)
+}
+
+fn no_bonds(alloc: Global) -> BTreeMap<Serial, Held>
+    ensures { held_in result.entries ≡ finite.empty }
+{
+    BTreeMap::new(alloc)
+}
+
+/// The rates that an act names.
+fn rates_of(
+    alloc: Global,
+    ledger: &Ledger,
+    act: &Act,
+) -> Result<BTreeMap<IssueMonth, Rates>, AllocError>
+    ensures { IfOk result (λ m. rates_in m.entries ≡ picked (finite.get ledger.now.rates) (is.periods_of ledger.now act.now)) }
+{
+    match act {
+        Act::AddRates(rows) => rates_of_rows(alloc, ledger, rows.as_slice()),
+        Act::AddBonds(bonds) => rates_of_bonds(alloc, ledger, bonds.as_slice()),
+        Act::Redeem { serials, .. } => rates_of_serials(alloc, ledger, serials.as_slice()),
+        Act::OpenDay(_) | Act::CloseDay(_) => Ok(no_rates(alloc)),
+    }
+}
+
+/// The bonds that an act names.
+fn bonds_of(alloc: Global, ledger: &Ledger, act: &Act) -> Result<BTreeMap<Serial, Held>, AllocError>
+    ensures { IfOk result (λ m. held_in m.entries ≡ picked (held_of ledger.now) (is.serials_of act.now)) }
+{
+    match act {
+        Act::AddBonds(bonds) => held_of_bonds(alloc, ledger, bonds.as_slice()),
+        Act::Redeem { serials, .. } => held_of_serials(alloc, ledger, serials.as_slice()),
+        Act::AddRates(_) | Act::OpenDay(_) | Act::CloseDay(_) => Ok(no_bonds(alloc)),
+    }
+}
+
+/// The open day's tickets, for the acts that count them.
+fn counted(ledger: &Ledger, act: &Act) -> DayCounts
+    ensures { AreCounts (is.counted ledger.now act.now) result }
+{
+    match act {
+        Act::Redeem { .. } | Act::CloseDay(_) => ledger.counts(),
+        Act::AddRates(_) | Act::AddBonds(_) | Act::OpenDay(_) => DayCounts {
+            tickets: 0,
+            bonds: 0,
+            total: Cents(0),
+        },
+    }
+}
+
+/// What an act names of a ledger.
+pub fn view_of(alloc: Global, ledger: &Ledger, act: &Act) -> Result<View, AllocError>
+    requires few { length ledger.now.tickets ≤ 71200000 }
+    requires settled { AreSettled ledger.now.rates }
+    ensures { IfOk result (λ v. v ≡ is.view_of ledger.now act.now) }
+{
+    let rates = rates_of(alloc, ledger, act)?;
+    let bonds = bonds_of(alloc, ledger, act)?;
+    let counts = counted(ledger, act);
+    let tickets = ledger.tickets().len() as u64;
+    Ok(View::new(
+        rates,
+        bonds,
+        ledger.day(),
+        ledger.last_day(),
+        tickets,
+        counts,
+    ))
+}
