@@ -1,0 +1,4 @@
+pub mod Amounts
+pub mod Back
+pub mod Whole
+pub mod Same

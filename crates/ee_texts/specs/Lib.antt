@@ -1,0 +1,4 @@
+pub mod Data
+pub mod Texts
+pub mod Ranges
+pub mod Reading

@@ -1,0 +1,21 @@
+//! The JSON texts of acts and replies: canonical texts of acts, by which acts are kept and compared,
+//! texts of replies, and both read back.
+#![tactic(auto)]
+
+mod act_reading;
+mod acts;
+mod fields;
+mod laws;
+mod money;
+mod ranges;
+mod refusal_reading;
+mod refusals;
+mod replies;
+mod reply_reading;
+mod values;
+
+pub use act_reading::read_act;
+pub use acts::canonical;
+pub use laws::texts_law;
+pub use replies::reply_text;
+pub use reply_reading::read_reply;
