@@ -53,6 +53,7 @@ impl<'a> Read for Rounds<'a> {
 }
 
 /// What a stream had: messages, calls among them, bytes of bodies, and how it ended.
+#[derive(Drop)]
 struct Counts {
     messages: u64,
     calls: u64,
@@ -132,7 +133,7 @@ fn time(rt: &HostRuntime, name: &str, text: &[u8], rounds: u64, step: usize) -> 
 }
 
 /// The count of rounds that the command line asks for.
-fn rounds(rt: &HostRuntime) -> Result<u64> {
+fn count_of_rounds(rt: &HostRuntime) -> Result<u64> {
     match env::args(rt)?.nth(1) {
         Some(text) => Ok(text.parse()?),
         None => Ok(2_000),
@@ -140,7 +141,7 @@ fn rounds(rt: &HostRuntime) -> Result<u64> {
 }
 
 fn main(rt: HostRuntime) -> Result<()> {
-    let rounds = rounds(&rt)?;
+    let rounds = count_of_rounds(&rt)?;
     let head = worst_head(rt.alloc())?;
     let body = long_body(rt.alloc())?;
     for step in [1, 64, 4_096] {
