@@ -1,0 +1,10 @@
+use Rattle.std.proofs.Common.{Err, ap, subst}
+use Rattle.httparse.specs.Spans.{RequestExceeds}
+use Rattle.ee_framing.proofs.Heads.{exceeds_no_short, by_error}
+use Rattle.ee_framing.proofs.head.judge.Goals as goal
+
+pub returns-in-Err : goal.returns-in-Err
+returns-in-Err c =
+    by_error c.in-Err.field-0 c.in-Err.ensures.invalid (λ y.
+      absurd (exceeds_no_short c.args.lines.now c.requires.limit
+        (subst (λ n. RequestExceeds n c.args.lines.now) c.requires.room (c.in-Err.ensures.too_many (ap Err y)))))

@@ -1,0 +1,4 @@
+pub mod Framing
+pub mod Heads
+pub mod Stream
+pub mod Reading

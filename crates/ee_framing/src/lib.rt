@@ -1,0 +1,53 @@
+//! Requests of HTTP/1.x out of a stream of bytes, however a reader cuts them: heads of `httparse`'s
+//! grammar, and bodies whose length the head states.
+#![tactic(auto)]
+
+mod buffer;
+mod fields;
+mod front;
+mod head;
+mod laws;
+
+pub use buffer::{Buffer, Message, Next, Stop, WireEnd, next_message};
+pub use httparse::spans::Span;
+pub use laws::one_split;
+
+#[cfg(test)]
+mod tests;
+
+use thiserror::Error;
+
+/// The most bytes of a head.
+pub const HEAD_LIMIT: usize = 16_384;
+/// The most headers.
+pub const HEADER_LIMIT: usize = 32;
+/// The most bytes of a body.
+pub const BODY_LIMIT: usize = 1_048_576;
+
+/// The most bytes of one read.
+const CHUNK: usize = 4_096;
+/// The most bytes that a `Buffer` holds: one message and one read.
+pub const BUFFER_LIMIT: usize = HEAD_LIMIT + BODY_LIMIT + CHUNK;
+
+/// Room for headers: no head within the limit has so many.
+const HEADER_ROOM: usize = 5_462;
+
+/// Why a stream is no sequence of messages.
+#[derive(Clone, Copy, Debug, PartialEq, Eq, Error)]
+pub enum FramingFault {
+    /// The bytes begin no head, or one of more than 32 headers.
+    #[error("no head of HTTP/1.x with at most 32 headers")]
+    BadHead,
+    /// No head ends within 16,384 bytes.
+    #[error("the head is longer than 16,384 bytes")]
+    HeadTooLong,
+    /// The head states a body of more than 1,048,576 bytes.
+    #[error("the body is longer than 1,048,576 bytes")]
+    BodyTooLong,
+    /// The length isn't digits alone or is stated twice, or the body has a transfer coding.
+    #[error("the head states no length of its body")]
+    BadLength,
+    /// The stream ends inside a message.
+    #[error("the message is cut")]
+    Truncated,
+}

@@ -1,0 +1,37 @@
+-- The texts of answers, put together.
+use Rattle.std.proofs.Common.{◌≡◌, ℕ, Bool, true, false, List, [], ◌∷◌, ◌++◌, Option, Some, None, codes, refl, sym, ap, ◌∙◌, append_assoc, append-nil}
+use Rattle.std.specs.Prelude.{decimal}
+use Rattle.std.specs.Io.KnownBytes.{Appends}
+use Rattle.serde_json.specs.Written.{has_float}
+use Rattle.ee_device.specs.Written.{WritesFront}
+use Rattle.ee_calls.specs.declared.faults.Field.{Field}
+use Rattle.ee_calls.specs.declared.faults.WireFault.{WireFault}
+use Rattle.ee_calls.specs.Faults.{code_of, name_of}
+use Rattle.ee_wire.specs.Heads.{line, status_line, kind_line, closing_line, head_text}
+use Rattle.serde_json.specs.Data.{string, object, member}
+use Rattle.ee_wire.specs.Answers.{number_data, fault_data, field_in, field_member}
+use Rattle.ee_wire.specs.declared.answers.Status.{Status}
+use Rattle.ee_wire.specs.declared.answers.Kind.{Kind}
+
+-- the lines of a head, one after another
+pub joined : (status : Status) (kind : Kind) (length : ℕ) (closes : Bool) (a b c d e f : List ℕ)
+    → a ≡ [] → b ≡ a ++ line (status_line status) → c ≡ b ++ line (kind_line kind) → d ≡ c ++ line (codes "Content-Length: " ++ decimal length)
+    → e ≡ d ++ closing_line closes → f ≡ e ++ line [] → f ≡ head_text status kind length closes
+unfolding head_text
+joined status kind length closes a b c d e f ha hb hc hd he hf =
+    let first = line (status_line status) in
+    let second = line (kind_line kind) in
+    let third = line (codes "Content-Length: " ++ decimal length) in
+    hf ∙ ap (λ l. l ++ line []) (he ∙ ap (λ l. l ++ closing_line closes) (hd ∙ ap (λ l. l ++ third) (hc ∙ ap (λ l. l ++ second) (hb ∙ ap (λ l. l ++ first) ha))))
+
+-- what an empty list took whole
+pub taken : (new text : List ℕ) → WritesFront (Some []) (Some new) text true → new ≡ text
+taken new text written = written.written ∙ written.whole refl
+
+fault_with : (code : ℕ) (name : List ℕ) (o : Option Field)
+    → has_float (object (member (codes "code") (number_data code) (member (codes "fault") (string name) (field_member o)))) ≡ false
+fault_with code name None = refl
+fault_with code name (Some field) = refl
+
+pub fault_whole : (f : WireFault) → has_float (fault_data f) ≡ false
+fault_whole f = fault_with (code_of f) (name_of f) (field_in f)

@@ -1,0 +1,19 @@
+//! HTTP messages: requests out of a stream, what they ask for, and the bytes of the answers.
+#![tactic(auto)]
+
+mod answers;
+mod bodies;
+mod heads;
+mod rows;
+mod writing;
+
+pub use answers::{Answer, WriteEnd};
+pub use ee_calls::{Call, Field, Query, WireFault, decode};
+pub use ee_framing::{
+    BODY_LIMIT, BUFFER_LIMIT, Buffer, FramingFault, HEAD_LIMIT, HEADER_LIMIT, Message, Next, Span,
+    WireEnd, next_message, one_split,
+};
+pub use writing::write_reply;
+
+#[cfg(test)]
+mod tests;
