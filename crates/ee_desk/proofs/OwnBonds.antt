@@ -66,13 +66,13 @@ own_among tickets customer (e ∷ es) h =
     ap (cons_option (own_bond customer e.1)) (own_among tickets customer es h.1)
     ∙ one_more ((e.1.bond.owner == customer) && is_none e.1.ticket) e.1.bond (filter (is_open_bond tickets customer) (values_of (bonds_kept es)))
     ∙ ap (λ t. cond ((e.1.bond.owner == customer) && is_none t) (e.1.bond ∷ filter (is_open_bond tickets customer) (values_of (bonds_kept es))) (filter (is_open_bond tickets customer) (values_of (bonds_kept es))))
-        (h.0.0 ∙ sym (ap (ticket_of tickets) h.0.1))
+    (h.0.0 ∙ sym (ap (ticket_of tickets) h.0.1))
 
 pub own_is : (tickets : List Ticket) (customer : ℕ) (es : List (SerialNumber × Held)) → IsStrictlySortedBy serial_cmp (keys_of es) → AreMarked es tickets
     → ((q : SerialNumber) → IfSome (finite.get (bonds_in es) q) (λ b. b.serial ≡ q))
     → filter_map (own_bond customer) (values_of es) ≡ filter (is_open_bond tickets customer) (finite.values (bonds_in es))
 own_is tickets customer es ordered marked keyed =
     own_among tickets customer es (all_entries serials_total (IsKeptRight tickets) es ordered (λ q.
-        right_if tickets q (held_at es q) (marked q) (subst (λ o. IfSome o (λ b. b.serial ≡ q)) (get_bond es q) (keyed q))))
+    right_if tickets q (held_at es q) (marked q) (subst (λ o. IfSome o (λ b. b.serial ≡ q)) (get_bond es q) (keyed q))))
     ∙ ap (λ bs. filter (is_open_bond tickets customer) (values_of bs))
-        (sym (entries_are serial_cmp serials_total exact_serials (bonds_kept es) (subst (IsStrictlySortedBy serial_cmp) (sym (same_keys es)) ordered)))
+    (sym (entries_are serial_cmp serials_total exact_serials (bonds_kept es) (subst (IsStrictlySortedBy serial_cmp) (sym (same_keys es)) ordered)))

@@ -8,7 +8,7 @@ use Rattle.ee_acts.specs.Queries.{PlainRow, PlainSheet, shown_in_row, shown_in_s
 
 sum_shown : (f : Row → ℕ) (g : PlainRow → ℕ) → ((row : Row) → f row ≡ g (shown_in_row row)) → (rows : List Row) → sum_by f rows ≡ sum_by g (map shown_in_row rows)
 sum_shown f g same [] = refl
-sum_shown f g same (row ∷ rows) = 
+sum_shown f g same (row ∷ rows) =
     sum_by-cons f row rows ∙ (λ i. same row i + sum_shown f g same rows i) ∙ sym (sum_by-cons g (shown_in_row row) (map shown_in_row rows))
 
 pub sheet_is : (sheet : Sheet) (rows : List Row) → sheet.rows.items ≡ rows → sheet.price.0 ≡ sum_by (λ row. row.price.0) rows

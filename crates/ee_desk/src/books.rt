@@ -12,8 +12,7 @@ ghost use Rattle.ee_acts.specs.Queries.{ticket_numbered, batch_on, bonds_of, inv
 
 use crate::ledger::Ledger;
 use crate::ranges::in_range;
-use crate::seeing;
-use crate::sheets;
+use crate::{seeing, sheets};
 use ee_acts::{Act, Batch, Effects, Reply, Ticket};
 use ee_calculator::{Bond, Row, Sheet, sheet};
 use ee_decide::{View, decide};

@@ -78,9 +78,9 @@ pub given_shown : (m : parts.Message) (len : ℕ) (known after : Option (List �
     → Gives (message_in new.shown m) known (left new after)
 given_shown m len known after seen held new same shown rest kept at =
     subst (λ s. Gives (message_in s m) known (left new after)) (sym shown)
-      (subst (λ r. Gives (message_in (take len held) m) known (prepend_known r after)) (sym rest)
-        (given (message_in (take len held) m) known after held (drop len held) kept
-          (subst (λ l. BeginsMessage l (message_in (take len l) m) (drop len l)) same at)))
+    (subst (λ r. Gives (message_in (take len held) m) known (prepend_known r after)) (sym rest)
+    (given (message_in (take len held) m) known after held (drop len held) kept
+    (subst (λ l. BeginsMessage l (message_in (take len l) m) (drop len l)) same at)))
 
 -- a read that brought nothing
 pub none_read : (held got new : List ℕ) → length got ≡ 0 → new ≡ held ++ got → NeedsMore held → NeedsMore new

@@ -9,6 +9,6 @@ pub returns : goal.returns
 returns c =
     let keyed = subst AreKeyed (sym c.self.view_is) c.requires in
     if_ok c.own_bonds.result
-        (λ v is. is ∙ own_is c.self.inside.tickets.items c.args.customer c.self.inside.bonds.entries c.own_bonds.ensures.ordered c.self.invariant.0 keyed
-        ∙ ap (λ b. bonds_of b c.args.customer) c.self.view_is)
-        c.own_bonds.ensures.own
+    (λ v is. is ∙ own_is c.self.inside.tickets.items c.args.customer c.self.inside.bonds.entries c.own_bonds.ensures.ordered c.self.invariant.0 keyed
+    ∙ ap (λ b. bonds_of b c.args.customer) c.self.view_is)
+    c.own_bonds.ensures.own
