@@ -10,3 +10,4 @@ pub mod Ordered
 pub mod OwnBonds
 pub mod Batches
 pub mod SheetRows
+pub mod EveryRow

@@ -1,4 +1,4 @@
-ghost use Rattle.std.specs.Prelude.{◌≡◌, IfOk, IfSome, OnOk, OnErr};
+ghost use Rattle.std.specs.Prelude.{◌≡◌, map, Some, IfOk, IfSome, OnOk, OnErr};
 ghost use Rattle.std.specs.Option.{option_map};
 ghost use Rattle.ee_acts.specs.declared.acts.Act.{Act};
 ghost use Rattle.ee_acts.specs.PlainBooks.{no_books, batch_of};
@@ -132,7 +132,9 @@ impl Books {
 
     /// The sheet in a month of the unpaid bonds whose owner is this customer, in order of serial.
     pub fn inventory(&self, customer: Customer, month: Month) -> Result<Sheet, AllocError>
-        ensures { IfOk result (λ sheet. shown_in_sheet sheet ≡ inventory self.now customer month) }
+        ensures sheet { IfOk result (λ sheet. shown_in_sheet sheet ≡ inventory self.now customer month) }
+        // Each of the bonds has its row.
+        ensures whole { IfOk result (λ sheet. map (λ row. row.serial) sheet.rows.items ≡ map (λ bond. Some bond.serial) (bonds_of self.now customer)) }
     {
         let bonds = self.bonds_of(customer)?;
         let rows = sheets::rows_of(self.alloc, &self.ledger, bonds.as_slice(), month)?;

@@ -1,0 +1,99 @@
+-- Each bond of an inventory has its row.
+use Rattle.std.proofs.Common.{◌≡◌, ℕ, Bool, true, false, true≢false, cond, ◌&&◌, List, [], ◌∷◌, map, Option, Some, None, refl, sym, ap, ◌∙◌, subst}
+use Rattle.std.specs.Prelude.{T, IsSome}
+use Rattle.std.specs.Option.{IfSome, option_map}
+use Rattle.std.specs.List.{AllByRecursion, filter, filter_map, cons_option}
+use Rattle.std.specs.Map.{values_of}
+use Rattle.std.specs.FinMap as finite
+use Rattle.std.specs.FinMap.{FinMap, find, entries_sorted, get-entries}
+use Rattle.std.specs.FinMap.Entries.{is_sorted, below_all}
+use Rattle.std.specs.Ordering.{nat_cmp, is_lt, is_eq, eq_by_cmp}
+use Rattle.std.specs.Cmp.{IsTotalOrder, eq_by_cmp_equiv}
+use Rattle.std.specs.declared.cmp.Ordering.{Ordering}
+use Rattle.std.specs.declared.cmp.Ordering.TheVariants.{Less, Equal, Greater}
+use Rattle.std.proofs.lemmas.Map.Lookups.{CmpEqualImpliesEq}
+use Rattle.ee_units.specs.Spelling.{SerialNumber}
+use Rattle.ee_units.specs.Calendar.{period_start}
+use Rattle.ee_value.specs.declared.rates.Rates.{Rates}
+use Rattle.ee_calculator.specs.declared.bonds.Bond.{Bond}
+use Rattle.ee_calculator.specs.declared.rows.Row.{Row}
+use Rattle.ee_acts.specs.Sound.{IsSound, IsRightBond}
+use Rattle.ee_acts.specs.PlainBooks.{PlainBooks}
+use Rattle.ee_acts.specs.Queries.{PlainRow, shown_in_row, row_of, plain_row, is_open_bond, bonds_of}
+use Rattle.ee_acts.proofs.Maps.{serials_total, exact_serials, same_key}
+
+front : (a b : Bool) → T (a && b) → T a
+front true b p = tt
+front false b p = p
+
+back : (a b : Bool) → T (a && b) → T b
+back true b p = p
+back false b p = absurd p
+
+apart : (r : Ordering) → T (is_lt r) → is_eq r ≡ false
+apart Less h = refl
+apart Equal h = absurd h
+apart Greater h = absurd h
+
+-- what holds wherever a key is found holds of each entry
+module _ {K V : Type 0} {R : K → K → Ordering} (o : IsTotalOrder R) (exact : CmpEqualImpliesEq R) (P : K → V → Type 0) where
+  absent : (q : K) (es : List (K × V)) → T (below_all R q es) → find R q es ≡ None
+  absent q [] h = refl
+  absent q (e ∷ es) h = ap (λ b. cond b (Some e.1) (find R q es)) (apart (R q e.0) (front _ _ h)) ∙ absent q es (back _ _ h)
+
+  past : (e : K × V) (es : List (K × V)) (q : K) → T (below_all R e.0 es) → (b : Bool) → eq_by_cmp R q e.0 ≡ b
+      → IfSome (cond b (Some e.1) (find R q es)) (P q) → IfSome (find R q es) (P q)
+  past e es q h true is p =
+      let none = subst (λ k. find R k es ≡ None) (sym (same_key o exact (λ k. find R k es) q e.0 is)) (absent e.0 es h) in
+      subst (λ (v : Option V). IfSome v (P q)) (sym none) tt
+  past e es q h false is p = p
+
+  all_in : (es : List (K × V)) → T (is_sorted R es) → ((q : K) → IfSome (find R q es) (P q)) → AllByRecursion (λ e. P e.0 e.1) es
+  all_in [] s h = tt
+  all_in (e ∷ es) s h = (
+    subst (λ b. IfSome (cond b (Some e.1) (find R e.0 es)) (P e.0)) ((eq_by_cmp_equiv o).refl e.0) (h e.0),
+    all_in es (back _ _ s) (λ q. past e es q (front _ _ s) (eq_by_cmp R q e.0) refl (h q)),
+  )
+
+abbrev IsRated : FinMap nat_cmp Rates → Bond → Type 0
+IsRated rates bond = IsSome (finite.get rates (period_start bond.issued))
+
+rated_if : (rates : FinMap nat_cmp Rates) (serial : SerialNumber) (o : Option Bond) → IfSome o (IsRightBond rates serial) → IfSome o (IsRated rates)
+rated_if rates serial None h = tt
+rated_if rates serial (Some bond) h = h.rated
+
+abbrev serials_shown : List PlainRow → List (Option SerialNumber)
+serials_shown rows = map (λ row. row.serial) rows
+
+abbrev serials_of_bonds : List Bond → List (Option SerialNumber)
+serials_of_bonds bonds = map (λ bond. Some bond.serial) bonds
+
+one_row : (month : ℕ) (bond : Bond) (rates : Option Rates) (rows : List PlainRow) → IsSome rates
+    → serials_shown (cons_option (option_map (plain_row (Some bond.serial) bond.denom bond.issued month) rates) rows) ≡ Some bond.serial ∷ serials_shown rows
+one_row month bond None rows h = absurd (true≢false (sym h))
+one_row month bond (Some rates) rows h = refl
+
+rows_among : (rates : FinMap nat_cmp Rates) (month : ℕ) (p : Bond → Bool) (es : List (SerialNumber × Bond)) → AllByRecursion (λ e. IsRated rates e.1) es
+    → serials_shown (filter_map (row_of rates month) (filter p (values_of es))) ≡ serials_of_bonds (filter p (values_of es))
+rows_among rates month p [] h = refl
+rows_among rates month p (e ∷ es) h = chosen (filter p (values_of es)) (p e.1) (rows_among rates month p es h.1)
+  where
+    chosen : (bonds : List Bond) (b : Bool) → serials_shown (filter_map (row_of rates month) bonds) ≡ serials_of_bonds bonds
+        → serials_shown (filter_map (row_of rates month) (cond b (e.1 ∷ bonds) bonds)) ≡ serials_of_bonds (cond b (e.1 ∷ bonds) bonds)
+    chosen bonds true is =
+        one_row month e.1 (finite.get rates (period_start e.1.issued)) (filter_map (row_of rates month) bonds) h.0 ∙ ap (λ l. Some e.1.serial ∷ l) is
+    chosen bonds false is = is
+
+same_serials : (rows : List Row) → map (λ row. row.serial) rows ≡ serials_shown (map shown_in_row rows)
+same_serials [] = refl
+same_serials (row ∷ rows) = ap (λ l. row.serial ∷ l) (same_serials rows)
+
+-- sound books have rates for each bond, so that no row is left out
+pub every_row : (books : PlainBooks) (customer month : ℕ) (rows : List Row) → IsSound books
+    → map shown_in_row rows ≡ filter_map (row_of books.rates month) (bonds_of books customer)
+    → map (λ row. row.serial) rows ≡ map (λ bond. Some bond.serial) (bonds_of books customer)
+every_row books customer month rows sound is =
+    same_serials rows ∙ ap serials_shown is
+    ∙ rows_among books.rates month (is_open_bond books.tickets customer) (finite.entries books.bonds)
+        (all_in serials_total exact_serials (λ serial bond. IsRated books.rates bond) (finite.entries books.bonds) (entries_sorted books.bonds)
+            (λ serial. subst (λ o. IfSome o (IsRated books.rates)) (get-entries books.bonds serial) (rated_if books.rates serial (finite.get books.bonds serial) (sound.bonds serial))))
