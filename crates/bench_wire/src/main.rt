@@ -13,7 +13,8 @@ use std::io::{self, Read};
 use std::time::Instant;
 
 /// A request and a query.
-const STREAM: &[u8] = b"POST /rates HTTP/1.1\r\nContent-Length: 55\r\n\r\n{\"number\":1,\"rates\":[{\"from\":\"2010-11\",\"rate\":\"3.50\"}]}GET /value/50/2010-11/2012-02 HTTP/1.1\r\n\r\n";
+const STREAM: &[u8] =
+    b"POST /rates HTTP/1.1\r\nContent-Length: 55\r\n\r\n{\"number\":1,\"rates\":[{\"from\":\"2010-11\",\"rate\":\"3.50\"}]}GET /value/50/2010-11/2012-02 HTTP/1.1\r\n\r\n";
 
 /// A text again and again, at most `step` bytes a read.
 #[derive(Drop)]

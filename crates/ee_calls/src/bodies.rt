@@ -53,7 +53,13 @@ fn read_bond(value: &Value) -> Result<Bond, Field>
     let owner = owner_field(row)?;
     let coowner = coowner_field(row)?;
     no_other(row, &["serial", "denom", "issued", "owner", "coowner"])?;
-    Ok(Bond { serial, denom, issued, owner, coowner })
+    Ok(Bond {
+        serial,
+        denom,
+        issued,
+        owner,
+        coowner,
+    })
 }
 
 fn read_bonds(alloc: Global, values: &[Value]) -> Result<Vec<Bond>, BodyFault>
@@ -88,7 +94,10 @@ fn add_rates(alloc: Global, body: &Value) -> Result<Request, BodyFault>
     let number = number_field(body)?;
     let rows = read_rates(alloc, list_field(body, "rates", Field::Rates)?)?;
     no_other(body, &["number", "rates"])?;
-    Ok(Request { number, act: Act::AddRates(Rows::new(rows)) })
+    Ok(Request {
+        number,
+        act: Act::AddRates(Rows::new(rows)),
+    })
 }
 
 #[tactic(auto, unfolding(crate::specs::Bodies::add_bonds))]
@@ -99,7 +108,10 @@ fn add_bonds(alloc: Global, body: &Value) -> Result<Request, BodyFault>
     let number = number_field(body)?;
     let rows = read_bonds(alloc, list_field(body, "bonds", Field::Bonds)?)?;
     no_other(body, &["number", "bonds"])?;
-    Ok(Request { number, act: Act::AddBonds(Rows::new(rows)) })
+    Ok(Request {
+        number,
+        act: Act::AddBonds(Rows::new(rows)),
+    })
 }
 
 #[tactic(auto, unfolding(crate::specs::Bodies::open_day))]
@@ -110,7 +122,10 @@ fn open_day(body: &Value) -> Result<Request, Field>
     let number = number_field(body)?;
     let day = day_field(body)?;
     no_other(body, &["number", "day"])?;
-    Ok(Request { number, act: Act::OpenDay(day) })
+    Ok(Request {
+        number,
+        act: Act::OpenDay(day),
+    })
 }
 
 #[tactic(auto, unfolding(crate::specs::Bodies::close_day))]
@@ -121,7 +136,10 @@ fn close_day(body: &Value) -> Result<Request, Field>
     let number = number_field(body)?;
     let day = day_field(body)?;
     no_other(body, &["number", "day"])?;
-    Ok(Request { number, act: Act::CloseDay(day) })
+    Ok(Request {
+        number,
+        act: Act::CloseDay(day),
+    })
 }
 
 #[tactic(auto, unfolding(crate::specs::Bodies::redeem))]
@@ -134,11 +152,14 @@ fn redeem(alloc: Global, body: &Value) -> Result<Request, BodyFault>
     let payee = payee_field(body)?;
     let serials = read_serials(alloc, list_field(body, "serials", Field::Serials)?)?;
     no_other(body, &["number", "day", "payee", "serials"])?;
-    Ok(Request { number, act: Act::Redeem {
+    Ok(Request {
+        number,
+        act: Act::Redeem {
             day,
             payee,
             serials: Rows::new(serials),
-        } })
+        },
+    })
 }
 
 /// The request of a body.

@@ -18,15 +18,17 @@ use serde_json::{Map, Value};
 pub fn an_object(value: &Value, fault: Field) -> Result<&Value, Field>
     ensures { map_ok view_at result ≡ an_object fault (view value.now) }
 {
-    if value.is_object() { Ok(value) } else { Err(fault) }
+    if value.is_object() {
+        Ok(value)
+    } else {
+        Err(fault)
+    }
 }
 
 pub fn number_field(body: &Value) -> Result<Number, Field>
     ensures { result ≡ field (codes "number") number_in Field.Number (view body.now) }
 {
-    body.get("number")
-        .and_then(number_in)
-        .ok_or(Field::Number)
+    body.get("number").and_then(number_in).ok_or(Field::Number)
 }
 
 pub fn day_field(body: &Value) -> Result<Day, Field>
@@ -124,5 +126,9 @@ pub fn no_other(body: &Value, names: &[&str]) -> Result<(), Field>
     let Some(members) = body.as_object() else {
         return Ok(());
     };
-    if keys_named(members, names) { Ok(()) } else { Err(Field::Other) }
+    if keys_named(members, names) {
+        Ok(())
+    } else {
+        Err(Field::Other)
+    }
 }

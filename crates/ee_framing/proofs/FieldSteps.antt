@@ -1,11 +1,9 @@
 -- The fields of a head, one more at a time.
-use Rattle.std.proofs.Common.{◌≡◌, ℕ, ◌+◌, ◌*◌, ◌<◌, ◌≤◌, ◌⊎◌, Bool, true, false, cond, ◌&&◌, ◌||◌, List, [], ◌∷◌, ◌++◌, map, take, get_or, length, refl, sym, ap, subst, ◌∙◌, inl, inr, arith, append-nil, length-append, bytes_eq, IsTrue}
-use Rattle.std.specs.Prelude.{◌↔◌}
+use Rattle.std.proofs.Common.{◌≡◌, ℕ, ◌+◌, ◌*◌, ◌<◌, ◌≤◌, ◌⊎◌, Bool, true, false, cond, ◌&&◌, List, [], ◌∷◌, ◌++◌, map, take, get_or, length, refl, sym, ap, subst, ◌∙◌, arith, append-nil, length-append, bytes_eq}
 use Rattle.std.specs.Bool.{Decides}
 use Rattle.std.specs.Char.{to_ascii_lowercase, is_ascii_digit, digit_value}
 use Rattle.std.specs.List.{list_all}
 use Rattle.std.specs.Str.Parse.{digits_value}
-use Rattle.std.proofs.lemmas.Bool.{false≢true}
 use Rattle.std.proofs.lemmas.Bool.Decides.{same_from_decides}
 use Rattle.std.proofs.lemmas.Slice.Eq.{bytes_eq-Decides}
 use Rattle.std.proofs.lemmas.Int.Digits.{digits_value_push}
@@ -55,13 +53,13 @@ values_step lines name fields i d b found new inside within test are is =
     let before = map (header_bytes lines) (take i fields) in
     let field = get_or fields i d in
     let more : values_of name (map (header_bytes lines) (take (i + 1) fields)) ≡ values_of name before ++ cond b (span_bytes lines field.value ∷ []) [] =
-      ap (values_of name) (map_more (header_bytes lines) fields i d inside) ∙ values_push name before (header_bytes lines field)
-      ∙ ap (λ v. values_of name before ++ cond v (span_bytes lines field.value ∷ []) []) (sym test) in
+    ap (values_of name) (map_more (header_bytes lines) fields i d inside) ∙ values_push name before (header_bytes lines field)
+    ∙ ap (λ v. values_of name before ++ cond v (span_bytes lines field.value ∷ []) []) (sym test) in
     let stepped : (v : Bool) → AreValues lines (values_of name before ++ cond v (span_bytes lines field.value ∷ []) []) (cond v (next found field.value) found) =
-      λ v. elim v as (λ w. AreValues lines (values_of name before ++ cond w (span_bytes lines field.value ∷ []) []) (cond w (next found field.value) found)) [
-        | true ↦ one_more lines (values_of name before) found field.value here.1 are
-        | false ↦ subst (λ l. AreValues lines l found) (sym (append-nil (values_of name before))) are
-      ] in
+    λ v. elim v as (λ w. AreValues lines (values_of name before ++ cond w (span_bytes lines field.value ∷ []) []) (cond w (next found field.value) found)) [
+      | true ↦ one_more lines (values_of name before) found field.value here.1 are
+      | false ↦ subst (λ l. AreValues lines l found) (sym (append-nil (values_of name before))) are
+    ] in
     subst (λ l. AreValues lines l new) (sym more) (subst (AreValues lines (values_of name before ++ cond b (span_bytes lines field.value ∷ []) [])) (sym is) (stepped b))
 
 pub close_at : (lines : List ℕ) (fields : List HeaderSpan) (i : ℕ) (d : HeaderSpan) → i < length fields
@@ -71,7 +69,7 @@ pub close_at : (lines : List ℕ) (fields : List HeaderSpan) (i : ℕ) (d : Head
 close_at lines fields i d inside name value =
     let test : Pair → Bool = λ f. same_word f.0 (codes "connection") && same_word f.1 (codes "close") in
     list_any_at test (map (header_bytes lines) fields) i (header_bytes lines d) (omega (arith, length-map fields (header_bytes lines)))
-      (ap test (get_or-map (header_bytes lines) fields i d (header_bytes lines d) inside) ∙ (λ j. name j && value j))
+    (ap test (get_or-map (header_bytes lines) fields i d (header_bytes lines d) inside) ∙ (λ j. name j && value j))
 
 pub digit_small : (b : ℕ) → is_ascii_digit b ≡ true → digit_value b ≤ 9
 digit_small b h = grind (arith, nat_tests, h)

@@ -1,5 +1,5 @@
 -- What the grammar of heads says at a line feed.
-use Rattle.std.proofs.Common.{◌≡◌, ◌≢◌, ℕ, ◌+◌, ◌*◌, ◌-◌, ◌<◌, ◌≤◌, min, Bool, true, false, List, [], ◌∷◌, ◌++◌, length, take, drop, get_or, refl, sym, ap, subst, ◌∙◌, arith, append_assoc, append-nil, length-append, length-take, take-append-drop}
+use Rattle.std.proofs.Common.{◌≡◌, ◌≢◌, ℕ, ◌+◌, ◌*◌, ◌-◌, ◌<◌, ◌≤◌, min, List, [], ◌∷◌, ◌++◌, length, take, drop, get_or, refl, sym, ap, subst, ◌∙◌, arith, append_assoc, append-nil, length-append, length-take, take-append-drop}
 use Rattle.std.specs.Prelude.{All}
 use Rattle.std.specs.List.{flat_map}
 use Rattle.std.proofs.lemmas.List.{take_at, drop_at, get_or_at, take_more, drop_more, take-take, drop-take}
@@ -11,7 +11,7 @@ use Rattle.httparse.specs.Grammar.{LineEnd, crlf, lf, print_end, print_blank, pr
 use Rattle.httparse.specs.Spans.{RequestExceeds, IsWithin, span_bytes}
 use Rattle.ee_framing.specs.declared.head.Head.{Head}
 use Rattle.ee_framing.specs.Framing.{IsUndecided, HasBadHead}
-use Rattle.ee_framing.specs.Heads.{IsLines, IsOpen, IsHeadAt, AreOpen}
+use Rattle.ee_framing.specs.Heads.{IsLines, IsHeadAt, AreOpen}
 
 -- ---- room for the fields
 
@@ -62,6 +62,7 @@ request_is_lines h = by h.last
   where
     start : List ℕ
     start = print_blank h.blank ++ h.method ++ 32 ∷ h.target ++ 32 ∷ print_version h.minor ++ print_end h.line_end
+
     by : (e : LineEnd) → IsLines (start ++ (flat_map print_field h.fields ++ print_end e))
     by crlf = (start ++ (flat_map print_field h.fields ++ 13 ∷ []), simp append_assoc)
     by lf = (start ++ flat_map print_field h.fields, simp append_assoc)
@@ -78,24 +79,23 @@ line_place front rest bytes e = (
 pub undecided : (bytes : List ℕ) (n : ℕ) → n ≡ min (length bytes) 16384 → AreOpen bytes n → IsUndecided bytes
 undecided bytes n all open_at = record {
   no_head = λ h rest begins.
-    let lines = request_is_lines h in
-    let whole : bytes ≡ (lines.0 ++ 10 ∷ []) ++ rest = begins.0.1 ∙ ap (λ l. l ++ rest) lines.1 in
-    let place = line_place lines.0 rest bytes whole in
-    let size = simp length-append at (ap length lines.1) in
-    let here = open_at (length lines.0) (omega arith) place.1 in
-    here.no_head h [] (begins.0.0, place.2 ∙ sym lines.1 ∙ sym (append-nil (print_request h)));
+      let lines = request_is_lines h in
+      let whole : bytes ≡ (lines.0 ++ 10 ∷ []) ++ rest = begins.0.1 ∙ ap (λ l. l ++ rest) lines.1 in
+      let place = line_place lines.0 rest bytes whole in
+      let size = simp length-append at (ap length lines.1) in
+      let here = open_at (length lines.0) (omega arith) place.1 in
+      here.no_head h [] (begins.0.0, place.2 ∙ sym lines.1 ∙ sym (append-nil (print_request h)));
   not_bad = λ (lines, rest, e, short, never).
-    let place = line_place lines rest bytes (e ∙ sym (append_assoc lines (10 ∷ []) rest)) in
-    let here = open_at (length lines) (omega arith) place.1 in
-    here.not_bad (subst NeverHasRequest (sym place.2) never);
+      let place = line_place lines rest bytes (e ∙ sym (append_assoc lines (10 ∷ []) rest)) in
+      let here = open_at (length lines) (omega arith) place.1 in
+      here.not_bad (subst NeverHasRequest (sym place.2) never);
 }
 
 -- lines that no head begins with, in the whole
 pub bad_in : (bytes : List ℕ) (at : ℕ) → at < length bytes → at < 16384 → get_or bytes at 0 ≡ 10
     → NeverHasRequest (take (at + 1) bytes) → HasBadHead bytes
 bad_in bytes at inside short here never =
-    let lines : take (at + 1) bytes ≡ take at bytes ++ 10 ∷ [] = take_more bytes at 0 inside ∙ ap (λ b. take at bytes ++ b ∷ []) here in
-    (
+    let lines : take (at + 1) bytes ≡ take at bytes ++ 10 ∷ [] = take_more bytes at 0 inside ∙ ap (λ b. take at bytes ++ b ∷ []) here in (
       take at bytes,
       drop (at + 1) bytes,
       sym (take-append-drop at bytes) ∙ ap (λ l. take at bytes ++ l) (drop_more bytes at 0 inside ∙ ap (λ b. b ∷ drop (at + 1) bytes) here),
@@ -115,9 +115,9 @@ span_in bytes n len s fits within =
 pub head_in : (bytes : List ℕ) (n : ℕ) (found : Head) (h : RequestHead) → IsHeadAt (take n bytes) found h → IsHeadAt bytes found h
 head_in bytes n found h at =
     let whole : bytes ≡ print_request h ++ (drop found.len (take n bytes) ++ drop n bytes) =
-      sym (take-append-drop n bytes) ∙ ap (λ l. l ++ drop n bytes) at.reads.1 ∙ append_assoc (print_request h) _ _ in
+    sym (take-append-drop n bytes) ∙ ap (λ l. l ++ drop n bytes) at.reads.1 ∙ append_assoc (print_request h) _ _ in
     let rest : drop found.len bytes ≡ drop found.len (take n bytes) ++ drop n bytes =
-      ap (drop found.len) whole ∙ drop_at (print_request h) _ found.len (sym at.len) in
+    ap (drop found.len) whole ∙ drop_at (print_request h) _ found.len (sym at.len) in
     record {
       reads = (at.reads.0, whole ∙ ap (λ l. print_request h ++ l) (sym rest));
       len = at.len;

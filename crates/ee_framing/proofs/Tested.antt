@@ -1,15 +1,14 @@
 -- What was tested stays tested when more bytes come.
-use Rattle.std.proofs.Common.{◌≡◌, ◌≢◌, ℕ, ◌+◌, ◌<◌, ◌≤◌, ◌⊎◌, inl, inr, min, List, [], ◌∷◌, ◌++◌, length, take, drop, get_or, Some, None, refl, sym, ap, subst, ◌∙◌, arith, append_assoc, length-append, length-take, take-append-drop}
+use Rattle.std.proofs.Common.{◌≡◌, ℕ, ◌+◌, ◌<◌, ◌≤◌, ◌⊎◌, inl, inr, min, List, ◌++◌, length, take, drop, Some, None, refl, sym, ap, subst, ◌∙◌, arith, append_assoc, length-append, length-take, take-append-drop}
 use Rattle.std.proofs.lemmas.List.{take-append-le, drop-append-le, take-take, take_all}
 use Rattle.std.proofs.Math.ListN.{get_or-append}
 use Rattle.std.proofs.lemmas.Bool.{cases_lt}
-use Rattle.httparse.specs.Grammar.{RequestHead, print_request, NeverHasRequest}
 use Rattle.httparse.proofs.GrammarLemmas.{ReadsRequest-append}
 use Rattle.ee_framing.specs.declared.head.Verdict.{Verdict}
 use Rattle.ee_framing.specs.declared.head.Verdict.TheVariants.{Found, Bad, Partial}
 use Rattle.ee_framing.specs.declared.front.Progress.{Progress}
 use Rattle.ee_framing.specs.declared.front.Progress.TheVariants as progress
-use Rattle.ee_framing.specs.Framing.{BeginsHead, IsUndecided, HasBadHead}
+use Rattle.ee_framing.specs.Framing.{BeginsHead, IsUndecided}
 use Rattle.ee_framing.specs.Heads.{IsOpen, AreOpen, IsHeadAt, IsLastLineFeed, Judges, Finds, Knows}
 use Rattle.ee_framing.proofs.Heads.{undecided, bad_in, head_in}
 
@@ -18,14 +17,14 @@ pub open_front : (front rest : List ℕ) → IsOpen (front ++ rest) → IsOpen f
 open_front front rest open_at = record {
   no_head = λ h after reads. open_at.no_head h (after ++ rest) (ReadsRequest-append front h after rest reads);
   not_bad = λ never. open_at.not_bad (λ more h after reads.
-    never (rest ++ more) h after (reads.0, sym (append_assoc front rest more) ∙ reads.1));
+      never (rest ++ more) h after (reads.0, sym (append_assoc front rest more) ∙ reads.1));
 }
 
 pub open_take : (bytes : List ℕ) (k at : ℕ) → k ≤ at → IsOpen (take (at + 1) bytes) → IsOpen (take (k + 1) bytes)
 open_take bytes k at below open_at =
     let whole : take (at + 1) bytes ≡ take (k + 1) bytes ++ drop (k + 1) (take (at + 1) bytes) =
-      sym (take-append-drop (k + 1) (take (at + 1) bytes))
-      ∙ ap (λ l. l ++ drop (k + 1) (take (at + 1) bytes)) (take-take (k + 1) (at + 1) bytes (omega arith)) in
+    sym (take-append-drop (k + 1) (take (at + 1) bytes))
+    ∙ ap (λ l. l ++ drop (k + 1) (take (at + 1) bytes)) (take-take (k + 1) (at + 1) bytes (omega arith)) in
     open_front (take (k + 1) bytes) (drop (k + 1) (take (at + 1) bytes)) (subst IsOpen whole open_at)
 
 -- bytes that decide nothing leave it open at each line feed
@@ -35,10 +34,10 @@ open_undecided bytes open_at k below here =
     let whole : lines ++ drop (k + 1) bytes ≡ bytes = take-append-drop (k + 1) bytes in
     record {
       no_head = λ h rest reads.
-        let size = simp length-append at (ap length reads.1) in
-        open_at.no_head h (rest ++ drop (k + 1) bytes)
+          let size = simp length-append at (ap length reads.1) in
+          open_at.no_head h (rest ++ drop (k + 1) bytes)
           (subst (λ b. BeginsHead b h (rest ++ drop (k + 1) bytes)) whole
-            (ReadsRequest-append lines h rest (drop (k + 1) bytes) reads, omega (arith, length-take (k + 1) bytes)));
+          (ReadsRequest-append lines h rest (drop (k + 1) bytes) reads, omega (arith, length-take (k + 1) bytes)));
       not_bad = λ never. open_at.not_bad (bad_in bytes k (omega arith) (omega arith) here never);
     }
 
@@ -76,7 +75,7 @@ judged bytes n at Partial last open_at =
 pub open_more : (bytes more : List ℕ) (n : ℕ) → n ≤ length bytes → AreOpen bytes n → AreOpen (bytes ++ more) n
 open_more bytes more n inside open_at k below here =
     subst IsOpen (sym (take-append-le (k + 1) bytes more (omega arith)))
-      (open_at k below (sym (get_or-append bytes more 0 k (omega arith)) ∙ here))
+    (open_at k below (sym (get_or-append bytes more 0 k (omega arith)) ∙ here))
 
 pub knows_more : (bytes more : List ℕ) (p : Progress) → Knows bytes p → Knows (bytes ++ more) p
 knows_more bytes more (progress.Tested n) (inside, open_at) =

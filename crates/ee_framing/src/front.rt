@@ -76,7 +76,10 @@ fn with_body(bytes: &[u8], head: Head) -> Front
         return Front::More;
     }
     let end = head.len + len;
-    let body = Span { start: head.len, end };
+    let body = Span {
+        start: head.len,
+        end,
+    };
     let message = Message {
         method: head.method,
         target: head.target,

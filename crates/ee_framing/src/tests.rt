@@ -32,7 +32,11 @@ impl<'a> Read for Pieces<'a> {
         {
             return Err(kind.into());
         }
-        let most = if self.calls == 1 { self.first } else { self.step };
+        let most = if self.calls == 1 {
+            self.first
+        } else {
+            self.step
+        };
         let count = self.bytes.len().min(buf.len()).min(most);
         buf[..count].copy_from_slice(&self.bytes[..count]);
         self.bytes = &self.bytes[count..];
@@ -70,9 +74,13 @@ fn told(rt: &HostRuntime, reader: &mut Pieces) -> Result<String, Fail> {
     Err("no end".into())
 }
 
-const RATES: &[u8] = b"POST /rates HTTP/1.1\r\nContent-Length: 55\r\n\r\n{\"number\":1,\"rates\":[{\"from\":\"2010-11\",\"rate\":\"3.50\"}]}";
+const RATES: &[u8] =
+    b"POST /rates HTTP/1.1\r\nContent-Length: 55\r\n\r\n{\"number\":1,\"rates\":[{\"from\":\"2010-11\",\"rate\":\"3.50\"}]}";
+
 const VALUE: &[u8] = b"GET /value/50/2010-11/2012-02 HTTP/1.1\r\n\r\n";
-const TOLD: &str = "POST /rates {\"number\":1,\"rates\":[{\"from\":\"2010-11\",\"rate\":\"3.50\"}]} ; GET /value/50/2010-11/2012-02  ; Truncated";
+
+const TOLD: &str =
+    "POST /rates {\"number\":1,\"rates\":[{\"from\":\"2010-11\",\"rate\":\"3.50\"}]} ; GET /value/50/2010-11/2012-02  ; Truncated";
 
 #[test]
 fn cuts_change_nothing(rt: HostRuntime) -> Result<(), Fail> {
@@ -98,9 +106,18 @@ fn heads_are_judged(rt: HostRuntime) -> Result<(), Fail> {
         ("GET / HTTP/1.1\n\n", "GET /  ; End"),
         ("\r\n\r\nGET / HTTP/1.1\r\nHost: a\r\n\r\n", "GET /  ; End"),
         ("GET / HTTP/1.0\r\n\r\n", "GET /  and closes; End"),
-        ("GET / HTTP/1.1\r\ncoNNection: CLOSE\r\n\r\n", "GET /  and closes; End"),
-        ("GET / HTTP/1.1\r\nConnection: keep-alive, close\r\n\r\n", "GET /  ; End"),
-        ("GET / HTTP/1.1\r\nConnection: a\r\nConnection: close\r\n\r\n", "GET /  and closes; End"),
+        (
+            "GET / HTTP/1.1\r\ncoNNection: CLOSE\r\n\r\n",
+            "GET /  and closes; End",
+        ),
+        (
+            "GET / HTTP/1.1\r\nConnection: keep-alive, close\r\n\r\n",
+            "GET /  ; End",
+        ),
+        (
+            "GET / HTTP/1.1\r\nConnection: a\r\nConnection: close\r\n\r\n",
+            "GET /  and closes; End",
+        ),
         ("GET / HTTP/2.0\r\n\r\n", "BadHead"),
         ("GET /\r\n", "BadHead"),
         ("GET / HTTP/1.1\r\na b: c\r\n", "BadHead"),
@@ -109,26 +126,60 @@ fn heads_are_judged(rt: HostRuntime) -> Result<(), Fail> {
         ("GET / HTTP/2.0", "Truncated"),
         ("\r", "Truncated"),
         ("GET / HTTP/1.1\r\n\r", "Truncated"),
-        ("A / HTTP/1.1\r\nContent-Length: 0\r\n\r\nB / HTTP/1.1\n\nC", "A /  ; B /  ; Truncated"),
-        ("A / HTTP/1.1\r\nContent-Length: 3\r\n\r\nabc", "A / abc ; End"),
+        (
+            "A / HTTP/1.1\r\nContent-Length: 0\r\n\r\nB / HTTP/1.1\n\nC",
+            "A /  ; B /  ; Truncated",
+        ),
+        (
+            "A / HTTP/1.1\r\nContent-Length: 3\r\n\r\nabc",
+            "A / abc ; End",
+        ),
         ("A / HTTP/1.1\r\nContent-Length: 3\r\n\r\nab", "Truncated"),
-        ("A / HTTP/1.1\r\nContent-Length: 1048576\r\n\r\nab", "Truncated"),
-        ("A / HTTP/1.1\r\nContent-Length: 1048577\r\n\r\n", "BodyTooLong"),
-        ("A / HTTP/1.1\r\nContent-Length: 999999999999999999999999999999\r\n\r\n", "BodyTooLong"),
-        ("A / HTTP/1.1\r\nContent-Length: 000000000000000000000000000003\r\n\r\nabc", "A / abc ; End"),
+        (
+            "A / HTTP/1.1\r\nContent-Length: 1048576\r\n\r\nab",
+            "Truncated",
+        ),
+        (
+            "A / HTTP/1.1\r\nContent-Length: 1048577\r\n\r\n",
+            "BodyTooLong",
+        ),
+        (
+            "A / HTTP/1.1\r\nContent-Length: 999999999999999999999999999999\r\n\r\n",
+            "BodyTooLong",
+        ),
+        (
+            "A / HTTP/1.1\r\nContent-Length: 000000000000000000000000000003\r\n\r\nabc",
+            "A / abc ; End",
+        ),
         ("A / HTTP/1.1\r\nContent-Length: 1x\r\n\r\na", "BadLength"),
         ("A / HTTP/1.1\r\nContent-Length: +1\r\n\r\na", "BadLength"),
         ("A / HTTP/1.1\r\nContent-Length:\r\n\r\n", "BadLength"),
-        ("A / HTTP/1.1\r\nContent-Length: 1\r\ncontent-length: 1\r\n\r\na", "BadLength"),
-        ("A / HTTP/1.1\r\nContent-Length: 1048577\r\nContent-Length: 1\r\n\r\na", "BadLength"),
-        ("A / HTTP/1.1\r\nTransfer-Encoding: chunked\r\n\r\n", "BadLength"),
-        ("A / HTTP/1.1\r\nContent-Length: 1048577\r\nTransfer-Encoding: chunked\r\n\r\n", "BadLength"),
+        (
+            "A / HTTP/1.1\r\nContent-Length: 1\r\ncontent-length: 1\r\n\r\na",
+            "BadLength",
+        ),
+        (
+            "A / HTTP/1.1\r\nContent-Length: 1048577\r\nContent-Length: 1\r\n\r\na",
+            "BadLength",
+        ),
+        (
+            "A / HTTP/1.1\r\nTransfer-Encoding: chunked\r\n\r\n",
+            "BadLength",
+        ),
+        (
+            "A / HTTP/1.1\r\nContent-Length: 1048577\r\nTransfer-Encoding: chunked\r\n\r\n",
+            "BadLength",
+        ),
     ];
     for (stream, want) in table {
         let mut reader = Pieces::of(stream.as_bytes(), 4_096, 4_096);
         assert_eq!(rt; told(&rt, &mut reader)?.as_str(), want, "{stream:?}");
         let mut reader = Pieces::of(stream.as_bytes(), 1, 1);
-        assert_eq!(rt; told(&rt, &mut reader)?.as_str(), want, "{stream:?} by bytes");
+        assert_eq!(rt;
+            told(&rt, &mut reader)?.as_str(),
+            want,
+            "{stream:?} by bytes"
+        );
     }
     let mut reader = Pieces::of(b"GET /\xff HTTP/1.1\r\n", 4_096, 4_096);
     assert_eq!(rt; told(&rt, &mut reader)?.as_str(), "BadHead", "no text");
@@ -204,7 +255,10 @@ fn a_failed_read_is_final(rt: HostRuntime) -> Result<(), Fail> {
                 next = next_message(&mut reader, &mut buffer);
             }
             assert_eq!(rt; next, Err(WireEnd::ReadFailed), "call {call}");
-            assert_eq!(rt; next_message(&mut reader, &mut buffer), Err(WireEnd::ReadFailed));
+            assert_eq!(rt;
+                next_message(&mut reader, &mut buffer),
+                Err(WireEnd::ReadFailed)
+            );
             assert_eq!(rt; reader.calls, call, "reads again after call {call}");
         }
     }

@@ -6,5 +6,5 @@ use Rattle.ee_framing.proofs.head.judge.Goals as goal
 pub returns-in-Err : goal.returns-in-Err
 returns-in-Err c =
     by_error c.in-Err.field-0 c.in-Err.ensures.invalid (λ y.
-      absurd (exceeds_no_short c.args.lines.now c.requires.limit
-        (subst (λ n. RequestExceeds n c.args.lines.now) c.requires.room (c.in-Err.ensures.too_many (ap Err y)))))
+    absurd (exceeds_no_short c.args.lines.now c.requires.limit
+    (subst (λ n. RequestExceeds n c.args.lines.now) c.requires.room (c.in-Err.ensures.too_many (ap Err y)))))
