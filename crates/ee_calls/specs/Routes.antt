@@ -1,6 +1,5 @@
 -- The routes, and which of them a path takes.
-use Rattle.std.specs.Prelude.{ℕ, List, [], ◌∷◌, codes, Option, Some, None, Result, Ok, Err, option_map, if◌then◌else◌}
-use Rattle.std.specs.Str.{is_utf8}
+use Rattle.std.specs.Prelude.{ℕ, List, [], codes, Option, None, Result, Ok, Err, option_map, if◌then◌else◌}
 use Rattle.matchit.specs.Rows.{RowsOf}
 use Rattle.matchit.specs.Seek.{first}
 use Rattle.matchit.specs.Order.{placed}
@@ -39,7 +38,3 @@ routes =
 -- the route that a text takes
 abbrev pub route_of : List ℕ → Option Route
 route_of path = option_map (λ m. m.value) (first routes path)
-
--- the route that a target takes
-abbrev pub route_at : List ℕ → Option Route
-route_at target = if is_utf8 target then route_of target else None

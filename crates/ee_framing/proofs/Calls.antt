@@ -1,16 +1,13 @@
 -- From what is held to all that is left.
-use Rattle.std.proofs.Common.{◌≡◌, ◌≢◌, ℕ, ◌+◌, ◌-◌, ◌<◌, ◌≤◌, List, [], ◌∷◌, ◌++◌, length, take, drop, Option, Some, None, Result, Ok, Err, IfSome, refl, sym, ap, subst, ◌∙◌, inl, inr, arith, append_assoc, append-nil, length-append}
+use Rattle.std.proofs.Common.{◌≡◌, ℕ, List, [], ◌∷◌, ◌++◌, length, take, drop, Option, Some, None, Ok, Err, IfSome, refl, sym, ap, subst, ◌∙◌, inl, inr, arith, append_assoc, append-nil}
 use Rattle.std.specs.Io.KnownBytes.{Keeps, Consumes, IsAtEnd, prepend_known}
-use Rattle.httparse.specs.Grammar.{RequestHead, print_request}
-use Rattle.ee_framing.specs.declared.FramingFault.{FramingFault}
-use Rattle.ee_framing.specs.declared.FramingFault.TheVariants.{Truncated}
 use Rattle.ee_framing.specs.declared.front.Front.TheVariants as front
 use Rattle.ee_framing.specs.declared.buffer.Message as parts
 use Rattle.ee_framing.specs.declared.buffer.WireEnd.TheVariants as wire
 use Rattle.ee_framing.specs.declared.buffer.Next.TheVariants as next
 use Rattle.ee_framing.specs.Stream.{Stream}
-use Rattle.ee_framing.specs.Framing.{BeginsFault, BeginsHead, BeginsMessage, Message, EndsWith, end, fault, body_length_of}
-use Rattle.ee_framing.specs.Reading.{message_in, left, Gives, NeedsMore, IsFront, EndsAt, Answer, Answers, ReadsMore}
+use Rattle.ee_framing.specs.Framing.{BeginsHead, BeginsMessage, Message, EndsWith, end, fault}
+use Rattle.ee_framing.specs.Reading.{message_in, left, Gives, NeedsMore, IsFront, EndsAt, Answer, Answers}
 use Rattle.ee_framing.proofs.More.{BeginsHead-append}
 
 -- what holds of what is held, whatever follows, holds of all that was left

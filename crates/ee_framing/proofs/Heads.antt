@@ -1,5 +1,5 @@
 -- What the grammar of heads says at a line feed.
-use Rattle.std.proofs.Common.{◌≡◌, ◌≢◌, ℕ, ◌+◌, ◌*◌, ◌-◌, ◌<◌, ◌≤◌, min, Bool, true, false, List, [], ◌∷◌, ◌++◌, length, take, drop, get_or, refl, sym, ap, subst, ◌∙◌, arith, append_assoc, append-nil, length-append, length-take, take-append-drop}
+use Rattle.std.proofs.Common.{◌≡◌, ◌≢◌, ℕ, ◌+◌, ◌*◌, ◌-◌, ◌<◌, ◌≤◌, min, List, [], ◌∷◌, ◌++◌, length, take, drop, get_or, refl, sym, ap, subst, ◌∙◌, arith, append_assoc, append-nil, length-append, length-take, take-append-drop}
 use Rattle.std.specs.Prelude.{All}
 use Rattle.std.specs.List.{flat_map}
 use Rattle.std.proofs.lemmas.List.{take_at, drop_at, get_or_at, take_more, drop_more, take-take, drop-take}
@@ -11,7 +11,7 @@ use Rattle.httparse.specs.Grammar.{LineEnd, crlf, lf, print_end, print_blank, pr
 use Rattle.httparse.specs.Spans.{RequestExceeds, IsWithin, span_bytes}
 use Rattle.ee_framing.specs.declared.head.Head.{Head}
 use Rattle.ee_framing.specs.Framing.{IsUndecided, HasBadHead}
-use Rattle.ee_framing.specs.Heads.{IsLines, IsOpen, IsHeadAt, AreOpen}
+use Rattle.ee_framing.specs.Heads.{IsLines, IsHeadAt, AreOpen}
 
 -- ---- room for the fields
 

@@ -1,16 +1,16 @@
 -- What more bytes leave as it was.
-use Rattle.std.proofs.Common.{◌≡◌, ℕ, ◌+◌, ◌-◌, ◌<◌, ◌≤◌, List, [], ◌∷◌, ◌++◌, length, take, drop, slice_range, Ok, Err, refl, sym, ap, subst, ◌∙◌, inl, inr, arith, append_assoc, length-append, length-drop, length-take, length-take-le, take-append-drop}
-use Rattle.std.proofs.lemmas.List.{take_at, drop_at, take-append-le, drop-drop, drop-take, take-take}
+use Rattle.std.proofs.Common.{◌≡◌, ℕ, ◌+◌, ◌-◌, ◌≤◌, List, [], ◌∷◌, ◌++◌, length, take, drop, slice_range, Ok, refl, sym, ap, subst, ◌∙◌, inl, inr, arith, append_assoc, length-append, length-drop, length-take-le, take-append-drop}
+use Rattle.std.proofs.lemmas.List.{take_at, take-append-le, drop-drop, drop-take, take-take}
 use Rattle.httparse.specs.Spans.{span_bytes}
-use Rattle.httparse.specs.Grammar.{RequestHead, print_request, NeverHasRequest}
+use Rattle.httparse.specs.Grammar.{RequestHead, print_request}
 use Rattle.httparse.proofs.GrammarLemmas.{ReadsRequest-append}
 use Rattle.ee_framing.specs.declared.FramingFault.{FramingFault}
 use Rattle.ee_framing.specs.declared.FramingFault.TheVariants.{BadHead, HeadTooLong}
 use Rattle.ee_framing.specs.declared.head.Head.{Head}
-use Rattle.ee_framing.specs.Framing.{BeginsHead, HasBadHead, HasBadFields, HasCutBody, IsUndecided, BeginsFault, BeginsMessage, Message, message_of, body_length_of}
+use Rattle.ee_framing.specs.Framing.{BeginsHead, HasBadHead, HasBadFields, IsUndecided, BeginsFault, BeginsMessage}
 use Rattle.ee_framing.specs.Heads.{IsHeadAt}
 use Rattle.ee_framing.specs.Reading.{message_in}
-use Rattle.ee_framing.proofs.Heads.{line_place, span_in}
+use Rattle.ee_framing.proofs.Heads.{span_in}
 
 pub BeginsHead-append : (bytes more : List ℕ) (h : RequestHead) (rest : List ℕ) → BeginsHead bytes h rest → BeginsHead (bytes ++ more) h (rest ++ more)
 BeginsHead-append bytes more h rest begins = (ReadsRequest-append bytes h rest more begins.0, begins.1)

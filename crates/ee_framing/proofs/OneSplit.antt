@@ -1,12 +1,12 @@
 -- A stream is split in one way.
-use Rattle.std.proofs.Common.{◌≡◌, ℕ, ◌+◌, ◌<◌, ◌≤◌, ◌⊎◌, List, [], ◌∷◌, ◌++◌, length, Result, Ok, Err, refl, sym, ap, subst, ◌∙◌, inl, inr, arith, append_assoc, append-nil, length-append}
+use Rattle.std.proofs.Common.{◌≡◌, ℕ, ◌<◌, List, [], ◌∷◌, ◌++◌, length, Result, Ok, Err, refl, sym, ap, subst, ◌∙◌, inl, inr, arith, append_assoc, length-append}
 use Rattle.std.proofs.lemmas.List.{take_at, drop_at}
 use Rattle.std.proofs.Common.{take, drop}
-use Rattle.httparse.specs.Grammar.{RequestHead, print_request, NeverHasRequest}
+use Rattle.httparse.specs.Grammar.{RequestHead}
 use Rattle.httparse.proofs.GrammarLemmas.{request_unique}
 use Rattle.ee_framing.specs.declared.FramingFault.{FramingFault}
 use Rattle.ee_framing.specs.declared.FramingFault.TheVariants.{BadHead, HeadTooLong, BodyTooLong, BadLength, Truncated}
-use Rattle.ee_framing.specs.Framing.{BeginsHead, HasBadHead, LacksHead, HasBadFields, HasCutBody, IsUndecided, BeginsFault, BeginsMessage, Message, message_of, body_length_of, Ending, end, fault, EndsWith, BeginsMessages, Splits}
+use Rattle.ee_framing.specs.Framing.{BeginsHead, LacksHead, BeginsFault, BeginsMessage, Message, message_of, body_length_of, Ending, end, fault, EndsWith, BeginsMessages, Splits}
 use Rattle.ee_framing.proofs.Heads.{request_is_lines}
 
 -- there is something in a head

@@ -1,15 +1,14 @@
 -- What was tested stays tested when more bytes come.
-use Rattle.std.proofs.Common.{◌≡◌, ◌≢◌, ℕ, ◌+◌, ◌<◌, ◌≤◌, ◌⊎◌, inl, inr, min, List, [], ◌∷◌, ◌++◌, length, take, drop, get_or, Some, None, refl, sym, ap, subst, ◌∙◌, arith, append_assoc, length-append, length-take, take-append-drop}
+use Rattle.std.proofs.Common.{◌≡◌, ℕ, ◌+◌, ◌<◌, ◌≤◌, ◌⊎◌, inl, inr, min, List, ◌++◌, length, take, drop, Some, None, refl, sym, ap, subst, ◌∙◌, arith, append_assoc, length-append, length-take, take-append-drop}
 use Rattle.std.proofs.lemmas.List.{take-append-le, drop-append-le, take-take, take_all}
 use Rattle.std.proofs.Math.ListN.{get_or-append}
 use Rattle.std.proofs.lemmas.Bool.{cases_lt}
-use Rattle.httparse.specs.Grammar.{RequestHead, print_request, NeverHasRequest}
 use Rattle.httparse.proofs.GrammarLemmas.{ReadsRequest-append}
 use Rattle.ee_framing.specs.declared.head.Verdict.{Verdict}
 use Rattle.ee_framing.specs.declared.head.Verdict.TheVariants.{Found, Bad, Partial}
 use Rattle.ee_framing.specs.declared.front.Progress.{Progress}
 use Rattle.ee_framing.specs.declared.front.Progress.TheVariants as progress
-use Rattle.ee_framing.specs.Framing.{BeginsHead, IsUndecided, HasBadHead}
+use Rattle.ee_framing.specs.Framing.{BeginsHead, IsUndecided}
 use Rattle.ee_framing.specs.Heads.{IsOpen, AreOpen, IsHeadAt, IsLastLineFeed, Judges, Finds, Knows}
 use Rattle.ee_framing.proofs.Heads.{undecided, bad_in, head_in}
 

@@ -1,17 +1,11 @@
 -- How a stream of bytes is split into requests: a head of the grammar of HTTP/1.x, and a body whose length the head states.
-use Rattle.std.specs.Prelude.{◌≡◌, ℕ, ◌<◌, ◌≤◌, ◌⊎◌, Bool, true, false, ◌&&◌, ◌||◌, ◌==◌, nat_lt, not, if◌then◌else◌, List, [], ◌∷◌, ◌++◌, length, take, drop, map, filter, codes, bytes_eq, Result, Ok, Err}
+use Rattle.std.specs.Prelude.{◌≡◌, ℕ, ◌<◌, ◌≤◌, ◌⊎◌, Bool, ◌&&◌, ◌||◌, ◌==◌, nat_lt, not, if◌then◌else◌, List, [], ◌∷◌, ◌++◌, length, map, codes, bytes_eq, Result, Ok, Err}
 use Rattle.std.specs.List.{list_all, list_any}
 use Rattle.std.specs.Char.{is_ascii_digit, to_ascii_lowercase}
 use Rattle.std.specs.Str.Parse.{digits_value}
 use Rattle.httparse.specs.Ascii.{line_feed}
-use Rattle.httparse.specs.Grammar.{RequestHead, ReadsRequest, HasNoRequest, NeverHasRequest, print_request}
-use Rattle.httparse.specs.Spans.{name_and_value, IsWithin, span_bytes}
-use Rattle.httparse.specs.declared.spans.Span.{Span}
-use Rattle.ee_framing.specs.declared.fields.Values.{Values}
-use Rattle.ee_framing.specs.declared.fields.Values.TheVariants as values
-use Rattle.ee_framing.specs.declared.head.Head.{Head}
-use Rattle.ee_framing.specs.declared.head.Verdict.{Verdict}
-use Rattle.ee_framing.specs.declared.head.Verdict.TheVariants.{Found, Bad, Partial}
+use Rattle.httparse.specs.Grammar.{RequestHead, ReadsRequest, NeverHasRequest, print_request}
+use Rattle.httparse.specs.Spans.{name_and_value}
 use Rattle.ee_framing.specs.declared.FramingFault.{FramingFault}
 use Rattle.ee_framing.specs.declared.FramingFault.TheVariants.{BadHead, HeadTooLong, BodyTooLong, BadLength, Truncated}
 use Rattle.ee_framing.specs.declared.TheConstants.{HEAD_LIMIT, HEADER_LIMIT, BODY_LIMIT}

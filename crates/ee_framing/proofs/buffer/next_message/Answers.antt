@@ -1,9 +1,9 @@
-use Rattle.std.proofs.Common.{Err, List, ℕ, ◌≡◌, ◌++◌, ◌∙◌, ap, sym, subst, rules, length}
+use Rattle.std.proofs.Common.{◌≡◌, ◌++◌, ◌∙◌, ap, sym, subst, rules}
 use Rattle.std.specs.Io.KnownBytes.{Keeps, prepend_known}
 use Rattle.ee_framing.specs.Stream.{Stream}
 use Rattle.ee_framing.specs.Framing.{BeginsFault}
-use Rattle.ee_framing.specs.Reading.{left, NeedsMore, EndsAt, ReadsMore}
-use Rattle.ee_framing.proofs.Calls.{kept_fact, end_fact, moved, more_needed, answers_at, same_left, given_shown, none_read}
+use Rattle.ee_framing.specs.Reading.{left, NeedsMore, EndsAt}
+use Rattle.ee_framing.proofs.Calls.{kept_fact, moved, more_needed, answers_at, same_left, given_shown, none_read}
 use Rattle.ee_framing.proofs.buffer.next_message.Goals as goal
 
 pub returns-in-Fault-clause-answers : goal.returns-in-Fault-clause-answers

@@ -1,4 +1,4 @@
-use Rattle.std.proofs.Common.{◌≡◌, List, [], length, None, ◌-◌}
+use Rattle.std.proofs.Common.{◌≡◌, [], length, None, ◌-◌}
 use Rattle.std.specs.Io.KnownBytes.{Keeps}
 use Rattle.ee_framing.specs.Reading.{left, NeedsMore}
 use Rattle.ee_framing.proofs.buffer.next_message.Given as goal

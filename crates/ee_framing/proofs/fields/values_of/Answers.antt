@@ -1,4 +1,4 @@
-use Rattle.std.proofs.Common.{sym, ap, ◌∙◌}
+use Rattle.std.proofs.Common.{ap, ◌∙◌}
 use Rattle.ee_framing.specs.Framing.{same_word}
 use Rattle.ee_framing.proofs.FieldSteps.{values_step}
 use Rattle.ee_framing.proofs.fields.values_of.Goals as goal

@@ -1,4 +1,4 @@
-use Rattle.std.proofs.Common.{◌≤◌, subst, sym, arith, length}
+use Rattle.std.proofs.Common.{subst, sym, arith}
 use Rattle.ee_framing.specs.Heads.{Finds, AreOpen}
 use Rattle.ee_framing.proofs.Tested.{open_undecided}
 use Rattle.ee_framing.proofs.front.learn.Goals as goal

@@ -1,4 +1,4 @@
-use Rattle.std.proofs.Common.{Some, None, subst, sym, ◌∙◌, ap}
+use Rattle.std.proofs.Common.{Some, None, subst}
 use Rattle.ee_framing.specs.Heads.{IsLastLineFeed}
 use Rattle.ee_framing.proofs.Tested.{judged, untested}
 use Rattle.ee_framing.proofs.head.find_head.Goals as goal

@@ -1,4 +1,4 @@
-use Rattle.std.proofs.Common.{◌≡◌, ◌≢◌, ℕ, ◌<◌, ◌≤◌, get_or}
+use Rattle.std.proofs.Common.{◌≢◌, ℕ, ◌<◌, ◌≤◌, get_or}
 use Rattle.ee_framing.proofs.head.last_line_feed.Given as goal
 
 abbrev pub invariant-loop-after : goal.invariant-loop-after

@@ -1,4 +1,4 @@
-use Rattle.std.proofs.Common.{◌≡◌, ◌≤◌, ◌<◌, ◌++◌, take, drop, [], ap, sym, ◌∙◌, arith, length, length-take, length-drop, length-append}
+use Rattle.std.proofs.Common.{◌≡◌, ◌<◌, ◌++◌, take, drop, ap, ◌∙◌, arith, length, length-take, length-drop, length-append}
 use Rattle.ee_framing.specs.Stream.{Stream}
 use Rattle.ee_framing.proofs.Tested.{knows_read}
 use Rattle.ee_framing.proofs.buffer.Buffer.read_more.Goals as goal
