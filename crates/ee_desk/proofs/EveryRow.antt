@@ -95,5 +95,5 @@ pub every_row : (books : PlainBooks) (customer month : ℕ) (rows : List Row) �
 every_row books customer month rows sound is =
     same_serials rows ∙ ap serials_shown is
     ∙ rows_among books.rates month (is_open_bond books.tickets customer) (finite.entries books.bonds)
-        (all_in serials_total exact_serials (λ serial bond. IsRated books.rates bond) (finite.entries books.bonds) (entries_sorted books.bonds)
-            (λ serial. subst (λ o. IfSome o (IsRated books.rates)) (get-entries books.bonds serial) (rated_if books.rates serial (finite.get books.bonds serial) (sound.bonds serial))))
+    (all_in serials_total exact_serials (λ serial bond. IsRated books.rates bond) (finite.entries books.bonds) (entries_sorted books.bonds)
+    (λ serial. subst (λ o. IfSome o (IsRated books.rates)) (get-entries books.bonds serial) (rated_if books.rates serial (finite.get books.bonds serial) (sound.bonds serial))))

@@ -20,5 +20,5 @@ pub returns-clause-whole : goal.returns-clause-whole
 returns-clause-whole c =
     ap (map (λ row. row.serial)) c.sheet.ensures.rows
     ∙ every_row c.self.inside.ledger c.args.customer c.args.month c.in_ok-rows.rows.items c.self.invariant
-        (c.in_ok-rows.ensures ∙ ap (filter_map (row_of c.self.inside.ledger.rates c.args.month)) (c.as_slice.ensures.value ∙ c.in_ok-bonds.ensures ∙ ap (λ b. bonds_of b c.args.customer) (sym c.self.view_is)))
+    (c.in_ok-rows.ensures ∙ ap (filter_map (row_of c.self.inside.ledger.rates c.args.month)) (c.as_slice.ensures.value ∙ c.in_ok-bonds.ensures ∙ ap (λ b. bonds_of b c.args.customer) (sym c.self.view_is)))
     ∙ ap (λ b. map (λ bond. Some bond.serial) (bonds_of b c.args.customer)) c.self.view_is
