@@ -522,13 +522,19 @@ fn inventory_told(alloc: Global, books: &Books, customer: &str) -> Result<String
     sheet_told(alloc, &sheet)
 }
 
-/// The value in 2012-02 of a bond of 50 dollars, or nothing without rates.
+/// The rate and the value in 2012-02 of a bond of 50 dollars, or nothing without rates.
 fn quote_told(alloc: Global, books: &Books, issued: &str) -> Result<String, Fail> {
-    let row = books.quote("50".parse()?, issued.parse()?, "2012-02".parse()?)?;
-    Ok(match row {
-        Some(row) => format!(in alloc; "{}", row.value)?,
-        None => String::new(alloc),
-    })
+    let mut text = String::new(alloc);
+    if let Some(row) = books.quote("50".parse()?, issued.parse()?, "2012-02".parse()?)? {
+        if let Some(serial) = row.serial {
+            write!(text, "{serial} ")?;
+        }
+        if let Some(rate) = row.rate {
+            write!(text, "{rate} ")?;
+        }
+        write!(text, "{}", row.value)?;
+    }
+    Ok(text)
 }
 
 fn batch_told(alloc: Global, books: &Books, day: &str) -> Result<String, Fail> {
@@ -570,7 +576,7 @@ fn unpaid_bonds_are_shown(rt: HostRuntime) -> Result<(), Fail> {
         let own = books.bonds_of(customer.parse()?)?;
         assert_eq!(rt; own.len(), count, "customer {customer}");
     }
-    for (issued, wanted) in [("2010-11", "25.88"), ("2009-01", "")] {
+    for (issued, wanted) in [("2010-11", "3.50% 25.88"), ("2009-01", "")] {
         let text = quote_told(alloc, &books, issued)?;
         assert_eq!(rt; text.as_str(), wanted, "{issued}");
     }
