@@ -519,50 +519,89 @@ fn sheet_told(alloc: Global, sheet: &Sheet) -> Result<String, Fail> {
     Ok(text)
 }
 
-#[test]
-fn what_books_are_asked(rt: HostRuntime) -> Result<(), Fail> {
-    let alloc = rt.alloc();
+/// The sheet of a customer in 2012-02.
+fn inventory_told(alloc: Global, books: &Books, customer: &str) -> Result<String, Fail> {
+    let sheet = books.inventory(customer.parse()?, "2012-02".parse()?)?;
+    sheet_told(alloc, &sheet)
+}
+
+/// The rate and the value in 2012-02 of a bond of 50 dollars, or nothing without rates.
+fn quote_told(alloc: Global, books: &Books, issued: &str) -> Result<String, Fail> {
+    let mut text = String::new(alloc);
+    if let Some(row) = books.quote("50".parse()?, issued.parse()?, "2012-02".parse()?)? {
+        if let Some(serial) = row.serial {
+            write!(text, "{serial} ")?;
+        }
+        if let Some(rate) = row.rate {
+            write!(text, "{rate} ")?;
+        }
+        write!(text, "{}", row.value)?;
+    }
+    Ok(text)
+}
+
+fn batch_told(alloc: Global, books: &Books, day: &str) -> Result<String, Fail> {
+    Ok(match books.batch(day.parse()?) {
+        Some(batch) => format!(in alloc; "{} {} {}", batch.tickets, batch.bonds, batch.total)?,
+        None => String::new(alloc),
+    })
+}
+
+fn ticket_numbered_told(alloc: Global, books: &Books, number: u64) -> Result<String, Fail> {
+    match books.ticket(number)? {
+        Some(ticket) => ticket_told(alloc, &ticket),
+        None => Ok(String::new(alloc)),
+    }
+}
+
+fn begun_books(alloc: Global) -> Result<Books, Fail> {
     let mut books = Books::empty(alloc);
     for request in begun(alloc)? {
         let _ = books.step(&request.act)?;
     }
-    let month = "2012-02".parse()?;
-    let seven = "7".parse()?;
-    let three = "\
-        K2EE 37.50 0.84 38.34 P5\n\
-        L1EE 25.00 0.88 25.88 P5\n\
-        M3EE 5000.00 132.00 5132.00 P5\n\
-        5062.50 133.72 5196.22";
-    let empty = "0.00 0.00 0.00";
-    for (customer, wanted) in [("7", three), ("8", empty)] {
-        let sheet = books.inventory(customer.parse()?, month)?;
-        let text = sheet_told(alloc, &sheet)?;
+    Ok(books)
+}
+
+const THREE_BONDS: &str = "\
+    K2EE 37.50 0.84 38.34 P5\n\
+    L1EE 25.00 0.88 25.88 P5\n\
+    M3EE 5000.00 132.00 5132.00 P5\n\
+    5062.50 133.72 5196.22";
+const NO_BONDS: &str = "0.00 0.00 0.00";
+
+#[test]
+fn unpaid_bonds_are_shown(rt: HostRuntime) -> Result<(), Fail> {
+    let alloc = rt.alloc();
+    let books = begun_books(alloc)?;
+    for (customer, wanted, count) in [("7", THREE_BONDS, 3), ("8", NO_BONDS, 0)] {
+        let text = inventory_told(alloc, &books, customer)?;
         assert_eq!(rt; text.as_str(), wanted, "customer {customer}");
+        let own = books.bonds_of(customer.parse()?)?;
+        assert_eq!(rt; own.len(), count, "customer {customer}");
     }
-    let own = books.bonds_of(seven)?;
-    assert_eq!(rt; own.len(), 3);
-    assert!(rt; books.ticket(1)?.is_none());
-    for (issued, wanted) in [("2010-11", Some("25.88")), ("2009-01", None)] {
-        let row = books.quote("50".parse()?, issued.parse()?, month)?;
-        let value = match row {
-            Some(row) => Some(format!(in alloc; "{}", row.value)?),
-            None => None,
-        };
-        assert_eq!(rt; value.as_ref().map(|v| v.as_str()), wanted, "{issued}");
+    for (issued, wanted) in [("2010-11", "3.50% 25.88"), ("2009-01", "")] {
+        let text = quote_told(alloc, &books, issued)?;
+        assert_eq!(rt; text.as_str(), wanted, "{issued}");
     }
+    Ok(())
+}
+
+#[test]
+fn paid_bonds_are_on_tickets(rt: HostRuntime) -> Result<(), Fail> {
+    let alloc = rt.alloc();
+    let mut books = begun_books(alloc)?;
     let _ = books.step(&redeem(alloc, DAY, "7", &["L1EE", "K2EE", "M3EE"])?)?;
-    assert!(rt; books.batch(DAY.parse()?).is_none());
+    let text = batch_told(alloc, &books, DAY)?;
+    assert_eq!(rt; text.as_str(), "");
     let _ = books.step(&close(DAY)?)?;
-    let sheet = books.inventory(seven, month)?;
-    let text = sheet_told(alloc, &sheet)?;
-    assert_eq!(rt; text.as_str(), empty);
-    let ticket = books.ticket(1)?.ok_or("ticket 1")?;
-    let text = ticket_told(alloc, &ticket)?;
-    let wanted = "Ticket 1 of 2012-02-06 to 7: L1EE 25.88 K2EE 38.34 M3EE 5132.00 = 5196.22";
-    assert_eq!(rt; text.as_str(), wanted);
-    assert!(rt; books.ticket(2)?.is_none());
-    let batch = books.batch(DAY.parse()?).ok_or("batch")?;
-    let text = format!(in alloc; "{} {} {}", batch.tickets, batch.bonds, batch.total)?;
+    let text = batch_told(alloc, &books, DAY)?;
     assert_eq!(rt; text.as_str(), "1 3 5196.22");
+    let paid = "Ticket 1 of 2012-02-06 to 7: L1EE 25.88 K2EE 38.34 M3EE 5132.00 = 5196.22";
+    for (number, wanted) in [(0, ""), (1, paid), (2, "")] {
+        let text = ticket_numbered_told(alloc, &books, number)?;
+        assert_eq!(rt; text.as_str(), wanted, "ticket {number}");
+    }
+    let text = inventory_told(alloc, &books, "7")?;
+    assert_eq!(rt; text.as_str(), NO_BONDS);
     Ok(())
 }
