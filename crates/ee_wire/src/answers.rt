@@ -56,6 +56,7 @@ pub enum Kind {
 }
 
 ghost use Rattle.ee_wire.specs.Answers.{status_of_fault};
+
 use ee_framing::FramingFault;
 
 fn status_of_fault(fault: WireFault) -> Status

@@ -48,13 +48,22 @@ fn push_closing(out: &mut Vec<u8>, closing: bool) -> Result<(), AllocError>
 }
 
 /// The head of an answer whose body has so many bytes.
-pub fn head_text(alloc: Global, status: Status, kind: Kind, length: usize, closing: bool) -> Result<Vec<u8>, AllocError>
+pub fn head_text(
+    alloc: Global,
+    status: Status,
+    kind: Kind,
+    length: usize,
+    closing: bool,
+) -> Result<Vec<u8>, AllocError>
     ensures { IfOk result (λ v. v.items ≡ head_text status kind length closing) }
 {
     let mut text = Vec::new(alloc);
     push_line(&mut text, status_line(status))?;
     push_line(&mut text, kind_line(kind))?;
-    push_line(&mut text, format!(in alloc; "Content-Length: {length}")?.as_str())?;
+    push_line(
+        &mut text,
+        format!(in alloc; "Content-Length: {length}")?.as_str(),
+    )?;
     push_closing(&mut text, closing)?;
     push_line(&mut text, "")?;
     Ok(text)

@@ -27,10 +27,14 @@ fn unserved_bytes(cause: Unserved, closing: bool) -> &'static [u8]
     ensures { result.now ≡ answer_text (answer.Unserved cause) closing }
 {
     match (cause, closing) {
-        (Unserved::NoMemory, false) => b"HTTP/1.1 503 Service Unavailable\r\nContent-Type: application/json\r\nContent-Length: 32\r\n\r\n{\"code\":1,\"unserved\":\"NoMemory\"}",
-        (Unserved::NoMemory, true) => b"HTTP/1.1 503 Service Unavailable\r\nContent-Type: application/json\r\nContent-Length: 32\r\nConnection: close\r\n\r\n{\"code\":1,\"unserved\":\"NoMemory\"}",
-        (Unserved::StoreFailed, false) => b"HTTP/1.1 503 Service Unavailable\r\nContent-Type: application/json\r\nContent-Length: 35\r\n\r\n{\"code\":2,\"unserved\":\"StoreFailed\"}",
-        (Unserved::StoreFailed, true) => b"HTTP/1.1 503 Service Unavailable\r\nContent-Type: application/json\r\nContent-Length: 35\r\nConnection: close\r\n\r\n{\"code\":2,\"unserved\":\"StoreFailed\"}",
+        (Unserved::NoMemory, false) =>
+            b"HTTP/1.1 503 Service Unavailable\r\nContent-Type: application/json\r\nContent-Length: 32\r\n\r\n{\"code\":1,\"unserved\":\"NoMemory\"}",
+        (Unserved::NoMemory, true) =>
+            b"HTTP/1.1 503 Service Unavailable\r\nContent-Type: application/json\r\nContent-Length: 32\r\nConnection: close\r\n\r\n{\"code\":1,\"unserved\":\"NoMemory\"}",
+        (Unserved::StoreFailed, false) =>
+            b"HTTP/1.1 503 Service Unavailable\r\nContent-Type: application/json\r\nContent-Length: 35\r\n\r\n{\"code\":2,\"unserved\":\"StoreFailed\"}",
+        (Unserved::StoreFailed, true) =>
+            b"HTTP/1.1 503 Service Unavailable\r\nContent-Type: application/json\r\nContent-Length: 35\r\nConnection: close\r\n\r\n{\"code\":2,\"unserved\":\"StoreFailed\"}",
     }
 }
 
@@ -59,7 +63,12 @@ fn write_text<W: Write>(writer: &mut W, text: &[u8]) -> Result<(), WriteEnd>
 /// (`closing`, or a framing fault), and its body. Where the writer fails, it has taken a front of the
 /// answer. Where a growth is refused, nothing is written; `Unserved`, and the fault `NoMemory`, which
 /// is told as it, take no memory.
-pub fn write_reply<W: Write>(alloc: Global, writer: &mut W, answer: &Answer, closing: bool) -> Result<(), WriteEnd>
+pub fn write_reply<W: Write>(
+    alloc: Global,
+    writer: &mut W,
+    answer: &Answer,
+    closing: bool,
+) -> Result<(), WriteEnd>
     ensures written { WritesAnswer (answer_text answer.now closing) (W.contents writer.old) (W.contents writer.new) result }
     ensures untouched { result ≡ Err written.NoMemory → writer.new ≡ writer.old }
     ensures spare { is_some (unserved_in answer.now) ≡ true → result ≢ Err written.NoMemory }

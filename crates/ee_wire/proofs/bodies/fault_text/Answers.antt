@@ -6,4 +6,4 @@ use Rattle.ee_wire.proofs.bodies.fault_text.Goals as goal
 
 pub returns : goal.returns
 returns c =
-  IfOk-weaker c.to_string.result _ _ (λ s text. text (ap has_float c.in_ok-fault_value.ensures ∙ fault_whole c.args.fault) ∙ ap compact_text c.in_ok-fault_value.ensures) c.to_string.ensures.text
+    IfOk-weaker c.to_string.result _ _ (λ s text. text (ap has_float c.in_ok-fault_value.ensures ∙ fault_whole c.args.fault) ∙ ap compact_text c.in_ok-fault_value.ensures) c.to_string.ensures.text

@@ -5,4 +5,4 @@ use Rattle.ee_wire.proofs.bodies.row_text.Goals as goal
 
 pub returns : goal.returns
 returns c =
-  IfOk-weaker c.to_string.result _ _ (λ s text. text (ap has_float c.in_ok-row_value.ensures) ∙ ap compact_text c.in_ok-row_value.ensures) c.to_string.ensures.text
+    IfOk-weaker c.to_string.result _ _ (λ s text. text (ap has_float c.in_ok-row_value.ensures) ∙ ap compact_text c.in_ok-row_value.ensures) c.to_string.ensures.text

@@ -5,7 +5,7 @@ use Rattle.ee_wire.proofs.heads.head_text.Goals as goal
 
 pub returns : goal.returns
 returns c =
-  joined c.args.status c.args.kind c.args.length c.args.closing
+    joined c.args.status c.args.kind c.args.length c.args.closing
     c.new-text.result.items c.push_line.new.out.items c.push_line-2.new.out.items c.push_line-3.new.out.items c.push_closing.new.out.items c.push_line-4.new.out.items
     c.new-text.ensures.items
     (c.in_ok-push_line.ensures ∙ ap (λ l. c.new-text.result.items ++ line l) c.status_line.ensures)
