@@ -1,7 +1,6 @@
 -- The texts of answers, put together.
-use Rattle.std.proofs.Common.{◌≡◌, ℕ, Bool, true, false, List, [], ◌∷◌, ◌++◌, Option, Some, None, codes, refl, sym, ap, ◌∙◌, append_assoc, append-nil}
+use Rattle.std.proofs.Common.{◌≡◌, ℕ, Bool, true, false, List, [], ◌++◌, Option, Some, None, codes, refl, ap, ◌∙◌}
 use Rattle.std.specs.Prelude.{decimal}
-use Rattle.std.specs.Io.KnownBytes.{Appends}
 use Rattle.serde_json.specs.Written.{has_float}
 use Rattle.ee_device.specs.Written.{WritesFront}
 use Rattle.ee_calls.specs.declared.faults.Field.{Field}
