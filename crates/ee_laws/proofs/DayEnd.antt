@@ -20,14 +20,13 @@ use Rattle.ee_acts.specs.PlainBooks.{PlainBooks, batch_of, batch_so_far, total_o
 use Rattle.ee_acts.specs.Seen.{shown, closing_batch}
 use Rattle.ee_acts.specs.PlainBooks.{of_day}
 use Rattle.ee_acts.specs.declared.replies.Batch.{Batch}
-use Rattle.ee_acts.specs.Refusals.{first, refusal_of_day, most_tickets}
+use Rattle.ee_acts.specs.Refusals.{refusal_of_day, most_tickets}
 use Rattle.ee_acts.specs.Outcomes.{act}
 use Rattle.ee_acts.specs.Effects as effects
 use Rattle.ee_acts.specs.Numbers.{Number, number_of}
 use Rattle.ee_acts.specs.Repeats.{Content}
 use Rattle.ee_acts.specs.Contents.{content_after, books_after}
 use Rattle.ee_acts.specs.Answers.{answer, answer_for, answer_by, reply_again, is_of}
-use Rattle.ee_acts.proofs.Repeats.{one}
 use Rattle.ee_laws.specs.Tellers.{Asked, requests, IsMerge, IsRedeem, AreTellers, open_tickets}
 use Rattle.ee_laws.proofs.Lists.{map_append}
 use Rattle.ee_laws.proofs.OneTeller.{begin, blank, new_of}

@@ -1,5 +1,5 @@
 -- The lists one after the other are a merge, and so any two merges are alike.
-use Rattle.std.proofs.Common.{◌≡◌, ◌==◌, ℕ, zero, suc, ◌+◌, ◌<◌, ◌≤◌, Bool, true, false, cond, eqb, List, [], ◌∷◌, ◌++◌, map, length, arith, refl, sym, ap, ◌∙◌, subst, append-nil, length-append}
+use Rattle.std.proofs.Common.{◌≡◌, ◌==◌, ℕ, zero, suc, ◌+◌, ◌<◌, ◌≤◌, Bool, true, false, cond, List, [], ◌∷◌, ◌++◌, map, length, arith, refl, sym, ap, ◌∙◌, subst, append-nil, length-append}
 use Rattle.std.specs.List.{filter, flat_map, sum_by}
 use Rattle.std.specs.List.Sorted.{IsPermutation}
 use Rattle.std.proofs.lemmas.List.Sorted.{length_permutation}
@@ -68,6 +68,6 @@ interleaved start tellers one other are is at few =
       replies = same_replies start tellers are one other is at room;
       paid =
           subst (λ l. IsPermutation l (new_lines start other)) (flat_blank (new start tellers are one))
-              (subst (IsPermutation (flat_map (λ t. t.lines) (map blank (new start tellers are one)))) (flat_blank (new start tellers are other)) (same_lines start tellers are one other is at room));
+          (subst (IsPermutation (flat_map (λ t. t.lines) (map blank (new start tellers are one)))) (flat_blank (new start tellers are other)) (same_lines start tellers are one other is at room));
       closes = closes start tellers are one other is at room;
     }

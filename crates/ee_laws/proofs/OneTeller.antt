@@ -1,5 +1,5 @@
 -- One teller's requests among others, and alone.
-use Rattle.std.proofs.Common.{◌≡◌, ◌==◌, ℕ, suc, ◌+◌, ◌<◌, ◌≤◌, Bool, true, false, cond, not, ◌||◌, eqb, nat_lt, nat_le, List, [], ◌∷◌, ◌++◌, map, length, drop, find, Option, Some, None, true≢false, arith, refl, sym, ap, ◌∙◌, append_assoc, append-nil, length-append}
+use Rattle.std.proofs.Common.{◌≡◌, ◌==◌, ℕ, suc, ◌+◌, ◌<◌, ◌≤◌, Bool, true, false, cond, not, ◌||◌, nat_lt, nat_le, List, [], ◌∷◌, ◌++◌, map, length, drop, find, Option, Some, None, true≢false, arith, refl, sym, ap, ◌∙◌, append_assoc, append-nil, length-append}
 use Rattle.std.specs.Option.{is_some, option_map, option_or, option_map_or}
 use Rattle.std.specs.List.{AllByRecursion, filter, list_any, count_by, sum_by}
 use Rattle.std.specs.FinMap as finite
@@ -27,7 +27,7 @@ use Rattle.ee_acts.specs.Seen.{shown, held_as, ticket_for, worth, line_for, valu
 use Rattle.ee_acts.specs.declared.changes.Held.{Held}
 use Rattle.ee_acts.specs.Refusals.{first, first_of, when, repeated, refusal_of_day, refusal_of_held, refusal_of_serial, refusal_of, most_serials, most_tickets}
 use Rattle.ee_acts.specs.Acts.{same_act, unless_refused}
-use Rattle.ee_acts.specs.Outcomes.{act, Outcome}
+use Rattle.ee_acts.specs.Outcomes.{Outcome}
 use Rattle.ee_acts.specs.Effects as effects
 use Rattle.ee_acts.specs.Numbers.{Number, number_cmp, same_number, number_of, numbered}
 use Rattle.ee_acts.proofs.RequestNumbers.{number_is}
@@ -39,7 +39,7 @@ use Rattle.ee_laws.specs.Tellers.{Asked, requests, asked_by, IsRedeem, open_tick
 use Rattle.ee_acts.specs.Views.{serials_of}
 use Rattle.ee_acts.proofs.Maps.{serial_is}
 use Rattle.ee_acts.proofs.Orders.{all_append}
-use Rattle.ee_laws.proofs.Lists.{filter_append, find_append, map_append, map_map, or_alike, or_true}
+use Rattle.ee_laws.proofs.Lists.{filter_append, find_append, map_append, map_map, or_alike}
 
 -- a ticket without its number
 abbrev pub blank : Ticket → Ticket
@@ -441,11 +441,11 @@ module _ (S : Content) (mine : SerialNumber → Bool) (own : Number → Bool) wh
   not_full : (new : List Ticket) (left : ℕ) → HasRoom new left → 0 < left → (day : ℕ) → S.books.day ≡ Some day → is_full new day ≡ false
   not_full new left room more day is =
       let here : open_tickets S.books ≡ count_by (λ t. t.day == day) S.books.tickets =
-          ap (λ o. on_day o S.books.tickets) is ∙ length-filter (λ t. t.day == day) S.books.tickets in
+      ap (λ o. on_day o S.books.tickets) is ∙ length-filter (λ t. t.day == day) S.books.tickets in
       let all : count_by (λ t. t.day == day) (S.books.tickets ++ new) ≡ count_by (λ t. t.day == day) S.books.tickets + count_by (λ t. t.day == day) new = sum_by-append (λ t. cond (t.day == day) 1 0) S.books.tickets new in
       let few : count_by (λ t. t.day == day) new ≤ length new = count_by-le-length (λ t. t.day == day) new in
       let own_day : on_day S.books.day (S.books.tickets ++ new) ≡ count_by (λ t. t.day == day) (S.books.tickets ++ new) =
-          ap (λ o. on_day o (S.books.tickets ++ new)) is ∙ length-filter (λ t. t.day == day) (S.books.tickets ++ new) in
+      ap (λ o. on_day o (S.books.tickets ++ new)) is ∙ length-filter (λ t. t.day == day) (S.books.tickets ++ new) in
       lt-leb most_tickets (on_day S.books.day (S.books.tickets ++ new)) (omega arith)
 
   no_more_alone : (new_m new_t : List Ticket) (kept_m kept_t : FinMap number_cmp Kept) → Alike new_m new_t kept_m kept_t → length new_t ≤ length new_m

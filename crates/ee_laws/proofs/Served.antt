@@ -1,13 +1,9 @@
 -- What a run over any keeper says of the laws.
-use Rattle.std.proofs.Common.{◌≡◌, true, List, [], ◌∷◌, ◌++◌, Result, Ok, Err, refl, sym, ap, ◌∙◌, append-nil, append_assoc}
-use Rattle.ee_acts.specs.declared.acts.Request.{Request}
-use Rattle.ee_acts.specs.declared.refusals.Unserved.{Unserved}
-use Rattle.ee_acts.specs.declared.replies.Reply.{Reply}
-use Rattle.ee_acts.specs.Repeats.{Content}
+use Rattle.std.proofs.Common.{[], ◌∷◌, ◌++◌, Ok, Err, refl, sym, ap, ◌∙◌, append-nil, append_assoc}
 use Rattle.ee_acts.specs.Contents.{content_after}
-use Rattle.ee_acts.specs.Answers.{answer, served, AreAnswers}
+use Rattle.ee_acts.specs.Answers.{answer, served}
 use Rattle.ee_acts.proofs.Repeats.{content_append}
-use Rattle.ee_laws.specs.Events.{World, one, decided, unserved}
+use Rattle.ee_laws.specs.Events.{one, decided, unserved}
 use Rattle.ee_laws.specs.Runs.{TellsServed, RunsAsEvents}
 
 pub told_by_run : TellsServed

@@ -1,11 +1,10 @@
 -- Tellers whose requests come interleaved (this project's rule).
-use Rattle.std.specs.Prelude.{◌≡◌, ℕ, ◌+◌, ◌≤◌, Bool, true, false, ◌==◌, nat_lt, List, [], ◌∷◌, ◌++◌, length, map, filter, sum_by, drop, slice_index_or, IsPermutation, Option, Some, None, ⊤, if◌then◌else◌}
+use Rattle.std.specs.Prelude.{◌≡◌, ℕ, ◌+◌, ◌≤◌, false, ◌==◌, nat_lt, List, [], ◌∷◌, ◌++◌, length, map, filter, sum_by, drop, slice_index_or, IsPermutation, ⊤, if◌then◌else◌}
 use Rattle.std.specs.List.{AllByRecursion, list_any}
 use Rattle.ee_acts.specs.declared.acts.Act.{Act}
 use Rattle.ee_acts.specs.declared.acts.Act.TheVariants.{AddRates, AddBonds, OpenDay, Redeem, CloseDay}
 use Rattle.ee_acts.specs.declared.refusals.Refusal.{Refusal}
 use Rattle.ee_acts.specs.declared.refusals.Refusal.TheVariants.{AlreadyPaid}
-use Rattle.ee_acts.specs.declared.replies.Ticket.{Ticket}
 use Rattle.ee_acts.specs.declared.replies.Line.{Line}
 use Rattle.ee_acts.specs.declared.replies.Reply.{Reply}
 use Rattle.ee_acts.specs.declared.replies.Reply.TheVariants.{Refused}
