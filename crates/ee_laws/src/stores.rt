@@ -1,6 +1,6 @@
 //! What a keeper over a store owes to the law of stops and retries.
 
-ghost use Rattle.ee_laws.specs.Ties.{LeavesNew, LeavesKept, LeavesUnserved};
+ghost use Rattle.ee_laws.specs.Ties.{LeavesNew, LeavesKept, LeavesUnserved, LeavesAsBefore, LeavesReopened};
 
 /// A store that a crash may cut short.
 pub trait StoreOfContents {
@@ -16,14 +16,20 @@ pub trait StoreOfContents {
     ghost may_leave: { Self → Disk → Type 0 };
 }
 
-/// A store follows the events, whichever way a delivery ends.
+/// What a store owes to the events: where its calls leave this of the disk, a crash leaves a content
+/// that the events allow.
 ///
-/// - `new`: with the reply to a number that wasn't kept, where a crash leaves the new content alone.
-/// - `kept`: with the reply to a kept number, where a crash leaves what it could leave before.
-/// - `unserved`: without a reply, where a crash leaves what it could leave before, or the content with
+/// - `new`: a reply to a number that wasn't kept, where a crash leaves the new content alone.
+/// - `kept`: a reply to a kept number, where a crash leaves what it could leave before.
+/// - `unserved`: no reply, where a crash leaves what it could leave before, or the content with
 ///   that request decided.
+/// - `as_before`: a query, where a crash leaves what it could leave before.
+/// - `reopened`: a crash, and a store that is opened on what it left and leaves what stands for the
+///   same. This is a stop and a reopening, with the content that was found.
 pub const fn ties_to_stores<S: StoreOfContents>()
     ensures new { LeavesNew S.stands S.may_leave }
     ensures kept { LeavesKept S.stands S.may_leave }
     ensures unserved { LeavesUnserved S.stands S.may_leave }
+    ensures as_before { LeavesAsBefore S.stands S.may_leave }
+    ensures reopened { LeavesReopened S.stands S.may_leave }
 {}
