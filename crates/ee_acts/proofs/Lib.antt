@@ -4,6 +4,7 @@ pub mod Orders
 pub mod Repeats
 pub mod Seeing
 pub mod Soundness
+pub mod ActsInRange
 pub mod Conservation
 pub mod SameActs
 pub mod Bounds

@@ -13,7 +13,7 @@ mod rows;
 pub use acts::{Act, Request};
 pub use changes::{Change, Effects, Held, Kept};
 pub use ee_value::RateRow;
-pub use laws::{one_view, same_acts, shows_own_bonds_alone};
+pub use laws::{acts_keep_sound, one_view, same_acts, shows_own_bonds_alone};
 pub use numbers::Number;
 pub use refusals::{Refusal, Unserved};
 pub use replies::{Batch, Line, Reply, Ticket};
