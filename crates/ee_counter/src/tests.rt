@@ -12,6 +12,7 @@ use ee_keeper::Keeper;
 use ee_texts::reply_text;
 use ee_wire::{Call, decode};
 use std::alloc::Global;
+use std::process::Abort;
 use std::test::Fail;
 
 const RATES: &str =
@@ -50,11 +51,11 @@ fn told(alloc: Global, answer: &Result<Reply, Unserved>) -> Result<String, Fail>
 
 /// Runs bodies at their paths over the keeper, and compares the text of each answer.
 fn compare<K: Keeper>(
-    rt: &HostRuntime,
+    rt: &impl Abort,
+    alloc: Global,
     keeper: &mut K,
     rows: &[(&str, &str, &str)],
 ) -> Result<(), Fail> {
-    let alloc = rt.alloc();
     let mut requests = Vec::new(alloc);
     for row in rows {
         requests.push(ask(alloc, row.0, row.1)?)?;
@@ -69,9 +70,10 @@ fn compare<K: Keeper>(
 }
 
 /// Rates, three bonds and an open day.
-fn begin<K: Keeper>(rt: &HostRuntime, keeper: &mut K) -> Result<(), Fail> {
+fn begin<K: Keeper>(rt: &impl Abort, alloc: Global, keeper: &mut K) -> Result<(), Fail> {
     compare(
         rt,
+        alloc,
         keeper,
         &[
             ("/rates", RATES, "{\"new\":2,\"same\":0}"),

@@ -7,6 +7,7 @@ use ee_keeper::{Keeper, ListKeeper};
 use ee_wire::FramingFault;
 use std::alloc::Global;
 use std::io::ErrorKind;
+use std::process::Abort;
 use std::test::Fail;
 
 /// A POST of a body.
@@ -41,15 +42,16 @@ const CUT: &str =
 
 /// Serves the stream, and compares what is written and how it ends.
 fn serves<K: Keeper>(
-    rt: &HostRuntime,
+    rt: &impl Abort,
+    alloc: Global,
     keeper: &mut K,
     reader: &mut Source,
     wanted: &str,
     messages: usize,
     why: Why,
 ) -> Result<(), Fail> {
-    let mut text = Vec::new(rt.alloc());
-    let ended = serve(rt.alloc(), keeper, reader, &mut text);
+    let mut text = Vec::new(alloc);
+    let ended = serve(alloc, keeper, reader, &mut text);
     assert_eq!(rt; text.as_slice(), wanted.as_bytes());
     assert_eq!(rt; ended, Ended { messages, why });
     Ok(())
@@ -79,7 +81,15 @@ fn a_stream_however_it_is_cut(rt: HostRuntime) -> Result<(), Fail> {
         let mut reader = Source::of(stream.as_bytes(), step, step);
         let mut keeper = ListKeeper::empty(alloc);
         let why = Why::Fault(FramingFault::Truncated);
-        serves(&rt, &mut keeper, &mut reader, wanted.as_str(), 3, why)?;
+        serves(
+            &rt,
+            alloc,
+            &mut keeper,
+            &mut reader,
+            wanted.as_str(),
+            3,
+            why,
+        )?;
     }
     Ok(())
 }
@@ -102,7 +112,15 @@ fn faults_are_answered(rt: HostRuntime) -> Result<(), Fail> {
     let mut keeper = ListKeeper::empty(alloc);
     let mut reader = Source::of(twice.as_bytes(), 4_096, 4_096);
     let why = Why::Fault(FramingFault::BadLength);
-    serves(&rt, &mut keeper, &mut reader, length.as_str(), 1, why)?;
+    serves(
+        &rt,
+        alloc,
+        &mut keeper,
+        &mut reader,
+        length.as_str(),
+        1,
+        why,
+    )?;
     let mut headers = String::from_str(alloc, "GET / HTTP/1.1\r\n")?;
     for _ in 0..33 {
         headers.push_str("a: b\r\n")?;
@@ -116,7 +134,7 @@ fn faults_are_answered(rt: HostRuntime) -> Result<(), Fail> {
     )?;
     let mut reader = Source::of(headers.as_bytes(), 4_096, 4_096);
     let why = Why::Fault(FramingFault::BadHead);
-    serves(&rt, &mut keeper, &mut reader, head.as_str(), 1, why)?;
+    serves(&rt, alloc, &mut keeper, &mut reader, head.as_str(), 1, why)?;
     let asks = format!(in alloc;
         "GET /nothing HTTP/1.1\r\n\r\nGET /rates HTTP/1.1\r\n\r\nPOST /rates HTTP/1.1\r\n\r\nGET /ticket/0 HTTP/1.1\r\n\r\nGET /ticket/1 HTTP/1.1\r\n\r\n"
     )?;
@@ -165,9 +183,8 @@ fn faults_are_answered(rt: HostRuntime) -> Result<(), Fail> {
 }
 
 /// The writer fails inside the reply: one ticket stands, and the repeat has the whole reply.
-fn lost_reply<K: Keeper>(rt: &HostRuntime, keeper: &mut K) -> Result<(), Fail> {
-    let alloc = rt.alloc();
-    begin(rt, keeper)?;
+fn lost_reply<K: Keeper>(rt: &impl Abort, alloc: Global, keeper: &mut K) -> Result<(), Fail> {
+    begin(rt, alloc, keeper)?;
     let message = post(alloc, "/redeem", "", REDEEM)?;
     let whole = answer(alloc, "200 OK", "", TICKET)?;
     let mut text = Vec::new(alloc);
@@ -187,14 +204,22 @@ fn lost_reply<K: Keeper>(rt: &HostRuntime, keeper: &mut K) -> Result<(), Fail> {
     assert_eq!(rt; text.as_slice(), &whole.as_bytes()[..100]);
     assert!(rt; keeper.ticket(1)?.is_some());
     let mut reader = Source::of(message.as_bytes(), 4_096, 4_096);
-    serves(rt, keeper, &mut reader, whole.as_str(), 1, Why::Closed)?;
+    serves(
+        rt,
+        alloc,
+        keeper,
+        &mut reader,
+        whole.as_str(),
+        1,
+        Why::Closed,
+    )?;
     assert!(rt; keeper.ticket(2)?.is_none());
-    compare(rt, keeper, &[("/day/close", CLOSE, super::BATCH)])
+    compare(rt, alloc, keeper, &[("/day/close", CLOSE, super::BATCH)])
 }
 
 #[test]
 fn a_lost_reply_is_told_again(rt: HostRuntime) -> Result<(), Fail> {
-    lost_reply(&rt, &mut ListKeeper::empty(rt.alloc()))
+    lost_reply(&rt, rt.alloc(), &mut ListKeeper::empty(rt.alloc()))
 }
 
 /// A message that asks to close is the last, also where each read brings one message.
@@ -224,7 +249,15 @@ fn a_message_may_ask_to_close(rt: HostRuntime) -> Result<(), Fail> {
         close,
         "{\"code\":69,\"fault\":\"NotFound\"}",
     )?;
-    serves(&rt, &mut keeper, &mut old, wanted.as_str(), 1, Why::Asked)
+    serves(
+        &rt,
+        alloc,
+        &mut keeper,
+        &mut old,
+        wanted.as_str(),
+        1,
+        Why::Asked,
+    )
 }
 
 /// The 1,000th answer says that the connection ends; what comes after isn't read as a message.
@@ -266,7 +299,15 @@ fn a_failed_read_ends_the_connection(rt: HostRuntime) -> Result<(), Fail> {
         let mut keeper = ListKeeper::empty(alloc);
         let mut reader = Source::failing(stream.as_bytes(), 2, kind);
         reader.first = RATE.len();
-        serves(&rt, &mut keeper, &mut reader, ADDED, 1, Why::ReadFailed)?;
+        serves(
+            &rt,
+            alloc,
+            &mut keeper,
+            &mut reader,
+            ADDED,
+            1,
+            Why::ReadFailed,
+        )?;
     }
     Ok(())
 }

@@ -6,7 +6,9 @@ use crate::{ExportFault, ImportFault, export_inventory, import_inventory, import
 use ee_acts::{Number, Reply};
 use ee_files::{FileCode, FileFault};
 use ee_keeper::{Keeper, ListKeeper};
+use std::alloc::Global;
 use std::io::ErrorKind;
+use std::process::Abort;
 use std::test::Fail;
 
 const RATE_FILE: &str = "from,rate\n2010-05,2.00\n2010-11,3.50%\n";
@@ -25,10 +27,10 @@ const HEADER: &str = "serial,denom,issued,owner,coowner\n";
 const EXPORT: &str =
     "serial,denom,issued,owner,coowner\nK2EE,75,2010-10,7,8\nL1EE,50,2010-11,7,\nM3EE,10000,2011-02,7,\n";
 
-fn reply_told(rt: &HostRuntime, reply: Result<Reply, ImportFault>) -> Result<String, Fail> {
+fn reply_told(alloc: Global, reply: Result<Reply, ImportFault>) -> Result<String, Fail> {
     match reply {
-        Ok(reply) => told(rt.alloc(), &Ok(reply)),
-        Err(fault) => Ok(format!(in rt.alloc(); "{fault}")?),
+        Ok(reply) => told(alloc, &Ok(reply)),
+        Err(fault) => Ok(format!(in alloc; "{fault}")?),
     }
 }
 
@@ -37,10 +39,18 @@ fn number(value: u64) -> Result<Number, Fail> {
 }
 
 /// Rates, inventories good and broken, and their repeats.
-fn imports<K: Keeper>(rt: &HostRuntime, keeper: &mut K) -> Result<(), Fail> {
-    let reply = import_rates(rt.alloc(), keeper, number(1)?, &mut RATE_FILE.as_bytes());
-    assert_eq!(rt; reply_told(rt, reply)?.as_str(), "{\"new\":2,\"same\":0}");
-    compare(rt, keeper, &[("/rates", RATES, "{\"new\":2,\"same\":0}")])?;
+fn imports<K: Keeper>(rt: &impl Abort, alloc: Global, keeper: &mut K) -> Result<(), Fail> {
+    let reply = import_rates(alloc, keeper, number(1)?, &mut RATE_FILE.as_bytes());
+    assert_eq!(rt;
+        reply_told(alloc, reply)?.as_str(),
+        "{\"new\":2,\"same\":0}"
+    );
+    compare(
+        rt,
+        alloc,
+        keeper,
+        &[("/rates", RATES, "{\"new\":2,\"same\":0}")],
+    )?;
     for (value, file, wanted) in [
         (2, FILE, "{\"new\":3,\"same\":0}"),
         (6, FILE, "{\"new\":0,\"same\":3}"),
@@ -55,26 +65,30 @@ fn imports<K: Keeper>(rt: &HostRuntime, keeper: &mut K) -> Result<(), Fail> {
         (10, CUT_FILE, "file: row 4 code 71"),
         (10, FILE, "{\"new\":0,\"same\":3}"),
     ] {
-        let reply = import_inventory(rt.alloc(), keeper, number(value)?, &mut file.as_bytes());
-        assert_eq!(rt; reply_told(rt, reply)?.as_str(), wanted, "number {value}");
+        let reply = import_inventory(alloc, keeper, number(value)?, &mut file.as_bytes());
+        assert_eq!(rt;
+            reply_told(alloc, reply)?.as_str(),
+            wanted,
+            "number {value}"
+        );
     }
     Ok(())
 }
 
 /// What the owner's file is, and where the writer fails.
-fn exports<K: Keeper>(rt: &HostRuntime, keeper: &mut K) -> Result<(), Fail> {
+fn exports<K: Keeper>(rt: &impl Abort, alloc: Global, keeper: &mut K) -> Result<(), Fail> {
     for (customer, count, wanted) in [("7", 3, EXPORT), ("8", 0, HEADER)] {
-        let mut text = Vec::new(rt.alloc());
-        let rows = export_inventory(rt.alloc(), keeper, customer.parse()?, &mut text);
+        let mut text = Vec::new(alloc);
+        let rows = export_inventory(alloc, keeper, customer.parse()?, &mut text);
         assert_eq!(rt; rows, Ok(count), "customer {customer}");
         assert_eq!(rt; text.as_slice(), wanted.as_bytes(), "customer {customer}");
     }
-    let mut text = Vec::new(rt.alloc());
+    let mut text = Vec::new(alloc);
     let mut writer = Narrow {
         text: &mut text,
         room: 40,
     };
-    let rows = export_inventory(rt.alloc(), keeper, "7".parse()?, &mut writer);
+    let rows = export_inventory(alloc, keeper, "7".parse()?, &mut writer);
     assert_eq!(rt; rows, Err(ExportFault::WriteFailed));
     assert_eq!(rt; text.as_slice(), &EXPORT.as_bytes()[..40]);
     Ok(())
@@ -83,8 +97,8 @@ fn exports<K: Keeper>(rt: &HostRuntime, keeper: &mut K) -> Result<(), Fail> {
 #[test]
 fn files_go_in_and_out(rt: HostRuntime) -> Result<(), Fail> {
     let mut keeper = ListKeeper::empty(rt.alloc());
-    imports(&rt, &mut keeper)?;
-    exports(&rt, &mut keeper)
+    imports(&rt, rt.alloc(), &mut keeper)?;
+    exports(&rt, rt.alloc(), &mut keeper)
 }
 
 /// A failed read delivers nothing, so the number stays unused.

@@ -8,11 +8,12 @@ use ee_keeper::{Keeper, ListKeeper};
 use ee_units::Serial;
 use std::alloc::Global;
 use std::fmt::Write;
+use std::process::Abort;
 use std::test::Fail;
 
 /// A day, with repeats between the ticket and the closing, and after it.
-fn day<K: Keeper>(rt: &HostRuntime, keeper: &mut K) -> Result<(), Fail> {
-    begin(rt, keeper)?;
+fn day<K: Keeper>(rt: &impl Abort, alloc: Global, keeper: &mut K) -> Result<(), Fail> {
+    begin(rt, alloc, keeper)?;
     let l1 = "{\"number\":4,\"day\":\"2012-02-06\",\"payee\":7,\"serials\":[\"L1EE\"]}";
     let again = "{\"number\":6,\"day\":\"2012-02-06\",\"payee\":7,\"serials\":[\"L1EE\"]}";
     let late = "{\"number\":7,\"day\":\"2012-02-06\",\"payee\":7,\"serials\":[\"L1EE\"]}";
@@ -21,6 +22,7 @@ fn day<K: Keeper>(rt: &HostRuntime, keeper: &mut K) -> Result<(), Fail> {
     let none = "{\"code\":42,\"refused\":\"NoOpenDay\"}";
     compare(
         rt,
+        alloc,
         keeper,
         &[
             ("/redeem", REDEEM, TICKET),
@@ -38,14 +40,15 @@ fn day<K: Keeper>(rt: &HostRuntime, keeper: &mut K) -> Result<(), Fail> {
 
 #[test]
 fn a_day_and_its_repeats(rt: HostRuntime) -> Result<(), Fail> {
-    day(&rt, &mut ListKeeper::empty(rt.alloc()))
+    day(&rt, rt.alloc(), &mut ListKeeper::empty(rt.alloc()))
 }
 
 /// A day without tickets.
-fn quiet_day<K: Keeper>(rt: &HostRuntime, keeper: &mut K) -> Result<(), Fail> {
+fn quiet_day<K: Keeper>(rt: &impl Abort, alloc: Global, keeper: &mut K) -> Result<(), Fail> {
     let batch = "{\"bonds\":0,\"day\":\"2012-02-07\",\"tickets\":0,\"total\":\"0.00\"}";
     compare(
         rt,
+        alloc,
         keeper,
         &[
             (
@@ -65,12 +68,12 @@ fn quiet_day<K: Keeper>(rt: &HostRuntime, keeper: &mut K) -> Result<(), Fail> {
 
 #[test]
 fn a_quiet_day(rt: HostRuntime) -> Result<(), Fail> {
-    quiet_day(&rt, &mut ListKeeper::empty(rt.alloc()))
+    quiet_day(&rt, rt.alloc(), &mut ListKeeper::empty(rt.alloc()))
 }
 
 /// Tickets that are refused, and those that stand beside them.
-fn refused_tickets<K: Keeper>(rt: &HostRuntime, keeper: &mut K) -> Result<(), Fail> {
-    begin(rt, keeper)?;
+fn refused_tickets<K: Keeper>(rt: &impl Abort, alloc: Global, keeper: &mut K) -> Result<(), Fail> {
+    begin(rt, alloc, keeper)?;
     let n4 =
         "{\"number\":10,\"bonds\":[{\"serial\":\"N4EE\",\"denom\":100,\"issued\":\"2010-11\",\"owner\":9}]}";
     let l1 =
@@ -79,6 +82,7 @@ fn refused_tickets<K: Keeper>(rt: &HostRuntime, keeper: &mut K) -> Result<(), Fa
         "{\"day\":\"2012-02-06\",\"lines\":[{\"paid\":\"38.34\",\"serial\":\"K2EE\"}],\"payee\":8,\"ticket\":1,\"total\":\"38.34\"}";
     compare(
         rt,
+        alloc,
         keeper,
         &[
             ("/bonds", n4, "{\"new\":1,\"same\":0}"),
@@ -108,7 +112,7 @@ fn refused_tickets<K: Keeper>(rt: &HostRuntime, keeper: &mut K) -> Result<(), Fa
 
 #[test]
 fn tickets_are_whole_or_nothing(rt: HostRuntime) -> Result<(), Fail> {
-    refused_tickets(&rt, &mut ListKeeper::empty(rt.alloc()))
+    refused_tickets(&rt, rt.alloc(), &mut ListKeeper::empty(rt.alloc()))
 }
 
 /// So many serials of a letter, from a number on.
@@ -150,9 +154,8 @@ fn bonds(alloc: Global, number: u64, letter: u8) -> Result<Request, Fail> {
 }
 
 /// A day with 1,000 tickets, another ticket, and one of too many serials.
-fn full_day<K: Keeper>(rt: &HostRuntime, keeper: &mut K) -> Result<(), Fail> {
-    let alloc = rt.alloc();
-    begin(rt, keeper)?;
+fn full_day<K: Keeper>(rt: &impl Abort, alloc: Global, keeper: &mut K) -> Result<(), Fail> {
+    begin(rt, alloc, keeper)?;
     let mut requests = vec![in alloc; bonds(alloc, 10, 24)?, bonds(alloc, 11, 25)?]?;
     for letter in 24..26 {
         for number in 1..501 {
@@ -181,7 +184,7 @@ fn full_day<K: Keeper>(rt: &HostRuntime, keeper: &mut K) -> Result<(), Fail> {
 
 #[test]
 fn a_day_has_a_thousand_tickets(rt: HostRuntime) -> Result<(), Fail> {
-    full_day(&rt, &mut ListKeeper::empty(rt.alloc()))
+    full_day(&rt, rt.alloc(), &mut ListKeeper::empty(rt.alloc()))
 }
 
 const SHEET: &str = "\
@@ -196,38 +199,40 @@ Serial        Series  Denom Issued  Next    Final          Price       Interest 
 Total                                                       0.00           0.00                  0.00\n";
 
 fn sheet_is<K: Keeper>(
-    rt: &HostRuntime,
+    rt: &impl Abort,
+    alloc: Global,
     keeper: &mut K,
     customer: &str,
     wanted: &str,
 ) -> Result<(), Fail> {
     let sheet = keeper.inventory(customer.parse()?, "2012-02".parse()?)?;
-    let mut text = Vec::new(rt.alloc());
+    let mut text = Vec::new(alloc);
     write_sheet(&sheet, &mut text)?;
     assert_eq!(rt; text.as_slice(), wanted.as_bytes(), "customer {customer}");
     Ok(())
 }
 
 /// Queries before the ticket and after the closing.
-fn shown<K: Keeper>(rt: &HostRuntime, keeper: &mut K) -> Result<(), Fail> {
-    begin(rt, keeper)?;
-    sheet_is(rt, keeper, "7", SHEET)?;
-    sheet_is(rt, keeper, "8", NO_BONDS)?;
+fn shown<K: Keeper>(rt: &impl Abort, alloc: Global, keeper: &mut K) -> Result<(), Fail> {
+    begin(rt, alloc, keeper)?;
+    sheet_is(rt, alloc, keeper, "7", SHEET)?;
+    sheet_is(rt, alloc, keeper, "8", NO_BONDS)?;
     assert!(rt; keeper.batch("2012-02-06".parse()?)?.is_none());
     compare(
         rt,
+        alloc,
         keeper,
         &[("/redeem", REDEEM, TICKET), ("/day/close", CLOSE, BATCH)],
     )?;
-    sheet_is(rt, keeper, "7", NO_BONDS)?;
+    sheet_is(rt, alloc, keeper, "7", NO_BONDS)?;
     let ticket = keeper.ticket(1)?.ok_or("ticket")?;
     assert_eq!(rt;
-        told(rt.alloc(), &Ok(ee_acts::Reply::Ticket(ticket)))?.as_str(),
+        told(alloc, &Ok(ee_acts::Reply::Ticket(ticket)))?.as_str(),
         TICKET
     );
     let batch = keeper.batch("2012-02-06".parse()?)?.ok_or("batch")?;
     assert_eq!(rt;
-        told(rt.alloc(), &Ok(ee_acts::Reply::Batch(batch)))?.as_str(),
+        told(alloc, &Ok(ee_acts::Reply::Batch(batch)))?.as_str(),
         BATCH
     );
     assert!(rt; keeper.ticket(2)?.is_none());
@@ -236,7 +241,7 @@ fn shown<K: Keeper>(rt: &HostRuntime, keeper: &mut K) -> Result<(), Fail> {
 
 #[test]
 fn the_books_are_shown(rt: HostRuntime) -> Result<(), Fail> {
-    shown(&rt, &mut ListKeeper::empty(rt.alloc()))
+    shown(&rt, rt.alloc(), &mut ListKeeper::empty(rt.alloc()))
 }
 
 /// Delivers the requests, each of which must be served, and tells the replies.
