@@ -9,7 +9,7 @@ use ee_calculator::Bond;
 use ee_counter::run;
 use ee_desk::{Act, Number, RateRow, Reply, Request, Rows, Unserved};
 use ee_keeper::ListKeeper;
-use ee_units::{Rate, Serial};
+use ee_units::{Day, Rate, Serial};
 use ee_value::Rates;
 use std::alloc::Global;
 use std::env;
@@ -17,6 +17,9 @@ use std::time::Instant;
 
 /// The tickets of a run, which is a full day.
 const TICKETS: u64 = 1000;
+
+/// The days that are opened and closed without tickets.
+const DAYS: u32 = 500;
 
 /// The bonds of an import.
 const ROWS: u64 = 500;
@@ -80,6 +83,34 @@ fn tickets(alloc: Global, size: u64) -> Result<Vec<Request>> {
     Ok(requests)
 }
 
+/// The close of the day with the tickets, then days that are opened and closed.
+fn days(alloc: Global) -> Result<Vec<Request>> {
+    let first: Day = "2015-05-04".parse()?;
+    let mut requests = Vec::new(alloc);
+    requests.push(ask(2_000_000_000, Act::CloseDay(first))?)?;
+    for i in 1..=DAYS {
+        let day = Day::new(first.count().saturating_add(i)).context("day")?;
+        let number = u64::from(i).saturating_mul(2).saturating_add(2_000_000_000);
+        requests.push(ask(number, Act::OpenDay(day))?)?;
+        requests.push(ask(number.saturating_add(1), Act::CloseDay(day))?)?;
+    }
+    Ok(requests)
+}
+
+/// How many batches were made, and their sum in cents.
+fn settled(answers: &[Result<Reply, Unserved>]) -> (u64, u64) {
+    let mut count: u64 = 0;
+    let mut total: u64 = 0;
+    for answer in answers {
+        if let Ok(Reply::Batch(batch)) = answer {
+            let cents = batch.total;
+            count = count.wrapping_add(1);
+            total = total.wrapping_add(cents.0);
+        }
+    }
+    (count, total)
+}
+
 /// How many tickets were made, and their sum in cents.
 fn paid(answers: &[Result<Reply, Unserved>]) -> (u64, u64) {
     let mut count: u64 = 0;
@@ -104,9 +135,10 @@ fn timed(
     let start = Instant::now(rt)?;
     let answers = run(rt.alloc(), keeper, requests)?;
     let nanos = start.elapsed(rt)?.as_nanos();
-    let (count, total) = paid(answers.as_slice());
+    let (tickets, paid) = paid(answers.as_slice());
+    let (batches, settled) = settled(answers.as_slice());
     println!(rt;
-        "{what}: {} answers, {count} tickets, {total} cents",
+        "{what}: {} answers, {tickets} tickets of {paid} cents, {batches} batches of {settled} cents",
         answers.len()
     )?;
     let one = nanos / (answers.len() as u128).max(1);
@@ -125,7 +157,9 @@ fn measure(rt: &HostRuntime, size: u64) -> Result<()> {
     timed(rt, &mut keeper, imports.as_slice(), "imports")?;
     let requests = tickets(rt.alloc(), size)?;
     timed(rt, &mut keeper, requests.as_slice(), "new")?;
-    timed(rt, &mut keeper, requests.as_slice(), "repeated")
+    timed(rt, &mut keeper, requests.as_slice(), "repeated")?;
+    let requests = days(rt.alloc())?;
+    timed(rt, &mut keeper, requests.as_slice(), "days")
 }
 
 fn main(rt: HostRuntime) -> Result<()> {
