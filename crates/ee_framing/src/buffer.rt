@@ -186,8 +186,9 @@ impl Buffer {
 }
 
 /// The next message, or how the stream ends, whatever pieces the reader hands out. It reads at most
-/// 4,096 bytes at a time, only while what it holds decides nothing, and tests no line of a head
-/// twice. The parts of the message stay in the buffer until the next call.
+/// 4,096 bytes at a time, only while what it holds decides nothing. A line of a head is tested when
+/// it has come, and not again as more comes; a head that came in pieces is read once more, as a
+/// whole. The parts of the message stay in the buffer until the next call.
 pub fn next_message<R: Read>(reader: &mut R, buffer: &mut Buffer) -> Result<Next, WireEnd>
     ensures answers { buffer.old.ended ≡ None
         → Answers buffer.old (R.remaining reader.old) result buffer.new (R.remaining reader.new) }
