@@ -92,12 +92,22 @@ fn split(alloc: Global, reader: &mut Rounds) -> Counts {
     counts
 }
 
-/// A head with a line feed at every third byte, just within the limit, and never ended.
-fn worst_head(alloc: Global) -> Result<Vec<u8>, AllocError> {
+/// A head with a line feed at every third byte, and never ended: so many lines, 5,456 at most within
+/// the limit.
+fn worst_head(alloc: Global, lines: usize) -> Result<Vec<u8>, AllocError> {
     let mut head = Vec::new(alloc);
     head.extend_from_slice(b"GET / HTTP/1.1\n")?;
-    for _ in 0..5_456 {
+    for _ in 0..lines {
         head.extend_from_slice(b"a:\n")?;
+    }
+    Ok(head)
+}
+
+/// Empty lines, as many as a head can begin with.
+fn empty_lines(alloc: Global) -> Result<Vec<u8>, AllocError> {
+    let mut head = Vec::new(alloc);
+    for _ in 0..16_383 {
+        head.push(b'\n')?;
     }
     Ok(head)
 }
@@ -129,7 +139,10 @@ fn time(rt: &HostRuntime, name: &str, text: &[u8], rounds: u64, step: usize) -> 
     let bytes = u128::from(rounds).wrapping_mul(text.len() as u128).max(1);
     let micros = nanos / 1000;
     let each = nanos / bytes;
-    eprintln!(rt; "{name} in pieces of {step}: {micros} us, {each} ns a byte")?;
+    let rate = u128::from(messages).wrapping_mul(1_000_000_000) / nanos.max(1);
+    eprintln!(rt;
+        "{name} in pieces of {step}: {micros} us, {each} ns a byte, {rate} messages a second"
+    )?;
     Ok(())
 }
 
@@ -143,11 +156,17 @@ fn count_of_rounds(rt: &HostRuntime) -> Result<u64> {
 
 fn main(rt: HostRuntime) -> Result<()> {
     let rounds = count_of_rounds(&rt)?;
-    let head = worst_head(rt.alloc())?;
+    let quarter = worst_head(rt.alloc(), 1_364)?;
+    let half = worst_head(rt.alloc(), 2_728)?;
+    let head = worst_head(rt.alloc(), 5_456)?;
+    let empty = empty_lines(rt.alloc())?;
     let body = long_body(rt.alloc())?;
     for step in [1, 64, 4_096] {
         time(&rt, "two messages", STREAM, rounds, step)?;
+        time(&rt, "a quarter of the worst head", &quarter, 1, step)?;
+        time(&rt, "half of the worst head", &half, 1, step)?;
         time(&rt, "the worst head", &head, 1, step)?;
+        time(&rt, "empty lines", &empty, 1, step)?;
         time(&rt, "a long body", &body, 1, step)?;
     }
     Ok(())

@@ -372,3 +372,47 @@ fn deep_bodies(rt: HostRuntime) -> Result<(), Fail> {
     );
     Ok(())
 }
+
+/// With each allocation refused in turn: what a body asks for, or want of memory.
+#[test]
+fn refused_memory(rt: HostRuntime) -> Result<(), Fail> {
+    let table = [
+        (
+            "/rates",
+            r#"{"number":1,"rates":[{"from":"2010-11","rate":"3.50"}]}"#,
+            "1 rates 2010-11 3.50%",
+        ),
+        (
+            "/bonds",
+            r#"{"number":2,"bonds":[{"serial":"L1EE","denom":50,"issued":"2010-11","owner":7},{"serial":"K2EE","denom":75,"issued":"2010-10","owner":7},{"serial":"M3EE","denom":10000,"issued":"2011-02","owner":7}]}"#,
+            "2 bonds L1EE 50 2010-11 7 K2EE 75 2010-10 7 M3EE 10000 2011-02 7",
+        ),
+        (
+            "/day/open",
+            r#"{"number":3,"day":"2012-02-06"}"#,
+            "3 open 2012-02-06",
+        ),
+        (
+            "/redeem",
+            r#"{"number":4,"day":"2012-02-06","payee":7,"serials":["L1EE","K2EE"]}"#,
+            "4 redeem 2012-02-06 7 L1EE K2EE",
+        ),
+        (
+            "/day/close",
+            r#"{"number":6,"day":"2012-02-06"}"#,
+            "6 close 2012-02-06",
+        ),
+        ("/day/open", r#"{"number":"\u0033","day":1}"#, "65 number"),
+    ];
+    for (path, body, want) in table {
+        match decode(rt.alloc(), path.as_bytes(), b"POST", body.as_bytes()) {
+            Ok(Call::Request(request)) => {
+                assert_eq!(rt; request_told(&rt, &request)?.as_str(), want);
+            }
+            Ok(Call::Query(_)) => return Err("a query".into()),
+            Err(WireFault::NoMemory) => println!(rt; "refused: {body}")?,
+            Err(fault) => assert_eq!(rt; fault_told(&rt, fault)?.as_str(), want),
+        }
+    }
+    Ok(())
+}

@@ -1,4 +1,6 @@
 pub mod Heads
+pub mod Cuts
+pub mod WholeLines
 pub mod Tested
 pub mod More
 pub mod Calls

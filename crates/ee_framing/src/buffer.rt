@@ -4,6 +4,7 @@ ghost use Rattle.std.specs.Io.KnownBytes.{Consumes, Keeps, IsAtEnd};
 ghost use Rattle.ee_framing.specs.Reading.{Answers, IsFront, ReadsMore, NeedsMore, EndsAt, stop_of, answer_of};
 
 use crate::front::{Front, Progress, judge_front, learn, read_front};
+use crate::head::Lines;
 use crate::{BODY_LIMIT, BUFFER_LIMIT, CHUNK, FramingFault, HEAD_LIMIT, HEADER_ROOM};
 use httparse::spans::{EMPTY_HEADER_SPAN, HeaderSpan, Span};
 use std::alloc::Global;
@@ -78,13 +79,14 @@ impl Model for Buffer {
 
 impl Buffer {
     /// A buffer without bytes, for a new stream.
+    #[tactic(auto, using(crate::proofs::Tested::none_tested))]
     pub fn new(alloc: Global) -> Buffer
         ensures { result ≡ record { shown = []; held = []; ended = None } }
     {
         Buffer {
             bytes: Vec::new(alloc),
             at: 0,
-            progress: Progress::Tested(0),
+            progress: Progress::Tested(Lines::Empty(0), 0),
             ended: None,
         }
     }
@@ -123,13 +125,14 @@ impl Buffer {
     }
 
     /// Takes so many bytes as answered.
+    #[tactic(auto, using(crate::proofs::Tested::none_tested))]
     fn show(&mut self, len: usize)
         requires fits { len ≤ length self.old.held }
         requires none { self.old.shown ≡ [] }
         ensures { self.new ≡ record { shown = take len self.old.held; held = drop len self.old.held; ended = self.old.ended } }
     {
         self.at += len;
-        self.progress = Progress::Tested(0);
+        self.progress = Progress::Tested(Lines::Empty(0), 0);
     }
 
     /// Lets go of what was answered.
@@ -183,8 +186,9 @@ impl Buffer {
 }
 
 /// The next message, or how the stream ends, whatever pieces the reader hands out. It reads at most
-/// 4,096 bytes at a time, only while what it holds decides nothing, and tests no line of a head
-/// twice. The parts of the message stay in the buffer until the next call.
+/// 4,096 bytes at a time, only while what it holds decides nothing. A line of a head is tested when
+/// it has come, and not again as more comes; a head that came in pieces is read once more, as a
+/// whole. The parts of the message stay in the buffer until the next call.
 pub fn next_message<R: Read>(reader: &mut R, buffer: &mut Buffer) -> Result<Next, WireEnd>
     ensures answers { buffer.old.ended ≡ None
         → Answers buffer.old (R.remaining reader.old) result buffer.new (R.remaining reader.new) }

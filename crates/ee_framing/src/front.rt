@@ -5,15 +5,15 @@ ghost use Rattle.ee_framing.specs.Heads.{IsHeadAt, Finds, Knows};
 ghost use Rattle.ee_framing.specs.Reading.{IsFront};
 
 use crate::buffer::Message;
-use crate::head::{Head, Verdict, find_head};
+use crate::head::{Head, Lines, Verdict, find_head};
 use crate::{FramingFault, HEAD_LIMIT, HEADER_ROOM};
 use httparse::spans::{HeaderSpan, Span};
 
 /// What earlier tests said of some bytes.
 #[derive(Clone, Copy)]
 pub enum Progress {
-    /// So many bytes were tested, and leave open what stands there.
-    Tested(usize),
+    /// These lines stand there, and so many bytes were tested.
+    Tested(Lines, usize),
     /// This head stands there.
     Found(Head),
 }
@@ -33,20 +33,21 @@ pub fn judge_front(bytes: &[u8], progress: Progress, headers: &mut [HeaderSpan])
     ensures { Finds bytes.now result }
 {
     match progress {
-        Progress::Tested(tested) => find_head(bytes, tested, headers),
+        Progress::Tested(lines, tested) => find_head(bytes, lines, tested, headers),
         Progress::Found(head) => Verdict::Found(head),
     }
 }
 
 /// What is known after that test.
+#[tactic(auto, using(crate::proofs::Tested::none_tested))]
 pub fn learn(bytes: &[u8], verdict: Verdict) -> Progress
     requires { Finds bytes.now verdict }
     ensures { Knows bytes.now result }
 {
     match verdict {
         Verdict::Found(head) => Progress::Found(head),
-        Verdict::Bad => Progress::Tested(0),
-        Verdict::Partial => Progress::Tested(bytes.len().min(HEAD_LIMIT)),
+        Verdict::Bad => Progress::Tested(Lines::Empty(0), 0),
+        Verdict::Partial(lines) => Progress::Tested(lines, bytes.len().min(HEAD_LIMIT)),
     }
 }
 
@@ -58,8 +59,8 @@ pub fn read_front(bytes: &[u8], verdict: Verdict) -> Front
     match verdict {
         Verdict::Found(head) => with_body(bytes, head),
         Verdict::Bad => Front::Fault(FramingFault::BadHead),
-        Verdict::Partial if bytes.len() < HEAD_LIMIT => Front::More,
-        Verdict::Partial => Front::Fault(FramingFault::HeadTooLong),
+        Verdict::Partial(_) if bytes.len() < HEAD_LIMIT => Front::More,
+        Verdict::Partial(_) => Front::Fault(FramingFault::HeadTooLong),
     }
 }
 

@@ -65,6 +65,8 @@ fn told(rt: &HostRuntime, reader: &mut Pieces) -> Result<String, Fail> {
                 text.push_str(format!(in rt.alloc(); "{fault:?}")?.as_str())?;
                 return Ok(text);
             }
+            // The call is made again.
+            Err(WireEnd::NoMemory) => println!(rt; "refused: a read")?,
             Err(end) => {
                 text.push_str(format!(in rt.alloc(); "{end:?}")?.as_str())?;
                 return Ok(text);
@@ -99,6 +101,18 @@ fn cuts_change_nothing(rt: HostRuntime) -> Result<(), Fail> {
     Ok(())
 }
 
+/// With each allocation refused in turn: no byte is lost.
+#[test]
+fn refused_memory(rt: HostRuntime) -> Result<(), Fail> {
+    let stream =
+        b"POST /rates HTTP/1.1\r\nContent-Length: 55\r\n\r\n{\"number\":1,\"rates\":[{\"from\":\"2010-11\",\"rate\":\"3.50\"}]}GET /value/50/2010-11/2012-02 HTTP/1.1\r\n\r\nPOST";
+    for step in [1, 64, 4_096] {
+        let mut reader = Pieces::of(stream, step, step);
+        assert_eq!(rt; told(&rt, &mut reader)?.as_str(), TOLD, "pieces of {step}");
+    }
+    Ok(())
+}
+
 #[test]
 fn heads_are_judged(rt: HostRuntime) -> Result<(), Fail> {
     let table = [
@@ -121,6 +135,12 @@ fn heads_are_judged(rt: HostRuntime) -> Result<(), Fail> {
         ("GET / HTTP/2.0\r\n\r\n", "BadHead"),
         ("GET /\r\n", "BadHead"),
         ("GET / HTTP/1.1\r\na b: c\r\n", "BadHead"),
+        ("GET / HTTP/1.1\r\na: b\r\n c\r\n", "BadHead"),
+        ("\r\n\n\r\n\nGET / HTTP/1.1\na:\n\n\n", "GET /  ; Truncated"),
+        ("\r\r\n", "BadHead"),
+        ("\n\n \n", "BadHead"),
+        ("\n\nGET / HTTP/1.1\n:\n", "BadHead"),
+        ("\n\n", "Truncated"),
         ("GET /\u{ff} HTTP/1.1\r\n\r\n", "GET /\u{ff}  ; End"),
         // Without a line feed nothing is decided.
         ("GET / HTTP/2.0", "Truncated"),

@@ -8,4 +8,4 @@ returns-in-Bad c = λ more. bad_head c.args.bytes.now more (subst (Finds c.args.
 
 pub returns-in-Partial-2 : goal.returns-in-Partial-2
 returns-in-Partial-2 c = λ more.
-    too_long c.args.bytes.now more c.if-bytes-lt-HEAD_LIMIT.false (subst (Finds c.args.bytes.now) c.in-Partial-2.is c.requires)
+    too_long c.args.bytes.now more c.if-bytes-lt-HEAD_LIMIT.false (subst (Finds c.args.bytes.now) c.in-Partial-2.is c.requires).0

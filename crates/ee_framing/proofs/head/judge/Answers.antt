@@ -1,7 +1,15 @@
 use Rattle.std.proofs.Common.{Err, ap, subst}
 use Rattle.httparse.specs.Spans.{RequestExceeds}
+use Rattle.httparse.proofs.HeadLemmas.{on_partial}
 use Rattle.ee_framing.proofs.Heads.{exceeds_no_short, by_error}
+use Rattle.ee_framing.proofs.WholeLines.{started_lines, whole_fields}
 use Rattle.ee_framing.proofs.head.judge.Goals as goal
+
+pub returns-in-Ok-Partial : goal.returns-in-Ok-Partial
+returns-in-Ok-Partial c =
+    whole_fields c.args.lines.now (started_lines c.args.lines.now c.requires.lines c.requires.started
+    (on_partial c.in-Ok-Partial.is c.in-Ok-Partial.field-0-is c.parse_request.ensures.partial)
+    (on_partial c.in-Ok-Partial.is c.in-Ok-Partial.field-0-is c.parse_request.ensures.unfinished))
 
 pub returns-in-Err : goal.returns-in-Err
 returns-in-Err c =
