@@ -3,3 +3,4 @@ pub mod Right
 pub mod Turns
 pub mod Same
 pub mod Texts
+pub mod Streams

@@ -11,7 +11,7 @@ use Rattle.ee_acts.specs.declared.refusals.Unserved.{Unserved}
 use Rattle.ee_wire.specs.declared.answers.Answer.{Answer}
 use Rattle.ee_wire.specs.declared.answers.Answer.TheVariants as told
 use Rattle.ee_wire.specs.Answers.{answer_text}
-use Rattle.ee_counter.specs.Answering.{call_of, IsAnswer, IsRight, after, left_after, Answers}
+use Rattle.ee_counter.specs.Answering.{call_of, IsAnswer, IsRight, after_call, left_after, Answers}
 
 never_unserved : (c : Content) (asked : Result Call WireFault) (cause : Unserved) → IsAnswer c asked (told.Unserved cause) → ⊥
 never_unserved c (Ok (call.Request request)) cause is = is
@@ -23,7 +23,7 @@ never_unserved c (Err fault) cause is = is
 
 -- an answer that isn't 503 is right, and the content has changed by it
 pub answered : (c : Content) (asked : Result Call WireFault) (answer : Answer) (Has : Content → Type 0)
-    → IsAnswer c asked answer → Has (after c asked) → Answers c asked answer Has
+    → IsAnswer c asked answer → Has (after_call c asked) → Answers c asked answer Has
 answered c asked (told.Reply x) Has is has = (is, has)
 answered c asked (told.Sheet x) Has is has = (is, has)
 answered c asked (told.Row x) Has is has = (is, has)

@@ -37,30 +37,20 @@ IsAnswer c (Err fault) (told.Fault other) = other ≡ fault
 IsAnswer c _ _ = ⊥
 
 -- a request changes the content, and nothing else does
-abbrev pub after : Content → Result Call WireFault → Content
-after c (Ok (call.Request request)) = content_after c (request ∷ [])
-after c (Ok (call.Query query)) = c
-after c (Err fault) = c
+abbrev pub after_call : Content → Result Call WireFault → Content
+after_call c (Ok (call.Request request)) = content_after c (request ∷ [])
+after_call c (Ok (call.Query query)) = c
+after_call c (Err fault) = c
 
 -- in the place of each answer 503 may stand, where memory or the store failed
 abbrev pub IsRight : Content → Result Call WireFault → Answer → Type 0
 IsRight c call (told.Unserved cause) = ⊤
-IsRight c call (told.Reply reply) = IsAnswer c call (told.Reply reply)
-IsRight c call (told.Sheet sheet) = IsAnswer c call (told.Sheet sheet)
-IsRight c call (told.Row row) = IsAnswer c call (told.Row row)
-IsRight c call (told.Ticket ticket) = IsAnswer c call (told.Ticket ticket)
-IsRight c call (told.Batch batch) = IsAnswer c call (told.Batch batch)
-IsRight c call (told.Fault fault) = IsAnswer c call (told.Fault fault)
+IsRight c call answer = IsAnswer c call answer
 
--- and then nothing has changed
+-- the content that an answer leaves: 503 changes nothing
 abbrev pub left_after : Content → Result Call WireFault → Answer → Content
 left_after c call (told.Unserved cause) = c
-left_after c call (told.Reply reply) = after c call
-left_after c call (told.Sheet sheet) = after c call
-left_after c call (told.Row row) = after c call
-left_after c call (told.Ticket ticket) = after c call
-left_after c call (told.Batch batch) = after c call
-left_after c call (told.Fault fault) = after c call
+left_after c call answer = after_call c call
 
 -- a right answer, and the content that it leaves. `Has` says which contents a keeper then has.
 abbrev pub Answers : Content → Result Call WireFault → Answer → (Content → Type 0) → Type 0
@@ -68,5 +58,5 @@ Answers c call answer Has = IsRight c call answer × Has (left_after c call answ
 
 -- the answer, or none, and then nothing has changed
 abbrev pub AnswersUnless : Content → Result Call WireFault → Result Answer Unserved → (Content → Type 0) → Type 0
-AnswersUnless c call (Ok answer) Has = IsAnswer c call answer × Has (after c call)
+AnswersUnless c call (Ok answer) Has = IsAnswer c call answer × Has (after_call c call)
 AnswersUnless c call (Err unserved) Has = Has c

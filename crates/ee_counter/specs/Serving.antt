@@ -16,7 +16,7 @@ use Rattle.ee_wire.specs.Answers.{answer_text, WritesAnswer}
 use Rattle.ee_wire.specs.declared.answers.WriteEnd.{WriteEnd}
 use Rattle.ee_wire.specs.declared.answers.Answer.{Answer}
 use Rattle.ee_wire.specs.declared.answers.Answer.TheVariants as told
-use Rattle.ee_counter.specs.Answering.{call_of, IsRight, left_after, Answers}
+use Rattle.ee_counter.specs.Answering.{call_of, IsAnswer, after_call, IsRight, left_after, Answers}
 use Rattle.ee_counter.specs.declared.connections.Ended.{Ended}
 use Rattle.ee_counter.specs.declared.connections.Why.{Why}
 use Rattle.ee_counter.specs.declared.connections.Why.TheVariants.{Closed, Asked, Limit, Fault, ReadFailed, WriteFailed, NoMemory}
@@ -53,15 +53,15 @@ abbrev pub AreRight : Content → List Told → Type 0
 AreRight c [] = ⊤
 AreRight c (t ∷ ts) = IsRight c (call_of t.message) t.answer × AreRight (left_by c t) ts
 
+-- each answer is that of the content left by those before it, and none is 503
+abbrev pub AreAnswered : Content → List Told → Type 0
+AreAnswered c [] = ⊤
+AreAnswered c (t ∷ ts) = IsAnswer c (call_of t.message) t.answer × AreAnswered (after_call c (call_of t.message)) ts
+
 -- the request in a call, if it was served
 abbrev pub request_in : Result Call WireFault → Answer → List Request
 request_in (Ok (call.Request request)) (told.Unserved cause) = []
-request_in (Ok (call.Request request)) (told.Reply reply) = request ∷ []
-request_in (Ok (call.Request request)) (told.Sheet sheet) = request ∷ []
-request_in (Ok (call.Request request)) (told.Row row) = request ∷ []
-request_in (Ok (call.Request request)) (told.Ticket ticket) = request ∷ []
-request_in (Ok (call.Request request)) (told.Batch batch) = request ∷ []
-request_in (Ok (call.Request request)) (told.Fault cause) = request ∷ []
+request_in (Ok (call.Request request)) answer = request ∷ []
 request_in (Ok (call.Query query)) answer = []
 request_in (Err cause) answer = []
 

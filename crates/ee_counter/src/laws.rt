@@ -1,6 +1,6 @@
 //! Laws of the definitions: a body does nothing, and the clauses are the laws.
 
-ghost use Rattle.std.specs.Prelude.{◌≡◌, [], Bool, List, Result};
+ghost use Rattle.std.specs.Prelude.{◌≡◌, ℕ, [], Bool, List, Result, length};
 ghost use Rattle.std.specs.List.{AllByRecursion};
 ghost use Rattle.ee_acts.specs.declared.acts.Request.{Request};
 ghost use Rattle.ee_acts.specs.declared.replies.Reply.{Reply};
@@ -8,12 +8,12 @@ ghost use Rattle.ee_acts.specs.declared.refusals.Unserved.{Unserved};
 ghost use Rattle.ee_acts.specs.Repeats.{Content};
 ghost use Rattle.ee_acts.specs.Contents.{content_after};
 ghost use Rattle.ee_acts.specs.Answers.{served, AreAnswers};
-ghost use Rattle.ee_framing.specs.Framing.{Message};
+ghost use Rattle.ee_framing.specs.Framing.{Message, BeginsMessages};
 ghost use Rattle.ee_wire.specs.Answers.{answer_text};
 ghost use Rattle.ee_wire.specs.declared.answers.Answer.{Answer};
 ghost use Rattle.ee_counter.specs.Served.{IsServed};
 ghost use Rattle.ee_counter.specs.Answering.{IsAnswer, call_of};
-ghost use Rattle.ee_counter.specs.Serving.{Told, left_by_all, requests_in};
+ghost use Rattle.ee_counter.specs.Serving.{Told, AreAnswered, left_by_all, messages, requests_in, texts};
 
 /// Two keepers that have one content give the same answers, as a keeper in memory and one with tables do:
 /// two lists of right answers to the same requests in which each request is served are equal, and leave
@@ -32,6 +32,15 @@ pub const fn one_text()
     ensures { (c : Content) (message : Message) (one other : Answer) (closing : Bool)
         → IsAnswer c (call_of message) one → IsAnswer c (call_of message) other
         → answer_text one closing ≡ answer_text other closing }
+{}
+
+/// What a connection writes is settled by its bytes and by the content before: of as many messages, each
+/// answered and none by 503, the answers have one text.
+pub const fn one_stream()
+    ensures { (c : Content) (bytes rest other_rest : List ℕ) (one other : List Told)
+        → BeginsMessages bytes (messages one) rest → BeginsMessages bytes (messages other) other_rest
+        → length one ≡ length other → AreAnswered c one → AreAnswered c other
+        → texts 0 one ≡ texts 0 other }
 {}
 
 /// What a connection leaves is what its requests leave, those that weren't answered 503: to them applies

@@ -13,6 +13,6 @@ mod tests;
 pub use answering::answer_message;
 pub use connections::{Ended, MOST_MESSAGES, Why, serve};
 pub use files::{ExportFault, ImportFault, export_inventory, import_inventory, import_rates};
-pub use laws::{one_text, same_answers, served_requests};
+pub use laws::{one_stream, one_text, same_answers, served_requests};
 pub use requests::run;
 pub use soundness::known;

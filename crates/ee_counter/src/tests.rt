@@ -35,9 +35,9 @@ const BATCH: &str = "{\"bonds\":3,\"day\":\"2012-02-06\",\"tickets\":1,\"total\"
 
 /// The request of a body at a path.
 fn ask(alloc: Global, path: &str, body: &str) -> Result<Request, Fail> {
-    match decode(alloc, path.as_bytes(), b"POST", body.as_bytes()) {
-        Ok(Call::Request(request)) => Ok(request),
-        _ => Err("no request".into()),
+    match decode(alloc, path.as_bytes(), b"POST", body.as_bytes())? {
+        Call::Request(request) => Ok(request),
+        Call::Query(_) => Err("a query".into()),
     }
 }
 

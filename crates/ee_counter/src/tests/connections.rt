@@ -68,6 +68,7 @@ fn a_stream_however_it_is_cut(rt: HostRuntime) -> Result<(), Fail> {
         let mut keeper = ListKeeper::empty(alloc);
         serves(
             &rt,
+            alloc,
             &mut keeper,
             &mut reader,
             wanted.as_str(),
@@ -174,6 +175,7 @@ fn faults_are_answered(rt: HostRuntime) -> Result<(), Fail> {
     let mut reader = Source::of(asks.as_bytes(), 4_096, 4_096);
     serves(
         &rt,
+        alloc,
         &mut keeper,
         &mut reader,
         wanted.as_str(),
@@ -235,6 +237,7 @@ fn a_message_may_ask_to_close(rt: HostRuntime) -> Result<(), Fail> {
     let mut reader = Source::of(stream.as_bytes(), first.len(), first.len());
     serves(
         &rt,
+        alloc,
         &mut keeper,
         &mut reader,
         wanted.as_str(),
@@ -282,6 +285,7 @@ fn a_connection_has_a_thousand_messages(rt: HostRuntime) -> Result<(), Fail> {
     let mut keeper = ListKeeper::empty(alloc);
     serves(
         &rt,
+        alloc,
         &mut keeper,
         &mut reader,
         wanted.as_str(),
@@ -310,4 +314,48 @@ fn a_failed_read_ends_the_connection(rt: HostRuntime) -> Result<(), Fail> {
         )?;
     }
     Ok(())
+}
+
+/// With each allocation refused in turn: each answer is whole and counted, and none is a lie.
+#[test]
+fn refused_memory(rt: HostRuntime) -> Result<(), Fail> {
+    let alloc = rt.alloc();
+    let stream = format!(in alloc; "{RATE}{VALUE}")?;
+    let both = format!(in alloc; "{ADDED}{ROW}")?;
+    let unserved = "{\"code\":1,\"unserved\":\"NoMemory\"}";
+    let unserved = answer(alloc, "503 Service Unavailable", "", unserved)?;
+    let no_rate = answer(
+        alloc,
+        "409 Conflict",
+        "",
+        "{\"code\":30,\"refused\":\"NoRate\"}",
+    )?;
+    let mut text = Vec::with_capacity(alloc, 4_096)?;
+    let mut keeper = ListKeeper::empty(alloc);
+    let mut reader = Source::of(stream.as_bytes(), 4_096, 4_096);
+    let ended = serve(alloc, &mut keeper, &mut reader, &mut text);
+    let mut rest = text.as_slice();
+    let mut whole: usize = 0;
+    for wanted in [
+        ADDED,
+        unserved.as_str(),
+        ROW,
+        no_rate.as_str(),
+        unserved.as_str(),
+    ] {
+        if rest.starts_with(wanted.as_bytes()) {
+            rest = &rest[wanted.len()..];
+            whole = whole.saturating_add(1);
+        }
+    }
+    assert!(rt; rest.is_empty(), "{ended:?}");
+    assert_eq!(rt; ended.messages, whole);
+    let mut reader = Source::of(stream.as_bytes(), 4_096, 4_096);
+    let mut again = Vec::new(alloc);
+    let ended = serve(alloc, &mut keeper, &mut reader, &mut again);
+    if ended.messages == 2 && again.as_slice() == both.as_bytes() {
+        Ok(())
+    } else {
+        Err("unserved".into())
+    }
 }
