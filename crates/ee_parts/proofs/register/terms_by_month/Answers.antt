@@ -1,0 +1,13 @@
+use Rattle.std.proofs.Common.{◌∙◌}
+use Rattle.ee_parts.specs.Checks.{IsRightRow}
+use Rattle.std.specs.List.{AllByRecursion}
+use Rattle.ee_parts.proofs.Walks.{all_on}
+use Rattle.ee_parts.proofs.Entries.{rates_more}
+use Rattle.ee_parts.proofs.register.terms_by_month.Goals as goal
+
+pub loop-row-preserved : goal.loop-row-preserved
+loop-row-preserved c =
+    record {
+      entries = ?;
+      right = all_on c.args.rows.now c.loop-row.row-index c.row-item.result c.loop-row-test.true c.row-item.is IsRightRow (AllByRecursion IsRightRow c.args.rows.now) c.in_ok-one.ensures.right c.loop-row.invariant.right;
+    }

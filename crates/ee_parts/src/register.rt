@@ -1,0 +1,92 @@
+//! Whether rates and bonds are those of sound books.
+
+ghost use Rattle.std.specs.Prelude.{◌≡◌, ◌↔◌, true, map, IfOk, IfErr, is_some};
+ghost use Rattle.std.specs.List.{AllByRecursion};
+ghost use Rattle.std.specs.FinMap as finite;
+ghost use Rattle.ee_units.specs.Calendar.{period_start, is_announcement};
+ghost use Rattle.ee_acts.specs.PlainBooks.{has_coowner};
+ghost use Rattle.ee_acts.specs.Sound.{IsRightRate, IsRightBond};
+ghost use Rattle.ee_parts.specs.Checks.{HaveRisingMonths, IsRightRow, IsRightOwn, entry_of_row};
+
+use crate::parts::PartsFault;
+use crate::terms::Terms;
+use ee_acts::RateRow;
+use ee_calculator::Bond;
+use ee_units::calendar::period_of;
+use ee_units::{Customer, IssueMonth};
+use std::alloc::Global;
+use std::collections::BTreeMap;
+
+/// Whether a month is a May or November.
+fn is_announcement(month: IssueMonth) -> bool
+    ensures { result ≡ is_announcement month }
+{
+    let month = (month.count() + 4) % 12 + 1;
+    month == 5 || month == 11
+}
+
+/// The terms of a row that books may have.
+fn right_terms(alloc: Global, row: &RateRow) -> Result<Terms, PartsFault>
+    ensures value { IfOk result (λ terms. terms ≡ row.now.rates) }
+    ensures right { IfOk result (λ _. IsRightRow row.now) }
+    ensures unsound { IfErr result (λ fault. fault ≡ PartsFault.Unsound → IsRightRow row.now → ⊥) }
+{
+    let _range = row.rates.rate_in(0);
+    let _month = row.from.count();
+    if !is_announcement(row.from) {
+        return Err(PartsFault::Unsound);
+    }
+    let rates = row.rates;
+    Ok(Terms::new(alloc, rates)?)
+}
+
+/// The terms of rows by month, where these rise and books may have each row.
+pub fn terms_by_month(
+    alloc: Global,
+    rows: &[RateRow],
+) -> Result<BTreeMap<IssueMonth, Terms>, PartsFault>
+    requires { HaveRisingMonths rows.now }
+    ensures entries { IfOk result (λ terms. terms.entries ≡ map entry_of_row rows.now) }
+    ensures right { IfOk result (λ _. AllByRecursion IsRightRow rows.now) }
+    ensures unsound { IfErr result (λ fault. fault ≡ PartsFault.Unsound → AllByRecursion IsRightRow rows.now → ⊥) }
+{
+    let mut terms = BTreeMap::new(alloc);
+    for row in rows {
+        let one = right_terms(alloc, row)?;
+        terms.insert(row.from, one)?;
+    }
+    Ok(terms)
+}
+
+fn has_coowner(bond: &Bond, customer: Customer) -> bool
+    ensures { result ≡ has_coowner bond.now customer }
+{
+    bond.coowner == Some(customer)
+}
+
+/// Whether there are rates for a bond's issue period.
+fn is_rated(rates: &BTreeMap<IssueMonth, Terms>, bond: &Bond) -> bool
+    ensures { result ≡ is_some (finite.get (finite.from_entries rates.now.entries) (period_start bond.now.issued)) }
+{
+    rates.contains_key(&period_of(bond.issued))
+}
+
+/// Whether there are rates for a bond's issue period, and its coowner isn't the owner.
+fn is_right_bond(rates: &BTreeMap<IssueMonth, Terms>, bond: &Bond) -> bool
+    ensures { (result ≡ true) ↔ IsRightOwn (finite.from_entries rates.now.entries) bond.now }
+{
+    let _month = bond.issued.count();
+    is_rated(rates, bond) && !has_coowner(bond, bond.owner)
+}
+
+/// Whether books with these rates may have the bonds.
+pub fn are_right_bonds(rates: &BTreeMap<IssueMonth, Terms>, bonds: &[Bond]) -> bool
+    ensures { (result ≡ true) ↔ AllByRecursion (IsRightOwn (finite.from_entries rates.now.entries)) bonds.now }
+{
+    for bond in bonds {
+        if !is_right_bond(rates, bond) {
+            return false;
+        }
+    }
+    true
+}
