@@ -45,6 +45,12 @@ begun es fs days more old new q =
     new q ∙ ap (cond (list_any (λ d. q == d) more) (Some no_counts)) (old q)
     ∙ sym (ap (λ b. cond b (Some no_counts) None) (list_any-append (λ d. q == d) days more) ∙ either (list_any (λ d. q == d) days) (list_any (λ d. q == d) more) (Some no_counts) None)
 
+-- a day more
+pub day_begun : (es fs : Counts) (day : ℕ) (c : DayCounts) → c ≡ no_counts → ((q : ℕ) → counts_at fs q ≡ cond (is_at (nat_cmp day) q) (Some c) (counts_at es q)) → HasMore es fs (day ∷ [])
+day_begun es fs day c none new q =
+    new q ∙ (λ i. cond (is_at (nat_cmp day) q) (Some (none i)) (counts_at es q))
+    ∙ ap (λ b. cond b (Some no_counts) (counts_at es q)) (unsigned_tied day q ∙ eqb_turned day q ∙ sym (or_none (q == day)))
+
 -- ---- one ticket more
 day_push : (q : ℕ) (tickets : List Ticket) (t : Ticket) (b : Bool) → eqb t.day q ≡ b → of_day q (tickets ++ t ∷ []) ≡ of_day q tickets ++ cond b (t ∷ []) []
 day_push q tickets t b e = filter-append (λ u. eqb u.day q) tickets (t ∷ []) ∙ ap (λ c. of_day q tickets ++ cond c (t ∷ []) []) e

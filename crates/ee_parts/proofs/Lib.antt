@@ -7,3 +7,4 @@ pub mod Counts
 pub mod SortedRows
 pub mod LinePays
 pub mod SoundParts
+pub mod Making

@@ -1,5 +1,5 @@
 -- Lines that pay each bond once, marked one after the other.
-use Rattle.std.proofs.Common.{◌≡◌, ◌↔◌, ℕ, ◌+◌, ◌<◌, Bool, true, false, List, [], ◌∷◌, ◌++◌, append-nil, append_assoc, length, take, drop, get_or, Option, Some, None, true≢false, refl, sym, ap, ◌∙◌, subst}
+use Rattle.std.proofs.Common.{◌≡◌, ◌↔◌, ℕ, ◌+◌, ◌<◌, Bool, true, false, ◌||◌, List, [], ◌∷◌, ◌++◌, append-nil, append_assoc, length, take, drop, get_or, Option, Some, None, true≢false, refl, sym, ap, ◌∙◌, subst}
 use Rattle.std.specs.Option.{option_map, IfSome}
 use Rattle.std.specs.List.{AllByRecursion, list_any}
 use Rattle.ee_units.specs.Spelling.{SerialNumber}
@@ -99,3 +99,27 @@ module _ (es fs : List (SerialNumber × Held)) (tickets : List Ticket) (i : ℕ)
       ticket_kept es fs (take i tickets) (take (i + 1) tickets) t are
       (subst (λ (ls : List Line). AllByRecursion (λ line. ticket_of (take i tickets) line.serial ≡ None) ls) own unpaid) (taken_is tickets i t h is)
       (λ q. marks q ∙ ap (λ ls. option_map (marked (list_any (λ line. same_serial q line.serial) ls) t.ticket) (held_at es q)) own)
+
+any_push : {A : Type 0} (p : A → Bool) (xs : List A) (y : A) → list_any p (xs ++ y ∷ []) ≡ (p y || list_any p xs)
+any_push p [] y = refl
+any_push p (x ∷ xs) y = ap (λ b. p x || b) (any_push p xs y) ∙ swap (p x) (p y) (list_any p xs)
+  where
+    swap : (a b c : Bool) → (a || (b || c)) ≡ (b || (a || c))
+    swap true true c = refl
+    swap true false c = refl
+    swap false b c = refl
+
+marked_both : (a b : Bool) (n : ℕ) (o : Option Held) → option_map (marked a n) (option_map (marked b n) o) ≡ option_map (marked (a || b) n) o
+marked_both a b n None = refl
+marked_both true b n (Some h) = refl
+marked_both false b n (Some h) = refl
+
+-- marks so far, with one line's more
+pub marks_next : (start es fs : List (SerialNumber × Held)) (lines : List Line) (i : ℕ) (line : Line) (n : ℕ) → i < length lines → line ≡ get_or lines i line → AreMarkedAt es fs line.serial n
+    → ((q : SerialNumber) → held_at es q ≡ option_map (marked (list_any (λ l. same_serial q l.serial) (take i lines)) n) (held_at start q))
+    → (q : SerialNumber) → held_at fs q ≡ option_map (marked (list_any (λ l. same_serial q l.serial) (take (i + 1) lines)) n) (held_at start q)
+marks_next start es fs lines i line n h is new old q =
+    new q ∙ ap (option_map (marked (same_serial q line.serial) n)) (old q)
+    ∙ marked_both (same_serial q line.serial) (list_any (λ l. same_serial q l.serial) (take i lines)) n (held_at start q)
+    ∙ ap (λ b. option_map (marked b n) (held_at start q))
+    (sym (ap (list_any (λ l. same_serial q l.serial)) (taken_is lines i line h is) ∙ any_push (λ (l : Line). same_serial q l.serial) (take i lines) line))

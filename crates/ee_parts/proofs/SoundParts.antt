@@ -32,7 +32,7 @@ use Rattle.ee_acts.proofs.Bounds.{value_le}
 use Rattle.ee_decide.specs.declared.views.DayCounts.{DayCounts}
 use Rattle.ee_parts.specs.declared.parts.Parts.{Parts}
 use Rattle.ee_parts.specs.Parts.{parts_of, row_of_entry, AreUnsound}
-use Rattle.ee_parts.specs.Checks.{InOrder, IsBefore, HaveRisingMonths, HaveRisingSerials, IsRightRow, IsRightOwn, entry_of_row, entry_of_bond, rates_in, bonds_in, books_of, AreSound, IsRegister, ArePaid, AreClosed}
+use Rattle.ee_parts.specs.Checks.{InOrder, IsBefore, HaveRisingMonths, HaveRisingSerials, IsRightRow, IsRightOwn, entry_of_row, entry_of_bond, rates_in, bonds_in, books_of, AreSound, IsRegister, CanBePaid, AreClosed}
 use Rattle.ee_parts.specs.Marks.{bonds_held, held_at, unpaid, IsFree, AreMarked}
 use Rattle.ee_parts.specs.Days.{days_of, counts_at, counts_on, counts_in, no_counts, AreCounted, IsCounted, IsSmall}
 use Rattle.ee_parts.proofs.InOrder.{in_order_map}
@@ -210,12 +210,12 @@ rising_is [] h = tt
 rising_is (k ∷ ks) h = (h.0, rising_is ks h.1)
 
 -- ---- all together
-pub passed : (parts : Parts) → IsRegister parts → ArePaid parts → AreClosed parts → AllByRecursion IsDay (days_of parts.batches parts.day) → AreSound parts
+pub passed : (parts : Parts) → IsRegister parts.rates parts.bonds → CanBePaid (rates_in parts.rates) (map unpaid parts.bonds) parts.tickets → AreClosed parts.tickets parts.batches parts.day parts.last_day → AllByRecursion IsDay (days_of parts.batches parts.day) → AreSound parts
 passed parts register paid closed range = record {
   months = register.months;
   serials = register.serials;
   books = record {
-    rates = rates_right parts.rates register.rows;
+    rates = rates_right parts.rates register.right;
     bonds = bonds_right (rates_in parts.rates) parts.bonds register.owned;
     numbered = paid.numbered;
     tickets = subst (λ bs. AllByRecursion (IsRightTicket (rates_in parts.rates) bs) parts.tickets) (unpaid_bonds parts.bonds) paid.right;
@@ -225,21 +225,21 @@ passed parts register paid closed range = record {
     dated = closed.right.fit.0;
     rising = rises (days_of parts.batches parts.day) closed.rising;
     in_range = range;
-    last = closed.last;
+    last = closed.latest;
     batches = closed.right.batches;
   };
 }
 
 module _ (parts : Parts) (sound : AreSound parts) where
-  pub register_is : IsRegister parts
+  pub register_is : IsRegister parts.rates parts.bonds
   register_is = record {
     months = sound.months;
     serials = sound.serials;
-    rows = row_rates parts.rates (all_rows nat_cmp_total nat_cmp-IsAntisymmetric IsRightRate (map entry_of_row parts.rates) (rows_rise parts.rates sound.months) sound.books.rates);
+    right = row_rates parts.rates (all_rows nat_cmp_total nat_cmp-IsAntisymmetric IsRightRate (map entry_of_row parts.rates) (rows_rise parts.rates sound.months) sound.books.rates);
     owned = row_bonds (rates_in parts.rates) parts.bonds (all_rows serials_total exact_serials (IsRightBond (rates_in parts.rates)) (map entry_of_bond parts.bonds) (bonds_rise parts.bonds sound.serials) sound.books.bonds);
   }
 
-  pub paid_is : ArePaid parts
+  pub paid_is : CanBePaid (rates_in parts.rates) (map unpaid parts.bonds) parts.tickets
   paid_is = record {
     numbered = sound.books.numbered;
     in_order = falls_never (map day_of parts.tickets) sound.books.in_order;
@@ -247,10 +247,10 @@ module _ (parts : Parts) (sound : AreSound parts) where
     once = (free_lines (rates_in parts.rates) parts.bonds parts.tickets sound.books.tickets, sound.books.once);
   }
 
-  pub closed_is : AreClosed parts
+  pub closed_is : AreClosed parts.tickets parts.batches parts.day parts.last_day
   closed_is = record {
     rising = rising_is (days_of parts.batches parts.day) sound.books.rising;
-    last = sound.books.last;
+    latest = sound.books.last;
     right = record { fit = (sound.books.dated, sound.books.few); batches = sound.books.batches };
   }
 
@@ -330,3 +330,16 @@ pub open_is : (counts : List (ℕ × DayCounts)) (batches : List Batch) (day : O
     → unwrap_or (option_and_then (counts_at counts) day) no_counts ≡ counts_in (batch_so_far day tickets)
 open_is counts batches None tickets are = refl
 open_is counts batches (Some d) tickets are = ap (λ o. unwrap_or o no_counts) (counted_at counts (map day_of_batch batches) [] d tickets are)
+
+-- ---- books in memory
+-- what is made of parts in memory stands for their books
+pub books_made : (parts : Parts) (terms : List (ℕ × Rates)) (held : List (SerialNumber × Held)) → terms ≡ map entry_of_row parts.rates → bonds_held held ≡ bonds_in parts.bonds
+    → ◌≡◌ {A = PlainBooks} (record { rates = finite.from_entries terms; bonds = bonds_held held; day = parts.day; last_day = parts.last_day; tickets = parts.tickets; batches = parts.batches }) (books_of parts)
+books_made parts terms held rates bonds = λ i. record {
+  rates = finite.from_entries (rates i);
+  bonds = bonds i;
+  day = parts.day;
+  last_day = parts.last_day;
+  tickets = parts.tickets;
+  batches = parts.batches;
+}

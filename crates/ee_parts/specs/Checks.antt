@@ -91,11 +91,11 @@ PaysBond rates bond ticket line =
     × (line.cents.0 ≡ value_of terms bond (month_of_day ticket.day))
 
 -- rates and bonds that sound books may have
-pub record IsRegister (parts : Parts) : Type 0 where
-  pub months : HaveRisingMonths parts.rates
-  pub serials : HaveRisingSerials parts.bonds
-  pub rows : AllByRecursion IsRightRow parts.rates
-  pub owned : AllByRecursion (IsRightOwn (rates_in parts.rates)) parts.bonds
+pub record IsRegister (rows : List RateRow) (own : List Bond) : Type 0 where
+  pub months : HaveRisingMonths rows
+  pub serials : HaveRisingSerials own
+  pub right : AllByRecursion IsRightRow rows
+  pub owned : AllByRecursion (IsRightOwn (rates_in rows)) own
 
 -- tickets that pay such bonds of these, at such rates
 pub record CanBePaid (rates : FinMap nat_cmp Rates) (held : List (SerialNumber × Held)) (tickets : List Ticket) : Type 0 where
@@ -104,17 +104,17 @@ pub record CanBePaid (rates : FinMap nat_cmp Rates) (held : List (SerialNumber �
   pub right : AllByRecursion (IsRightTicket rates (bonds_held held)) tickets
   pub once : ArePayable held (paid_lines tickets)
 
--- tickets that sound books with these rates and bonds may have
-abbrev pub ArePaid : Parts → Type 0
-ArePaid parts = CanBePaid (rates_in parts.rates) (map unpaid parts.bonds) parts.tickets
-
 -- batches that sound books with these tickets may have
 pub record AreRightBatches (tickets : List Ticket) (closed : List Batch) (day : Option ℕ) : Type 0 where
   pub fit : FitDays (days_of closed day) tickets
   pub batches : AllByRecursion (λ batch. batch ≡ batch_of batch.day tickets) closed
 
 -- days and batches that sound books with these tickets may have
-pub record AreClosed (parts : Parts) : Type 0 where
-  pub rising : InOrder ◌<◌ (days_of parts.batches parts.day)
-  pub last : parts.last_day ≡ last_of parts.batches
-  pub right : AreRightBatches parts.tickets parts.batches parts.day
+pub record AreClosed (tickets : List Ticket) (closed : List Batch) (day : Option ℕ) (last : Option ℕ) : Type 0 where
+  pub rising : InOrder ◌<◌ (days_of closed day)
+  pub latest : last ≡ last_of closed
+  pub right : AreRightBatches tickets closed day
+
+abbrev pub parts_in : List RateRow → List Bond → Option ℕ → Option ℕ → List Ticket → List Batch → Parts
+parts_in rates bonds day last tickets batches =
+    record { rates = rates; bonds = bonds; day = day; last_day = last; tickets = tickets; batches = batches }

@@ -3,3 +3,4 @@ pub mod Checks
 pub mod Marks
 pub mod Days
 pub mod Faults
+pub mod Made

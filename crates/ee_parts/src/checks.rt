@@ -5,7 +5,8 @@ ghost use Rattle.std.specs.List.{AllByRecursion};
 ghost use Rattle.std.specs.FinMap as finite;
 ghost use Rattle.ee_acts.specs.PlainBooks.{batch_so_far};
 ghost use Rattle.ee_parts.specs.Parts.{AreUnsound};
-ghost use Rattle.ee_parts.specs.Checks.{entry_of_row, bonds_in, AreSound, IsRegister, ArePaid, AreClosed, CanBePaid, AreRightBatches};
+ghost use Rattle.ee_parts.specs.Checks.{entry_of_row, parts_in, IsRegister, AreClosed, CanBePaid, AreRightBatches};
+ghost use Rattle.ee_parts.specs.Made.{IsMadeOf};
 ghost use Rattle.ee_parts.specs.Marks.{bonds_held, unpaid, AreMarked};
 ghost use Rattle.ee_parts.specs.Days.{counts_in, days_of, AreCounted, FitDays, IsSmall};
 
@@ -15,17 +16,19 @@ use crate::marks::{held_by_serial, mark_paid};
 use crate::order::{days_never_fall, months_rise, serials_rise};
 use crate::parts::{Parts, PartsFault};
 use crate::register::{are_right_bonds, terms_by_month};
-use crate::terms::Terms;
-use ee_acts::{Batch, Held, Ticket};
+use ee_acts::{Batch, Held, RateRow, Tables, Terms, Ticket};
+use ee_calculator::Bond;
 use ee_decide::DayCounts;
 use ee_units::{Day, IssueMonth, Serial};
 use std::alloc::Global;
 use std::collections::BTreeMap;
 
-/// What books in memory keep beside the lists of their parts: terms by month, bonds by serial, each
-/// marked with the ticket that pays it, and the counts of the open day.
+/// What books in memory keep beside the lists of their parts: the tables of their rates,
+/// terms by month, bonds by serial, each marked with the ticket that pays it, and the counts of the
+/// open day.
 #[derive(Drop)]
 pub struct Indexes {
+    pub tables: Tables,
     pub terms: BTreeMap<IssueMonth, Terms>,
     pub bonds: BTreeMap<Serial, Held>,
     pub counts: DayCounts,
@@ -34,29 +37,39 @@ pub struct Indexes {
 /// Rates and bonds as maps.
 #[derive(Drop)]
 struct Register {
+    tables: Tables,
     terms: BTreeMap<IssueMonth, Terms>,
     bonds: BTreeMap<Serial, Held>,
 }
 
 /// Rates and bonds as maps, where sound books may have them.
-fn registered(alloc: Global, parts: &Parts) -> Result<Register, PartsFault>
-    ensures terms { IfOk result (λ maps. maps.terms.entries ≡ map entry_of_row parts.now.rates) }
-    ensures bonds { IfOk result (λ maps. maps.bonds.entries ≡ map unpaid parts.now.bonds) }
-    ensures right { IfOk result (λ _. IsRegister parts.now) }
-    ensures unsound { IfErr result (λ fault. fault ≡ PartsFault.Unsound → IsRegister parts.now → ⊥) }
+fn registered(
+    alloc: Global,
+    rates: &[RateRow],
+    bonds: &[Bond],
+) -> Result<Register, PartsFault>
+    ensures terms { IfOk result (λ maps. maps.terms.entries ≡ map entry_of_row rates.now) }
+    ensures bonds { IfOk result (λ maps. maps.bonds.entries ≡ map unpaid bonds.now) }
+    ensures right { IfOk result (λ _. IsRegister rates.now bonds.now) }
+    ensures unsound { IfErr result (λ fault. fault ≡ PartsFault.Unsound → IsRegister rates.now bonds.now → ⊥) }
 {
-    if !months_rise(parts.rates.as_slice()) {
+    if !months_rise(rates) {
         return Err(PartsFault::Unsound);
     }
-    if !serials_rise(parts.bonds.as_slice()) {
+    if !serials_rise(bonds) {
         return Err(PartsFault::Unsound);
     }
-    let terms = terms_by_month(alloc, parts.rates.as_slice())?;
-    if !are_right_bonds(&terms, parts.bonds.as_slice()) {
+    let mut tables = Tables::new(alloc);
+    let terms = terms_by_month(alloc, &mut tables, rates)?;
+    if !are_right_bonds(&terms, bonds) {
         return Err(PartsFault::Unsound);
     }
-    let bonds = held_by_serial(alloc, parts.bonds.as_slice())?;
-    Ok(Register { terms, bonds })
+    let bonds = held_by_serial(alloc, bonds)?;
+    Ok(Register {
+        tables,
+        terms,
+        bonds,
+    })
 }
 
 /// Marks the bonds that tickets pay, where sound books may have these tickets.
@@ -112,7 +125,8 @@ fn counted(
     ensures right { IfOk result (λ _. AreRightBatches tickets.now batches.now day) }
     ensures unsound { IfErr result (λ fault. fault ≡ PartsFault.Unsound → AreRightBatches tickets.now batches.now day → ⊥) }
 {
-    let counts = known_counts(alloc, tickets, batches, day)?;
+    let own = day;
+    let counts = known_counts(alloc, tickets, batches, own)?;
     if !are_counted(&counts, batches) {
         return Err(PartsFault::Unsound);
     }
@@ -120,46 +134,74 @@ fn counted(
 }
 
 /// The counts of the open day, where sound books may have these days and batches.
-fn closed(alloc: Global, parts: &Parts) -> Result<DayCounts, PartsFault>
-    requires { AllByRecursion IsSmall parts.now.tickets }
-    ensures counts { IfOk result (λ counts. counts ≡ counts_in (batch_so_far parts.now.day parts.now.tickets)) }
-    ensures right { IfOk result (λ _. AreClosed parts.now) }
-    ensures unsound { IfErr result (λ fault. fault ≡ PartsFault.Unsound → AreClosed parts.now → ⊥) }
+fn closed(
+    alloc: Global,
+    tickets: &[Ticket],
+    batches: &[Batch],
+    day: Option<Day>,
+    last: Option<Day>,
+) -> Result<DayCounts, PartsFault>
+    requires { AllByRecursion IsSmall tickets.now }
+    ensures counts { IfOk result (λ counts. counts ≡ counts_in (batch_so_far day tickets.now)) }
+    ensures right { IfOk result (λ _. AreClosed tickets.now batches.now day last) }
+    ensures unsound { IfErr result (λ fault. fault ≡ PartsFault.Unsound → AreClosed tickets.now batches.now day last → ⊥) }
 {
-    if !days_rise(parts.batches.as_slice(), parts.day) {
+    let own = day;
+    if !days_rise(batches, own) {
         return Err(PartsFault::Unsound);
     }
-    if parts.last_day != last_day(parts.batches.as_slice()) {
+    if last != last_day(batches) {
         return Err(PartsFault::Unsound);
     }
-    counted(
-        alloc,
-        parts.tickets.as_slice(),
-        parts.batches.as_slice(),
-        parts.day,
-    )
+    counted(alloc, tickets, batches, day)
+}
+
+/// The same of lists.
+fn checked_lists(
+    alloc: Global,
+    rates: &[RateRow],
+    bonds: &[Bond],
+    day: Option<Day>,
+    last: Option<Day>,
+    tickets: &[Ticket],
+    batches: &[Batch],
+) -> Result<Indexes, PartsFault>
+    ensures ok { IfOk result (IsMadeOf (parts_in rates.now bonds.now day last tickets.now batches.now)) }
+    ensures unsound { IfErr result (λ fault. fault ≡ PartsFault.Unsound → AreUnsound (parts_in rates.now bonds.now day last tickets.now batches.now)) }
+{
+    let maps = registered(alloc, rates, bonds)?;
+    let Register {
+        tables,
+        terms,
+        bonds: mut held,
+    } = maps;
+    if !pay(&terms, &mut held, tickets) {
+        return Err(PartsFault::Unsound);
+    }
+    let own = day;
+    in_range(batches, own);
+    let counts = closed(alloc, tickets, batches, day, last)?;
+    Ok(Indexes {
+        tables,
+        terms,
+        bonds: held,
+        counts,
+    })
 }
 
 /// What books in memory keep beside these parts. It fails where no sound books have these parts, or
 /// where memory is refused.
-pub fn indexes(alloc: Global, parts: &Parts) -> Result<Indexes, PartsFault>
-    ensures sound { IfOk result (λ _. AreSound parts.now) }
-    ensures terms { IfOk result (λ indexes. indexes.terms.entries ≡ map entry_of_row parts.now.rates) }
-    ensures bonds { IfOk result (λ indexes. bonds_held indexes.bonds.entries ≡ bonds_in parts.now.bonds) }
-    ensures marked { IfOk result (λ indexes. AreMarked indexes.bonds.entries parts.now.tickets) }
-    ensures counts { IfOk result (λ indexes. indexes.counts ≡ counts_in (batch_so_far parts.now.day parts.now.tickets)) }
+pub fn checked(alloc: Global, parts: &Parts) -> Result<Indexes, PartsFault>
+    ensures ok { IfOk result (IsMadeOf parts.now) }
     ensures unsound { IfErr result (λ fault. fault ≡ PartsFault.Unsound → AreUnsound parts.now) }
 {
-    let maps = registered(alloc, parts)?;
-    let Register { terms, mut bonds } = maps;
-    if !pay(&terms, &mut bonds, parts.tickets.as_slice()) {
-        return Err(PartsFault::Unsound);
-    }
-    in_range(parts.batches.as_slice(), parts.day);
-    let counts = closed(alloc, parts)?;
-    Ok(Indexes {
-        terms,
-        bonds,
-        counts,
-    })
+    checked_lists(
+        alloc,
+        parts.rates.as_slice(),
+        parts.bonds.as_slice(),
+        parts.day,
+        parts.last_day,
+        parts.tickets.as_slice(),
+        parts.batches.as_slice(),
+    )
 }

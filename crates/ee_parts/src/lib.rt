@@ -5,12 +5,13 @@ mod checks;
 mod days;
 mod laws;
 mod lines;
+mod lists;
 mod marks;
 mod order;
 mod parts;
 mod register;
-mod terms;
 
-pub use checks::{Indexes, indexes};
+pub use checks::{Indexes, checked};
 pub use laws::parts_tell;
+pub use lists::{bonds_in, copy_tickets, rows_in};
 pub use parts::{Parts, PartsFault};

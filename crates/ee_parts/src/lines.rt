@@ -10,8 +10,7 @@ ghost use Rattle.ee_acts.specs.Sound.{IsRightLine, IsRightTicket, NumberedFrom};
 ghost use Rattle.ee_parts.specs.Checks.{PaysBond};
 ghost use Rattle.ee_parts.specs.Marks.{bonds_held};
 
-use crate::terms::Terms;
-use ee_acts::{Held, Line, Ticket};
+use ee_acts::{Held, Line, Terms, Ticket};
 use ee_calculator::Bond;
 use ee_units::calendar::{month_of, period_of};
 use ee_units::{Age, Cents, Customer, IssueMonth, Month, Serial};

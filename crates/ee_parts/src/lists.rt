@@ -7,8 +7,7 @@ ghost use Rattle.std.specs.Ordering.{nat_cmp};
 ghost use Rattle.ee_acts.specs.Serials.{serial_cmp};
 ghost use Rattle.ee_parts.specs.Parts.{row_of_entry};
 
-use crate::terms::Terms;
-use ee_acts::{Held, RateRow, Ticket};
+use ee_acts::{Held, RateRow, Terms, Ticket};
 use ee_calculator::Bond;
 use ee_units::{IssueMonth, Serial};
 use std::alloc::{AllocError, Global};

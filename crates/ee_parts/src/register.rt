@@ -3,14 +3,14 @@
 ghost use Rattle.std.specs.Prelude.{◌≡◌, ◌↔◌, true, map, IfOk, IfErr, is_some};
 ghost use Rattle.std.specs.List.{AllByRecursion};
 ghost use Rattle.std.specs.FinMap as finite;
+ghost use Rattle.std.specs.Ordering.{nat_cmp};
 ghost use Rattle.ee_units.specs.Calendar.{period_start, is_announcement};
 ghost use Rattle.ee_acts.specs.PlainBooks.{has_coowner};
 ghost use Rattle.ee_acts.specs.Sound.{IsRightRate, IsRightBond};
 ghost use Rattle.ee_parts.specs.Checks.{HaveRisingMonths, IsRightRow, IsRightOwn, entry_of_row};
 
 use crate::parts::PartsFault;
-use crate::terms::Terms;
-use ee_acts::RateRow;
+use ee_acts::{RateRow, Tables, Terms};
 use ee_calculator::Bond;
 use ee_units::calendar::period_of;
 use ee_units::{Customer, IssueMonth};
@@ -26,7 +26,7 @@ fn is_announcement(month: IssueMonth) -> bool
 }
 
 /// The terms of a row that books may have.
-fn right_terms(alloc: Global, row: &RateRow) -> Result<Terms, PartsFault>
+fn right_terms(alloc: Global, tables: &mut Tables, row: &RateRow) -> Result<Terms, PartsFault>
     ensures value { IfOk result (λ terms. terms ≡ row.now.rates) }
     ensures right { IfOk result (λ _. IsRightRow row.now) }
     ensures unsound { IfErr result (λ fault. fault ≡ PartsFault.Unsound → IsRightRow row.now → ⊥) }
@@ -37,12 +37,14 @@ fn right_terms(alloc: Global, row: &RateRow) -> Result<Terms, PartsFault>
         return Err(PartsFault::Unsound);
     }
     let rates = row.rates;
-    Ok(Terms::new(alloc, rates)?)
+    let terms = tables.add(alloc, rates)?;
+    Ok(terms)
 }
 
 /// The terms of rows by month, where these rise and books may have each row.
 pub fn terms_by_month(
     alloc: Global,
+    tables: &mut Tables,
     rows: &[RateRow],
 ) -> Result<BTreeMap<IssueMonth, Terms>, PartsFault>
     requires { HaveRisingMonths rows.now }
@@ -52,7 +54,7 @@ pub fn terms_by_month(
 {
     let mut terms = BTreeMap::new(alloc);
     for row in rows {
-        let one = right_terms(alloc, row)?;
+        let one = right_terms(alloc, tables, row)?;
         terms.insert(row.from, one)?;
     }
     Ok(terms)
@@ -66,7 +68,7 @@ fn has_coowner(bond: &Bond, customer: Customer) -> bool
 
 /// Whether there are rates for a bond's issue period.
 fn is_rated(rates: &BTreeMap<IssueMonth, Terms>, bond: &Bond) -> bool
-    ensures { result ≡ is_some (finite.get (finite.from_entries rates.now.entries) (period_start bond.now.issued)) }
+    ensures { result ≡ is_some (finite.get (finite.from_entries {R = nat_cmp} rates.now.entries) (period_start bond.now.issued)) }
 {
     rates.contains_key(&period_of(bond.issued))
 }

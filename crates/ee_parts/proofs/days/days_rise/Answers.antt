@@ -14,7 +14,7 @@ loop-batch-preserved c =
 
 pub returns : goal.returns
 returns c =
-    let none : drop c.loop-batch.batch-index c.args.batches.now ≡ [] = drop_all _ _ (search rules) in
+    let none : drop c.loop-batch.batch-index c.args.batches.now ≡ [] = drop_all c.loop-batch.batch-index c.args.batches.now (search rules) in
     let end = subst (λ (bs : List Batch). Follows ◌<◌ c.loop-batch.last (days_of bs c.args.day) ↔ InOrder ◌<◌ (days_of c.args.batches.now c.args.day)) none c.loop-batch.invariant in
     let day = open_follows ◌<◌ c.loop-batch.last c.args.day in
     (λ r. end.0 (day.0 (c.are_later.ensures.0 r)), λ h. c.are_later.ensures.1 (day.1 (end.1 h)))

@@ -5,4 +5,4 @@ use Rattle.ee_parts.specs.Days.{days_of}
 use Rattle.ee_parts.proofs.days.in_range.Given as goal
 
 abbrev pub invariant-loop-batch : goal.invariant-loop-batch
-invariant-loop-batch l = AllByRecursion IsDay (days_of (drop l.batch-index l.batches) l.day) → AllByRecursion IsDay (days_of l.batches l.day)
+invariant-loop-batch l = AllByRecursion IsDay (days_of (drop l.batch-index l.batches) l.fn.day) → AllByRecursion IsDay (days_of l.batches l.fn.day)
