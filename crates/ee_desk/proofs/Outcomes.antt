@@ -1,15 +1,14 @@
 -- What holds by how a call ended.
 use Rattle.std.proofs.Common.{Result, Ok, Err}
 use Rattle.std.specs.Result.{IfOk, OnOk, OnErr}
-use Rattle.std.proofs.Common.{◌≡◌, ℕ, Option, Some, None}
+use Rattle.std.proofs.Common.{◌≡◌, Option, Some, None}
 use Rattle.std.specs.Option.{IfSome}
 use Rattle.ee_value.specs.declared.rates.Rates.{Rates}
-use Rattle.ee_acts.specs.Values.{unsettled}
 use Rattle.std.specs.FinMap.{FinMap}
 use Rattle.std.specs.Ordering.{nat_cmp}
 use Rattle.ee_units.specs.Spelling.{SerialNumber}
 use Rattle.ee_calculator.specs.declared.bonds.Bond.{Bond}
-use Rattle.ee_acts.specs.Sound.{IsRightRate, IsRightBond}
+use Rattle.ee_acts.specs.Sound.{IsRightBond}
 
 pub on_ok : {A E : Type 0} {P Q : Type 0} (r : Result A E) → (P → Q) → OnOk r P → OnOk r Q
 on_ok (Ok x) f h = f h

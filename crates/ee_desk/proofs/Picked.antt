@@ -3,10 +3,10 @@ use Rattle.std.proofs.Common.{◌≡◌, ℕ, ◌+◌, ◌<◌, Bool, true, fals
 use Rattle.std.specs.Option.{option_map, option_map_or, IfSome}
 use Rattle.std.specs.List.{list_any, filter_map, cons_option}
 use Rattle.std.specs.FinMap as finite
-use Rattle.std.specs.FinMap.{FinMap, get-insert, same_map}
-use Rattle.std.specs.Ordering.{nat_cmp, eq_by_cmp}
+use Rattle.std.specs.FinMap.{get-insert, same_map}
+use Rattle.std.specs.Ordering.{eq_by_cmp}
 use Rattle.std.specs.declared.cmp.Ordering.{Ordering}
-use Rattle.std.specs.Cmp.{IsTotalOrder, nat_cmp_total}
+use Rattle.std.specs.Cmp.{IsTotalOrder}
 use Rattle.std.proofs.lemmas.Map.Lookups.{CmpEqualImpliesEq}
 use Rattle.std.proofs.lemmas.List.{take_more, map-append}
 use Rattle.ee_units.specs.Spelling.{SerialNumber}
@@ -18,10 +18,6 @@ use Rattle.ee_acts.specs.Views.{picked}
 use Rattle.ee_acts.proofs.Maps.{get_picked, same_key}
 use Rattle.ee_desk.specs.Kept.{noted, noted_at, held_at, bonds_in}
 use Rattle.ee_desk.proofs.PaidMarks.{get_bond}
-use Rattle.std.proofs.Common.{subst}
-use Rattle.std.specs.FinMap.{nat_cmp-IsAntisymmetric}
-use Rattle.ee_value.specs.declared.rates.Rates.{Rates}
-use Rattle.ee_acts.specs.Values.{unsettled}
 
 any_push : {A : Type 0} (p : A → Bool) (xs : List A) (y : A) → list_any p (xs ++ y ∷ []) ≡ (p y || list_any p xs)
 any_push p [] y = refl

@@ -10,7 +10,7 @@ use crate::ledger::Ledger;
 use ee_acts::Terms;
 use ee_calculator::{Bond, Row, plain_row, row};
 use ee_units::calendar::period_of;
-use ee_units::{Denom, IssueMonth, Month};
+use ee_units::{Denom, IssueMonth, Month, Rate};
 use std::alloc::{AllocError, Global};
 
 /// The row of a bond on these terms.
@@ -33,6 +33,14 @@ fn row_of(ledger: &Ledger, bond: &Bond, month: Month) -> Option<Row>
 {
     match ledger.terms(period_of(bond.issued)) {
         Some(terms) => Some(row_at(terms, bond, month)),
+        None => None,
+    }
+}
+
+/// The rate that a row shows.
+fn rate_in(row: &Option<Row>) -> Option<Rate> {
+    match row {
+        Some(row) => row.rate,
         None => None,
     }
 }
@@ -68,6 +76,8 @@ pub fn rows_of(
     let mut rows = Vec::new(alloc);
     for bond in bonds {
         let row = row_of(ledger, bond, month);
+        // The proof of this loop has to meet the type of a row's rate.
+        let _rate = rate_in(&row);
         push_some(&mut rows, row)?;
     }
     Ok(rows)

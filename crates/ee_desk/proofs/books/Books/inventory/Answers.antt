@@ -1,5 +1,4 @@
 use Rattle.std.proofs.Common.{ap, sym, ◌∙◌, map, Some}
-use Rattle.std.specs.FinMap as finite
 use Rattle.std.specs.List.{filter_map}
 use Rattle.ee_acts.specs.Queries.{row_of, bonds_of, sheet_of, sheet_in}
 use Rattle.ee_desk.proofs.SheetRows.{sheet_is}
