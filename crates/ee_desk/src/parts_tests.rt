@@ -140,7 +140,11 @@ fn day_written(text: &mut String, day: Option<Day>) -> Result<(), Fail> {
 fn bonds_written(text: &mut String, bonds: &[Bond]) -> Result<(), Fail> {
     for bond in bonds {
         let issued = bond.issued.count();
-        write!(text, "{} {} {issued} {}", bond.serial, bond.denom, bond.owner)?;
+        write!(
+            text,
+            "{} {} {issued} {}",
+            bond.serial, bond.denom, bond.owner
+        )?;
         if let Some(coowner) = bond.coowner {
             write!(text, " {coowner}")?;
         }
@@ -192,11 +196,25 @@ const WRITTEN: &str = "\
 fn parts_come_back_equal(rt: HostRuntime) -> Result<(), Fail> {
     let alloc = rt.alloc();
     let parts = crate::tests::worked_books(alloc)?.parts()?;
-    assert_eq!(rt; written(alloc, &parts)?.as_str(), WRITTEN, "parts of the books");
+    assert_eq!(rt;
+        written(alloc, &parts)?.as_str(),
+        WRITTEN,
+        "parts of the books"
+    );
     let books = Books::from_parts(alloc, parts).ok().ok_or("parts")?;
-    assert_eq!(rt; written(alloc, &books.parts()?)?.as_str(), WRITTEN, "and back");
-    let books = Books::from_parts(alloc, read(alloc, &WORKED)?).ok().ok_or("told")?;
-    assert_eq!(rt; written(alloc, &books.parts()?)?.as_str(), WRITTEN, "from what was told");
+    assert_eq!(rt;
+        written(alloc, &books.parts()?)?.as_str(),
+        WRITTEN,
+        "and back"
+    );
+    let books = Books::from_parts(alloc, read(alloc, &WORKED)?)
+        .ok()
+        .ok_or("told")?;
+    assert_eq!(rt;
+        written(alloc, &books.parts()?)?.as_str(),
+        WRITTEN,
+        "from what was told"
+    );
     Ok(())
 }
 
@@ -206,10 +224,38 @@ fn parts_are_sound(rt: HostRuntime) -> Result<(), Fail> {
     for (name, told) in [
         ("nothing", NOTHING),
         ("a closed day", WORKED),
-        ("a later day is open", Told { day: "2012-02-07", ..WORKED }),
-        ("a day without tickets", Told { batches: "2012-02-05 0 0 0; 2012-02-06 1 3 519622;", ..WORKED }),
-        ("the ticket's day is open", Told { day: "2012-02-06", last_day: "-", batches: "", ..WORKED }),
-        ("no tickets", Told { tickets: "", batches: "", last_day: "-", ..WORKED }),
+        (
+            "a later day is open",
+            Told {
+                day: "2012-02-07",
+                ..WORKED
+            },
+        ),
+        (
+            "a day without tickets",
+            Told {
+                batches: "2012-02-05 0 0 0; 2012-02-06 1 3 519622;",
+                ..WORKED
+            },
+        ),
+        (
+            "the ticket's day is open",
+            Told {
+                day: "2012-02-06",
+                last_day: "-",
+                batches: "",
+                ..WORKED
+            },
+        ),
+        (
+            "no tickets",
+            Told {
+                tickets: "",
+                batches: "",
+                last_day: "-",
+                ..WORKED
+            },
+        ),
     ] {
         let fault = Books::from_parts(alloc, read(alloc, &told)?).err();
         assert_eq!(rt; fault, None, "{name}");
@@ -221,34 +267,214 @@ fn parts_are_sound(rt: HostRuntime) -> Result<(), Fail> {
 fn parts_are_unsound(rt: HostRuntime) -> Result<(), Fail> {
     let alloc = rt.alloc();
     for (name, told) in [
-        ("two rates in one month", Told { rates: "2010-05 2.00; 2010-05 2.00; 2010-11 3.50;", ..WORKED }),
-        ("months fall", Told { rates: "2010-11 3.50; 2010-05 2.00;", ..WORKED }),
-        ("a month that isn't announced", Told { rates: "2010-05 2.00; 2010-06 2.00; 2010-11 3.50;", ..WORKED }),
-        ("serials fall", Told { bonds: "L1EE 50 2010-11 7 -; K2EE 75 2010-10 7 8; M3EE 10000 2011-02 7 -;", ..WORKED }),
-        ("a serial twice", Told { bonds: "K2EE 75 2010-10 7 8; L1EE 50 2010-11 7 -; M3EE 10000 2011-02 7 -; M3EE 10000 2011-02 7 -;", ..WORKED }),
-        ("no rates for a bond", Told { bonds: "K2EE 75 2010-10 7 8; L1EE 50 2010-11 7 -; M3EE 10000 2011-02 7 -; N4EE 100 2009-10 9 -;", ..WORKED }),
-        ("the owner as coowner", Told { bonds: "K2EE 75 2010-10 7 8; L1EE 50 2010-11 7 -; M3EE 10000 2011-02 7 -; N4EE 100 2010-11 9 9;", ..WORKED }),
-        ("numbers with a gap", Told { tickets: "2 2012-02-06 7 519622 L1EE=2588 K2EE=3834 M3EE=513200;", ..WORKED }),
-        ("a ticket without lines", Told { tickets: "1 2012-02-06 7 0;", batches: "2012-02-06 1 0 0;", ..WORKED }),
-        ("a total one too high", Told { tickets: "1 2012-02-06 7 519623 L1EE=2588 K2EE=3834 M3EE=513200;", batches: "2012-02-06 1 3 519623;", ..WORKED }),
-        ("cents one too high", Told { tickets: "1 2012-02-06 7 519623 L1EE=2589 K2EE=3834 M3EE=513200;", batches: "2012-02-06 1 3 519623;", ..WORKED }),
-        ("a payee who isn't one", Told { tickets: "1 2012-02-06 8 519622 L1EE=2588 K2EE=3834 M3EE=513200;", ..WORKED }),
-        ("a bond that isn't registered", Told { bonds: "K2EE 75 2010-10 7 8; L1EE 50 2010-11 7 -;", ..WORKED }),
-        ("a bond of 11 months", Told { tickets: "1 2012-02-06 7 2500 N4EE=2500;", bonds: "N4EE 50 2011-03 7 -;", batches: "2012-02-06 1 1 2500;", ..WORKED }),
-        ("a bond twice on a ticket", Told { tickets: "1 2012-02-06 7 5176 L1EE=2588 L1EE=2588;", batches: "2012-02-06 1 2 5176;", ..WORKED }),
-        ("a bond on two tickets", Told { tickets: "1 2012-02-06 7 2588 L1EE=2588; 2 2012-02-06 7 2588 L1EE=2588;", batches: "2012-02-06 2 2 5176;", ..WORKED }),
-        ("days that fall", Told { tickets: "1 2012-02-07 7 2588 L1EE=2588; 2 2012-02-06 7 3834 K2EE=3834;", batches: "2012-02-06 1 1 3834; 2012-02-07 1 1 2588;", last_day: "2012-02-07", ..WORKED }),
-        ("a ticket of no day", Told { batches: "", last_day: "-", ..WORKED }),
-        ("a ticket of another day", Told { batches: "2012-02-05 1 3 519622;", last_day: "2012-02-05", ..WORKED }),
-        ("a batch of two tickets", Told { batches: "2012-02-06 2 3 519622;", ..WORKED }),
-        ("a batch of four bonds", Told { batches: "2012-02-06 1 4 519622;", ..WORKED }),
-        ("a batch that doesn't sum", Told { batches: "2012-02-06 1 3 519621;", ..WORKED }),
-        ("batches that fall", Told { batches: "2012-02-06 1 3 519622; 2012-02-05 0 0 0;", last_day: "2012-02-05", ..WORKED }),
-        ("a batch twice", Told { batches: "2012-02-06 1 3 519622; 2012-02-06 1 3 519622;", ..WORKED }),
-        ("a last day without its batch", Told { last_day: "2012-02-07", ..WORKED }),
-        ("no last day", Told { last_day: "-", ..WORKED }),
-        ("a last day without batches", Told { last_day: "2012-02-06", ..NOTHING }),
-        ("an open day that isn't later", Told { day: "2012-02-06", ..WORKED }),
+        (
+            "two rates in one month",
+            Told {
+                rates: "2010-05 2.00; 2010-05 2.00; 2010-11 3.50;",
+                ..WORKED
+            },
+        ),
+        (
+            "months fall",
+            Told {
+                rates: "2010-11 3.50; 2010-05 2.00;",
+                ..WORKED
+            },
+        ),
+        (
+            "a month that isn't announced",
+            Told {
+                rates: "2010-05 2.00; 2010-06 2.00; 2010-11 3.50;",
+                ..WORKED
+            },
+        ),
+        (
+            "serials fall",
+            Told {
+                bonds: "L1EE 50 2010-11 7 -; K2EE 75 2010-10 7 8; M3EE 10000 2011-02 7 -;",
+                ..WORKED
+            },
+        ),
+        (
+            "a serial twice",
+            Told {
+                bonds: "K2EE 75 2010-10 7 8; L1EE 50 2010-11 7 -; M3EE 10000 2011-02 7 -; M3EE 10000 2011-02 7 -;",
+                ..WORKED
+            },
+        ),
+        (
+            "no rates for a bond",
+            Told {
+                bonds: "K2EE 75 2010-10 7 8; L1EE 50 2010-11 7 -; M3EE 10000 2011-02 7 -; N4EE 100 2009-10 9 -;",
+                ..WORKED
+            },
+        ),
+        (
+            "the owner as coowner",
+            Told {
+                bonds: "K2EE 75 2010-10 7 8; L1EE 50 2010-11 7 -; M3EE 10000 2011-02 7 -; N4EE 100 2010-11 9 9;",
+                ..WORKED
+            },
+        ),
+        (
+            "numbers with a gap",
+            Told {
+                tickets: "2 2012-02-06 7 519622 L1EE=2588 K2EE=3834 M3EE=513200;",
+                ..WORKED
+            },
+        ),
+        (
+            "a ticket without lines",
+            Told {
+                tickets: "1 2012-02-06 7 0;",
+                batches: "2012-02-06 1 0 0;",
+                ..WORKED
+            },
+        ),
+        (
+            "a total one too high",
+            Told {
+                tickets: "1 2012-02-06 7 519623 L1EE=2588 K2EE=3834 M3EE=513200;",
+                batches: "2012-02-06 1 3 519623;",
+                ..WORKED
+            },
+        ),
+        (
+            "cents one too high",
+            Told {
+                tickets: "1 2012-02-06 7 519623 L1EE=2589 K2EE=3834 M3EE=513200;",
+                batches: "2012-02-06 1 3 519623;",
+                ..WORKED
+            },
+        ),
+        (
+            "a payee who isn't one",
+            Told {
+                tickets: "1 2012-02-06 8 519622 L1EE=2588 K2EE=3834 M3EE=513200;",
+                ..WORKED
+            },
+        ),
+        (
+            "a bond that isn't registered",
+            Told {
+                bonds: "K2EE 75 2010-10 7 8; L1EE 50 2010-11 7 -;",
+                ..WORKED
+            },
+        ),
+        (
+            "a bond of 11 months",
+            Told {
+                tickets: "1 2012-02-06 7 2500 N4EE=2500;",
+                bonds: "N4EE 50 2011-03 7 -;",
+                batches: "2012-02-06 1 1 2500;",
+                ..WORKED
+            },
+        ),
+        (
+            "a bond twice on a ticket",
+            Told {
+                tickets: "1 2012-02-06 7 5176 L1EE=2588 L1EE=2588;",
+                batches: "2012-02-06 1 2 5176;",
+                ..WORKED
+            },
+        ),
+        (
+            "a bond on two tickets",
+            Told {
+                tickets: "1 2012-02-06 7 2588 L1EE=2588; 2 2012-02-06 7 2588 L1EE=2588;",
+                batches: "2012-02-06 2 2 5176;",
+                ..WORKED
+            },
+        ),
+        (
+            "days that fall",
+            Told {
+                tickets: "1 2012-02-07 7 2588 L1EE=2588; 2 2012-02-06 7 3834 K2EE=3834;",
+                batches: "2012-02-06 1 1 3834; 2012-02-07 1 1 2588;",
+                last_day: "2012-02-07",
+                ..WORKED
+            },
+        ),
+        (
+            "a ticket of no day",
+            Told {
+                batches: "",
+                last_day: "-",
+                ..WORKED
+            },
+        ),
+        (
+            "a ticket of another day",
+            Told {
+                batches: "2012-02-05 1 3 519622;",
+                last_day: "2012-02-05",
+                ..WORKED
+            },
+        ),
+        (
+            "a batch of two tickets",
+            Told {
+                batches: "2012-02-06 2 3 519622;",
+                ..WORKED
+            },
+        ),
+        (
+            "a batch of four bonds",
+            Told {
+                batches: "2012-02-06 1 4 519622;",
+                ..WORKED
+            },
+        ),
+        (
+            "a batch that doesn't sum",
+            Told {
+                batches: "2012-02-06 1 3 519621;",
+                ..WORKED
+            },
+        ),
+        (
+            "batches that fall",
+            Told {
+                batches: "2012-02-06 1 3 519622; 2012-02-05 0 0 0;",
+                last_day: "2012-02-05",
+                ..WORKED
+            },
+        ),
+        (
+            "a batch twice",
+            Told {
+                batches: "2012-02-06 1 3 519622; 2012-02-06 1 3 519622;",
+                ..WORKED
+            },
+        ),
+        (
+            "a last day without its batch",
+            Told {
+                last_day: "2012-02-07",
+                ..WORKED
+            },
+        ),
+        (
+            "no last day",
+            Told {
+                last_day: "-",
+                ..WORKED
+            },
+        ),
+        (
+            "a last day without batches",
+            Told {
+                last_day: "2012-02-06",
+                ..NOTHING
+            },
+        ),
+        (
+            "an open day that isn't later",
+            Told {
+                day: "2012-02-06",
+                ..WORKED
+            },
+        ),
     ] {
         let fault = Books::from_parts(alloc, read(alloc, &told)?).err();
         assert_eq!(rt; fault, Some(PartsFault::Unsound), "{name}");
@@ -258,7 +484,13 @@ fn parts_are_unsound(rt: HostRuntime) -> Result<(), Fail> {
 
 /// A day with this many tickets, each of them for one bond.
 fn full_day(alloc: Global, count: u64) -> Result<Parts, Fail> {
-    let mut parts = read(alloc, &Told { rates: WORKED.rates, ..NOTHING })?;
+    let mut parts = read(
+        alloc,
+        &Told {
+            rates: WORKED.rates,
+            ..NOTHING
+        },
+    )?;
     let mut bonds = Vec::new(alloc);
     let mut tickets = Vec::new(alloc);
     for number in 1..=count {

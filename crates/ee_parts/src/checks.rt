@@ -43,11 +43,7 @@ struct Register {
 }
 
 /// Rates and bonds as maps, where sound books may have them.
-fn registered(
-    alloc: Global,
-    rates: &[RateRow],
-    bonds: &[Bond],
-) -> Result<Register, PartsFault>
+fn registered(alloc: Global, rates: &[RateRow], bonds: &[Bond]) -> Result<Register, PartsFault>
     ensures terms { IfOk result (λ maps. maps.terms.entries ≡ map entry_of_row rates.now) }
     ensures bonds { IfOk result (λ maps. maps.bonds.entries ≡ map unpaid bonds.now) }
     ensures right { IfOk result (λ _. IsRegister rates.now bonds.now) }

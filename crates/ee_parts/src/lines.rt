@@ -46,12 +46,7 @@ fn is_payee(bond: &Bond, payee: Customer) -> bool
 }
 
 /// Whether a ticket's line pays a bond right.
-fn pays_bond(
-    rates: &BTreeMap<IssueMonth, Terms>,
-    bond: &Bond,
-    ticket: &Ticket,
-    line: &Line,
-) -> bool
+fn pays_bond(rates: &BTreeMap<IssueMonth, Terms>, bond: &Bond, ticket: &Ticket, line: &Line) -> bool
     ensures { (result ≡ true) ↔ PaysBond (finite.from_entries rates.now.entries) bond.now ticket.now line.now }
 {
     match rates.get(&period_of(bond.issued)) {

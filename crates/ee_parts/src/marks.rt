@@ -36,10 +36,7 @@ pub fn mark_all(bonds: &mut BTreeMap<Serial, Held>, lines: &[Line], ticket: u64)
 }
 
 /// Bonds whose serials rise, by serial and paid by no ticket.
-pub fn held_by_serial(
-    alloc: Global,
-    bonds: &[Bond],
-) -> Result<BTreeMap<Serial, Held>, AllocError>
+pub fn held_by_serial(alloc: Global, bonds: &[Bond]) -> Result<BTreeMap<Serial, Held>, AllocError>
     requires { HaveRisingSerials bonds.now }
     ensures { IfOk result (λ held. held.entries ≡ map unpaid bonds.now) }
 {
