@@ -1,5 +1,4 @@
 pub mod Outcomes
-pub mod PaidMarks
 pub mod Added
 pub mod Registered
 pub mod Picked

@@ -10,17 +10,17 @@ ghost use Rattle.ee_acts.specs.Seen.{held_of, open_batch};
 ghost use Rattle.ee_acts.specs.Queries.{ticket_numbered, batch_on, bonds_of};
 ghost use Rattle.ee_acts.specs.declared.changes.Change.TheVariants as change;
 ghost use Rattle.ee_parts.specs.Parts.{parts_of};
-ghost use Rattle.ee_desk.specs.Kept.{books_of, AreCounts, AreKeyed, AreMarked};
+ghost use Rattle.ee_parts.specs.Marks.{AreMarked};
+ghost use Rattle.ee_desk.specs.Kept.{books_of, AreCounts, AreKeyed};
 ghost use Rattle.ee_desk.specs.Added.{rate_row, bond_row, with_changes, AreNew};
 ghost use Rattle.ee_desk.specs.Applicable.{IsUnpaid, IsNextTicket, AreApplicable};
 
 use crate::additions::{add_bonds, add_rates};
-use crate::marks::mark_all;
 use crate::queries;
 use ee_acts::{Batch, Change, Held, Rows, Tables, Terms, Ticket};
 use ee_calculator::Bond;
 use ee_decide::DayCounts;
-use ee_parts::{Indexes, Parts, bonds_in, copy_tickets, rows_in};
+use ee_parts::{Indexes, Parts, copy_tickets, held_bonds, mark_all, rate_rows};
 use ee_units::{Cents, Customer, Day, IssueMonth, Serial};
 use std::alloc::{AllocError, Global};
 use std::collections::BTreeMap;
@@ -44,7 +44,8 @@ impl Model for Ledger {
     ghost use Rattle.std.specs.Coded.{codes};
     ghost use Rattle.std.specs.FinMap as finite;
     ghost use Rattle.ee_acts.specs.PlainBooks.{PlainBooks, batch_so_far};
-    ghost use Rattle.ee_desk.specs.Kept.{books_of, AreMarked, AreCounts};
+    ghost use Rattle.ee_parts.specs.Marks.{AreMarked};
+    ghost use Rattle.ee_desk.specs.Kept.{books_of, AreCounts};
 
     ghost Value = { PlainBooks };
 
@@ -270,8 +271,8 @@ impl Ledger {
     pub fn parts(&self, alloc: Global) -> Result<Parts, AllocError>
         ensures { IfOk result (λ parts. parts ≡ parts_of self.now) }
     {
-        let rates = rows_in(alloc, &self.rates)?;
-        let bonds = bonds_in(alloc, &self.bonds)?;
+        let rates = rate_rows(alloc, &self.rates)?;
+        let bonds = held_bonds(alloc, &self.bonds)?;
         let tickets = copy_tickets(alloc, self.tickets.as_slice())?;
         let batches = Vec::from_slice(alloc, self.batches.as_slice())?;
         Ok(Parts {

@@ -5,7 +5,6 @@
 mod additions;
 mod books;
 mod ledger;
-mod marks;
 #[cfg(test)]
 mod parts_tests;
 mod queries;

@@ -1,22 +1,21 @@
 -- The tickets of days, counted one after the other.
-use Rattle.std.proofs.Common.{◌≡◌, ℕ, suc, ◌+◌, ◌-◌, ◌*◌, ◌<◌, ◌≤◌, ◌==◌, eqb, Bool, true, false, cond, ◌||◌, List, [], ◌∷◌, ◌++◌, length, take, drop, get_or, Option, Some, None, true≢false, arith, refl, sym, ap, ◌∙◌, subst}
+use Rattle.std.proofs.Common.{◌≡◌, ℕ, ◌+◌, ◌*◌, ◌<◌, ◌≤◌, ◌==◌, eqb, Bool, true, false, cond, ◌||◌, List, [], ◌∷◌, ◌++◌, length, take, get_or, Option, Some, None, true≢false, arith, refl, sym, ap, ◌∙◌, subst}
 use Rattle.std.specs.Prelude.{count_by}
 use Rattle.std.specs.Option.{option_map, IfSome, IsSome}
 use Rattle.std.specs.List.{AllByRecursion, list_any, sum_by}
 use Rattle.std.proofs.lemmas.Bool.{eqb-true, eq-eqb, false_from_ne_true}
 use Rattle.std.proofs.lemmas.List.Elements.{filter-append}
 use Rattle.std.proofs.lemmas.List.Folds.{list_any-append}
-use Rattle.std.proofs.lemmas.List.Sums.{sum_by-cons, sum_by_push, sum_by-append, sum_by-take-le, length-filter}
+use Rattle.std.proofs.lemmas.List.Sums.{sum_by-cons, sum_by_push, sum_by-take-le, length-filter}
 use Rattle.std.proofs.lemmas.List.{length_push}
 use Rattle.std.specs.BTreeMap.{is_at}
 use Rattle.std.specs.Ordering.{nat_cmp}
 use Rattle.std.specs.Cmp.{unsigned_tied}
 use Rattle.ee_acts.specs.declared.replies.Ticket.{Ticket}
-use Rattle.ee_acts.specs.declared.replies.Batch.{Batch}
-use Rattle.ee_acts.specs.PlainBooks.{of_day, bonds_on, total_of, batch_of}
+use Rattle.ee_acts.specs.PlainBooks.{of_day, bonds_on, total_of}
 use Rattle.ee_decide.specs.declared.views.DayCounts.{DayCounts}
 use Rattle.ee_acts.proofs.Orders.{all_append, all_filter}
-use Rattle.ee_parts.specs.Days.{counts_at, counts_on, no_counts, counted, AreNothing, AreCounted, HasMore, IsSmall, HasSpace, HasRoom, FitCounts, FitDays, IsCounted, counts_in}
+use Rattle.ee_parts.specs.Days.{counts_at, counts_on, no_counts, counted, AreNothing, AreCounted, HasMore, IsSmall, HasSpace, HasRoom, FitCounts, FitDays}
 use Rattle.ee_parts.proofs.Walks.{taken_is, all_at, all_taken}
 
 abbrev Counts : Type 0

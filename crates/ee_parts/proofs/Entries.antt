@@ -1,5 +1,5 @@
 -- Maps made of rows whose keys rise: their entries are the rows.
-use Rattle.std.proofs.Common.{◌≡◌, ℕ, zero, suc, ◌+◌, ◌<◌, ◌==◌, cond, List, [], ◌∷◌, ◌++◌, map, length, take, get_or, arith, refl, sym, ap, ◌∙◌, subst}
+use Rattle.std.proofs.Common.{◌≡◌, ℕ, zero, suc, ◌+◌, ◌<◌, ◌==◌, cond, List, [], ◌∷◌, ◌++◌, map, length, take, get_or, arith, refl, sym, ap, ◌∙◌}
 use Rattle.std.specs.List.{AllByRecursion}
 use Rattle.std.specs.BTreeMap.{insert_entry}
 use Rattle.std.specs.Ordering.{nat_cmp, match_ordering, ordering_reverse}
@@ -15,7 +15,7 @@ use Rattle.ee_calculator.specs.declared.bonds.Bond.{Bond}
 use Rattle.ee_acts.specs.declared.changes.Held.{Held}
 use Rattle.ee_acts.specs.Serials.{serial_cmp}
 use Rattle.ee_acts.proofs.Maps.{serials_total}
-use Rattle.ee_parts.specs.Checks.{InOrder, IsBefore, HaveRisingMonths, HaveRisingSerials, entry_of_row}
+use Rattle.ee_parts.specs.Checks.{InOrder, HaveRisingMonths, HaveRisingSerials, entry_of_row}
 use Rattle.ee_parts.specs.Marks.{unpaid}
 use Rattle.ee_parts.proofs.Walks.{taken_is}
 use Rattle.ee_parts.proofs.InOrder.{in_order_map}

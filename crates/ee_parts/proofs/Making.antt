@@ -1,10 +1,8 @@
 -- What is made of parts.
-use Rattle.std.proofs.Common.{◌≡◌, ℕ, List, [], map, Option, Result, Ok, Err, sym, ap, ◌∙◌, subst}
+use Rattle.std.proofs.Common.{◌≡◌, ℕ, List, [], map, Result, Ok, Err, sym, ap, ◌∙◌, subst}
 use Rattle.std.specs.Result.{IfErr}
 use Rattle.std.specs.List.{AllByRecursion}
 use Rattle.std.specs.FinMap as finite
-use Rattle.std.specs.FinMap.{FinMap}
-use Rattle.std.specs.Ordering.{nat_cmp}
 use Rattle.ee_units.specs.Spelling.{SerialNumber}
 use Rattle.ee_value.specs.declared.rates.Rates.{Rates}
 use Rattle.ee_acts.specs.declared.changes.Held.{Held}

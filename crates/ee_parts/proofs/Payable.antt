@@ -1,5 +1,5 @@
 -- Lines that pay each bond once, marked one after the other.
-use Rattle.std.proofs.Common.{◌≡◌, ◌↔◌, ℕ, ◌+◌, ◌<◌, Bool, true, false, ◌||◌, List, [], ◌∷◌, ◌++◌, append-nil, append_assoc, length, take, drop, get_or, Option, Some, None, true≢false, refl, sym, ap, ◌∙◌, subst}
+use Rattle.std.proofs.Common.{◌≡◌, ◌↔◌, ℕ, ◌+◌, ◌<◌, Bool, true, false, ◌||◌, List, [], ◌∷◌, ◌++◌, append-nil, length, take, drop, get_or, Option, Some, None, true≢false, refl, sym, ap, ◌∙◌, subst}
 use Rattle.std.specs.Option.{option_map, IfSome}
 use Rattle.std.specs.List.{AllByRecursion, list_any}
 use Rattle.ee_units.specs.Spelling.{SerialNumber}
@@ -8,7 +8,7 @@ use Rattle.ee_acts.specs.declared.replies.Line.{Line}
 use Rattle.ee_acts.specs.declared.replies.Ticket.{Ticket}
 use Rattle.ee_acts.specs.Serials.{same_serial}
 use Rattle.ee_acts.specs.PlainBooks.{ticket_of}
-use Rattle.ee_acts.specs.Paid.{paid_lines, NoneTwice}
+use Rattle.ee_acts.specs.Paid.{paid_lines}
 use Rattle.ee_acts.proofs.Maps.{serials_swap}
 use Rattle.ee_parts.specs.Marks.{held_at, marked, IsFree, ArePayable, AreMarked}
 use Rattle.ee_parts.proofs.Walks.{left_is, taken_is}

@@ -1,5 +1,5 @@
 -- Parts that pass the checks are those of sound books, and the other way round.
-use Rattle.std.proofs.Common.{◌≡◌, ◌==◌, ℕ, ◌+◌, ◌*◌, ◌<◌, ◌≤◌, eqb, Bool, true, false, cond, ◌||◌, List, [], ◌∷◌, ◌++◌, map, length, Option, Some, None, true≢false, arith, refl, sym, ap, ◌∙◌, subst}
+use Rattle.std.proofs.Common.{◌≡◌, ◌==◌, ℕ, ◌*◌, ◌<◌, ◌≤◌, Bool, true, false, cond, ◌||◌, List, [], ◌∷◌, ◌++◌, map, length, Option, Some, None, arith, refl, sym, ap, ◌∙◌, subst}
 use Rattle.std.specs.Option.{option_map, option_and_then, unwrap_or, IfSome}
 use Rattle.std.specs.List.{AllByRecursion, list_any, sum_by}
 use Rattle.std.specs.Map.{lookup}
@@ -23,9 +23,9 @@ use Rattle.ee_acts.specs.declared.replies.Ticket.{Ticket}
 use Rattle.ee_acts.specs.declared.replies.Batch.{Batch}
 use Rattle.ee_acts.specs.Serials.{serial_cmp}
 use Rattle.ee_acts.specs.Lists.{Rising, NeverFalling}
-use Rattle.ee_acts.specs.Paid.{paid_lines, NoneTwice}
-use Rattle.ee_acts.specs.PlainBooks.{PlainBooks, batch_of, batch_so_far, total_of, cents_of}
-use Rattle.ee_acts.specs.Sound.{IsSound, IsDay, IsRightRate, IsRightBond, IsRightLine, IsRightTicket, day_of, day_of_batch, open_days, days}
+use Rattle.ee_acts.specs.Paid.{paid_lines}
+use Rattle.ee_acts.specs.PlainBooks.{PlainBooks, batch_of, batch_so_far, cents_of}
+use Rattle.ee_acts.specs.Sound.{IsSound, IsDay, IsRightRate, IsRightBond, IsRightLine, IsRightTicket, day_of, day_of_batch, days}
 use Rattle.ee_acts.proofs.Maps.{serials_total, exact_serials, get_lookup, all_map}
 use Rattle.ee_acts.proofs.Orders.{all_append}
 use Rattle.ee_acts.proofs.Bounds.{value_le}

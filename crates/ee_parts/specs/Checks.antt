@@ -19,7 +19,7 @@ use Rattle.ee_acts.specs.Values.{value_of}
 use Rattle.ee_acts.specs.PlainBooks.{PlainBooks, is_payee, batch_of}
 use Rattle.ee_acts.specs.Paid.{paid_lines}
 use Rattle.ee_acts.specs.Sound.{IsSound, IsRightRate, IsRightBond, IsRightTicket, NumberedFrom, day_of, last_of}
-use Rattle.ee_parts.specs.Marks.{bonds_held, unpaid, ArePayable}
+use Rattle.ee_parts.specs.Marks.{bonds_held, ArePayable}
 use Rattle.ee_parts.specs.Days.{days_of, FitDays}
 use Rattle.ee_parts.specs.declared.parts.Parts.{Parts}
 
@@ -37,12 +37,12 @@ rates_in rows = finite.from_entries (map entry_of_row rows)
 abbrev pub bonds_in : List Bond → FinMap serial_cmp Bond
 bonds_in bonds = finite.from_entries (map entry_of_bond bonds)
 
--- each stands so to those after it
+-- each stands in this relation to all after it
 abbrev pub InOrder : {K : Type 0} → (K → K → Type 0) → List K → Type 0
 InOrder R [] = ⊤
 InOrder R (k ∷ ks) = AllByRecursion (R k) ks × InOrder R ks
 
--- and so the next one stands to the last one, if there is one
+-- the last one, if there is one, stands in it to the next
 abbrev pub IsAfter : {K : Type 0} → (K → K → Type 0) → Option K → K → Type 0
 IsAfter R last k = IfSome last (λ j. R j k)
 
@@ -77,7 +77,7 @@ pub record AreSound (parts : Parts) : Type 0 where
 abbrev pub IsRightRow : RateRow → Type 0
 IsRightRow row = IsRightRate row.from row.rates
 
--- a bond that may stand under its serial
+-- a bond that may stand under its own serial
 abbrev pub IsRightOwn : FinMap nat_cmp Rates → Bond → Type 0
 IsRightOwn rates bond = IsRightBond rates bond.serial bond
 
@@ -97,7 +97,7 @@ pub record IsRegister (rows : List RateRow) (own : List Bond) : Type 0 where
   pub right : AllByRecursion IsRightRow rows
   pub owned : AllByRecursion (IsRightOwn (rates_in rows)) own
 
--- tickets that pay such bonds of these, at such rates
+-- tickets that pay registered bonds, each once, what they are worth at these rates
 pub record CanBePaid (rates : FinMap nat_cmp Rates) (held : List (SerialNumber × Held)) (tickets : List Ticket) : Type 0 where
   pub numbered : NumberedFrom 1 tickets
   pub in_order : InOrder ◌≤◌ (map day_of tickets)

@@ -1,6 +1,5 @@
 -- The tickets of each day, counted.
 use Rattle.std.specs.Prelude.{◌≡◌, ℕ, ◌<◌, ◌≤◌, ◌+◌, Bool, ◌==◌, List, ◌++◌, map, length, Option, Some, None, IsSome, sum_by, count_by, true, if◌then◌else◌}
-use Rattle.std.specs.Option.{option_map}
 use Rattle.std.specs.List.{AllByRecursion, list_any}
 use Rattle.std.specs.Map.{lookup}
 use Rattle.std.specs.BTreeMap.{is_at}
@@ -42,7 +41,7 @@ AreNothing counts days = (day : ℕ) → counts_at counts day ≡ (if list_any (
 abbrev pub HasMore : List (ℕ × DayCounts) → List (ℕ × DayCounts) → List ℕ → Type 0
 HasMore old new days = (day : ℕ) → counts_at new day ≡ (if list_any (λ d. day == d) days then Some no_counts else counts_at old day)
 
--- a ticket is small where it has at most 100 lines, of bonds
+-- at most 100 lines, of bonds that are worth 3,044,936.00 dollars at most
 abbrev pub IsSmall : Ticket → Type 0
 IsSmall ticket = (length ticket.lines ≤ 100) × (ticket.total.0 ≤ 30449360000)
 

@@ -13,5 +13,6 @@ mod register;
 
 pub use checks::{Indexes, checked};
 pub use laws::parts_tell;
-pub use lists::{bonds_in, copy_tickets, rows_in};
+pub use lists::{copy_tickets, held_bonds, rate_rows};
+pub use marks::mark_all;
 pub use parts::{Parts, PartsFault};

@@ -3,17 +3,17 @@
 ghost use Rattle.std.specs.Prelude.{◌≡◌, ◌↔◌, ◌+◌, ◌≤◌, true, sum_by};
 ghost use Rattle.std.specs.List.{AllByRecursion};
 ghost use Rattle.std.specs.FinMap as finite;
-ghost use Rattle.ee_units.specs.Calendar.{period_start, month_of_day};
 ghost use Rattle.ee_acts.specs.Values.{value_of};
-ghost use Rattle.ee_acts.specs.PlainBooks.{is_payee, cents_of};
+ghost use Rattle.ee_acts.specs.PlainBooks.{cents_of};
 ghost use Rattle.ee_acts.specs.Sound.{IsRightLine, IsRightTicket, NumberedFrom};
 ghost use Rattle.ee_parts.specs.Checks.{PaysBond};
 ghost use Rattle.ee_parts.specs.Marks.{bonds_held};
 
 use ee_acts::{Held, Line, Terms, Ticket};
 use ee_calculator::Bond;
+use ee_decide::is_payee;
 use ee_units::calendar::{month_of, period_of};
-use ee_units::{Age, Cents, Customer, IssueMonth, Month, Serial};
+use ee_units::{Age, Cents, IssueMonth, Month, Serial};
 use ee_value::{Quote, bond_value};
 use std::collections::BTreeMap;
 
@@ -36,13 +36,6 @@ fn is_worth(terms: &Terms, bond: &Bond, month: Month, cents: Cents) -> bool
         Quote::Pays { cents: worth, .. } => cents == worth,
         Quote::NotEligible => false,
     }
-}
-
-/// Whether this is the owner or the coowner.
-fn is_payee(bond: &Bond, payee: Customer) -> bool
-    ensures { result ≡ is_payee bond.now payee }
-{
-    bond.owner == payee || bond.coowner == Some(payee)
 }
 
 /// Whether a ticket's line pays a bond right.

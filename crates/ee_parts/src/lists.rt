@@ -14,7 +14,7 @@ use std::alloc::{AllocError, Global};
 use std::collections::BTreeMap;
 
 /// The rates of a map, in order of month.
-pub fn rows_in(
+pub fn rate_rows(
     alloc: Global,
     terms: &BTreeMap<IssueMonth, Terms>,
 ) -> Result<Vec<RateRow>, AllocError>
@@ -30,7 +30,7 @@ pub fn rows_in(
 }
 
 /// The bonds of a map, in order of serial.
-pub fn bonds_in(alloc: Global, held: &BTreeMap<Serial, Held>) -> Result<Vec<Bond>, AllocError>
+pub fn held_bonds(alloc: Global, held: &BTreeMap<Serial, Held>) -> Result<Vec<Bond>, AllocError>
     ensures bonds { IfOk result (λ bonds. bonds.items ≡ map (λ one. one.bond) (tree.values held.now)) }
     ensures ordered { IsStrictlySortedBy serial_cmp (tree.keys held.now) }
 {

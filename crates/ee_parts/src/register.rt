@@ -4,26 +4,17 @@ ghost use Rattle.std.specs.Prelude.{◌≡◌, ◌↔◌, true, map, IfOk, IfErr
 ghost use Rattle.std.specs.List.{AllByRecursion};
 ghost use Rattle.std.specs.FinMap as finite;
 ghost use Rattle.std.specs.Ordering.{nat_cmp};
-ghost use Rattle.ee_units.specs.Calendar.{period_start, is_announcement};
-ghost use Rattle.ee_acts.specs.PlainBooks.{has_coowner};
-ghost use Rattle.ee_acts.specs.Sound.{IsRightRate, IsRightBond};
+ghost use Rattle.ee_units.specs.Calendar.{period_start};
 ghost use Rattle.ee_parts.specs.Checks.{HaveRisingMonths, IsRightRow, IsRightOwn, entry_of_row};
 
 use crate::parts::PartsFault;
 use ee_acts::{RateRow, Tables, Terms};
 use ee_calculator::Bond;
+use ee_decide::{has_coowner, is_announcement};
+use ee_units::IssueMonth;
 use ee_units::calendar::period_of;
-use ee_units::{Customer, IssueMonth};
 use std::alloc::Global;
 use std::collections::BTreeMap;
-
-/// Whether a month is a May or November.
-fn is_announcement(month: IssueMonth) -> bool
-    ensures { result ≡ is_announcement month }
-{
-    let month = (month.count() + 4) % 12 + 1;
-    month == 5 || month == 11
-}
 
 /// The terms of a row that books may have.
 fn right_terms(alloc: Global, tables: &mut Tables, row: &RateRow) -> Result<Terms, PartsFault>
@@ -58,12 +49,6 @@ pub fn terms_by_month(
         terms.insert(row.from, one)?;
     }
     Ok(terms)
-}
-
-fn has_coowner(bond: &Bond, customer: Customer) -> bool
-    ensures { result ≡ has_coowner bond.now customer }
-{
-    bond.coowner == Some(customer)
 }
 
 /// Whether there are rates for a bond's issue period.

@@ -1,4 +1,4 @@
-use Rattle.std.proofs.Common.{◌≡◌, rules}
+use Rattle.std.proofs.Common.{rules}
 use Rattle.ee_parts.proofs.Counts.{count_one}
 use Rattle.ee_parts.proofs.days.count.Goals as goal
 

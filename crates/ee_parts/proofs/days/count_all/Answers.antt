@@ -1,10 +1,5 @@
-use Rattle.std.proofs.Common.{◌≡◌, true, take, rules, subst}
-use Rattle.std.specs.Option.{IsSome}
-use Rattle.std.specs.List.{AllByRecursion}
-use Rattle.ee_acts.specs.declared.replies.Ticket.{Ticket}
-use Rattle.std.specs.Prelude.{List}
+use Rattle.std.proofs.Common.{◌≡◌, true, rules, subst}
 use Rattle.std.proofs.lemmas.List.{take_all}
-use Rattle.ee_acts.proofs.Orders.{all_append}
 use Rattle.ee_parts.specs.Days.{counts_at, HasRoom, FitCounts}
 use Rattle.ee_parts.proofs.Counts.{no_room, space, known_more, few_more, counts_more}
 use Rattle.ee_parts.proofs.days.count_all.Goals as goal
