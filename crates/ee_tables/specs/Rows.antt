@@ -1,0 +1,157 @@
+-- What the store's tables hold, as maps.
+use Rattle.std.specs.Prelude.{◌≡◌, ℕ, ◌+◌, map, pos, List, [], ◌∷◌, Option, Some, None, IsTrue}
+use Rattle.std.specs.Ordering.{nat_cmp}
+use Rattle.std.specs.FinMap.{FinMap, get, insert}
+use Rattle.sqlite.specs.declared.types.Value.{Value}
+use Rattle.sqlite.specs.declared.types.Value.TheVariants.{Null, Int, Text as Words}
+use Rattle.sqlite.specs.Order.{Row}
+use Rattle.sqlite.specs.Tree.{Trees}
+use Rattle.sqlite.specs.State.{State}
+use Rattle.ee_tables.specs.Tables.{bank_schema}
+use Rattle.ee_tables.specs.Keyed.{pair_cmp, HoldsMap, HoldsPairs}
+
+pub record DeskRow : Type 0 where
+  pub version : ℕ
+  pub day : Option ℕ
+  pub last_day : Option ℕ
+
+pub record BondRow : Type 0 where
+  pub denom : ℕ
+  pub issued : ℕ
+  pub owner : ℕ
+  pub coowner : Option ℕ
+  pub ticket : Option ℕ
+
+pub record TicketRow : Type 0 where
+  pub day : ℕ
+  pub payee : ℕ
+  pub bonds : ℕ
+  pub total : ℕ
+
+pub record PaidRow : Type 0 where
+  pub letter : ℕ
+  pub number : ℕ
+  pub cents : ℕ
+
+pub record BatchRow : Type 0 where
+  pub tickets : ℕ
+  pub bonds : ℕ
+  pub total : ℕ
+
+pub record ReplyRow : Type 0 where
+  pub act : List ℕ
+  pub reply : List ℕ
+
+pub record Rows : Type 0 where
+  pub desk : FinMap nat_cmp DeskRow
+  pub rates : FinMap nat_cmp ℕ
+  pub bonds : FinMap pair_cmp BondRow
+  pub tickets : FinMap nat_cmp TicketRow
+  pub paid : FinMap pair_cmp PaidRow
+  pub batches : FinMap nat_cmp BatchRow
+  pub replies : FinMap nat_cmp ReplyRow
+
+abbrev pub number : ℕ → Value
+number n = Int (pos n)
+
+abbrev pub optional : Option ℕ → Value
+optional None = Null
+optional (Some n) = Int (pos n)
+
+abbrev pub desk_columns : DeskRow → Row
+desk_columns d = number d.version ∷ optional d.day ∷ optional d.last_day ∷ []
+
+abbrev pub rate_columns : ℕ → Row
+rate_columns r = number r ∷ []
+
+abbrev pub bond_columns : BondRow → Row
+bond_columns b = number b.denom ∷ number b.issued ∷ number b.owner ∷ optional b.coowner ∷ optional b.ticket ∷ []
+
+abbrev pub ticket_columns : TicketRow → Row
+ticket_columns t = number t.day ∷ number t.payee ∷ number t.bonds ∷ number t.total ∷ []
+
+abbrev pub paid_columns : PaidRow → Row
+paid_columns p = number p.letter ∷ number p.number ∷ number p.cents ∷ []
+
+abbrev pub batch_columns : BatchRow → Row
+batch_columns b = number b.tickets ∷ number b.bonds ∷ number b.total ∷ []
+
+abbrev pub reply_columns : ReplyRow → Row
+reply_columns r = Words r.act ∷ Words r.reply ∷ []
+
+pub record Holds (db : Trees) (rows : Rows) : Type 0 where
+  pub desk : HoldsMap desk_columns (db 0) rows.desk
+  pub rates : HoldsMap rate_columns (db 1) rows.rates
+  pub bonds : HoldsPairs bond_columns (db 2) rows.bonds
+  pub tickets : HoldsMap ticket_columns (db 5) rows.tickets
+  pub paid : HoldsPairs paid_columns (db 7) rows.paid
+  pub batches : HoldsMap batch_columns (db 10) rows.batches
+  pub replies : HoldsMap reply_columns (db 11) rows.replies
+
+-- Of a store that a failing disk has shut nothing is said. A transaction is begun, over the bank's tables
+abbrev pub IsInside : State → Type 0
+IsInside s = IsTrue s.is_open → IsTrue s.in_transaction × (s.now.schema ≡ bank_schema)
+
+-- a transaction sees these rows
+abbrev pub Sees : State → Rows → Type 0
+Sees s rows = IsTrue s.is_open → (s.now.schema ≡ bank_schema) × Holds s.now.trees rows
+
+-- the last commit left these rows
+abbrev pub Has : State → Rows → Type 0
+Has s rows = IsTrue s.is_open → (s.committed.schema ≡ bank_schema) × Holds s.committed.trees rows
+
+-- ---- what is written
+
+abbrev pub with_reply : Rows → ℕ → ReplyRow → Rows
+with_reply rows n reply = record rows { replies = insert rows.replies n reply }
+
+abbrev pub with_ticket : Rows → ℕ → TicketRow → Rows
+with_ticket rows n ticket = record rows { tickets = insert rows.tickets n ticket }
+
+abbrev pub with_paid : Rows → ℕ × ℕ → PaidRow → Rows
+with_paid rows k line = record rows { paid = insert rows.paid k line }
+
+-- the bond stands on the ticket, if it is there
+abbrev pub marked_as : Rows → ℕ × ℕ → ℕ → Option BondRow → Rows
+marked_as rows k t None = rows
+marked_as rows k t (Some bond) = record rows { bonds = insert rows.bonds k (record bond { ticket = Some t }) }
+
+abbrev pub marked : Rows → ℕ × ℕ → ℕ → Rows
+marked rows k t = marked_as rows k t (get rows.bonds k)
+
+abbrev pub with_line : Rows → ℕ → ℕ → PaidRow → Rows
+with_line rows t place line = marked (with_paid rows (t, place) line) (line.letter, line.number) t
+
+-- the lines of a ticket, from a place on
+abbrev pub with_lines : Rows → ℕ → ℕ → List PaidRow → Rows
+with_lines rows t place [] = rows
+with_lines rows t place (line ∷ lines) = with_lines (with_line rows t place line) t (place + 1) lines
+
+-- ---- one delivery
+
+-- a ticket under its number, with its lines
+abbrev pub Issue : Type 0
+Issue = ℕ × (TicketRow × List PaidRow)
+
+abbrev pub issued : Rows → Option Issue → Rows
+issued rows None = rows
+issued rows (Some i) = with_lines (with_ticket rows i.0 i.1.0) i.0 1 i.1.1
+
+-- what is decided of the bonds that an act names
+pub record Plan : Type 0 where
+  pub issue : Option Issue
+  pub reply : ReplyRow
+
+abbrev pub carried_out : Rows → ℕ → Plan → Rows
+carried_out rows n plan = with_reply (issued rows plan.issue) n plan.reply
+
+abbrev pub bonds_named : Rows → List (ℕ × ℕ) → List (Option BondRow)
+bonds_named rows keys = map (get rows.bonds) keys
+
+abbrev pub delivered_if : Option ReplyRow → Rows → ℕ → Plan → Rows
+delivered_if None rows n plan = carried_out rows n plan
+delivered_if (Some kept) rows n plan = rows
+
+abbrev pub answered_if : Option ReplyRow → Plan → ReplyRow
+answered_if None plan = plan.reply
+answered_if (Some kept) plan = kept
