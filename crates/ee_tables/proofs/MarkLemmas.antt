@@ -1,9 +1,9 @@
 -- What marking a bond as paid does.
-use Rattle.std.proofs.Common.{◌≡◌, ◌≢◌, ◌⊎◌, inl, inr, ℕ, ℤ, pos, List, [], ◌∷◌, map, filter, Bool, true, false, Some, None, Option, Ok, Err, Result, refl, sym, ap, subst, ◌∙◌, arith, append-nil, codes}
+use Rattle.std.proofs.Common.{◌≡◌, ℕ, ℤ, pos, List, [], ◌∷◌, filter, true, false, Some, None, Option, Ok, Err, Result, refl, sym, ap, subst, ◌∙◌, append-nil, codes}
 use Rattle.std.specs.Option.{option_to_list}
-use Rattle.std.specs.Prelude.{if◌then◌else◌, option_map, IsPermutation, flat_map}
-use Rattle.std.specs.FinMap.{FinMap, get, insert}
-use Rattle.sqlite.specs.declared.types.Value.TheVariants.{Null, Int, Text}
+use Rattle.std.specs.Prelude.{if◌then◌else◌, option_map}
+use Rattle.std.specs.FinMap.{get, insert}
+use Rattle.sqlite.specs.declared.types.Value.TheVariants.{Null, Int}
 use Rattle.sqlite.specs.Order.{Row}
 use Rattle.sqlite.specs.Command.{Command}
 use Rattle.sqlite.specs.Command.TheVariants.{Update}
@@ -12,7 +12,7 @@ use Rattle.sqlite.specs.Term.{col}
 use Rattle.sqlite_schema.specs.declared.command.Returning.{Returning}
 use Rattle.sqlite_resolve.specs.declared.compiled.Compiled.{Compiled}
 use Rattle.sqlite_resolve.specs.declared.error.CompileError.{CompileError}
-use Rattle.sqlite.specs.Query.{Query, IsAnswer, Output, output, page}
+use Rattle.sqlite.specs.Query.{IsAnswer}
 use Rattle.sqlite.specs.Program.{overlay}
 use Rattle.sqlite.specs.Edit.{Edit, edit_of, edited}
 use Rattle.sqlite_rules.specs.Edit.{is_taken, are_fresh, left_by}
@@ -20,22 +20,21 @@ use Rattle.sqlite_rules.specs.Calls.{ids_of}
 use Rattle.sqlite.specs.Rowids.TheVariants.{Given}
 use Rattle.sqlite.specs.Does.{Tally, Does}
 use Rattle.sqlite.specs.Rows.{Written}
-use Rattle.sqlite.specs.Tree.{Trees, put_row, without_rowid}
+use Rattle.sqlite.specs.Tree.{Trees, without_rowid}
 use Rattle.sqlite.specs.Effect.{Database}
 use Rattle.sqlite.specs.Listing.{understood}
-use Rattle.sqlite.specs.Clock.{timed}
 use Rattle.sqlite.specs.Schema.{Schema}
-use Rattle.sqlite.specs.State.{State, mode_of, Writes, Shows, Shown, ShowsRows, text_of}
+use Rattle.sqlite.specs.State.{State, mode_of, Writes, Shows, Shown}
 use Rattle.sqlite.proofs.Callers.{command_of, statement_of, one_step}
-use Rattle.ee_tables.specs.Tables.{bonds, bank_schema}
-use Rattle.ee_tables.specs.Keyed.{pair_cmp, stored, HoldsPairs}
-use Rattle.ee_tables.specs.Rows.{BondRow, bond_columns, paid_columns, Rows, Holds, marked, marked_as}
+use Rattle.ee_tables.specs.Tables.{bonds, counter_schema}
+use Rattle.ee_tables.specs.Keyed.{stored, ReadAlike, HoldsPairs}
+use Rattle.ee_tables.specs.Rows.{BondRow, bond_columns, Rows, Holds, marked, marked_as}
 use Rattle.ee_tables.proofs.Meaning.{returning_of, mark_text, mark_query, mark_is, mark_shows}
-use Rattle.ee_tables.proofs.PairLemmas.{tied}
-use Rattle.ee_tables.proofs.HoldsLemmas.{pair_total, at_most_one, hit_row, no_row, replaces_pair}
-use Rattle.ee_tables.proofs.SelectLemmas.{matched}
-use Rattle.ee_tables.proofs.BondLemmas.{Stored, key_params, key_agrees}
-use Rattle.ee_tables.proofs.WriteLemmas.{cast_int, cast_integer, cast_null, cast_optional, went, same_value, fresh_one, Same, with_bonds}
+use Rattle.ee_tables.proofs.PairLemmas.{alike_itself}
+use Rattle.ee_tables.proofs.HoldsLemmas.{pair_total, pair_same, has_key, hit_row, no_row, replaces_row}
+use Rattle.ee_tables.proofs.ReadLemmas.{found_by_pair}
+use Rattle.ee_tables.proofs.BondLemmas.{Stored, key_params}
+use Rattle.ee_tables.proofs.WriteLemmas.{cast_int, cast_integer, cast_optional, went, same_value, fresh_one, Same, with_bonds}
 
 abbrev pub formats_of : Result Compiled CompileError → List ℕ → Type 0
 formats_of (Ok c) sql = c.formats ≡ []
@@ -54,7 +53,7 @@ module _ (sql : List ℕ) (params : Row) (old new : State) (schema : Schema) (ha
       subst (λ k. (count : ℕ) × (w : Writes old new (Some what) k (statement_of sql (understood schema sql)) params count) × (rows ≡ w.tally.shown)) (ap command_of known ∙ is)
       (subst (λ t. (count : ℕ) × (w : Writes old new (Some what) h.0.command t params count) × (rows ≡ w.tally.shown)) (ap (statement_of sql) known) it)
 
-pub mark_formats : formats_of (understood bank_schema mark_text) mark_text
+pub mark_formats : formats_of (understood counter_schema mark_text) mark_text
 unfolding understood Rattle.sqlite_tied.specs.Compute.everything
 mark_formats = refl
 
@@ -70,48 +69,39 @@ mark_params k t = key_params k (Int (pos t) ∷ [])
 module _ (k : ℕ × ℕ) (t : ℕ) (db new : Trees) (rows : Rows) (stands : Holds db rows) (same : Same 2 db new) (asked : List Row) (a : IsAnswer mark_query (overlay db []) (mark_params k t) asked)
     (put : new 2 ≡ edited db (edit_of db bonds (ids_of asked) Given 1 asked))
     (fresh : are_fresh (left_by db (edit_of db bonds (ids_of asked) Given 1 asked)) (edit_of db bonds (ids_of asked) Given 1 asked).news ≡ true) where
-  answered : (o : Option Stored) → filter (λ p. tied pair_cmp pair_total k p.1) stands.bonds.numbered ≡ option_to_list o → asked ≡ option_to_list (option_map (λ p. mark_row p t) o)
-  answered o e = a.shown ∙ ap (λ xs. page mark_query (mark_params k t) (map (λ (o : Output). o.1) xs)) (at_most_one (option_map (λ p. ([], mark_row p t)) o) a.ordered (subst (λ xs. IsPermutation xs a.ordered) kept a.same)) ∙ last o
-    where
-      one : (o : Option Stored) → map (output mark_query) (map (λ p. mark_params k t ∷ stored bond_columns p ∷ []) (option_to_list o)) ≡ option_to_list (option_map (λ p. ([], mark_row p t)) o)
-      one None = refl
-      one (Some p) = refl
+  shows : (r : Row) (p : Stored) → ReadAlike r (stored bond_columns p) → Rattle.sqlite_sql.specs.Term.eval_all mark_query.project (mark_params k t ∷ r ∷ []) ≡ mark_row p t
+  shows r p one = rw (one 0, one 1, one 2, one 3, one 4, one 5, one 6) refl
 
-      last : (o : Option Stored) → page mark_query (mark_params k t) (map (λ (o : Output). o.1) (option_to_list (option_map (λ p. ([], mark_row p t)) o))) ≡ option_to_list (option_map (λ p. mark_row p t) o)
-      last None = refl
-      last (Some p) = refl
-
-      kept : a.kept ≡ option_to_list (option_map (λ p. ([], mark_row p t)) o)
-      kept = a.distinct ∙ ap (map (output mark_query)) (a.grouped ∙ ap (flat_map _) stands.bonds.are
-          ∙ matched (stored bond_columns) (mark_params k t) mark_query.filter (λ p. tied pair_cmp pair_total k p.1) (key_agrees k (Int (pos t) ∷ [])) stands.bonds.numbered
-          ∙ ap (map (λ p. mark_params k t ∷ stored bond_columns p ∷ [])) e) ∙ one o
+  answered : (o : Option Stored) → filter (has_key pair_total pair_same (stored bond_columns) (λ _. refl) k (db 2) rows.bonds stands.bonds) stands.bonds.numbered ≡ option_to_list o → asked ≡ option_to_list (option_map (λ p. mark_row p t) o)
+  answered = found_by_pair bond_columns 2 mark_query.project (λ p. mark_row p t) k (Int (pos t) ∷ []) shows db rows.bonds asked refl stands.bonds a
 
   pub marked_holds : (o : Option BondRow) → get rows.bonds k ≡ o → Holds new (marked_as rows k t o)
   marked_holds None is =
-      let none : asked ≡ [] = answered None (no_row bond_columns k (db 2) rows.bonds stands.bonds is) in
-      with_bonds db new rows rows.bonds stands same (subst (λ rs. HoldsPairs bond_columns rs rows.bonds) (sym (put ∙ ap (λ all. edited db (edit_of db bonds (ids_of all) Given 1 all)) none)) stands.bonds)
+      let none : asked ≡ [] = answered None (no_row pair_total pair_same (stored bond_columns) (λ _. refl) k (db 2) rows.bonds stands.bonds is) in
+      with_bonds db new rows stands rows.bonds same (subst (λ rs. HoldsPairs bond_columns rs rows.bonds) (sym (put ∙ ap (λ all. edited db (edit_of db bonds (ids_of all) Given 1 all)) none)) stands.bonds)
   marked_holds (Some x) is =
-      let one = hit_row bond_columns k (db 2) rows.bonds stands.bonds x is in
+      let one = hit_row pair_total pair_same (stored bond_columns) (λ _. refl) k (db 2) rows.bonds stands.bonds x is in
       let answer : asked ≡ mark_row (one.0, (k, x)) t ∷ [] = answered (Some (one.0, (k, x))) one.1 in
       let next = record x { ticket = Some t } in
       let row = stored bond_columns (one.0, (k, next)) in
       let edited_as : List Row → Edit = λ n. record { table = bonds; gone = one.0 ∷ []; news = n } in
       let is_edit : edit_of db bonds (ids_of asked) Given 1 asked ≡ edited_as (row ∷ []) = ap (λ all. edit_of db bonds (ids_of all) Given 1 all) answer
-          ∙ ap edited_as (rw (cast_integer one.0, cast_int k.0, cast_int k.1, cast_int x.denom, cast_int x.issued, cast_int x.owner, cast_optional x.coowner, cast_int t) refl) in
+      ∙ ap edited_as (rw (cast_integer one.0, cast_int k.0, cast_int k.1, cast_int x.denom, cast_int x.issued, cast_int x.owner, cast_optional x.coowner, cast_int t) refl) in
       let free : is_taken (without_rowid one.0 (db 2)) row ≡ false = fresh_one _ (subst (λ (e : Edit). are_fresh (left_by db e) e.news ≡ true) is_edit fresh) in
-      with_bonds db new rows (insert rows.bonds k next) stands same
-          (subst (λ rs. HoldsPairs bond_columns rs (insert rows.bonds k next)) (sym (put ∙ ap (edited db) is_edit)) (replaces_pair bond_columns k (db 2) rows.bonds stands.bonds x next one.0 one.1 free))
+      with_bonds db new rows stands (insert rows.bonds k next) same
+      (subst (λ rs. HoldsPairs bond_columns rs (insert rows.bonds k next)) (sym (put ∙ ap (edited db) is_edit))
+      (replaces_row pair_total pair_same (stored bond_columns) (λ _. refl) k (db 2) rows.bonds stands.bonds row x next one.0 one.1 (alike_itself row) free))
 
-pub marks : (old new : State) (k : ℕ × ℕ) (t : ℕ) (shown : List Row) → old.now.schema ≡ bank_schema → Shown mark_text (key_params k (Int (pos t) ∷ [])) old new shown
-    → (new.now.schema ≡ bank_schema) × Shows old new new.now (if old.in_transaction then old.committed else new.now) old.in_transaction
+pub marks : (old new : State) (k : ℕ × ℕ) (t : ℕ) (shown : List Row) → old.now.schema ≡ counter_schema → Shown mark_text (key_params k (Int (pos t) ∷ [])) old new shown
+    → (new.now.schema ≡ counter_schema) × Shows old new new.now (if old.in_transaction then old.committed else new.now) old.in_transaction
     × ((rows : Rows) → Holds old.now.trees rows → Holds new.now.trees (marked rows k t))
 marks old new k t shown has it =
     let params = key_params k (Int (pos t) ∷ []) in
     let db = old.now.trees in
     let command = Update 2 (record { lets = []; body = mark_query }) in
-    let ran = writes_as mark_text params old new bank_schema has command mark_is mark_what mark_shows mark_formats shown it in
+    let ran = writes_as mark_text params old new counter_schema has command mark_is mark_what mark_shows mark_formats shown it in
     let w = ran.1 in
-    let text = statement_of mark_text (understood bank_schema mark_text) in
+    let text = statement_of mark_text (understood counter_schema mark_text) in
     let done = went (subst (λ s. Does old.step_limit (mode_of old) params (record old.now { schema = s }) text (Some mark_what) command (Ok (w.tally, new.now))) has w.changed) in
     let now = ap (λ (p : Tally × Database). p.1) (same_value (went (went done.2).2).2) in
     let asked = went done.1 in
@@ -120,14 +110,10 @@ marks old new k t shown has it =
     let a : IsAnswer mark_query (overlay db []) params asked.0 = asked.1.answer Null in
     let edit = edit_of db bonds (ids_of asked.0) Given 1 asked.0 in
     let edited_as : List ℤ → List Row → Edit = λ gone news. record { table = bonds; gone = gone; news = news } in
-    let applied = one_step bank_schema _ db written.0 edit refl written.1 in
+    let applied = one_step counter_schema _ db written.0 edit refl written.1 in
     let after : new.now.trees ≡ written.0 = ap (λ (d : Database). d.trees) now ∙ trees in
-    let at : (t : ℕ) → written.0 t ≡ new.now.trees t = λ t. sym (ap (λ (trees : Trees). trees t) after) in
-    let put = sym (at 2) ∙ applied.rows in
-    let same : Same 2 db new.now.trees =
-        ((λ e. sym (at 0) ∙ applied.tables.0 e), ((λ e. sym (at 1) ∙ applied.tables.1.0 e), ((λ e. sym (at 2) ∙ applied.tables.1.1.0 e), ((λ e. sym (at 5) ∙ applied.tables.1.1.1.0 e),
-        ((λ e. sym (at 7) ∙ applied.tables.1.1.1.1.0 e), ((λ e. sym (at 10) ∙ applied.tables.1.1.1.1.1.0 e), ((λ e. sym (at 11) ∙ applied.tables.1.1.1.1.1.1.0 e), tt))))))) in
-    (
+    let put = ap (λ (trees : Trees). trees 2) after ∙ applied.rows in
+    let same : Same 2 db new.now.trees = subst (Same 2 db) (sym after) applied.tables in (
       ap (λ (d : Database). d.schema) now,
       w.shown,
       λ rows stands. marked_holds k t db new.now.trees rows stands same asked.0 a put applied.fresh (get rows.bonds k) refl,

@@ -1,24 +1,24 @@
 -- What an insertion into `paid` does.
-use Rattle.std.proofs.Common.{◌≡◌, ◌≢◌, ◌⊎◌, inl, inr, ℕ, pos, List, [], ◌∷◌, Bool, true, false, Some, None, Option, Ok, Err, Result, refl, sym, ap, subst, ◌∙◌, arith}
-use Rattle.std.specs.FinMap.{FinMap, get, insert}
-use Rattle.sqlite.specs.declared.types.Value.TheVariants.{Null, Int, Text}
+use Rattle.std.proofs.Common.{◌≡◌, ℕ, pos, List, [], ◌∷◌, true, false, None, Ok, refl, sym, ap, subst, ◌∙◌}
+use Rattle.std.specs.FinMap.{insert}
+use Rattle.sqlite.specs.declared.types.Value.TheVariants.{Null, Int}
 use Rattle.sqlite.specs.Order.{Row}
 use Rattle.sqlite.specs.Term.{Term, lit, col}
 use Rattle.sqlite.specs.Source.TheVariants.{Values}
 use Rattle.sqlite.specs.Command.TheVariants.{Insert}
-use Rattle.sqlite.specs.Edit.{Edit, edit_of, edited}
-use Rattle.sqlite_rules.specs.Edit.{next_rowid, put_all, is_taken, are_fresh, left_by}
+use Rattle.sqlite.specs.Edit.{edit_of}
+use Rattle.sqlite_rules.specs.Edit.{next_rowid, put_all, is_taken, are_fresh}
 use Rattle.sqlite.specs.Rowids.TheVariants.{Chosen}
 use Rattle.sqlite.specs.Does.{Tally, Does}
 use Rattle.sqlite.specs.Rows.{Written}
 use Rattle.sqlite.specs.Tree.{Trees, put_row}
 use Rattle.sqlite.specs.Effect.{Database}
 use Rattle.sqlite.specs.Listing.{understood}
-use Rattle.sqlite.specs.State.{State, mode_of, Writes, Executes}
+use Rattle.sqlite.specs.State.{State, mode_of, Executes}
 use Rattle.sqlite.proofs.Callers.{statement_of, runs_as, one_step}
-use Rattle.ee_tables.specs.Tables.{paid, bank_schema}
-use Rattle.ee_tables.specs.Keyed.{pair_cmp, stored, HoldsPairs}
-use Rattle.ee_tables.specs.Rows.{PaidRow, paid_columns, bond_columns, Rows, Holds, with_paid}
+use Rattle.ee_tables.specs.Tables.{paid, counter_schema}
+use Rattle.ee_tables.specs.Keyed.{stored, HoldsPairs}
+use Rattle.ee_tables.specs.Rows.{PaidRow, paid_columns, Rows, Holds, with_paid}
 use Rattle.ee_tables.proofs.UniqueLemmas.{was_new, all_put}
 use Rattle.sqlite_keyed.proofs.RuleLemmas.{first_of_both}
 use Rattle.sqlite_schema.specs.declared.schema.Constraint.TheVariants.{Unique}
@@ -26,8 +26,9 @@ use Rattle.sqlite_schema.specs.Rules.{passes, clashes}
 use Rattle.sqlite_value.specs.Keys.{plain}
 use Rattle.std.specs.List.{AllByRecursion}
 use Rattle.ee_tables.proofs.Meaning.{paid_text, paid_is, paid_plain}
-use Rattle.ee_tables.proofs.HoldsLemmas.{adds_pair}
-use Rattle.ee_tables.proofs.WriteLemmas.{cast_int, cast_null, went, same_value, fresh_one, not_so, not_foreign}
+use Rattle.ee_tables.proofs.PairLemmas.{alike_itself}
+use Rattle.ee_tables.proofs.HoldsLemmas.{pair_total, pair_same, adds_row}
+use Rattle.ee_tables.proofs.WriteLemmas.{cast_int, cast_null, went, same_value, fresh_one, not_so, not_foreign, Same, with_paid as with_paid_rows}
 
 abbrev pub given_paid : ℕ × ℕ → PaidRow → Row
 given_paid k x = Int (pos k.0) ∷ Int (pos k.1) ∷ paid_columns x
@@ -35,14 +36,14 @@ given_paid k x = Int (pos k.0) ∷ Int (pos k.1) ∷ paid_columns x
 abbrev terms : List Term
 terms = lit Null ∷ col 0 0 ∷ col 0 1 ∷ col 0 2 ∷ col 0 3 ∷ col 0 4 ∷ []
 
-pub adds_paid : (old new : State) (k : ℕ × ℕ) (x : PaidRow) (count : ℕ) → old.now.schema ≡ bank_schema → Executes paid_text (given_paid k x) old new (Ok count)
-    → (new.now.schema ≡ bank_schema) × ((rows : Rows) → Holds old.now.trees rows → Holds new.now.trees (with_paid rows k x))
+pub adds_paid : (old new : State) (k : ℕ × ℕ) (x : PaidRow) (count : ℕ) → old.now.schema ≡ counter_schema → Executes paid_text (given_paid k x) old new (Ok count)
+    → (new.now.schema ≡ counter_schema) × ((rows : Rows) → Holds old.now.trees rows → Holds new.now.trees (with_paid rows k x))
 adds_paid old new k x count has h =
     let params = given_paid k x in
     let db = old.now.trees in
     let command = Insert 4 (Values terms 6) in
-    let w = runs_as paid_text params old new bank_schema has command paid_is paid_plain count h in
-    let text = statement_of paid_text (understood bank_schema paid_text) in
+    let w = runs_as paid_text params old new counter_schema has command paid_is paid_plain count h in
+    let text = statement_of paid_text (understood counter_schema paid_text) in
     let done = went (subst (λ s. Does old.step_limit (mode_of old) params (record old.now { schema = s }) text None command (Ok (w.tally, new.now))) has w.changed) in
     let now = ap (λ (p : Tally × Database). p.1) (same_value (went (went done.2).2).2) in
     let given_rows = went done.1 in
@@ -50,25 +51,18 @@ adds_paid old new k x count has h =
     let counted = went written.2 in
     let trees : done.0.trees ≡ written.0 = ap (λ (it : Written). it.trees) (same_value counted.2) ∙ same_value counted.1 in
     let edit = edit_of db paid [] Chosen 0 given_rows.0 in
-    let applied = one_step bank_schema _ db written.0 edit refl written.1 in
+    let applied = one_step counter_schema _ db written.0 edit refl written.1 in
     let row = stored paid_columns (next_rowid (db 7), (k, x)) in
     let news : edit.news ≡ row ∷ [] = ap (λ all. (edit_of db paid [] Chosen 0 all).news) given_rows.1.1 ∙ rw (cast_null, cast_int k.0, cast_int k.1, cast_int x.letter, cast_int x.number, cast_int x.cents) refl in
     let put : written.0 7 ≡ put_row row (db 7) = applied.rows ∙ ap (put_all (db 7)) news in
     let fresh : is_taken (db 7) row ≡ false = fresh_one _ (subst (λ all. are_fresh (db 7) all ≡ true) news applied.fresh) in
-    let unique : passes Unique bank_schema written.0 paid row ≡ true = all_put (λ r. passes Unique bank_schema written.0 paid r ≡ true) row (db 7) (subst (AllByRecursion (λ r. passes Unique bank_schema written.0 paid r ≡ true)) put (applied.fits.rules Unique not_foreign).1.1.1.1.0) in
+    let unique : passes Unique counter_schema written.0 paid row ≡ true = all_put (λ r. passes Unique counter_schema written.0 paid r ≡ true) row (db 7) (subst (AllByRecursion (λ r. passes Unique counter_schema written.0 paid r ≡ true)) put (applied.fits.rules Unique not_foreign).1.1.1.1.0) in
     let apart : clashes plain (1 ∷ 2 ∷ []) (put_row row (db 7)) row ≡ false = subst (λ rs. clashes plain (1 ∷ 2 ∷ []) rs row ≡ false) put (not_so _ (first_of_both _ _ unique)) in
     let after : new.now.trees ≡ written.0 = ap (λ (d : Database). d.trees) now ∙ trees in
-    let at : (t : ℕ) → written.0 t ≡ new.now.trees t = λ t. sym (ap (λ (trees : Trees). trees t) after) in
-    (
+    let same : Same 7 db new.now.trees = subst (Same 7 db) (sym after) applied.tables in (
       ap (λ (d : Database). d.schema) now,
-      λ rows stands. record {
-        desk = sym (at 0) ∙ applied.tables.0 (λ e. omega (arith, e)) ∙ stands.desk;
-        rates = sym (at 1) ∙ applied.tables.1.0 (λ e. omega (arith, e)) ∙ stands.rates;
-        bonds = subst (λ rs. HoldsPairs bond_columns rs rows.bonds) (sym (applied.tables.1.1.0 (λ e. omega (arith, e))) ∙ at 2) stands.bonds;
-        tickets = sym (at 5) ∙ applied.tables.1.1.1.0 (λ e. omega (arith, e)) ∙ stands.tickets;
-        paid = subst (λ rs. HoldsPairs paid_columns rs (insert rows.paid k x)) (sym put ∙ at 7)
-            (adds_pair paid_columns k (db 7) rows.paid stands.paid (next_rowid (db 7)) x (was_new paid_columns k x (db 7) rows.paid stands.paid (next_rowid (db 7)) fresh apart) fresh);
-        batches = sym (at 10) ∙ applied.tables.1.1.1.1.1.0 (λ e. omega (arith, e)) ∙ stands.batches;
-        replies = sym (at 11) ∙ applied.tables.1.1.1.1.1.1.0 (λ e. omega (arith, e)) ∙ stands.replies;
-      },
+      λ rows stands.
+          let free = was_new paid_columns k x (db 7) rows.paid stands.paid (next_rowid (db 7)) fresh apart in
+          with_paid_rows db new.now.trees rows stands (insert rows.paid k x) same (subst (λ rs. HoldsPairs paid_columns rs (insert rows.paid k x)) (sym (ap (λ (trees : Trees). trees 7) after ∙ put))
+          (adds_row pair_total pair_same (stored paid_columns) (λ _. refl) k (db 7) rows.paid stands.paid row (next_rowid (db 7)) x (alike_itself row) free fresh)),
     )

@@ -1,20 +1,18 @@
 -- What the parts of a write give.
-use Rattle.std.proofs.Common.{◌≡◌, ◌≢◌, ◌⊎◌, inl, inr, ℕ, ℤ, pos, List, [], ◌∷◌, Bool, true, false, not, cond, Some, None, Option, Ok, Err, Result, refl, sym, ap, subst, ◌∙◌, arith, eqb, nat_cmp}
+use Rattle.std.proofs.Common.{◌≡◌, ◌≢◌, ◌⊎◌, inl, inr, ℕ, ℤ, pos, List, [], ◌∷◌, Bool, true, false, not, cond, Some, None, Option, Ok, Err, Result, refl, sym, ap, subst, arith, nat_cmp}
 use Rattle.std.specs.Prelude.{◌&&◌}
 use Rattle.sqlite.specs.declared.types.Value.{Value}
-use Rattle.sqlite.specs.declared.types.Value.TheVariants.{Null, Int, Text}
+use Rattle.sqlite.specs.declared.types.Value.TheVariants.{Null, Int}
 use Rattle.sqlite.specs.Order.{Row}
 use Rattle.sqlite.specs.Ops.{unary}
 use Rattle.sqlite.specs.Cast.{cast}
 use Rattle.sqlite.specs.Kind.TheVariants.{Integer}
 use Rattle.sqlite.specs.Tree.{Trees}
-use Rattle.sqlite_rules.specs.Edit.{is_taken}
-use Rattle.ee_tables.specs.Tables.{bank_schema}
 use Rattle.sqlite_schema.specs.declared.schema.Constraint.{Constraint}
 use Rattle.sqlite_schema.specs.declared.schema.Constraint.TheVariants.{Unique, ForeignKey}
 use Rattle.std.specs.FinMap.{FinMap}
 use Rattle.ee_tables.specs.Keyed.{pair_cmp, HoldsPairs, HoldsMap}
-use Rattle.ee_tables.specs.Rows.{Rows, Holds, BondRow, TicketRow, ReplyRow, ticket_columns, reply_columns, bond_columns, paid_columns, optional}
+use Rattle.ee_tables.specs.Rows.{Rows, Holds, DeskRow, BondRow, TicketRow, PaidRow, BatchRow, ReplyRow, desk_columns, rate_columns, bond_columns, ticket_columns, paid_columns, batch_columns, reply_columns, optional}
 use Rattle.std.specs.List.{AllByRecursion}
 
 either : (b : Bool) (x : Value) → cond b x x ≡ x
@@ -53,17 +51,6 @@ fresh_one false h = refl
 abbrev pub Same : ℕ → Trees → Trees → Type 0
 Same tree old new = AllByRecursion (λ t. (t ≢ tree) → new t ≡ old t) (0 ∷ 1 ∷ 2 ∷ 5 ∷ 7 ∷ 10 ∷ 11 ∷ [])
 
-pub with_bonds : (db new : Trees) (rows : Rows) (next : FinMap pair_cmp BondRow) → Holds db rows → Same 2 db new → HoldsPairs bond_columns (new 2) next → Holds new (record rows { bonds = next })
-with_bonds db new rows next stands same held = record {
-  desk = same.0 (λ e. omega (arith, e)) ∙ stands.desk;
-  rates = same.1.0 (λ e. omega (arith, e)) ∙ stands.rates;
-  bonds = held;
-  tickets = same.1.1.1.0 (λ e. omega (arith, e)) ∙ stands.tickets;
-  paid = subst (λ rs. HoldsPairs paid_columns rs rows.paid) (sym (same.1.1.1.1.0 (λ e. omega (arith, e)))) stands.paid;
-  batches = same.1.1.1.1.1.0 (λ e. omega (arith, e)) ∙ stands.batches;
-  replies = same.1.1.1.1.1.1.0 (λ e. omega (arith, e)) ∙ stands.replies;
-}
-
 pub not_so : (b : Bool) → not b ≡ true → b ≡ false
 not_so true h = cc
 not_so false h = refl
@@ -76,24 +63,86 @@ pub not_foreign : Unique ≢ ForeignKey
 unfolding is_foreign
 not_foreign e = absurd (let a : false ≡ true = ap is_foreign e in cc)
 
-pub with_tickets : (db new : Trees) (rows : Rows) (next : FinMap nat_cmp TicketRow) → Holds db rows → Same 5 db new → HoldsMap ticket_columns (new 5) next → Holds new (record rows { tickets = next })
-with_tickets db new rows next stands same held = record {
-  desk = same.0 (λ e. omega (arith, e)) ∙ stands.desk;
-  rates = same.1.0 (λ e. omega (arith, e)) ∙ stands.rates;
-  bonds = subst (λ rs. HoldsPairs bond_columns rs rows.bonds) (sym (same.1.1.0 (λ e. omega (arith, e)))) stands.bonds;
-  tickets = held;
-  paid = subst (λ rs. HoldsPairs paid_columns rs rows.paid) (sym (same.1.1.1.1.0 (λ e. omega (arith, e)))) stands.paid;
-  batches = same.1.1.1.1.1.0 (λ e. omega (arith, e)) ∙ stands.batches;
-  replies = same.1.1.1.1.1.1.0 (λ e. omega (arith, e)) ∙ stands.replies;
-}
+moved : {X : Type 0} {columns : X → Row} {m : FinMap nat_cmp X} {old new : List Row} → new ≡ old → HoldsMap columns old m → HoldsMap columns new m
+moved {columns} {m} same held = subst (λ rs. HoldsMap columns rs m) (sym same) held
 
-pub with_replies : (db new : Trees) (rows : Rows) (next : FinMap nat_cmp ReplyRow) → Holds db rows → Same 11 db new → HoldsMap reply_columns (new 11) next → Holds new (record rows { replies = next })
-with_replies db new rows next stands same held = record {
-  desk = same.0 (λ e. omega (arith, e)) ∙ stands.desk;
-  rates = same.1.0 (λ e. omega (arith, e)) ∙ stands.rates;
-  bonds = subst (λ rs. HoldsPairs bond_columns rs rows.bonds) (sym (same.1.1.0 (λ e. omega (arith, e)))) stands.bonds;
-  tickets = same.1.1.1.0 (λ e. omega (arith, e)) ∙ stands.tickets;
-  paid = subst (λ rs. HoldsPairs paid_columns rs rows.paid) (sym (same.1.1.1.1.0 (λ e. omega (arith, e)))) stands.paid;
-  batches = same.1.1.1.1.1.0 (λ e. omega (arith, e)) ∙ stands.batches;
-  replies = held;
-}
+moved_pairs : {X : Type 0} (columns : X → Row) {m : FinMap pair_cmp X} {old new : List Row} → new ≡ old → HoldsPairs columns old m → HoldsPairs columns new m
+moved_pairs columns {m} same held = subst (λ rs. HoldsPairs columns rs m) (sym same) held
+
+module _ (db new : Trees) (rows : Rows) (stands : Holds db rows) where
+  pub with_desk : (next : FinMap nat_cmp DeskRow) → Same 0 db new → HoldsMap desk_columns (new 0) next → Holds new (record rows { desk = next })
+  with_desk next same held = record {
+    desk = held;
+    rates = moved (same.1.0 (λ e. omega (arith, e))) stands.rates;
+    bonds = moved_pairs bond_columns (same.1.1.0 (λ e. omega (arith, e))) stands.bonds;
+    tickets = moved (same.1.1.1.0 (λ e. omega (arith, e))) stands.tickets;
+    paid = moved_pairs paid_columns (same.1.1.1.1.0 (λ e. omega (arith, e))) stands.paid;
+    batches = moved (same.1.1.1.1.1.0 (λ e. omega (arith, e))) stands.batches;
+    replies = moved (same.1.1.1.1.1.1.0 (λ e. omega (arith, e))) stands.replies;
+  }
+
+  pub with_rates : (next : FinMap nat_cmp ℕ) → Same 1 db new → HoldsMap rate_columns (new 1) next → Holds new (record rows { rates = next })
+  with_rates next same held = record {
+    desk = moved (same.0 (λ e. omega (arith, e))) stands.desk;
+    rates = held;
+    bonds = moved_pairs bond_columns (same.1.1.0 (λ e. omega (arith, e))) stands.bonds;
+    tickets = moved (same.1.1.1.0 (λ e. omega (arith, e))) stands.tickets;
+    paid = moved_pairs paid_columns (same.1.1.1.1.0 (λ e. omega (arith, e))) stands.paid;
+    batches = moved (same.1.1.1.1.1.0 (λ e. omega (arith, e))) stands.batches;
+    replies = moved (same.1.1.1.1.1.1.0 (λ e. omega (arith, e))) stands.replies;
+  }
+
+  pub with_bonds : (next : FinMap pair_cmp BondRow) → Same 2 db new → HoldsPairs bond_columns (new 2) next → Holds new (record rows { bonds = next })
+  with_bonds next same held = record {
+    desk = moved (same.0 (λ e. omega (arith, e))) stands.desk;
+    rates = moved (same.1.0 (λ e. omega (arith, e))) stands.rates;
+    bonds = held;
+    tickets = moved (same.1.1.1.0 (λ e. omega (arith, e))) stands.tickets;
+    paid = moved_pairs paid_columns (same.1.1.1.1.0 (λ e. omega (arith, e))) stands.paid;
+    batches = moved (same.1.1.1.1.1.0 (λ e. omega (arith, e))) stands.batches;
+    replies = moved (same.1.1.1.1.1.1.0 (λ e. omega (arith, e))) stands.replies;
+  }
+
+  pub with_tickets : (next : FinMap nat_cmp TicketRow) → Same 5 db new → HoldsMap ticket_columns (new 5) next → Holds new (record rows { tickets = next })
+  with_tickets next same held = record {
+    desk = moved (same.0 (λ e. omega (arith, e))) stands.desk;
+    rates = moved (same.1.0 (λ e. omega (arith, e))) stands.rates;
+    bonds = moved_pairs bond_columns (same.1.1.0 (λ e. omega (arith, e))) stands.bonds;
+    tickets = held;
+    paid = moved_pairs paid_columns (same.1.1.1.1.0 (λ e. omega (arith, e))) stands.paid;
+    batches = moved (same.1.1.1.1.1.0 (λ e. omega (arith, e))) stands.batches;
+    replies = moved (same.1.1.1.1.1.1.0 (λ e. omega (arith, e))) stands.replies;
+  }
+
+  pub with_paid : (next : FinMap pair_cmp PaidRow) → Same 7 db new → HoldsPairs paid_columns (new 7) next → Holds new (record rows { paid = next })
+  with_paid next same held = record {
+    desk = moved (same.0 (λ e. omega (arith, e))) stands.desk;
+    rates = moved (same.1.0 (λ e. omega (arith, e))) stands.rates;
+    bonds = moved_pairs bond_columns (same.1.1.0 (λ e. omega (arith, e))) stands.bonds;
+    tickets = moved (same.1.1.1.0 (λ e. omega (arith, e))) stands.tickets;
+    paid = held;
+    batches = moved (same.1.1.1.1.1.0 (λ e. omega (arith, e))) stands.batches;
+    replies = moved (same.1.1.1.1.1.1.0 (λ e. omega (arith, e))) stands.replies;
+  }
+
+  pub with_batches : (next : FinMap nat_cmp BatchRow) → Same 10 db new → HoldsMap batch_columns (new 10) next → Holds new (record rows { batches = next })
+  with_batches next same held = record {
+    desk = moved (same.0 (λ e. omega (arith, e))) stands.desk;
+    rates = moved (same.1.0 (λ e. omega (arith, e))) stands.rates;
+    bonds = moved_pairs bond_columns (same.1.1.0 (λ e. omega (arith, e))) stands.bonds;
+    tickets = moved (same.1.1.1.0 (λ e. omega (arith, e))) stands.tickets;
+    paid = moved_pairs paid_columns (same.1.1.1.1.0 (λ e. omega (arith, e))) stands.paid;
+    batches = held;
+    replies = moved (same.1.1.1.1.1.1.0 (λ e. omega (arith, e))) stands.replies;
+  }
+
+  pub with_replies : (next : FinMap nat_cmp ReplyRow) → Same 11 db new → HoldsMap reply_columns (new 11) next → Holds new (record rows { replies = next })
+  with_replies next same held = record {
+    desk = moved (same.0 (λ e. omega (arith, e))) stands.desk;
+    rates = moved (same.1.0 (λ e. omega (arith, e))) stands.rates;
+    bonds = moved_pairs bond_columns (same.1.1.0 (λ e. omega (arith, e))) stands.bonds;
+    tickets = moved (same.1.1.1.0 (λ e. omega (arith, e))) stands.tickets;
+    paid = moved_pairs paid_columns (same.1.1.1.1.0 (λ e. omega (arith, e))) stands.paid;
+    batches = moved (same.1.1.1.1.1.0 (λ e. omega (arith, e))) stands.batches;
+    replies = held;
+  }

@@ -3,7 +3,7 @@ use Rattle.sqlite.specs.Held.{state}
 use Rattle.ee_tables.proofs.Meaning.{mark_text}
 use Rattle.ee_tables.proofs.KeepLemmas.{query_keeps, shown_open, is_open_after, write_keeps}
 use Rattle.ee_tables.proofs.MarkLemmas.{marks}
-use Rattle.ee_tables.proofs.mark_bond.Goals as goal
+use Rattle.ee_tables.proofs.bonds.mark_bond.Goals as goal
 
 pub returns-in_err-_bond-clause-commit : goal.returns-in_err-_bond-clause-commit
 returns-in_err-_bond-clause-commit g c clean inside =
@@ -17,7 +17,7 @@ returns-clause-inside g c clean inside =
     let old = state g.S.Store c.args.tx.now.conn.now in
     let new = state g.S.Store c.query_all.new.self.conn.now in
     let was = shown_open old new mark_text _ _ (c.in_ok-_bond.ensures.ok clean) in
-    let it = marks old new (c.args.letter, c.args.number) c.args.ticket _ (inside was).1 (rw (c.to_sql.ensures, c.to_sql-2.ensures, c.to_sql-3.ensures) at (c.in_ok-_bond.ensures.ok clean)) in
+    let it = marks old new (c.args.serial.letter, c.args.serial.number) c.args.ticket _ (inside was).1 (rw (c.whole.ensures, c.whole-2.ensures, c.whole-3.ensures) at (c.in_ok-_bond.ensures.ok clean)) in
     λ _. (it.1.mode ∙ (inside was).0, it.0)
 
 pub returns-clause-marked : goal.returns-clause-marked
@@ -25,7 +25,7 @@ returns-clause-marked g c clean rows sees =
     let old = state g.S.Store c.args.tx.now.conn.now in
     let new = state g.S.Store c.query_all.new.self.conn.now in
     let first = sees (shown_open old new mark_text _ _ (c.in_ok-_bond.ensures.ok clean)) in
-    let it = marks old new (c.args.letter, c.args.number) c.args.ticket _ first.0 (rw (c.to_sql.ensures, c.to_sql-2.ensures, c.to_sql-3.ensures) at (c.in_ok-_bond.ensures.ok clean)) in
+    let it = marks old new (c.args.serial.letter, c.args.serial.number) c.args.ticket _ first.0 (rw (c.whole.ensures, c.whole-2.ensures, c.whole-3.ensures) at (c.in_ok-_bond.ensures.ok clean)) in
     λ _. (it.0, it.2 rows first.1)
 
 pub returns-clause-commit : goal.returns-clause-commit
@@ -33,5 +33,5 @@ returns-clause-commit g c clean inside =
     let old = state g.S.Store c.args.tx.now.conn.now in
     let new = state g.S.Store c.query_all.new.self.conn.now in
     let was = shown_open old new mark_text _ _ (c.in_ok-_bond.ensures.ok clean) in
-    let it = marks old new (c.args.letter, c.args.number) c.args.ticket _ (inside was).1 (rw (c.to_sql.ensures, c.to_sql-2.ensures, c.to_sql-3.ensures) at (c.in_ok-_bond.ensures.ok clean)) in
+    let it = marks old new (c.args.serial.letter, c.args.serial.number) c.args.ticket _ (inside was).1 (rw (c.whole.ensures, c.whole-2.ensures, c.whole-3.ensures) at (c.in_ok-_bond.ensures.ok clean)) in
     write_keeps old new it.1 (inside was).0
