@@ -30,35 +30,35 @@ and_true : (b : Bool) → (b && true) ≡ b
 and_true true = refl
 and_true false = refl
 
-module _ {X : Type 0} (columns : X → Row) (tree : ℕ) (project : List Term) (show : X → Row)
-    (shows : (params r : Row) (e : ℕ × X) → ReadAlike r (row_of columns (pos e.0, e)) → eval_all project (params ∷ r ∷ []) ≡ show e.1) where
-  number_agrees : (n : ℕ) (r : Row) (e : ℕ × X) → ReadAlike r (row_of columns (pos e.0, e)) → list_all (holds ((Int (pos n) ∷ []) ∷ r ∷ [])) (by_number tree project).filter ≡ tied nat_cmp nat_cmp_total n e
-  number_agrees n r e one = rw (one 0, equals_holds e.0 n) (and_true _)
+module _ {X : Type 0} (columns : X → Row) (tree : ℕ) (project : List Term) (n : ℕ) (more : Row) (show : ℕ × X → Row)
+    (shows : (r : Row) (e : ℕ × X) → ReadAlike r (row_of columns (pos e.0, e)) → eval_all project ((Int (pos n) ∷ more) ∷ r ∷ []) ≡ show e) where
+  number_agrees : (r : Row) (e : ℕ × X) → ReadAlike r (row_of columns (pos e.0, e)) → list_all (holds ((Int (pos n) ∷ more) ∷ r ∷ [])) (by_number tree project).filter ≡ tied nat_cmp nat_cmp_total n e
+  number_agrees r e one = rw (one 0, equals_holds e.0 n) (and_true _)
 
   -- exactly the row of the key, if there is one
-  pub found_by_number : (db : Trees) (n : ℕ) (m : FinMap nat_cmp X) (found : List Row) → overlay db [] tree ≡ db tree → HoldsMap columns (db tree) m → IsAnswer (by_number tree project) (overlay db []) (Int (pos n) ∷ []) found
-      → found ≡ option_to_list (option_map show (get m n))
-  found_by_number db n m found read h a = a.shown ∙ ap (λ xs. page query params (map (λ (o : Output). o.1) xs)) (at_most_one (option_map (λ x. ([], show x)) (get m n)) a.ordered (subst (λ xs. IsPermutation xs a.ordered) kept a.same)) ∙ last (get m n)
+  pub found_by_number : (db : Trees) (m : FinMap nat_cmp X) (found : List Row) → overlay db [] tree ≡ db tree → HoldsMap columns (db tree) m → IsAnswer (by_number tree project) (overlay db []) (Int (pos n) ∷ more) found
+      → found ≡ option_to_list (option_map (λ x. show (n, x)) (get m n))
+  found_by_number db m found read h a = a.shown ∙ ap (λ xs. page query params (map (λ (o : Output). o.1) xs)) (at_most_one (option_map (λ x. ([], show (n, x))) (get m n)) a.ordered (subst (λ xs. IsPermutation xs a.ordered) kept a.same)) ∙ last (get m n)
     where
       query : Query
       query = by_number tree project
 
       params : Row
-      params = Int (pos n) ∷ []
+      params = Int (pos n) ∷ more
 
-      one : (o : Option X) → map {B = Output} (λ (e : ℕ × X). ([], show e.1)) (option_to_list (option_map (λ x. (n, x)) o)) ≡ option_to_list (option_map (λ x. ([], show x)) o)
+      one : (o : Option X) → map {B = Output} (λ (e : ℕ × X). ([], show e)) (option_to_list (option_map (λ x. (n, x)) o)) ≡ option_to_list (option_map (λ x. ([], show (n, x))) o)
       one None = refl
       one (Some x) = refl
 
-      last : (o : Option X) → page query params (map (λ (o : Output). o.1) (option_to_list (option_map (λ x. ([], show x)) o))) ≡ option_to_list (option_map show o)
+      last : (o : Option X) → page query params (map (λ (o : Output). o.1) (option_to_list (option_map (λ x. ([], show (n, x))) o))) ≡ option_to_list (option_map (λ x. show (n, x)) o)
       last None = refl
       last (Some x) = refl
 
-      kept : a.kept ≡ option_to_list (option_map (λ x. ([], show x)) (get m n))
+      kept : a.kept ≡ option_to_list (option_map (λ x. ([], show (n, x))) (get m n))
       kept = a.distinct ∙ ap (map (output query)) (a.grouped ∙ ap (flat_map _) read)
-          ∙ matched (λ e. row_of columns (pos e.0, e)) params query.filter (tied nat_cmp nat_cmp_total n) (output query) (λ e. ([], show e.1)) (number_agrees n) (λ r e alike. ap (λ row. ([], row)) (shows params r e alike))
+          ∙ matched (λ e. row_of columns (pos e.0, e)) params query.filter (tied nat_cmp nat_cmp_total n) (output query) (λ e. ([], show e)) number_agrees (λ r e alike. ap (λ row. ([], row)) (shows r e alike))
           (db tree) (map (λ p. p.1) h.table.numbered) (keyed_rows columns (db tree) h.table.numbered h.keyed h.table.are)
-          ∙ ap (map {B = Output} (λ (e : ℕ × X). ([], show e.1))) (entries_hit nat_cmp_total nat_cmp-IsAntisymmetric (row_of columns) (λ _. refl) n (db tree) m h.table) ∙ one (get m n)
+          ∙ ap (map {B = Output} (λ (e : ℕ × X). ([], show e))) (entries_hit nat_cmp_total nat_cmp-IsAntisymmetric (row_of columns) (λ _. refl) n (db tree) m h.table) ∙ one (get m n)
 
 module _ {X : Type 0} (columns : X → Row) (tree : ℕ) (project : List Term) (show : ℤ × ((ℕ × ℕ) × X) → Row) (k : ℕ × ℕ) (more : Row)
     (shows : (r : Row) (p : ℤ × ((ℕ × ℕ) × X)) → ReadAlike r (stored columns p) → eval_all project ((Int (pos k.0) ∷ Int (pos k.1) ∷ more) ∷ r ∷ []) ≡ show p) where

@@ -21,7 +21,7 @@ use Rattle.sqlite.proofs.Callers.{statement_of, runs_as, reads_as, one_step}
 use Rattle.ee_tables.specs.Tables.{replies, counter_schema}
 use Rattle.ee_tables.specs.Keyed.{row_of, HoldsMap}
 use Rattle.ee_tables.specs.Rows.{ReplyRow, reply_columns, Rows, Holds, with_reply}
-use Rattle.ee_tables.proofs.Meaning.{reply_text, reply_is, reply_plain, find_text, find_is, find_plain}
+use Rattle.ee_tables.proofs.Meaning.{add_reply_text, add_reply_is, add_reply_plain, find_reply_text, find_reply_query, find_reply_is, find_reply_plain}
 use Rattle.ee_tables.proofs.KeyedLemmas.{adds_keyed}
 use Rattle.ee_tables.proofs.ReadLemmas.{found_by_number}
 use Rattle.ee_tables.proofs.WriteLemmas.{cast_int, cast_null, went, same_value, fresh_one, Same, with_replies}
@@ -32,14 +32,14 @@ given_reply n x = Int (pos n) ∷ reply_columns x
 abbrev terms : List Term
 terms = col 0 0 ∷ lit Null ∷ col 0 1 ∷ col 0 2 ∷ []
 
-pub adds_reply : (old new : State) (n : ℕ) (x : ReplyRow) (count : ℕ) → old.now.schema ≡ counter_schema → Executes reply_text (given_reply n x) old new (Ok count)
+pub adds_reply : (old new : State) (n : ℕ) (x : ReplyRow) (count : ℕ) → old.now.schema ≡ counter_schema → Executes add_reply_text (given_reply n x) old new (Ok count)
     → (new.now.schema ≡ counter_schema) × ((rows : Rows) → Holds old.now.trees rows → Holds new.now.trees (with_reply rows n x))
 adds_reply old new n x count has h =
     let params = given_reply n x in
     let db = old.now.trees in
     let command = Insert 6 (Values terms 4) in
-    let w = runs_as reply_text params old new counter_schema has command reply_is reply_plain count h in
-    let text = statement_of reply_text (understood counter_schema reply_text) in
+    let w = runs_as add_reply_text params old new counter_schema has command add_reply_is add_reply_plain count h in
+    let text = statement_of add_reply_text (understood counter_schema add_reply_text) in
     let done = went (subst (λ s. Does old.step_limit (mode_of old) params (record old.now { schema = s }) text None command (Ok (w.tally, new.now))) has w.changed) in
     let now = ap (λ (p : Tally × Database). p.1) (same_value (went (went done.2).2).2) in
     let given_rows = went done.1 in
@@ -59,7 +59,7 @@ adds_reply old new n x count has h =
     )
 
 pub finds_reply : (old new : State) (n : ℕ) (m : FinMap Rattle.std.specs.Ordering.nat_cmp ReplyRow) (rows : List Row) → old.now.schema ≡ counter_schema → HoldsMap reply_columns (old.now.trees 11) m
-    → Shown find_text (Int (pos n) ∷ []) old new rows → rows ≡ option_to_list (option_map reply_columns (get m n))
+    → Shown find_reply_text (Int (pos n) ∷ []) old new rows → rows ≡ option_to_list (option_map reply_columns (get m n))
 finds_reply old new n m rows has stands shown =
-    found_by_number reply_columns 11 (col 1 2 ∷ col 1 3 ∷ []) reply_columns (λ params r e one. rw (one 2, one 3) refl) old.now.trees n m rows refl stands
-    ((reads_as find_text (Int (pos n) ∷ []) old new counter_schema has _ find_is.0 find_plain find_is.1 rows shown).answer Null)
+    found_by_number reply_columns 11 find_reply_query.project n [] (λ e. reply_columns e.1) (λ r e one. rw (one 2, one 3) refl) old.now.trees m rows refl stands
+        ((reads_as find_reply_text (Int (pos n) ∷ []) old new counter_schema has _ find_reply_is.0 find_reply_plain find_reply_is.1 rows shown).answer Null)

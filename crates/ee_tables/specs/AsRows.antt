@@ -1,6 +1,7 @@
 -- Rows as the code has them.
 use Rattle.std.specs.Prelude.{string_bytes, ℕ, ◌<◌, ◌^◌, None, IfSome}
 use Rattle.ee_tables.specs.declared.records.Desk.{Desk}
+use Rattle.ee_tables.specs.declared.records.Rate.{Rate}
 use Rattle.ee_tables.specs.declared.records.Serial.{Serial}
 use Rattle.ee_tables.specs.declared.records.Bond.{Bond}
 use Rattle.ee_tables.specs.declared.records.UnpaidBond.{UnpaidBond}
@@ -25,6 +26,12 @@ key_of_unpaid bond = (bond.letter, bond.number)
 abbrev pub row_of_unpaid : UnpaidBond → BondRow
 row_of_unpaid bond = record { denom = bond.denom; issued = bond.issued; owner = bond.owner; coowner = bond.coowner; ticket = None }
 
+abbrev pub entry_of_unpaid : UnpaidBond → (ℕ × ℕ) × BondRow
+entry_of_unpaid bond = (key_of_unpaid bond, row_of_unpaid bond)
+
+abbrev pub entry_of_rate : Rate → ℕ × ℕ
+entry_of_rate rate = (rate.period, rate.rate)
+
 abbrev pub row_of_ticket : Ticket → TicketRow
 row_of_ticket ticket = record { day = ticket.day; payee = ticket.payee; bonds = ticket.bonds; total = ticket.total }
 
@@ -47,6 +54,9 @@ FitsSerial serial = Fits serial.letter × Fits serial.number
 
 abbrev pub FitsUnpaid : UnpaidBond → Type 0
 FitsUnpaid bond = Fits bond.letter × Fits bond.number × Fits bond.denom × Fits bond.issued × Fits bond.owner × IfSome bond.coowner Fits
+
+abbrev pub FitsRate : Rate → Type 0
+FitsRate rate = Fits rate.period × Fits rate.rate
 
 abbrev pub FitsTicket : Ticket → Type 0
 FitsTicket ticket = Fits ticket.day × Fits ticket.payee × Fits ticket.bonds × Fits ticket.total

@@ -1,5 +1,6 @@
 -- What the store's tables hold, as maps.
 use Rattle.std.specs.Prelude.{◌≡◌, ℕ, ◌+◌, pos, List, [], ◌∷◌, Option, Some, None, IsTrue}
+use Rattle.std.specs.declared.cmp.Ordering.{Ordering}
 use Rattle.std.specs.Ordering.{nat_cmp}
 use Rattle.std.specs.FinMap.{FinMap, get, insert}
 use Rattle.sqlite.specs.declared.types.Value.{Value}
@@ -101,6 +102,38 @@ abbrev pub Has : State → Rows → Type 0
 Has s rows = IsTrue s.is_open → (s.committed.schema ≡ counter_schema) × Holds s.committed.trees rows
 
 -- ---- what is written
+
+-- an entry for a key that has none
+abbrev pub insert_new : {K X : Type 0} {R : K → K → Ordering} → FinMap R X → K → X → Option X → FinMap R X
+insert_new m k x None = insert m k x
+insert_new m k x (Some old) = m
+
+-- the open day and the day closed last, if the desk's row is there
+abbrev pub day_set : Rows → Option ℕ → Option ℕ → Option DeskRow → Rows
+day_set rows day last_day None = rows
+day_set rows day last_day (Some desk) = record rows { desk = insert rows.desk 1 (record desk { day = day; last_day = last_day }) }
+
+abbrev pub with_day : Rows → Option ℕ → Option ℕ → Rows
+with_day rows day last_day = day_set rows day last_day (get rows.desk 1)
+
+-- a rate for a period, unless it has one
+abbrev pub with_rate : Rows → ℕ × ℕ → Rows
+with_rate rows rate = record rows { rates = insert_new rows.rates rate.0 rate.1 (get rows.rates rate.0) }
+
+abbrev pub with_rates : Rows → List (ℕ × ℕ) → Rows
+with_rates rows [] = rows
+with_rates rows (rate ∷ rates) = with_rates (with_rate rows rate) rates
+
+-- a bond under its serial number, unless that has one
+abbrev pub with_bond : Rows → (ℕ × ℕ) × BondRow → Rows
+with_bond rows bond = record rows { bonds = insert_new rows.bonds bond.0 bond.1 (get rows.bonds bond.0) }
+
+abbrev pub with_bonds : Rows → List ((ℕ × ℕ) × BondRow) → Rows
+with_bonds rows [] = rows
+with_bonds rows (bond ∷ bonds) = with_bonds (with_bond rows bond) bonds
+
+abbrev pub with_batch : Rows → ℕ → BatchRow → Rows
+with_batch rows day batch = record rows { batches = insert rows.batches day batch }
 
 abbrev pub with_reply : Rows → ℕ → ReplyRow → Rows
 with_reply rows n reply = record rows { replies = insert rows.replies n reply }

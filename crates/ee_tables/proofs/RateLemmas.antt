@@ -1,0 +1,104 @@
+-- What an insertion into `rates` does.
+use Rattle.std.proofs.Common.{◌≡◌, ◌⊎◌, inl, inr, ℕ, ℤ, pos, List, [], ◌∷◌, Bool, true, false, Some, None, Option, Ok, refl, sym, ap, subst, ◌∙◌, nat_cmp}
+use Rattle.std.specs.Prelude.{option_map, ◌&&◌, ◌||◌}
+use Rattle.std.specs.Option.{option_to_list}
+use Rattle.std.specs.FinMap.{FinMap, get, insert}
+use Rattle.sqlite.specs.declared.types.Value.TheVariants.{Null, Int}
+use Rattle.sqlite.specs.Order.{Row}
+use Rattle.sqlite.specs.Term.{Term, lit, col}
+use Rattle.sqlite.specs.Source.TheVariants.{Values}
+use Rattle.sqlite.specs.Command.TheVariants.{Insert, InsertOr, Update}
+use Rattle.sqlite.specs.Edit.{Edit, edit_of, edited}
+use Rattle.sqlite_rules.specs.Edit.{put_all, is_taken, are_fresh, left_by, with_rowid, next_rowid}
+use Rattle.sqlite_rules.specs.Calls.{ids_of}
+use Rattle.sqlite_rules.specs.Cast.{cast_row}
+use Rattle.sqlite_rules.specs.Keys.{conflicts}
+use Rattle.sqlite.specs.Rowids.TheVariants.{Chosen, Given}
+use Rattle.sqlite_schema.specs.declared.schema.Keys.TheVariants.{Enforced}
+use Rattle.sqlite_schema.specs.declared.command.Conflict.TheVariants.{Abort}
+use Rattle.sqlite_schema.specs.Rules.{agree, passes, clashes}
+use Rattle.sqlite_value.specs.Keys.{plain}
+use Rattle.sqlite.specs.Does.{Tally, Does}
+use Rattle.sqlite.specs.Rows.{Task, Written, TriesEach, Tries, count_of, nothing}
+use Rattle.sqlite.specs.Tree.{Trees, put_row, without_rowid}
+use Rattle.sqlite.specs.Effect.{Database}
+use Rattle.sqlite.specs.Query.{IsAnswer}
+use Rattle.sqlite.specs.Program.{overlay}
+use Rattle.sqlite.specs.Listing.{understood}
+use Rattle.sqlite.specs.State.{State, mode_of, Executes, Shown}
+use Rattle.sqlite.proofs.Callers.{statement_of, runs_as, reads_as, one_step}
+use Rattle.ee_tables.specs.Tables.{counter_schema, rates}
+use Rattle.ee_tables.specs.Keyed.{pair_cmp, row_of, stored, ReadAlike, HoldsMap, HoldsPairs}
+use Rattle.ee_tables.specs.Rows.{Rows, Holds, rate_columns, with_rate, insert_new}
+use Rattle.ee_tables.proofs.Meaning.{add_rate_text, add_rate_is, add_rate_plain}
+use Rattle.ee_tables.proofs.ReadLemmas.{found_by_number}
+use Rattle.ee_tables.proofs.ConflictLemmas.{clauses, tried, number_there, MeetsOrPuts}
+use Rattle.ee_tables.proofs.KeyedLemmas.{no_key, adds_keyed}
+use Rattle.ee_tables.proofs.WriteLemmas.{cast_int, cast_null, went, same_value, fresh_one, Same, with_rates}
+
+abbrev pub given_rate : ℕ → ℕ → Row
+given_rate n x = Int (pos n) ∷ rate_columns x
+
+abbrev terms : List Term
+terms = col 0 0 ∷ lit Null ∷ col 0 1 ∷ []
+
+abbrev task_of : State → Row → Task
+task_of old params = record { limit = old.step_limit; keys = Enforced; schema = counter_schema; table = rates; params = params }
+
+or_nothing : (b : Bool) → (b || false) ≡ b
+or_nothing true = refl
+or_nothing false = refl
+
+module _ (old : State) (n x : ℕ) (one : Written) (rows : Rows) (stands : Holds old.now.trees rows) where
+  abbrev row : Row
+  row = row_of rate_columns (pos n, (n, x))
+
+  conflicts_is : (r : Row) → conflicts (Some (0 ∷ [])) counter_schema.indexes rates row r ≡ agree plain (0 ∷ []) r (0 ∷ []) row
+  conflicts_is r = or_nothing _
+
+  -- the rate goes in, or its period has one
+  pub rate_written : MeetsOrPuts (task_of old (given_rate n x)) (Some (0 ∷ [])) row old.now.trees one → Holds one.trees (with_rate rows (n, x))
+  rate_written (inl met) =
+      let there = met.2.sound met.0 (inl refl) in
+      let known = number_there rate_columns n (old.now.trees 1) rows.rates stands.rates (Null ∷ rate_columns x) refl there.0 there.1 (sym (conflicts_is there.0) ∙ there.2) in
+      subst (λ trees. Holds trees (with_rate rows (n, x))) (sym met.3) (subst (λ o. Holds old.now.trees (record rows { rates = insert_new rows.rates n x o })) (sym known.1) stands)
+  rate_written (inr puts) =
+      let db = old.now.trees in
+      let put = went puts in
+      let edit = edit_of db rates [] Given 0 (row ∷ []) in
+      let applied = one_step counter_schema _ db put.0 edit refl put.1 in
+      let news : edit.news ≡ row ∷ [] = rw (cast_null, cast_int n, cast_int x) refl in
+      let placed : put.0 1 ≡ put_row row (db 1) = applied.rows ∙ ap (put_all (db 1)) news in
+      let fresh : is_taken (db 1) row ≡ false = fresh_one _ (subst (λ all. are_fresh (db 1) all ≡ true) news applied.fresh) in
+      let trees : one.trees ≡ put.0 = ap (λ (w : Written). w.trees) (same_value put.2) in
+      let none = no_key rate_columns n (db 1) rows.rates stands.rates x fresh in
+      subst (λ trees. Holds trees (with_rate rows (n, x))) (sym trees) (subst (λ o. Holds put.0 (record rows { rates = insert_new rows.rates n x o })) (sym none)
+          (with_rates db put.0 rows stands (insert rows.rates n x) applied.tables (subst (λ rs. HoldsMap rate_columns rs (insert rows.rates n x)) (sym placed) (adds_keyed rate_columns n (db 1) rows.rates stands.rates x fresh))))
+
+pub adds_rate : (old new : State) (n x : ℕ) (count : ℕ) → old.now.schema ≡ counter_schema → Executes add_rate_text (given_rate n x) old new (Ok count)
+    → (new.now.schema ≡ counter_schema) × ((rows : Rows) → Holds old.now.trees rows → Holds new.now.trees (with_rate rows (n, x)))
+adds_rate old new n x count has h =
+    let params = given_rate n x in
+    let db = old.now.trees in
+    let task = task_of old params in
+    let row = row_of rate_columns (pos n, (n, x)) in
+    let rules = record { target = Some (0 ∷ []); update = None } ∷ [] in
+    let command = InsertOr 1 Abort (Values terms 3) rules in
+    let w = runs_as add_rate_text params old new counter_schema has command add_rate_is add_rate_plain count h in
+    let text = statement_of add_rate_text (understood counter_schema add_rate_text) in
+    let done = went (subst (λ s. Does old.step_limit (mode_of old) params (record old.now { schema = s }) text None command (Ok (w.tally, new.now))) has w.changed) in
+    let now = ap (λ (p : Tally × Database). p.1) (same_value (went (went done.2).2).2) in
+    let given_rows = went done.1 in
+    let counter = went given_rows.2 in
+    let all = went counter.2 in
+    let counted = went all.2 in
+    let trees : done.0.trees ≡ all.0.0.trees = ap (λ (it : Written). it.trees) (same_value counted.2) ∙ same_value counted.1 in
+    let each = went (subst (λ sources. TriesEach task Abort rules sources (count_of counter.0) (nothing db) (Ok all.0)) given_rows.1.1 all.1) in
+    let ended : all.0.0.trees ≡ each.0.trees = ap (λ (p : Written × ℤ). p.0.trees) (same_value each.2) in
+    let new_is : with_rowid Chosen (db 1) (cast_row rates (Int (pos n) ∷ Null ∷ Int (pos x) ∷ [])) ≡ row = rw (cast_null, cast_int n, cast_int x) refl in
+    let one = subst (λ r. Tries task Abort rules r db (Ok each.0)) new_is each.1 in
+    let after : new.now.trees ≡ each.0.trees = ap (λ (d : Database). d.trees) now ∙ trees ∙ ended in
+    (
+      ap (λ (d : Database). d.schema) now,
+      λ rows stands. subst (λ trees. Holds trees (with_rate rows (n, x))) (sym after) (rate_written old n x each.0 rows stands (tried task (Some (0 ∷ [])) row db each.0 one)),
+    )
