@@ -6,6 +6,7 @@ use Rattle.sqlite_sql.specs.declared.ops.BinaryOp.TheVariants.{Compare, Is}
 use Rattle.sqlite_sql.specs.declared.ops.CompareOp.TheVariants.{Eq}
 use Rattle.sqlite.specs.Collation.TheVariants.{Binary}
 use Rattle.sqlite.specs.Query.{Query, inner, end}
+use Rattle.sqlite_value.specs.declared.keys.Key.{Key}
 use Rattle.sqlite.specs.Source.TheVariants.{Values}
 use Rattle.sqlite.specs.Command.TheVariants.{Insert, Select, Update, InsertOr}
 use Rattle.sqlite_schema.specs.declared.command.Returning.{Returning}
@@ -48,6 +49,26 @@ by_pair tree project = record {
   limit = lit (Int (negsuc 0));
   offset = lit (Int (pos 0));
 }
+
+-- a query of one table that shows its rows in order
+abbrev pub ordered_query : ℕ → List Term → List Term → List (Term × Key) → Term → Query
+ordered_query tree terms project order limit = record {
+  from = inner tree end;
+  filter = terms;
+  group = None;
+  project = project;
+  distinct = false;
+  collations = [];
+  order = order;
+  limit = limit;
+  offset = lit (Int (pos 0));
+}
+
+abbrev pub no_limit : Term
+no_limit = lit (Int (negsuc 0))
+
+abbrev pub by_column : ℕ → Term × Key
+by_column at = (col 1 at, record { descending = false; collation = Binary })
 
 abbrev pub find_bond_text : List ℕ
 find_bond_text = codes "SELECT denom, issued, owner, coowner, ticket FROM bonds WHERE letter = ?1 AND number = ?2"
@@ -232,17 +253,7 @@ abbrev pub last_ticket_text : List ℕ
 last_ticket_text = codes "SELECT ticket FROM tickets ORDER BY ticket DESC LIMIT 1"
 
 abbrev pub last_ticket_query : Query
-last_ticket_query = record {
-  from = inner 5 end;
-  filter = [];
-  group = None;
-  project = col 1 0 ∷ [];
-  distinct = false;
-  collations = [];
-  order = (col 1 0, record { descending = true; collation = Binary }) ∷ [];
-  limit = lit (Int (pos 1));
-  offset = lit (Int (pos 0));
-}
+last_ticket_query = ordered_query 5 [] (col 1 0 ∷ []) ((col 1 0, record { descending = true; collation = Binary }) ∷ []) (lit (Int (pos 1)))
 
 pub last_ticket_is : (command_of (understood counter_schema last_ticket_text) ≡ Select (record { lets = []; body = last_ticket_query }) (codes "ticket" ∷ [])) × (reads_listing counter_schema last_ticket_text ≡ false)
 unfolding understood everything
@@ -256,17 +267,7 @@ abbrev pub day_tickets_text : List ℕ
 day_tickets_text = codes "SELECT ticket, bonds, total FROM tickets WHERE day = ?1 ORDER BY ticket"
 
 abbrev pub day_tickets_query : Query
-day_tickets_query = record {
-  from = inner 5 end;
-  filter = op2 (Compare Eq Binary) (col 1 2) (col 0 0) ∷ [];
-  group = None;
-  project = col 1 0 ∷ col 1 4 ∷ col 1 5 ∷ [];
-  distinct = false;
-  collations = [];
-  order = (col 1 0, record { descending = false; collation = Binary }) ∷ [];
-  limit = lit (Int (negsuc 0));
-  offset = lit (Int (pos 0));
-}
+day_tickets_query = ordered_query 5 (op2 (Compare Eq Binary) (col 1 2) (col 0 0) ∷ []) (col 1 0 ∷ col 1 4 ∷ col 1 5 ∷ []) (by_column 0 ∷ []) no_limit
 
 pub day_tickets_is : (command_of (understood counter_schema day_tickets_text) ≡ Select (record { lets = []; body = day_tickets_query }) (codes "ticket" ∷ codes "bonds" ∷ codes "total" ∷ [])) × (reads_listing counter_schema day_tickets_text ≡ false)
 unfolding understood everything
@@ -280,17 +281,7 @@ abbrev pub ticket_lines_text : List ℕ
 ticket_lines_text = codes "SELECT place, letter, number, cents FROM paid WHERE ticket = ?1 ORDER BY place"
 
 abbrev pub ticket_lines_query : Query
-ticket_lines_query = record {
-  from = inner 7 end;
-  filter = op2 (Compare Eq Binary) (col 1 1) (col 0 0) ∷ [];
-  group = None;
-  project = col 1 2 ∷ col 1 3 ∷ col 1 4 ∷ col 1 5 ∷ [];
-  distinct = false;
-  collations = [];
-  order = (col 1 2, record { descending = false; collation = Binary }) ∷ [];
-  limit = lit (Int (negsuc 0));
-  offset = lit (Int (pos 0));
-}
+ticket_lines_query = ordered_query 7 (op2 (Compare Eq Binary) (col 1 1) (col 0 0) ∷ []) (col 1 2 ∷ col 1 3 ∷ col 1 4 ∷ col 1 5 ∷ []) (by_column 2 ∷ []) no_limit
 
 pub ticket_lines_is : (command_of (understood counter_schema ticket_lines_text) ≡ Select (record { lets = []; body = ticket_lines_query }) (codes "place" ∷ codes "letter" ∷ codes "number" ∷ codes "cents" ∷ [])) × (reads_listing counter_schema ticket_lines_text ≡ false)
 unfolding understood everything
@@ -304,17 +295,8 @@ abbrev pub bonds_of_owner_text : List ℕ
 bonds_of_owner_text = codes "SELECT letter, number, denom, issued, owner, coowner FROM bonds WHERE owner = ?1 AND ticket IS NULL ORDER BY letter, number"
 
 abbrev pub bonds_of_owner_query : Query
-bonds_of_owner_query = record {
-  from = inner 2 end;
-  filter = op2 (Compare Eq Binary) (col 1 5) (col 0 0) ∷ op2 (Is Binary) (col 1 7) (lit Null) ∷ [];
-  group = None;
-  project = col 1 1 ∷ col 1 2 ∷ col 1 3 ∷ col 1 4 ∷ col 1 5 ∷ col 1 6 ∷ [];
-  distinct = false;
-  collations = [];
-  order = (col 1 1, record { descending = false; collation = Binary }) ∷ (col 1 2, record { descending = false; collation = Binary }) ∷ [];
-  limit = lit (Int (negsuc 0));
-  offset = lit (Int (pos 0));
-}
+bonds_of_owner_query = ordered_query 2 (op2 (Compare Eq Binary) (col 1 5) (col 0 0) ∷ op2 (Is Binary) (col 1 7) (lit Null) ∷ []) (col 1 1 ∷ col 1 2 ∷ col 1 3 ∷ col 1 4 ∷ col 1 5 ∷ col 1 6 ∷ [])
+    (by_column 1 ∷ by_column 2 ∷ []) no_limit
 
 pub bonds_of_owner_is : (command_of (understood counter_schema bonds_of_owner_text) ≡ Select (record { lets = []; body = bonds_of_owner_query }) (codes "letter" ∷ codes "number" ∷ codes "denom" ∷ codes "issued" ∷ codes "owner" ∷ codes "coowner" ∷ [])) × (reads_listing counter_schema bonds_of_owner_text ≡ false)
 unfolding understood everything

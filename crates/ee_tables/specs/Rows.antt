@@ -1,8 +1,8 @@
 -- What the store's tables hold, as maps.
-use Rattle.std.specs.Prelude.{◌≡◌, ℕ, ◌+◌, pos, List, [], ◌∷◌, Option, Some, None, IsTrue}
+use Rattle.std.specs.Prelude.{◌≡◌, ℕ, ◌+◌, pos, List, [], ◌∷◌, Option, Some, None, IsTrue, filter, ◌==◌, ◌&&◌, is_none}
 use Rattle.std.specs.declared.cmp.Ordering.{Ordering}
 use Rattle.std.specs.Ordering.{nat_cmp}
-use Rattle.std.specs.FinMap.{FinMap, get, insert}
+use Rattle.std.specs.FinMap.{FinMap, get, insert, entries}
 use Rattle.sqlite.specs.declared.types.Value.{Value}
 use Rattle.sqlite.specs.declared.types.Value.TheVariants.{Null, Int, Text as Words}
 use Rattle.sqlite.specs.Order.{Row}
@@ -159,3 +159,23 @@ with_line rows t place line = marked (with_paid rows (t, place) line) (line.lett
 abbrev pub with_lines : Rows → ℕ → ℕ → List PaidRow → Rows
 with_lines rows t place [] = rows
 with_lines rows t place (line ∷ lines) = with_lines (with_line rows t place line) t (place + 1) lines
+
+-- ---- what is looked up
+
+-- the tickets of a day, in order of their numbers
+abbrev pub tickets_on : Rows → ℕ → List (ℕ × TicketRow)
+tickets_on rows day = filter (λ e. e.1.day == day) (entries rows.tickets)
+
+-- the number of the last entry, if there is one
+abbrev pub last_number : {X : Type 0} → List (ℕ × X) → Option ℕ
+last_number [] = None
+last_number (e ∷ []) = Some e.0
+last_number (e ∷ f ∷ more) = last_number (f ∷ more)
+
+-- the lines of a ticket, in order of their places
+abbrev pub lines_on : Rows → ℕ → List ((ℕ × ℕ) × PaidRow)
+lines_on rows ticket = filter (λ e. e.0.0 == ticket) (entries rows.paid)
+
+-- the bonds of an owner that no ticket paid, in order of their serial numbers
+abbrev pub unpaid_of : Rows → ℕ → List ((ℕ × ℕ) × BondRow)
+unpaid_of rows owner = filter (λ e. (e.1.owner == owner) && is_none e.1.ticket) (entries rows.bonds)
