@@ -1,0 +1,6 @@
+//! Opening a store: making the tables of version 1 in an empty store.
+#![tactic(auto)]
+
+mod making;
+
+pub use making::OpenFault;
