@@ -56,7 +56,7 @@ adds_table old new text count before after adds has h =
     let now : new.now ≡ first.0 = ap (λ (p : Tally × Database). p.1) (same_value all.2) ∙ same_value (rw plain at first.2) in
     let kept = subst (λ (s : Schema). KeepsRows s.tables old.now.trees first.0.trees) has.0 made.others in
     let none = one_more_empty before.tables (record adds.table { tree = next_tree before }) first.0.trees (still_empty before.tables old.now.trees first.0.trees kept has.1)
-        (subst (λ s. first.0.trees (next_tree s) ≡ []) has.0 made.empty) in
+    (subst (λ s. first.0.trees (next_tree s) ≡ []) has.0 made.empty) in
     subst (λ (d : Database). (d.schema ≡ after) × AreEmpty after.tables d.trees) (sym now) (schema, subst (λ (s : Schema). AreEmpty s.tables first.0.trees) adds.is none)
 
 pub adds_index : (old new : State) (text : List ℕ) (count : ℕ) (before after : Schema) → AddsIndex before text after → Left old before → Executes text [] old new (Ok count) → Left new after

@@ -1,1 +1,3 @@
 pub mod DefineLemmas
+pub mod TextLemmas
+pub mod FirstLemmas

@@ -14,10 +14,30 @@ use Rattle.sqlite.specs.Change.{created, indexed}
 use Rattle.sqlite.specs.Does.{lacks_sequence}
 use Rattle.sqlite.specs.Listing.{understood}
 use Rattle.sqlite.specs.State.{State, text_of}
+use Rattle.sqlite_catalog.specs.Listing.{automatic}
+use Rattle.std.specs.Prelude.{codes}
+use Rattle.ee_tables.specs.Tables.{desk, rates, bonds, tickets, paid, index_on}
 use Rattle.ee_tables.specs.Rows.{Rows, DeskRow}
 
 abbrev pub no_tables : Schema
 no_tables = record { tables = []; indexes = []; views = [] }
+
+-- the desk, the rates and the bonds are there
+abbrev pub register_tables : Schema
+register_tables = record {
+  tables = desk ∷ rates ∷ bonds ∷ [];
+  indexes = automatic bonds 0 (1 ∷ 2 ∷ []) 3 ∷ index_on (codes "bonds_owner") 4 2 (5 ∷ 1 ∷ 2 ∷ []) ∷ [];
+  views = [];
+}
+
+-- and so are the tickets and their lines
+abbrev pub payment_tables : Schema
+payment_tables = record {
+  tables = desk ∷ rates ∷ bonds ∷ tickets ∷ paid ∷ [];
+  indexes = automatic bonds 0 (1 ∷ 2 ∷ []) 3 ∷ index_on (codes "bonds_owner") 4 2 (5 ∷ 1 ∷ 2 ∷ []) ∷ index_on (codes "tickets_day") 6 5 (2 ∷ 0 ∷ [])
+      ∷ automatic paid 0 (1 ∷ 2 ∷ []) 8 ∷ automatic paid 1 (3 ∷ 4 ∷ []) 9 ∷ [];
+  views = [];
+}
 
 -- the last commit left a store with no tables
 abbrev pub IsBlank : State → Type 0

@@ -3,4 +3,4 @@
 
 mod making;
 
-pub use making::OpenFault;
+pub use making::{OpenFault, make_tables};
