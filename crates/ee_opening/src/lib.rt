@@ -2,5 +2,7 @@
 #![tactic(auto)]
 
 mod making;
+mod reading;
 
 pub use making::{OpenFault, make_tables};
+pub use reading::Record;
