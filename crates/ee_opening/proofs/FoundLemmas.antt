@@ -15,7 +15,7 @@ use Rattle.sqlite_trees.specs.Tree.{IsAscending}
 use Rattle.sqlite_keyed.proofs.ListLemmas.{along_permutation, all_unmap, all_map, map_back, map-map}
 use Rattle.ee_tables.proofs.PairLemmas.{exchanged}
 use Rattle.ee_opening.specs.Reading.{rises}
-use Rattle.ee_opening.proofs.Temp.{ReadAlike, AreRows, AreApart, HoldsTable}
+use Rattle.ee_tables.specs.Keyed.{ReadAlike, AreRows, AreApart, HoldsTable}
 
 -- ---- lists in order
 
@@ -57,7 +57,7 @@ module _ {A K X : Type 0} (R : K → K → Ordering) (total : IsTotalOrder R) (e
 abbrev pub AllApart : {X : Type 0} → List X → Type 0
 AllApart = IsAscending (λ x y. x ≢ y)
 
-alls : {X : Type 0} (P : X → Type 0) (xs ys : List X) → IsPermutation xs ys → AllByRecursion P xs → AllByRecursion P ys
+pub alls : {X : Type 0} (P : X → Type 0) (xs ys : List X) → IsPermutation xs ys → AllByRecursion P xs → AllByRecursion P ys
 alls P xs ys same all = recursion_from_All P ys (All-permutation P xs ys same (All-from_recursion P xs all))
 
 module _ {X : Type 0} where
@@ -114,21 +114,21 @@ module _ {K X : Type 0} (row : ℤ × (K × X) → Row) (shown : K × X → Row)
   abbrev pub StandsAs : Row → Type 0
   StandsAs r = (e : K × X) → project r ≡ shown e → ReadAlike r (row (id r, e))
 
-  are_rows : (rs : List Row) → AllByRecursion IsShown rs → AllByRecursion StandsAs rs → AreRows row rs (map (λ r. (id r, unshown (project r))) rs)
+  pub are_rows : (rs : List Row) → AllByRecursion IsShown rs → AllByRecursion StandsAs rs → AreRows row rs (map (λ r. (id r, unshown (project r))) rs)
   are_rows [] shows stands = tt
   are_rows (r ∷ rs) shows stands =
       let e = shows.0.0 in
       let value : unshown (project r) ≡ e = ap unshown shows.0.1 ∙ back e in
       (subst (λ x. ReadAlike r (row (id r, x))) (sym value) (stands.0 e shows.0.1), are_rows rs shows.1 stands.1)
 
-  apart_by : (rs : List Row) → AllApart (map id rs) → AreApart (map (λ r. (id r, unshown (project r))) rs)
+  pub apart_by : (rs : List Row) → AllApart (map id rs) → AreApart (map (λ r. (id r, unshown (project r))) rs)
   apart_by [] h = tt
   apart_by (r ∷ rs) h = (all_map (λ p. id r ≢ p.0) (λ s. (id s, unshown (project s))) rs (all_unmap (λ j. id r ≢ j) id rs h.0), apart_by rs h.1)
 
   pub are_entries : IsPermutation (map (λ (p : ℤ × (K × X)). p.1) numbered) es
   are_entries = subst₂ IsPermutation (map-map unshown project tree ∙ sym (map-map (λ (p : ℤ × (K × X)). p.1) (λ r. (id r, unshown (project r))) tree)) (map_back shown unshown back es) (IsPermutation-map unshown _ _ same)
 
-  pub holds_table : (R : K → K → Ordering) → AllByRecursion StandsAs tree → AllApart (map id tree) → T (is_sorted R es) → HoldsTable {R = R} row tree (from_sorted es)
+  abbrev pub holds_table : (R : K → K → Ordering) → AllByRecursion StandsAs tree → AllApart (map id tree) → T (is_sorted R es) → HoldsTable {R = R} row tree (from_sorted es)
   holds_table R stands apart sorted = record {
     numbered = numbered;
     are = are_rows tree each_shown stands;

@@ -1,6 +1,11 @@
 pub mod DefineLemmas
 pub mod TextLemmas
 pub mod FirstLemmas
-pub mod Temp
+pub mod BeginLemmas
 pub mod ScanLemmas
 pub mod FoundLemmas
+pub mod RowLemmas
+pub mod TableLemmas
+pub mod QuestionLemmas
+pub mod EachTable
+pub mod ReadLemmas

@@ -1,6 +1,6 @@
 -- What a query of a whole table shows.
-use Rattle.std.proofs.Common.{◌≡◌, ℕ, List, [], ◌∷◌, map, refl, sym, ap, subst, ◌∙◌, true, false, Ok, Err, Result}
-use Rattle.std.specs.Prelude.{Bool, None, Option, unwrap_or, slice_get, nat_le, ◌^◌, ◌-◌, if◌then◌else◌, flat_map, IsPermutation}
+use Rattle.std.proofs.Common.{◌≡◌, ℕ, List, [], ◌∷◌, map, refl, sym, ap, subst, ◌∙◌, true, false, Ok, Err, Result, inl, inr}
+use Rattle.std.specs.Prelude.{Bool, IsTrue, Some, None, Option, unwrap_or, slice_get, nat_le, ◌^◌, ◌-◌, if◌then◌else◌, flat_map, IsPermutation}
 use Rattle.sqlite.specs.Tree.{Trees}
 use Rattle.std.proofs.lemmas.List.Sorted.{IsPermutation-map}
 use Rattle.sqlite.specs.declared.types.Value.TheVariants.{Null}
@@ -14,7 +14,10 @@ use Rattle.sqlite.specs.Command.TheVariants.{Select}
 use Rattle.sqlite_resolve.specs.declared.compiled.Compiled.{Compiled}
 use Rattle.sqlite_resolve.specs.declared.error.CompileError.{CompileError}
 use Rattle.sqlite.specs.Listing.{understood}
-use Rattle.sqlite.specs.State.{State, Shown}
+use Rattle.sqlite_schema.specs.declared.command.Returning.{Returning}
+use Rattle.sqlite.specs.State.{State, Shown, ShowsRows, KeepsCommit}
+use Rattle.sqlite.proofs.InsideLemmas.{unchanged_keeps}
+use Rattle.ee_tables.proofs.KeepLemmas.{write_keeps}
 use Rattle.sqlite.proofs.Callers.{IsPlain, command_of, reads_as}
 use Rattle.ee_opening.specs.Reading.{whole_table, IsQuery, AsksForAll, ShowsAll, shown_by}
 
@@ -54,3 +57,13 @@ shows_all old new schema text tree terms rows asks has shown =
     let kept : a.kept ≡ map (output query) (flat_map (λ r. ([] ∷ r ∷ []) ∷ []) (old.now.trees tree)) = a.distinct ∙ ap (map (output query)) (a.grouped ∙ ap (flat_map (λ r. ([] ∷ r ∷ []) ∷ [])) (stored_tree old.now.trees tree)) in
     let same = IsPermutation-map (λ (o : Output). o.1) a.kept a.ordered a.same in
     subst (λ rs. IsPermutation rs rows) (ap (map (λ (o : Output). o.1)) kept ∙ each tree terms asks.order (old.now.trees tree)) (subst (IsPermutation (map (λ (o : Output). o.1) a.kept)) (sym a.shown) same)
+
+-- ---- what is shown in a transaction commits nothing
+
+keeps_by : (old new : State) (sql : List ℕ) (c : Compiled) (params : Row) (rows : List Row) (what : Option Returning) → ShowsRows old new sql c params rows what → IsTrue old.in_transaction → KeepsCommit old new
+keeps_by old new sql c params rows None h inside = unchanged_keeps old new (inl h.3)
+keeps_by old new sql c params rows (Some what) h inside = write_keeps old new h.1.shown inside
+
+pub shown_keeps : (old new : State) (sql : List ℕ) (params : Row) (rows : List Row) → Shown sql params old new rows → IsTrue old.in_transaction → KeepsCommit old new
+unfolding Shown
+shown_keeps old new sql params rows h inside = keeps_by old new sql h.0 _ rows h.0.returning h.2 inside

@@ -4,7 +4,7 @@ use Rattle.sqlite.specs.Schema.{Schema}
 use Rattle.sqlite_catalog.specs.Listing.{automatic}
 use Rattle.sqlite_tied.specs.Compute.{everything}
 use Rattle.sqlite.specs.Listing.{understood}
-use Rattle.ee_tables.specs.Tables.{bank_schema, desk, rates, bonds, tickets, paid, batches, replies, index_on}
+use Rattle.ee_tables.specs.Tables.{counter_schema, desk, rates, bonds, tickets, paid, batches, replies, index_on}
 use Rattle.ee_opening.specs.Making.{no_tables, register_tables, payment_tables, AddsTable, AddsIndex}
 
 abbrev pub desk_text : List ℕ
@@ -88,6 +88,6 @@ pub adds_batches : AddsTable payment_tables batches_text with_batches
 unfolding understood everything
 adds_batches = record { command = (refl, refl, refl, refl); table = record batches { tree = 0 }; defined = refl; is = refl; uncounted = refl }
 
-pub adds_replies : AddsTable with_batches replies_text bank_schema
+pub adds_replies : AddsTable with_batches replies_text counter_schema
 unfolding understood everything
 adds_replies = record { command = (refl, refl, refl, refl); table = record replies { tree = 0 }; defined = refl; is = refl; uncounted = refl }

@@ -1,6 +1,8 @@
 -- The rows of each table as a query of all their columns shows them, and as entries of maps.
 use Rattle.std.specs.Prelude.{ℕ, Bool, ◌&&◌, ◌||◌, ◌==◌, nat_lt, pos, List, [], ◌∷◌, map, string_bytes}
+use Rattle.std.specs.Ordering.{nat_cmp}
 use Rattle.std.specs.FinMap.{FinMap, from_sorted}
+use Rattle.ee_tables.specs.Keyed.{pair_cmp}
 use Rattle.sqlite.specs.declared.types.Value.TheVariants.{Text}
 use Rattle.sqlite.specs.Order.{Row}
 use Rattle.ee_tables.specs.Rows.{Rows, DeskRow, BondRow, TicketRow, PaidRow, BatchRow, ReplyRow, number, optional}
@@ -61,3 +63,26 @@ batch_entry b = (b.day, record { tickets = b.tickets; bonds = b.bonds; total = b
 
 abbrev pub reply_entry : StoredReply → ℕ × ReplyRow
 reply_entry r = (r.number, record { act = string_bytes r.act; reply = string_bytes r.reply })
+
+-- ---- the maps of what was read, in order of their keys
+
+abbrev pub desk_map : List StoredDesk → FinMap nat_cmp DeskRow
+desk_map all = from_sorted (map desk_entry all)
+
+abbrev pub rate_map : List StoredRate → FinMap nat_cmp ℕ
+rate_map all = from_sorted (map rate_entry all)
+
+abbrev pub bond_map : List StoredBond → FinMap pair_cmp BondRow
+bond_map all = from_sorted (map bond_entry all)
+
+abbrev pub ticket_map : List StoredTicket → FinMap nat_cmp TicketRow
+ticket_map all = from_sorted (map ticket_entry all)
+
+abbrev pub line_map : List StoredLine → FinMap pair_cmp PaidRow
+line_map all = from_sorted (map line_entry all)
+
+abbrev pub batch_map : List StoredBatch → FinMap nat_cmp BatchRow
+batch_map all = from_sorted (map batch_entry all)
+
+abbrev pub reply_map : List StoredReply → FinMap nat_cmp ReplyRow
+reply_map all = from_sorted (map reply_entry all)

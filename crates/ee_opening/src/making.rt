@@ -4,7 +4,7 @@ ghost use Rattle.sqlite.specs.Held.{state};
 ghost use Rattle.sqlite.specs.Schema.{Schema};
 ghost use Rattle.sqlite.specs.Tree.{Trees};
 ghost use Rattle.ee_tables.specs.Rows.{Holds, Sees, Has};
-ghost use Rattle.ee_tables.specs.Tables.{bank_schema};
+ghost use Rattle.ee_tables.specs.Tables.{counter_schema};
 ghost use Rattle.ee_opening.specs.Making.{IsBlank, first_rows, SeesTables, AddsTable, AddsIndex, no_tables, register_tables, payment_tables};
 
 use sqlite::{Alter, Connection, Error, ErrorCode, Transaction};
@@ -26,6 +26,15 @@ impl From<Error> for OpenFault {
     fn from(error: Error) -> OpenFault {
         match error {
             Error::SqliteFailure(ErrorCode::OutOfMemory) => OpenFault::NoMemory,
+            // The tables are others than a statement takes them to be.
+            Error::SqlInputError(_) | Error::SqliteFailure(ErrorCode::NameTaken) => {
+                OpenFault::Unusable
+            }
+            // A row has a value that no row of this program has.
+            Error::InvalidColumnIndex(_)
+            | Error::InvalidColumnType(_, _)
+            | Error::IntegralValueOutOfRange(_)
+            | Error::Utf8Error(_) => OpenFault::Unusable,
             _ => OpenFault::StoreFailed,
         }
     }
@@ -106,7 +115,7 @@ fn make_payments<S: Alter>(tx: &mut Transaction<'_, S>) -> Result<(), OpenFault>
 fn add_desk<S: Alter>(tx: &mut Transaction<'_, S>) -> Result<(), OpenFault>
     ensures same_reference { tx.new.conn.ghost_name ≡ tx.old.conn.ghost_name }
     ensures open { HasCleanDisk (state S.Store tx.new.conn.now) → OnOk result (IsTrue (state S.Store tx.new.conn.now).is_open) }
-    ensures added { HasCleanDisk (state S.Store tx.new.conn.now) → OnOk result (SeesTables (state S.Store tx.old.conn.now) bank_schema → Sees (state S.Store tx.new.conn.now) first_rows) }
+    ensures added { HasCleanDisk (state S.Store tx.new.conn.now) → OnOk result (SeesTables (state S.Store tx.old.conn.now) counter_schema → Sees (state S.Store tx.new.conn.now) first_rows) }
     ensures commit { HasCleanDisk (state S.Store tx.new.conn.now) → KeepsCommit (state S.Store tx.old.conn.now) (state S.Store tx.new.conn.now) }
     ensures crash { Survives (state S.Store tx.old.conn.now) (state S.Store tx.new.conn.now) (λ _. ⊥) }
 {
@@ -157,8 +166,8 @@ fn make_in<S: Alter>(tx: &mut Transaction<'_, S>) -> Result<(), OpenFault>
 ///
 /// # Errors
 ///
-/// `NoMemory` where there is not enough memory, and else `StoreFailed`, as where the connection is
-/// in a transaction or a table of one of these names is there.
+/// `NoMemory` where there is not enough memory, `Unusable` where a table of one of these names is
+/// there, and else `StoreFailed`, as where the connection is in a transaction.
 pub fn make_tables<S: Alter>(conn: &mut Connection<S>) -> Result<(), OpenFault>
     ensures made { HasCleanDisk (state S.Store conn.new) → OnOk result (IsBlank (state S.Store conn.old) → Has (state S.Store conn.new) first_rows) }
     ensures failed { HasCleanDisk (state S.Store conn.new) → OnErr result (KeepsCommit (state S.Store conn.old) (state S.Store conn.new)) }

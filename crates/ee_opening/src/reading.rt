@@ -4,7 +4,7 @@ ghost use Rattle.sqlite.specs.Held.{state};
 ghost use Rattle.sqlite.specs.Term.{Term};
 ghost use Rattle.sqlite.specs.Order.{Row as Columns};
 ghost use Rattle.ee_tables.specs.Rows.{IsInside};
-ghost use Rattle.ee_tables.specs.Tables.{bank_schema};
+ghost use Rattle.ee_tables.specs.Tables.{counter_schema};
 ghost use Rattle.ee_opening.specs.Reading.{rises, AsksForAll, ShowsAll};
 
 use crate::making::OpenFault;
@@ -62,13 +62,37 @@ fn keys_rise<T: Record>(found: &[T]) -> bool
 fn all_rows<S: Alter>(tx: &mut Transaction<'_, S>, sql: &str) -> Result<Vec<Row>, OpenFault>
     ensures same_reference { tx.new.conn.ghost_name ≡ tx.old.conn.ghost_name }
     ensures open { HasCleanDisk (state S.Store tx.new.conn.now) → OnOk result (IsTrue (state S.Store tx.new.conn.now).is_open) }
-    ensures found { HasCleanDisk (state S.Store tx.new.conn.now) → IfOk result (λ found. (tree : ℕ) (terms : List Term) → AsksForAll bank_schema sql.now tree terms
-        → IsInside (state S.Store tx.old.conn.now) → ShowsAll (state S.Store tx.old.conn.now).now.trees tree terms found.items) }
-    ensures same { HasCleanDisk (state S.Store tx.new.conn.now) → OnOk result ((tree : ℕ) (terms : List Term) → AsksForAll bank_schema sql.now tree terms
+    ensures found { HasCleanDisk (state S.Store tx.new.conn.now) → IfOk result (λ found. (tree : ℕ) (terms : List Term) → AsksForAll counter_schema sql.now tree terms
+        → IsInside (state S.Store tx.old.conn.now) → IsTrue (state S.Store tx.old.conn.now).is_open × ShowsAll (state S.Store tx.old.conn.now).now.trees tree terms found.items) }
+    ensures same { HasCleanDisk (state S.Store tx.new.conn.now) → OnOk result ((tree : ℕ) (terms : List Term) → AsksForAll counter_schema sql.now tree terms
         → IsInside (state S.Store tx.old.conn.now) → IsUnchanged (state S.Store tx.old.conn.now) (state S.Store tx.new.conn.now)) }
-    ensures err { HasCleanDisk (state S.Store tx.new.conn.now) → OnErr result (KeepsCommit (state S.Store tx.old.conn.now) (state S.Store tx.new.conn.now)) }
+    ensures commit { HasCleanDisk (state S.Store tx.new.conn.now) → IsInside (state S.Store tx.old.conn.now) → KeepsCommit (state S.Store tx.old.conn.now) (state S.Store tx.new.conn.now) }
     ensures crash { Survives (state S.Store tx.old.conn.now) (state S.Store tx.new.conn.now) (λ _. ⊥) }
 {
     let rows = tx.query_all(sql, &[])?;
     Ok(rows)
+}
+
+/// The rows of a table, in order of their keys.
+pub(crate) fn read_table<S: Alter, T: Record + Drop>(
+    tx: &mut Transaction<'_, S>,
+    alloc: Global,
+    sql: &str,
+) -> Result<Vec<T>, OpenFault>
+    ensures same_reference { tx.new.conn.ghost_name ≡ tx.old.conn.ghost_name }
+    ensures open { HasCleanDisk (state S.Store tx.new.conn.now) → OnOk result (IsTrue (state S.Store tx.new.conn.now).is_open) }
+    ensures found { HasCleanDisk (state S.Store tx.new.conn.now) → IfOk result (λ found. (tree : ℕ) (terms : List Term) → AsksForAll counter_schema sql.now tree terms
+        → IsInside (state S.Store tx.old.conn.now) → IsTrue (state S.Store tx.old.conn.now).is_open × ShowsAll (state S.Store tx.old.conn.now).now.trees tree terms (map T.shown found.items)) }
+    ensures rises { IfOk result (λ found. rises T.stands_before found.items ≡ true) }
+    ensures same { HasCleanDisk (state S.Store tx.new.conn.now) → OnOk result ((tree : ℕ) (terms : List Term) → AsksForAll counter_schema sql.now tree terms
+        → IsInside (state S.Store tx.old.conn.now) → IsUnchanged (state S.Store tx.old.conn.now) (state S.Store tx.new.conn.now)) }
+    ensures commit { HasCleanDisk (state S.Store tx.new.conn.now) → IsInside (state S.Store tx.old.conn.now) → KeepsCommit (state S.Store tx.old.conn.now) (state S.Store tx.new.conn.now) }
+    ensures crash { Survives (state S.Store tx.old.conn.now) (state S.Store tx.new.conn.now) (λ _. ⊥) }
+{
+    let rows = all_rows(tx, sql)?;
+    let found: Vec<T> = read_each(alloc, &rows)?;
+    if !keys_rise(&found) {
+        return Err(OpenFault::Unusable);
+    }
+    Ok(found)
 }
