@@ -52,10 +52,10 @@ module _ (db : Database) (sound : IsDatabase db) (has : db.schema ≡ counter_sc
 
 -- ---- desk
 
-un_desk : Row → DeskRow
+pub un_desk : Row → DeskRow
 un_desk r = record { version = number_in (column r 0); day = optional_in (column r 1); last_day = optional_in (column r 2) }
 
-back_desk : (x : DeskRow) → un_desk (desk_columns x) ≡ x
+pub back_desk : (x : DeskRow) → un_desk (desk_columns x) ≡ x
 unfolding un_desk
 back_desk x = ap (λ d. record { version = x.version; day = d; last_day = optional_in (optional x.last_day) }) (same_optional x.day) ∙ ap (λ l. record { version = x.version; day = x.day; last_day = l }) (same_optional x.last_day)
 
@@ -68,14 +68,14 @@ holds_desk db sound has all shows up =
     let same = subst (IsPermutation (map (shown_by desk_terms) (db.trees 0))) (sym (map-map (λ (e : ℕ × DeskRow). Int (pos e.0) ∷ desk_columns e.1) spec.desk_entry all)) shows in
     let sorted = sorted_if_rises nat_cmp nat_cmp_total spec.desk_entry all (sym (rises_same _ _ (λ (a b : StoredDesk). number_below a.id b.id) all) ∙ up) in
     holds_keyed desk_columns un_desk back_desk desk_terms (λ _. refl) (db.trees 0) (map spec.desk_entry all) same
-        (all_weaker _ _ alike_desk (db.trees 0) (typed_rows db sound has desk (typed db sound has).0)) sorted
+    (all_weaker _ _ alike_desk (db.trees 0) (typed_rows db sound has desk (typed db sound has).0)) sorted
 
 -- ---- rates
 
-un_rates : Row → ℕ
+pub un_rates : Row → ℕ
 un_rates r = number_in (column r 0)
 
-back_rates : (x : ℕ) → un_rates (rate_columns x) ≡ x
+pub back_rates : (x : ℕ) → un_rates (rate_columns x) ≡ x
 unfolding un_rates
 back_rates x = refl
 
@@ -88,14 +88,14 @@ holds_rates db sound has all shows up =
     let same = subst (IsPermutation (map (shown_by rate_terms) (db.trees 1))) (sym (map-map (λ (e : ℕ × ℕ). Int (pos e.0) ∷ rate_columns e.1) spec.rate_entry all)) shows in
     let sorted = sorted_if_rises nat_cmp nat_cmp_total spec.rate_entry all (sym (rises_same _ _ (λ (a b : StoredRate). number_below a.period b.period) all) ∙ up) in
     holds_keyed rate_columns un_rates back_rates rate_terms (λ _. refl) (db.trees 1) (map spec.rate_entry all) same
-        (all_weaker _ _ alike_rates (db.trees 1) (typed_rows db sound has rates (typed db sound has).1.0)) sorted
+    (all_weaker _ _ alike_rates (db.trees 1) (typed_rows db sound has rates (typed db sound has).1.0)) sorted
 
 -- ---- tickets
 
-un_tickets : Row → TicketRow
+pub un_tickets : Row → TicketRow
 un_tickets r = record { day = number_in (column r 0); payee = number_in (column r 1); bonds = number_in (column r 2); total = number_in (column r 3) }
 
-back_tickets : (x : TicketRow) → un_tickets (ticket_columns x) ≡ x
+pub back_tickets : (x : TicketRow) → un_tickets (ticket_columns x) ≡ x
 unfolding un_tickets
 back_tickets x = refl
 
@@ -108,14 +108,14 @@ holds_tickets db sound has all shows up =
     let same = subst (IsPermutation (map (shown_by ticket_terms) (db.trees 5))) (sym (map-map (λ (e : ℕ × TicketRow). Int (pos e.0) ∷ ticket_columns e.1) spec.ticket_entry all)) shows in
     let sorted = sorted_if_rises nat_cmp nat_cmp_total spec.ticket_entry all (sym (rises_same _ _ (λ (a b : StoredTicket). number_below a.ticket b.ticket) all) ∙ up) in
     holds_keyed ticket_columns un_tickets back_tickets ticket_terms (λ _. refl) (db.trees 5) (map spec.ticket_entry all) same
-        (all_weaker _ _ alike_tickets (db.trees 5) (typed_rows db sound has tickets (typed db sound has).1.1.1.0)) sorted
+    (all_weaker _ _ alike_tickets (db.trees 5) (typed_rows db sound has tickets (typed db sound has).1.1.1.0)) sorted
 
 -- ---- batches
 
-un_batches : Row → BatchRow
+pub un_batches : Row → BatchRow
 un_batches r = record { tickets = number_in (column r 0); bonds = number_in (column r 1); total = number_in (column r 2) }
 
-back_batches : (x : BatchRow) → un_batches (batch_columns x) ≡ x
+pub back_batches : (x : BatchRow) → un_batches (batch_columns x) ≡ x
 unfolding un_batches
 back_batches x = refl
 
@@ -128,14 +128,14 @@ holds_batches db sound has all shows up =
     let same = subst (IsPermutation (map (shown_by batch_terms) (db.trees 10))) (sym (map-map (λ (e : ℕ × BatchRow). Int (pos e.0) ∷ batch_columns e.1) spec.batch_entry all)) shows in
     let sorted = sorted_if_rises nat_cmp nat_cmp_total spec.batch_entry all (sym (rises_same _ _ (λ (a b : StoredBatch). number_below a.day b.day) all) ∙ up) in
     holds_keyed batch_columns un_batches back_batches batch_terms (λ _. refl) (db.trees 10) (map spec.batch_entry all) same
-        (all_weaker _ _ alike_batches (db.trees 10) (typed_rows db sound has batches (typed db sound has).1.1.1.1.1.0)) sorted
+    (all_weaker _ _ alike_batches (db.trees 10) (typed_rows db sound has batches (typed db sound has).1.1.1.1.1.0)) sorted
 
 -- ---- replies
 
-un_replies : Row → ReplyRow
+pub un_replies : Row → ReplyRow
 un_replies r = record { act = text_in (column r 0); reply = text_in (column r 1) }
 
-back_replies : (x : ReplyRow) → un_replies (reply_columns x) ≡ x
+pub back_replies : (x : ReplyRow) → un_replies (reply_columns x) ≡ x
 unfolding un_replies
 back_replies x = refl
 
@@ -148,14 +148,14 @@ holds_replies db sound has all shows up =
     let same = subst (IsPermutation (map (shown_by reply_terms) (db.trees 11))) (sym (map-map (λ (e : ℕ × ReplyRow). Int (pos e.0) ∷ reply_columns e.1) spec.reply_entry all)) shows in
     let sorted = sorted_if_rises nat_cmp nat_cmp_total spec.reply_entry all (sym (rises_same _ _ (λ (a b : StoredReply). number_below a.number b.number) all) ∙ up) in
     holds_keyed reply_columns un_replies back_replies reply_terms (λ _. refl) (db.trees 11) (map spec.reply_entry all) same
-        (all_weaker _ _ alike_replies (db.trees 11) (typed_rows db sound has replies (typed db sound has).1.1.1.1.1.1.0)) sorted
+    (all_weaker _ _ alike_replies (db.trees 11) (typed_rows db sound has replies (typed db sound has).1.1.1.1.1.1.0)) sorted
 
 -- ---- bonds
 
-un_bonds : Row → BondRow
+pub un_bonds : Row → BondRow
 un_bonds r = record { denom = number_in (column r 0); issued = number_in (column r 1); owner = number_in (column r 2); coowner = optional_in (column r 3); ticket = optional_in (column r 4) }
 
-back_bonds : (x : BondRow) → un_bonds (bond_columns x) ≡ x
+pub back_bonds : (x : BondRow) → un_bonds (bond_columns x) ≡ x
 unfolding un_bonds
 back_bonds x = ap (λ d. record { denom = x.denom; issued = x.issued; owner = x.owner; coowner = d; ticket = optional_in (optional x.ticket) }) (same_optional x.coowner) ∙ ap (λ l. record { denom = x.denom; issued = x.issued; owner = x.owner; coowner = x.coowner; ticket = l }) (same_optional x.ticket)
 
@@ -171,14 +171,14 @@ holds_bonds db sound has all ids shows up numbers ids_up =
     let rowids = subst (IsPermutation (map (shown_by rowid_terms) (db.trees 2))) (sym (map-map (λ (j : ℤ). Int j ∷ []) (λ (it : Rowid). it.rowid) ids)) numbers in
     let sorted = sorted_if_rises pair_cmp pair_total spec.bond_entry all (sym (rises_same _ _ (λ (a b : StoredBond). pair_below (a.letter, a.number) (b.letter, b.number)) all) ∙ up) in
     holds_pairs bond_columns un_bonds back_bonds bond_terms (db.trees 2) (map spec.bond_entry all) (map (λ (it : Rowid). it.rowid) ids) same rowids
-        (all_weaker _ _ alike_bonds (db.trees 2) (typed_rows db sound has bonds (typed db sound has).1.1.0)) (apart_if_rises (λ (it : Rowid). it.rowid) ids ids_up) sorted
+    (all_weaker _ _ alike_bonds (db.trees 2) (typed_rows db sound has bonds (typed db sound has).1.1.0)) (apart_if_rises (λ (it : Rowid). it.rowid) ids ids_up) sorted
 
 -- ---- lines
 
-un_lines : Row → PaidRow
+pub un_lines : Row → PaidRow
 un_lines r = record { letter = number_in (column r 0); number = number_in (column r 1); cents = number_in (column r 2) }
 
-back_lines : (x : PaidRow) → un_lines (paid_columns x) ≡ x
+pub back_lines : (x : PaidRow) → un_lines (paid_columns x) ≡ x
 unfolding un_lines
 back_lines x = refl
 
@@ -194,4 +194,4 @@ holds_lines db sound has all ids shows up numbers ids_up =
     let rowids = subst (IsPermutation (map (shown_by rowid_terms) (db.trees 7))) (sym (map-map (λ (j : ℤ). Int j ∷ []) (λ (it : Rowid). it.rowid) ids)) numbers in
     let sorted = sorted_if_rises pair_cmp pair_total spec.line_entry all (sym (rises_same _ _ (λ (a b : StoredLine). pair_below (a.ticket, a.place) (b.ticket, b.place)) all) ∙ up) in
     holds_pairs paid_columns un_lines back_lines line_terms (db.trees 7) (map spec.line_entry all) (map (λ (it : Rowid). it.rowid) ids) same rowids
-        (all_weaker _ _ alike_lines (db.trees 7) (typed_rows db sound has paid (typed db sound has).1.1.1.1.0)) (apart_if_rises (λ (it : Rowid). it.rowid) ids ids_up) sorted
+    (all_weaker _ _ alike_lines (db.trees 7) (typed_rows db sound has paid (typed db sound has).1.1.1.1.0)) (apart_if_rises (λ (it : Rowid). it.rowid) ids ids_up) sorted

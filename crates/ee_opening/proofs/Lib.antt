@@ -8,4 +8,6 @@ pub mod RowLemmas
 pub mod TableLemmas
 pub mod QuestionLemmas
 pub mod EachTable
+pub mod OneLemmas
 pub mod ReadLemmas
+pub mod WholeLemmas

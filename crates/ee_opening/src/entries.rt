@@ -278,9 +278,7 @@ impl Record for Rowid {
         if row.column_count() != 1 {
             return Err(OpenFault::Unusable);
         }
-        Ok(Rowid {
-            rowid: row.get(0)?,
-        })
+        Ok(Rowid { rowid: row.get(0)? })
     }
 
     fn precedes(&self, next: &Rowid) -> bool {

@@ -7,11 +7,10 @@ mod reading;
 mod tables;
 mod whole;
 
-pub use making::{OpenFault, make_tables};
 pub use entries::{
     StoredBatch, StoredBond, StoredDesk, StoredLine, StoredRate, StoredReply, StoredTicket,
 };
-pub use reading::Record;
+pub use making::{OpenFault, is_blank, make_tables};
 pub use whole::{AllRows, read_all};
 
 #[cfg(test)]

@@ -182,3 +182,11 @@ pub fn make_tables<S: Alter>(conn: &mut Connection<S>) -> Result<(), OpenFault>
     tx.commit()?;
     Ok(())
 }
+
+/// Whether a store has no tables at all, so that they are to be made.
+pub fn is_blank<S: Alter>(conn: &Connection<S>) -> bool
+    ensures { IsTrue result → (state S.Store conn.now).now.schema ≡ no_tables }
+{
+    let schema = conn.schema();
+    schema.tables.is_empty() && schema.indexes.is_empty() && schema.views.is_empty()
+}

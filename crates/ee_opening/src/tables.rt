@@ -28,7 +28,11 @@ pub(crate) fn read_desk<S: Alter>(
     ensures commit { HasCleanDisk (state S.Store tx.new.conn.now) → IsInside (state S.Store tx.old.conn.now) → KeepsCommit (state S.Store tx.old.conn.now) (state S.Store tx.new.conn.now) }
     ensures crash { Survives (state S.Store tx.old.conn.now) (state S.Store tx.new.conn.now) (λ _. ⊥) }
 {
-    read_table(tx, alloc, "SELECT id, version, day, last_day FROM desk ORDER BY id")
+    read_table(
+        tx,
+        alloc,
+        "SELECT id, version, day, last_day FROM desk ORDER BY id",
+    )
 }
 
 /// The rates, in order of their periods.
@@ -58,7 +62,11 @@ pub(crate) fn read_tickets<S: Alter>(
     ensures commit { HasCleanDisk (state S.Store tx.new.conn.now) → IsInside (state S.Store tx.old.conn.now) → KeepsCommit (state S.Store tx.old.conn.now) (state S.Store tx.new.conn.now) }
     ensures crash { Survives (state S.Store tx.old.conn.now) (state S.Store tx.new.conn.now) (λ _. ⊥) }
 {
-    read_table(tx, alloc, "SELECT ticket, day, payee, bonds, total FROM tickets ORDER BY ticket")
+    read_table(
+        tx,
+        alloc,
+        "SELECT ticket, day, payee, bonds, total FROM tickets ORDER BY ticket",
+    )
 }
 
 /// The batches, in order of their days.
@@ -73,7 +81,11 @@ pub(crate) fn read_batches<S: Alter>(
     ensures commit { HasCleanDisk (state S.Store tx.new.conn.now) → IsInside (state S.Store tx.old.conn.now) → KeepsCommit (state S.Store tx.old.conn.now) (state S.Store tx.new.conn.now) }
     ensures crash { Survives (state S.Store tx.old.conn.now) (state S.Store tx.new.conn.now) (λ _. ⊥) }
 {
-    read_table(tx, alloc, "SELECT day, tickets, bonds, total FROM batches ORDER BY day")
+    read_table(
+        tx,
+        alloc,
+        "SELECT day, tickets, bonds, total FROM batches ORDER BY day",
+    )
 }
 
 /// The kept replies, in order of their numbers.
@@ -88,7 +100,11 @@ pub(crate) fn read_replies<S: Alter>(
     ensures commit { HasCleanDisk (state S.Store tx.new.conn.now) → IsInside (state S.Store tx.old.conn.now) → KeepsCommit (state S.Store tx.old.conn.now) (state S.Store tx.new.conn.now) }
     ensures crash { Survives (state S.Store tx.old.conn.now) (state S.Store tx.new.conn.now) (λ _. ⊥) }
 {
-    read_table(tx, alloc, "SELECT number, act, reply FROM replies ORDER BY number")
+    read_table(
+        tx,
+        alloc,
+        "SELECT number, act, reply FROM replies ORDER BY number",
+    )
 }
 
 /// The bonds, in order of their serial numbers.
@@ -103,7 +119,11 @@ pub(crate) fn read_bonds<S: Alter>(
     ensures commit { HasCleanDisk (state S.Store tx.new.conn.now) → IsInside (state S.Store tx.old.conn.now) → KeepsCommit (state S.Store tx.old.conn.now) (state S.Store tx.new.conn.now) }
     ensures crash { Survives (state S.Store tx.old.conn.now) (state S.Store tx.new.conn.now) (λ _. ⊥) }
 {
-    let found = read_table(tx, alloc, "SELECT letter, number, denom, issued, owner, coowner, ticket FROM bonds ORDER BY letter, number")?;
+    let found = read_table(
+        tx,
+        alloc,
+        "SELECT letter, number, denom, issued, owner, coowner, ticket FROM bonds ORDER BY letter, number",
+    )?;
     let _rowids: Vec<Rowid> = read_table(tx, alloc, "SELECT rowid FROM bonds ORDER BY rowid")?;
     Ok(found)
 }
@@ -120,7 +140,11 @@ pub(crate) fn read_lines<S: Alter>(
     ensures commit { HasCleanDisk (state S.Store tx.new.conn.now) → IsInside (state S.Store tx.old.conn.now) → KeepsCommit (state S.Store tx.old.conn.now) (state S.Store tx.new.conn.now) }
     ensures crash { Survives (state S.Store tx.old.conn.now) (state S.Store tx.new.conn.now) (λ _. ⊥) }
 {
-    let found = read_table(tx, alloc, "SELECT ticket, place, letter, number, cents FROM paid ORDER BY ticket, place")?;
+    let found = read_table(
+        tx,
+        alloc,
+        "SELECT ticket, place, letter, number, cents FROM paid ORDER BY ticket, place",
+    )?;
     let _rowids: Vec<Rowid> = read_table(tx, alloc, "SELECT rowid FROM paid ORDER BY rowid")?;
     Ok(found)
 }

@@ -1,5 +1,5 @@
 use crate::{
-    OpenFault, StoredBatch, StoredBond, StoredDesk, StoredLine, StoredRate, StoredTicket,
+    OpenFault, StoredBatch, StoredBond, StoredDesk, StoredLine, StoredRate, StoredTicket, is_blank,
     make_tables, read_all,
 };
 use sqlite::Connection;
@@ -10,8 +10,10 @@ use std::test::Fail;
 fn a_new_store_has_the_desk_alone(rt: HostRuntime) -> Result<(), Fail> {
     let alloc = rt.alloc();
     let mut conn = Connection::open_in_memory(alloc)?;
+    assert!(rt; is_blank(&conn));
     assert!(rt; read_all(&mut conn, alloc).is_err());
     assert_eq!(rt; make_tables(&mut conn), Ok(()));
+    assert!(rt; !is_blank(&conn));
     assert_eq!(rt; make_tables(&mut conn), Err(OpenFault::Unusable));
     match read_all(&mut conn, alloc) {
         Ok(all) => {

@@ -3,7 +3,7 @@
 ghost use Rattle.std.specs.Prelude.{◌≡◌, IsTrue, IfOk, OnOk};
 ghost use Rattle.sqlite.specs.State.{HasCleanDisk, IsUnchanged, KeepsCommit, Survives};
 ghost use Rattle.sqlite.specs.Held.{state};
-ghost use Rattle.ee_tables.specs.Rows.{IsInside, Has, Holds};
+ghost use Rattle.ee_tables.specs.Rows.{Rows, IsInside, Has, Holds};
 ghost use Rattle.ee_opening.specs.Reading.{IsSoundNow};
 ghost use Rattle.ee_opening.specs.Whole.{rows_of, HoldsRegister, HoldsPayments, HoldsRecords, IsOurs};
 
@@ -73,11 +73,7 @@ fn read_register<S: Alter>(
     let desk = read_desk(tx, alloc)?;
     let rates = read_rates(tx, alloc)?;
     let bonds = read_bonds(tx, alloc)?;
-    Ok(Register {
-        desk,
-        rates,
-        bonds,
-    })
+    Ok(Register { desk, rates, bonds })
 }
 
 /// Reads the tickets and their lines.
@@ -98,10 +94,7 @@ fn read_payments<S: Alter>(
 }
 
 /// Reads the batches and the replies.
-fn read_records<S: Alter>(
-    tx: &mut Transaction<'_, S>,
-    alloc: Global,
-) -> Result<Records, OpenFault>
+fn read_records<S: Alter>(tx: &mut Transaction<'_, S>, alloc: Global) -> Result<Records, OpenFault>
     ensures same_reference { tx.new.conn.ghost_name ≡ tx.old.conn.ghost_name }
     ensures open { HasCleanDisk (state S.Store tx.new.conn.now) → OnOk result (IsTrue (state S.Store tx.new.conn.now).is_open) }
     ensures found { HasCleanDisk (state S.Store tx.new.conn.now) → IsInside (state S.Store tx.old.conn.now) → IsSoundNow (state S.Store tx.old.conn.now) → IfOk result (λ found. HoldsRecords (state S.Store tx.old.conn.now).now.trees found) }
@@ -115,10 +108,7 @@ fn read_records<S: Alter>(
 }
 
 /// Reads all tables.
-fn read_in<S: Alter>(
-    tx: &mut Transaction<'_, S>,
-    alloc: Global,
-) -> Result<AllRows, OpenFault>
+fn read_in<S: Alter>(tx: &mut Transaction<'_, S>, alloc: Global) -> Result<AllRows, OpenFault>
     ensures same_reference { tx.new.conn.ghost_name ≡ tx.old.conn.ghost_name }
     ensures open { HasCleanDisk (state S.Store tx.new.conn.now) → OnOk result (IsTrue (state S.Store tx.new.conn.now).is_open) }
     ensures found { HasCleanDisk (state S.Store tx.new.conn.now) → IsInside (state S.Store tx.old.conn.now) → IsSoundNow (state S.Store tx.old.conn.now) → IfOk result (λ found. Holds (state S.Store tx.old.conn.now).now.trees (rows_of found)) }
@@ -151,6 +141,7 @@ fn read_in<S: Alter>(
 /// table is missing, and else `StoreFailed`, as where the connection is in a transaction.
 pub fn read_all<S: Alter>(conn: &mut Connection<S>, alloc: Global) -> Result<AllRows, OpenFault>
     ensures found { HasCleanDisk (state S.Store conn.new) → IfOk result (λ all. IsOurs (state S.Store conn.old) → Has (state S.Store conn.new) (rows_of all)) }
+    ensures those { HasCleanDisk (state S.Store conn.new) → IfOk result (λ all. (rows : Rows) → Has (state S.Store conn.old) rows → IsTrue (state S.Store conn.old).is_open → rows_of all ≡ rows) }
     ensures kept { HasCleanDisk (state S.Store conn.new) → IsOurs (state S.Store conn.old) → KeepsCommit (state S.Store conn.old) (state S.Store conn.new) }
     ensures crash { Survives (state S.Store conn.old) (state S.Store conn.new) (λ _. ⊥) }
 {

@@ -18,9 +18,9 @@ returns-in_err-commit-clause-crash g c =
     let same = c.conn-2-1.given.1 (sym (c.in_ok-make_in.ensures.same_reference ∙ c.transaction-tx.ensures.same_reference)) in
     let settled = c.is_autocommit.ensures.settled c.if-not-is_autocommit.false in
     subst (λ h. Survives old (state g.S.Store h) (λ db. IsBlank old → Holds db first_rows)) (sym same)
-        (commit_survives old start is middle new (λ db. IsBlank old → Holds db first_rows)
-            (λ before blank. (c.in_ok-make_in.ensures.added before (sees_none old start is settled blank) (c.in_ok-make_in.ensures.open before)).1)
-            c.in_ok-make_in.ensures.crash c.in_err-commit.ensures.survives)
+    (commit_survives old start is middle new (λ db. IsBlank old → Holds db first_rows)
+    (λ before blank. (c.in_ok-make_in.ensures.added before (sees_none old start is settled blank) (c.in_ok-make_in.ensures.open before)).1)
+    c.in_ok-make_in.ensures.crash c.in_err-commit.ensures.survives)
 
 pub returns-clause-made : goal.returns-clause-made
 returns-clause-made g c =
@@ -32,8 +32,8 @@ returns-clause-made g c =
     let same = c.conn-2-1.given.1 (sym (c.in_ok-make_in.ensures.same_reference ∙ c.transaction-tx.ensures.same_reference)) in
     let settled = c.is_autocommit.ensures.settled c.if-not-is_autocommit.false in
     subst (λ h. HasCleanDisk (state g.S.Store h) → IsBlank old → Has (state g.S.Store h) first_rows) (sym same) (λ clean blank.
-        let before = clean_before middle new c.in_ok-commit.ensures.survives clean in
-        committed_has old start is middle new first_rows (c.in_ok-make_in.ensures.added before (sees_none old start is settled blank)) (c.in_ok-commit.ensures.ok clean).1)
+    let before = clean_before middle new c.in_ok-commit.ensures.survives clean in
+    committed_has old start is middle new first_rows (c.in_ok-make_in.ensures.added before (sees_none old start is settled blank)) (c.in_ok-commit.ensures.ok clean).1)
 
 pub returns-clause-crash : goal.returns-clause-crash
 returns-clause-crash g c =
@@ -45,6 +45,6 @@ returns-clause-crash g c =
     let same = c.conn-2-1.given.1 (sym (c.in_ok-make_in.ensures.same_reference ∙ c.transaction-tx.ensures.same_reference)) in
     let settled = c.is_autocommit.ensures.settled c.if-not-is_autocommit.false in
     subst (λ h. Survives old (state g.S.Store h) (λ db. IsBlank old → Holds db first_rows)) (sym same)
-        (commit_survives old start is middle new (λ db. IsBlank old → Holds db first_rows)
-            (λ before blank. (c.in_ok-make_in.ensures.added before (sees_none old start is settled blank) (c.in_ok-make_in.ensures.open before)).1)
-            c.in_ok-make_in.ensures.crash c.in_ok-commit.ensures.survives)
+    (commit_survives old start is middle new (λ db. IsBlank old → Holds db first_rows)
+    (λ before blank. (c.in_ok-make_in.ensures.added before (sees_none old start is settled blank) (c.in_ok-make_in.ensures.open before)).1)
+    c.in_ok-make_in.ensures.crash c.in_ok-commit.ensures.survives)

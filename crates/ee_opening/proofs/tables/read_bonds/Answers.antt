@@ -53,4 +53,4 @@ returns-clause-found g c clean inside sound =
     let numbers = c.in_ok-_rowids.ensures.found clean 2 rowid_terms asks_bond_rowids inside_then in
     let ids = c.in_ok-_rowids._rowids.items in
     holds_bonds old.now (sound shows.0) (inside shows.0).1 c.in_ok-found.found.items ids shows.1 c.in_ok-found.ensures.rises
-        (subst (λ (d : Database). ShowsAll d.trees 2 rowid_terms (map (λ (it : Rowid). Int it.rowid ∷ []) ids)) same.0.now_is numbers.1) c.in_ok-_rowids.ensures.rises
+    (subst (λ (d : Database). ShowsAll d.trees 2 rowid_terms (map (λ (it : Rowid). Int it.rowid ∷ []) ids)) same.0.now_is numbers.1) c.in_ok-_rowids.ensures.rises
