@@ -21,20 +21,23 @@ use Rattle.ee_opening.proofs.EachTable.{un_desk, back_desk, un_rates, back_rates
 -- ---- maps of the same entries
 
 module _ {K X : Type 0} (R : K → K → Ordering) (o : IsTotalOrder R) (same : IsAntisymmetric R) where
-  same_option : (k : K) (u v : Option X) → option_to_list (option_map (λ x. (k, x)) u) ≡ option_to_list (option_map (λ x. (k, x)) v) → u ≡ v
+  abbrev listed : K → Option X → List (K × X)
+  listed k w = option_to_list {X = K × X} (option_map {U = K × X} (λ x. (k, x)) w)
+
+  same_option : (k : K) (u v : Option X) → listed k u ≡ listed k v → u ≡ v
   same_option k u v e = sym (back u) ∙ ap (λ (l : List (K × X)). option_map (λ p. p.1) (slice_get l 0)) e ∙ back v
     where
-      back : (w : Option X) → option_map (λ (p : K × X). p.1) (slice_get (option_to_list (option_map (λ x. (k, x)) w)) 0) ≡ w
+      back : (w : Option X) → option_map (λ (p : K × X). p.1) (slice_get (listed k w) 0) ≡ w
       back None = refl
       back (Some x) = refl
 
-  entry_at : (k : K) (m : FinMap R X) → filter (tied R o k) (entries m) ≡ option_to_list (option_map (λ x. (k, x)) (get m k))
-  entry_at k m = tied_entry R o k same (entries m) (entries_sorted m) ∙ ap (λ v. option_to_list (option_map (λ x. (k, x)) v)) (sym (get-entries m k))
+  entry_at : (k : K) (m : FinMap R X) → filter (tied R o k) (entries m) ≡ listed k (get m k)
+  entry_at k m = tied_entry R o k same (entries m) (entries_sorted m) ∙ ap (listed k) (sym (get-entries m k))
 
   one_get : (a b : FinMap R X) → IsPermutation (entries a) (entries b) → (k : K) → get a k ≡ get b k
   one_get a b h k =
       let kept = subst₂ IsPermutation (entry_at k a) (entry_at k b) (IsPermutation-filter (tied R o k) _ _ h) in
-      same_option k (get a k) (get b k) (sym (at_most_one (option_map (λ x. (k, x)) (get a k)) _ kept))
+      same_option k (get a k) (get b k) (sym (at_most_one {X = K × X} (option_map {U = K × X} (λ x. (k, x)) (get a k)) (listed k (get b k)) kept))
 
   one_map : (a b : FinMap R X) → IsPermutation (entries a) (entries b) → a ≡ b
   one_map a b h = same_map o same a b (one_get a b h)
