@@ -1,6 +1,5 @@
 -- A transaction that was begun on a store with no tables.
 use Rattle.std.proofs.Common.{◌≡◌, IsTrue, sym, ap, subst, ◌∙◌}
-use Rattle.std.specs.List.{AllByRecursion}
 use Rattle.sqlite.specs.Effect.{Database}
 use Rattle.sqlite.specs.State.{State}
 use Rattle.ee_tables.proofs.TransactionLemmas.{begun}

@@ -1,10 +1,10 @@
 -- Each table, from the rows that were read of it.
-use Rattle.std.proofs.Common.{◌≡◌, ℕ, ℤ, pos, List, [], ◌∷◌, map, Bool, true, false, Some, None, Option, refl, sym, ap, subst, ◌∙◌, Ordering, nat_cmp}
+use Rattle.std.proofs.Common.{◌≡◌, ℕ, ℤ, pos, List, [], ◌∷◌, map, true, Some, None, Option, refl, sym, ap, subst, ◌∙◌, nat_cmp}
 use Rattle.std.specs.Prelude.{IsPermutation, nat_lt, int_lt, drop}
 use Rattle.std.specs.List.{AllByRecursion}
 use Rattle.std.proofs.lemmas.Cmp.{nat_cmp_total}
 use Rattle.sqlite.specs.declared.types.Value.{Value}
-use Rattle.sqlite.specs.declared.types.Value.TheVariants.{Null, Int, Text}
+use Rattle.sqlite.specs.declared.types.Value.TheVariants.{Int, Text}
 use Rattle.sqlite.specs.Effect.{Database, IsDatabase}
 use Rattle.sqlite.specs.Table.{Table}
 use Rattle.sqlite_value.specs.Order.{Row, column}
@@ -28,7 +28,7 @@ use Rattle.ee_opening.specs.Reading.{rises, shown_by, ShowsAll}
 use Rattle.ee_opening.specs.Shown as spec
 use Rattle.ee_opening.specs.Shown.{pair_lt}
 use Rattle.ee_opening.proofs.FoundLemmas.{sorted_if_rises, reads_alike}
-use Rattle.ee_opening.proofs.TableLemmas.{rises_same, number_below, pair_below, number_in, optional_in, short_row, key_empty, apart_if_rises, keyed_shown, holds_keyed, pair_shown, holds_pairs}
+use Rattle.ee_opening.proofs.TableLemmas.{rises_same, number_below, pair_below, number_in, optional_in, short_row, key_empty, apart_if_rises, holds_keyed, holds_pairs}
 use Rattle.ee_opening.proofs.QuestionLemmas.{desk_terms, rate_terms, bond_terms, ticket_terms, line_terms, batch_terms, reply_terms, rowid_terms}
 
 abbrev text_in : Value → List ℕ

@@ -1,7 +1,7 @@
 -- The desk's row, in tables that have no rows.
-use Rattle.std.proofs.Common.{◌≡◌, ◌≢◌, ◌⊎◌, inl, inr, ℕ, ℤ, pos, List, [], ◌∷◌, map, codes, Some, None, Option, Ok, Err, Result, refl, sym, ap, subst, ◌∙◌, arith, IsTrue, length, Ordering}
+use Rattle.std.proofs.Common.{◌≡◌, ℕ, ℤ, pos, List, [], ◌∷◌, codes, None, Ok, refl, sym, ap, subst, ◌∙◌, arith, length, Ordering}
 use Rattle.std.specs.Prelude.{IsPermutation}
-use Rattle.std.specs.FinMap.{FinMap, empty, entries, insert, len-empty, len-entries}
+use Rattle.std.specs.FinMap.{empty, entries, insert, len-empty, len-entries}
 use Rattle.std.specs.Ordering.{nat_cmp}
 use Rattle.std.proofs.lemmas.List.Sorted.{IsPermutation-refl}
 use Rattle.std.specs.List.{AllByRecursion}
@@ -10,12 +10,12 @@ use Rattle.sqlite.specs.Order.{Row}
 use Rattle.sqlite.specs.Term.{Term, lit}
 use Rattle.sqlite.specs.Source.TheVariants.{Values}
 use Rattle.sqlite.specs.Command.TheVariants.{Insert}
-use Rattle.sqlite.specs.Edit.{Edit, edit_of, edited}
+use Rattle.sqlite.specs.Edit.{edit_of}
 use Rattle.sqlite_rules.specs.Edit.{put_all, is_taken}
 use Rattle.sqlite.specs.Rowids.TheVariants.{Chosen}
 use Rattle.sqlite.specs.Does.{Tally, Does}
 use Rattle.sqlite.specs.Rows.{Written}
-use Rattle.sqlite.specs.Tree.{Trees, put_row}
+use Rattle.sqlite.specs.Tree.{Trees}
 use Rattle.sqlite.specs.Effect.{Database}
 use Rattle.sqlite.specs.Listing.{understood}
 use Rattle.sqlite.specs.State.{State, mode_of, Executes}

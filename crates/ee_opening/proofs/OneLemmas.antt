@@ -7,11 +7,10 @@ use Rattle.std.specs.Cmp.{IsTotalOrder}
 use Rattle.std.proofs.lemmas.Cmp.{nat_cmp_total}
 use Rattle.std.specs.FinMap.{FinMap, IsAntisymmetric, nat_cmp-IsAntisymmetric, entries, entries_sorted, get, get-entries, same_map}
 use Rattle.std.proofs.lemmas.List.Sorted.{IsPermutation-sym, IsPermutation-trans}
-use Rattle.sqlite.specs.declared.types.Value.TheVariants.{Null, Int}
 use Rattle.sqlite.specs.Tree.{Trees}
 use Rattle.sqlite_value.specs.Order.{Row, column}
 use Rattle.sqlite_keyed.proofs.ListLemmas.{IsPermutation-filter}
-use Rattle.ee_tables.specs.Keyed.{pair_cmp, row_of, stored, ReadAlike, AreRows, HoldsTable, HoldsMap, HoldsPairs}
+use Rattle.ee_tables.specs.Keyed.{pair_cmp, row_of, stored, ReadAlike, AreRows, HoldsMap, HoldsPairs}
 use Rattle.ee_tables.specs.Rows.{Rows, Holds, desk_columns, rate_columns, bond_columns, ticket_columns, paid_columns, batch_columns, reply_columns}
 use Rattle.ee_tables.proofs.PairLemmas.{tied, tied_entry}
 use Rattle.ee_tables.proofs.HoldsLemmas.{pair_total, pair_same, at_most_one}

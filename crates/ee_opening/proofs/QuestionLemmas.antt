@@ -1,5 +1,5 @@
 -- What the texts ask for.
-use Rattle.std.proofs.Common.{◌≡◌, ℕ, List, [], ◌∷◌, codes, true, false, Some, None, Ok, Err, Result, refl}
+use Rattle.std.proofs.Common.{List, [], ◌∷◌, codes, false, refl}
 use Rattle.sqlite.specs.Term.{Term, col}
 use Rattle.sqlite_value.specs.declared.keys.Key.{Key}
 use Rattle.sqlite.specs.Collation.TheVariants.{Binary}

@@ -1,6 +1,6 @@
 -- What reading several tables in turn gives.
-use Rattle.std.proofs.Common.{◌≡◌, Ok, Err, Result, IfOk, inl, sym, subst}
-use Rattle.sqlite.specs.Effect.{Database, IsDatabase}
+use Rattle.std.proofs.Common.{Ok, Err, Result, IfOk, inl, sym, subst}
+use Rattle.sqlite.specs.Effect.{IsDatabase}
 use Rattle.sqlite.specs.State.{State, IsUnchanged, KeepsCommit}
 use Rattle.sqlite.proofs.InsideLemmas.{unchanged_keeps, keeps_then}
 use Rattle.ee_opening.specs.Reading.{IsSoundNow}

@@ -1,5 +1,5 @@
 -- What a query of a whole table shows.
-use Rattle.std.proofs.Common.{◌≡◌, ℕ, List, [], ◌∷◌, map, refl, sym, ap, subst, ◌∙◌, true, false, Ok, Err, Result, inl, inr}
+use Rattle.std.proofs.Common.{◌≡◌, ℕ, List, [], ◌∷◌, map, refl, sym, ap, subst, ◌∙◌, true, false, Ok, Err, Result, inl}
 use Rattle.std.specs.Prelude.{Bool, IsTrue, Some, None, Option, unwrap_or, slice_get, nat_le, ◌^◌, ◌-◌, if◌then◌else◌, flat_map, IsPermutation}
 use Rattle.sqlite.specs.Tree.{Trees}
 use Rattle.std.proofs.lemmas.List.Sorted.{IsPermutation-map}

@@ -1,11 +1,11 @@
 -- From the rows that were read to the map that a table holds, for each kind of key.
-use Rattle.std.proofs.Common.{◌≡◌, ◌≢◌, ℕ, zero, suc, ℤ, pos, List, [], ◌∷◌, map, length, Bool, true, false, Some, None, Option, refl, sym, ap, subst, ◌∙◌, arith, Ordering, Less, Equal, Greater, nat_cmp, int_cmp, T}
-use Rattle.std.specs.Prelude.{IsPermutation, ◌&&◌, ◌||◌, ◌==◌, ◌+◌, ◌≤◌, nat_lt, int_lt, drop}
+use Rattle.std.proofs.Common.{◌≡◌, ◌≢◌, ℕ, ℤ, pos, List, [], ◌∷◌, map, length, Bool, true, Some, None, Option, refl, sym, ap, subst, ◌∙◌, arith, Less, nat_cmp, int_cmp, T}
+use Rattle.std.specs.Prelude.{IsPermutation, ◌&&◌, ◌+◌, ◌≤◌, nat_lt, int_lt, drop}
 use Rattle.std.specs.List.{AllByRecursion}
 use Rattle.std.specs.Ordering.{is_lt}
 use Rattle.std.specs.FinMap.{from_sorted}
 use Rattle.std.specs.FinMap.Entries.{is_sorted, below_all}
-use Rattle.std.proofs.lemmas.Cmp.{nat_cmp_total, int_cmp_total}
+use Rattle.std.proofs.lemmas.Cmp.{int_cmp_total}
 use Rattle.std.proofs.lemmas.Bool.Decides.{nat_tests}
 use Rattle.std.proofs.lemmas.Int.{ints}
 use Rattle.std.specs.Cmp.{tied_itself}
@@ -19,12 +19,11 @@ use Rattle.sqlite_schema.specs.Rules.{are_typed}
 use Rattle.sqlite_sql.specs.Ops.{is_null}
 use Rattle.sqlite_keyed.proofs.ListLemmas.{map-map, map_same, map_back, all_unmap}
 use Rattle.sqlite_keyed.proofs.RuleLemmas.{first_of_both, second_of_both}
-use Rattle.ee_tables.specs.Keyed.{pair_cmp, row_of, stored, ReadAlike, HoldsMap, HoldsPairs, HoldsTable}
-use Rattle.ee_tables.proofs.HoldsLemmas.{pair_total}
+use Rattle.ee_tables.specs.Keyed.{pair_cmp, row_of, stored, ReadAlike, HoldsMap, HoldsPairs}
 use Rattle.ee_tables.proofs.PairLemmas.{both_parts}
 use Rattle.ee_opening.specs.Reading.{rises, shown_by}
 use Rattle.ee_opening.specs.Shown.{pair_lt}
-use Rattle.ee_opening.proofs.FoundLemmas.{alls, AllApart, apart_permuted, each_shown, numbered, holds_table}
+use Rattle.ee_opening.proofs.FoundLemmas.{alls, AllApart, apart_permuted, each_shown, holds_table}
 
 -- ---- tests of keys
 

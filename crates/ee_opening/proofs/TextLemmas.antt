@@ -1,5 +1,5 @@
 -- What each text makes of the tables before it.
-use Rattle.std.proofs.Common.{◌≡◌, ℕ, List, [], ◌∷◌, codes, Some, None, Option, Ok, Err, Result, refl, true, false}
+use Rattle.std.proofs.Common.{ℕ, List, [], ◌∷◌, codes, refl}
 use Rattle.sqlite.specs.Schema.{Schema}
 use Rattle.sqlite_catalog.specs.Listing.{automatic}
 use Rattle.sqlite_tied.specs.Compute.{everything}

@@ -1,6 +1,6 @@
 -- A transaction that only reads, on a store with the tables of version 1.
 use Rattle.std.proofs.Common.{◌≡◌, inr, refl, IsTrue, sym, ap, subst, ◌∙◌}
-use Rattle.sqlite.specs.Effect.{Database, IsDatabase}
+use Rattle.sqlite.specs.Effect.{Database}
 use Rattle.sqlite.specs.State.{State, IsLive, IsRolledBack, KeepsCommit, Survives}
 use Rattle.sqlite.proofs.StateLemmas.{survives_then}
 use Rattle.sqlite.proofs.InsideLemmas.{unchanged_keeps, keeps_then}

@@ -1,12 +1,11 @@
-use Rattle.std.proofs.Common.{subst, ◌∙◌}
+use Rattle.std.proofs.Common.{subst}
 use Rattle.sqlite.specs.Effect.{Database}
 use Rattle.sqlite.specs.Held.{state}
 use Rattle.sqlite.proofs.Callers.{unchanged_then}
-use Rattle.ee_tables.specs.Keyed.{HoldsMap, HoldsPairs}
-use Rattle.ee_tables.specs.Rows.{desk_columns, rate_columns, bond_columns, ticket_columns, paid_columns, batch_columns, reply_columns}
+use Rattle.ee_tables.specs.Keyed.{HoldsMap}
+use Rattle.ee_tables.specs.Rows.{reply_columns}
 use Rattle.ee_tables.proofs.KeepLemmas.{clean_before, unchanged_inside}
-use Rattle.ee_opening.specs.Shown.{desk_map, rate_map, bond_map, ticket_map, line_map, batch_map, reply_map}
-use Rattle.ee_opening.specs.Whole.{HoldsRegister, HoldsPayments, HoldsRecords}
+use Rattle.ee_opening.specs.Shown.{reply_map}
 use Rattle.ee_opening.proofs.ReadLemmas.{sound_after, keeps_after}
 use Rattle.ee_opening.proofs.whole.read_records.Goals as goal
 

@@ -1,4 +1,4 @@
-use Rattle.std.proofs.Common.{refl, sym, ◌∙◌, arith}
+use Rattle.std.proofs.Common.{arith}
 use Rattle.ee_opening.proofs.RowLemmas.{seven_columns, reads_optional}
 use Rattle.ee_opening.proofs.entries.StoredBondRecord.read.Goals as goal
 
