@@ -1,3 +1,5 @@
+//! Making the tables of version 1 in an empty store.
+
 ghost use Rattle.std.specs.Prelude.{◌≡◌, List, IsTrue, OnOk, OnErr};
 ghost use Rattle.sqlite.specs.State.{HasCleanDisk, KeepsCommit, Survives};
 ghost use Rattle.sqlite.specs.Held.{state};

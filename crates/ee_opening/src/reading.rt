@@ -1,3 +1,5 @@
+//! Reading the rows of a table, and testing that their keys rise.
+
 ghost use Rattle.std.specs.Prelude.{◌≡◌, List, Bool, true, IsTrue, IfOk, OnOk, OnErr, map, ℕ};
 ghost use Rattle.sqlite.specs.State.{HasCleanDisk, IsUnchanged, KeepsCommit, Survives};
 ghost use Rattle.sqlite.specs.Held.{state};
@@ -28,7 +30,7 @@ pub trait Record: Sized {
         ensures { result ≡ stands_before self.now next.now };
 }
 
-/// Reads the rows that a query showed, and tests that their keys rise.
+/// Reads the rows that a query showed, each of them.
 fn read_each<T: Record + Drop>(alloc: Global, rows: &[Row]) -> Result<Vec<T>, OpenFault>
     ensures exact { IfOk result (λ found. rows.now ≡ map T.shown found.items) }
 {
