@@ -1,0 +1,16 @@
+-- What reading several tables in turn gives.
+use Rattle.std.proofs.Common.{Ok, Err, Result, IfOk, inl, sym, subst}
+use Rattle.sqlite.specs.Effect.{IsDatabase}
+use Rattle.sqlite.specs.State.{State, IsUnchanged, KeepsCommit}
+use Rattle.sqlite.proofs.InsideLemmas.{unchanged_keeps, keeps_then}
+use Rattle.ee_opening.specs.Reading.{IsSoundNow}
+
+pub both_ok : {X E : Type 0} {P Q R : X → Type 0} (r : Result X E) → ((x : X) → P x → Q x → R x) → IfOk r P → IfOk r Q → IfOk r R
+both_ok (Ok x) f p q = f x p q
+both_ok (Err e) f p q = tt
+
+pub sound_after : (a b : State) → IsUnchanged a b → IsSoundNow a → IsSoundNow b
+sound_after a b same sound is_open = subst IsDatabase (sym same.0.now_is) (sound same.0.was_open)
+
+pub keeps_after : (a b c : State) → IsUnchanged a b → KeepsCommit b c → KeepsCommit a c
+keeps_after a b c same keeps = keeps_then a b c (unchanged_keeps a b (inl same)) keeps

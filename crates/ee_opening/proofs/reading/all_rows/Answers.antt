@@ -1,0 +1,41 @@
+use Rattle.std.proofs.Common.{List, [], Ok}
+use Rattle.sqlite.specs.Held.{state}
+use Rattle.sqlite.specs.Order.{Row}
+use Rattle.ee_tables.specs.Tables.{counter_schema}
+use Rattle.ee_tables.proofs.KeepLemmas.{query_keeps, shown_open, is_open_after, query_same}
+use Rattle.ee_opening.proofs.ScanLemmas.{is_plain, shows_all, shown_keeps}
+use Rattle.ee_opening.proofs.reading.all_rows.Goals as goal
+
+pub returns-in_err-rows-clause-commit : goal.returns-in_err-rows-clause-commit
+returns-in_err-rows-clause-commit g c clean inside =
+    let old = state g.S.Store c.args.tx.now.conn.now in
+    let new = state g.S.Store c.query_all.new.self.conn.now in
+    query_keeps old new c.args.sql.now [] _ (c.in_err-rows.ensures.err clean)
+
+pub returns-clause-commit : goal.returns-clause-commit
+returns-clause-commit g c clean inside =
+    let old = state g.S.Store c.args.tx.now.conn.now in
+    let new = state g.S.Store c.query_all.new.self.conn.now in
+    let shown = c.in_ok-rows.ensures.ok clean in
+    shown_keeps old new c.args.sql.now [] c.in_ok-rows.rows.items shown (inside (shown_open old new c.args.sql.now [] c.in_ok-rows.rows.items shown)).0
+
+pub returns-clause-open : goal.returns-clause-open
+returns-clause-open g c clean =
+    let old = state g.S.Store c.args.tx.now.conn.now in
+    let new = state g.S.Store c.query_all.new.self.conn.now in
+    is_open_after old new c.args.sql.now [] c.in_ok-rows.rows.items (c.in_ok-rows.ensures.ok clean)
+
+pub returns-clause-found : goal.returns-clause-found
+returns-clause-found g c clean tree terms asks inside =
+    let old = state g.S.Store c.args.tx.now.conn.now in
+    let new = state g.S.Store c.query_all.new.self.conn.now in
+    let shown = c.in_ok-rows.ensures.ok clean in
+    let is_open = shown_open old new c.args.sql.now [] c.in_ok-rows.rows.items shown in
+    (is_open, shows_all old new counter_schema c.args.sql.now tree terms c.in_ok-rows.rows.items asks (inside is_open).1 shown)
+
+pub returns-clause-same : goal.returns-clause-same
+returns-clause-same g c clean tree terms asks inside =
+    let old = state g.S.Store c.args.tx.now.conn.now in
+    let new = state g.S.Store c.query_all.new.self.conn.now in
+    let shown = c.in_ok-rows.ensures.ok clean in
+    query_same old new (λ (rows : List Row). rows) c.args.sql.now [] counter_schema (λ is_open. (inside is_open).1) (is_plain counter_schema c.args.sql.now tree terms asks) (Ok c.in_ok-rows.rows.items) shown

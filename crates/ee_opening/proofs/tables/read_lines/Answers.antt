@@ -1,0 +1,56 @@
+use Rattle.std.proofs.Common.{[], ◌∷◌, map, subst}
+use Rattle.sqlite.specs.declared.types.Value.TheVariants.{Int}
+use Rattle.sqlite.specs.Effect.{Database}
+use Rattle.sqlite.specs.Held.{state}
+use Rattle.sqlite.proofs.Callers.{unchanged_then}
+use Rattle.ee_tables.proofs.KeepLemmas.{clean_before, unchanged_inside}
+use Rattle.ee_opening.specs.declared.entries.Rowid.{Rowid}
+use Rattle.ee_opening.specs.Reading.{ShowsAll}
+use Rattle.ee_opening.proofs.QuestionLemmas.{line_terms, rowid_terms, asks_lines, asks_line_rowids}
+use Rattle.ee_opening.proofs.ReadLemmas.{keeps_after}
+use Rattle.ee_opening.proofs.EachTable.{holds_lines}
+use Rattle.ee_opening.proofs.tables.read_lines.Goals as goal
+
+pub returns-in_err-_rowids-clause-commit : goal.returns-in_err-_rowids-clause-commit
+returns-in_err-_rowids-clause-commit g c clean inside =
+    let old = state g.S.Store c.args.tx.now.conn.now in
+    let middle = state g.S.Store c.read_table.new.tx.conn.now in
+    let new = state g.S.Store c.read_table-2.new.tx.conn.now in
+    let before = clean_before middle new c.read_table-2.ensures.crash clean in
+    let same = c.in_ok-found.ensures.same before 7 line_terms asks_lines inside in
+    let inside_then = unchanged_inside old middle same inside in
+    keeps_after old middle new same (c.read_table-2.ensures.commit clean inside_then)
+
+pub returns-clause-commit : goal.returns-clause-commit
+returns-clause-commit g c clean inside =
+    let old = state g.S.Store c.args.tx.now.conn.now in
+    let middle = state g.S.Store c.read_table.new.tx.conn.now in
+    let new = state g.S.Store c.read_table-2.new.tx.conn.now in
+    let before = clean_before middle new c.read_table-2.ensures.crash clean in
+    let same = c.in_ok-found.ensures.same before 7 line_terms asks_lines inside in
+    let inside_then = unchanged_inside old middle same inside in
+    keeps_after old middle new same (c.read_table-2.ensures.commit clean inside_then)
+
+pub returns-clause-same : goal.returns-clause-same
+returns-clause-same g c clean inside =
+    let old = state g.S.Store c.args.tx.now.conn.now in
+    let middle = state g.S.Store c.read_table.new.tx.conn.now in
+    let new = state g.S.Store c.read_table-2.new.tx.conn.now in
+    let before = clean_before middle new c.read_table-2.ensures.crash clean in
+    let same = c.in_ok-found.ensures.same before 7 line_terms asks_lines inside in
+    let inside_then = unchanged_inside old middle same inside in
+    unchanged_then old middle new same (c.in_ok-_rowids.ensures.same clean 7 rowid_terms asks_line_rowids inside_then)
+
+pub returns-clause-found : goal.returns-clause-found
+returns-clause-found g c clean inside sound =
+    let old = state g.S.Store c.args.tx.now.conn.now in
+    let middle = state g.S.Store c.read_table.new.tx.conn.now in
+    let new = state g.S.Store c.read_table-2.new.tx.conn.now in
+    let before = clean_before middle new c.read_table-2.ensures.crash clean in
+    let same = c.in_ok-found.ensures.same before 7 line_terms asks_lines inside in
+    let inside_then = unchanged_inside old middle same inside in
+    let shows = c.in_ok-found.ensures.found before 7 line_terms asks_lines inside in
+    let numbers = c.in_ok-_rowids.ensures.found clean 7 rowid_terms asks_line_rowids inside_then in
+    let ids = c.in_ok-_rowids._rowids.items in
+    holds_lines old.now (sound shows.0) (inside shows.0).1 c.in_ok-found.found.items ids shows.1 c.in_ok-found.ensures.rises
+    (subst (λ (d : Database). ShowsAll d.trees 7 rowid_terms (map (λ (it : Rowid). Int it.rowid ∷ []) ids)) same.0.now_is numbers.1) c.in_ok-_rowids.ensures.rises

@@ -1,0 +1,14 @@
+use Rattle.sqlite.specs.Held.{state}
+use Rattle.ee_tables.proofs.KeepLemmas.{on_ok}
+use Rattle.ee_opening.proofs.QuestionLemmas.{rate_terms, asks_rates}
+use Rattle.ee_opening.proofs.ReadLemmas.{both_ok}
+use Rattle.ee_opening.proofs.EachTable.{holds_rates}
+use Rattle.ee_opening.proofs.tables.read_rates.Goals as goal
+
+pub returns-clause-found : goal.returns-clause-found
+returns-clause-found g c clean inside sound =
+    let old = state g.S.Store c.args.tx.now.conn.now in
+    both_ok c.read_table.result (λ found shows up. holds_rates old.now (sound (shows 1 rate_terms asks_rates inside).0) (inside (shows 1 rate_terms asks_rates inside).0).1 found.items (shows 1 rate_terms asks_rates inside).1 up) (c.read_table.ensures.found clean) c.read_table.ensures.rises
+
+pub returns-clause-same : goal.returns-clause-same
+returns-clause-same g c clean inside = on_ok c.read_table.result (λ same. same 1 rate_terms asks_rates inside) (c.read_table.ensures.same clean)

@@ -1,0 +1,84 @@
+use Rattle.std.proofs.Common.{subst, ◌∙◌}
+use Rattle.sqlite.specs.Effect.{Database}
+use Rattle.sqlite.specs.Held.{state}
+use Rattle.sqlite.proofs.Callers.{unchanged_then}
+use Rattle.ee_tables.proofs.KeepLemmas.{clean_before, unchanged_inside}
+use Rattle.ee_opening.specs.Whole.{HoldsPayments, HoldsRecords}
+use Rattle.ee_opening.proofs.ReadLemmas.{sound_after, keeps_after}
+use Rattle.ee_opening.proofs.whole.read_in.Goals as goal
+
+pub returns-in_err-payments-clause-commit : goal.returns-in_err-payments-clause-commit
+returns-in_err-payments-clause-commit g c clean inside =
+    let old = state g.S.Store c.args.tx.now.conn.now in
+    let at_1 = state g.S.Store c.read_register.new.tx.conn.now in
+    let at_2 = state g.S.Store c.read_payments.new.tx.conn.now in
+    let clean_2 = clean in
+    let clean_1 = clean_before at_1 at_2 c.read_payments.ensures.crash clean_2 in
+    let same_1 = c.in_ok-register.ensures.same clean_1 inside in
+    let inside_1 = unchanged_inside old at_1 same_1 inside in
+    keeps_after old at_1 at_2 same_1 (c.read_payments.ensures.commit clean_2 inside_1)
+
+pub returns-in_err-records-clause-commit : goal.returns-in_err-records-clause-commit
+returns-in_err-records-clause-commit g c clean inside =
+    let old = state g.S.Store c.args.tx.now.conn.now in
+    let at_1 = state g.S.Store c.read_register.new.tx.conn.now in
+    let at_2 = state g.S.Store c.read_payments.new.tx.conn.now in
+    let at_3 = state g.S.Store c.read_records.new.tx.conn.now in
+    let clean_3 = clean in
+    let clean_2 = clean_before at_2 at_3 c.read_records.ensures.crash clean_3 in
+    let clean_1 = clean_before at_1 at_2 c.read_payments.ensures.crash clean_2 in
+    let same_1 = c.in_ok-register.ensures.same clean_1 inside in
+    let inside_1 = unchanged_inside old at_1 same_1 inside in
+    let same_2 = c.in_ok-payments.ensures.same clean_2 inside_1 in
+    let inside_2 = unchanged_inside at_1 at_2 same_2 inside_1 in
+    keeps_after old at_1 at_3 same_1 (keeps_after at_1 at_2 at_3 same_2 (c.read_records.ensures.commit clean_3 inside_2))
+
+pub returns-clause-commit : goal.returns-clause-commit
+returns-clause-commit g c clean inside =
+    let old = state g.S.Store c.args.tx.now.conn.now in
+    let at_1 = state g.S.Store c.read_register.new.tx.conn.now in
+    let at_2 = state g.S.Store c.read_payments.new.tx.conn.now in
+    let at_3 = state g.S.Store c.read_records.new.tx.conn.now in
+    let clean_3 = clean in
+    let clean_2 = clean_before at_2 at_3 c.read_records.ensures.crash clean_3 in
+    let clean_1 = clean_before at_1 at_2 c.read_payments.ensures.crash clean_2 in
+    let same_1 = c.in_ok-register.ensures.same clean_1 inside in
+    let inside_1 = unchanged_inside old at_1 same_1 inside in
+    let same_2 = c.in_ok-payments.ensures.same clean_2 inside_1 in
+    let inside_2 = unchanged_inside at_1 at_2 same_2 inside_1 in
+    keeps_after old at_1 at_3 same_1 (keeps_after at_1 at_2 at_3 same_2 (c.read_records.ensures.commit clean_3 inside_2))
+
+pub returns-clause-same : goal.returns-clause-same
+returns-clause-same g c clean inside =
+    let old = state g.S.Store c.args.tx.now.conn.now in
+    let at_1 = state g.S.Store c.read_register.new.tx.conn.now in
+    let at_2 = state g.S.Store c.read_payments.new.tx.conn.now in
+    let at_3 = state g.S.Store c.read_records.new.tx.conn.now in
+    let clean_3 = clean in
+    let clean_2 = clean_before at_2 at_3 c.read_records.ensures.crash clean_3 in
+    let clean_1 = clean_before at_1 at_2 c.read_payments.ensures.crash clean_2 in
+    let same_1 = c.in_ok-register.ensures.same clean_1 inside in
+    let inside_1 = unchanged_inside old at_1 same_1 inside in
+    let same_2 = c.in_ok-payments.ensures.same clean_2 inside_1 in
+    let inside_2 = unchanged_inside at_1 at_2 same_2 inside_1 in
+    unchanged_then old at_1 at_3 same_1 (unchanged_then at_1 at_2 at_3 same_2 (c.in_ok-records.ensures.same clean_3 inside_2))
+
+pub returns-clause-found : goal.returns-clause-found
+returns-clause-found g c clean inside sound =
+    let old = state g.S.Store c.args.tx.now.conn.now in
+    let at_1 = state g.S.Store c.read_register.new.tx.conn.now in
+    let at_2 = state g.S.Store c.read_payments.new.tx.conn.now in
+    let at_3 = state g.S.Store c.read_records.new.tx.conn.now in
+    let clean_3 = clean in
+    let clean_2 = clean_before at_2 at_3 c.read_records.ensures.crash clean_3 in
+    let clean_1 = clean_before at_1 at_2 c.read_payments.ensures.crash clean_2 in
+    let same_1 = c.in_ok-register.ensures.same clean_1 inside in
+    let inside_1 = unchanged_inside old at_1 same_1 inside in
+    let sound_1 = sound_after old at_1 same_1 sound in
+    let same_2 = c.in_ok-payments.ensures.same clean_2 inside_1 in
+    let inside_2 = unchanged_inside at_1 at_2 same_2 inside_1 in
+    let sound_2 = sound_after at_1 at_2 same_2 sound_1 in
+    let register_held = c.in_ok-register.ensures.found clean_1 inside sound in
+    let payments_held = subst (λ (d : Database). HoldsPayments d.trees c.in_ok-payments.payments) (same_1.0.now_is) (c.in_ok-payments.ensures.found clean_2 inside_1 sound_1) in
+    let records_held = subst (λ (d : Database). HoldsRecords d.trees c.in_ok-records.records) (same_2.0.now_is ∙ same_1.0.now_is) (c.in_ok-records.ensures.found clean_3 inside_2 sound_2) in
+    record { desk = register_held.desk; rates = register_held.rates; bonds = register_held.bonds; tickets = payments_held.tickets; paid = payments_held.lines; batches = records_held.batches; replies = records_held.replies }

@@ -1,0 +1,57 @@
+use Rattle.std.proofs.Common.{subst}
+use Rattle.sqlite.specs.Effect.{Database}
+use Rattle.sqlite.specs.Held.{state}
+use Rattle.sqlite.proofs.Callers.{unchanged_then}
+use Rattle.ee_tables.specs.Keyed.{HoldsMap}
+use Rattle.ee_tables.specs.Rows.{reply_columns}
+use Rattle.ee_tables.proofs.KeepLemmas.{clean_before, unchanged_inside}
+use Rattle.ee_opening.specs.Shown.{reply_map}
+use Rattle.ee_opening.proofs.ReadLemmas.{sound_after, keeps_after}
+use Rattle.ee_opening.proofs.whole.read_records.Goals as goal
+
+pub returns-in_err-replies-clause-commit : goal.returns-in_err-replies-clause-commit
+returns-in_err-replies-clause-commit g c clean inside =
+    let old = state g.S.Store c.args.tx.now.conn.now in
+    let at_1 = state g.S.Store c.read_batches.new.tx.conn.now in
+    let at_2 = state g.S.Store c.read_replies.new.tx.conn.now in
+    let clean_2 = clean in
+    let clean_1 = clean_before at_1 at_2 c.read_replies.ensures.crash clean_2 in
+    let same_1 = c.in_ok-batches.ensures.same clean_1 inside in
+    let inside_1 = unchanged_inside old at_1 same_1 inside in
+    keeps_after old at_1 at_2 same_1 (c.read_replies.ensures.commit clean_2 inside_1)
+
+pub returns-clause-commit : goal.returns-clause-commit
+returns-clause-commit g c clean inside =
+    let old = state g.S.Store c.args.tx.now.conn.now in
+    let at_1 = state g.S.Store c.read_batches.new.tx.conn.now in
+    let at_2 = state g.S.Store c.read_replies.new.tx.conn.now in
+    let clean_2 = clean in
+    let clean_1 = clean_before at_1 at_2 c.read_replies.ensures.crash clean_2 in
+    let same_1 = c.in_ok-batches.ensures.same clean_1 inside in
+    let inside_1 = unchanged_inside old at_1 same_1 inside in
+    keeps_after old at_1 at_2 same_1 (c.read_replies.ensures.commit clean_2 inside_1)
+
+pub returns-clause-same : goal.returns-clause-same
+returns-clause-same g c clean inside =
+    let old = state g.S.Store c.args.tx.now.conn.now in
+    let at_1 = state g.S.Store c.read_batches.new.tx.conn.now in
+    let at_2 = state g.S.Store c.read_replies.new.tx.conn.now in
+    let clean_2 = clean in
+    let clean_1 = clean_before at_1 at_2 c.read_replies.ensures.crash clean_2 in
+    let same_1 = c.in_ok-batches.ensures.same clean_1 inside in
+    let inside_1 = unchanged_inside old at_1 same_1 inside in
+    unchanged_then old at_1 at_2 same_1 (c.in_ok-replies.ensures.same clean_2 inside_1)
+
+pub returns-clause-found : goal.returns-clause-found
+returns-clause-found g c clean inside sound =
+    let old = state g.S.Store c.args.tx.now.conn.now in
+    let at_1 = state g.S.Store c.read_batches.new.tx.conn.now in
+    let at_2 = state g.S.Store c.read_replies.new.tx.conn.now in
+    let clean_2 = clean in
+    let clean_1 = clean_before at_1 at_2 c.read_replies.ensures.crash clean_2 in
+    let same_1 = c.in_ok-batches.ensures.same clean_1 inside in
+    let inside_1 = unchanged_inside old at_1 same_1 inside in
+    let sound_1 = sound_after old at_1 same_1 sound in
+    let batches_held = c.in_ok-batches.ensures.found clean_1 inside sound in
+    let replies_held = subst (λ (d : Database). HoldsMap reply_columns (d.trees 11) (reply_map c.in_ok-replies.replies.items)) (same_1.0.now_is) (c.in_ok-replies.ensures.found clean_2 inside_1 sound_1) in
+    record { batches = batches_held; replies = replies_held }

@@ -1,0 +1,4 @@
+pub mod Making
+pub mod Reading
+pub mod Shown
+pub mod Whole

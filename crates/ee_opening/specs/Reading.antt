@@ -1,0 +1,58 @@
+-- What is read of a whole table.
+use Rattle.std.specs.Prelude.{◌≡◌, ◌&&◌, ℕ, Bool, true, false, IsTrue, List, [], ◌∷◌, map, pos, negsuc, None, Ok, Err, Result, IsPermutation}
+use Rattle.sqlite.specs.declared.types.Value.TheVariants.{Int}
+use Rattle.sqlite.specs.Order.{Row}
+use Rattle.sqlite.specs.Tree.{Trees}
+use Rattle.sqlite.specs.Schema.{Schema}
+use Rattle.sqlite.specs.Term.{Term, lit}
+use Rattle.sqlite_sql.specs.Term.{eval_all}
+use Rattle.sqlite_value.specs.declared.keys.Key.{Key}
+use Rattle.sqlite.specs.Query.{Query, inner, end}
+use Rattle.sqlite_resolve.specs.declared.compiled.Compiled.{Compiled}
+use Rattle.sqlite_resolve.specs.declared.error.CompileError.{CompileError}
+use Rattle.sqlite.specs.Command.TheVariants.{Select}
+use Rattle.sqlite.specs.Effect.{IsDatabase}
+use Rattle.sqlite.specs.Listing.{understood, reads_listing}
+use Rattle.sqlite.specs.State.{State}
+
+-- each element comes before the next
+abbrev pub rises : {X : Type 0} → (X → X → Bool) → List X → Bool
+rises precedes [] = true
+rises precedes (x ∷ []) = true
+rises precedes (x ∷ y ∷ ys) = precedes x y && rises precedes (y ∷ ys)
+
+-- all rows of a table, each shown by these terms
+abbrev pub whole_table : ℕ → List Term → List (Term × Key) → Query
+whole_table tree terms order = record {
+  from = inner tree end;
+  filter = [];
+  group = None;
+  project = terms;
+  distinct = false;
+  collations = [];
+  order = order;
+  limit = lit (Int (negsuc 0));
+  offset = lit (Int (pos 0));
+}
+
+abbrev pub IsQuery : Query → Result Compiled CompileError → Type 0
+IsQuery query (Ok c) = (names : List (List ℕ)) × (c.command ≡ Select (record { lets = []; body = query }) names) × (c.returning ≡ None) × (c.formats ≡ [])
+IsQuery query (Err e) = ⊥
+
+-- the text asks for the whole table
+pub record AsksForAll (schema : Schema) (text : List ℕ) (tree : ℕ) (terms : List Term) : Type 0 where
+  pub order : List (Term × Key)
+  pub query : IsQuery (whole_table tree terms order) (understood schema text)
+  pub unlisted : reads_listing schema text ≡ false
+
+-- what the terms show of a row
+abbrev pub shown_by : List Term → Row → Row
+shown_by terms row = eval_all terms ([] ∷ row ∷ [])
+
+-- the rows show the whole table, each row once
+abbrev pub ShowsAll : Trees → ℕ → List Term → List Row → Type 0
+ShowsAll db tree terms rows = IsPermutation (map (shown_by terms) (db tree)) rows
+
+-- the tables obey the schema, as `sqlite` keeps them
+abbrev pub IsSoundNow : State → Type 0
+IsSoundNow s = IsTrue s.is_open → IsDatabase s.now

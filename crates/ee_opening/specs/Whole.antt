@@ -1,0 +1,42 @@
+-- What all rows of a store are together.
+use Rattle.std.specs.Prelude.{◌≡◌, IsTrue}
+use Rattle.sqlite.specs.Tree.{Trees}
+use Rattle.sqlite.specs.State.{State}
+use Rattle.ee_tables.specs.Tables.{counter_schema}
+use Rattle.ee_tables.specs.Keyed.{HoldsMap, HoldsPairs}
+use Rattle.ee_tables.specs.Rows.{Rows, desk_columns, rate_columns, bond_columns, ticket_columns, paid_columns, batch_columns, reply_columns}
+use Rattle.ee_opening.specs.declared.whole.AllRows.{AllRows}
+use Rattle.ee_opening.specs.declared.whole.Register.{Register}
+use Rattle.ee_opening.specs.declared.whole.Payments.{Payments}
+use Rattle.ee_opening.specs.declared.whole.Records.{Records}
+use Rattle.ee_opening.specs.Shown.{desk_map, rate_map, bond_map, ticket_map, line_map, batch_map, reply_map}
+
+-- the last commit left the tables of version 1
+abbrev pub IsOurs : State → Type 0
+IsOurs s = IsTrue s.is_open → s.committed.schema ≡ counter_schema
+
+abbrev pub rows_of : AllRows → Rows
+rows_of all = record {
+  desk = desk_map all.desk.items;
+  rates = rate_map all.rates.items;
+  bonds = bond_map all.bonds.items;
+  tickets = ticket_map all.tickets.items;
+  paid = line_map all.lines.items;
+  batches = batch_map all.batches.items;
+  replies = reply_map all.replies.items;
+}
+
+-- ---- parts of the whole
+
+pub record HoldsRegister (db : Trees) (part : Register) : Type 0 where
+  pub desk : HoldsMap desk_columns (db 0) (desk_map part.desk.items)
+  pub rates : HoldsMap rate_columns (db 1) (rate_map part.rates.items)
+  pub bonds : HoldsPairs bond_columns (db 2) (bond_map part.bonds.items)
+
+pub record HoldsPayments (db : Trees) (part : Payments) : Type 0 where
+  pub tickets : HoldsMap ticket_columns (db 5) (ticket_map part.tickets.items)
+  pub lines : HoldsPairs paid_columns (db 7) (line_map part.lines.items)
+
+pub record HoldsRecords (db : Trees) (part : Records) : Type 0 where
+  pub batches : HoldsMap batch_columns (db 10) (batch_map part.batches.items)
+  pub replies : HoldsMap reply_columns (db 11) (reply_map part.replies.items)

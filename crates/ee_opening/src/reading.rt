@@ -1,0 +1,100 @@
+//! Reading the rows of a table, and testing that their keys rise.
+
+ghost use Rattle.std.specs.Prelude.{◌≡◌, List, Bool, true, IsTrue, IfOk, OnOk, OnErr, map, ℕ};
+ghost use Rattle.sqlite.specs.State.{HasCleanDisk, IsUnchanged, KeepsCommit, Survives};
+ghost use Rattle.sqlite.specs.Held.{state};
+ghost use Rattle.sqlite.specs.Term.{Term};
+ghost use Rattle.sqlite.specs.Order.{Row as Columns};
+ghost use Rattle.ee_tables.specs.Rows.{IsInside};
+ghost use Rattle.ee_tables.specs.Tables.{counter_schema};
+ghost use Rattle.ee_opening.specs.Reading.{rises, AsksForAll, ShowsAll};
+
+use crate::making::OpenFault;
+use sqlite::{Alter, Row, Transaction};
+use std::alloc::Global;
+
+/// A row of a table, as a query of the whole table shows it.
+pub trait Record: Sized {
+    // What the query shows.
+    ghost shown: { Self → Columns };
+
+    // It stands before the other, in the order of the keys.
+    ghost stands_before: { Self → Self → Bool };
+
+    /// Reads a row that the query showed.
+    fn read(row: &Row) -> Result<Self, OpenFault>
+        ensures exact { IfOk result (λ found. row.now ≡ shown found) };
+
+    /// Whether its key is below the other's.
+    fn precedes(&self, next: &Self) -> bool
+        ensures { result ≡ stands_before self.now next.now };
+}
+
+/// Reads the rows that a query showed, each of them.
+fn read_each<T: Record + Drop>(alloc: Global, rows: &[Row]) -> Result<Vec<T>, OpenFault>
+    ensures exact { IfOk result (λ found. rows.now ≡ map T.shown found.items) }
+{
+    let mut found = Vec::new(alloc);
+    for row in rows {
+        let next = T::read(row)?;
+        if found.push(next).is_err() {
+            return Err(OpenFault::NoMemory);
+        }
+    }
+    Ok(found)
+}
+
+/// Whether each key is below the next.
+fn keys_rise<T: Record>(found: &[T]) -> bool
+    ensures { result ≡ rises T.stands_before found.now }
+{
+    let mut rest = found;
+    while let Some((first, more)) = rest.split_first() {
+        if let Some(next) = more.first() {
+            if !first.precedes(next) {
+                return false;
+            }
+        }
+        rest = more;
+    }
+    true
+}
+
+/// All rows of a table.
+fn all_rows<S: Alter>(tx: &mut Transaction<'_, S>, sql: &str) -> Result<Vec<Row>, OpenFault>
+    ensures same_reference { tx.new.conn.ghost_name ≡ tx.old.conn.ghost_name }
+    ensures open { HasCleanDisk (state S.Store tx.new.conn.now) → OnOk result (IsTrue (state S.Store tx.new.conn.now).is_open) }
+    ensures found { HasCleanDisk (state S.Store tx.new.conn.now) → IfOk result (λ found. (tree : ℕ) (terms : List Term) → AsksForAll counter_schema sql.now tree terms
+        → IsInside (state S.Store tx.old.conn.now) → IsTrue (state S.Store tx.old.conn.now).is_open × ShowsAll (state S.Store tx.old.conn.now).now.trees tree terms found.items) }
+    ensures same { HasCleanDisk (state S.Store tx.new.conn.now) → OnOk result ((tree : ℕ) (terms : List Term) → AsksForAll counter_schema sql.now tree terms
+        → IsInside (state S.Store tx.old.conn.now) → IsUnchanged (state S.Store tx.old.conn.now) (state S.Store tx.new.conn.now)) }
+    ensures commit { HasCleanDisk (state S.Store tx.new.conn.now) → IsInside (state S.Store tx.old.conn.now) → KeepsCommit (state S.Store tx.old.conn.now) (state S.Store tx.new.conn.now) }
+    ensures crash { Survives (state S.Store tx.old.conn.now) (state S.Store tx.new.conn.now) (λ _. ⊥) }
+{
+    let rows = tx.query_all(sql, &[])?;
+    Ok(rows)
+}
+
+/// The rows of a table, in order of their keys.
+pub(crate) fn read_table<S: Alter, T: Record + Drop>(
+    tx: &mut Transaction<'_, S>,
+    alloc: Global,
+    sql: &str,
+) -> Result<Vec<T>, OpenFault>
+    ensures same_reference { tx.new.conn.ghost_name ≡ tx.old.conn.ghost_name }
+    ensures open { HasCleanDisk (state S.Store tx.new.conn.now) → OnOk result (IsTrue (state S.Store tx.new.conn.now).is_open) }
+    ensures found { HasCleanDisk (state S.Store tx.new.conn.now) → IfOk result (λ found. (tree : ℕ) (terms : List Term) → AsksForAll counter_schema sql.now tree terms
+        → IsInside (state S.Store tx.old.conn.now) → IsTrue (state S.Store tx.old.conn.now).is_open × ShowsAll (state S.Store tx.old.conn.now).now.trees tree terms (map T.shown found.items)) }
+    ensures rises { IfOk result (λ found. rises T.stands_before found.items ≡ true) }
+    ensures same { HasCleanDisk (state S.Store tx.new.conn.now) → OnOk result ((tree : ℕ) (terms : List Term) → AsksForAll counter_schema sql.now tree terms
+        → IsInside (state S.Store tx.old.conn.now) → IsUnchanged (state S.Store tx.old.conn.now) (state S.Store tx.new.conn.now)) }
+    ensures commit { HasCleanDisk (state S.Store tx.new.conn.now) → IsInside (state S.Store tx.old.conn.now) → KeepsCommit (state S.Store tx.old.conn.now) (state S.Store tx.new.conn.now) }
+    ensures crash { Survives (state S.Store tx.old.conn.now) (state S.Store tx.new.conn.now) (λ _. ⊥) }
+{
+    let rows = all_rows(tx, sql)?;
+    let found: Vec<T> = read_each(alloc, &rows)?;
+    if !keys_rise(&found) {
+        return Err(OpenFault::Unusable);
+    }
+    Ok(found)
+}

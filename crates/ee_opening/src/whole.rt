@@ -1,0 +1,155 @@
+//! Reading the whole store.
+
+ghost use Rattle.std.specs.Prelude.{◌≡◌, IsTrue, IfOk, OnOk};
+ghost use Rattle.sqlite.specs.State.{HasCleanDisk, IsUnchanged, KeepsCommit, Survives};
+ghost use Rattle.sqlite.specs.Held.{state};
+ghost use Rattle.ee_tables.specs.Rows.{Rows, IsInside, Has, Holds};
+ghost use Rattle.ee_opening.specs.Reading.{IsSoundNow};
+ghost use Rattle.ee_opening.specs.Whole.{rows_of, HoldsRegister, HoldsPayments, HoldsRecords, IsOurs};
+
+use crate::entries::{
+    StoredBatch, StoredBond, StoredDesk, StoredLine, StoredRate, StoredReply, StoredTicket,
+};
+use crate::making::OpenFault;
+use crate::tables::{
+    read_batches, read_bonds, read_desk, read_lines, read_rates, read_replies, read_tickets,
+};
+use sqlite::{Alter, Connection, Transaction};
+use std::alloc::Global;
+
+/// All rows of a store, each table in order of its keys.
+#[derive(Drop)]
+pub struct AllRows {
+    /// The row of the desk.
+    pub desk: Vec<StoredDesk>,
+    /// The rates.
+    pub rates: Vec<StoredRate>,
+    /// The bonds.
+    pub bonds: Vec<StoredBond>,
+    /// The tickets.
+    pub tickets: Vec<StoredTicket>,
+    /// The lines of the tickets.
+    pub lines: Vec<StoredLine>,
+    /// The batches.
+    pub batches: Vec<StoredBatch>,
+    /// The kept acts and replies.
+    pub replies: Vec<StoredReply>,
+}
+
+/// The rows of the register.
+#[derive(Drop)]
+pub(crate) struct Register {
+    desk: Vec<StoredDesk>,
+    rates: Vec<StoredRate>,
+    bonds: Vec<StoredBond>,
+}
+
+/// The rows of the payments.
+#[derive(Drop)]
+pub(crate) struct Payments {
+    tickets: Vec<StoredTicket>,
+    lines: Vec<StoredLine>,
+}
+
+/// The rows of what is kept.
+#[derive(Drop)]
+pub(crate) struct Records {
+    batches: Vec<StoredBatch>,
+    replies: Vec<StoredReply>,
+}
+
+/// Reads the desk, the rates and the bonds.
+fn read_register<S: Alter>(
+    tx: &mut Transaction<'_, S>,
+    alloc: Global,
+) -> Result<Register, OpenFault>
+    ensures same_reference { tx.new.conn.ghost_name ≡ tx.old.conn.ghost_name }
+    ensures open { HasCleanDisk (state S.Store tx.new.conn.now) → OnOk result (IsTrue (state S.Store tx.new.conn.now).is_open) }
+    ensures found { HasCleanDisk (state S.Store tx.new.conn.now) → IsInside (state S.Store tx.old.conn.now) → IsSoundNow (state S.Store tx.old.conn.now) → IfOk result (λ found. HoldsRegister (state S.Store tx.old.conn.now).now.trees found) }
+    ensures same { HasCleanDisk (state S.Store tx.new.conn.now) → IsInside (state S.Store tx.old.conn.now) → OnOk result (IsUnchanged (state S.Store tx.old.conn.now) (state S.Store tx.new.conn.now)) }
+    ensures commit { HasCleanDisk (state S.Store tx.new.conn.now) → IsInside (state S.Store tx.old.conn.now) → KeepsCommit (state S.Store tx.old.conn.now) (state S.Store tx.new.conn.now) }
+    ensures crash { Survives (state S.Store tx.old.conn.now) (state S.Store tx.new.conn.now) (λ _. ⊥) }
+{
+    let desk = read_desk(tx, alloc)?;
+    let rates = read_rates(tx, alloc)?;
+    let bonds = read_bonds(tx, alloc)?;
+    Ok(Register { desk, rates, bonds })
+}
+
+/// Reads the tickets and their lines.
+fn read_payments<S: Alter>(
+    tx: &mut Transaction<'_, S>,
+    alloc: Global,
+) -> Result<Payments, OpenFault>
+    ensures same_reference { tx.new.conn.ghost_name ≡ tx.old.conn.ghost_name }
+    ensures open { HasCleanDisk (state S.Store tx.new.conn.now) → OnOk result (IsTrue (state S.Store tx.new.conn.now).is_open) }
+    ensures found { HasCleanDisk (state S.Store tx.new.conn.now) → IsInside (state S.Store tx.old.conn.now) → IsSoundNow (state S.Store tx.old.conn.now) → IfOk result (λ found. HoldsPayments (state S.Store tx.old.conn.now).now.trees found) }
+    ensures same { HasCleanDisk (state S.Store tx.new.conn.now) → IsInside (state S.Store tx.old.conn.now) → OnOk result (IsUnchanged (state S.Store tx.old.conn.now) (state S.Store tx.new.conn.now)) }
+    ensures commit { HasCleanDisk (state S.Store tx.new.conn.now) → IsInside (state S.Store tx.old.conn.now) → KeepsCommit (state S.Store tx.old.conn.now) (state S.Store tx.new.conn.now) }
+    ensures crash { Survives (state S.Store tx.old.conn.now) (state S.Store tx.new.conn.now) (λ _. ⊥) }
+{
+    let tickets = read_tickets(tx, alloc)?;
+    let lines = read_lines(tx, alloc)?;
+    Ok(Payments { tickets, lines })
+}
+
+/// Reads the batches and the replies.
+fn read_records<S: Alter>(tx: &mut Transaction<'_, S>, alloc: Global) -> Result<Records, OpenFault>
+    ensures same_reference { tx.new.conn.ghost_name ≡ tx.old.conn.ghost_name }
+    ensures open { HasCleanDisk (state S.Store tx.new.conn.now) → OnOk result (IsTrue (state S.Store tx.new.conn.now).is_open) }
+    ensures found { HasCleanDisk (state S.Store tx.new.conn.now) → IsInside (state S.Store tx.old.conn.now) → IsSoundNow (state S.Store tx.old.conn.now) → IfOk result (λ found. HoldsRecords (state S.Store tx.old.conn.now).now.trees found) }
+    ensures same { HasCleanDisk (state S.Store tx.new.conn.now) → IsInside (state S.Store tx.old.conn.now) → OnOk result (IsUnchanged (state S.Store tx.old.conn.now) (state S.Store tx.new.conn.now)) }
+    ensures commit { HasCleanDisk (state S.Store tx.new.conn.now) → IsInside (state S.Store tx.old.conn.now) → KeepsCommit (state S.Store tx.old.conn.now) (state S.Store tx.new.conn.now) }
+    ensures crash { Survives (state S.Store tx.old.conn.now) (state S.Store tx.new.conn.now) (λ _. ⊥) }
+{
+    let batches = read_batches(tx, alloc)?;
+    let replies = read_replies(tx, alloc)?;
+    Ok(Records { batches, replies })
+}
+
+/// Reads all tables.
+fn read_in<S: Alter>(tx: &mut Transaction<'_, S>, alloc: Global) -> Result<AllRows, OpenFault>
+    ensures same_reference { tx.new.conn.ghost_name ≡ tx.old.conn.ghost_name }
+    ensures open { HasCleanDisk (state S.Store tx.new.conn.now) → OnOk result (IsTrue (state S.Store tx.new.conn.now).is_open) }
+    ensures found { HasCleanDisk (state S.Store tx.new.conn.now) → IsInside (state S.Store tx.old.conn.now) → IsSoundNow (state S.Store tx.old.conn.now) → IfOk result (λ found. Holds (state S.Store tx.old.conn.now).now.trees (rows_of found)) }
+    ensures same { HasCleanDisk (state S.Store tx.new.conn.now) → IsInside (state S.Store tx.old.conn.now) → OnOk result (IsUnchanged (state S.Store tx.old.conn.now) (state S.Store tx.new.conn.now)) }
+    ensures commit { HasCleanDisk (state S.Store tx.new.conn.now) → IsInside (state S.Store tx.old.conn.now) → KeepsCommit (state S.Store tx.old.conn.now) (state S.Store tx.new.conn.now) }
+    ensures crash { Survives (state S.Store tx.old.conn.now) (state S.Store tx.new.conn.now) (λ _. ⊥) }
+{
+    let register = read_register(tx, alloc)?;
+    let payments = read_payments(tx, alloc)?;
+    let records = read_records(tx, alloc)?;
+    Ok(AllRows {
+        desk: register.desk,
+        rates: register.rates,
+        bonds: register.bonds,
+        tickets: payments.tickets,
+        lines: payments.lines,
+        batches: records.batches,
+        replies: records.replies,
+    })
+}
+
+/// Reads all rows of a store that has the tables of version 1.
+///
+/// The store keeps what was committed, and a stop leaves what it could leave before. It takes time
+/// and memory in proportion to the rows.
+///
+/// # Errors
+///
+/// `NoMemory` where there is not enough memory, `Unusable` where a row has a number below zero or a
+/// table is missing, and else `StoreFailed`, as where the connection is in a transaction.
+pub fn read_all<S: Alter>(conn: &mut Connection<S>, alloc: Global) -> Result<AllRows, OpenFault>
+    ensures found { HasCleanDisk (state S.Store conn.new) → IfOk result (λ all. IsOurs (state S.Store conn.old) → Has (state S.Store conn.new) (rows_of all)) }
+    ensures those { HasCleanDisk (state S.Store conn.new) → IfOk result (λ all. (rows : Rows) → Has (state S.Store conn.old) rows → IsTrue (state S.Store conn.old).is_open → rows_of all ≡ rows) }
+    ensures kept { HasCleanDisk (state S.Store conn.new) → IsOurs (state S.Store conn.old) → KeepsCommit (state S.Store conn.old) (state S.Store conn.new) }
+    ensures crash { Survives (state S.Store conn.old) (state S.Store conn.new) (λ _. ⊥) }
+{
+    if !conn.is_autocommit() {
+        return Err(OpenFault::StoreFailed);
+    }
+    let _schema = conn.schema();
+    let mut tx = conn.transaction();
+    let all = read_in(&mut tx, alloc)?;
+    Ok(all)
+}
