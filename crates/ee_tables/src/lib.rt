@@ -10,6 +10,8 @@ mod rates;
 mod reading;
 mod records;
 mod replies;
+#[cfg(test)]
+mod tests;
 mod tickets;
 mod values;
 
