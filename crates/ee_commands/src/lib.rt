@@ -1,0 +1,11 @@
+//! The command line of the counter: its rows, and what the words of a line ask for.
+#![tactic(auto)]
+
+mod commands;
+mod lines;
+mod rows;
+#[cfg(test)]
+mod tests;
+mod words;
+
+pub use commands::{Command, CommandFault, FileKind, read_command};
