@@ -2,6 +2,7 @@
 use Rattle.std.proofs.Common.{◌≡◌, ℕ, ℤ, pos, List, [], ◌∷◌, map, true, Some, None, Option, refl, sym, ap, subst, ◌∙◌, nat_cmp}
 use Rattle.std.specs.Prelude.{IsPermutation, nat_lt, int_lt, drop}
 use Rattle.std.specs.List.{AllByRecursion}
+use Rattle.std.specs.FinMap.{entries, entries-from_sorted}
 use Rattle.std.proofs.lemmas.Cmp.{nat_cmp_total}
 use Rattle.sqlite.specs.declared.types.Value.{Value}
 use Rattle.sqlite.specs.declared.types.Value.TheVariants.{Int, Text}
@@ -195,3 +196,24 @@ holds_lines db sound has all ids shows up numbers ids_up =
     let sorted = sorted_if_rises pair_cmp pair_total spec.line_entry all (sym (rises_same _ _ (λ (a b : StoredLine). pair_below (a.ticket, a.place) (b.ticket, b.place)) all) ∙ up) in
     holds_pairs paid_columns un_lines back_lines line_terms (db.trees 7) (map spec.line_entry all) (map (λ (it : Rowid). it.rowid) ids) same rowids
     (all_weaker _ _ alike_lines (db.trees 7) (typed_rows db sound has paid (typed db sound has).1.1.1.1.0)) (apart_if_rises (λ (it : Rowid). it.rowid) ids ids_up) sorted
+
+pub listed_desk : (all : List StoredDesk) → rises (λ a b. nat_lt a.id b.id) all ≡ true → entries (spec.desk_map all) ≡ map spec.desk_entry all
+listed_desk all up = entries-from_sorted nat_cmp (map spec.desk_entry all) (sorted_if_rises nat_cmp nat_cmp_total spec.desk_entry all (sym (rises_same _ _ (λ (a b : StoredDesk). number_below a.id b.id) all) ∙ up))
+
+pub listed_rates : (all : List StoredRate) → rises (λ a b. nat_lt a.period b.period) all ≡ true → entries (spec.rate_map all) ≡ map spec.rate_entry all
+listed_rates all up = entries-from_sorted nat_cmp (map spec.rate_entry all) (sorted_if_rises nat_cmp nat_cmp_total spec.rate_entry all (sym (rises_same _ _ (λ (a b : StoredRate). number_below a.period b.period) all) ∙ up))
+
+pub listed_tickets : (all : List StoredTicket) → rises (λ a b. nat_lt a.ticket b.ticket) all ≡ true → entries (spec.ticket_map all) ≡ map spec.ticket_entry all
+listed_tickets all up = entries-from_sorted nat_cmp (map spec.ticket_entry all) (sorted_if_rises nat_cmp nat_cmp_total spec.ticket_entry all (sym (rises_same _ _ (λ (a b : StoredTicket). number_below a.ticket b.ticket) all) ∙ up))
+
+pub listed_batches : (all : List StoredBatch) → rises (λ a b. nat_lt a.day b.day) all ≡ true → entries (spec.batch_map all) ≡ map spec.batch_entry all
+listed_batches all up = entries-from_sorted nat_cmp (map spec.batch_entry all) (sorted_if_rises nat_cmp nat_cmp_total spec.batch_entry all (sym (rises_same _ _ (λ (a b : StoredBatch). number_below a.day b.day) all) ∙ up))
+
+pub listed_replies : (all : List StoredReply) → rises (λ a b. nat_lt a.number b.number) all ≡ true → entries (spec.reply_map all) ≡ map spec.reply_entry all
+listed_replies all up = entries-from_sorted nat_cmp (map spec.reply_entry all) (sorted_if_rises nat_cmp nat_cmp_total spec.reply_entry all (sym (rises_same _ _ (λ (a b : StoredReply). number_below a.number b.number) all) ∙ up))
+
+pub listed_bonds : (all : List StoredBond) → rises (λ a b. pair_lt (a.letter, a.number) (b.letter, b.number)) all ≡ true → entries (spec.bond_map all) ≡ map spec.bond_entry all
+listed_bonds all up = entries-from_sorted pair_cmp (map spec.bond_entry all) (sorted_if_rises pair_cmp pair_total spec.bond_entry all (sym (rises_same _ _ (λ (a b : StoredBond). pair_below (a.letter, a.number) (b.letter, b.number)) all) ∙ up))
+
+pub listed_lines : (all : List StoredLine) → rises (λ a b. pair_lt (a.ticket, a.place) (b.ticket, b.place)) all ≡ true → entries (spec.line_map all) ≡ map spec.line_entry all
+listed_lines all up = entries-from_sorted pair_cmp (map spec.line_entry all) (sorted_if_rises pair_cmp pair_total spec.line_entry all (sym (rises_same _ _ (λ (a b : StoredLine). pair_below (a.ticket, a.place) (b.ticket, b.place)) all) ∙ up))

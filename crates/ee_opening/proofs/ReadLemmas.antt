@@ -14,3 +14,7 @@ sound_after a b same sound is_open = subst IsDatabase (sym same.0.now_is) (sound
 
 pub keeps_after : (a b c : State) → IsUnchanged a b → KeepsCommit b c → KeepsCommit a c
 keeps_after a b c same keeps = keeps_then a b c (unchanged_keeps a b (inl same)) keeps
+
+pub each_ok : {X E : Type 0} {P Q : X → Type 0} (r : Result X E) → ((x : X) → P x → Q x) → IfOk r P → IfOk r Q
+each_ok (Ok x) f p = f x p
+each_ok (Err e) f p = tt

@@ -1,5 +1,6 @@
 -- What all rows of a store are together.
-use Rattle.std.specs.Prelude.{◌≡◌, IsTrue}
+use Rattle.std.specs.Prelude.{◌≡◌, IsTrue, map}
+use Rattle.std.specs.FinMap.{entries}
 use Rattle.sqlite.specs.Tree.{Trees}
 use Rattle.sqlite.specs.State.{State}
 use Rattle.ee_tables.specs.Tables.{counter_schema}
@@ -9,7 +10,7 @@ use Rattle.ee_opening.specs.declared.whole.AllRows.{AllRows}
 use Rattle.ee_opening.specs.declared.whole.Register.{Register}
 use Rattle.ee_opening.specs.declared.whole.Payments.{Payments}
 use Rattle.ee_opening.specs.declared.whole.Records.{Records}
-use Rattle.ee_opening.specs.Shown.{desk_map, rate_map, bond_map, ticket_map, line_map, batch_map, reply_map}
+use Rattle.ee_opening.specs.Shown.{desk_map, rate_map, bond_map, ticket_map, line_map, batch_map, reply_map, desk_entry, rate_entry, bond_entry, ticket_entry, line_entry, batch_entry, reply_entry}
 
 -- the last commit left the tables of version 1
 abbrev pub IsOurs : State → Type 0
@@ -26,7 +27,30 @@ rows_of all = record {
   replies = reply_map all.replies.items;
 }
 
+-- The entries of each map are the rows that were read, in their order.
+pub record ListsAll (all : AllRows) : Type 0 where
+  pub desk : entries (desk_map all.desk.items) ≡ map desk_entry all.desk.items
+  pub rates : entries (rate_map all.rates.items) ≡ map rate_entry all.rates.items
+  pub bonds : entries (bond_map all.bonds.items) ≡ map bond_entry all.bonds.items
+  pub tickets : entries (ticket_map all.tickets.items) ≡ map ticket_entry all.tickets.items
+  pub lines : entries (line_map all.lines.items) ≡ map line_entry all.lines.items
+  pub batches : entries (batch_map all.batches.items) ≡ map batch_entry all.batches.items
+  pub replies : entries (reply_map all.replies.items) ≡ map reply_entry all.replies.items
+
 -- ---- parts of the whole
+
+pub record ListsRegister (part : Register) : Type 0 where
+  pub desk : entries (desk_map part.desk.items) ≡ map desk_entry part.desk.items
+  pub rates : entries (rate_map part.rates.items) ≡ map rate_entry part.rates.items
+  pub bonds : entries (bond_map part.bonds.items) ≡ map bond_entry part.bonds.items
+
+pub record ListsPayments (part : Payments) : Type 0 where
+  pub tickets : entries (ticket_map part.tickets.items) ≡ map ticket_entry part.tickets.items
+  pub lines : entries (line_map part.lines.items) ≡ map line_entry part.lines.items
+
+pub record ListsRecords (part : Records) : Type 0 where
+  pub batches : entries (batch_map part.batches.items) ≡ map batch_entry part.batches.items
+  pub replies : entries (reply_map part.replies.items) ≡ map reply_entry part.replies.items
 
 pub record HoldsRegister (db : Trees) (part : Register) : Type 0 where
   pub desk : HoldsMap desk_columns (db 0) (desk_map part.desk.items)

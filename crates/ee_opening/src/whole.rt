@@ -5,7 +5,7 @@ ghost use Rattle.sqlite.specs.State.{HasCleanDisk, IsUnchanged, KeepsCommit, Sur
 ghost use Rattle.sqlite.specs.Held.{state};
 ghost use Rattle.ee_tables.specs.Rows.{Rows, IsInside, Has, Holds};
 ghost use Rattle.ee_opening.specs.Reading.{IsSoundNow};
-ghost use Rattle.ee_opening.specs.Whole.{rows_of, HoldsRegister, HoldsPayments, HoldsRecords, IsOurs};
+ghost use Rattle.ee_opening.specs.Whole.{rows_of, HoldsRegister, HoldsPayments, HoldsRecords, IsOurs, ListsAll, ListsRegister, ListsPayments, ListsRecords};
 
 use crate::entries::{
     StoredBatch, StoredBond, StoredDesk, StoredLine, StoredRate, StoredReply, StoredTicket,
@@ -66,6 +66,7 @@ fn read_register<S: Alter>(
     ensures same_reference { tx.new.conn.ghost_name ≡ tx.old.conn.ghost_name }
     ensures open { HasCleanDisk (state S.Store tx.new.conn.now) → OnOk result (IsTrue (state S.Store tx.new.conn.now).is_open) }
     ensures found { HasCleanDisk (state S.Store tx.new.conn.now) → IsInside (state S.Store tx.old.conn.now) → IsSoundNow (state S.Store tx.old.conn.now) → IfOk result (λ found. HoldsRegister (state S.Store tx.old.conn.now).now.trees found) }
+    ensures listed { IfOk result ListsRegister }
     ensures same { HasCleanDisk (state S.Store tx.new.conn.now) → IsInside (state S.Store tx.old.conn.now) → OnOk result (IsUnchanged (state S.Store tx.old.conn.now) (state S.Store tx.new.conn.now)) }
     ensures commit { HasCleanDisk (state S.Store tx.new.conn.now) → IsInside (state S.Store tx.old.conn.now) → KeepsCommit (state S.Store tx.old.conn.now) (state S.Store tx.new.conn.now) }
     ensures crash { Survives (state S.Store tx.old.conn.now) (state S.Store tx.new.conn.now) (λ _. ⊥) }
@@ -84,6 +85,7 @@ fn read_payments<S: Alter>(
     ensures same_reference { tx.new.conn.ghost_name ≡ tx.old.conn.ghost_name }
     ensures open { HasCleanDisk (state S.Store tx.new.conn.now) → OnOk result (IsTrue (state S.Store tx.new.conn.now).is_open) }
     ensures found { HasCleanDisk (state S.Store tx.new.conn.now) → IsInside (state S.Store tx.old.conn.now) → IsSoundNow (state S.Store tx.old.conn.now) → IfOk result (λ found. HoldsPayments (state S.Store tx.old.conn.now).now.trees found) }
+    ensures listed { IfOk result ListsPayments }
     ensures same { HasCleanDisk (state S.Store tx.new.conn.now) → IsInside (state S.Store tx.old.conn.now) → OnOk result (IsUnchanged (state S.Store tx.old.conn.now) (state S.Store tx.new.conn.now)) }
     ensures commit { HasCleanDisk (state S.Store tx.new.conn.now) → IsInside (state S.Store tx.old.conn.now) → KeepsCommit (state S.Store tx.old.conn.now) (state S.Store tx.new.conn.now) }
     ensures crash { Survives (state S.Store tx.old.conn.now) (state S.Store tx.new.conn.now) (λ _. ⊥) }
@@ -98,6 +100,7 @@ fn read_records<S: Alter>(tx: &mut Transaction<'_, S>, alloc: Global) -> Result<
     ensures same_reference { tx.new.conn.ghost_name ≡ tx.old.conn.ghost_name }
     ensures open { HasCleanDisk (state S.Store tx.new.conn.now) → OnOk result (IsTrue (state S.Store tx.new.conn.now).is_open) }
     ensures found { HasCleanDisk (state S.Store tx.new.conn.now) → IsInside (state S.Store tx.old.conn.now) → IsSoundNow (state S.Store tx.old.conn.now) → IfOk result (λ found. HoldsRecords (state S.Store tx.old.conn.now).now.trees found) }
+    ensures listed { IfOk result ListsRecords }
     ensures same { HasCleanDisk (state S.Store tx.new.conn.now) → IsInside (state S.Store tx.old.conn.now) → OnOk result (IsUnchanged (state S.Store tx.old.conn.now) (state S.Store tx.new.conn.now)) }
     ensures commit { HasCleanDisk (state S.Store tx.new.conn.now) → IsInside (state S.Store tx.old.conn.now) → KeepsCommit (state S.Store tx.old.conn.now) (state S.Store tx.new.conn.now) }
     ensures crash { Survives (state S.Store tx.old.conn.now) (state S.Store tx.new.conn.now) (λ _. ⊥) }
@@ -112,6 +115,7 @@ fn read_in<S: Alter>(tx: &mut Transaction<'_, S>, alloc: Global) -> Result<AllRo
     ensures same_reference { tx.new.conn.ghost_name ≡ tx.old.conn.ghost_name }
     ensures open { HasCleanDisk (state S.Store tx.new.conn.now) → OnOk result (IsTrue (state S.Store tx.new.conn.now).is_open) }
     ensures found { HasCleanDisk (state S.Store tx.new.conn.now) → IsInside (state S.Store tx.old.conn.now) → IsSoundNow (state S.Store tx.old.conn.now) → IfOk result (λ found. Holds (state S.Store tx.old.conn.now).now.trees (rows_of found)) }
+    ensures listed { IfOk result ListsAll }
     ensures same { HasCleanDisk (state S.Store tx.new.conn.now) → IsInside (state S.Store tx.old.conn.now) → OnOk result (IsUnchanged (state S.Store tx.old.conn.now) (state S.Store tx.new.conn.now)) }
     ensures commit { HasCleanDisk (state S.Store tx.new.conn.now) → IsInside (state S.Store tx.old.conn.now) → KeepsCommit (state S.Store tx.old.conn.now) (state S.Store tx.new.conn.now) }
     ensures crash { Survives (state S.Store tx.old.conn.now) (state S.Store tx.new.conn.now) (λ _. ⊥) }
@@ -142,6 +146,7 @@ fn read_in<S: Alter>(tx: &mut Transaction<'_, S>, alloc: Global) -> Result<AllRo
 pub fn read_all<S: Alter>(conn: &mut Connection<S>, alloc: Global) -> Result<AllRows, OpenFault>
     ensures found { HasCleanDisk (state S.Store conn.new) → IfOk result (λ all. IsOurs (state S.Store conn.old) → Has (state S.Store conn.new) (rows_of all)) }
     ensures those { HasCleanDisk (state S.Store conn.new) → IfOk result (λ all. (rows : Rows) → Has (state S.Store conn.old) rows → IsTrue (state S.Store conn.old).is_open → rows_of all ≡ rows) }
+    ensures listed { IfOk result ListsAll }
     ensures kept { HasCleanDisk (state S.Store conn.new) → IsOurs (state S.Store conn.old) → KeepsCommit (state S.Store conn.old) (state S.Store conn.new) }
     ensures crash { Survives (state S.Store conn.old) (state S.Store conn.new) (λ _. ⊥) }
 {

@@ -8,7 +8,7 @@ use Rattle.ee_opening.specs.declared.entries.Rowid.{Rowid}
 use Rattle.ee_opening.specs.Reading.{ShowsAll}
 use Rattle.ee_opening.proofs.QuestionLemmas.{bond_terms, rowid_terms, asks_bonds, asks_bond_rowids}
 use Rattle.ee_opening.proofs.ReadLemmas.{keeps_after}
-use Rattle.ee_opening.proofs.EachTable.{holds_bonds}
+use Rattle.ee_opening.proofs.EachTable.{holds_bonds, listed_bonds}
 use Rattle.ee_opening.proofs.tables.read_bonds.Goals as goal
 
 pub returns-in_err-_rowids-clause-commit : goal.returns-in_err-_rowids-clause-commit
@@ -54,3 +54,6 @@ returns-clause-found g c clean inside sound =
     let ids = c.in_ok-_rowids._rowids.items in
     holds_bonds old.now (sound shows.0) (inside shows.0).1 c.in_ok-found.found.items ids shows.1 c.in_ok-found.ensures.rises
     (subst (λ (d : Database). ShowsAll d.trees 2 rowid_terms (map (λ (it : Rowid). Int it.rowid ∷ []) ids)) same.0.now_is numbers.1) c.in_ok-_rowids.ensures.rises
+
+pub returns-clause-listed : goal.returns-clause-listed
+returns-clause-listed g c = listed_bonds c.in_ok-found.found.items c.in_ok-found.ensures.rises

@@ -1,8 +1,8 @@
 use Rattle.sqlite.specs.Held.{state}
 use Rattle.ee_tables.proofs.KeepLemmas.{on_ok}
 use Rattle.ee_opening.proofs.QuestionLemmas.{reply_terms, asks_replies}
-use Rattle.ee_opening.proofs.ReadLemmas.{both_ok}
-use Rattle.ee_opening.proofs.EachTable.{holds_replies}
+use Rattle.ee_opening.proofs.ReadLemmas.{both_ok, each_ok}
+use Rattle.ee_opening.proofs.EachTable.{holds_replies, listed_replies}
 use Rattle.ee_opening.proofs.tables.read_replies.Goals as goal
 
 pub returns-clause-found : goal.returns-clause-found
@@ -12,3 +12,6 @@ returns-clause-found g c clean inside sound =
 
 pub returns-clause-same : goal.returns-clause-same
 returns-clause-same g c clean inside = on_ok c.read_table.result (λ same. same 11 reply_terms asks_replies inside) (c.read_table.ensures.same clean)
+
+pub returns-clause-listed : goal.returns-clause-listed
+returns-clause-listed g c = each_ok c.read_table.result (λ found up. listed_replies found.items up) c.read_table.ensures.rises

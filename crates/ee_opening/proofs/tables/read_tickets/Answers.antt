@@ -1,8 +1,8 @@
 use Rattle.sqlite.specs.Held.{state}
 use Rattle.ee_tables.proofs.KeepLemmas.{on_ok}
 use Rattle.ee_opening.proofs.QuestionLemmas.{ticket_terms, asks_tickets}
-use Rattle.ee_opening.proofs.ReadLemmas.{both_ok}
-use Rattle.ee_opening.proofs.EachTable.{holds_tickets}
+use Rattle.ee_opening.proofs.ReadLemmas.{both_ok, each_ok}
+use Rattle.ee_opening.proofs.EachTable.{holds_tickets, listed_tickets}
 use Rattle.ee_opening.proofs.tables.read_tickets.Goals as goal
 
 pub returns-clause-found : goal.returns-clause-found
@@ -12,3 +12,6 @@ returns-clause-found g c clean inside sound =
 
 pub returns-clause-same : goal.returns-clause-same
 returns-clause-same g c clean inside = on_ok c.read_table.result (λ same. same 5 ticket_terms asks_tickets inside) (c.read_table.ensures.same clean)
+
+pub returns-clause-listed : goal.returns-clause-listed
+returns-clause-listed g c = each_ok c.read_table.result (λ found up. listed_tickets found.items up) c.read_table.ensures.rises

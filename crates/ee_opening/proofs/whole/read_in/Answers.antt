@@ -82,3 +82,18 @@ returns-clause-found g c clean inside sound =
     let payments_held = subst (λ (d : Database). HoldsPayments d.trees c.in_ok-payments.payments) (same_1.0.now_is) (c.in_ok-payments.ensures.found clean_2 inside_1 sound_1) in
     let records_held = subst (λ (d : Database). HoldsRecords d.trees c.in_ok-records.records) (same_2.0.now_is ∙ same_1.0.now_is) (c.in_ok-records.ensures.found clean_3 inside_2 sound_2) in
     record { desk = register_held.desk; rates = register_held.rates; bonds = register_held.bonds; tickets = payments_held.tickets; paid = payments_held.lines; batches = records_held.batches; replies = records_held.replies }
+
+pub returns-clause-listed : goal.returns-clause-listed
+returns-clause-listed g c =
+    let register = c.in_ok-register.ensures.listed in
+    let payments = c.in_ok-payments.ensures.listed in
+    let records = c.in_ok-records.ensures.listed in
+    record {
+      desk = register.desk;
+      rates = register.rates;
+      bonds = register.bonds;
+      tickets = payments.tickets;
+      lines = payments.lines;
+      batches = records.batches;
+      replies = records.replies;
+    }

@@ -55,3 +55,6 @@ returns-clause-found g c clean inside sound =
     let tickets_held = c.in_ok-tickets.ensures.found clean_1 inside sound in
     let lines_held = subst (λ (d : Database). HoldsPairs paid_columns (d.trees 7) (line_map c.in_ok-lines.lines.items)) (same_1.0.now_is) (c.in_ok-lines.ensures.found clean_2 inside_1 sound_1) in
     record { tickets = tickets_held; lines = lines_held }
+
+pub returns-clause-listed : goal.returns-clause-listed
+returns-clause-listed g c = record { tickets = c.in_ok-tickets.ensures.listed; lines = c.in_ok-lines.ensures.listed }

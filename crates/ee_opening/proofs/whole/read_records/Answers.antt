@@ -55,3 +55,6 @@ returns-clause-found g c clean inside sound =
     let batches_held = c.in_ok-batches.ensures.found clean_1 inside sound in
     let replies_held = subst (λ (d : Database). HoldsMap reply_columns (d.trees 11) (reply_map c.in_ok-replies.replies.items)) (same_1.0.now_is) (c.in_ok-replies.ensures.found clean_2 inside_1 sound_1) in
     record { batches = batches_held; replies = replies_held }
+
+pub returns-clause-listed : goal.returns-clause-listed
+returns-clause-listed g c = record { batches = c.in_ok-batches.ensures.listed; replies = c.in_ok-replies.ensures.listed }

@@ -84,3 +84,6 @@ returns-clause-found g c clean inside sound =
     let rates_held = subst (λ (d : Database). HoldsMap rate_columns (d.trees 1) (rate_map c.in_ok-rates.rates.items)) (same_1.0.now_is) (c.in_ok-rates.ensures.found clean_2 inside_1 sound_1) in
     let bonds_held = subst (λ (d : Database). HoldsPairs bond_columns (d.trees 2) (bond_map c.in_ok-bonds.bonds.items)) (same_2.0.now_is ∙ same_1.0.now_is) (c.in_ok-bonds.ensures.found clean_3 inside_2 sound_2) in
     record { desk = desk_held; rates = rates_held; bonds = bonds_held }
+
+pub returns-clause-listed : goal.returns-clause-listed
+returns-clause-listed g c = record { desk = c.in_ok-desk.ensures.listed; rates = c.in_ok-rates.ensures.listed; bonds = c.in_ok-bonds.ensures.listed }
