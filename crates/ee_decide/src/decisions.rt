@@ -10,9 +10,7 @@ ghost use Rattle.ee_acts.specs.declared.changes.Change.TheVariants as change;
 use crate::checks::{known_rate, refusal};
 use crate::values::{settled_terms, worth};
 use crate::views::View;
-use ee_acts::{
-    Act, Batch, Change, Effects, Line, RateRow, Refusal, Reply, Rows, Tables, Ticket,
-};
+use ee_acts::{Act, Batch, Change, Effects, Line, RateRow, Refusal, Reply, Rows, Tables, Ticket};
 use ee_calculator::Bond;
 use ee_units::calendar::{month_of, period_of};
 use ee_units::{Cents, Customer, Day, Month, Serial};

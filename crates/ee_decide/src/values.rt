@@ -49,11 +49,7 @@ fn unsettled_age(fault: ValueFault) -> Result<Option<Age>, AllocError>
 }
 
 /// The terms of rates that leave no value unsettled, with the table that is kept.
-pub fn settled_terms(
-    alloc: Global,
-    tables: &mut Tables,
-    rates: Rates,
-) -> Result<Terms, AllocError>
+pub fn settled_terms(alloc: Global, tables: &mut Tables, rates: Rates) -> Result<Terms, AllocError>
     requires { unsettled rates ≡ None }
     ensures { IfOk result (λ terms. terms ≡ rates) }
 {

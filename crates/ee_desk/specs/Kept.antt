@@ -1,9 +1,7 @@
 -- How the maps in memory are read.
-use Rattle.std.specs.Prelude.{◌≡◌, ℕ, Bool, ◌&&◌, ◌==◌, List, Option, Some, None, IfSome, is_none, map, if◌then◌else◌}
+use Rattle.std.specs.Prelude.{◌≡◌, ℕ, ◌&&◌, ◌==◌, List, Option, Some, None, IfSome, is_none, if◌then◌else◌}
 use Rattle.std.specs.Option.{option_map_or}
 use Rattle.std.specs.declared.cmp.Ordering.{Ordering}
-use Rattle.std.specs.Map.{lookup}
-use Rattle.std.specs.BTreeMap.{is_at}
 use Rattle.std.specs.FinMap as finite
 use Rattle.std.specs.FinMap.{FinMap}
 use Rattle.std.specs.Ordering.{nat_cmp}
@@ -16,14 +14,13 @@ use Rattle.ee_acts.specs.declared.replies.Batch.{Batch}
 use Rattle.ee_decide.specs.declared.views.DayCounts.{DayCounts}
 use Rattle.ee_acts.specs.Serials.{serial_cmp}
 use Rattle.ee_parts.specs.Marks.{bonds_held}
-use Rattle.ee_acts.specs.PlainBooks.{PlainBooks, ticket_of}
+use Rattle.ee_acts.specs.PlainBooks.{PlainBooks}
 
 abbrev pub rates_in : List (ℕ × Rates) → FinMap nat_cmp Rates
 rates_in rates = finite.from_entries rates
 
 abbrev pub held_in : List (SerialNumber × Held) → FinMap serial_cmp Held
 held_in bonds = finite.from_entries bonds
-
 
 -- the counts are those of a batch
 abbrev pub AreCounts : Batch → DayCounts → Type 0
