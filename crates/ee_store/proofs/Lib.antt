@@ -1,0 +1,3 @@
+pub mod Images
+pub mod Orders
+pub mod OneContent
