@@ -3,7 +3,8 @@ use Rattle.std.proofs.Common.{◌≡◌, ℕ, ◌+◌, Bool, true, false, cond, 
 use Rattle.std.specs.Prelude.{T}
 use Rattle.std.specs.Option.{option_map}
 use Rattle.std.specs.Ordering.{nat_cmp, eq_by_cmp, is_eq}
-use Rattle.std.specs.Cmp.{IsTotalOrder, nat_cmp_total}
+use Rattle.std.specs.Cmp.{IsTotalOrder, nat_cmp_total, then_total, on_total}
+use Rattle.std.proofs.lemmas.Map.Lookups.{exact_pairs, exact_unsigned}
 use Rattle.std.specs.declared.cmp.Ordering.{Ordering}
 use Rattle.std.specs.FinMap as finite
 use Rattle.std.specs.FinMap.{FinMap, IsAntisymmetric, nat_cmp-IsAntisymmetric, entries, find, is_sorted, from_entries, from_sorted, get-entries, get-insert, get-from_entries, get-from_sorted, entries-from_sorted, same_map}
@@ -18,8 +19,13 @@ use Rattle.ee_acts.specs.Seen.{held_as}
 use Rattle.ee_acts.proofs.Maps.{serials_total, exact_serials, same_key}
 use Rattle.ee_acts.proofs.RequestNumbers.{numbers_total}
 use Rattle.ee_tables.specs.Keyed.{pair_cmp}
-use Rattle.ee_tables.proofs.HoldsLemmas.{pair_total, pair_same}
 use Rattle.ee_store.specs.Standing.{rate_rows, bond_rows, bond_row, key_of, reply_rows, reply_row}
+
+pub pair_total : IsTotalOrder pair_cmp
+pair_total = then_total (on_total (λ (p : ℕ × ℕ). p.0) nat_cmp_total) (on_total (λ (p : ℕ × ℕ). p.1) nat_cmp_total)
+
+pub pair_same : IsAntisymmetric pair_cmp
+pair_same a b e = exact_pairs nat_cmp nat_cmp exact_unsigned exact_unsigned a b e
 
 -- what is found under the key of an image
 module _ {K L X Y : Type 0} {R : K → K → Ordering} {S : L → L → Ordering} (o : IsTotalOrder R) (p : IsTotalOrder S) (exact : IsAntisymmetric R)

@@ -1,3 +1,4 @@
 pub mod Images
 pub mod Orders
 pub mod OneContent
+pub mod Changes
