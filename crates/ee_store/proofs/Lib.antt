@@ -2,3 +2,6 @@ pub mod Images
 pub mod Orders
 pub mod OneContent
 pub mod Changes
+pub mod Written
+pub mod NeverReused
+pub mod Delivered
