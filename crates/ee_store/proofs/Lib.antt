@@ -5,3 +5,4 @@ pub mod Changes
 pub mod Written
 pub mod NeverReused
 pub mod Delivered
+pub mod Again

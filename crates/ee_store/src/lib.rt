@@ -2,6 +2,9 @@
 //! that keeps them there.
 #![tactic(auto)]
 
+mod keys;
 mod laws;
+mod repeats;
+mod values;
 
 pub use laws::one_content;
