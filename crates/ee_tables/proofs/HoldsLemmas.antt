@@ -1,22 +1,23 @@
--- Rows that hold a map from pairs, after each kind of write.
-use Rattle.std.proofs.Common.{◌≡◌, ℕ, ℤ, List, [], ◌∷◌, map, filter, Bool, true, false, not, Some, None, Option, refl, sym, ap, subst, ◌∙◌, arith, Less, Equal, Greater, Ordering, nat_cmp, length}
-use Rattle.std.specs.Prelude.{option_map, IsPermutation}
+-- A table that holds a map, after each kind of write.
+use Rattle.std.proofs.Common.{◌≡◌, ℕ, ℤ, List, [], ◌∷◌, map, filter, Bool, true, false, not, inl, inr, Some, None, Option, refl, sym, ap, subst, ◌∙◌, arith, Less, Equal, Greater, Ordering, length}
+use Rattle.std.specs.Prelude.{option_map, IsPermutation, ◌||◌}
+use Rattle.std.specs.List.{list_any}
+use Rattle.std.proofs.lemmas.Bool.{cases_Bool}
 use Rattle.std.specs.Option.{option_to_list}
 use Rattle.std.specs.FinMap.Entries.{put}
-use Rattle.std.specs.Ordering.{is_eq, int_eq, ordering_then}
+use Rattle.std.specs.Ordering.{ordering_then}
 use Rattle.std.specs.Cmp.{IsTotalOrder, then_total, on_total}
 use Rattle.std.proofs.lemmas.Cmp.{nat_cmp_total}
 use Rattle.std.specs.FinMap.{IsAntisymmetric, nat_cmp-IsAntisymmetric, FinMap, entries, get, insert, get-entries, entries_sorted, entries-insert}
 use Rattle.std.proofs.lemmas.List.Sorted.{IsPermutation-sym, IsPermutation-trans, IsPermutation-cons, IsPermutation-map, length_permutation}
+use Rattle.sqlite.specs.declared.types.Value.TheVariants.{Int}
 use Rattle.sqlite.specs.Order.{Row}
-use Rattle.sqlite.specs.Tree.{put_row, without_rowid}
+use Rattle.sqlite.specs.Tree.{put_row, without_rowid, rowid}
 use Rattle.sqlite_rules.specs.Edit.{is_taken}
-use Rattle.sqlite_keyed.specs.Keyed.{IsKeyedBy, insert_by}
-use Rattle.sqlite_keyed.proofs.ListLemmas.{filter-map, IsPermutation-filter, ascending-filter}
-use Rattle.sqlite_keyed.proofs.KeyedLemmas.{IsKeyedBy-insert_by}
+use Rattle.sqlite_keyed.proofs.ListLemmas.{map-map, filter-map, IsPermutation-filter, ascending-filter}
 use Rattle.sqlite.proofs.Callers.{one_permutation}
-use Rattle.ee_tables.specs.Keyed.{pair_cmp, cells, stored, HoldsPairs}
-use Rattle.ee_tables.proofs.PairLemmas.{tied, put_permutes, untied_each, tied_entry, put_numbered, put_is_more, without_numbered, others_fail}
+use Rattle.ee_tables.specs.Keyed.{pair_cmp, ReadAlike, AreRows, AreApart, HoldsTable}
+use Rattle.ee_tables.proofs.PairLemmas.{tied, put_permutes, untied_each, tied_entry, with_number, is_new, new_number, put_numbered, without_numbered, apart_with, with_is_more, others_fail}
 
 pub pair_total : IsTotalOrder pair_cmp
 pair_total = then_total (on_total (λ (p : ℕ × ℕ). p.0) nat_cmp_total) (on_total (λ (p : ℕ × ℕ). p.1) nat_cmp_total)
@@ -27,7 +28,7 @@ then_parts a b e = elim a as (λ o. ordering_then o b ≡ Equal → (o ≡ Equal
 pub pair_same : IsAntisymmetric pair_cmp
 pair_same x y e = let both = then_parts _ _ e in λ i. (nat_cmp-IsAntisymmetric x.0 y.0 both.0 i, nat_cmp-IsAntisymmetric x.1 y.1 both.1 i)
 
-no_rows : {X : Type 0} (xs : List X) → length xs ≡ 0 → xs ≡ []
+pub no_rows : {X : Type 0} (xs : List X) → length xs ≡ 0 → xs ≡ []
 no_rows [] e = refl
 no_rows (x ∷ xs) e = absurd (omega arith)
 
@@ -45,57 +46,101 @@ none_from_map : {A B : Type 0} (f : A → B) (xs : List A) → map f xs ≡ [] �
 none_from_map f [] e = refl
 none_from_map f (x ∷ xs) e = absurd cc
 
-module _ {X : Type 0} (columns : X → Row) where
+pub either_way : (b : Bool) → (b || true) ≡ true
+either_way true = refl
+either_way false = refl
+
+-- what passes one test passes another
+pub any_hit : {A : Type 0} (test q : A → Bool) (h : A) (xs : List A) → filter test xs ≡ h ∷ [] → q h ≡ true → list_any q xs ≡ true
+any_hit test q h [] e good = absurd cc
+any_hit test q h (x ∷ xs) e good =
+    elim (cases_Bool (test x)) [
+      | inl hit ↦ let two = rw hit at e in let same : x ≡ h = cc in rw (same, good) refl
+      | inr miss ↦ let rest = rw miss at e in ap (λ b. q x || b) (any_hit test q h xs rest good) ∙ either_way (q x)
+    ]
+
+seconds_of : {K X : Type 0} (k : K) (o : Option X) → map (λ (e : K × X). e.1) (option_to_list (option_map (λ x. (k, x)) o)) ≡ option_to_list o
+seconds_of k None = refl
+seconds_of k (Some x) = refl
+
+module _ {K X : Type 0} {R : K → K → Ordering} (total : IsTotalOrder R) (antisymmetric : IsAntisymmetric R) (row : ℤ × (K × X) → Row) (is : (p : ℤ × (K × X)) → rowid (row p) ≡ Int p.0) where
   abbrev pub Stored : Type 0
-  Stored = ℤ × ((ℕ × ℕ) × X)
+  Stored = ℤ × (K × X)
 
-  module _ (k : ℕ × ℕ) (rows : List Row) (m : FinMap pair_cmp X) (h : HoldsPairs columns rows m) where
+  module _ (k : K) (rows : List Row) (m : FinMap R X) (h : HoldsTable row rows m) where
+    abbrev pub has_key : Stored → Bool
+    has_key p = tied R total k p.1
+
+    -- of the entries that the rows have, those of a key
+    pub entries_hit : filter (tied R total k) (map (λ (p : Stored). p.1) h.numbered) ≡ option_to_list (option_map (λ x. (k, x)) (get m k))
+    entries_hit =
+        at_most_one _ _ (subst (λ es. IsPermutation es (filter (tied R total k) (map (λ (p : Stored). p.1) h.numbered)))
+        (tied_entry R total k antisymmetric (entries m) (entries_sorted m) ∙ ap (λ o. option_to_list (option_map (λ x. (k, x)) o)) (sym (get-entries m k)))
+        (IsPermutation-filter (tied R total k) _ _ (IsPermutation-sym _ _ h.same)))
+
     -- the rows of a key are the entry of the key
-    hits : map (λ (p : Stored). p.1) (filter (λ p. tied pair_cmp pair_total k p.1) h.numbered) ≡ option_to_list (option_map (λ x. (k, x)) (get m k))
-    hits =
-        sym (filter-map (tied pair_cmp pair_total k) (λ (p : Stored). p.1) h.numbered)
-        ∙ at_most_one _ _ (subst (λ es. IsPermutation es (filter (tied pair_cmp pair_total k) (map (λ (p : Stored). p.1) h.numbered)))
-            (tied_entry pair_cmp pair_total k pair_same (entries m) (entries_sorted m) ∙ ap (λ o. option_to_list (option_map (λ x. (k, x)) o)) (sym (get-entries m k)))
-            (IsPermutation-filter (tied pair_cmp pair_total k) _ _ (IsPermutation-sym _ _ h.same)))
+    hits : map (λ (p : Stored). p.1) (filter has_key h.numbered) ≡ option_to_list (option_map (λ x. (k, x)) (get m k))
+    hits = sym (filter-map (tied R total k) (λ (p : Stored). p.1) h.numbered) ∙ entries_hit
 
-    pub hit_row : (x : X) → get m k ≡ Some x → (i : ℤ) × (filter (λ (p : Stored). tied pair_cmp pair_total k p.1) h.numbered ≡ (i, (k, x)) ∷ [])
-    hit_row x is =
-        let it = one_from_map (λ (p : Stored). p.1) _ (k, x) (hits ∙ ap (λ o. option_to_list (option_map (λ x. (k, x)) o)) is) in
+    -- so are their values
+    pub key_values : map (λ (p : Stored). p.1.1) (filter has_key h.numbered) ≡ option_to_list (get m k)
+    key_values = sym (map-map (λ (e : K × X). e.1) (λ (p : Stored). p.1) (filter has_key h.numbered)) ∙ ap (map (λ (e : K × X). e.1)) hits ∙ seconds_of k (get m k)
+
+    pub hit_row : (x : X) → get m k ≡ Some x → (i : ℤ) × (filter has_key h.numbered ≡ (i, (k, x)) ∷ [])
+    hit_row x has =
+        let it = one_from_map (λ (p : Stored). p.1) _ (k, x) (hits ∙ ap (λ o. option_to_list (option_map (λ x. (k, x)) o)) has) in
         (it.0.0, it.1 ∙ ap (λ e. (it.0.0, e) ∷ []) it.2)
 
-    pub no_row : get m k ≡ None → filter (λ (p : Stored). tied pair_cmp pair_total k p.1) h.numbered ≡ []
-    no_row is = none_from_map (λ (p : Stored). p.1) _ (hits ∙ ap (λ o. option_to_list (option_map (λ x. (k, x)) o)) is)
+    pub no_row : get m k ≡ None → filter has_key h.numbered ≡ []
+    no_row has = none_from_map (λ (p : Stored). p.1) _ (hits ∙ ap (λ o. option_to_list (option_map (λ x. (k, x)) o)) has)
 
     -- a row for a key that had none
-    pub adds_pair : (id : ℤ) (x : X) → get m k ≡ None → is_taken rows (stored columns (id, (k, x))) ≡ false → HoldsPairs columns (put_row (stored columns (id, (k, x))) rows) (insert m k x)
-    adds_pair id x none fresh =
-        let p : Stored = (id, (k, x)) in
-        let free = subst (λ rs. is_taken rs (stored columns p) ≡ false) h.are fresh in
-        let more = IsPermutation-map (λ (q : Stored). q.1) _ _ (put_is_more (stored columns) (λ _. refl) p h.numbered free) in
-        record {
-          numbered = insert_by (λ (q : Stored). q.0) h.numbered p;
-          are = ap (put_row (stored columns p)) h.are ∙ put_numbered (stored columns) (λ _. refl) p h.numbered;
-          rising = IsKeyedBy-insert_by (λ (q : Stored). q.0) h.numbered p h.rising;
-          same = IsPermutation-trans _ _ _ (IsPermutation-sym _ _ more) (IsPermutation-trans _ _ _ (IsPermutation-cons (k, x) _ _ h.same)
-              (rw (entries-insert pair_total m k x) (subst (λ es. IsPermutation ((k, x) ∷ es) (put pair_cmp k x (entries m)))
-                  (untied_each pair_cmp pair_total k (entries m) (sym (get-entries m k) ∙ none)) (put_permutes pair_cmp pair_total k pair_same x (entries m) (entries_sorted m)))));
-        }
+    module _ (new : Row) (id : ℤ) (x : X) (alike : ReadAlike new (row (id, (k, x)))) (none : get m k ≡ None) (fresh : is_taken rows new ≡ false) where
+      abbrev pub added : List Stored
+      added = with_number h.numbered (id, (k, x))
+
+      free : is_new (id, (k, x)) h.numbered
+      free = new_number row is new (id, (k, x)) alike rows h.numbered h.are fresh
+
+      pub added_are : AreRows row (put_row new rows) added
+      added_are = put_numbered row is new (id, (k, x)) alike rows h.numbered h.are
+
+      pub added_apart : AreApart added
+      added_apart = apart_with (id, (k, x)) h.numbered free h.apart
+
+      pub added_same : IsPermutation (map (λ (p : Stored). p.1) added) (entries (insert m k x))
+      added_same = IsPermutation-trans _ _ _ (IsPermutation-sym _ _ (IsPermutation-map (λ (q : Stored). q.1) _ _ (with_is_more (id, (k, x)) h.numbered free))) (IsPermutation-trans _ _ _ (IsPermutation-cons (k, x) _ _ h.same)
+          (rw (entries-insert total m k x) (subst (λ es. IsPermutation ((k, x) ∷ es) (put R k x (entries m)))
+          (untied_each R total k (entries m) (sym (get-entries m k) ∙ none)) (put_permutes R total k antisymmetric x (entries m) (entries_sorted m)))))
+
+      pub adds_row : HoldsTable row (put_row new rows) (insert m k x)
+      adds_row = record { numbered = added; are = added_are; apart = added_apart; same = added_same }
 
     -- another value for a key, under the rowid that it has
-    pub replaces_pair : (old new : X) (i : ℤ) → filter (λ (p : Stored). tied pair_cmp pair_total k p.1) h.numbered ≡ (i, (k, old)) ∷ []
-        → is_taken (without_rowid i rows) (stored columns (i, (k, new))) ≡ false → HoldsPairs columns (put_row (stored columns (i, (k, new))) (without_rowid i rows)) (insert m k new)
-    replaces_pair old new i one fresh =
-        let p : Stored = (i, (k, new)) in
-        let test = λ (q : Stored). tied pair_cmp pair_total k q.1 in
-        let rest = filter (λ (q : Stored). not (test q)) h.numbered in
-        let left : without_rowid i rows ≡ map (stored columns) rest = ap (without_rowid i) h.are ∙ without_numbered (stored columns) (λ _. refl) i h.numbered ∙ ap (map (stored columns)) (others_fail test (i, (k, old)) h.numbered h.rising one) in
-        let free = subst (λ rs. is_taken rs (stored columns p) ≡ false) left fresh in
-        let more = IsPermutation-map (λ (q : Stored). q.1) _ _ (put_is_more (stored columns) (λ _. refl) p rest free) in
-        let others = rw (filter-map (λ e. not (tied pair_cmp pair_total k e)) (λ (q : Stored). q.1) h.numbered) at (IsPermutation-filter (λ e. not (tied pair_cmp pair_total k e)) _ _ h.same) in
-        record {
-          numbered = insert_by (λ (q : Stored). q.0) rest p;
-          are = ap (put_row (stored columns p)) left ∙ put_numbered (stored columns) (λ _. refl) p rest;
-          rising = IsKeyedBy-insert_by (λ (q : Stored). q.0) rest p (ascending-filter _ (λ (q : Stored). not (test q)) h.numbered h.rising);
-          same = IsPermutation-trans _ _ _ (IsPermutation-sym _ _ more) (IsPermutation-trans _ _ _ (IsPermutation-cons (k, new) _ _ others)
-              (rw (entries-insert pair_total m k new) (put_permutes pair_cmp pair_total k pair_same new (entries m) (entries_sorted m))));
-        }
+    module _ (new : Row) (old next : X) (i : ℤ) (one : filter has_key h.numbered ≡ (i, (k, old)) ∷ []) (alike : ReadAlike new (row (i, (k, next)))) (fresh : is_taken (without_rowid i rows) new ≡ false) where
+      abbrev rest : List Stored
+      rest = filter (λ (q : Stored). not (has_key q)) h.numbered
+
+      abbrev pub replaced : List Stored
+      replaced = with_number rest (i, (k, next))
+
+      left : AreRows row (without_rowid i rows) rest
+      left = subst (AreRows row (without_rowid i rows)) (others_fail has_key (i, (k, old)) h.numbered h.apart one) (without_numbered row is i rows h.numbered h.are)
+
+      free_place : is_new (i, (k, next)) rest
+      free_place = new_number row is new (i, (k, next)) alike (without_rowid i rows) rest left fresh
+
+      pub replaced_are : AreRows row (put_row new (without_rowid i rows)) replaced
+      replaced_are = put_numbered row is new (i, (k, next)) alike (without_rowid i rows) rest left
+
+      pub replaced_apart : AreApart replaced
+      replaced_apart = apart_with (i, (k, next)) rest free_place (ascending-filter _ (λ (q : Stored). not (has_key q)) h.numbered h.apart)
+
+      pub replaced_same : IsPermutation (map (λ (p : Stored). p.1) replaced) (entries (insert m k next))
+      replaced_same =
+          let others = rw (filter-map (λ e. not (tied R total k e)) (λ (q : Stored). q.1) h.numbered) at (IsPermutation-filter (λ e. not (tied R total k e)) _ _ h.same) in
+          IsPermutation-trans _ _ _ (IsPermutation-sym _ _ (IsPermutation-map (λ (q : Stored). q.1) _ _ (with_is_more (i, (k, next)) rest free_place))) (IsPermutation-trans _ _ _ (IsPermutation-cons (k, next) _ _ others)
+          (rw (entries-insert total m k next) (put_permutes R total k antisymmetric next (entries m) (entries_sorted m))))
+
+      pub replaces_row : HoldsTable row (put_row new (without_rowid i rows)) (insert m k next)
+      replaces_row = record { numbered = replaced; are = replaced_are; apart = replaced_apart; same = replaced_same }

@@ -1,5 +1,5 @@
 -- What a statement inside a transaction keeps.
-use Rattle.std.proofs.Common.{◌≡◌, ◌⊎◌, inl, inr, Bool, true, false, cond, IsTrue, refl, List, ℕ, Some, None, Option, Ok, Err, Result, IfOk, IfErr, OnOk, OnErr, sym, ap, subst, ◌∙◌, arith, [], ◌∷◌, ◌++◌, map}
+use Rattle.std.proofs.Common.{◌≡◌, ◌⊎◌, inl, inr, Bool, true, false, IsTrue, refl, List, ℕ, Some, None, Option, Ok, Err, Result, IfOk, IfErr, OnOk, OnErr, sym, ap, subst, ◌∙◌, arith, [], ◌∷◌, ◌++◌, map}
 use Rattle.std.specs.Result.{is_ok, is_err}
 use Rattle.std.specs.Prelude.{if◌then◌else◌}
 use Rattle.sqlite.specs.Order.{Row}
@@ -11,7 +11,6 @@ use Rattle.sqlite.proofs.InsideLemmas.{unchanged_keeps}
 use Rattle.sqlite.specs.Tree.{Trees}
 use Rattle.ee_tables.specs.Rows.{IsInside, Sees, Rows, Holds}
 use Rattle.sqlite.specs.Effect.{Database}
-use Rattle.ee_tables.specs.Tables.{bank_schema}
 use Rattle.sqlite.specs.Schema.{Schema}
 use Rattle.sqlite.specs.Clock.{timed}
 use Rattle.sqlite.specs.Listing.{understood}

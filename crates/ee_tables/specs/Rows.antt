@@ -1,5 +1,5 @@
 -- What the store's tables hold, as maps.
-use Rattle.std.specs.Prelude.{◌≡◌, ℕ, ◌+◌, map, pos, List, [], ◌∷◌, Option, Some, None, IsTrue}
+use Rattle.std.specs.Prelude.{◌≡◌, ℕ, ◌+◌, pos, List, [], ◌∷◌, Option, Some, None, IsTrue}
 use Rattle.std.specs.Ordering.{nat_cmp}
 use Rattle.std.specs.FinMap.{FinMap, get, insert}
 use Rattle.sqlite.specs.declared.types.Value.{Value}
@@ -7,7 +7,7 @@ use Rattle.sqlite.specs.declared.types.Value.TheVariants.{Null, Int, Text as Wor
 use Rattle.sqlite.specs.Order.{Row}
 use Rattle.sqlite.specs.Tree.{Trees}
 use Rattle.sqlite.specs.State.{State}
-use Rattle.ee_tables.specs.Tables.{bank_schema}
+use Rattle.ee_tables.specs.Tables.{counter_schema}
 use Rattle.ee_tables.specs.Keyed.{pair_cmp, HoldsMap, HoldsPairs}
 
 pub record DeskRow : Type 0 where
@@ -88,17 +88,17 @@ pub record Holds (db : Trees) (rows : Rows) : Type 0 where
   pub batches : HoldsMap batch_columns (db 10) rows.batches
   pub replies : HoldsMap reply_columns (db 11) rows.replies
 
--- Of a store that a failing disk has shut nothing is said. A transaction is begun, over the bank's tables
+-- Of a store that a failing disk has shut nothing is said. A transaction is begun, over the counter's tables
 abbrev pub IsInside : State → Type 0
-IsInside s = IsTrue s.is_open → IsTrue s.in_transaction × (s.now.schema ≡ bank_schema)
+IsInside s = IsTrue s.is_open → IsTrue s.in_transaction × (s.now.schema ≡ counter_schema)
 
 -- a transaction sees these rows
 abbrev pub Sees : State → Rows → Type 0
-Sees s rows = IsTrue s.is_open → (s.now.schema ≡ bank_schema) × Holds s.now.trees rows
+Sees s rows = IsTrue s.is_open → (s.now.schema ≡ counter_schema) × Holds s.now.trees rows
 
 -- the last commit left these rows
 abbrev pub Has : State → Rows → Type 0
-Has s rows = IsTrue s.is_open → (s.committed.schema ≡ bank_schema) × Holds s.committed.trees rows
+Has s rows = IsTrue s.is_open → (s.committed.schema ≡ counter_schema) × Holds s.committed.trees rows
 
 -- ---- what is written
 
@@ -126,32 +126,3 @@ with_line rows t place line = marked (with_paid rows (t, place) line) (line.lett
 abbrev pub with_lines : Rows → ℕ → ℕ → List PaidRow → Rows
 with_lines rows t place [] = rows
 with_lines rows t place (line ∷ lines) = with_lines (with_line rows t place line) t (place + 1) lines
-
--- ---- one delivery
-
--- a ticket under its number, with its lines
-abbrev pub Issue : Type 0
-Issue = ℕ × (TicketRow × List PaidRow)
-
-abbrev pub issued : Rows → Option Issue → Rows
-issued rows None = rows
-issued rows (Some i) = with_lines (with_ticket rows i.0 i.1.0) i.0 1 i.1.1
-
--- what is decided of the bonds that an act names
-pub record Plan : Type 0 where
-  pub issue : Option Issue
-  pub reply : ReplyRow
-
-abbrev pub carried_out : Rows → ℕ → Plan → Rows
-carried_out rows n plan = with_reply (issued rows plan.issue) n plan.reply
-
-abbrev pub bonds_named : Rows → List (ℕ × ℕ) → List (Option BondRow)
-bonds_named rows keys = map (get rows.bonds) keys
-
-abbrev pub delivered_if : Option ReplyRow → Rows → ℕ → Plan → Rows
-delivered_if None rows n plan = carried_out rows n plan
-delivered_if (Some kept) rows n plan = rows
-
-abbrev pub answered_if : Option ReplyRow → Plan → ReplyRow
-answered_if None plan = plan.reply
-answered_if (Some kept) plan = kept

@@ -1,8 +1,8 @@
 use Rattle.sqlite.specs.Held.{state}
-use Rattle.ee_tables.specs.Lines.{row_of_line}
+use Rattle.ee_tables.specs.AsRows.{row_of_line}
 use Rattle.ee_tables.specs.Rows.{with_paid}
 use Rattle.ee_tables.proofs.KeepLemmas.{clean_before, on_ok}
-use Rattle.ee_tables.proofs.pay_line.Goals as goal
+use Rattle.ee_tables.proofs.lines.pay_line.Goals as goal
 
 pub returns-clause-added : goal.returns-clause-added
 returns-clause-added g c clean =
