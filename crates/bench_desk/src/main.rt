@@ -6,8 +6,9 @@
 
 use anyhow::{Context, Result};
 use ee_calculator::Bond;
-use ee_desk::thin::{ListKeeper, run};
+use ee_counter::run;
 use ee_desk::{Act, Number, RateRow, Reply, Request, Rows, Unserved};
+use ee_keeper::ListKeeper;
 use ee_units::{Rate, Serial};
 use ee_value::Rates;
 use std::alloc::Global;

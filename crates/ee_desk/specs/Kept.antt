@@ -14,8 +14,6 @@ use Rattle.ee_acts.specs.declared.changes.Held.{Held}
 use Rattle.ee_acts.specs.declared.replies.Ticket.{Ticket}
 use Rattle.ee_acts.specs.declared.replies.Batch.{Batch}
 use Rattle.ee_decide.specs.declared.views.DayCounts.{DayCounts}
-use Rattle.ee_acts.specs.declared.changes.Kept.{Kept}
-use Rattle.ee_acts.specs.Numbers.{Number, number_cmp}
 use Rattle.ee_acts.specs.Serials.{serial_cmp}
 use Rattle.ee_acts.specs.PlainBooks.{PlainBooks, ticket_of}
 
@@ -27,9 +25,6 @@ bonds_in bonds = finite.from_entries (map (λ e. (e.0, e.1.bond)) bonds)
 
 abbrev pub held_in : List (SerialNumber × Held) → FinMap serial_cmp Held
 held_in bonds = finite.from_entries bonds
-
-abbrev pub kept_in : List (Number × Kept) → FinMap number_cmp Kept
-kept_in kept = finite.from_entries kept
 
 -- what is kept of a serial
 abbrev pub held_at : List (SerialNumber × Held) → SerialNumber → Option Held

@@ -74,8 +74,8 @@ impl Books {
         seeing::view_of(self.alloc, &self.ledger, act)
     }
 
-    /// The effects of an act on the books.
-    pub(crate) fn effects_of(&self, act: &Act) -> Result<Effects, AllocError>
+    /// What an act changes, and its reply: decided by what it sees of the books, and not yet made.
+    pub fn effects_of(&self, act: &Act) -> Result<Effects, AllocError>
         ensures { IfOk result (λ e. e ≡ effects_of (shown_by (view_of self.now act.now)) act.now) }
     {
         let view = self.view_of(act)?;

@@ -12,7 +12,6 @@ mod seeing;
 mod sheets;
 #[cfg(test)]
 mod tests;
-pub mod thin;
 
 pub use books::Books;
 pub use ee_acts::{

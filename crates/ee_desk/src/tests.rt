@@ -1,18 +1,10 @@
-use crate::thin::{ListKeeper, run};
-use crate::{
-    Act, Books, Line, Number, RateRow, Refusal, Reply, Request, Rows, Sheet, Ticket, Unserved,
-};
+use crate::{Act, Books, Line, RateRow, Refusal, Reply, Rows, Sheet, Ticket};
 use ee_calculator::Bond;
 use ee_units::{Serial, read_serial};
 use ee_value::Rates;
 use std::alloc::Global;
 use std::fmt::Write;
 use std::test::Fail;
-
-fn ask(number: u64, act: Act) -> Result<Request, Fail> {
-    let number = Number::new(number).ok_or("number")?;
-    Ok(Request { number, act })
-}
 
 fn rate(from: &str, rate: &str) -> Option<RateRow> {
     let fixed = rate.parse().ok()?;
@@ -101,149 +93,66 @@ fn ticket_told(alloc: Global, ticket: &Ticket) -> Result<String, Fail> {
     Ok(text)
 }
 
-fn told(alloc: Global, answer: &Result<Reply, Unserved>) -> Result<String, Fail> {
-    Ok(match answer {
-        Ok(Reply::Added { new, same }) => format!(in alloc; "Added {new} {same}")?,
-        Ok(Reply::Opened(day)) => format!(in alloc; "Opened {day}")?,
-        Ok(Reply::Ticket(ticket)) => ticket_told(alloc, ticket)?,
-        Ok(Reply::Batch(batch)) => {
+fn told(alloc: Global, reply: &Reply) -> Result<String, Fail> {
+    Ok(match reply {
+        Reply::Added { new, same } => format!(in alloc; "Added {new} {same}")?,
+        Reply::Opened(day) => format!(in alloc; "Opened {day}")?,
+        Reply::Ticket(ticket) => ticket_told(alloc, ticket)?,
+        Reply::Batch(batch) => {
             format!(in alloc;
                 "Batch {} {} {} {}",
                 batch.day, batch.tickets, batch.bonds, batch.total
             )?
         }
-        Ok(Reply::Refused(refusal)) => {
+        Reply::Refused(refusal) => {
             let named = named(alloc, refusal)?;
             format!(in alloc; "{} {}{named}", refusal.code(), refusal.name())?
         }
-        Err(unserved) => format!(in alloc; "Unserved {}", unserved.code())?,
     })
 }
 
-/// Runs the requests over the keeper, and tells each answer in a line.
-fn told_all(alloc: Global, keeper: &mut ListKeeper, requests: &[Request]) -> Result<String, Fail> {
-    let answers = run(alloc, keeper, requests)?;
+/// Does the acts one after another, and tells each reply in a line.
+fn told_all(alloc: Global, books: &mut Books, acts: &[Act]) -> Result<String, Fail> {
     let mut text = String::new(alloc);
-    for answer in &answers {
-        let line = told(alloc, answer)?;
+    for act in acts {
+        let reply = books.step(act)?;
+        let line = told(alloc, &reply)?;
         writeln!(text, "{line}")?;
     }
     Ok(text)
 }
 
-#[test]
-fn a_bond_is_paid_once(rt: HostRuntime) -> Result<(), Fail> {
-    let alloc = rt.alloc();
-    let a1 = ("A1EE", "50", "2010-05", "7", "");
-    let day = "2015-05-04";
-    let requests = vec![in alloc;
-        ask(1, add_rates(alloc, &[("2010-05", "3.50")])?)?,
-        ask(2, add_bonds(alloc, &[a1])?)?,
-        ask(3, open(day)?)?,
-        ask(4, redeem(alloc, day, "7", &["A1EE"])?)?,
-        ask(4, redeem(alloc, day, "7", &["A1EE"])?)?,
-        ask(4, redeem(alloc, day, "7", &["B2EE"])?)?,
-        ask(4, redeem(alloc, day, "7", &["A1EE"])?)?,
-        ask(5, redeem(alloc, day, "7", &["A1EE"])?)?,
-        ask(6, add_bonds(alloc, &[a1])?)?,
-        ask(5, redeem(alloc, day, "7", &["A1EE"])?)?,
-        ask(2, add_bonds(alloc, &[a1])?)?,
-    ]?;
-    let wanted = "\
-        Added 1 0\n\
-        Added 1 0\n\
-        Opened 2015-05-04\n\
-        Ticket 1 of 2015-05-04 to 7: A1EE 29.74 = 29.74\n\
-        Ticket 1 of 2015-05-04 to 7: A1EE 29.74 = 29.74\n\
-        10 NumberReused\n\
-        Ticket 1 of 2015-05-04 to 7: A1EE 29.74 = 29.74\n\
-        52 AlreadyPaid A1EE 1\n\
-        Added 0 1\n\
-        52 AlreadyPaid A1EE 1\n\
-        Added 1 0\n";
-    let mut keeper = ListKeeper::empty(alloc);
-    let text = told_all(alloc, &mut keeper, requests.as_slice())?;
-    assert_eq!(rt; text.as_str(), wanted);
-    Ok(())
-}
-
 const DAY: &str = "2012-02-06";
 
 /// Two periods of rates, three bonds and an open day.
-fn begun(alloc: Global) -> Result<Vec<Request>, Fail> {
+fn begun(alloc: Global) -> Result<Vec<Act>, Fail> {
     Ok(vec![in alloc;
-        ask(
-            1,
-            add_rates(alloc, &[("2010-05", "2.00"), ("2010-11", "3.50")])?
+        add_rates(alloc, &[("2010-05", "2.00"), ("2010-11", "3.50")])?,
+        add_bonds(
+            alloc,
+            &[
+                ("L1EE", "50", "2010-11", "7", ""),
+                ("K2EE", "75", "2010-10", "7", "8"),
+                ("M3EE", "10000", "2011-02", "7", ""),
+            ]
         )?,
-        ask(
-            2,
-            add_bonds(
-                alloc,
-                &[
-                    ("L1EE", "50", "2010-11", "7", ""),
-                    ("K2EE", "75", "2010-10", "7", "8"),
-                    ("M3EE", "10000", "2011-02", "7", ""),
-                ]
-            )?
-        )?,
-        ask(3, open(DAY)?)?,
+        open(DAY)?,
     ]?)
-}
-
-#[test]
-fn a_day_at_the_counter(rt: HostRuntime) -> Result<(), Fail> {
-    let alloc = rt.alloc();
-    let mut requests = begun(alloc)?;
-    for request in vec![in alloc;
-        ask(4, redeem(alloc, DAY, "7", &["L1EE", "K2EE", "M3EE"])?)?,
-        ask(4, redeem(alloc, DAY, "7", &["L1EE", "K2EE", "M3EE"])?)?,
-        ask(4, redeem(alloc, DAY, "7", &["L1EE"])?)?,
-        ask(6, redeem(alloc, DAY, "7", &["L1EE"])?)?,
-        ask(5, close(DAY)?)?,
-        ask(6, redeem(alloc, DAY, "7", &["L1EE"])?)?,
-        ask(7, redeem(alloc, DAY, "7", &["L1EE"])?)?,
-        ask(8, open("2012-02-07")?)?,
-        ask(9, close("2012-02-07")?)?,
-        ask(10, open("2012-02-07")?)?,
-        ask(5, close(DAY)?)?,
-    ]? {
-        requests.push(request)?;
-    }
-    let wanted = "\
-        Added 2 0\n\
-        Added 3 0\n\
-        Opened 2012-02-06\n\
-        Ticket 1 of 2012-02-06 to 7: L1EE 25.88 K2EE 38.34 M3EE 5132.00 = 5196.22\n\
-        Ticket 1 of 2012-02-06 to 7: L1EE 25.88 K2EE 38.34 M3EE 5132.00 = 5196.22\n\
-        10 NumberReused\n\
-        52 AlreadyPaid L1EE 1\n\
-        Batch 2012-02-06 1 3 5196.22\n\
-        52 AlreadyPaid L1EE 1\n\
-        42 NoOpenDay\n\
-        Opened 2012-02-07\n\
-        Batch 2012-02-07 0 0 0.00\n\
-        41 DayNotLater\n\
-        Batch 2012-02-06 1 3 5196.22\n";
-    let mut keeper = ListKeeper::empty(alloc);
-    let text = told_all(alloc, &mut keeper, requests.as_slice())?;
-    assert_eq!(rt; text.as_str(), wanted);
-    Ok(())
 }
 
 #[test]
 fn a_ticket_is_whole_or_nothing(rt: HostRuntime) -> Result<(), Fail> {
     let alloc = rt.alloc();
-    let mut requests = begun(alloc)?;
-    for request in vec![in alloc;
-        ask(4, add_bonds(alloc, &[("N4EE", "100", "2010-11", "9", "")])?)?,
-        ask(5, redeem(alloc, DAY, "7", &["L1EE", "N4EE"])?)?,
-        ask(6, redeem(alloc, DAY, "7", &["C0012EE", "C-12-EE"])?)?,
-        ask(7, redeem(alloc, DAY, "8", &["K2EE"])?)?,
-        ask(8, redeem(alloc, DAY, "7", &["L1EE"])?)?,
-        ask(9, close(DAY)?)?,
+    let mut acts = begun(alloc)?;
+    for act in vec![in alloc;
+        add_bonds(alloc, &[("N4EE", "100", "2010-11", "9", "")])?,
+        redeem(alloc, DAY, "7", &["L1EE", "N4EE"])?,
+        redeem(alloc, DAY, "7", &["C0012EE", "C-12-EE"])?,
+        redeem(alloc, DAY, "8", &["K2EE"])?,
+        redeem(alloc, DAY, "7", &["L1EE"])?,
+        close(DAY)?,
     ]? {
-        requests.push(request)?;
+        acts.push(act)?;
     }
     let wanted = "\
         Added 2 0\n\
@@ -255,8 +164,8 @@ fn a_ticket_is_whole_or_nothing(rt: HostRuntime) -> Result<(), Fail> {
         Ticket 1 of 2012-02-06 to 8: K2EE 38.34 = 38.34\n\
         Ticket 2 of 2012-02-06 to 7: L1EE 25.88 = 25.88\n\
         Batch 2012-02-06 2 2 64.22\n";
-    let mut keeper = ListKeeper::empty(alloc);
-    let text = told_all(alloc, &mut keeper, requests.as_slice())?;
+    let mut books = Books::empty(alloc);
+    let text = told_all(alloc, &mut books, acts.as_slice())?;
     assert_eq!(rt; text.as_str(), wanted);
     Ok(())
 }
@@ -267,17 +176,6 @@ fn copies<T: Copy>(alloc: Global, item: T, count: u16) -> Result<Rows<T>, Fail> 
         items.push(item)?;
     }
     Ok(Rows::new(items))
-}
-
-/// Numbers the acts from 1 on.
-fn ask_all(alloc: Global, acts: Vec<Act>) -> Result<Vec<Request>, Fail> {
-    let mut requests = Vec::new(alloc);
-    let mut number: u64 = 0;
-    for act in acts {
-        number = number.wrapping_add(1);
-        requests.push(ask(number, act)?)?;
-    }
-    Ok(requests)
 }
 
 /// Imports that are refused, and those that the next acts need.
@@ -316,7 +214,7 @@ fn refused_imports(alloc: Global) -> Result<Vec<Act>, Fail> {
 #[test]
 fn each_refusal_of_an_import_has_its_place(rt: HostRuntime) -> Result<(), Fail> {
     let alloc = rt.alloc();
-    let requests = ask_all(alloc, refused_imports(alloc)?)?;
+    let acts = refused_imports(alloc)?;
     let wanted = "\
         11 Empty\n\
         12 TooMany\n\
@@ -332,8 +230,8 @@ fn each_refusal_of_an_import_has_its_place(rt: HostRuntime) -> Result<(), Fail> 
         Added 3 0\n\
         30 NoRate Z9EE\n\
         31 SerialConflict L1EE\n";
-    let mut keeper = ListKeeper::empty(alloc);
-    let text = told_all(alloc, &mut keeper, requests.as_slice())?;
+    let mut books = Books::empty(alloc);
+    let text = told_all(alloc, &mut books, acts.as_slice())?;
     assert_eq!(rt; text.as_str(), wanted);
     Ok(())
 }
@@ -379,7 +277,6 @@ fn each_refusal_of_a_day_has_its_place(rt: HostRuntime) -> Result<(), Fail> {
         redeem(alloc, DAY, "9", &["L1EE"])?,
         redeem(alloc, DAY, "8", &["K2EE"])?,
     ]?;
-    let requests = ask_all(alloc, acts)?;
     let wanted = "\
         Added 2 0\n\
         Added 3 0\n\
@@ -403,8 +300,8 @@ fn each_refusal_of_a_day_has_its_place(rt: HostRuntime) -> Result<(), Fail> {
         Ticket 1 of 2012-02-06 to 7: L1EE 25.88 K2EE 38.34 = 64.22\n\
         51 NotPayee L1EE\n\
         52 AlreadyPaid K2EE 1\n";
-    let mut keeper = ListKeeper::empty(alloc);
-    let text = told_all(alloc, &mut keeper, requests.as_slice())?;
+    let mut books = Books::empty(alloc);
+    let text = told_all(alloc, &mut books, acts.as_slice())?;
     assert_eq!(rt; text.as_str(), wanted);
     Ok(())
 }
@@ -449,9 +346,8 @@ fn a_day_has_a_thousand_tickets(rt: HostRuntime) -> Result<(), Fail> {
     acts.push(close(day)?)?;
     acts.push(open("2015-05-05")?)?;
     acts.push(redeem(alloc, "2015-05-05", "7", &["B500EE"])?)?;
-    let requests = ask_all(alloc, acts)?;
-    let mut keeper = ListKeeper::empty(alloc);
-    let text = told_all(alloc, &mut keeper, requests.as_slice())?;
+    let mut books = Books::empty(alloc);
+    let text = told_all(alloc, &mut books, acts.as_slice())?;
     let end = "\
         Ticket 1000 of 2015-05-04 to 7: B500EE 29.74 = 29.74\n\
         44 DayFull\n\
@@ -459,49 +355,6 @@ fn a_day_has_a_thousand_tickets(rt: HostRuntime) -> Result<(), Fail> {
         Opened 2015-05-05\n\
         52 AlreadyPaid B500EE 1000\n";
     assert!(rt; text.as_str().ends_with(end), "{text}");
-    Ok(())
-}
-
-/// Delivers the requests, each of which must be served, and tells the replies.
-fn settle(alloc: Global, keeper: &mut ListKeeper, requests: &[Request]) -> Result<String, Fail> {
-    let mut text = String::new(alloc);
-    for request in requests {
-        let answer = keeper.deliver(request);
-        if answer.is_err() {
-            return Err("unserved".into());
-        }
-        let line = told(alloc, &answer)?;
-        writeln!(text, "{line}")?;
-    }
-    Ok(text)
-}
-
-/// With each allocation refused in turn: what was served stands, as if it had been the whole list.
-#[test]
-fn what_was_served_stands(rt: HostRuntime) -> Result<(), Fail> {
-    let alloc = rt.alloc();
-    let mut requests = begun(alloc)?;
-    requests.push(ask(4, redeem(alloc, DAY, "7", &["L1EE", "K2EE"])?)?)?;
-    requests.push(ask(5, redeem(alloc, DAY, "7", &["L1EE"])?)?)?;
-    requests.push(ask(6, close(DAY)?)?)?;
-    let mut keeper = ListKeeper::empty(alloc);
-    let answers = run(alloc, &mut keeper, requests.as_slice())?;
-    if answers.iter().any(|answer| answer.is_err()) {
-        println!(rt; "refused: a delivery")?;
-    }
-    let mut ample = ListKeeper::empty(alloc);
-    for (request, answer) in requests.iter().zip(&answers) {
-        if answer.is_ok() {
-            let again = ample.deliver(request);
-            assert!(rt; again.is_err() || again == *answer);
-            if again.is_err() {
-                return Ok(());
-            }
-        }
-    }
-    let one = settle(alloc, &mut keeper, requests.as_slice())?;
-    let other = settle(alloc, &mut ample, requests.as_slice())?;
-    assert_eq!(rt; one.as_str(), other.as_str());
     Ok(())
 }
 
@@ -556,8 +409,8 @@ fn ticket_numbered_told(alloc: Global, books: &Books, number: u64) -> Result<Str
 
 fn begun_books(alloc: Global) -> Result<Books, Fail> {
     let mut books = Books::empty(alloc);
-    for request in begun(alloc)? {
-        let _ = books.step(&request.act)?;
+    for act in begun(alloc)? {
+        let _ = books.step(&act)?;
     }
     Ok(books)
 }

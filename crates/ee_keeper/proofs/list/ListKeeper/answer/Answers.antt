@@ -3,7 +3,7 @@ use Rattle.std.specs.FinMap as finite
 use Rattle.ee_acts.specs.Numbers.{number_of}
 use Rattle.ee_acts.proofs.KeptReplies.{told_again, told_new, stays, get_kept}
 use Rattle.ee_desk.proofs.Outcomes.{if_ok}
-use Rattle.ee_desk.proofs.thin.ListKeeper.answer.Goals as goal
+use Rattle.ee_keeper.proofs.list.ListKeeper.answer.Goals as goal
 
 pub returns-in-Some-clause-reply : goal.returns-in-Some-clause-reply
 returns-in-Some-clause-reply c =

@@ -1,6 +1,6 @@
 use Rattle.ee_acts.proofs.RequestNumbers.{numbers_total, numbers_exact}
 use Rattle.ee_desk.proofs.Added.{taken_out}
-use Rattle.ee_desk.proofs.thin.forget.Goals as goal
+use Rattle.ee_keeper.proofs.list.forget.Goals as goal
 
 pub returns : goal.returns
 returns c = taken_out numbers_total numbers_exact _ _ _ c.remove.ensures.updates.0

@@ -1,6 +1,7 @@
-//! A keeper in memory, and a run of requests over it.
+//! A keeper in memory.
 
-ghost use Rattle.std.specs.Prelude.{◌≡◌, [], ◌∷◌, length, None, IfOk, IfErr, OnOk, OnErr};
+ghost use Rattle.std.specs.Prelude.{◌≡◌, [], ◌∷◌, None, IfOk, IfErr, OnOk, OnErr};
+ghost use Rattle.std.specs.Option.{option_map};
 ghost use Rattle.std.specs.FinMap as finite;
 ghost use Rattle.ee_acts.specs.Numbers.{number_of};
 ghost use Rattle.ee_acts.specs.Outcomes.{act};
@@ -9,16 +10,21 @@ ghost use Rattle.ee_acts.specs.Sound.{IsSound};
 ghost use Rattle.ee_acts.specs.Conserved.{IsConserved};
 ghost use Rattle.ee_acts.specs.Repeats.{nothing};
 ghost use Rattle.ee_acts.specs.Contents.{content_after};
-ghost use Rattle.ee_desk.specs.Kept.{kept_in};
-ghost use Rattle.ee_acts.specs.Answers.{answer, reply_again, served, AreAnswers};
+ghost use Rattle.ee_acts.specs.Answers.{answer, reply_again};
+ghost use Rattle.ee_acts.specs.Queries.{ticket_numbered, batch_on, bonds_of, shown_in_row};
+ghost use Rattle.ee_keeper.specs.Kept.{kept_in};
+ghost use Rattle.ee_keeper.specs.Keeping.{IsInventory, IsQuote};
 
-use crate::books::Books;
-use ee_acts::{Act, Kept, Number, Refusal, Reply, Request, Unserved};
+use crate::keeper::Keeper;
+use ee_acts::{Act, Batch, Kept, Number, Refusal, Reply, Request, Ticket, Unserved};
+use ee_calculator::{Bond, Row, Sheet};
+use ee_desk::Books;
+use ee_units::{Customer, Day, Denom, IssueMonth, Month};
 use std::alloc::{AllocError, Global};
 use std::collections::BTreeMap;
 use std::marker::Model;
 
-/// Books, and the one reply that is kept for each number, in memory.
+/// Books, and the one reply that is kept for each number, in memory. It never answers `StoreFailed`.
 #[derive(Drop)]
 pub struct ListKeeper {
     books: Books,
@@ -40,10 +46,13 @@ impl Model for ListKeeper {
 impl ListKeeper {
     /// A keeper with empty books and no kept replies. It takes no memory.
     pub fn empty(alloc: Global) -> ListKeeper
-        ensures { result ≡ nothing }
+        ensures empty { result ≡ nothing }
+        ensures sound { IsSound result.books }
     {
+        let books = Books::empty(alloc);
+        books.known();
         ListKeeper {
-            books: Books::empty(alloc),
+            books,
             kept: BTreeMap::new(alloc),
         }
     }
@@ -107,6 +116,95 @@ impl ListKeeper {
     }
 }
 
+impl ListKeeper {
+    /// The sheet in a month of the unpaid bonds whose owner is this customer, in order of serial.
+    pub fn inventory(&self, customer: Customer, month: Month) -> Result<Sheet, Unserved>
+        ensures sheet { IfOk result (λ sheet. IsInventory self.now.books customer month sheet) }
+        ensures memory { IfErr result (λ e. e ≡ Unserved.NoMemory) }
+    {
+        Ok(self.books.inventory(customer, month)?)
+    }
+
+    /// The unpaid bonds whose owner is this customer, in order of serial.
+    pub fn bonds_of(&self, customer: Customer) -> Result<Vec<Bond>, Unserved>
+        ensures bonds { IfOk result (λ bonds. bonds.items ≡ bonds_of self.now.books customer) }
+        ensures memory { IfErr result (λ e. e ≡ Unserved.NoMemory) }
+    {
+        Ok(self.books.bonds_of(customer)?)
+    }
+
+    /// A copy of the ticket of a number, where there is one.
+    pub fn ticket(&self, number: u64) -> Result<Option<Ticket>, Unserved>
+        ensures ticket { IfOk result (λ ticket. ticket ≡ ticket_numbered self.now.books number) }
+        ensures memory { IfErr result (λ e. e ≡ Unserved.NoMemory) }
+    {
+        Ok(self.books.ticket(number)?)
+    }
+
+    /// The batch of a day, where that day is closed.
+    pub fn batch(&self, day: Day) -> Option<Batch>
+        ensures { result ≡ batch_on self.now.books day }
+    {
+        self.books.batch(day)
+    }
+
+    /// The row in a month of a bond of that denomination and issue month, whether or not one is
+    /// registered; None without rates for its issue period.
+    pub fn quote(
+        &self,
+        denom: Denom,
+        issued: IssueMonth,
+        month: Month,
+    ) -> Result<Option<Row>, Unserved>
+        ensures row { IfOk result (λ row. IsQuote self.now.books denom issued month row) }
+        ensures memory { IfErr result (λ e. e ≡ Unserved.NoMemory) }
+    {
+        Ok(self.books.quote(denom, issued, month)?)
+    }
+}
+
+impl Keeper for ListKeeper {
+    ghost use Rattle.std.specs.Prelude.{◌≡◌};
+    ghost use Rattle.ee_acts.specs.Sound.{IsSound};
+
+    ghost has = { λ k c. (k ≡ c) × IsSound c.books };
+
+    ghost is_clean = { λ _. Unit {0} };
+
+    ghost sound = { λ _ _ has. has.1 };
+
+    fn deliver(&mut self, request: &Request) -> Result<Reply, Unserved> {
+        let answer = ListKeeper::deliver(self, request);
+        self.known();
+        answer
+    }
+
+    fn inventory(&mut self, customer: Customer, month: Month) -> Result<Sheet, Unserved> {
+        ListKeeper::inventory(self, customer, month)
+    }
+
+    fn bonds_of(&mut self, customer: Customer) -> Result<Vec<Bond>, Unserved> {
+        ListKeeper::bonds_of(self, customer)
+    }
+
+    fn ticket(&mut self, number: u64) -> Result<Option<Ticket>, Unserved> {
+        ListKeeper::ticket(self, number)
+    }
+
+    fn batch(&mut self, day: Day) -> Result<Option<Batch>, Unserved> {
+        Ok(ListKeeper::batch(self, day))
+    }
+
+    fn quote(
+        &mut self,
+        denom: Denom,
+        issued: IssueMonth,
+        month: Month,
+    ) -> Result<Option<Row>, Unserved> {
+        ListKeeper::quote(self, denom, issued, month)
+    }
+}
+
 fn kept_of(act: &Act, reply: &Reply) -> Result<Kept, AllocError>
     ensures { IfOk result (λ k. k ≡ record { act = act.now; reply = reply.now }) }
 {
@@ -140,35 +238,4 @@ fn reply_again(kept: &Kept, again: &Act) -> Result<Reply, AllocError>
     } else {
         Ok(Reply::Refused(Refusal::NumberReused))
     }
-}
-
-/// Delivers requests one after another, and gives one answer for each. A list of requests may repeat
-/// numbers, as where a reply was lost: each number acts at most once. The memory of the answers is
-/// taken first, so where the whole answer is want of memory nothing was delivered.
-pub fn run(
-    alloc: Global,
-    keeper: &mut ListKeeper,
-    requests: &[Request],
-) -> Result<Vec<Result<Reply, Unserved>>, AllocError>
-    ensures count { IfOk result (λ answers. length answers.items ≡ length requests.now) }
-    // Each request that is served gets the one answer to it after those that were served before.
-    ensures answers { IfOk result (λ answers. AreAnswers keeper.old [] requests.now answers.items) }
-    // The books and the kept replies are those of the served requests, each number once.
-    ensures content { IfOk result (λ answers. keeper.new ≡ content_after keeper.old (served requests.now answers.items)) }
-    // No serial stands on two lines over all tickets.
-    ensures once { OnOk result (NoneTwice (paid_lines keeper.new.books.tickets)) }
-    // Each line pays the value of its bond in the month of its ticket's day.
-    ensures right { OnOk result (ArePaidRight keeper.new.books) }
-    ensures sound { OnOk result (IsSound keeper.new.books) }
-    // The batches and the open day's tickets have what was paid.
-    ensures conserved { OnOk result (IsConserved keeper.new.books) }
-    ensures err { OnErr result (keeper.new ≡ keeper.old) }
-{
-    let mut answers = Vec::with_capacity(alloc, requests.len())?;
-    for request in requests {
-        let answer = keeper.deliver(request);
-        answers.push_reserved(answer);
-    }
-    keeper.known();
-    Ok(answers)
 }

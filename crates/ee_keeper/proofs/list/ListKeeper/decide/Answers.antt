@@ -7,8 +7,8 @@ use Rattle.ee_acts.specs.Acts.{applied, books_after, reply_to}
 use Rattle.ee_acts.specs.Repeats.{Content}
 use Rattle.ee_acts.proofs.Seeing.{seen_enough, applied_is}
 use Rattle.ee_acts.proofs.KeptReplies.{decided, forgotten}
-use Rattle.ee_desk.specs.Kept.{kept_in}
-use Rattle.ee_desk.proofs.thin.ListKeeper.decide.Goals as goal
+use Rattle.ee_keeper.specs.Kept.{kept_in}
+use Rattle.ee_keeper.proofs.list.ListKeeper.decide.Goals as goal
 
 pub apply-requires : goal.apply-requires
 apply-requires c = (c.args.request.now.act, c.in_ok-effects.ensures)
