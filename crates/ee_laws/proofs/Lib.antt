@@ -1,0 +1,11 @@
+pub mod Elements
+pub mod Survival
+pub mod Retries
+pub mod Leaving
+pub mod Served
+pub mod Lists
+pub mod Classes
+pub mod OneTeller
+pub mod Merges
+pub mod DayEnd
+pub mod InTurn

@@ -1,0 +1,9 @@
+//! Laws over the definitions of requests alone: what stops and retries leave, what the order of
+//! tellers changes, and what a keeper over a store owes to the first of them.
+#![tactic(auto)]
+
+mod laws;
+mod stores;
+
+pub use laws::{runs_as_events, stops_and_retries, tellers_interleaved};
+pub use stores::{StoreOfContents, ties_to_stores};
