@@ -19,7 +19,7 @@ use Rattle.ee_acts.specs.Seen.{held_as}
 use Rattle.ee_acts.proofs.Maps.{serials_total, exact_serials, same_key}
 use Rattle.ee_acts.proofs.RequestNumbers.{numbers_total}
 use Rattle.ee_tables.specs.Keyed.{pair_cmp}
-use Rattle.ee_store.specs.Standing.{rate_rows, bond_rows, bond_row, key_of, reply_rows, reply_row}
+use Rattle.ee_store.specs.Standing.{desk_rows, rate_rows, bond_rows, bond_row, key_of, reply_rows, reply_row}
 
 pub pair_total : IsTotalOrder pair_cmp
 pair_total = then_total (on_total (λ (p : ℕ × ℕ). p.0) nat_cmp_total) (on_total (λ (p : ℕ × ℕ). p.1) nat_cmp_total)
@@ -60,3 +60,6 @@ pub get_bond : (bonds : FinMap serial_cmp Bond) (tickets : List Ticket) (serial 
     → finite.get (bond_rows bonds tickets) (key_of serial) ≡ option_map (λ bond. bond_row (held_as tickets serial bond)) (finite.get bonds serial)
 get_bond bonds tickets serial =
     get_image serials_total pair_total exact_serials key_of (λ serial (bond : Bond). bond_row (held_as tickets serial bond)) (λ q k. refl) bonds serial
+
+pub get_desk : (day last_day : Option ℕ) → finite.get (desk_rows day last_day) 1 ≡ Some (record { version = 1; day = day; last_day = last_day })
+get_desk day last_day = get-from_entries nat_cmp_total ((1, record { version = 1; day = day; last_day = last_day }) ∷ []) 1

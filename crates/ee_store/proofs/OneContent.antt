@@ -28,7 +28,7 @@ use Rattle.ee_acts.proofs.RequestNumbers.{numbers_total, numbers_exact}
 use Rattle.ee_texts.proofs.Same.{one_act, one_reply}
 use Rattle.ee_tables.specs.Rows.{Rows, DeskRow, PaidRow, TicketRow, BatchRow}
 use Rattle.ee_store.specs.Standing.{rate_rows, bond_rows, bond_row, key_of, ticket_rows, ticket_row, paid_rows, paid_row, placed, batch_rows, batch_row, reply_rows, reply_row, desk_rows, rows_of, IsKept, StandFor}
-use Rattle.ee_store.proofs.Images.{get_rate, get_reply, get_bond}
+use Rattle.ee_store.proofs.Images.{get_rate, get_reply, get_bond, get_desk}
 use Rattle.ee_store.proofs.Orders.{ticket_entry, ticket_entries, ticket_lines, paid_entries, batch_entry, batch_entries, rising_front}
 
 -- what is the same in two forms is the same
@@ -151,9 +151,6 @@ same_kept one other a b e = same_map numbers_total numbers_exact one other (λ n
     (sym (get_reply one n) ∙ ap (λ m. finite.get m n) e ∙ get_reply other n))
 
 -- ---- days
-get_desk : (day last_day : Option ℕ) → finite.get (desk_rows day last_day) 1 ≡ Some (record { version = 1; day = day; last_day = last_day })
-get_desk day last_day = get-from_entries nat_cmp_total ((1, record { version = 1; day = day; last_day = last_day }) ∷ []) 1
-
 same_desk : (day last_day other_day other_last : Option ℕ) → desk_rows day last_day ≡ desk_rows other_day other_last → (day ≡ other_day) × (last_day ≡ other_last)
 same_desk day last_day other_day other_last e =
     let row : DeskRow = record { version = 1; day = day; last_day = last_day } in

@@ -2,9 +2,11 @@
 //! that keeps them there.
 #![tactic(auto)]
 
+mod failures;
 mod keys;
 mod laws;
 mod repeats;
+mod serving;
 mod values;
 
 pub use laws::one_content;

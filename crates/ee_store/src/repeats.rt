@@ -9,7 +9,8 @@ ghost use Rattle.ee_texts.specs.Ranges.{ActFits};
 ghost use Rattle.ee_texts.specs.Texts.{act_text, reply_text};
 ghost use Rattle.ee_store.specs.Standing.{IsKept};
 
-use ee_acts::{Refusal, Reply, Unserved};
+use crate::failures::Unfinished;
+use ee_acts::{Refusal, Reply};
 use ee_texts::read_reply;
 use std::alloc::Global;
 
@@ -20,7 +21,7 @@ pub fn reply_again(
     act: &str,
     reply: &str,
     asked: &str,
-) -> Result<Reply, Unserved>
+) -> Result<Reply, Unfinished>
     ensures { IfOk result (λ told. (number : Number) (kept : Kept) (again : Act) → IsKept number kept → ActFits again
         → act.now ≡ act_text kept.act → reply.now ≡ reply_text kept.reply → asked.now ≡ act_text again
         → told ≡ reply_again kept.act kept.reply again) }
@@ -30,6 +31,6 @@ pub fn reply_again(
     }
     match read_reply(alloc, reply)? {
         Some(reply) => Ok(reply),
-        None => Err(Unserved::StoreFailed),
+        None => Err(Unfinished::StoreFailed),
     }
 }
