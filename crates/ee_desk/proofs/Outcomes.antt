@@ -27,10 +27,6 @@ pub either_way : {A E : Type 0} {P Q R : Type 0} (r : Result A E) → (P → R) 
 either_way (Ok x) f g h k = f h
 either_way (Err e) f g h k = g k
 
-pub settled_if : (month : ℕ) (o : Option Rates) → IfSome o (IsRightRate month) → IfSome o (λ terms. unsettled terms ≡ None)
-settled_if month None h = tt
-settled_if month (Some rates) h = h.settled
-
 pub keyed_if : (rates : FinMap nat_cmp Rates) (serial : SerialNumber) (o : Option Bond) → IfSome o (IsRightBond rates serial) → IfSome o (λ bond. bond.serial ≡ serial)
 keyed_if rates serial None h = tt
 keyed_if rates serial (Some bond) h = h.keyed
