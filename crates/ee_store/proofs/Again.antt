@@ -1,5 +1,6 @@
 -- The kept reply by the texts of acts.
 use Rattle.std.proofs.Common.{◌≡◌, ◌≢◌, ℕ, Bool, true, false, cond, List, Option, Some, None, refl, sym, ap, ◌∙◌, subst}
+use Rattle.std.specs.Option.{unwrap_or}
 use Rattle.std.proofs.lemmas.Bool.{false_from_ne_true}
 use Rattle.ee_acts.specs.declared.acts.Act.{Act}
 use Rattle.ee_acts.specs.declared.changes.Kept.{Kept}
@@ -25,13 +26,8 @@ of_other act reply asked apart number kept again is fits one two three =
     let differs = false_from_ne_true (same_act kept.act again) (λ same. apart (one ∙ ap act_text (act_is kept.act again same) ∙ sym three)) in
     sym (ap (λ b. cond b kept.reply (Refused NumberReused)) differs)
 
--- in words that compute
 some_is : (a b : Reply) → Some a ≡ Some b → a ≡ b
-some_is a b e = ap (λ o. back o) e
-  where
-    abbrev back : Option Reply → Reply
-    back None = a
-    back (Some x) = x
+some_is a b e = ap (λ o. unwrap_or o a) e
 
 pub of_same : (act reply asked : List ℕ) (told : Reply) → act ≡ asked → ReadsReply reply (Some told) → IsAgain act reply asked told
 of_same act reply asked told same reads number kept again is fits one two three =

@@ -6,3 +6,7 @@ pub mod Written
 pub mod NeverReused
 pub mod Delivered
 pub mod Again
+pub mod ByKeys
+pub mod Served
+pub mod Transactions
+pub mod Named

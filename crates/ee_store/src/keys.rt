@@ -1,8 +1,8 @@
 //! What an act names: the serial numbers of bonds, and the periods of rates.
 
-ghost use Rattle.std.specs.Prelude.{◌≡◌, IfOk, map};
+ghost use Rattle.std.specs.Prelude.{◌≡◌, [], ◌++◌, IfOk, OnOk, map};
 ghost use Rattle.std.specs.Option.{option_map};
-ghost use Rattle.std.specs.List.{filter_map};
+ghost use Rattle.std.specs.List.{filter_map, cons_option};
 ghost use Rattle.std.specs.FinMap as finite;
 ghost use Rattle.ee_units.specs.Calendar.{period_start};
 ghost use Rattle.ee_acts.specs.PlainBooks.{PlainBooks};
@@ -66,6 +66,15 @@ fn found_of(found: &BTreeMap<Serial, Held>, serial: Serial) -> Option<Held>
     found.get(&serial).copied()
 }
 
+fn push_period(periods: &mut Vec<IssueMonth>, held: Option<Held>) -> Result<(), AllocError>
+    ensures { OnOk result (periods.new.items ≡ periods.old.items ++ cons_option (option_map period_of_held held) []) }
+{
+    if let Some(held) = held {
+        periods.push(period_of(held.bond.issued))?;
+    }
+    Ok(())
+}
+
 /// The issue periods of those bonds that were found.
 fn periods_found(
     alloc: Global,
@@ -76,9 +85,7 @@ fn periods_found(
 {
     let mut periods = Vec::new(alloc);
     for serial in serials {
-        if let Some(held) = found_of(found, *serial) {
-            periods.push(period_of(held.bond.issued))?;
-        }
+        push_period(&mut periods, found_of(found, *serial))?;
     }
     Ok(periods)
 }

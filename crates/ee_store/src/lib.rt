@@ -2,11 +2,16 @@
 //! that keeps them there.
 #![tactic(auto)]
 
+mod delivering;
 mod failures;
 mod keys;
 mod laws;
+mod looking;
 mod repeats;
 mod serving;
+mod stubs;
+mod terms;
 mod values;
+mod writing;
 
 pub use laws::one_content;

@@ -5,16 +5,15 @@ ghost use Rattle.sqlite.specs.Held.{state};
 ghost use Rattle.ee_acts.specs.Numbers.{number_of};
 ghost use Rattle.ee_texts.specs.Ranges.{ActFits};
 ghost use Rattle.ee_texts.specs.Texts.{act_text};
-ghost use Rattle.ee_tables.specs.Statements.{StaysOpen, StaysInside, CommitsNothing, LeavesNoMore, Makes};
+ghost use Rattle.ee_tables.specs.Statements.{LeavesOpen, StaysOpen, StaysInside, CommitsNothing, LeavesNoMore};
 ghost use Rattle.ee_store.specs.Serving.{FindsIn, LeavesRows, AreEffects, Decides, Serves};
-ghost use Rattle.ee_store.specs.Written.{applied_rows};
 
 use crate::failures::Unfinished;
 use crate::repeats::reply_again;
-use ee_acts::{Act, Change, Effects, Reply, Request};
+use crate::writing::write_changes;
+use ee_acts::{Act, Effects, Reply, Request};
 use ee_tables::{Entry, add_reply, find_reply};
 use ee_texts::{canonical, reply_text};
-use ee_units::Day;
 use sqlite::{Alter, Transaction};
 use std::alloc::Global;
 
@@ -23,29 +22,12 @@ fn effects_in<S: Alter>(
     tx: &mut Transaction<'_, S>,
     alloc: Global,
     act: &Act,
-) -> Result<(Effects, Option<Day>), Unfinished>
+) -> Result<(Effects, Option<u64>), Unfinished>
     ensures same_reference { tx.new.conn.ghost_name ≡ tx.old.conn.ghost_name }
     ensures open { StaysOpen (state S.Store tx.old.conn.now) (state S.Store tx.new.conn.now) result }
     ensures inside { StaysInside (state S.Store tx.old.conn.now) (state S.Store tx.new.conn.now) result }
     ensures found { FindsIn (state S.Store tx.old.conn.now) (state S.Store tx.new.conn.now) result (AreEffects act.now) }
     ensures rows { LeavesRows (state S.Store tx.old.conn.now) (state S.Store tx.new.conn.now) result }
-    ensures commit { CommitsNothing (state S.Store tx.old.conn.now) (state S.Store tx.new.conn.now) }
-    ensures crash { LeavesNoMore (state S.Store tx.old.conn.now) (state S.Store tx.new.conn.now) }
-{
-    Err(Unfinished::StoreFailed)
-}
-
-/// Writes changes, one after the other, where this is the day that was closed last.
-fn write_changes<S: Alter>(
-    tx: &mut Transaction<'_, S>,
-    alloc: Global,
-    last_day: Option<Day>,
-    changes: &[Change],
-) -> Result<(), Unfinished>
-    ensures same_reference { tx.new.conn.ghost_name ≡ tx.old.conn.ghost_name }
-    ensures open { StaysOpen (state S.Store tx.old.conn.now) (state S.Store tx.new.conn.now) result }
-    ensures inside { StaysInside (state S.Store tx.old.conn.now) (state S.Store tx.new.conn.now) result }
-    ensures written { Makes (state S.Store tx.old.conn.now) (state S.Store tx.new.conn.now) result (λ rows. applied_rows last_day rows changes.now) }
     ensures commit { CommitsNothing (state S.Store tx.old.conn.now) (state S.Store tx.new.conn.now) }
     ensures crash { LeavesNoMore (state S.Store tx.old.conn.now) (state S.Store tx.new.conn.now) }
 {
@@ -84,7 +66,7 @@ pub fn serve_in<S: Alter>(
     request: &Request,
 ) -> Result<(bool, Reply), Unfinished>
     ensures same_reference { tx.new.conn.ghost_name ≡ tx.old.conn.ghost_name }
-    ensures open { StaysOpen (state S.Store tx.old.conn.now) (state S.Store tx.new.conn.now) result }
+    ensures open { LeavesOpen (state S.Store tx.new.conn.now) result }
     ensures inside { StaysInside (state S.Store tx.old.conn.now) (state S.Store tx.new.conn.now) result }
     ensures serves { Serves (state S.Store tx.old.conn.now) (state S.Store tx.new.conn.now) request.now result }
     ensures commit { CommitsNothing (state S.Store tx.old.conn.now) (state S.Store tx.new.conn.now) }
@@ -92,7 +74,10 @@ pub fn serve_in<S: Alter>(
 {
     let act = canonical(alloc, &request.act)?;
     if let Some(entry) = find_reply(tx, request.number.value())? {
-        let reply = reply_again(alloc, &entry.act, &entry.reply, &act)?;
+        let kept_act = entry.act.as_str();
+        let kept_reply = entry.reply.as_str();
+        let asked = act.as_str();
+        let reply = reply_again(alloc, kept_act, kept_reply, asked)?;
         return Ok((false, reply));
     }
     let reply = decide_in(tx, alloc, request, act)?;
