@@ -10,3 +10,4 @@ pub mod ByKeys
 pub mod Served
 pub mod Transactions
 pub mod Named
+pub mod Following

@@ -62,3 +62,7 @@ module _ (old start : State) (is : start ≡ begun old) (middle new : State) whe
 -- what a commit makes stands for the content
 pub stands_when_open : (s : State) (S : Content) → SeesContent s S → IsTrue s.is_open → StandsFor s.now.trees S
 stands_when_open s S sees is_open = record { right = sees.right; holds = (sees.rows is_open).1 }
+
+-- what the last commit left stands for the content
+pub stands_committed : (s : State) (S : Content) → HasContent s S → IsTrue s.is_open → (db : Trees) → db ≡ s.committed.trees → StandsFor db S
+stands_committed s S has is_open db is = record { right = has.right; holds = subst (λ d. Holds d (rows_of S)) (sym is) (has.rows is_open).1 }

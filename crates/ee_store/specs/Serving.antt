@@ -15,6 +15,8 @@ use Rattle.ee_acts.specs.Outcomes.{act}
 use Rattle.ee_acts.specs.Repeats.{Content}
 use Rattle.ee_acts.specs.Contents.{content_after}
 use Rattle.ee_acts.specs.Answers.{answer}
+use Rattle.ee_laws.specs.Events.{World}
+use Rattle.ee_laws.specs.Ties.{Leaves}
 use Rattle.ee_tables.specs.Rows.{Rows, Holds, Sees, Has, IsInside}
 use Rattle.ee_store.specs.Standing.{rows_of, IsRight}
 
@@ -63,3 +65,7 @@ pub record IsServed (new : State) (request : Request) (content : Content) (is_ne
 
 abbrev pub Serves : {E : Type 0} → State → State → Request → Result (Bool × Reply) E → Type 0
 Serves old new request result = HasCleanDisk new → IsInside old → IfOk result (λ r. (content : Content) → SeesContent old content → IsServed new request content r.0 r.1)
+
+-- the store has the world's content, and a crash leaves it what it may leave the world
+abbrev pub FollowsWorld : State → World → Type 0
+FollowsWorld s w = HasContent s w.now × Leaves StandsFor s.may_leave w

@@ -13,7 +13,7 @@ ghost use Rattle.ee_store.specs.Serving.{StandsFor, HasContent};
 
 use crate::failures::Unfinished;
 use crate::serving::serve_in;
-use ee_acts::{Reply, Request};
+use ee_acts::{Reply, Request, Tables};
 use sqlite::{Alter, Connection};
 use std::alloc::Global;
 
@@ -21,6 +21,7 @@ use std::alloc::Global;
 pub fn deliver_on<S: Alter>(
     conn: &mut Connection<S>,
     alloc: Global,
+    tables: &mut Tables,
     request: &Request,
 ) -> Result<Reply, Unfinished>
     ensures told { HasCleanDisk (state S.Store conn.new) → IfOk result (λ reply. (content : Content) → HasContent (state S.Store conn.old) content → reply ≡ answer content [] request.now) }
@@ -38,7 +39,7 @@ pub fn deliver_on<S: Alter>(
         return Err(Unfinished::StoreFailed);
     }
     let mut tx = conn.transaction();
-    let (is_new, reply) = serve_in(&mut tx, alloc, request)?;
+    let (is_new, reply) = serve_in(&mut tx, alloc, tables, request)?;
     if !is_new {
         return Ok(reply);
     }

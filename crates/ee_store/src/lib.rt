@@ -4,14 +4,17 @@
 
 mod delivering;
 mod failures;
+mod keeper;
 mod keys;
 mod laws;
 mod looking;
 mod repeats;
+mod seeing;
 mod serving;
 mod stubs;
 mod terms;
 mod values;
 mod writing;
 
+pub use keeper::SqlKeeper;
 pub use laws::one_content;

@@ -6,38 +6,23 @@ ghost use Rattle.ee_acts.specs.Numbers.{number_of};
 ghost use Rattle.ee_texts.specs.Ranges.{ActFits};
 ghost use Rattle.ee_texts.specs.Texts.{act_text};
 ghost use Rattle.ee_tables.specs.Statements.{LeavesOpen, StaysOpen, StaysInside, CommitsNothing, LeavesNoMore};
-ghost use Rattle.ee_store.specs.Serving.{FindsIn, LeavesRows, AreEffects, Decides, Serves};
+ghost use Rattle.ee_store.specs.Serving.{Decides, Serves};
 
 use crate::failures::Unfinished;
 use crate::repeats::reply_again;
+use crate::seeing::effects_in;
 use crate::writing::write_changes;
-use ee_acts::{Act, Effects, Reply, Request};
+use ee_acts::{Effects, Reply, Request, Tables};
 use ee_tables::{Entry, add_reply, find_reply};
 use ee_texts::{canonical, reply_text};
 use sqlite::{Alter, Transaction};
 use std::alloc::Global;
 
-/// The effects of an act on the books that the transaction sees, and the day that was closed last.
-fn effects_in<S: Alter>(
-    tx: &mut Transaction<'_, S>,
-    alloc: Global,
-    act: &Act,
-) -> Result<(Effects, Option<u64>), Unfinished>
-    ensures same_reference { tx.new.conn.ghost_name ≡ tx.old.conn.ghost_name }
-    ensures open { StaysOpen (state S.Store tx.old.conn.now) (state S.Store tx.new.conn.now) result }
-    ensures inside { StaysInside (state S.Store tx.old.conn.now) (state S.Store tx.new.conn.now) result }
-    ensures found { FindsIn (state S.Store tx.old.conn.now) (state S.Store tx.new.conn.now) result (AreEffects act.now) }
-    ensures rows { LeavesRows (state S.Store tx.old.conn.now) (state S.Store tx.new.conn.now) result }
-    ensures commit { CommitsNothing (state S.Store tx.old.conn.now) (state S.Store tx.new.conn.now) }
-    ensures crash { LeavesNoMore (state S.Store tx.old.conn.now) (state S.Store tx.new.conn.now) }
-{
-    Err(Unfinished::StoreFailed)
-}
-
 /// Decides a request whose number isn't kept, and writes its changes and its reply.
 fn decide_in<S: Alter>(
     tx: &mut Transaction<'_, S>,
     alloc: Global,
+    tables: &mut Tables,
     request: &Request,
     act: String,
 ) -> Result<Reply, Unfinished>
@@ -50,7 +35,7 @@ fn decide_in<S: Alter>(
     ensures commit { CommitsNothing (state S.Store tx.old.conn.now) (state S.Store tx.new.conn.now) }
     ensures crash { LeavesNoMore (state S.Store tx.old.conn.now) (state S.Store tx.new.conn.now) }
 {
-    let (effects, last_day) = effects_in(tx, alloc, &request.act)?;
+    let (effects, last_day) = effects_in(tx, alloc, tables, &request.act)?;
     let Effects { changes, reply } = effects;
     let words = reply_text(alloc, &reply)?;
     write_changes(tx, alloc, last_day, changes.as_slice())?;
@@ -63,6 +48,7 @@ fn decide_in<S: Alter>(
 pub fn serve_in<S: Alter>(
     tx: &mut Transaction<'_, S>,
     alloc: Global,
+    tables: &mut Tables,
     request: &Request,
 ) -> Result<(bool, Reply), Unfinished>
     ensures same_reference { tx.new.conn.ghost_name ≡ tx.old.conn.ghost_name }
@@ -80,6 +66,6 @@ pub fn serve_in<S: Alter>(
         let reply = reply_again(alloc, kept_act, kept_reply, asked)?;
         return Ok((false, reply));
     }
-    let reply = decide_in(tx, alloc, request, act)?;
+    let reply = decide_in(tx, alloc, tables, request, act)?;
     Ok((true, reply))
 }
