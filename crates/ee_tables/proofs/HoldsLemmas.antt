@@ -50,6 +50,14 @@ pub either_way : (b : Bool) → (b || true) ≡ true
 either_way true = refl
 either_way false = refl
 
+pub none_pass : {A : Type 0} (test : A → Bool) (xs : List A) → filter test xs ≡ [] → list_any test xs ≡ false
+none_pass test [] h = refl
+none_pass test (x ∷ xs) h =
+    elim (cases_Bool (test x)) [
+      | inl hit ↦ absurd (let a = rw hit at h in cc)
+      | inr miss ↦ let rest = rw miss at h in rw miss (none_pass test xs rest)
+    ]
+
 -- what passes one test passes another
 pub any_hit : {A : Type 0} (test q : A → Bool) (h : A) (xs : List A) → filter test xs ≡ h ∷ [] → q h ≡ true → list_any q xs ≡ true
 any_hit test q h [] e good = absurd cc
@@ -81,6 +89,10 @@ module _ {K X : Type 0} {R : K → K → Ordering} (total : IsTotalOrder R) (ant
     -- the rows of a key are the entry of the key
     hits : map (λ (p : Stored). p.1) (filter has_key h.numbered) ≡ option_to_list (option_map (λ x. (k, x)) (get m k))
     hits = sym (filter-map (tied R total k) (λ (p : Stored). p.1) h.numbered) ∙ entries_hit
+
+    -- where a key has no entry, no row has it
+    pub never_tied : get m k ≡ None → list_any (tied R total k) (map (λ (p : Stored). p.1) h.numbered) ≡ true → ⊥
+    never_tied none any = let e = sym (none_pass (tied R total k) _ (entries_hit ∙ ap (λ o. option_to_list (option_map (λ x. (k, x)) o)) none)) ∙ any in cc
 
     -- so are their values
     pub key_values : map (λ (p : Stored). p.1.1) (filter has_key h.numbered) ≡ option_to_list (get m k)

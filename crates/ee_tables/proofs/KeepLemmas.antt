@@ -6,8 +6,9 @@ use Rattle.sqlite.specs.Order.{Row}
 use Rattle.sqlite.specs.declared.error.Error.{Error}
 use Rattle.sqlite_resolve.specs.declared.compiled.Compiled.{Compiled}
 use Rattle.sqlite_schema.specs.declared.command.Returning.{Returning}
-use Rattle.sqlite.specs.State.{HasCleanDisk, Survives, Shown, ShowsRows, Shows, State, IsUnchanged, IsRolledBack, KeepsCommit, FailsToQuery, FailsToShow, IsTooLate, IsNotRun}
-use Rattle.sqlite.proofs.InsideLemmas.{unchanged_keeps}
+use Rattle.sqlite.specs.State.{ExecutesInside, HasCleanDisk, Survives, Shown, ShowsRows, Shows, State, IsUnchanged, IsRolledBack, KeepsCommit, FailsToQuery, FailsToShow, IsTooLate, IsNotRun}
+use Rattle.sqlite.proofs.InsideLemmas.{unchanged_keeps, inside_keeps}
+use Rattle.std.proofs.lemmas.Bool.{cases_Bool}
 use Rattle.sqlite.specs.Tree.{Trees}
 use Rattle.ee_tables.specs.Rows.{IsInside, Sees, Rows, Holds}
 use Rattle.sqlite.specs.Effect.{Database}
@@ -64,6 +65,13 @@ module _ (old new : State) where
   -- a write in a transaction commits nothing, and the transaction goes on
   pub write_keeps : Shows old new new.now (if old.in_transaction then old.committed else new.now) old.in_transaction → IsTrue old.in_transaction → KeepsCommit old new
   write_keeps shown inside = record { was_open = λ _. shown.was_open; committed = λ _. shown.committed_is ∙ ap (λ b. if b then old.committed else new.now) inside }
+
+  -- a statement that fails commits nothing
+  pub execute_keeps : (sql : List ℕ) (params : Row) (r : Result ℕ Error) → (IsTrue old.in_transaction → ExecutesInside 0 sql params old new r) → (old.in_transaction ≡ false → new ≡ old) → KeepsCommit old new
+  execute_keeps sql params r runs ended = elim (cases_Bool old.in_transaction) [
+    | inl within ↦ inside_keeps old new 0 false sql params r (runs within)
+    | inr without ↦ subst (KeepsCommit old) (sym (ended without)) (record { was_open = λ h. h; committed = λ _. refl })
+  ]
 
 -- a statement that ran in a transaction ran inside it
 pub inside_if_ok : {X Y : Type 0} (b : Bool) (r : Result X Error) (x : X) {e : Error} → r ≡ Ok x → (b ≡ false → (r ≡ Err e) × Y) → IsTrue b

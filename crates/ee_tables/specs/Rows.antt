@@ -1,7 +1,8 @@
 -- What the store's tables hold, as maps.
-use Rattle.std.specs.Prelude.{◌≡◌, ℕ, ◌+◌, pos, List, [], ◌∷◌, Option, Some, None, IsTrue}
+use Rattle.std.specs.Prelude.{◌≡◌, ℕ, ◌+◌, pos, List, [], ◌∷◌, Option, Some, None, IsTrue, filter, ◌==◌, ◌&&◌, is_none}
+use Rattle.std.specs.declared.cmp.Ordering.{Ordering}
 use Rattle.std.specs.Ordering.{nat_cmp}
-use Rattle.std.specs.FinMap.{FinMap, get, insert}
+use Rattle.std.specs.FinMap.{FinMap, get, insert, entries}
 use Rattle.sqlite.specs.declared.types.Value.{Value}
 use Rattle.sqlite.specs.declared.types.Value.TheVariants.{Null, Int, Text as Words}
 use Rattle.sqlite.specs.Order.{Row}
@@ -102,6 +103,38 @@ Has s rows = IsTrue s.is_open → (s.committed.schema ≡ counter_schema) × Hol
 
 -- ---- what is written
 
+-- an entry for a key that has none
+abbrev pub insert_new : {K X : Type 0} {R : K → K → Ordering} → FinMap R X → K → X → Option X → FinMap R X
+insert_new m k x None = insert m k x
+insert_new m k x (Some old) = m
+
+-- the open day and the day closed last, if the desk's row is there
+abbrev pub day_set : Rows → Option ℕ → Option ℕ → Option DeskRow → Rows
+day_set rows day last_day None = rows
+day_set rows day last_day (Some desk) = record rows { desk = insert rows.desk 1 (record desk { day = day; last_day = last_day }) }
+
+abbrev pub with_day : Rows → Option ℕ → Option ℕ → Rows
+with_day rows day last_day = day_set rows day last_day (get rows.desk 1)
+
+-- a rate for a period, unless it has one
+abbrev pub with_rate : Rows → ℕ × ℕ → Rows
+with_rate rows rate = record rows { rates = insert_new rows.rates rate.0 rate.1 (get rows.rates rate.0) }
+
+abbrev pub with_rates : Rows → List (ℕ × ℕ) → Rows
+with_rates rows [] = rows
+with_rates rows (rate ∷ rates) = with_rates (with_rate rows rate) rates
+
+-- a bond under its serial number, unless that has one
+abbrev pub with_bond : Rows → (ℕ × ℕ) × BondRow → Rows
+with_bond rows bond = record rows { bonds = insert_new rows.bonds bond.0 bond.1 (get rows.bonds bond.0) }
+
+abbrev pub with_bonds : Rows → List ((ℕ × ℕ) × BondRow) → Rows
+with_bonds rows [] = rows
+with_bonds rows (bond ∷ bonds) = with_bonds (with_bond rows bond) bonds
+
+abbrev pub with_batch : Rows → ℕ → BatchRow → Rows
+with_batch rows day batch = record rows { batches = insert rows.batches day batch }
+
 abbrev pub with_reply : Rows → ℕ → ReplyRow → Rows
 with_reply rows n reply = record rows { replies = insert rows.replies n reply }
 
@@ -126,3 +159,23 @@ with_line rows t place line = marked (with_paid rows (t, place) line) (line.lett
 abbrev pub with_lines : Rows → ℕ → ℕ → List PaidRow → Rows
 with_lines rows t place [] = rows
 with_lines rows t place (line ∷ lines) = with_lines (with_line rows t place line) t (place + 1) lines
+
+-- ---- what is looked up
+
+-- the tickets of a day, in order of their numbers
+abbrev pub tickets_on : Rows → ℕ → List (ℕ × TicketRow)
+tickets_on rows day = filter (λ e. e.1.day == day) (entries rows.tickets)
+
+-- the number of the last entry, if there is one
+abbrev pub last_number : {X : Type 0} → List (ℕ × X) → Option ℕ
+last_number [] = None
+last_number (e ∷ []) = Some e.0
+last_number (e ∷ f ∷ more) = last_number (f ∷ more)
+
+-- the lines of a ticket, in order of their places
+abbrev pub lines_on : Rows → ℕ → List ((ℕ × ℕ) × PaidRow)
+lines_on rows ticket = filter (λ e. e.0.0 == ticket) (entries rows.paid)
+
+-- the bonds of an owner that no ticket paid, in order of their serial numbers
+abbrev pub unpaid_of : Rows → ℕ → List ((ℕ × ℕ) × BondRow)
+unpaid_of rows owner = filter (λ e. (e.1.owner == owner) && is_none e.1.ticket) (entries rows.bonds)

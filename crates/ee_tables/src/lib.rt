@@ -1,19 +1,28 @@
 //! The seven tables of a counter's store: their rows, and the statements that read and write them.
 #![tactic(auto)]
 
+mod batches;
 mod bonds;
+mod desk;
 mod failures;
 mod lines;
+mod rates;
+mod reading;
 mod records;
 mod replies;
+#[cfg(test)]
+mod tests;
 mod tickets;
 mod values;
 
-pub use bonds::{find_bond, mark_bond};
+pub use batches::{add_batch, find_batch};
+pub use bonds::{add_bond, add_bonds, bonds_of_owner, find_bond, mark_bond};
+pub use desk::{find_desk, set_day};
 pub use failures::Failure;
-pub use lines::{add_paid, pay_line, pay_lines};
+pub use lines::{add_paid, pay_line, pay_lines, ticket_lines};
+pub use rates::{add_rate, add_rates, find_rate};
 pub use records::{
     Batch, Bond, Desk, Entry, Line, PlacedLine, Rate, Serial, Ticket, TicketSum, UnpaidBond,
 };
 pub use replies::{add_reply, find_reply};
-pub use tickets::add_ticket;
+pub use tickets::{add_ticket, day_tickets, find_ticket, last_ticket};

@@ -2,7 +2,7 @@ use Rattle.std.proofs.Common.{pos, [], ◌∷◌}
 use Rattle.sqlite.specs.declared.types.Value.TheVariants.{Int}
 use Rattle.sqlite.specs.Held.{state}
 use Rattle.ee_tables.specs.Tables.{counter_schema}
-use Rattle.ee_tables.proofs.Meaning.{bond_text, bond_plain}
+use Rattle.ee_tables.proofs.Meaning.{find_bond_text, find_bond_plain}
 use Rattle.ee_tables.proofs.KeepLemmas.{query_keeps, shown_open, is_open_after, IfOk_then, IfOk_on, on_err, query_same}
 use Rattle.ee_tables.proofs.BondLemmas.{finds_bond}
 use Rattle.ee_tables.proofs.bonds.bond_rows.Goals as goal
@@ -11,22 +11,22 @@ pub returns-clause-found : goal.returns-clause-found
 returns-clause-found g c clean =
     let old = state g.S.Store c.args.tx.now.conn.now in
     let new = state g.S.Store c.query_all.new.self.conn.now in
-    IfOk_then c.query_all.result (λ found shown rows sees. let it = sees (shown_open old new bond_text _ found.items shown) in finds_bond old new (c.args.serial.letter, c.args.serial.number) rows.bonds found.items it.0 it.1.bonds shown) (rw (c.whole.ensures, c.whole-2.ensures) at (c.query_all.ensures.ok clean))
+    IfOk_then c.query_all.result (λ found shown rows sees. let it = sees (shown_open old new find_bond_text _ found.items shown) in finds_bond old new (c.args.serial.letter, c.args.serial.number) rows.bonds found.items it.0 it.1.bonds shown) (rw (c.whole.ensures, c.whole-2.ensures) at (c.query_all.ensures.ok clean))
 
 pub returns-clause-same : goal.returns-clause-same
 returns-clause-same g c clean inside =
     let old = state g.S.Store c.args.tx.now.conn.now in
     let new = state g.S.Store c.query_all.new.self.conn.now in
-    query_same old new (λ rows. rows.items) bond_text (Int (pos c.args.serial.letter) ∷ Int (pos c.args.serial.number) ∷ []) counter_schema (λ is_open. (inside is_open).1) bond_plain c.query_all.result (rw (c.whole.ensures, c.whole-2.ensures) at (c.query_all.ensures.ok clean))
+    query_same old new (λ rows. rows.items) find_bond_text (Int (pos c.args.serial.letter) ∷ Int (pos c.args.serial.number) ∷ []) counter_schema (λ is_open. (inside is_open).1) find_bond_plain c.query_all.result (rw (c.whole.ensures, c.whole-2.ensures) at (c.query_all.ensures.ok clean))
 
 pub returns-clause-err : goal.returns-clause-err
 returns-clause-err g c clean inside =
     let old = state g.S.Store c.args.tx.now.conn.now in
     let new = state g.S.Store c.query_all.new.self.conn.now in
-    on_err c.query_all.result (λ e failed. query_keeps old new bond_text _ e failed) (c.query_all.ensures.err clean)
+    on_err c.query_all.result (λ e failed. query_keeps old new find_bond_text _ e failed) (c.query_all.ensures.err clean)
 
 pub returns-clause-open : goal.returns-clause-open
 returns-clause-open g c clean =
     let old = state g.S.Store c.args.tx.now.conn.now in
     let new = state g.S.Store c.query_all.new.self.conn.now in
-    IfOk_on c.query_all.result (λ found shown. is_open_after old new bond_text _ found.items shown) (c.query_all.ensures.ok clean)
+    IfOk_on c.query_all.result (λ found shown. is_open_after old new find_bond_text _ found.items shown) (c.query_all.ensures.ok clean)
