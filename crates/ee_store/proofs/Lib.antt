@@ -11,3 +11,4 @@ pub mod Served
 pub mod Transactions
 pub mod Named
 pub mod Following
+pub mod DaySums

@@ -2,6 +2,7 @@
 //! that keeps them there.
 #![tactic(auto)]
 
+mod counting;
 mod delivering;
 mod failures;
 mod keeper;
@@ -11,7 +12,6 @@ mod looking;
 mod repeats;
 mod seeing;
 mod serving;
-mod stubs;
 mod terms;
 mod values;
 mod writing;

@@ -13,15 +13,16 @@ ghost use Rattle.ee_tables.specs.Statements.{StaysOpen, StaysInside, CommitsNoth
 ghost use Rattle.ee_store.specs.Found.{terms_found, bonds_found};
 ghost use Rattle.ee_store.specs.Serving.{FindsIn, LeavesRows, AreEffects};
 
+use crate::counting::{counted_in, tickets_in};
 use crate::failures::Unfinished;
 use crate::keys::{periods_of, serials_of};
 use crate::looking::held_in;
-use crate::stubs::find_desk;
 use crate::terms::terms_in;
 use crate::values::day_of;
 use ee_acts::{Act, Effects, Held, Tables, Terms};
 use ee_decide::{DayCounts, View, ViewParts, decide};
 use ee_tables as tables;
+use ee_tables::find_desk;
 use ee_units::{Day, IssueMonth, Serial};
 use sqlite::{Alter, Transaction};
 use std::alloc::Global;
@@ -122,6 +123,7 @@ struct Counts {
 /// How many tickets there are, and those of the open day, for the acts that count them.
 fn counts_in<S: Alter>(
     tx: &mut Transaction<'_, S>,
+    alloc: Global,
     act: &Act,
     day: Option<Day>,
 ) -> Result<Counts, Unfinished>
@@ -135,7 +137,12 @@ fn counts_in<S: Alter>(
     ensures commit { CommitsNothing (state S.Store tx.old.conn.now) (state S.Store tx.new.conn.now) }
     ensures crash { LeavesNoMore (state S.Store tx.old.conn.now) (state S.Store tx.new.conn.now) }
 {
-    Err(Unfinished::StoreFailed)
+    let counts = counted_in(tx, alloc, act, day)?;
+    let tickets = tickets_in(tx)?;
+    Ok(Counts {
+        tickets,
+        day: counts,
+    })
 }
 
 fn view_from(keys: Keys, days: Days, counts: Counts) -> Result<View, Unfinished>
@@ -175,7 +182,7 @@ fn view_in<S: Alter>(
 {
     let days = days_in(tx)?;
     let keys = keys_in(tx, alloc, tables, act)?;
-    let counts = counts_in(tx, act, days.day)?;
+    let counts = counts_in(tx, alloc, act, days.day)?;
     view_from(keys, days, counts)
 }
 

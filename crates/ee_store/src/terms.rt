@@ -11,9 +11,9 @@ ghost use Rattle.ee_store.specs.Found.{terms_found, with_found};
 ghost use Rattle.ee_store.specs.Serving.{FindsIn, LeavesRows};
 
 use crate::failures::Unfinished;
-use crate::stubs::find_rate;
 use crate::values::rate_of;
 use ee_acts::{Tables, Terms};
+use ee_tables::find_rate;
 use ee_units::IssueMonth;
 use ee_value::{Rates, ValueFault};
 use sqlite::{Alter, Transaction};

@@ -6,14 +6,13 @@ ghost use Rattle.ee_tables.specs.AsRows.{Fits, FitsLine, FitsTicket, FitsBatch, 
 ghost use Rattle.ee_tables.specs.Rows.{with_ticket, with_lines};
 ghost use Rattle.ee_tables.specs.Statements.{LeavesOpen, StaysOpen, StaysInside, CommitsNothing, LeavesNoMore, Makes};
 ghost use Rattle.ee_store.specs.Standing as standing;
-ghost use Rattle.ee_store.specs.Written.{with_day, with_batch, changed_rows, applied_rows};
+ghost use Rattle.ee_store.specs.Written.{changed_rows, applied_rows};
 
 use crate::failures::Unfinished;
-use crate::stubs::{add_batch, add_bond, add_rate, set_day};
 use ee_acts::{Batch, Change, Line, Terms, Ticket};
 use ee_calculator::Bond;
 use ee_tables as tables;
-use ee_tables::{add_ticket, pay_lines};
+use ee_tables::{add_batch, add_bond, add_rate, add_ticket, pay_lines, set_day};
 use ee_units::{Customer, Day, IssueMonth};
 use sqlite::{Alter, Transaction};
 use std::alloc::Global;

@@ -3,7 +3,7 @@ use Rattle.sqlite.specs.Held.{state}
 use Rattle.ee_tables.specs.Rows.{Sees, BatchRow}
 use Rattle.ee_tables.specs.AsRows.{row_of_batch}
 use Rattle.ee_tables.proofs.KeepLemmas.{clean_before}
-use Rattle.ee_store.specs.Written.{with_day, with_batch}
+use Rattle.ee_tables.specs.Rows.{with_day, with_batch}
 use Rattle.ee_store.proofs.writing.write_batch.Goals as goal
 
 pub returns-clause-written : goal.returns-clause-written

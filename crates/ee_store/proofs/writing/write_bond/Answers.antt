@@ -1,7 +1,7 @@
 use Rattle.std.proofs.Common.{subst}
 use Rattle.sqlite.specs.Held.{state}
 use Rattle.ee_tables.specs.Rows.{Sees}
-use Rattle.ee_store.specs.Written.{with_bond}
+use Rattle.ee_tables.specs.Rows.{with_bond}
 use Rattle.ee_store.proofs.writing.write_bond.Goals as goal
 
 pub returns-clause-written : goal.returns-clause-written

@@ -1,7 +1,7 @@
 use Rattle.std.proofs.Common.{◌≡◌, ℕ, Option, Some, subst}
 use Rattle.sqlite.specs.Held.{state}
 use Rattle.ee_tables.specs.Rows.{Sees}
-use Rattle.ee_store.specs.Written.{with_day}
+use Rattle.ee_tables.specs.Rows.{with_day}
 use Rattle.ee_store.proofs.writing.write_day.Goals as goal
 
 pub returns-clause-written : goal.returns-clause-written

@@ -1,7 +1,7 @@
 use Rattle.std.proofs.Common.{ap, ◌∙◌, subst}
 use Rattle.sqlite.specs.Held.{state}
 use Rattle.ee_tables.specs.Rows.{Sees}
-use Rattle.ee_store.specs.Written.{with_rate}
+use Rattle.ee_tables.specs.Rows.{with_rate}
 use Rattle.ee_store.proofs.writing.write_terms.Goals as goal
 
 pub returns-clause-written : goal.returns-clause-written
