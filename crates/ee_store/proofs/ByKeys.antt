@@ -1,0 +1,67 @@
+-- What is found by keys is what an act sees of the books.
+use Rattle.std.proofs.Common.{◌≡◌, ℕ, List, [], ◌∷◌, Option, Some, None, refl, sym, ap, ◌∙◌, subst}
+use Rattle.std.specs.Prelude.{IfSome, Result, Ok, Err, OnOk}
+use Rattle.std.specs.Option.{option_map, unwrap_or}
+use Rattle.std.specs.List.{filter_map, cons_option}
+use Rattle.std.specs.declared.cmp.Ordering.{Ordering}
+use Rattle.std.specs.FinMap as finite
+use Rattle.std.specs.FinMap.{FinMap}
+use Rattle.ee_units.specs.Spelling.{SerialNumber}
+use Rattle.ee_calculator.specs.declared.bonds.Bond.{Bond}
+use Rattle.ee_acts.specs.declared.changes.Held.{Held}
+use Rattle.ee_acts.specs.declared.replies.Ticket.{Ticket}
+use Rattle.ee_acts.specs.PlainBooks.{PlainBooks}
+use Rattle.ee_acts.specs.Seen.{held_as, held_of}
+use Rattle.ee_acts.specs.Views.{picked, entry_of}
+use Rattle.ee_acts.specs.Sound.{IsRightBond}
+use Rattle.ee_acts.specs.Repeats.{Content}
+use Rattle.ee_tables.specs.Rows.{BondRow}
+use Rattle.ee_store.specs.Standing.{rows_of, bond_row, key_of, IsRight}
+use Rattle.ee_store.specs.Found.{with_found}
+use Rattle.ee_value.specs.declared.rates.Rates.{Rates}
+use Rattle.ee_store.proofs.Images.{get_bond, get_rate}
+use Rattle.ee_store.proofs.OneContent.{same_denom}
+
+-- one more key of those picked
+found_case : {K V : Type 0} {R : K → K → Ordering} (k : K) (v : Option V) (es : List (K × V))
+    → finite.from_entries {R = R} (cons_option (option_map (λ value. (k, value)) v) es) ≡ with_found (finite.from_entries es) k v
+found_case k None es = refl
+found_case k (Some x) es = refl
+
+pub picked_cons : {K V : Type 0} (R : K → K → Ordering) (look : K → Option V) (k : K) (ks : List K) → picked {R = R} look (k ∷ ks) ≡ with_found (picked look ks) k (look k)
+picked_cons R look k ks = found_case {R = R} k (look k) (filter_map (entry_of look) ks)
+
+-- a bond that its row shows
+same_held : (a b : Held) → a.bond.serial ≡ b.bond.serial → bond_row a ≡ bond_row b → a ≡ b
+same_held a b s e = λ i. record {
+  bond = record { serial = s i; denom = same_denom a.bond.denom b.bond.denom (ap (λ r. r.denom) e) i; issued = (e i).issued; owner = (e i).owner; coowner = (e i).coowner };
+  ticket = (e i).ticket;
+}
+
+held_by : (ts : List Ticket) (s : SerialNumber) (o : Option Held) (p : Option Bond) → IfSome o (λ h. h.bond.serial ≡ s) → IfSome p (λ b. b.serial ≡ s)
+    → option_map bond_row o ≡ option_map (λ b. bond_row (held_as ts s b)) p → o ≡ option_map (held_as ts s) p
+held_by ts s None None h k e = refl
+held_by ts s None (Some b) h k e = absurd (cc)
+held_by ts s (Some x) None h k e = absurd (cc)
+held_by ts s (Some x) (Some b) h k e = ap Some (same_held x (held_as ts s b) (h ∙ sym k) (ap (λ o. unwrap_or o (bond_row x)) e))
+
+pub held_found : (S : Content) (s : SerialNumber) (o : Option Held) → IsRight S → IfSome o (λ h. h.bond.serial ≡ s) → option_map bond_row o ≡ finite.get (rows_of S).bonds (key_of s) → o ≡ held_of S.books s
+held_found S s o right own e = held_by S.books.tickets s o (finite.get S.books.bonds s) own (keyed (finite.get S.books.bonds s) (right.sound.bonds s)) (e ∙ get_bond S.books.bonds S.books.tickets s)
+  where
+    keyed : (p : Option Bond) → IfSome p (IsRightBond S.books.rates s) → IfSome p (λ b. b.serial ≡ s)
+    keyed None h = tt
+    keyed (Some b) h = h.keyed
+
+pub always : {X E Q : Type 0} (r : Result X E) → Q → OnOk r Q
+always (Ok x) q = q
+always (Err e) q = tt
+
+-- rates that their row shows
+pub rates_found : (S : Content) (period : ℕ) (o : Option Rates) → option_map (λ rates. rates.fixed) o ≡ finite.get (rows_of S).rates period → o ≡ finite.get S.books.rates period
+rates_found S period o e = one o (finite.get S.books.rates period) (e ∙ get_rate S.books.rates period)
+  where
+    one : (o p : Option Rates) → option_map (λ rates. rates.fixed) o ≡ option_map (λ rates. rates.fixed) p → o ≡ p
+    one None None e = refl
+    one None (Some y) e = absurd (cc)
+    one (Some x) None e = absurd (cc)
+    one (Some x) (Some y) e = λ i. Some (record { fixed = unwrap_or (e i) x.fixed })

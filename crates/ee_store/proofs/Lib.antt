@@ -1,0 +1,14 @@
+pub mod Images
+pub mod Orders
+pub mod OneContent
+pub mod Changes
+pub mod Written
+pub mod NeverReused
+pub mod Delivered
+pub mod Again
+pub mod ByKeys
+pub mod Served
+pub mod Transactions
+pub mod Named
+pub mod Following
+pub mod DaySums

@@ -1,0 +1,68 @@
+-- A delivery: a transaction that is begun, served and ended.
+use Rattle.std.proofs.Common.{◌≡◌, ◌⊎◌, inl, inr, Bool, true, false, not, true≢false, IsTrue, List, [], ◌∷◌, Option, refl, sym, ap, ◌∙◌, subst}
+use Rattle.std.specs.FinMap as finite
+use Rattle.sqlite.specs.Tree.{Trees}
+use Rattle.sqlite.specs.State.{State, HasCleanDisk, Survives, KeepsCommit, Shows}
+use Rattle.ee_acts.specs.declared.acts.Request.{Request}
+use Rattle.ee_acts.specs.declared.replies.Reply.{Reply}
+use Rattle.ee_acts.specs.Numbers.{number_of}
+use Rattle.ee_acts.specs.Repeats.{Content}
+use Rattle.ee_acts.specs.Contents.{content_after}
+use Rattle.ee_acts.proofs.Repeats.{one_known}
+use Rattle.ee_tables.specs.Rows.{IsInside, Sees, Has, Holds}
+use Rattle.ee_tables.proofs.TransactionLemmas.{begun, begun_inside, begun_sees, still_has, committed_has, commit_survives}
+use Rattle.ee_store.specs.Standing.{rows_of, IsRight}
+use Rattle.ee_store.specs.Serving.{StandsFor, HasContent, SeesContent, IsServed}
+
+-- a number that comes again leaves the content
+pub known_stays : (S : Content) (q : Request) (is_new : Bool) → is_new ≡ false → is_new ≡ not (finite.contains_key S.kept (number_of q)) → S ≡ content_after S (q ∷ [])
+known_stays S q is_new again first = sym (one_known S q (negated (finite.contains_key S.kept (number_of q)) (sym again ∙ first)))
+  where
+    negated : (b : Bool) → false ≡ not b → b ≡ true
+    negated true e = refl
+    negated false e = absurd (true≢false (sym e))
+
+pub not_known : (is_new known : Bool) → is_new ≡ true → is_new ≡ not known → known ≡ true → ⊥
+not_known is_new true new first again = true≢false (sym new ∙ first)
+not_known is_new false new first again = true≢false (sym again)
+
+pub not_first : (is_new known : Bool) → is_new ≡ false → is_new ≡ not known → known ≡ false → ⊥
+not_first is_new true again first new = true≢false new
+not_first is_new false again first new = true≢false (sym first ∙ again)
+
+module _ (old start : State) (is : start ≡ begun old) (settled : IsTrue old.is_open → old.now ≡ old.committed) where
+  pub inside_content : (S : Content) → HasContent old S → IsInside start
+  inside_content S has = begun_inside old start is settled (rows_of S) has.rows
+
+  pub sees_content : (S : Content) → HasContent old S → SeesContent start S
+  sees_content S has = record { right = has.right; rows = begun_sees old start is settled (rows_of S) has.rows }
+
+module _ (old start : State) (is : start ≡ begun old) (middle new : State) where
+  pub still_content : (S : Content) → HasContent old S → KeepsCommit start middle → KeepsCommit middle new → HasContent new S
+  still_content S has one two = record { right = has.right; rows = still_has old start is middle new (rows_of S) has.rows one two }
+
+  pub committed_content : (S : Content) → SeesContent middle S → Shows middle new middle.now middle.now false → HasContent new S
+  committed_content S sees shows = record { right = sees.right; rows = committed_has old start is middle new (rows_of S) sees.rows shows }
+
+  -- what a crash may leave was there before
+  pub leaves_less : Survives start middle (λ _. ⊥) → Survives middle new (λ _. ⊥) → HasCleanDisk middle → HasCleanDisk new → (db : Trees) → new.may_leave db → old.may_leave db
+  leaves_less one two clean_middle clean db may = first (two.crash clean db may)
+    where
+      began : start.may_leave db → old.may_leave db
+      began h = subst (λ (s : State). s.may_leave db) is h
+
+      second : start.may_leave db ⊎ ⊥ → old.may_leave db
+      second (inl h) = began h
+      second (inr h) = absurd h
+
+      first : middle.may_leave db ⊎ ⊥ → old.may_leave db
+      first (inl h) = second (one.crash clean_middle db h)
+      first (inr h) = absurd h
+
+-- what a commit makes stands for the content
+pub stands_when_open : (s : State) (S : Content) → SeesContent s S → IsTrue s.is_open → StandsFor s.now.trees S
+stands_when_open s S sees is_open = record { right = sees.right; holds = (sees.rows is_open).1 }
+
+-- what the last commit left stands for the content
+pub stands_committed : (s : State) (S : Content) → HasContent s S → IsTrue s.is_open → (db : Trees) → db ≡ s.committed.trees → StandsFor db S
+stands_committed s S has is_open db is = record { right = has.right; holds = subst (λ d. Holds d (rows_of S)) (sym is) (has.rows is_open).1 }

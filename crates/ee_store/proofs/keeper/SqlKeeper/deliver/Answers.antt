@@ -1,0 +1,28 @@
+use Rattle.std.proofs.Common.{◌≡◌, [], ◌∷◌, sym, subst}
+use Rattle.sqlite.specs.Held.{state}
+use Rattle.ee_acts.specs.Contents.{content_after}
+use Rattle.ee_store.specs.Serving.{StandsFor}
+use Rattle.ee_store.proofs.Transactions.{stands_committed}
+use Rattle.ee_store.proofs.Following.{follows_decided, follows_unserved}
+use Rattle.ee_store.proofs.keeper.SqlKeeper.deliver.Goals as goal
+
+pub returns-in-Ok-clause-durable : goal.returns-in-Ok-clause-durable
+returns-in-Ok-clause-durable g c clean S has none db may =
+    let new = state g.S.Store c.deliver_on.new.conn in
+    stands_committed new (content_after S (c.args.request.now ∷ [])) (c.in-Ok.ensures.kept clean S has) (c.in-Ok.ensures.opened clean S has none) db (c.in-Ok.ensures.durable clean S has none db may)
+
+pub returns-in-Ok-clause-decided : goal.returns-in-Ok-clause-decided
+returns-in-Ok-clause-decided g c clean w told follows =
+    let old = state g.S.Store c.args.self.now.conn in
+    let new = state g.S.Store c.deliver_on.new.conn in
+    let q = c.args.request.now in
+    let kept = c.in-Ok.ensures.kept clean w.now follows.0 in
+    follows_decided old new q w follows told kept
+    (λ first db may. stands_committed new (content_after w.now (q ∷ [])) kept (c.in-Ok.ensures.opened clean w.now follows.0 first) db (c.in-Ok.ensures.durable clean w.now follows.0 first db may))
+    (λ known. c.in-Ok.ensures.again clean w.now follows.0 known)
+
+pub returns-in-Err-clause-unserved : goal.returns-in-Err-clause-unserved
+returns-in-Err-clause-unserved g c clean w follows =
+    let old = state g.S.Store c.args.self.now.conn in
+    let new = state g.S.Store c.deliver_on.new.conn in
+    follows_unserved old new c.args.request.now w follows (c.in-Err.ensures.failed clean w.now follows.0) (c.in-Err.ensures.crash.crash clean)

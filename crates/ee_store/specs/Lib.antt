@@ -1,0 +1,4 @@
+pub mod Standing
+pub mod Written
+pub mod Found
+pub mod Serving

@@ -1,0 +1,54 @@
+//! A keeper over the tables.
+
+ghost use Rattle.std.specs.Prelude.{◌≡◌, true, false, List, [], ◌∷◌, OnOk, OnErr};
+ghost use Rattle.std.specs.FinMap as finite;
+ghost use Rattle.sqlite.specs.Held.{state};
+ghost use Rattle.sqlite.specs.Tree.{Trees};
+ghost use Rattle.sqlite.specs.State.{HasCleanDisk, Survives};
+ghost use Rattle.ee_acts.specs.Numbers.{number_of};
+ghost use Rattle.ee_acts.specs.Repeats.{Content};
+ghost use Rattle.ee_acts.specs.Contents.{content_after};
+ghost use Rattle.ee_laws.specs.Events.{World, Told, decided, unserved};
+ghost use Rattle.ee_keeper.specs.Keeping.{Delivers};
+ghost use Rattle.ee_store.specs.Serving.{StandsFor, HasContent, FollowsWorld};
+
+use crate::delivering::deliver_on;
+use ee_acts::{Reply, Request, Tables, Unserved};
+use sqlite::{Alter, Connection};
+use std::alloc::Global;
+
+/// Keeps books and replies in the tables of a store.
+pub struct SqlKeeper<S: Alter> {
+    alloc: Global,
+    tables: Tables,
+    conn: Connection<S>,
+}
+
+impl<S: Alter> SqlKeeper<S> {
+    /// The reply to a request, which acts once: all that it does and its reply are committed together.
+    /// A number that has a kept reply gets that reply where the act is the same, and else
+    /// `NumberReused`. Where it answers `Unserved` nothing has changed.
+    ///
+    /// - `crash`: whenever the keeper stops, a crash leaves what it could leave before, or the rows of
+    ///   the content with this request decided.
+    /// - `durable`: with the reply to a number that wasn't kept it leaves the new rows alone.
+    /// - `again`: with the reply to a kept number it leaves what it could leave before.
+    /// - `decided`, `unserved`: so the store follows the events of the law of stops and retries.
+    pub fn deliver(&mut self, request: &Request) -> Result<Reply, Unserved>
+        ensures clean { HasCleanDisk (state S.Store self.new.conn) → HasCleanDisk (state S.Store self.old.conn) }
+        ensures delivers { HasCleanDisk (state S.Store self.new.conn) → (content : Content) → HasContent (state S.Store self.old.conn) content
+            → Delivers content request.now result (HasContent (state S.Store self.new.conn)) }
+        ensures crash { Survives (state S.Store self.old.conn) (state S.Store self.new.conn) (λ db. (content : Content) → HasContent (state S.Store self.old.conn) content → StandsFor db (content_after content (request.now ∷ []))) }
+        ensures durable { HasCleanDisk (state S.Store self.new.conn) → OnOk result ((content : Content) → HasContent (state S.Store self.old.conn) content → finite.contains_key content.kept (number_of request.now) ≡ false
+            → (db : Trees) → (state S.Store self.new.conn).may_leave db → StandsFor db (content_after content (request.now ∷ []))) }
+        ensures again { HasCleanDisk (state S.Store self.new.conn) → OnOk result ((content : Content) → HasContent (state S.Store self.old.conn) content → finite.contains_key content.kept (number_of request.now) ≡ true
+            → (db : Trees) → (state S.Store self.new.conn).may_leave db → (state S.Store self.old.conn).may_leave db) }
+        ensures decided { HasCleanDisk (state S.Store self.new.conn) → OnOk result ((w : World) (told : List Told) → FollowsWorld (state S.Store self.old.conn) w → FollowsWorld (state S.Store self.new.conn) (decided w request.now told)) }
+        ensures unserved { HasCleanDisk (state S.Store self.new.conn) → OnErr result ((w : World) → FollowsWorld (state S.Store self.old.conn) w → FollowsWorld (state S.Store self.new.conn) (unserved w request.now)) }
+    {
+        match deliver_on(&mut self.conn, self.alloc, &mut self.tables, request) {
+            Ok(reply) => Ok(reply),
+            Err(unfinished) => Err(Unserved::from(unfinished)),
+        }
+    }
+}

@@ -1,0 +1,20 @@
+//! The store of a paying agent's counter: which books the rows of its tables stand for, and a keeper
+//! that keeps them there.
+#![tactic(auto)]
+
+mod counting;
+mod delivering;
+mod failures;
+mod keeper;
+mod keys;
+mod laws;
+mod looking;
+mod repeats;
+mod seeing;
+mod serving;
+mod terms;
+mod values;
+mod writing;
+
+pub use keeper::SqlKeeper;
+pub use laws::one_content;

@@ -1,0 +1,143 @@
+//! What is found by keys in a transaction.
+
+ghost use Rattle.std.specs.Prelude.{◌≡◌, IfSome, IfOk, OnOk};
+ghost use Rattle.std.specs.Option.{option_map};
+ghost use Rattle.std.specs.FinMap as finite;
+ghost use Rattle.sqlite.specs.Held.{state};
+ghost use Rattle.ee_acts.specs.Seen.{held_of};
+ghost use Rattle.ee_acts.specs.Views.{picked};
+ghost use Rattle.ee_tables.specs.AsRows.{row_of_bond};
+ghost use Rattle.ee_tables.specs.Statements.{StaysOpen, StaysInside, CommitsNothing, LeavesNoMore};
+ghost use Rattle.ee_store.specs.Standing.{bond_row};
+ghost use Rattle.ee_store.specs.Found.{bonds_found, with_found};
+ghost use Rattle.ee_store.specs.Serving.{FindsIn, LeavesRows};
+
+use crate::failures::Unfinished;
+use crate::values::{customer_of, denom_of, issue_of};
+use ee_acts::Held;
+use ee_calculator::Bond;
+use ee_tables as tables;
+use ee_tables::find_bond;
+use ee_units::{Customer, Serial};
+use sqlite::{Alter, Transaction};
+use std::alloc::{AllocError, Global};
+use std::collections::BTreeMap;
+
+fn coowner_of(number: Option<u64>) -> Option<Option<Customer>>
+    ensures { IfSome result (λ coowner. coowner ≡ number) }
+{
+    match number {
+        None => Some(None),
+        Some(number) => Some(Some(customer_of(number)?)),
+    }
+}
+
+/// The bond that a row shows, and the ticket that paid it.
+fn held_from(serial: Serial, row: tables::Bond) -> Option<Held>
+    ensures { IfSome result (λ held. (bond_row held ≡ row_of_bond row) × (held.bond.serial ≡ serial)) }
+{
+    let denom = denom_of(row.denom)?;
+    let issued = issue_of(row.issued)?;
+    let owner = customer_of(row.owner)?;
+    let coowner = coowner_of(row.coowner)?;
+    let bond = Bond {
+        serial,
+        denom,
+        issued,
+        owner,
+        coowner,
+    };
+    Some(Held {
+        bond,
+        ticket: row.ticket,
+    })
+}
+
+/// What a look-up showed of a serial number.
+fn held_shown(serial: Serial, found: Option<tables::Bond>) -> Result<Option<Held>, Unfinished>
+    ensures { IfOk result (λ held. (option_map bond_row held ≡ option_map row_of_bond found) × IfSome held (λ held. held.bond.serial ≡ serial)) }
+{
+    match found {
+        None => Ok(None),
+        Some(row) => match held_from(serial, row) {
+            Some(held) => Ok(Some(held)),
+            None => Err(Unfinished::StoreFailed),
+        },
+    }
+}
+
+/// What is held of a serial number.
+fn find_held<S: Alter>(
+    tx: &mut Transaction<'_, S>,
+    serial: Serial,
+) -> Result<Option<Held>, Unfinished>
+    ensures same_reference { tx.new.conn.ghost_name ≡ tx.old.conn.ghost_name }
+    ensures open { StaysOpen (state S.Store tx.old.conn.now) (state S.Store tx.new.conn.now) result }
+    ensures inside { StaysInside (state S.Store tx.old.conn.now) (state S.Store tx.new.conn.now) result }
+    ensures found { FindsIn (state S.Store tx.old.conn.now) (state S.Store tx.new.conn.now) result (λ content held. held ≡ held_of content.books serial) }
+    ensures rows { LeavesRows (state S.Store tx.old.conn.now) (state S.Store tx.new.conn.now) result }
+    ensures commit { CommitsNothing (state S.Store tx.old.conn.now) (state S.Store tx.new.conn.now) }
+    ensures crash { LeavesNoMore (state S.Store tx.old.conn.now) (state S.Store tx.new.conn.now) }
+{
+    let key = tables::Serial {
+        letter: serial.letter() as u64,
+        number: serial.number(),
+    };
+    let found = find_bond(tx, key)?;
+    held_shown(serial, found)
+}
+
+/// Notes a registered bond.
+fn put(found: &mut BTreeMap<Serial, Held>, serial: Serial, held: &Held) -> Result<(), AllocError>
+    ensures { OnOk result (bonds_found found.new.entries ≡ finite.insert (bonds_found found.old.entries) serial held.now) }
+{
+    let bond = held.bond;
+    let ticket = held.ticket;
+    found.insert(serial, Held { bond, ticket })?;
+    Ok(())
+}
+
+/// Notes what is held of a serial number, where it is registered.
+fn note_held(
+    found: &mut BTreeMap<Serial, Held>,
+    serial: Serial,
+    held: Option<Held>,
+) -> Result<(), AllocError>
+    ensures { OnOk result (bonds_found found.new.entries ≡ with_found (bonds_found found.old.entries) serial held) }
+{
+    match held {
+        Some(held) => put(found, serial, &held),
+        None => Ok(()),
+    }
+}
+
+fn no_bonds(alloc: Global) -> BTreeMap<Serial, Held>
+    ensures { bonds_found result.entries ≡ finite.empty }
+{
+    BTreeMap::new(alloc)
+}
+
+/// What is held of serial numbers.
+pub fn held_in<S: Alter>(
+    tx: &mut Transaction<'_, S>,
+    alloc: Global,
+    serials: &[Serial],
+) -> Result<BTreeMap<Serial, Held>, Unfinished>
+    ensures same_reference { tx.new.conn.ghost_name ≡ tx.old.conn.ghost_name }
+    ensures open { StaysOpen (state S.Store tx.old.conn.now) (state S.Store tx.new.conn.now) result }
+    ensures inside { StaysInside (state S.Store tx.old.conn.now) (state S.Store tx.new.conn.now) result }
+    ensures found { FindsIn (state S.Store tx.old.conn.now) (state S.Store tx.new.conn.now) result (λ content found. bonds_found found.entries ≡ picked (held_of content.books) serials.now) }
+    ensures rows { LeavesRows (state S.Store tx.old.conn.now) (state S.Store tx.new.conn.now) result }
+    ensures commit { CommitsNothing (state S.Store tx.old.conn.now) (state S.Store tx.new.conn.now) }
+    ensures crash { LeavesNoMore (state S.Store tx.old.conn.now) (state S.Store tx.new.conn.now) }
+{
+    match serials.split_first() {
+        None => Ok(no_bonds(alloc)),
+        Some((serial, rest)) => {
+            let mut found = held_in(tx, alloc, rest)?;
+            let held = find_held(tx, *serial)?;
+            note_held(&mut found, *serial, held)?;
+            Ok(found)
+        }
+    }
+}

@@ -1,0 +1,125 @@
+//! The terms of periods, read in a transaction.
+
+ghost use Rattle.std.specs.Prelude.{◌≡◌, IfOk, OnOk};
+ghost use Rattle.std.specs.Option.{option_map};
+ghost use Rattle.std.specs.FinMap as finite;
+ghost use Rattle.sqlite.specs.Held.{state};
+ghost use Rattle.ee_value.specs.declared.rates.Rates.{Rates};
+ghost use Rattle.ee_acts.specs.Views.{picked};
+ghost use Rattle.ee_tables.specs.Statements.{StaysOpen, StaysInside, CommitsNothing, LeavesNoMore};
+ghost use Rattle.ee_store.specs.Found.{terms_found, with_found};
+ghost use Rattle.ee_store.specs.Serving.{FindsIn, LeavesRows};
+
+use crate::failures::Unfinished;
+use crate::values::rate_of;
+use ee_acts::{Tables, Terms};
+use ee_tables::find_rate;
+use ee_units::IssueMonth;
+use ee_value::{Rates, ValueFault};
+use sqlite::{Alter, Transaction};
+use std::alloc::{AllocError, Global};
+use std::collections::BTreeMap;
+
+/// The terms of rates, with the table that is kept of them.
+fn terms_of(alloc: Global, tables: &mut Tables, rates: Rates) -> Result<Terms, Unfinished>
+    ensures { IfOk result (λ terms. terms ≡ rates) }
+{
+    match tables.add(alloc, rates) {
+        Ok(terms) => Ok(terms),
+        Err(ValueFault::NoMemory) => Err(Unfinished::NoMemory),
+        Err(ValueFault::Unsettled { .. }) => Err(Unfinished::StoreFailed),
+    }
+}
+
+/// The terms that a look-up showed.
+fn terms_shown(
+    alloc: Global,
+    tables: &mut Tables,
+    found: Option<u64>,
+) -> Result<Option<Terms>, Unfinished>
+    ensures { IfOk result (λ terms. option_map (λ rates. rates.fixed) terms ≡ found) }
+{
+    match found {
+        None => Ok(None),
+        Some(hundredths) => match rate_of(hundredths) {
+            Some(fixed) => Ok(Some(terms_of(alloc, tables, Rates { fixed })?)),
+            None => Err(Unfinished::StoreFailed),
+        },
+    }
+}
+
+/// The terms of a period.
+pub fn find_terms<S: Alter>(
+    tx: &mut Transaction<'_, S>,
+    alloc: Global,
+    tables: &mut Tables,
+    period: IssueMonth,
+) -> Result<Option<Terms>, Unfinished>
+    ensures same_reference { tx.new.conn.ghost_name ≡ tx.old.conn.ghost_name }
+    ensures open { StaysOpen (state S.Store tx.old.conn.now) (state S.Store tx.new.conn.now) result }
+    ensures inside { StaysInside (state S.Store tx.old.conn.now) (state S.Store tx.new.conn.now) result }
+    ensures found { FindsIn (state S.Store tx.old.conn.now) (state S.Store tx.new.conn.now) result (λ content terms. terms ≡ finite.get content.books.rates period) }
+    ensures rows { LeavesRows (state S.Store tx.old.conn.now) (state S.Store tx.new.conn.now) result }
+    ensures commit { CommitsNothing (state S.Store tx.old.conn.now) (state S.Store tx.new.conn.now) }
+    ensures crash { LeavesNoMore (state S.Store tx.old.conn.now) (state S.Store tx.new.conn.now) }
+{
+    let found = find_rate(tx, period.count() as u64)?;
+    terms_shown(alloc, tables, found)
+}
+
+fn put(
+    found: &mut BTreeMap<IssueMonth, Terms>,
+    period: IssueMonth,
+    terms: Terms,
+) -> Result<(), AllocError>
+    ensures { OnOk result (terms_found found.new.entries ≡ finite.insert (terms_found found.old.entries) period terms) }
+{
+    found.insert(period, terms)?;
+    Ok(())
+}
+
+/// Notes the terms of a period, where it has some.
+fn note_terms(
+    found: &mut BTreeMap<IssueMonth, Terms>,
+    period: IssueMonth,
+    terms: Option<Terms>,
+) -> Result<(), AllocError>
+    ensures { OnOk result (terms_found found.new.entries ≡ with_found (terms_found found.old.entries) period terms) }
+{
+    match terms {
+        Some(terms) => put(found, period, terms),
+        None => Ok(()),
+    }
+}
+
+fn no_terms(alloc: Global) -> BTreeMap<IssueMonth, Terms>
+    ensures { terms_found result.entries ≡ finite.empty }
+{
+    BTreeMap::new(alloc)
+}
+
+/// The terms of periods.
+pub fn terms_in<S: Alter>(
+    tx: &mut Transaction<'_, S>,
+    alloc: Global,
+    tables: &mut Tables,
+    periods: &[IssueMonth],
+) -> Result<BTreeMap<IssueMonth, Terms>, Unfinished>
+    ensures same_reference { tx.new.conn.ghost_name ≡ tx.old.conn.ghost_name }
+    ensures open { StaysOpen (state S.Store tx.old.conn.now) (state S.Store tx.new.conn.now) result }
+    ensures inside { StaysInside (state S.Store tx.old.conn.now) (state S.Store tx.new.conn.now) result }
+    ensures found { FindsIn (state S.Store tx.old.conn.now) (state S.Store tx.new.conn.now) result (λ content found. terms_found found.entries ≡ picked (finite.get content.books.rates) periods.now) }
+    ensures rows { LeavesRows (state S.Store tx.old.conn.now) (state S.Store tx.new.conn.now) result }
+    ensures commit { CommitsNothing (state S.Store tx.old.conn.now) (state S.Store tx.new.conn.now) }
+    ensures crash { LeavesNoMore (state S.Store tx.old.conn.now) (state S.Store tx.new.conn.now) }
+{
+    match periods.split_first() {
+        None => Ok(no_terms(alloc)),
+        Some((period, rest)) => {
+            let mut found = terms_in(tx, alloc, tables, rest)?;
+            let terms = find_terms(tx, alloc, tables, *period)?;
+            note_terms(&mut found, *period, terms)?;
+            Ok(found)
+        }
+    }
+}
