@@ -1,21 +1,18 @@
 -- What is found by keys is what an act sees of the books.
-use Rattle.std.proofs.Common.{◌≡◌, ℕ, List, [], ◌∷◌, Option, Some, None, refl, sym, ap, ◌∙◌, subst}
+use Rattle.std.proofs.Common.{◌≡◌, ℕ, List, ◌∷◌, Option, Some, None, refl, sym, ap, ◌∙◌}
 use Rattle.std.specs.Prelude.{IfSome, Result, Ok, Err, OnOk}
 use Rattle.std.specs.Option.{option_map, unwrap_or}
 use Rattle.std.specs.List.{filter_map, cons_option}
 use Rattle.std.specs.declared.cmp.Ordering.{Ordering}
 use Rattle.std.specs.FinMap as finite
-use Rattle.std.specs.FinMap.{FinMap}
 use Rattle.ee_units.specs.Spelling.{SerialNumber}
 use Rattle.ee_calculator.specs.declared.bonds.Bond.{Bond}
 use Rattle.ee_acts.specs.declared.changes.Held.{Held}
 use Rattle.ee_acts.specs.declared.replies.Ticket.{Ticket}
-use Rattle.ee_acts.specs.PlainBooks.{PlainBooks}
 use Rattle.ee_acts.specs.Seen.{held_as, held_of}
 use Rattle.ee_acts.specs.Views.{picked, entry_of}
 use Rattle.ee_acts.specs.Sound.{IsRightBond}
 use Rattle.ee_acts.specs.Repeats.{Content}
-use Rattle.ee_tables.specs.Rows.{BondRow}
 use Rattle.ee_store.specs.Standing.{rows_of, bond_row, key_of, IsRight}
 use Rattle.ee_store.specs.Found.{with_found}
 use Rattle.ee_value.specs.declared.rates.Rates.{Rates}

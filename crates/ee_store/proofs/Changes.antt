@@ -1,6 +1,6 @@
 -- Rows change as the books change.
-use Rattle.std.proofs.Common.{◌≡◌, ◌==◌, ℕ, suc, ◌+◌, ◌<◌, ◌≤◌, eqb, Bool, true, false, cond, ◌||◌, List, [], ◌∷◌, ◌++◌, map, length, arith, refl, sym, ap, ◌∙◌, subst, append-nil, append_assoc, true≢false, Less, Equal, Greater}
-use Rattle.std.specs.Prelude.{flat_map, Option, Some, None, IfSome, T}
+use Rattle.std.proofs.Common.{◌≡◌, ℕ, suc, ◌+◌, ◌<◌, ◌≤◌, eqb, Bool, true, false, cond, ◌||◌, List, [], ◌∷◌, ◌++◌, map, length, arith, refl, sym, ap, ◌∙◌, append-nil, append_assoc, true≢false, Less, Equal, Greater}
+use Rattle.std.specs.Prelude.{flat_map, Option, Some, None}
 use Rattle.std.specs.Option.{option_map, option_or}
 use Rattle.std.specs.List.{AllByRecursion, list_any}
 use Rattle.std.specs.List as list
@@ -8,31 +8,26 @@ use Rattle.std.specs.Ordering.{nat_cmp, eq_by_cmp, is_eq}
 use Rattle.std.specs.declared.cmp.Ordering.{Ordering}
 use Rattle.std.specs.Cmp.{nat_cmp_total, unsigned_tied}
 use Rattle.std.proofs.lemmas.List.{map-append}
-use Rattle.std.proofs.lemmas.Bool.{or_parts, false_from_ne_true}
+use Rattle.std.proofs.lemmas.Bool.{false_from_ne_true}
 use Rattle.std.specs.FinMap as finite
-use Rattle.std.specs.FinMap.{FinMap, nat_cmp-IsAntisymmetric, entries, find, insert, from_entries, get-insert, get-from_entries, from_entries_push, same_map}
+use Rattle.std.specs.FinMap.{FinMap, nat_cmp-IsAntisymmetric, find, insert, from_entries, get-insert, get-from_entries, from_entries_push, same_map}
 use Rattle.ee_units.specs.Spelling.{SerialNumber}
 use Rattle.ee_value.specs.declared.rates.Rates.{Rates}
 use Rattle.ee_calculator.specs.declared.bonds.Bond.{Bond}
 use Rattle.ee_acts.specs.declared.changes.Kept.{Kept}
-use Rattle.ee_acts.specs.declared.changes.Change.{Change}
-use Rattle.ee_acts.specs.declared.changes.Change.TheVariants as change
 use Rattle.ee_acts.specs.declared.replies.Line.{Line}
 use Rattle.ee_acts.specs.declared.replies.Ticket.{Ticket}
 use Rattle.ee_acts.specs.declared.replies.Batch.{Batch}
 use Rattle.ee_acts.specs.Serials.{serial_cmp, same_serial}
 use Rattle.ee_acts.specs.Numbers.{Number, number_cmp}
-use Rattle.ee_acts.specs.PlainBooks.{PlainBooks, ticket_of, names}
+use Rattle.ee_acts.specs.PlainBooks.{ticket_of, names}
 use Rattle.ee_acts.specs.Seen.{held_as}
-use Rattle.ee_acts.specs.Acts.{changed, applied}
-use Rattle.ee_acts.specs.Sound.{IsSound, NumberedFrom, day_of_batch, open_days}
-use Rattle.ee_acts.specs.Lists.{Rising}
-use Rattle.ee_acts.specs.Repeats.{Content}
+use Rattle.ee_acts.specs.Sound.{NumberedFrom, day_of_batch}
 use Rattle.ee_acts.proofs.Maps.{serials_total, exact_serials, serials_tied, serial_is, same_key}
 use Rattle.ee_acts.proofs.RequestNumbers.{numbers_total}
 use Rattle.ee_tables.specs.Keyed.{pair_cmp}
-use Rattle.ee_tables.specs.Rows.{Rows, BondRow, TicketRow, PaidRow, BatchRow, ReplyRow, DeskRow, with_lines, with_line, with_paid, marked, marked_as}
-use Rattle.ee_store.specs.Standing.{rate_rows, bond_rows, bond_row, key_of, ticket_rows, ticket_row, paid_rows, paid_row, placed, batch_rows, batch_row, reply_rows, reply_row, desk_rows, rows_of}
+use Rattle.ee_tables.specs.Rows.{Rows, BondRow, PaidRow, DeskRow, with_lines, marked_as}
+use Rattle.ee_store.specs.Standing.{rate_rows, bond_rows, bond_row, key_of, ticket_rows, ticket_row, paid_rows, paid_row, placed, batch_rows, batch_row, reply_rows, reply_row, desk_rows}
 use Rattle.ee_store.proofs.Images.{pair_total, pair_same, get_rate, get_reply, get_bond}
 use Rattle.ee_store.proofs.Orders.{ticket_entry, ticket_lines, batch_entry}
 
@@ -136,13 +131,14 @@ before_next n place (e ∷ es) row h = ((λ is. let low = h.0 is in omega (arith
 
 before_apart : (n place : ℕ) (es : List ((ℕ × ℕ) × PaidRow)) → AreBefore n place es → AllByRecursion (λ e. eq_by_cmp pair_cmp (n, place) e.0 ≡ false) es
 before_apart n place [] h = tt
-before_apart n place (e ∷ es) h =
-    (false_from_ne_true (eq_by_cmp pair_cmp (n, place) e.0) (λ same.
-        let is = same_key pair_total pair_same (λ (_ : ℕ × ℕ). Some place) (n, place) e.0 same in
-        let low = h.0 (sym (ap (λ k. k.0) is)) in
-        let at = ap (λ k. k.1) is in
-        absurd (omega (arith, low, at))),
-    before_apart n place es h.1)
+before_apart n place (e ∷ es) h = (
+  false_from_ne_true (eq_by_cmp pair_cmp (n, place) e.0) (λ same.
+      let is = same_key pair_total pair_same (λ (_ : ℕ × ℕ). Some place) (n, place) e.0 same in
+      let low = h.0 (sym (ap (λ k. k.0) is)) in
+      let at = ap (λ k. k.1) is in
+      absurd (omega (arith, low, at))),
+  before_apart n place es h.1,
+)
 
 pub paid_with : FinMap pair_cmp PaidRow → ℕ → ℕ → List Line → FinMap pair_cmp PaidRow
 paid_with paid n place [] = paid

@@ -1,16 +1,16 @@
 -- The tickets of a day, and the number of the last, by their rows.
-use Rattle.std.proofs.Common.{◌≡◌, ◌==◌, ℕ, suc, ◌+◌, eqb, Bool, true, false, cond, List, [], ◌∷◌, map, filter, length, Option, Some, None, arith, refl, sym, ap, ◌∙◌}
+use Rattle.std.proofs.Common.{◌≡◌, ◌==◌, ℕ, suc, ◌+◌, eqb, Bool, true, false, cond, List, [], ◌∷◌, map, filter, length, Some, arith, refl, ap, ◌∙◌}
 use Rattle.std.specs.Option.{unwrap_or}
 use Rattle.std.specs.List.{fold, sum_by}
 use Rattle.std.specs.FinMap.{entries}
 use Rattle.ee_acts.specs.declared.replies.Ticket.{Ticket}
-use Rattle.ee_acts.specs.PlainBooks.{of_day, batch_of, bonds_on, total_of}
+use Rattle.ee_acts.specs.PlainBooks.{of_day, bonds_on, total_of}
 use Rattle.ee_acts.specs.Sound.{NumberedFrom}
 use Rattle.ee_acts.specs.Repeats.{Content}
 use Rattle.ee_tables.specs.declared.records.TicketSum.{TicketSum}
 use Rattle.ee_tables.specs.AsRows.{sum_of}
 use Rattle.ee_tables.specs.Rows.{TicketRow, last_number, tickets_on}
-use Rattle.ee_store.specs.Standing.{rows_of, ticket_rows, IsRight}
+use Rattle.ee_store.specs.Standing.{rows_of, IsRight}
 use Rattle.ee_store.proofs.Orders.{ticket_entry, ticket_entries}
 
 last_is : (n : ℕ) (t : Ticket) (ts : List Ticket) → NumberedFrom n (t ∷ ts) → last_number (map ticket_entry (t ∷ ts)) ≡ Some (length ts + n)

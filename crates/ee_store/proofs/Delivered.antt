@@ -1,13 +1,11 @@
 -- A delivery leaves rows that stand for the content after it.
-use Rattle.std.proofs.Common.{◌≡◌, ℕ, ◌≤◌, Bool, true, false, cond, List, [], ◌∷◌, ◌++◌, map, arith, refl, sym, ap, ◌∙◌, subst}
+use Rattle.std.proofs.Common.{◌≡◌, ◌≤◌, Bool, true, false, cond, List, [], ◌∷◌, ◌++◌, map, refl, sym, ap, ◌∙◌, subst}
 use Rattle.std.specs.Prelude.{Option, Some, None, IfSome, is_some, is_none, ⊤}
 use Rattle.std.specs.List.{AllByRecursion}
 use Rattle.std.specs.Ordering.{eq_by_cmp}
 use Rattle.std.specs.FinMap as finite
-use Rattle.std.specs.FinMap.{FinMap, insert, get-insert}
-use Rattle.ee_units.specs.Spelling.{SerialNumber}
+use Rattle.std.specs.FinMap.{insert, get-insert}
 use Rattle.ee_value.specs.declared.rates.RateRow.{RateRow}
-use Rattle.ee_calculator.specs.declared.bonds.Bond.{Bond}
 use Rattle.ee_acts.specs.declared.acts.Act.{Act}
 use Rattle.ee_acts.specs.declared.acts.Act.TheVariants.{AddRates, AddBonds, OpenDay, Redeem, CloseDay}
 use Rattle.ee_acts.specs.declared.acts.Request.{Request}
@@ -20,7 +18,6 @@ use Rattle.ee_acts.specs.Serials.{serial_cmp}
 use Rattle.ee_acts.specs.Numbers.{Number, number_cmp, number_of}
 use Rattle.ee_acts.specs.PlainBooks.{PlainBooks}
 use Rattle.ee_acts.specs.Seen.{Seen, shown}
-use Rattle.ee_acts.specs.Views.{view_of, shown_by}
 use Rattle.ee_acts.specs.Refusals.{known_rate, refusal_of}
 use Rattle.ee_acts.specs.Effects.{new_rates, new_bonds, rate_change, accepted, unless_refused, effects_of}
 use Rattle.ee_acts.specs.Acts.{changed, applied, books_after}
@@ -29,16 +26,15 @@ use Rattle.ee_acts.specs.Ranges.{IsInRange}
 use Rattle.ee_acts.specs.Sound.{IsSound}
 use Rattle.ee_acts.specs.Repeats.{Content}
 use Rattle.ee_acts.specs.Contents.{content_after}
-use Rattle.ee_acts.proofs.Maps.{serials_total, exact_serials, same_key, all_map}
+use Rattle.ee_acts.proofs.Maps.{serials_total, same_key, all_map}
 use Rattle.ee_acts.proofs.Orders.{all_append, all_filter, all_mapped}
 use Rattle.ee_acts.proofs.Repeats.{one_new}
 use Rattle.ee_acts.proofs.RequestNumbers.{numbers_total, numbers_exact}
 use Rattle.ee_acts.proofs.Seeing.{seen_enough, applied_is}
 use Rattle.ee_acts.proofs.Soundness.{act_sound}
-use Rattle.ee_desk.specs.Applicable.{AreApplicable}
 use Rattle.ee_desk.proofs.Deciding.{applicable}
 use Rattle.ee_texts.specs.Ranges.{ActFits, ReplyFits, RateRowFits, BondFits, TicketFits, BatchFits}
-use Rattle.ee_tables.specs.Rows.{Rows, with_reply}
+use Rattle.ee_tables.specs.Rows.{with_reply}
 use Rattle.ee_store.specs.Standing.{rows_of, reply_row, AreInRange, IsKept, IsRight}
 use Rattle.ee_store.specs.Written.{applied_rows}
 use Rattle.ee_store.proofs.Changes.{with_new_reply}

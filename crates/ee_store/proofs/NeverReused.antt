@@ -1,7 +1,7 @@
 -- No act is refused because its number was used: that is told of kept numbers alone.
-use Rattle.std.proofs.Common.{◌≡◌, ◌≢◌, ℕ, ◌==◌, Bool, true, false, cond, not, List, [], ◌∷◌, ◌++◌, map, length, nat_lt, nat_le, refl, sym, ap, ◌∙◌, subst}
-use Rattle.std.specs.Prelude.{◌-◌, Option, Some, None, IfSome, is_some, is_none}
-use Rattle.std.specs.Option.{option_map, option_or, option_map_or}
+use Rattle.std.proofs.Common.{◌≡◌, ◌≢◌, ℕ, ◌==◌, Bool, true, false, cond, not, List, [], ◌∷◌, ◌++◌, refl, ap, subst}
+use Rattle.std.specs.Prelude.{Option, Some, None, IfSome}
+use Rattle.std.specs.Option.{option_map, option_or}
 use Rattle.std.specs.List.{AllByRecursion, list_any}
 use Rattle.ee_units.specs.Spelling.{SerialNumber}
 use Rattle.ee_units.specs.Calendar.{month_of_day}
@@ -12,13 +12,13 @@ use Rattle.ee_acts.specs.declared.changes.Held.{Held}
 use Rattle.ee_acts.specs.declared.acts.Act.{Act}
 use Rattle.ee_acts.specs.declared.acts.Act.TheVariants.{AddRates, AddBonds, OpenDay, Redeem, CloseDay}
 use Rattle.ee_acts.specs.declared.refusals.Refusal.{Refusal}
-use Rattle.ee_acts.specs.declared.refusals.Refusal.TheVariants.{NumberReused, Empty, TooMany, Repeated, SameCoowner, NotAnnouncementMonth, RateConflict, RateUnsettled, NoRate, SerialConflict, DayOpen, DayNotLater, NoOpenDay, DayIsOther, DayFull, UnknownSerial, NotPayee, AlreadyPaid, NotIssued, NotEligible}
+use Rattle.ee_acts.specs.declared.refusals.Refusal.TheVariants.{NumberReused, Empty, TooMany, Repeated, SameCoowner, NotAnnouncementMonth, RateConflict, RateUnsettled, NoRate, SerialConflict, DayOpen, DayNotLater, DayIsOther, DayFull, NotPayee, AlreadyPaid, NotIssued, NotEligible}
 use Rattle.ee_acts.specs.declared.replies.Reply.{Reply}
 use Rattle.ee_acts.specs.declared.replies.Reply.TheVariants.{Refused}
 use Rattle.ee_acts.specs.declared.replies.Reply.TheVariants as reply
 use Rattle.ee_acts.specs.Codes.{code_of}
 use Rattle.ee_acts.specs.Seen.{Seen}
-use Rattle.ee_acts.specs.Refusals.{first, first_of, when, is_other, known_rate, unannounced, near, rate_conflict, repeated, repeated_bond, own_coowner, unrated, bond_conflict, is_other_bond, refusal_of_day, refusal_of_held, refusal_of_serial, tests_of, tests_of_held, refusal_of, most_rows, most_serials, most_tickets}
+use Rattle.ee_acts.specs.Refusals.{first, first_of, when, is_other, known_rate, unannounced, near, rate_conflict, repeated, repeated_bond, own_coowner, unrated, bond_conflict, refusal_of_day, refusal_of_held, refusal_of_serial, tests_of, tests_of_held, refusal_of}
 use Rattle.ee_acts.specs.Effects.{unless_refused, effects_of}
 
 -- told by its code

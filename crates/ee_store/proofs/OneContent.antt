@@ -1,12 +1,11 @@
 -- Rows stand for one content at most.
-use Rattle.std.proofs.Common.{◌≡◌, ◌==◌, ℕ, suc, ◌+◌, Bool, true, false, cond, List, [], ◌∷◌, ◌++◌, map, length, arith, refl, sym, ap, ◌∙◌, subst}
-use Rattle.std.specs.Prelude.{flat_map, Option, Some, None, IfSome, is_some, ⊤}
+use Rattle.std.proofs.Common.{◌≡◌, ◌==◌, ℕ, suc, ◌+◌, cond, List, [], ◌∷◌, ◌++◌, map, length, arith, refl, sym, ap, ◌∙◌}
+use Rattle.std.specs.Prelude.{flat_map, Option, Some, None, IfSome, ⊤}
 use Rattle.std.specs.Option.{option_map, unwrap_or}
-use Rattle.std.specs.List.{AllByRecursion}
 use Rattle.std.specs.Ordering.{nat_cmp}
 use Rattle.std.specs.Cmp.{nat_cmp_total}
 use Rattle.std.specs.FinMap as finite
-use Rattle.std.specs.FinMap.{FinMap, nat_cmp-IsAntisymmetric, entries, get-from_entries, same_map}
+use Rattle.std.specs.FinMap.{FinMap, nat_cmp-IsAntisymmetric, entries, same_map}
 use Rattle.ee_units.specs.Spelling.{SerialNumber}
 use Rattle.ee_units.specs.Denoms.{dollars}
 use Rattle.ee_units.specs.declared.denoms.Denom.{Denom}
@@ -19,15 +18,14 @@ use Rattle.ee_acts.specs.declared.replies.Ticket.{Ticket}
 use Rattle.ee_acts.specs.declared.replies.Batch.{Batch}
 use Rattle.ee_acts.specs.Serials.{serial_cmp}
 use Rattle.ee_acts.specs.Numbers.{Number, number_cmp}
-use Rattle.ee_acts.specs.PlainBooks.{PlainBooks}
 use Rattle.ee_acts.specs.Seen.{held_as}
 use Rattle.ee_acts.specs.Sound.{IsRightBond, day_of_batch, open_days}
 use Rattle.ee_acts.specs.Repeats.{Content}
 use Rattle.ee_acts.proofs.Maps.{serials_total, exact_serials}
 use Rattle.ee_acts.proofs.RequestNumbers.{numbers_total, numbers_exact}
 use Rattle.ee_texts.proofs.Same.{one_act, one_reply}
-use Rattle.ee_tables.specs.Rows.{Rows, DeskRow, PaidRow, TicketRow, BatchRow}
-use Rattle.ee_store.specs.Standing.{rate_rows, bond_rows, bond_row, key_of, ticket_rows, ticket_row, paid_rows, paid_row, placed, batch_rows, batch_row, reply_rows, reply_row, desk_rows, rows_of, IsKept, StandFor}
+use Rattle.ee_tables.specs.Rows.{Rows, DeskRow, PaidRow, BatchRow}
+use Rattle.ee_store.specs.Standing.{rate_rows, bond_rows, bond_row, key_of, placed, reply_rows, reply_row, desk_rows, IsKept, StandFor}
 use Rattle.ee_store.proofs.Images.{get_rate, get_reply, get_bond, get_desk}
 use Rattle.ee_store.proofs.Orders.{ticket_entry, ticket_entries, ticket_lines, paid_entries, batch_entry, batch_entries, rising_front}
 
@@ -166,7 +164,7 @@ one_content rows one other h k =
     let lines = sym (paid_entries one.books.tickets a.numbered) ∙ ap (λ (r : Rows). entries r.paid) same ∙ paid_entries other.books.tickets b.numbered in
     let tickets = same_tickets one.books.tickets other.books.tickets heads lines in
     let closed = sym (batch_entries one.books.batches (rising_front (map day_of_batch one.books.batches) (open_days one.books.day) a.rising))
-        ∙ ap (λ (r : Rows). entries r.batches) same ∙ batch_entries other.books.batches (rising_front (map day_of_batch other.books.batches) (open_days other.books.day) b.rising) in
+    ∙ ap (λ (r : Rows). entries r.batches) same ∙ batch_entries other.books.batches (rising_front (map day_of_batch other.books.batches) (open_days other.books.day) b.rising) in
     let batches = sym (batches_back one.books.batches) ∙ ap (map batch_at) closed ∙ batches_back other.books.batches in
     let days = same_desk one.books.day one.books.last_day other.books.day other.books.last_day (ap (λ (r : Rows). r.desk) same) in
     let rates = same_rates one.books.rates other.books.rates (ap (λ (r : Rows). r.rates) same) in

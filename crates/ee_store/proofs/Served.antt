@@ -1,5 +1,5 @@
 -- What a request leaves in a transaction.
-use Rattle.std.proofs.Common.{◌≡◌, ℕ, ◌≤◌, Bool, true, false, not, List, [], ◌∷◌, Option, Some, None, refl, sym, ap, ◌∙◌, subst}
+use Rattle.std.proofs.Common.{◌≡◌, ℕ, ◌≤◌, true, false, not, List, Option, Some, None, refl, sym, ap, ◌∙◌, subst}
 use Rattle.std.specs.Prelude.{IfSome, is_some}
 use Rattle.std.specs.Option.{option_map, unwrap_or}
 use Rattle.std.specs.FinMap as finite
@@ -13,11 +13,10 @@ use Rattle.ee_acts.specs.Numbers.{Number, number_of}
 use Rattle.ee_acts.specs.Seen.{shown}
 use Rattle.ee_acts.specs.Effects.{effects_of}
 use Rattle.ee_acts.specs.Repeats.{Content}
-use Rattle.ee_acts.specs.Contents.{content_after}
 use Rattle.ee_acts.proofs.KeptReplies.{told_again, stays, told_new}
 use Rattle.ee_texts.specs.Ranges.{ActFits, ReplyFits}
 use Rattle.ee_texts.specs.Texts.{act_text, reply_text}
-use Rattle.ee_tables.specs.Rows.{Rows, ReplyRow, Sees, with_reply}
+use Rattle.ee_tables.specs.Rows.{ReplyRow, Sees, with_reply}
 use Rattle.ee_tables.proofs.KeepLemmas.{unchanged_sees}
 use Rattle.ee_store.specs.Standing.{rows_of, reply_row, IsRight, IsKept}
 use Rattle.ee_store.specs.Written.{applied_rows}

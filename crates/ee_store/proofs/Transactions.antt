@@ -1,18 +1,17 @@
 -- A delivery: a transaction that is begun, served and ended.
-use Rattle.std.proofs.Common.{◌≡◌, ◌⊎◌, inl, inr, Bool, true, false, not, true≢false, IsTrue, List, [], ◌∷◌, Option, refl, sym, ap, ◌∙◌, subst}
+use Rattle.std.proofs.Common.{◌≡◌, ◌⊎◌, inl, inr, Bool, true, false, not, true≢false, IsTrue, [], ◌∷◌, refl, sym, ◌∙◌, subst}
 use Rattle.std.specs.FinMap as finite
 use Rattle.sqlite.specs.Tree.{Trees}
 use Rattle.sqlite.specs.State.{State, HasCleanDisk, Survives, KeepsCommit, Shows}
 use Rattle.ee_acts.specs.declared.acts.Request.{Request}
-use Rattle.ee_acts.specs.declared.replies.Reply.{Reply}
 use Rattle.ee_acts.specs.Numbers.{number_of}
 use Rattle.ee_acts.specs.Repeats.{Content}
 use Rattle.ee_acts.specs.Contents.{content_after}
 use Rattle.ee_acts.proofs.Repeats.{one_known}
-use Rattle.ee_tables.specs.Rows.{IsInside, Sees, Has, Holds}
-use Rattle.ee_tables.proofs.TransactionLemmas.{begun, begun_inside, begun_sees, still_has, committed_has, commit_survives}
-use Rattle.ee_store.specs.Standing.{rows_of, IsRight}
-use Rattle.ee_store.specs.Serving.{StandsFor, HasContent, SeesContent, IsServed}
+use Rattle.ee_tables.specs.Rows.{IsInside, Holds}
+use Rattle.ee_tables.proofs.TransactionLemmas.{begun, begun_inside, begun_sees, still_has, committed_has}
+use Rattle.ee_store.specs.Standing.{rows_of}
+use Rattle.ee_store.specs.Serving.{StandsFor, HasContent, SeesContent}
 
 -- a number that comes again leaves the content
 pub known_stays : (S : Content) (q : Request) (is_new : Bool) → is_new ≡ false → is_new ≡ not (finite.contains_key S.kept (number_of q)) → S ≡ content_after S (q ∷ [])

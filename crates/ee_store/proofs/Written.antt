@@ -1,5 +1,5 @@
 -- The rows that a delivery writes are those of the content after it.
-use Rattle.std.proofs.Common.{◌≡◌, ℕ, suc, ◌+◌, ◌<◌, List, [], ◌∷◌, ◌++◌, map, length, arith, refl, sym, ap, ◌∙◌, subst, append-nil}
+use Rattle.std.proofs.Common.{◌≡◌, ℕ, suc, ◌+◌, List, [], ◌∷◌, ◌++◌, map, length, arith, refl, sym, ap, ◌∙◌, subst, append-nil}
 use Rattle.std.specs.Prelude.{Option, Some, None}
 use Rattle.std.specs.Option.{option_map, unwrap_or}
 use Rattle.std.specs.Ordering.{nat_cmp}
@@ -19,16 +19,16 @@ use Rattle.ee_acts.specs.declared.replies.Ticket.{Ticket}
 use Rattle.ee_acts.specs.declared.replies.Batch.{Batch}
 use Rattle.ee_acts.specs.PlainBooks.{PlainBooks, ticket_of}
 use Rattle.ee_acts.specs.Acts.{changed, applied}
-use Rattle.ee_acts.specs.Sound.{IsSound, NumberedFrom, day_of_batch, open_days}
+use Rattle.ee_acts.specs.Sound.{IsSound, NumberedFrom, day_of_batch}
 use Rattle.ee_acts.specs.Lists.{Rising}
 use Rattle.ee_acts.specs.Repeats.{Content}
 use Rattle.ee_acts.proofs.Orders.{rising_below}
 use Rattle.ee_desk.specs.Added as added
 use Rattle.ee_desk.specs.Added.{AreNew}
 use Rattle.ee_desk.specs.Applicable.{IsRate, IsBond, IsUnpaid, AreApplicable}
-use Rattle.ee_tables.specs.Rows.{Rows, DeskRow, BondRow, insert_new, day_set, with_batch, with_ticket, with_lines}
-use Rattle.ee_store.specs.Standing.{rate_rows, bond_rows, bond_row, key_of, ticket_rows, ticket_row, paid_row, batch_row, desk_rows, rows_of}
-use Rattle.ee_store.specs.Written.{changed_rows, applied_rows}
+use Rattle.ee_tables.specs.Rows.{Rows, DeskRow, insert_new, day_set, with_batch, with_ticket}
+use Rattle.ee_store.specs.Standing.{rate_rows, bond_rows, bond_row, key_of, ticket_row, batch_row, desk_rows, rows_of}
+use Rattle.ee_store.specs.Written.{applied_rows}
 use Rattle.ee_store.proofs.Images.{get_rate, get_bond, get_desk}
 use Rattle.ee_store.proofs.Changes.{with_new_rate, with_new_bond, with_other_days, with_new_ticket, with_new_lines, with_new_marks, with_new_batch, lines_parts}
 

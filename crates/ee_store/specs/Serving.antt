@@ -1,6 +1,6 @@
 -- What a call finds of the content that a store has, and what a request leaves there.
 -- Of a store that a failing disk has shut nothing is said.
-use Rattle.std.specs.Prelude.{◌≡◌, ℕ, Option, None, Bool, not, List, [], ◌∷◌, Result, IsTrue, IfOk, OnOk, OnErr}
+use Rattle.std.specs.Prelude.{◌≡◌, ℕ, Option, None, Bool, not, [], ◌∷◌, Result, IfOk, OnOk}
 use Rattle.std.specs.FinMap as finite
 use Rattle.sqlite.specs.Tree.{Trees}
 use Rattle.sqlite.specs.State.{State, HasCleanDisk}

@@ -1,4 +1,4 @@
-use Rattle.std.proofs.Common.{rules, ◌≡◌, List, map, length, sym, ap, ◌∙◌}
+use Rattle.std.proofs.Common.{rules, ◌≡◌, map, length, ap, ◌∙◌}
 use Rattle.std.specs.Prelude.{Ok, Err, Result, IfOk}
 use Rattle.std.specs.List.{sum_by}
 use Rattle.sqlite.specs.Held.{state}
@@ -21,11 +21,12 @@ pub returns-clause-found : goal.returns-clause-found
 returns-clause-found g c clean inside =
     let own : c.as_slice-all.result.now ≡ c.in_ok-sums.sums.items = search rules in
     IfOk_then c.counts_of.result (λ counts is S sees.
-        let found = own ∙ c.in_ok-sums.ensures.found clean (rows_of S) sees.rows ∙ ap (λ day. map sum_of (tickets_on (rows_of S) day)) c.count.ensures.value ∙ sums_on S c.args.day sees.right in
-        let tickets = of_day c.args.day S.books.tickets in
-        (is.0 ∙ ap length found ∙ sums_length tickets,
-        is.1 ∙ ap (sum_by (λ (s : TicketSum). s.bonds)) found ∙ sums_bonds tickets,
-        is.2 ∙ ap (sum_by (λ (s : TicketSum). s.total)) found ∙ sums_total tickets))
+    let found = own ∙ c.in_ok-sums.ensures.found clean (rows_of S) sees.rows ∙ ap (λ day. map sum_of (tickets_on (rows_of S) day)) c.count.ensures.value ∙ sums_on S c.args.day sees.right in
+    let tickets = of_day c.args.day S.books.tickets in (
+      is.0 ∙ ap length found ∙ sums_length tickets,
+      is.1 ∙ ap (sum_by (λ (s : TicketSum). s.bonds)) found ∙ sums_bonds tickets,
+      is.2 ∙ ap (sum_by (λ (s : TicketSum). s.total)) found ∙ sums_total tickets,
+    ))
     (all_three _ _ _ c.counts_of.result c.counts_of.ensures.tickets c.counts_of.ensures.bonds c.counts_of.ensures.total)
 
 pub returns-clause-rows : goal.returns-clause-rows

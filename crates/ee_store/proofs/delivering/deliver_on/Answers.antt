@@ -21,9 +21,9 @@ returns-in_err-is_new-clause-failed g c =
     let new = state g.S.Store c.drop-tx.new.self.0 in
     let same = c.conn-1.given.1 (sym (c.in_err-is_new.ensures.same_reference ∙ c.transaction-tx.ensures.same_reference)) in
     subst (λ h. HasCleanDisk (state g.S.Store h) → OnErr c.from_residual.result ((S : Content) → HasContent old S → HasContent (state g.S.Store h) S)) (sym same) (λ clean.
-        let before = clean_before middle new c.drop-tx.ensures.survives clean in
-        if_err c.from_residual.result (λ S has. still_content old start is middle new S has (c.in_err-is_new.ensures.commit before (inside_content old start is settled S has))
-            (rolled_keeps old start is middle new (c.drop-tx.ensures.undone clean))))
+    let before = clean_before middle new c.drop-tx.ensures.survives clean in
+    if_err c.from_residual.result (λ S has. still_content old start is middle new S has (c.in_err-is_new.ensures.commit before (inside_content old start is settled S has))
+    (rolled_keeps old start is middle new (c.drop-tx.ensures.undone clean))))
 
 pub returns-then-not-is_new-clause-told : goal.returns-then-not-is_new-clause-told
 returns-then-not-is_new-clause-told g c =
@@ -36,8 +36,8 @@ returns-then-not-is_new-clause-told g c =
     let new = state g.S.Store c.drop-tx-then-not-is_new.new.self.0 in
     let same = c.conn-then-not-is_new-1.given.1 (sym (c.in_ok-is_new.ensures.same_reference ∙ c.transaction-tx.ensures.same_reference)) in
     subst (λ h. HasCleanDisk (state g.S.Store h) → (S : Content) → HasContent old S → c.in_ok-is_new.reply ≡ answer S [] q) (sym same) (λ clean S has.
-        let before = clean_before middle new c.drop-tx-then-not-is_new.ensures.survives clean in
-        (c.in_ok-is_new.ensures.serves before (inside_content old start is settled S has) S (sees_content old start is settled S has)).told)
+    let before = clean_before middle new c.drop-tx-then-not-is_new.ensures.survives clean in
+    (c.in_ok-is_new.ensures.serves before (inside_content old start is settled S has) S (sees_content old start is settled S has)).told)
 
 pub returns-then-not-is_new-clause-kept : goal.returns-then-not-is_new-clause-kept
 returns-then-not-is_new-clause-kept g c =
@@ -50,10 +50,10 @@ returns-then-not-is_new-clause-kept g c =
     let new = state g.S.Store c.drop-tx-then-not-is_new.new.self.0 in
     let same = c.conn-then-not-is_new-1.given.1 (sym (c.in_ok-is_new.ensures.same_reference ∙ c.transaction-tx.ensures.same_reference)) in
     subst (λ h. HasCleanDisk (state g.S.Store h) → (S : Content) → HasContent old S → HasContent (state g.S.Store h) (content_after S (q ∷ []))) (sym same) (λ clean S has.
-        let before = clean_before middle new c.drop-tx-then-not-is_new.ensures.survives clean in
-        let inside = inside_content old start is settled S has in
-        subst (HasContent new) (known_stays S q c.in_ok-is_new.is_new c.if-not-is_new.true (c.in_ok-is_new.ensures.serves before (inside_content old start is settled S has) S (sees_content old start is settled S has)).first)
-            (still_content old start is middle new S has (c.in_ok-is_new.ensures.commit before inside) (rolled_keeps old start is middle new (c.drop-tx-then-not-is_new.ensures.undone clean))))
+    let before = clean_before middle new c.drop-tx-then-not-is_new.ensures.survives clean in
+    let inside = inside_content old start is settled S has in
+    subst (HasContent new) (known_stays S q c.in_ok-is_new.is_new c.if-not-is_new.true (c.in_ok-is_new.ensures.serves before (inside_content old start is settled S has) S (sees_content old start is settled S has)).first)
+    (still_content old start is middle new S has (c.in_ok-is_new.ensures.commit before inside) (rolled_keeps old start is middle new (c.drop-tx-then-not-is_new.ensures.undone clean))))
 
 pub returns-in_err-commit-clause-failed : goal.returns-in_err-commit-clause-failed
 returns-in_err-commit-clause-failed g c =
@@ -66,9 +66,9 @@ returns-in_err-commit-clause-failed g c =
     let new = state g.S.Store c.commit.new.self.0 in
     let same = c.conn-2-1.given.1 (sym (c.in_ok-is_new.ensures.same_reference ∙ c.transaction-tx.ensures.same_reference)) in
     subst (λ h. HasCleanDisk (state g.S.Store h) → OnErr c.from_residual-in_err-commit.result ((S : Content) → HasContent old S → HasContent (state g.S.Store h) S)) (sym same) (λ clean.
-        let before = clean_before middle new c.in_err-commit.ensures.survives clean in
-        if_err c.from_residual-in_err-commit.result (λ S has. still_content old start is middle new S has (c.in_ok-is_new.ensures.commit before (inside_content old start is settled S has))
-            (failed_keeps old start is middle new _ (c.in_err-commit.ensures.err clean))))
+    let before = clean_before middle new c.in_err-commit.ensures.survives clean in
+    if_err c.from_residual-in_err-commit.result (λ S has. still_content old start is middle new S has (c.in_ok-is_new.ensures.commit before (inside_content old start is settled S has))
+    (failed_keeps old start is middle new _ (c.in_err-commit.ensures.err clean))))
 
 pub returns-in_err-commit-clause-crash : goal.returns-in_err-commit-clause-crash
 returns-in_err-commit-clause-crash g c =
@@ -81,9 +81,9 @@ returns-in_err-commit-clause-crash g c =
     let new = state g.S.Store c.commit.new.self.0 in
     let same = c.conn-2-1.given.1 (sym (c.in_ok-is_new.ensures.same_reference ∙ c.transaction-tx.ensures.same_reference)) in
     subst (λ h. Survives old (state g.S.Store h) (λ db. (S : Content) → HasContent old S → StandsFor db (content_after S (q ∷ [])))) (sym same)
-        (commit_survives old start is middle new (λ db. (S : Content) → HasContent old S → StandsFor db (content_after S (q ∷ [])))
-            (λ before S has. stands_when_open middle (content_after S (q ∷ [])) (c.in_ok-is_new.ensures.serves before (inside_content old start is settled S has) S (sees_content old start is settled S has)).seen (c.in_ok-is_new.ensures.open before))
-            c.in_ok-is_new.ensures.crash c.in_err-commit.ensures.survives)
+    (commit_survives old start is middle new (λ db. (S : Content) → HasContent old S → StandsFor db (content_after S (q ∷ [])))
+    (λ before S has. stands_when_open middle (content_after S (q ∷ [])) (c.in_ok-is_new.ensures.serves before (inside_content old start is settled S has) S (sees_content old start is settled S has)).seen (c.in_ok-is_new.ensures.open before))
+    c.in_ok-is_new.ensures.crash c.in_err-commit.ensures.survives)
 
 pub returns-clause-kept : goal.returns-clause-kept
 returns-clause-kept g c =
@@ -96,8 +96,8 @@ returns-clause-kept g c =
     let new = state g.S.Store c.commit.new.self.0 in
     let same = c.conn-2-1.given.1 (sym (c.in_ok-is_new.ensures.same_reference ∙ c.transaction-tx.ensures.same_reference)) in
     subst (λ h. HasCleanDisk (state g.S.Store h) → (S : Content) → HasContent old S → HasContent (state g.S.Store h) (content_after S (q ∷ []))) (sym same) (λ clean S has.
-        let before = clean_before middle new c.in_ok-commit.ensures.survives clean in
-        committed_content old start is middle new (content_after S (q ∷ [])) (c.in_ok-is_new.ensures.serves before (inside_content old start is settled S has) S (sees_content old start is settled S has)).seen (c.in_ok-commit.ensures.ok clean).1)
+    let before = clean_before middle new c.in_ok-commit.ensures.survives clean in
+    committed_content old start is middle new (content_after S (q ∷ [])) (c.in_ok-is_new.ensures.serves before (inside_content old start is settled S has) S (sees_content old start is settled S has)).seen (c.in_ok-commit.ensures.ok clean).1)
 
 pub returns-clause-crash : goal.returns-clause-crash
 returns-clause-crash g c =
@@ -110,6 +110,6 @@ returns-clause-crash g c =
     let new = state g.S.Store c.commit.new.self.0 in
     let same = c.conn-2-1.given.1 (sym (c.in_ok-is_new.ensures.same_reference ∙ c.transaction-tx.ensures.same_reference)) in
     subst (λ h. Survives old (state g.S.Store h) (λ db. (S : Content) → HasContent old S → StandsFor db (content_after S (q ∷ [])))) (sym same)
-        (commit_survives old start is middle new (λ db. (S : Content) → HasContent old S → StandsFor db (content_after S (q ∷ [])))
-            (λ before S has. stands_when_open middle (content_after S (q ∷ [])) (c.in_ok-is_new.ensures.serves before (inside_content old start is settled S has) S (sees_content old start is settled S has)).seen (c.in_ok-is_new.ensures.open before))
-            c.in_ok-is_new.ensures.crash c.in_ok-commit.ensures.survives)
+    (commit_survives old start is middle new (λ db. (S : Content) → HasContent old S → StandsFor db (content_after S (q ∷ [])))
+    (λ before S has. stands_when_open middle (content_after S (q ∷ [])) (c.in_ok-is_new.ensures.serves before (inside_content old start is settled S has) S (sees_content old start is settled S has)).seen (c.in_ok-is_new.ensures.open before))
+    c.in_ok-is_new.ensures.crash c.in_ok-commit.ensures.survives)

@@ -1,4 +1,4 @@
-use Rattle.std.proofs.Common.{◌≡◌, ◌∙◌, sym, ap}
+use Rattle.std.proofs.Common.{◌∙◌, sym, ap}
 use Rattle.std.specs.Option.{option_map}
 use Rattle.std.specs.List.{filter_map}
 use Rattle.std.specs.FinMap as finite
@@ -15,7 +15,7 @@ returns-in-Redeem c =
     let found = bonds_found c.args.found.now.entries in
     let look = λ (s : SerialNumber). option_map period_of_held (finite.get found s) in
     IfOk_then c.periods_found.result (λ periods items books found_is.
-        items ∙ ap (filter_map look) c.as_slice-in-Redeem.ensures
-        ∙ periods_named books found c.in-Redeem.serials (found_is ∙ ap (λ a. picked (held_of books) (serials_of a)) c.in-Redeem.is)
-        ∙ ap (periods_of books) (sym c.in-Redeem.is))
+    items ∙ ap (filter_map look) c.as_slice-in-Redeem.ensures
+    ∙ periods_named books found c.in-Redeem.serials (found_is ∙ ap (λ a. picked (held_of books) (serials_of a)) c.in-Redeem.is)
+    ∙ ap (periods_of books) (sym c.in-Redeem.is))
     c.periods_found.ensures

@@ -1,4 +1,4 @@
-use Rattle.std.proofs.Common.{◌≡◌, sym, ap, ◌∙◌, subst}
+use Rattle.std.proofs.Common.{sym, ap, ◌∙◌}
 use Rattle.sqlite.specs.Held.{state}
 use Rattle.ee_acts.specs.Serials.{serial_cmp}
 use Rattle.ee_acts.specs.Seen.{held_of}
@@ -6,7 +6,7 @@ use Rattle.ee_acts.specs.Views.{picked}
 use Rattle.ee_tables.proofs.KeepLemmas.{clean_before}
 use Rattle.ee_store.specs.Standing.{rows_of}
 use Rattle.ee_store.specs.Serving.{SeesContent}
-use Rattle.ee_store.specs.Found.{bonds_found, with_found}
+use Rattle.ee_store.specs.Found.{with_found}
 use Rattle.ee_store.proofs.ByKeys.{picked_cons}
 use Rattle.ee_store.proofs.looking.+held_in.Goals as goal
 

@@ -1,7 +1,7 @@
-use Rattle.std.proofs.Common.{◌≡◌, sym, ap, ◌∙◌}
+use Rattle.std.proofs.Common.{◌∙◌}
 use Rattle.std.specs.FinMap as finite
 use Rattle.sqlite.specs.Held.{state}
-use Rattle.ee_tables.proofs.KeepLemmas.{IfOk_then, IfOk_on, unchanged_sees}
+use Rattle.ee_tables.proofs.KeepLemmas.{IfOk_then, unchanged_sees}
 use Rattle.ee_store.specs.Standing.{rows_of}
 use Rattle.ee_store.proofs.ByKeys.{held_found, always}
 use Rattle.ee_store.proofs.looking.find_held.Goals as goal
@@ -9,9 +9,9 @@ use Rattle.ee_store.proofs.looking.find_held.Goals as goal
 pub returns-clause-found : goal.returns-clause-found
 returns-clause-found g c clean inside =
     IfOk_then c.held_shown.result (λ held shown content sees.
-        held_found content c.args.serial held sees.right shown.1
-        (shown.0 ∙ c.in_ok-found.ensures.found clean (rows_of content) sees.rows
-        ∙ (λ i. finite.get (rows_of content).bonds (c.letter.ensures.value i, c.number.ensures.value i))))
+    held_found content c.args.serial held sees.right shown.1
+    (shown.0 ∙ c.in_ok-found.ensures.found clean (rows_of content) sees.rows
+    ∙ (λ i. finite.get (rows_of content).bonds (c.letter.ensures.value i, c.number.ensures.value i))))
     c.held_shown.ensures
 
 pub returns-clause-rows : goal.returns-clause-rows

@@ -1,4 +1,4 @@
-use Rattle.std.proofs.Common.{◌≡◌, ◌∙◌}
+use Rattle.std.proofs.Common.{◌∙◌}
 use Rattle.sqlite.specs.Held.{state}
 use Rattle.ee_tables.proofs.KeepLemmas.{IfOk_then, unchanged_sees}
 use Rattle.ee_store.specs.Standing.{rows_of}
@@ -9,7 +9,7 @@ use Rattle.ee_store.proofs.seeing.days_in.Goals as goal
 pub returns-clause-found : goal.returns-clause-found
 returns-clause-found g c clean inside =
     IfOk_then c.days_shown.result (λ days shown S sees.
-        shown (record { version = 1; day = S.books.day; last_day = S.books.last_day }) (c.in_ok-found.ensures.found clean (rows_of S) sees.rows ∙ get_desk S.books.day S.books.last_day))
+    shown (record { version = 1; day = S.books.day; last_day = S.books.last_day }) (c.in_ok-found.ensures.found clean (rows_of S) sees.rows ∙ get_desk S.books.day S.books.last_day))
     c.days_shown.ensures
 
 pub returns-clause-rows : goal.returns-clause-rows

@@ -1,6 +1,5 @@
-use Rattle.std.proofs.Common.{◌≡◌, ap, ◌∙◌}
+use Rattle.std.proofs.Common.{◌∙◌}
 use Rattle.sqlite.specs.Held.{state}
-use Rattle.ee_acts.specs.Views.{PlainView}
 use Rattle.ee_tables.proofs.KeepLemmas.{IfOk_then, clean_before}
 use Rattle.ee_store.specs.Standing.{rows_of}
 use Rattle.ee_store.specs.Serving.{SeesContent}
@@ -17,12 +16,12 @@ returns-clause-found g c clean inside =
     let inside_a = c.in_ok-days.ensures.inside clean_a inside in
     let inside_b = c.in_ok-keys.ensures.inside clean_b inside_a in
     IfOk_then c.view_from.result (λ view is S sees.
-        let sees_a : SeesContent a S = record { right = sees.right; rows = c.in_ok-days.ensures.rows clean_a inside (rows_of S) sees.rows } in
-        let sees_b : SeesContent b S = record { right = sees.right; rows = c.in_ok-keys.ensures.rows clean_b inside_a (rows_of S) sees_a.rows } in
-        let d = c.in_ok-days.ensures.found clean_a inside S sees in
-        let k = c.in_ok-keys.ensures.found clean_b inside_a S sees_a in
-        let n = c.in_ok-counts.ensures.found clean inside_b S sees_b d.0 in
-        is ∙ λ i. record { rates = k.0 i; bonds = k.1 i; day = d.0 i; last_day = d.1 i; tickets = n.0 i; day_tickets = n.1 i; day_bonds = n.2 i; day_total = n.3 i })
+    let sees_a : SeesContent a S = record { right = sees.right; rows = c.in_ok-days.ensures.rows clean_a inside (rows_of S) sees.rows } in
+    let sees_b : SeesContent b S = record { right = sees.right; rows = c.in_ok-keys.ensures.rows clean_b inside_a (rows_of S) sees_a.rows } in
+    let d = c.in_ok-days.ensures.found clean_a inside S sees in
+    let k = c.in_ok-keys.ensures.found clean_b inside_a S sees_a in
+    let n = c.in_ok-counts.ensures.found clean inside_b S sees_b d.0 in
+    is ∙ λ i. record { rates = k.0 i; bonds = k.1 i; day = d.0 i; last_day = d.1 i; tickets = n.0 i; day_tickets = n.1 i; day_bonds = n.2 i; day_total = n.3 i })
     c.view_from.ensures
 
 pub returns-clause-rows : goal.returns-clause-rows
@@ -35,4 +34,4 @@ returns-clause-rows g c clean inside =
     let inside_a = c.in_ok-days.ensures.inside clean_a inside in
     let inside_b = c.in_ok-keys.ensures.inside clean_b inside_a in
     always c.view_from.result (λ rows sees.
-        c.in_ok-counts.ensures.rows clean inside_b rows (c.in_ok-keys.ensures.rows clean_b inside_a rows (c.in_ok-days.ensures.rows clean_a inside rows sees)))
+    c.in_ok-counts.ensures.rows clean inside_b rows (c.in_ok-keys.ensures.rows clean_b inside_a rows (c.in_ok-days.ensures.rows clean_a inside rows sees)))

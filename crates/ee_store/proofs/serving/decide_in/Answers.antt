@@ -27,4 +27,4 @@ returns-clause-decides g c clean inside S sees none =
     let written = c.in_ok-write_changes.ensures.written clean_b (rows_of S) (c.in_ok-effects.ensures.rows clean_a inside (rows_of S) sees.rows) in
     let kept = c.in_ok-add_reply.ensures.added clean (applied_rows last (rows_of S) c.as_slice.result.now) written in
     is_decided new q S effects.changes effects.reply last row sees.right none c.requires.fits (c.value.ensures.low, c.value.ensures.high) c.reply_text.ensures.fits found.0 found.1 words
-        (subst (λ (d : ℕ × List Change). Sees new (with_reply (applied_rows last (rows_of S) d.1) d.0 row)) (λ i. (c.value.ensures.value i, are i)) kept)
+    (subst (λ (d : ℕ × List Change). Sees new (with_reply (applied_rows last (rows_of S) d.1) d.0 row)) (λ i. (c.value.ensures.value i, are i)) kept)

@@ -1,4 +1,4 @@
-use Rattle.std.proofs.Common.{◌≡◌, sym, ap, ◌∙◌}
+use Rattle.std.proofs.Common.{ap, ◌∙◌}
 use Rattle.std.specs.FinMap as finite
 use Rattle.sqlite.specs.Held.{state}
 use Rattle.ee_tables.proofs.KeepLemmas.{IfOk_then, unchanged_sees}
@@ -9,8 +9,8 @@ use Rattle.ee_store.proofs.terms.find_terms.Goals as goal
 pub returns-clause-found : goal.returns-clause-found
 returns-clause-found g c clean inside =
     IfOk_then c.terms_shown.result (λ terms shown content sees.
-        rates_found content c.args.period terms
-        (shown ∙ c.in_ok-found.ensures.found clean (rows_of content) sees.rows ∙ ap (finite.get (rows_of content).rates) c.count.ensures.value))
+    rates_found content c.args.period terms
+    (shown ∙ c.in_ok-found.ensures.found clean (rows_of content) sees.rows ∙ ap (finite.get (rows_of content).rates) c.count.ensures.value))
     c.terms_shown.ensures
 
 pub returns-clause-rows : goal.returns-clause-rows

@@ -1,4 +1,4 @@
-use Rattle.std.proofs.Common.{◌≡◌, ℕ, None, Some, subst}
+use Rattle.std.proofs.Common.{ℕ, None, Some, subst}
 use Rattle.sqlite.specs.Held.{state}
 use Rattle.ee_tables.specs.Rows.{Sees, BatchRow}
 use Rattle.ee_tables.specs.AsRows.{row_of_batch}

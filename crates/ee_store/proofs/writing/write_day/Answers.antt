@@ -1,4 +1,4 @@
-use Rattle.std.proofs.Common.{◌≡◌, ℕ, Option, Some, subst}
+use Rattle.std.proofs.Common.{ℕ, Option, Some, subst}
 use Rattle.sqlite.specs.Held.{state}
 use Rattle.ee_tables.specs.Rows.{Sees}
 use Rattle.ee_tables.specs.Rows.{with_day}

@@ -1,7 +1,6 @@
-use Rattle.std.proofs.Common.{◌≡◌, [], ◌∷◌, sym, subst}
+use Rattle.std.proofs.Common.{[], ◌∷◌}
 use Rattle.sqlite.specs.Held.{state}
 use Rattle.ee_acts.specs.Contents.{content_after}
-use Rattle.ee_store.specs.Serving.{StandsFor}
 use Rattle.ee_store.proofs.Transactions.{stands_committed}
 use Rattle.ee_store.proofs.Following.{follows_decided, follows_unserved}
 use Rattle.ee_store.proofs.keeper.SqlKeeper.deliver.Goals as goal
