@@ -4,6 +4,8 @@ pub mod Orders
 pub mod Repeats
 pub mod Seeing
 pub mod Soundness
+pub mod ActsInRange
+pub mod KeptTables
 pub mod Conservation
 pub mod SameActs
 pub mod Bounds

@@ -1,5 +1,6 @@
 pub mod Serials
 pub mod Values
+pub mod Tables
 pub mod Lists
 pub mod PlainBooks
 pub mod Paid

@@ -5,7 +5,10 @@ ghost use Rattle.ee_acts.specs.declared.acts.Act.{Act};
 ghost use Rattle.ee_acts.specs.PlainBooks.{PlainBooks};
 ghost use Rattle.ee_acts.specs.Seen.{shown};
 ghost use Rattle.ee_acts.specs.Views.{view_of};
-ghost use Rattle.ee_acts.specs.Acts.{same_act};
+ghost use Rattle.std.specs.List.{AllByRecursion};
+ghost use Rattle.ee_acts.specs.Acts.{same_act, books_after};
+ghost use Rattle.ee_acts.specs.Ranges.{IsInRange, IsActInRange};
+ghost use Rattle.ee_acts.specs.Sound.{IsSound};
 ghost use Rattle.ee_acts.specs.Effects.{effects_of};
 ghost use Rattle.ee_acts.specs.Queries.{bonds_of, inventory};
 
@@ -23,4 +26,11 @@ pub const fn shows_own_bonds_alone()
 /// Acts that compare as the same are equal.
 pub const fn same_acts()
     ensures { (one other : Act) → (same_act one other ≡ true) ↔ (one ≡ other) }
+{}
+
+/// Acts keep books sound. An act's plain numbers are in range, as those of all acts are that a
+/// program holds; or those of its changes are.
+pub const fn acts_keep_sound()
+    ensures acts { (books : PlainBooks) (asked : Act) → IsSound books → IsActInRange asked → IsSound (books_after books asked) }
+    ensures changes { (books : PlainBooks) (asked : Act) → IsSound books → AllByRecursion IsInRange (effects_of (shown books) asked).changes → IsSound (books_after books asked) }
 {}

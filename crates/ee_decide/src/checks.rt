@@ -10,7 +10,7 @@ ghost use Rattle.ee_acts.specs.Views.{shown_by};
 
 use crate::values::unsettled;
 use crate::views::View;
-use ee_acts::{Act, Held, RateRow, Refusal};
+use ee_acts::{Act, Held, RateRow, Refusal, Tables};
 use ee_calculator::Bond;
 use ee_units::calendar::{month_of, period_of};
 use ee_units::{Customer, Day, IssueMonth, Month, Serial};
@@ -64,11 +64,16 @@ pub fn known_rate(view: &View, earlier: &[RateRow], month: IssueMonth) -> Option
     }
 }
 
-fn first_unsettled(alloc: Global, rows: &[RateRow]) -> Result<Option<Refusal>, AllocError>
+fn first_unsettled(
+    alloc: Global,
+    tables: &mut Tables,
+    view: &View,
+    rows: &[RateRow],
+) -> Result<Option<Refusal>, AllocError>
     ensures { IfOk result (λ refusal. refusal ≡ is.first_of is.near rows.now) }
 {
     for row in rows {
-        if let Some(age) = unsettled(alloc, row.rates)? {
+        if let Some(age) = unsettled(alloc, tables, view, row)? {
             return Ok(Some(Refusal::RateUnsettled(age)));
         }
     }
@@ -89,6 +94,7 @@ fn first_rate_conflict(view: &View, rows: &[RateRow]) -> Option<Refusal>
 
 fn refusal_of_rates(
     alloc: Global,
+    tables: &mut Tables,
     view: &View,
     rows: &[RateRow],
 ) -> Result<Option<Refusal>, AllocError>
@@ -106,7 +112,7 @@ fn refusal_of_rates(
     if let Some(refusal) = first_rate_conflict(view, rows) {
         return Ok(Some(refusal));
     }
-    first_unsettled(alloc, rows)
+    first_unsettled(alloc, tables, view, rows)
 }
 
 fn has_serial(serials: &[Serial], serial: Serial) -> bool
@@ -311,12 +317,17 @@ fn refusal_of_redeem(view: &View, day: Day, payee: Customer, serials: &[Serial])
     first_unpayable(view, month_of(day), payee, serials)
 }
 
-/// The first refusal of an act.
-pub fn refusal(alloc: Global, view: &View, act: &Act) -> Result<Option<Refusal>, AllocError>
+/// The first refusal of an act. The tables of new rates are kept.
+pub fn refusal(
+    alloc: Global,
+    tables: &mut Tables,
+    view: &View,
+    act: &Act,
+) -> Result<Option<Refusal>, AllocError>
     ensures { IfOk result (λ refusal. refusal ≡ is.refusal_of (shown_by view.now) act.now) }
 {
     match act {
-        Act::AddRates(rows) => refusal_of_rates(alloc, view, rows.as_slice()),
+        Act::AddRates(rows) => refusal_of_rates(alloc, tables, view, rows.as_slice()),
         Act::AddBonds(bonds) => Ok(refusal_of_bonds(view, bonds.as_slice())),
         Act::OpenDay(day) => Ok(refusal_of_open(view, *day)),
         Act::Redeem {

@@ -3,48 +3,44 @@ ghost use Rattle.std.specs.Prelude.{◌≡◌, ◌+◌, ◌≤◌, ◌<◌, ◌^
 ghost use Rattle.ee_units.specs.Calendar.{month_of_day};
 ghost use Rattle.ee_acts.specs.Views.{shown_by};
 ghost use Rattle.ee_acts.specs.Seen as seen;
-ghost use Rattle.ee_acts.specs.Refusals.{first_of, refusal_of, refusal_of_serial};
+ghost use Rattle.ee_acts.specs.Refusals.{first_of, near, refusal_of, refusal_of_serial};
 ghost use Rattle.ee_acts.specs.Effects as is;
 ghost use Rattle.ee_acts.specs.declared.changes.Change.TheVariants as change;
 
 use crate::checks::{known_rate, refusal};
-use crate::values::worth;
+use crate::values::{settled_terms, worth};
 use crate::views::View;
-use ee_acts::{Act, Batch, Change, Effects, Line, RateRow, Refusal, Reply, Rows, Ticket};
+use ee_acts::{
+    Act, Batch, Change, Effects, Line, RateRow, Refusal, Reply, Rows, Tables, Ticket,
+};
 use ee_calculator::Bond;
 use ee_units::calendar::{month_of, period_of};
 use ee_units::{Cents, Customer, Day, Month, Serial};
 use std::alloc::{AllocError, Global};
 
 /// What a bond is worth in a month, at the rates that the view has.
-fn worth_by(alloc: Global, view: &View, bond: &Bond, month: Month) -> Result<Cents, AllocError>
+fn worth_by(view: &View, bond: &Bond, month: Month) -> Cents
     requires { bond.now.issued + 12 ≤ month }
-    ensures value { IfOk result (λ cents. cents.0 ≡ seen.value_in (shown_by view.now) month bond.now) }
-    ensures small { IfOk result (λ cents. cents.0 ≤ 304493600) }
+    ensures value { result.0 ≡ seen.value_in (shown_by view.now) month bond.now }
+    ensures small { result.0 ≤ 304493600 }
 {
-    match view.rates(period_of(bond.issued)) {
-        Some(rates) => worth(alloc, rates, bond, month),
-        None => Ok(Cents(0)),
+    match view.terms(period_of(bond.issued)) {
+        Some(terms) => worth(terms, bond, month),
+        None => Cents(0),
     }
 }
 
 /// The line that pays a bond.
-fn line_for(
-    alloc: Global,
-    view: &View,
-    month: Month,
-    payee: Customer,
-    serial: Serial,
-) -> Result<Line, AllocError>
+fn line_for(view: &View, month: Month, payee: Customer, serial: Serial) -> Line
     requires { refusal_of_serial (shown_by view.now) month payee serial ≡ None }
-    ensures line { IfOk result (λ line. line ≡ seen.line_for (shown_by view.now) month serial) }
-    ensures small { IfOk result (λ line. line.cents.0 ≤ 304493600) }
+    ensures line { result ≡ seen.line_for (shown_by view.now) month serial }
+    ensures small { result.cents.0 ≤ 304493600 }
 {
     let cents = match view.held(serial) {
-        Some(held) => worth_by(alloc, view, &held.bond, month)?,
+        Some(held) => worth_by(view, &held.bond, month),
         None => Cents(0),
     };
-    Ok(Line { serial, cents })
+    Line { serial, cents }
 }
 
 /// The next ticket, of these serials.
@@ -63,7 +59,7 @@ fn ticket_for(
     let mut total = 0;
     let month = month_of(day);
     for serial in serials {
-        let line = line_for(alloc, view, month, payee, *serial)?;
+        let line = line_for(view, month, payee, *serial);
         let cents = line.cents;
         lines.push(line)?;
         total += cents.0;
@@ -77,15 +73,22 @@ fn ticket_for(
     })
 }
 
-/// A change for each row that is new.
-fn new_rates(alloc: Global, view: &View, rows: &[RateRow]) -> Result<Vec<Change>, AllocError>
+/// A change for each row that is new, with the table that is kept of its rates.
+fn new_rates(
+    alloc: Global,
+    tables: &mut Tables,
+    view: &View,
+    rows: &[RateRow],
+) -> Result<Vec<Change>, AllocError>
+    requires { first_of near rows.now ≡ None }
     ensures changes { IfOk result (λ c. c.items ≡ map is.rate_change (is.new_rates (shown_by view.now) [] rows.now)) }
     ensures few { IfOk result (λ c. length c.items ≤ length rows.now) }
 {
     let mut changes = Vec::new(alloc);
     for (i, row) in rows.iter().enumerate() {
         if known_rate(view, &rows[..i], row.from).is_none() {
-            changes.push(Change::Rates(row.from, row.rates))?;
+            let terms = settled_terms(alloc, tables, row.rates)?;
+            changes.push(Change::Rates(row.from, terms))?;
         }
     }
     Ok(changes)
@@ -175,13 +178,18 @@ fn refused(alloc: Global, refusal: Refusal) -> Effects
 }
 
 /// What an act does that no test refuses.
-fn accepted(alloc: Global, view: &View, act: &Act) -> Result<Effects, AllocError>
+fn accepted(
+    alloc: Global,
+    tables: &mut Tables,
+    view: &View,
+    act: &Act,
+) -> Result<Effects, AllocError>
     requires { refusal_of (shown_by view.now) act.now ≡ None }
     ensures { IfOk result (λ e. e ≡ is.accepted (shown_by view.now) act.now) }
 {
     match act {
         Act::AddRates(rows) => {
-            let changes = new_rates(alloc, view, rows.as_slice())?;
+            let changes = new_rates(alloc, tables, view, rows.as_slice())?;
             Ok(added(changes, rows.as_slice().len()))
         }
         Act::AddBonds(bonds) => {
@@ -203,8 +211,9 @@ fn accepted(alloc: Global, view: &View, act: &Act) -> Result<Effects, AllocError
 pub fn decide(alloc: Global, view: &View, act: &Act) -> Result<Effects, AllocError>
     ensures { IfOk result (λ e. e ≡ is.effects_of (shown_by view.now) act.now) }
 {
-    match refusal(alloc, view, act)? {
+    let mut tables = Tables::new(alloc);
+    match refusal(alloc, &mut tables, view, act)? {
         Some(refusal) => Ok(refused(alloc, refusal)),
-        None => accepted(alloc, view, act),
+        None => accepted(alloc, &mut tables, view, act),
     }
 }

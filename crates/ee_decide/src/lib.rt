@@ -7,4 +7,4 @@ mod values;
 mod views;
 
 pub use decisions::decide;
-pub use views::{DayCounts, View};
+pub use views::{DayCounts, View, ViewParts};

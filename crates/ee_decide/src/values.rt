@@ -1,26 +1,40 @@
 //! What a bond is worth, and which rates leave a value unsettled.
 
-ghost use Rattle.std.specs.Prelude.{◌≡◌, ◌+◌, ◌≤◌, IfOk, IfSome, IsSome, None};
+ghost use Rattle.std.specs.Prelude.{◌≡◌, ◌+◌, ◌≤◌, IfOk, IfSome, IsSome, true, None};
 ghost use Rattle.ee_acts.specs.Values.{value_of, unsettled};
+ghost use Rattle.ee_acts.specs.Views.{shown_by};
 
+use crate::views::View;
+use ee_acts::{RateRow, Tables, Terms};
 use ee_calculator::Bond;
-use ee_units::{Age, Bits, Cents, Month};
-use ee_value::{Quote, Rates, ValueFault, bond_value, unit_table};
+use ee_units::{Age, Cents, Month};
+use ee_value::{Quote, Rates, ValueFault, bond_value};
 use std::alloc::{AllocError, Global};
 
-/// The precision of the desk.
-fn precision() -> Bits
-    ensures { result ≡ 62 }
+/// Whether the view has these very rates: they then leave no value unsettled.
+fn has_rates(view: &View, row: &RateRow) -> bool
+    ensures { result ≡ true → unsettled row.now.rates ≡ None }
 {
-    Bits::from_places(62)
+    match view.rates(row.from) {
+        Some(rates) => rates == row.rates,
+        None => false,
+    }
 }
 
-/// The least age at which a value at these rates is unsettled.
-pub fn unsettled(alloc: Global, rates: Rates) -> Result<Option<Age>, AllocError>
-    ensures { IfOk result (λ age. age ≡ unsettled rates) }
+/// The least age at which a value at a row's rates is unsettled. The table of new rates is kept.
+pub fn unsettled(
+    alloc: Global,
+    tables: &mut Tables,
+    view: &View,
+    row: &RateRow,
+) -> Result<Option<Age>, AllocError>
+    ensures { IfOk result (λ age. age ≡ unsettled row.now.rates) }
 {
-    match unit_table(alloc, rates, precision()) {
-        Ok(_table) => Ok(None),
+    if has_rates(view, row) {
+        return Ok(None);
+    }
+    match tables.add(alloc, row.rates) {
+        Ok(_terms) => Ok(None),
         Err(fault) => unsettled_age(fault),
     }
 }
@@ -34,21 +48,31 @@ fn unsettled_age(fault: ValueFault) -> Result<Option<Age>, AllocError>
     }
 }
 
-/// What a bond is worth in a month, at least 12 months after its issue.
-pub fn worth(alloc: Global, rates: Rates, bond: &Bond, month: Month) -> Result<Cents, AllocError>
-    requires settled { unsettled rates ≡ None }
-    requires eligible { bond.now.issued + 12 ≤ month }
-    ensures value { IfOk result (λ cents. cents.0 ≡ value_of rates bond.now month) }
-    ensures small { IfOk result (λ cents. cents.0 ≤ 304493600) }
+/// The terms of rates that leave no value unsettled, with the table that is kept.
+pub fn settled_terms(
+    alloc: Global,
+    tables: &mut Tables,
+    rates: Rates,
+) -> Result<Terms, AllocError>
+    requires { unsettled rates ≡ None }
+    ensures { IfOk result (λ terms. terms ≡ rates) }
 {
-    let table = match unit_table(alloc, rates, precision()) {
-        Ok(table) => table,
+    match tables.add(alloc, rates) {
+        Ok(terms) => Ok(terms),
         Err(ValueFault::Unsettled { .. }) => unreachable!(),
-        Err(ValueFault::NoMemory) => return Err(AllocError),
-    };
+        Err(ValueFault::NoMemory) => Err(AllocError),
+    }
+}
+
+/// What a bond is worth in a month, at least 12 months after its issue.
+pub fn worth(terms: &Terms, bond: &Bond, month: Month) -> Cents
+    requires { bond.now.issued + 12 ≤ month }
+    ensures value { result.0 ≡ value_of terms.now bond.now month }
+    ensures small { result.0 ≤ 304493600 }
+{
     let age = Age::from_months(month.count() - bond.issued.count());
-    match bond_value(&table, bond.denom, age) {
-        Quote::Pays { cents, .. } => Ok(cents),
+    match bond_value(terms.table(), bond.denom, age) {
+        Quote::Pays { cents, .. } => cents,
         Quote::NotEligible => unreachable!(),
     }
 }

@@ -1,14 +1,21 @@
-ghost use Rattle.std.specs.Prelude.{◌≡◌, ◌≤◌, IfSome, None, ℕ};
+ghost use Rattle.std.specs.Prelude.{◌≡◌, ◌≤◌, IfSome, IsSome, None};
+ghost use Rattle.std.specs.Option.{option_copied};
 ghost use Rattle.std.specs.FinMap as finite;
-ghost use Rattle.std.specs.FinMap.{FinMap};
-ghost use Rattle.std.specs.Ordering.{nat_cmp};
+ghost use Rattle.ee_acts.specs.declared.acts.Act.{Act};
+ghost use Rattle.ee_acts.specs.PlainBooks.{PlainBooks};
+ghost use Rattle.ee_acts.specs.Sound.{IsSound};
 ghost use Rattle.ee_acts.specs.Values.{unsettled};
+ghost use Rattle.ee_acts.specs.Views.{view_of};
+ghost use Rattle.ee_decide.specs.Parts.{plain_parts};
 
-use ee_acts::Held;
+use ee_acts::{Held, Terms};
 use ee_units::{Cents, Day, IssueMonth, Serial};
 use ee_value::Rates;
 use std::collections::BTreeMap;
 use std::marker::Model;
+
+/// The most tickets of sound books: 1,000 on each day.
+const MOST_TICKETS: u64 = 71_200_000;
 
 /// The tickets of the open day: how many they are, how many bonds they paid, and their sum.
 #[derive(Clone, Copy, Debug, PartialEq, Eq)]
@@ -18,62 +25,80 @@ pub struct DayCounts {
     pub total: Cents,
 }
 
+/// The parts of a view, as a store has them: for each act the rates and bonds that it names, the
+/// days, and the counts of tickets.
+#[derive(Drop)]
+pub struct ViewParts {
+    /// The terms of a period: the months of the rows, or the issue periods of the rows or of the
+    /// registered bonds that are named. Terms carry their table, which is made once and shared.
+    pub rates: BTreeMap<IssueMonth, Terms>,
+    /// The registered bonds that are named, and the tickets that paid them.
+    pub bonds: BTreeMap<Serial, Held>,
+    /// The open day.
+    pub day: Option<Day>,
+    /// The last closed day.
+    pub last_day: Option<Day>,
+    /// How many tickets there are over all days.
+    pub tickets: u64,
+    /// How many tickets the open day has, for the acts that count them; else 0.
+    pub day_tickets: u64,
+    /// How many bonds these paid.
+    pub day_bonds: u64,
+    /// Their sum.
+    pub day_total: Cents,
+}
+
 /// What an act sees of the books: the rates and bonds that it names, the days, and the counts of
-/// tickets. Its rates leave no value unsettled, and it counts at most 71,200,000 tickets.
+/// tickets. Its rates leave no value unsettled, and their tables are shared with the books. It counts
+/// at most 71,200,000 tickets.
 #[derive(Drop)]
 pub struct View {
-    rates: BTreeMap<IssueMonth, Rates>,
-    bonds: BTreeMap<Serial, Held>,
-    day: Option<Day>,
-    last_day: Option<Day>,
-    tickets: u64,
-    counts: DayCounts,
+    parts: ViewParts,
 }
 
 impl Model for View {
-    ghost use Rattle.std.specs.Prelude.{◌≡◌, ◌≤◌, IfSome, None, ℕ};
+    ghost use Rattle.std.specs.Prelude.{◌≤◌};
     ghost use Rattle.std.specs.Coded.{codes};
     ghost use Rattle.std.specs.FinMap as finite;
-    ghost use Rattle.std.specs.FinMap.{FinMap};
-    ghost use Rattle.std.specs.Ordering.{nat_cmp};
-    ghost use Rattle.ee_value.specs.declared.rates.Rates.{Rates};
-    ghost use Rattle.ee_acts.specs.Values.{unsettled};
     ghost use Rattle.ee_acts.specs.Views.{PlainView};
-    ghost use Rattle.ee_decide.specs.Settled.{AreSettled};
+    ghost use Rattle.ee_decide.specs.Parts.{plain_parts};
 
     ghost Value = { PlainView };
 
     ghost coded = { Prim.hlevel (codes, finite.code) };
 
-    ghost view = { λ v. record { rates = finite.from_entries v.rates.entries; bonds = finite.from_entries v.bonds.entries; day = v.day; last_day = v.last_day; tickets = v.tickets; day_tickets = v.counts.tickets; day_bonds = v.counts.bonds; day_total = v.counts.total.0 } };
+    ghost view = { λ v. plain_parts v.parts };
 
-    ghost invariant = { λ v. (v.tickets ≤ 71200000) × AreSettled (finite.from_entries v.rates.entries) };
+    ghost invariant = { λ v. v.parts.tickets ≤ 71200000 };
 }
 
-ghost use Rattle.ee_decide.specs.Settled.{AreSettled};
-
 impl View {
-    /// The view of these rates, bonds, days and counts.
-    pub fn new(
-        rates: BTreeMap<IssueMonth, Rates>,
-        bonds: BTreeMap<Serial, Held>,
-        day: Option<Day>,
-        last_day: Option<Day>,
-        tickets: u64,
-        counts: DayCounts,
-    ) -> View
-        requires few { tickets ≤ 71200000 }
-        requires settled { AreSettled (finite.from_entries rates.entries) }
-        ensures { result ≡ record { rates = finite.from_entries rates.entries; bonds = finite.from_entries bonds.entries; day = day; last_day = last_day; tickets = tickets; day_tickets = counts.tickets; day_bonds = counts.bonds; day_total = counts.total.0 } }
+    /// The view of these parts.
+    pub fn new(parts: ViewParts) -> View
+        requires { parts.tickets ≤ 71200000 }
+        ensures { result ≡ plain_parts parts }
     {
-        View {
-            rates,
-            bonds,
-            day,
-            last_day,
-            tickets,
-            counts,
+        View { parts }
+    }
+
+    /// The view of parts that a store has; None where they count more than 71,200,000 tickets, as no
+    /// sound books do. It takes no memory.
+    pub fn from_parts(parts: ViewParts) -> Option<View>
+        ensures some { IfSome result (λ v. v ≡ plain_parts parts) }
+        ensures fits { (books : PlainBooks) (asked : Act) → IsSound books → plain_parts parts ≡ view_of books asked → IsSome result }
+    {
+        if parts.tickets <= MOST_TICKETS {
+            Some(View { parts })
+        } else {
+            None
         }
+    }
+
+    /// The terms of a period.
+    pub fn terms(&self, period: IssueMonth) -> Option<&Terms>
+        ensures { option_copied result ≡ finite.get self.now.rates period }
+    {
+        self.parts.rates.get(&period)
     }
 
     /// The rates of a period.
@@ -81,28 +106,31 @@ impl View {
         ensures value { result ≡ finite.get self.now.rates period }
         ensures settled { IfSome result (λ rates. unsettled rates ≡ None) }
     {
-        self.rates.get(&period).copied()
+        match self.terms(period) {
+            Some(terms) => Some(terms.rates()),
+            None => None,
+        }
     }
 
     /// A registered bond.
     pub fn held(&self, serial: Serial) -> Option<Held>
         ensures { result ≡ finite.get self.now.bonds serial }
     {
-        self.bonds.get(&serial).copied()
+        self.parts.bonds.get(&serial).copied()
     }
 
     /// The open day.
     pub fn day(&self) -> Option<Day>
         ensures { result ≡ self.now.day }
     {
-        self.day
+        self.parts.day
     }
 
     /// The last closed day.
     pub fn last_day(&self) -> Option<Day>
         ensures { result ≡ self.now.last_day }
     {
-        self.last_day
+        self.parts.last_day
     }
 
     /// How many tickets there are over all days.
@@ -110,7 +138,7 @@ impl View {
         ensures value { result ≡ self.now.tickets }
         ensures few { self.now.tickets ≤ 71200000 }
     {
-        self.tickets
+        self.parts.tickets
     }
 
     /// The tickets of the open day.
@@ -119,6 +147,10 @@ impl View {
         ensures bonds { result.bonds ≡ self.now.day_bonds }
         ensures total { result.total.0 ≡ self.now.day_total }
     {
-        self.counts
+        DayCounts {
+            tickets: self.parts.day_tickets,
+            bonds: self.parts.day_bonds,
+            total: self.parts.day_total,
+        }
     }
 }

@@ -1,15 +1,14 @@
 -- What holds by how a call ended.
 use Rattle.std.proofs.Common.{Result, Ok, Err}
 use Rattle.std.specs.Result.{IfOk, OnOk, OnErr}
-use Rattle.std.proofs.Common.{◌≡◌, ℕ, Option, Some, None}
+use Rattle.std.proofs.Common.{◌≡◌, Option, Some, None}
 use Rattle.std.specs.Option.{IfSome}
 use Rattle.ee_value.specs.declared.rates.Rates.{Rates}
-use Rattle.ee_acts.specs.Values.{unsettled}
 use Rattle.std.specs.FinMap.{FinMap}
 use Rattle.std.specs.Ordering.{nat_cmp}
 use Rattle.ee_units.specs.Spelling.{SerialNumber}
 use Rattle.ee_calculator.specs.declared.bonds.Bond.{Bond}
-use Rattle.ee_acts.specs.Sound.{IsRightRate, IsRightBond}
+use Rattle.ee_acts.specs.Sound.{IsRightBond}
 
 pub on_ok : {A E : Type 0} {P Q : Type 0} (r : Result A E) → (P → Q) → OnOk r P → OnOk r Q
 on_ok (Ok x) f h = f h
@@ -26,10 +25,6 @@ on_err (Err e) f h = f h
 pub either_way : {A E : Type 0} {P Q R : Type 0} (r : Result A E) → (P → R) → (Q → R) → OnOk r P → OnErr r Q → R
 either_way (Ok x) f g h k = f h
 either_way (Err e) f g h k = g k
-
-pub settled_if : (month : ℕ) (o : Option Rates) → IfSome o (IsRightRate month) → IfSome o (λ terms. unsettled terms ≡ None)
-settled_if month None h = tt
-settled_if month (Some rates) h = h.settled
 
 pub keyed_if : (rates : FinMap nat_cmp Rates) (serial : SerialNumber) (o : Option Bond) → IfSome o (IsRightBond rates serial) → IfSome o (λ bond. bond.serial ≡ serial)
 keyed_if rates serial None h = tt

@@ -3,10 +3,10 @@ use Rattle.std.proofs.Common.{◌≡◌, ℕ, ◌+◌, ◌<◌, Bool, true, fals
 use Rattle.std.specs.Option.{option_map, option_map_or, IfSome}
 use Rattle.std.specs.List.{list_any, filter_map, cons_option}
 use Rattle.std.specs.FinMap as finite
-use Rattle.std.specs.FinMap.{FinMap, get-insert, same_map}
-use Rattle.std.specs.Ordering.{nat_cmp, eq_by_cmp}
+use Rattle.std.specs.FinMap.{get-insert, same_map}
+use Rattle.std.specs.Ordering.{eq_by_cmp}
 use Rattle.std.specs.declared.cmp.Ordering.{Ordering}
-use Rattle.std.specs.Cmp.{IsTotalOrder, nat_cmp_total}
+use Rattle.std.specs.Cmp.{IsTotalOrder}
 use Rattle.std.proofs.lemmas.Map.Lookups.{CmpEqualImpliesEq}
 use Rattle.std.proofs.lemmas.List.{take_more, map-append}
 use Rattle.ee_units.specs.Spelling.{SerialNumber}
@@ -18,11 +18,6 @@ use Rattle.ee_acts.specs.Views.{picked}
 use Rattle.ee_acts.proofs.Maps.{get_picked, same_key}
 use Rattle.ee_desk.specs.Kept.{noted, noted_at, held_at, bonds_in}
 use Rattle.ee_desk.proofs.PaidMarks.{get_bond}
-use Rattle.std.proofs.Common.{subst}
-use Rattle.std.specs.FinMap.{nat_cmp-IsAntisymmetric}
-use Rattle.ee_value.specs.declared.rates.Rates.{Rates}
-use Rattle.ee_acts.specs.Values.{unsettled}
-use Rattle.ee_decide.specs.Settled.{AreSettled}
 
 any_push : {A : Type 0} (p : A → Bool) (xs : List A) (y : A) → list_any p (xs ++ y ∷ []) ≡ (p y || list_any p xs)
 any_push p [] y = refl
@@ -83,13 +78,3 @@ held_marked tickets q (Some held) h = ap (λ t. Some (record { bond = held.bond;
 pub held_is : (bonds : List (SerialNumber × Held)) (tickets : List Ticket) (q : SerialNumber) → IfSome (held_at bonds q) (λ h. h.ticket ≡ ticket_of tickets q)
     → option_map (held_as tickets q) (finite.get (bonds_in bonds) q) ≡ held_at bonds q
 held_is bonds tickets q h = ap (option_map (held_as tickets q)) (get_bond bonds q) ∙ held_marked tickets q (held_at bonds q) h
-
--- what is picked of rates that leave no value unsettled leaves none
-pub picked_settled : (rates : FinMap nat_cmp Rates) (ks : List ℕ) → AreSettled rates → AreSettled (picked (finite.get rates) ks)
-picked_settled rates ks settled q =
-    subst (λ o. IfSome o (λ terms. unsettled terms ≡ None)) (sym (get_picked nat_cmp_total nat_cmp-IsAntisymmetric (finite.get rates) ks q))
-    (among (list_any (eq_by_cmp nat_cmp q) ks) (finite.get rates q) (settled q))
-  where
-    among : (b : Bool) (o : Option Rates) → IfSome o (λ terms. unsettled terms ≡ None) → IfSome (cond b o None) (λ terms. unsettled terms ≡ None)
-    among true o h = h
-    among false o h = tt

@@ -4,15 +4,16 @@ ghost use Rattle.std.specs.Prelude.{◌≡◌, OnOk, OnErr};
 ghost use Rattle.ee_desk.specs.Kept.{rates_in, held_in};
 ghost use Rattle.ee_desk.specs.Added.{rate_row, held_row, with_row, without_row, with_changes, without_changes, AreNew};
 
-use ee_acts::{Change, Held};
+use ee_acts::{Change, Held, Tables, Terms};
 use ee_units::{IssueMonth, Serial};
-use ee_value::Rates;
 use std::alloc::AllocError;
 use std::collections::BTreeMap;
 
-/// Adds rates whose periods are new: all of them, or none.
+/// Adds rates whose periods are new: all of them, or none. Equal rates share one table; a table that
+/// is kept for rates that are then taken out stays, and changes nothing.
 pub fn add_rates(
-    rates: &mut BTreeMap<IssueMonth, Rates>,
+    tables: &mut Tables,
+    rates: &mut BTreeMap<IssueMonth, Terms>,
     changes: &[Change],
 ) -> Result<(), AllocError>
     requires { AreNew rate_row (rates_in rates.old.entries) changes.now }
@@ -20,7 +21,7 @@ pub fn add_rates(
     ensures err { OnErr result (rates_in rates.new.entries ≡ rates_in rates.old.entries) }
 {
     for (i, change) in changes.iter().enumerate() {
-        match add_rate(rates, change) {
+        match add_rate(tables, rates, change) {
             Ok(_) => {}
             Err(_) => {
                 take_rates(rates, &changes[..i]);
@@ -31,17 +32,22 @@ pub fn add_rates(
     Ok(())
 }
 
-fn add_rate(rates: &mut BTreeMap<IssueMonth, Rates>, change: &Change) -> Result<(), AllocError>
+fn add_rate(
+    tables: &mut Tables,
+    rates: &mut BTreeMap<IssueMonth, Terms>,
+    change: &Change,
+) -> Result<(), AllocError>
     ensures ok { OnOk result (rates_in rates.new.entries ≡ with_row (rates_in rates.old.entries) (rate_row change.now)) }
     ensures err { OnErr result (rates.new.entries ≡ rates.old.entries) }
 {
     if let Change::Rates(from, terms) = change {
-        rates.insert(*from, *terms)?;
+        let kept = tables.keep(terms)?;
+        rates.insert(*from, kept)?;
     }
     Ok(())
 }
 
-fn take_rate(rates: &mut BTreeMap<IssueMonth, Rates>, change: &Change)
+fn take_rate(rates: &mut BTreeMap<IssueMonth, Terms>, change: &Change)
     ensures { rates_in rates.new.entries ≡ without_row (rates_in rates.old.entries) (rate_row change.now) }
 {
     if let Change::Rates(from, _) = change {
@@ -50,7 +56,7 @@ fn take_rate(rates: &mut BTreeMap<IssueMonth, Rates>, change: &Change)
 }
 
 /// Takes the rates of these changes out.
-fn take_rates(rates: &mut BTreeMap<IssueMonth, Rates>, changes: &[Change])
+fn take_rates(rates: &mut BTreeMap<IssueMonth, Terms>, changes: &[Change])
     ensures { rates_in rates.new.entries ≡ without_changes rate_row (rates_in rates.old.entries) changes.now }
 {
     for change in changes {

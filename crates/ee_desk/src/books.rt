@@ -11,9 +11,8 @@ ghost use Rattle.ee_acts.specs.Views.{shown_by, view_of};
 ghost use Rattle.ee_acts.specs.Queries.{ticket_numbered, batch_on, bonds_of, inventory, quote_of, shown_in_row, shown_in_sheet};
 
 use crate::ledger::Ledger;
-use crate::ranges::in_range;
 use crate::{seeing, sheets};
-use ee_acts::{Act, Batch, Effects, Reply, Ticket};
+use ee_acts::{Act, Batch, Effects, Reply, Ticket, in_range};
 use ee_calculator::{Bond, Row, Sheet, sheet};
 use ee_decide::{View, decide};
 use ee_units::{Customer, Day, Denom, IssueMonth, Month};
@@ -151,6 +150,6 @@ impl Books {
     ) -> Result<Option<Row>, AllocError>
         ensures { IfOk result (λ row. option_map shown_in_row row ≡ quote_of self.now denom issued month) }
     {
-        sheets::quote(self.alloc, &self.ledger, denom, issued, month)
+        Ok(sheets::quote(&self.ledger, denom, issued, month))
     }
 }

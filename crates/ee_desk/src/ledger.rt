@@ -2,6 +2,7 @@
 
 ghost use Rattle.std.specs.Prelude.{◌≡◌, IfOk, OnOk, OnErr, [], Some};
 ghost use Rattle.std.specs.List.{AllByRecursion};
+ghost use Rattle.std.specs.Option.{option_copied};
 ghost use Rattle.std.specs.FinMap as finite;
 ghost use Rattle.ee_acts.specs.PlainBooks.{no_books, of_day, batch_so_far};
 ghost use Rattle.ee_acts.specs.Acts.{changed, applied};
@@ -15,20 +16,20 @@ ghost use Rattle.ee_desk.specs.Applicable.{IsUnpaid, IsNextTicket, AreApplicable
 use crate::additions::{add_bonds, add_rates};
 use crate::marks::mark_all;
 use crate::queries;
-use ee_acts::{Batch, Change, Held, Ticket};
+use ee_acts::{Batch, Change, Held, Tables, Terms, Ticket};
 use ee_calculator::Bond;
 use ee_decide::DayCounts;
 use ee_units::{Cents, Customer, Day, IssueMonth, Serial};
-use ee_value::Rates;
 use std::alloc::{AllocError, Global};
 use std::collections::BTreeMap;
 use std::marker::Model;
 
 /// Rates, bonds, days, tickets and batches. Each bond is marked with the ticket that pays it, and
-/// the open day's tickets are counted.
+/// the open day's tickets are counted. Equal rates share one table of unit values.
 #[derive(Drop)]
 pub struct Ledger {
-    rates: BTreeMap<IssueMonth, Rates>,
+    tables: Tables,
+    rates: BTreeMap<IssueMonth, Terms>,
     bonds: BTreeMap<Serial, Held>,
     day: Option<Day>,
     last_day: Option<Day>,
@@ -70,6 +71,7 @@ impl Ledger {
         ensures { result ≡ no_books }
     {
         Ledger {
+            tables: Tables::new(alloc),
             rates: BTreeMap::new(alloc),
             bonds: BTreeMap::new(alloc),
             day: None,
@@ -86,7 +88,7 @@ impl Ledger {
         ensures ok { OnOk result (self.new ≡ record self.old { rates = with_changes rate_row self.old.rates changes.now }) }
         ensures err { OnErr result (self.new ≡ self.old) }
     {
-        add_rates(&mut self.rates, changes)
+        add_rates(&mut self.tables, &mut self.rates, changes)
     }
 
     /// Registers bonds whose serials are new, and which no ticket names: all of them, or none.
@@ -163,11 +165,11 @@ impl Ledger {
         }
     }
 
-    /// The rates of a period.
-    pub fn rates(&self, period: IssueMonth) -> Option<Rates>
-        ensures { result ≡ finite.get self.now.rates period }
+    /// The terms of a period.
+    pub fn terms(&self, period: IssueMonth) -> Option<&Terms>
+        ensures { option_copied result ≡ finite.get self.now.rates period }
     {
-        self.rates.get(&period).copied()
+        self.rates.get(&period)
     }
 
     /// A registered bond, and the ticket that paid it.

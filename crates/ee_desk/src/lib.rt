@@ -7,7 +7,6 @@ mod books;
 mod ledger;
 mod marks;
 mod queries;
-mod ranges;
 mod seeing;
 mod sheets;
 #[cfg(test)]
@@ -16,7 +15,7 @@ mod tests;
 pub use books::Books;
 pub use ee_acts::{
     Act, Batch, Change, Effects, Held, Kept, Line, Number, RateRow, Refusal, Reply, Request, Rows,
-    Ticket, Unserved,
+    Tables, Terms, Ticket, Unserved,
 };
 pub use ee_calculator::{Bond, Row, Sheet};
-pub use ee_decide::{DayCounts, View, decide};
+pub use ee_decide::{DayCounts, View, ViewParts, decide};

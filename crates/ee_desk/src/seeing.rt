@@ -8,36 +8,35 @@ ghost use Rattle.ee_units.specs.Calendar.{period_start};
 ghost use Rattle.ee_acts.specs.Seen.{held_of};
 ghost use Rattle.ee_acts.specs.Views as is;
 ghost use Rattle.ee_acts.specs.Views.{picked, period_of_held};
-ghost use Rattle.ee_decide.specs.Settled.{AreSettled};
 ghost use Rattle.ee_desk.specs.Kept.{rates_in, held_in, noted, noted_at, AreCounts};
 
 use crate::ledger::Ledger;
-use ee_acts::{Act, Held, RateRow};
+use ee_acts::{Act, Held, RateRow, Terms};
 use ee_calculator::Bond;
-use ee_decide::{DayCounts, View};
+use ee_decide::{DayCounts, View, ViewParts};
 use ee_units::calendar::period_of;
 use ee_units::{Cents, IssueMonth, Serial};
-use ee_value::Rates;
 use std::alloc::{AllocError, Global};
 use std::collections::BTreeMap;
 
 /// Notes the rate of a period, where there is one.
 fn note_rate(
-    found: &mut BTreeMap<IssueMonth, Rates>,
+    found: &mut BTreeMap<IssueMonth, Terms>,
     ledger: &Ledger,
     period: IssueMonth,
 ) -> Result<(), AllocError>
     ensures { OnOk result (rates_in found.new.entries ≡ noted (finite.get ledger.now.rates) (rates_in found.old.entries) period) }
 {
-    if let Some(rates) = ledger.rates(period) {
-        found.insert(period, rates)?;
+    if let Some(terms) = ledger.terms(period) {
+        let shared = terms.share()?;
+        found.insert(period, shared)?;
     }
     Ok(())
 }
 
 /// Notes the rate of the issue period of a bond, where it is registered.
 fn note_rate_of(
-    found: &mut BTreeMap<IssueMonth, Rates>,
+    found: &mut BTreeMap<IssueMonth, Terms>,
     ledger: &Ledger,
     serial: Serial,
 ) -> Result<(), AllocError>
@@ -78,7 +77,7 @@ fn rates_of_rows(
     alloc: Global,
     ledger: &Ledger,
     rows: &[RateRow],
-) -> Result<BTreeMap<IssueMonth, Rates>, AllocError>
+) -> Result<BTreeMap<IssueMonth, Terms>, AllocError>
     ensures { IfOk result (λ m. rates_in m.entries ≡ picked (finite.get ledger.now.rates) (map (λ row. row.from) rows.now)) }
 {
     let mut found = BTreeMap::new(alloc);
@@ -93,7 +92,7 @@ fn rates_of_serials(
     alloc: Global,
     ledger: &Ledger,
     serials: &[Serial],
-) -> Result<BTreeMap<IssueMonth, Rates>, AllocError>
+) -> Result<BTreeMap<IssueMonth, Terms>, AllocError>
     ensures { IfOk result (λ m. rates_in m.entries ≡ picked (finite.get ledger.now.rates) (filter_map (λ s. option_map period_of_held (held_of ledger.now s)) serials.now)) }
 {
     let mut found = BTreeMap::new(alloc);
@@ -123,7 +122,7 @@ fn rates_of_bonds(
     alloc: Global,
     ledger: &Ledger,
     bonds: &[Bond],
-) -> Result<BTreeMap<IssueMonth, Rates>, AllocError>
+) -> Result<BTreeMap<IssueMonth, Terms>, AllocError>
     ensures { IfOk result (λ m. rates_in m.entries ≡ picked (finite.get ledger.now.rates) (map (λ bond. period_start bond.issued) bonds.now)) }
 {
     let mut found = BTreeMap::new(alloc);
@@ -148,7 +147,7 @@ fn held_of_bonds(
     Ok(found)
 }
 
-fn no_rates(alloc: Global) -> BTreeMap<IssueMonth, Rates>
+fn no_rates(alloc: Global) -> BTreeMap<IssueMonth, Terms>
     ensures { rates_in result.entries ≡ finite.empty }
 {
     BTreeMap::new(alloc)
@@ -165,7 +164,7 @@ fn rates_of(
     alloc: Global,
     ledger: &Ledger,
     act: &Act,
-) -> Result<BTreeMap<IssueMonth, Rates>, AllocError>
+) -> Result<BTreeMap<IssueMonth, Terms>, AllocError>
     ensures { IfOk result (λ m. rates_in m.entries ≡ picked (finite.get ledger.now.rates) (is.periods_of ledger.now act.now)) }
 {
     match act {
@@ -203,20 +202,21 @@ fn counted(ledger: &Ledger, act: &Act) -> DayCounts
 
 /// What an act names of a ledger.
 pub fn view_of(alloc: Global, ledger: &Ledger, act: &Act) -> Result<View, AllocError>
-    requires few { length ledger.now.tickets ≤ 71200000 }
-    requires settled { AreSettled ledger.now.rates }
+    requires { length ledger.now.tickets ≤ 71200000 }
     ensures { IfOk result (λ v. v ≡ is.view_of ledger.now act.now) }
 {
     let rates = rates_of(alloc, ledger, act)?;
     let bonds = bonds_of(alloc, ledger, act)?;
     let counts = counted(ledger, act);
     let tickets = ledger.tickets().len() as u64;
-    Ok(View::new(
+    Ok(View::new(ViewParts {
         rates,
         bonds,
-        ledger.day(),
-        ledger.last_day(),
+        day: ledger.day(),
+        last_day: ledger.last_day(),
         tickets,
-        counts,
-    ))
+        day_tickets: counts.tickets,
+        day_bonds: counts.bonds,
+        day_total: counts.total,
+    }))
 }

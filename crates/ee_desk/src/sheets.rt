@@ -1,98 +1,57 @@
-//! Rows of bonds, at the rates of a ledger.
+//! Rows of bonds, on the terms of a ledger. No table of unit values is made.
 
-ghost use Rattle.std.specs.Prelude.{◌≡◌, ◌++◌, [], map, Some, None, IfOk, IfSome, OnOk};
+ghost use Rattle.std.specs.Prelude.{◌≡◌, ◌++◌, [], map, Some, None, IfOk, OnOk};
 ghost use Rattle.std.specs.Option.{option_map};
 ghost use Rattle.std.specs.List.{filter_map, cons_option};
-ghost use Rattle.std.specs.FinMap as finite;
-ghost use Rattle.ee_units.specs.Calendar.{period_start};
-ghost use Rattle.ee_acts.specs.Values.{unsettled};
 ghost use Rattle.ee_acts.specs.Queries as is;
 ghost use Rattle.ee_acts.specs.Queries.{shown_in_row};
-ghost use Rattle.ee_decide.specs.Settled.{AreSettled};
 
 use crate::ledger::Ledger;
+use ee_acts::Terms;
 use ee_calculator::{Bond, Row, plain_row, row};
 use ee_units::calendar::period_of;
-use ee_units::{Bits, Denom, IssueMonth, Month, Rate};
-use ee_value::{Rates, UnitTable, ValueFault, unit_table};
+use ee_units::{Denom, IssueMonth, Month, Rate};
 use std::alloc::{AllocError, Global};
 
-/// The unit values of rates that leave none unsettled.
-fn table_of(alloc: Global, rates: &Rates) -> Result<UnitTable, AllocError>
-    requires { unsettled rates.now ≡ None }
-    ensures { IfOk result (λ table. table ≡ rates.now) }
+/// The row of a bond on these terms.
+fn row_at(terms: &Terms, bond: &Bond, month: Month) -> Row
+    ensures { shown_in_row result ≡ is.plain_row (Some bond.now.serial) bond.now.denom bond.now.issued month terms.now }
 {
-    match unit_table(alloc, *rates, Bits::from_places(62)) {
-        Ok(table) => Ok(table),
-        Err(ValueFault::Unsettled { .. }) => unreachable!(),
-        Err(ValueFault::NoMemory) => Err(AllocError),
-    }
+    row(bond, terms.rates(), terms.table(), month)
 }
 
-/// The row of a bond at these rates.
-fn row_at(alloc: Global, rates: &Rates, bond: &Bond, month: Month) -> Result<Row, AllocError>
-    requires { unsettled rates.now ≡ None }
-    ensures { IfOk result (λ row. shown_in_row row ≡ is.plain_row (Some bond.now.serial) bond.now.denom bond.now.issued month rates.now) }
+/// The row of a bond that isn't registered, on these terms.
+fn plain_row_at(terms: &Terms, denom: Denom, issued: IssueMonth, month: Month) -> Row
+    ensures { shown_in_row result ≡ is.plain_row None denom issued month terms.now }
 {
-    let table = table_of(alloc, rates)?;
-    Ok(row(bond, *rates, &table, month))
+    plain_row(denom, issued, terms.rates(), terms.table(), month)
 }
 
-/// The row of a bond that isn't registered, at these rates.
-fn plain_row_at(
-    alloc: Global,
-    rates: &Rates,
-    denom: Denom,
-    issued: IssueMonth,
-    month: Month,
-) -> Result<Row, AllocError>
-    requires { unsettled rates.now ≡ None }
-    ensures { IfOk result (λ row. shown_in_row row ≡ is.plain_row None denom issued month rates.now) }
+/// The row of a bond, where there are rates for its issue period.
+fn row_of(ledger: &Ledger, bond: &Bond, month: Month) -> Option<Row>
+    ensures { option_map shown_in_row result ≡ is.row_of ledger.now.rates month bond.now }
 {
-    let table = table_of(alloc, rates)?;
-    Ok(plain_row(denom, issued, *rates, &table, month))
-}
-
-/// The rate that a bond earns by, where there are rates for its issue period.
-fn rate_of(ledger: &Ledger, bond: &Bond) -> Option<Rate>
-    ensures { option_map (λ fixed. record { fixed = fixed }) result ≡ finite.get ledger.now.rates (period_start bond.now.issued) }
-{
-    match ledger.rates(period_of(bond.issued)) {
-        Some(rates) => Some(rates.fixed),
+    match ledger.terms(period_of(bond.issued)) {
+        Some(terms) => Some(row_at(terms, bond, month)),
         None => None,
     }
 }
 
-/// The row of a bond, where there is a rate.
-fn row_of(
-    alloc: Global,
-    rate: Option<Rate>,
-    bond: &Bond,
-    month: Month,
-) -> Result<Option<Row>, AllocError>
-    requires { IfSome rate (λ fixed. unsettled (record { fixed = fixed }) ≡ None) }
-    ensures { IfOk result (λ row. option_map shown_in_row row ≡ option_map (λ fixed. is.plain_row (Some bond.now.serial) bond.now.denom bond.now.issued month (record { fixed = fixed })) rate) }
-{
-    match rate {
-        Some(fixed) => Ok(Some(row_at(alloc, &Rates { fixed }, bond, month)?)),
-        None => Ok(None),
+/// The rate that a row shows.
+fn rate_in(row: &Option<Row>) -> Option<Rate> {
+    match row {
+        Some(row) => row.rate,
+        None => None,
     }
 }
 
 /// The row of a bond that isn't registered, where there are rates.
-pub fn quote(
-    alloc: Global,
-    ledger: &Ledger,
-    denom: Denom,
-    issued: IssueMonth,
-    month: Month,
-) -> Result<Option<Row>, AllocError>
-    requires { AreSettled ledger.now.rates }
-    ensures { IfOk result (λ row. option_map shown_in_row row ≡ is.quote_of ledger.now denom issued month) }
+pub fn quote(ledger: &Ledger, denom: Denom, issued: IssueMonth, month: Month) -> Option<Row>
+    ensures { option_map shown_in_row result ≡ is.quote_of ledger.now denom issued month }
 {
-    match ledger.rates(period_of(issued)) {
-        Some(rates) => Ok(Some(plain_row_at(alloc, &rates, denom, issued, month)?)),
-        None => Ok(None),
+    match ledger.terms(period_of(issued)) {
+        Some(terms) => Some(plain_row_at(terms, denom, issued, month)),
+        None => None,
     }
 }
 
@@ -112,13 +71,13 @@ pub fn rows_of(
     bonds: &[Bond],
     month: Month,
 ) -> Result<Vec<Row>, AllocError>
-    requires { AreSettled ledger.now.rates }
     ensures { IfOk result (λ rows. map shown_in_row rows.items ≡ filter_map (is.row_of ledger.now.rates month) bonds.now) }
 {
     let mut rows = Vec::new(alloc);
     for bond in bonds {
-        let rate = rate_of(ledger, bond);
-        let row = row_of(alloc, rate, bond, month)?;
+        let row = row_of(ledger, bond, month);
+        // The proof of this loop has to meet the type of a row's rate.
+        let _rate = rate_in(&row);
         push_some(&mut rows, row)?;
     }
     Ok(rows)

@@ -9,6 +9,7 @@ use Rattle.ee_desk.proofs.seeing.note_rate.Goals as goal
 
 pub returns-in_ok-insert : goal.returns-in_ok-insert
 returns-in_ok-insert c =
-    let e : finite.get c.args.ledger.now.rates c.args.period ≡ Some c.in-Some.rates = search rules in
-    one_more nat_cmp_total nat_cmp-IsAntisymmetric c.args.found.now.entries c.insert.new.self.entries c.args.period c.in-Some.rates c.in_ok-insert.ensures.updates.0
+    let e : finite.get c.args.ledger.now.rates c.args.period ≡ Some c.in-Some.terms.now = search rules in
+    one_more nat_cmp_total nat_cmp-IsAntisymmetric c.args.found.now.entries c.insert.new.self.entries c.args.period c.in_ok-shared.shared c.in_ok-insert.ensures.updates.0
+    ∙ ap (finite.insert (rates_in c.args.found.now.entries) c.args.period) c.in_ok-shared.ensures
     ∙ ap (λ o. option_map_or (λ x. finite.insert (rates_in c.args.found.now.entries) c.args.period x) o (rates_in c.args.found.now.entries)) (sym e)

@@ -8,5 +8,5 @@ use Rattle.ee_decide.proofs.views.View.held.Goals as goal
 
 pub returns : goal.returns
 returns c =
-    let e : c.copied.result ≡ lookup (is_at (serial_cmp c.args.serial)) c.self.inside.bonds.entries = search rules in
+    let e : c.copied.result ≡ lookup (is_at (serial_cmp c.args.serial)) c.self.inside.parts.bonds.entries = search rules in
     e ∙ sym (get_lookup serials_total _ c.args.serial) ∙ ap (λ v. finite.get v.bonds c.args.serial) c.self.view_is

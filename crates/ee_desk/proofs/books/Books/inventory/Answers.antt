@@ -1,14 +1,9 @@
 use Rattle.std.proofs.Common.{ap, sym, ◌∙◌, map, Some}
-use Rattle.std.specs.FinMap as finite
 use Rattle.std.specs.List.{filter_map}
 use Rattle.ee_acts.specs.Queries.{row_of, bonds_of, sheet_of, sheet_in}
-use Rattle.ee_desk.proofs.Outcomes.{settled_if}
 use Rattle.ee_desk.proofs.SheetRows.{sheet_is}
 use Rattle.ee_desk.proofs.EveryRow.{every_row}
 use Rattle.ee_desk.proofs.books.Books.inventory.Goals as goal
-
-pub rows_of-requires : goal.rows_of-requires
-rows_of-requires c = λ period. settled_if period (finite.get c.self.inside.ledger.rates period) (c.self.invariant.rates period)
 
 pub returns-clause-sheet : goal.returns-clause-sheet
 returns-clause-sheet c =

@@ -1,0 +1,40 @@
+-- Answers to a message.
+use Rattle.std.proofs.Common.{◌≡◌, Bool, List, ℕ, ap, subst, Result, Ok, Err, refl}
+use Rattle.ee_acts.specs.Repeats.{Content}
+use Rattle.ee_framing.specs.Framing.{Message}
+use Rattle.ee_calls.specs.Calls.{decoded}
+use Rattle.ee_calls.specs.declared.calls.Call.{Call}
+use Rattle.ee_calls.specs.declared.calls.Call.TheVariants as call
+use Rattle.ee_calls.specs.declared.calls.Query.TheVariants as ask
+use Rattle.ee_calls.specs.declared.faults.WireFault.{WireFault}
+use Rattle.ee_acts.specs.declared.refusals.Unserved.{Unserved}
+use Rattle.ee_wire.specs.declared.answers.Answer.{Answer}
+use Rattle.ee_wire.specs.declared.answers.Answer.TheVariants as told
+use Rattle.ee_wire.specs.Answers.{answer_text}
+use Rattle.ee_counter.specs.Answering.{call_of, IsAnswer, IsRight, after, left_after, Answers}
+
+never_unserved : (c : Content) (asked : Result Call WireFault) (cause : Unserved) → IsAnswer c asked (told.Unserved cause) → ⊥
+never_unserved c (Ok (call.Request request)) cause is = is
+never_unserved c (Ok (call.Query (ask.Inventory customer month))) cause is = is
+never_unserved c (Ok (call.Query (ask.Ticket number))) cause is = is
+never_unserved c (Ok (call.Query (ask.Batch day))) cause is = is
+never_unserved c (Ok (call.Query (ask.Value denom issued month))) cause is = is
+never_unserved c (Err fault) cause is = is
+
+-- an answer that isn't 503 is right, and the content has changed by it
+pub answered : (c : Content) (asked : Result Call WireFault) (answer : Answer) (Has : Content → Type 0)
+    → IsAnswer c asked answer → Has (after c asked) → Answers c asked answer Has
+answered c asked (told.Reply x) Has is has = (is, has)
+answered c asked (told.Sheet x) Has is has = (is, has)
+answered c asked (told.Row x) Has is has = (is, has)
+answered c asked (told.Ticket x) Has is has = (is, has)
+answered c asked (told.Batch x) Has is has = (is, has)
+answered c asked (told.Fault x) Has is has = (is, has)
+answered c asked (told.Unserved x) Has is has = absurd (never_unserved c asked x is)
+
+-- the same of a message by its parts
+pub of_parts : (m : Message) (target method body : List ℕ) (c : Content) (answer : Answer) (Has : Content → Type 0)
+    → target ≡ m.target → method ≡ m.method → body ≡ m.body
+    → Answers c (decoded target method body) answer Has → Answers c (call_of m) answer Has
+of_parts m target method body c answer Has x y z =
+    subst (λ (asked : Result Call WireFault). Answers c asked answer Has) (λ i. decoded (x i) (y i) (z i))

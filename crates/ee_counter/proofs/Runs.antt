@@ -1,0 +1,23 @@
+-- A run over any keeper, one request more.
+use Rattle.std.proofs.Common.{◌≡◌, ℕ, ◌+◌, ◌<◌, List, [], ◌∷◌, ◌++◌, length, take, get_or, Result, Ok, Err, refl, subst}
+use Rattle.ee_acts.specs.declared.acts.Request.{Request}
+use Rattle.ee_acts.specs.declared.replies.Reply.{Reply}
+use Rattle.ee_acts.specs.declared.refusals.Unserved.{Unserved}
+use Rattle.ee_acts.specs.Repeats.{Content}
+use Rattle.ee_acts.specs.Contents.{content_after}
+use Rattle.ee_acts.specs.Answers.{served, AreAnswers}
+use Rattle.ee_acts.proofs.Turns.{run_turn}
+use Rattle.ee_keeper.specs.Keeping.{Delivers}
+
+pub one_more : (S : Content) (all : List Request) (i : ℕ) (q : Request) (told more : List (Result Reply Unserved)) (r : Result Reply Unserved) (Has : Content → Type 0)
+    → i < length all → q ≡ get_or all i q → more ≡ told ++ r ∷ []
+    → AreAnswers S [] (take i all) told → Delivers (content_after S (served (take i all) told)) q r Has
+    → AreAnswers S [] (take (i + 1) all) more × Has (content_after S (served (take (i + 1) all) more))
+one_more S all i q told more (Ok reply) Has h at push answers d =
+    let T = content_after S (served (take i all) told) in
+    let t = run_turn S all i q told more (Ok reply) T (content_after T (q ∷ [])) h at push answers refl d.0 refl tt in
+    (t.0, subst Has t.1 d.1)
+one_more S all i q told more (Err e) Has h at push answers d =
+    let T = content_after S (served (take i all) told) in
+    let t = run_turn S all i q told more (Err e) T T h at push answers refl tt tt refl in
+    (t.0, subst Has t.1 d)

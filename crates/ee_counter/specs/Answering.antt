@@ -1,0 +1,72 @@
+-- The answer to a message, at a content of books and kept replies.
+use Rattle.std.specs.Prelude.{◌≡◌, List, [], ◌∷◌, Result, Ok, Err, ⊤}
+use Rattle.ee_acts.specs.PlainBooks.{PlainBooks}
+use Rattle.ee_acts.specs.Repeats.{Content}
+use Rattle.ee_acts.specs.Contents.{content_after}
+use Rattle.ee_acts.specs.Answers as desk
+use Rattle.ee_acts.specs.Queries.{ticket_numbered, batch_on}
+use Rattle.ee_acts.specs.declared.refusals.Unserved.{Unserved}
+use Rattle.ee_keeper.specs.Keeping.{IsInventory, IsQuote}
+use Rattle.ee_framing.specs.Framing.{Message}
+use Rattle.ee_calls.specs.Calls.{decoded}
+use Rattle.ee_calls.specs.declared.calls.Call.{Call}
+use Rattle.ee_calls.specs.declared.calls.Call.TheVariants as call
+use Rattle.ee_calls.specs.declared.calls.Query.{Query}
+use Rattle.ee_calls.specs.declared.calls.Query.TheVariants as ask
+use Rattle.ee_calls.specs.declared.faults.WireFault.{WireFault}
+use Rattle.ee_wire.specs.declared.answers.Answer.{Answer}
+use Rattle.ee_wire.specs.declared.answers.Answer.TheVariants as told
+
+-- what a message asks for, or its first fault
+abbrev pub call_of : Message → Result Call WireFault
+call_of m = decoded m.target m.method m.body
+
+-- what the books answer to a query
+abbrev pub ShowsQuery : PlainBooks → Query → Answer → Type 0
+ShowsQuery books (ask.Inventory customer month) (told.Sheet sheet) = IsInventory books customer month sheet
+ShowsQuery books (ask.Ticket number) (told.Ticket ticket) = ticket ≡ ticket_numbered books number
+ShowsQuery books (ask.Batch day) (told.Batch batch) = batch ≡ batch_on books day
+ShowsQuery books (ask.Value denom issued month) (told.Row row) = IsQuote books denom issued month row
+ShowsQuery books _ _ = ⊥
+
+-- the answer to a request is the one reply to it, to a query what the books show, to a fault that fault
+abbrev pub IsAnswer : Content → Result Call WireFault → Answer → Type 0
+IsAnswer c (Ok (call.Request request)) (told.Reply reply) = reply ≡ desk.answer c [] request
+IsAnswer c (Ok (call.Query query)) answer = ShowsQuery c.books query answer
+IsAnswer c (Err fault) (told.Fault other) = other ≡ fault
+IsAnswer c _ _ = ⊥
+
+-- a request changes the content, and nothing else does
+abbrev pub after : Content → Result Call WireFault → Content
+after c (Ok (call.Request request)) = content_after c (request ∷ [])
+after c (Ok (call.Query query)) = c
+after c (Err fault) = c
+
+-- in the place of each answer 503 may stand, where memory or the store failed
+abbrev pub IsRight : Content → Result Call WireFault → Answer → Type 0
+IsRight c call (told.Unserved cause) = ⊤
+IsRight c call (told.Reply reply) = IsAnswer c call (told.Reply reply)
+IsRight c call (told.Sheet sheet) = IsAnswer c call (told.Sheet sheet)
+IsRight c call (told.Row row) = IsAnswer c call (told.Row row)
+IsRight c call (told.Ticket ticket) = IsAnswer c call (told.Ticket ticket)
+IsRight c call (told.Batch batch) = IsAnswer c call (told.Batch batch)
+IsRight c call (told.Fault fault) = IsAnswer c call (told.Fault fault)
+
+-- and then nothing has changed
+abbrev pub left_after : Content → Result Call WireFault → Answer → Content
+left_after c call (told.Unserved cause) = c
+left_after c call (told.Reply reply) = after c call
+left_after c call (told.Sheet sheet) = after c call
+left_after c call (told.Row row) = after c call
+left_after c call (told.Ticket ticket) = after c call
+left_after c call (told.Batch batch) = after c call
+left_after c call (told.Fault fault) = after c call
+
+-- a right answer, and the content that it leaves. `Has` says which contents a keeper then has.
+abbrev pub Answers : Content → Result Call WireFault → Answer → (Content → Type 0) → Type 0
+Answers c call answer Has = IsRight c call answer × Has (left_after c call answer)
+
+-- the answer, or none, and then nothing has changed
+abbrev pub AnswersUnless : Content → Result Call WireFault → Result Answer Unserved → (Content → Type 0) → Type 0
+AnswersUnless c call (Ok answer) Has = IsAnswer c call answer × Has (after c call)
+AnswersUnless c call (Err unserved) Has = Has c

@@ -1,0 +1,44 @@
+-- Imports and exports of files.
+use Rattle.std.specs.Prelude.{◌≡◌, ℕ, List, [], ◌∷◌, length, Option, Some, Result, Ok, Err, true, false}
+use Rattle.ee_device.specs.Written.{WritesFront}
+use Rattle.ee_acts.specs.declared.acts.Act.{Act}
+use Rattle.ee_acts.specs.declared.acts.Request.{Request}
+use Rattle.ee_acts.specs.declared.replies.Reply.{Reply}
+use Rattle.ee_acts.specs.declared.refusals.Unserved.{Unserved}
+use Rattle.ee_acts.specs.Numbers.{Number}
+use Rattle.ee_acts.specs.Repeats.{Content}
+use Rattle.ee_acts.specs.Queries.{bonds_of}
+use Rattle.ee_keeper.specs.Keeping.{Delivers}
+use Rattle.ee_files.specs.Answers.{Gives}
+use Rattle.ee_files.specs.BondFile.{inventory_text}
+use Rattle.ee_files.specs.declared.faults.FileFault.{FileFault}
+use Rattle.ee_counter.specs.declared.files.ImportFault.{ImportFault}
+use Rattle.ee_counter.specs.declared.files.ImportFault.TheVariants as import
+use Rattle.ee_counter.specs.declared.files.ExportFault.{ExportFault}
+use Rattle.ee_counter.specs.declared.files.ExportFault.TheVariants as export
+
+-- how a file is read: the rows of its bytes, or its first fault
+abbrev pub Reading : Type 0 → Type 0
+Reading A = List ℕ → Result (List A) FileFault
+
+-- the rows of the file that the reader told, or why it has none; of a reader that tells no bytes nothing is said
+abbrev pub Reads : {A : Type 0} → Reading A → Option (List ℕ) → Result (List A) FileFault → Type 0
+Reads rows_of known read = (source : List ℕ) → known ≡ Some source → Gives (λ rows. rows) read (rows_of source)
+
+abbrev pub request_of : Number → Act → Request
+request_of number act = record { number = number; act = act }
+
+-- the file's rows were delivered in one request under the number, or nothing was delivered
+abbrev pub Imports : {A : Type 0} → Reading A → (List A → Act) → Option (List ℕ) → Number → Content → Result Reply ImportFault → (Content → Type 0) → Type 0
+Imports {A} rows_of act_of known number c (Ok reply) Has =
+    (rows : List A) × Reads rows_of known (Ok rows) × Delivers c (request_of number (act_of rows)) (Ok reply) Has
+Imports rows_of act_of known number c (Err (import.File fault)) Has = Reads rows_of known (Err fault) × Has c
+Imports rows_of act_of known number c (Err (import.Unserved cause)) Has = Has c
+
+-- the file of the customer's unpaid bonds was written, or a front of it where the writer failed, or nothing
+abbrev pub Exports : Option (List ℕ) → Option (List ℕ) → ℕ → Content → Result ℕ ExportFault → (Content → Type 0) → Type 0
+Exports old new customer c (Ok count) Has =
+    (count ≡ length (bonds_of c.books customer)) × WritesFront old new (inventory_text (bonds_of c.books customer)) true × Has c
+Exports old new customer c (Err export.WriteFailed) Has =
+    WritesFront old new (inventory_text (bonds_of c.books customer)) false × Has c
+Exports old new customer c (Err (export.Unserved cause)) Has = (new ≡ old) × Has c

@@ -1,0 +1,4 @@
+pub mod Served
+pub mod Answering
+pub mod Serving
+pub mod Filing

@@ -1,0 +1,73 @@
+//! The answer to a message.
+
+ghost use Rattle.std.specs.Prelude.{◌≡◌, Ok};
+ghost use Rattle.ee_acts.specs.Repeats.{Content};
+ghost use Rattle.ee_calls.specs.Calls.{decoded};
+ghost use Rattle.ee_calls.specs.declared.calls.Call.TheVariants as call;
+ghost use Rattle.ee_keeper.specs.Keeping.{Shows};
+ghost use Rattle.ee_counter.specs.Answering.{ShowsQuery, Answers, AnswersUnless};
+
+use ee_acts::{Request, Unserved};
+use ee_keeper::Keeper;
+use ee_wire::{Answer, Call, Query, WireFault, decode};
+use std::alloc::Global;
+
+fn answer_query<K: Keeper>(keeper: &mut K, query: Query) -> Result<Answer, Unserved>
+    ensures clean { K.is_clean keeper.new → K.is_clean keeper.old }
+    ensures shows { K.is_clean keeper.new → (c : Content) → K.has keeper.old c
+        → Shows (ShowsQuery c.books query) result (K.has keeper.new c) }
+{
+    Ok(match query {
+        Query::Inventory { customer, month } => Answer::Sheet(keeper.inventory(customer, month)?),
+        Query::Ticket(number) => Answer::Ticket(keeper.ticket(number)?),
+        Query::Batch(day) => Answer::Batch(keeper.batch(day)?),
+        Query::Value {
+            denom,
+            issued,
+            month,
+        } => Answer::Row(keeper.quote(denom, issued, month)?),
+    })
+}
+
+fn answer_request<K: Keeper>(keeper: &mut K, request: &Request) -> Result<Answer, Unserved>
+    ensures clean { K.is_clean keeper.new → K.is_clean keeper.old }
+    ensures answers { K.is_clean keeper.new → (c : Content) → K.has keeper.old c
+        → AnswersUnless c (Ok (call.Request request.now)) result (K.has keeper.new) }
+{
+    Ok(Answer::Reply(keeper.deliver(request)?))
+}
+
+fn answer_call<K: Keeper>(keeper: &mut K, call: &Call) -> Result<Answer, Unserved>
+    ensures clean { K.is_clean keeper.new → K.is_clean keeper.old }
+    ensures answers { K.is_clean keeper.new → (c : Content) → K.has keeper.old c
+        → AnswersUnless c (Ok call.now) result (K.has keeper.new) }
+{
+    match call {
+        Call::Request(request) => answer_request(keeper, request),
+        Call::Query(query) => answer_query(keeper, *query),
+    }
+}
+
+/// The answer to a message at the content that the keeper has: the reply to a request, which is delivered
+/// once, what the books show to a query, or the message's first fault. Where memory or the store fails it is
+/// `Unserved`, and nothing has changed.
+pub fn answer_message<K: Keeper>(
+    alloc: Global,
+    keeper: &mut K,
+    target: &[u8],
+    method: &[u8],
+    body: &[u8],
+) -> Answer
+    ensures clean { K.is_clean keeper.new → K.is_clean keeper.old }
+    ensures answers { K.is_clean keeper.new → (c : Content) → K.has keeper.old c
+        → Answers c (decoded target.now method.now body.now) result (K.has keeper.new) }
+{
+    match decode(alloc, target, method, body) {
+        Ok(call) => match answer_call(keeper, &call) {
+            Ok(answer) => answer,
+            Err(cause) => Answer::Unserved(cause),
+        },
+        Err(WireFault::NoMemory) => Answer::Unserved(Unserved::NoMemory),
+        Err(fault) => Answer::Fault(fault),
+    }
+}

@@ -1,0 +1,114 @@
+//! Imports and exports of files.
+
+ghost use Rattle.std.specs.Prelude.{◌≡◌};
+ghost use Rattle.ee_acts.specs.declared.acts.Act.TheVariants as act;
+ghost use Rattle.ee_acts.specs.Repeats.{Content};
+ghost use Rattle.ee_files.specs.BondFile.{bonds_of_file};
+ghost use Rattle.ee_files.specs.RateFile.{rates_of_file};
+ghost use Rattle.ee_keeper.specs.Keeping.{Delivers};
+ghost use Rattle.ee_counter.specs.Filing.{Imports, Exports};
+
+use ee_acts::{Act, Number, Reply, Request, Rows, Unserved};
+use ee_files::{FileFault, WriteFault, read_inventory, read_rates, write_inventory};
+use ee_keeper::Keeper;
+use ee_units::Customer;
+use std::alloc::Global;
+use std::io::{Read, Write};
+use thiserror::Error;
+
+/// Why an import has no reply.
+#[derive(Clone, Copy, Debug, PartialEq, Eq, Error)]
+pub enum ImportFault {
+    /// The file has a fault, or wasn't read. Nothing was delivered, and the number stays as it was.
+    #[error("file: {0}")]
+    File(FileFault),
+    /// The request wasn't served. Nothing has changed.
+    #[error("{0}")]
+    Unserved(Unserved),
+}
+
+/// Why an export isn't whole.
+#[derive(Clone, Copy, Debug, PartialEq, Eq, Error)]
+pub enum ExportFault {
+    /// The books weren't shown, or memory was refused. Nothing was written.
+    #[error("{0}")]
+    Unserved(Unserved),
+    /// The writer failed. It has taken a front of the file, and not all of it.
+    #[error("the writer failed")]
+    WriteFailed,
+}
+
+/// Enters the rates of a file under a request number, as one request: the file's rows, its first 501, or
+/// nothing. A file that was imported under the number before gets its first reply again.
+pub fn import_rates<K: Keeper, R: Read>(
+    alloc: Global,
+    keeper: &mut K,
+    number: Number,
+    reader: &mut R,
+) -> Result<Reply, ImportFault>
+    ensures clean { K.is_clean keeper.new → K.is_clean keeper.old }
+    ensures imports { K.is_clean keeper.new → (c : Content) → K.has keeper.old c
+        → Imports rates_of_file act.AddRates (R.remaining reader.old) number c result (K.has keeper.new) }
+{
+    let rows = match read_rates(alloc, reader) {
+        Ok(rows) => rows,
+        Err(fault) => return Err(ImportFault::File(fault)),
+    };
+    let request = Request {
+        number,
+        act: Act::AddRates(Rows::new(rows)),
+    };
+    match keeper.deliver(&request) {
+        Ok(reply) => Ok(reply),
+        Err(cause) => Err(ImportFault::Unserved(cause)),
+    }
+}
+
+/// Registers the bonds of a file under a request number, as one request: the file's rows, its first 501, or
+/// nothing. A file that was imported under the number before gets its first reply again.
+pub fn import_inventory<K: Keeper, R: Read>(
+    alloc: Global,
+    keeper: &mut K,
+    number: Number,
+    reader: &mut R,
+) -> Result<Reply, ImportFault>
+    ensures clean { K.is_clean keeper.new → K.is_clean keeper.old }
+    ensures imports { K.is_clean keeper.new → (c : Content) → K.has keeper.old c
+        → Imports bonds_of_file act.AddBonds (R.remaining reader.old) number c result (K.has keeper.new) }
+{
+    let bonds = match read_inventory(alloc, reader) {
+        Ok(bonds) => bonds,
+        Err(fault) => return Err(ImportFault::File(fault)),
+    };
+    let request = Request {
+        number,
+        act: Act::AddBonds(Rows::new(bonds)),
+    };
+    match keeper.deliver(&request) {
+        Ok(reply) => Ok(reply),
+        Err(cause) => Err(ImportFault::Unserved(cause)),
+    }
+}
+
+/// Writes the file of the unpaid bonds whose owner is this customer, in order of serial, and answers how
+/// many they are. Memory is taken before the first byte.
+pub fn export_inventory<K: Keeper, W: Write>(
+    alloc: Global,
+    keeper: &mut K,
+    customer: Customer,
+    writer: &mut W,
+) -> Result<u64, ExportFault>
+    ensures clean { K.is_clean keeper.new → K.is_clean keeper.old }
+    ensures exports { K.is_clean keeper.new → (c : Content) → K.has keeper.old c
+        → Exports (W.contents writer.old) (W.contents writer.new) customer c result (K.has keeper.new) }
+{
+    let bonds = match keeper.bonds_of(customer) {
+        Ok(bonds) => bonds,
+        Err(cause) => return Err(ExportFault::Unserved(cause)),
+    };
+    match write_inventory(alloc, writer, bonds.as_slice()) {
+        Ok(()) => Ok(bonds.len() as u64),
+        Err(WriteFault::WriteFailed) => Err(ExportFault::WriteFailed),
+        Err(WriteFault::NoMemory) => Err(ExportFault::Unserved(Unserved::NoMemory)),
+    }
+}

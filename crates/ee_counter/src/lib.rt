@@ -1,0 +1,18 @@
+//! The counter of a paying agent, over any keeper: lists of requests, connections, and files.
+#![tactic(auto)]
+
+mod answering;
+mod connections;
+mod files;
+mod laws;
+mod requests;
+mod soundness;
+#[cfg(test)]
+mod tests;
+
+pub use answering::answer_message;
+pub use connections::{Ended, MOST_MESSAGES, Why, serve};
+pub use files::{ExportFault, ImportFault, export_inventory, import_inventory, import_rates};
+pub use laws::{one_text, same_answers, served_requests};
+pub use requests::run;
+pub use soundness::known;

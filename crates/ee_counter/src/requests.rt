@@ -1,0 +1,53 @@
+ghost use Rattle.std.specs.Prelude.{◌≡◌, [], length, IfOk, OnErr};
+ghost use Rattle.ee_acts.specs.Repeats.{Content};
+ghost use Rattle.ee_acts.specs.Paid.{paid_lines, NoneTwice, ArePaidRight};
+ghost use Rattle.ee_acts.specs.Sound.{IsSound};
+ghost use Rattle.ee_acts.specs.Conserved.{IsConserved};
+ghost use Rattle.ee_acts.specs.Contents.{content_after, books_after};
+ghost use Rattle.ee_acts.specs.Answers.{served, AreAnswers};
+
+use crate::soundness::known;
+use ee_acts::{Reply, Request, Unserved};
+use ee_keeper::Keeper;
+use std::alloc::{AllocError, Global};
+
+/// Delivers requests one after another, and gives one answer for each. A list of requests may repeat
+/// numbers, as where a reply was lost: each number acts at most once. The memory of the answers is
+/// taken first, so where the whole answer is want of memory nothing was delivered.
+///
+/// Each claim is of any content `c` that the keeper had at the start, and holds where its store is clean at
+/// the end.
+pub fn run<K: Keeper>(
+    alloc: Global,
+    keeper: &mut K,
+    requests: &[Request],
+) -> Result<Vec<Result<Reply, Unserved>>, AllocError>
+    ensures count { IfOk result (λ answers. length answers.items ≡ length requests.now) }
+    // Each request that is served gets the one answer to it after those that were served before.
+    ensures answers { K.is_clean keeper.new → (c : Content) → K.has keeper.old c
+        → IfOk result (λ answers. AreAnswers c [] requests.now answers.items) }
+    // The books and the kept replies are those of the served requests, each number once.
+    ensures content { K.is_clean keeper.new → (c : Content) → K.has keeper.old c
+        → IfOk result (λ answers. K.has keeper.new (content_after c (served requests.now answers.items))) }
+    // In those books no serial stands on two lines over all tickets.
+    ensures once { K.is_clean keeper.new → (c : Content) → K.has keeper.old c
+        → IfOk result (λ answers. NoneTwice (paid_lines (books_after c (served requests.now answers.items)).tickets)) }
+    // Each line pays the value of its bond in the month of its ticket's day.
+    ensures right { K.is_clean keeper.new → (c : Content) → K.has keeper.old c
+        → IfOk result (λ answers. ArePaidRight (books_after c (served requests.now answers.items))) }
+    ensures sound { K.is_clean keeper.new → (c : Content) → K.has keeper.old c
+        → IfOk result (λ answers. IsSound (books_after c (served requests.now answers.items))) }
+    // The batches and the open day's tickets have what was paid.
+    ensures conserved { K.is_clean keeper.new → (c : Content) → K.has keeper.old c
+        → IfOk result (λ answers. IsConserved (books_after c (served requests.now answers.items))) }
+    ensures clean { K.is_clean keeper.new → K.is_clean keeper.old }
+    ensures err { OnErr result (keeper.new ≡ keeper.old) }
+{
+    let mut answers = Vec::with_capacity(alloc, requests.len())?;
+    for request in requests {
+        let answer = keeper.deliver(request);
+        answers.push_reserved(answer);
+    }
+    known(keeper);
+    Ok(answers)
+}

@@ -1,0 +1,17 @@
+ghost use Rattle.std.specs.Prelude.{◌≡◌};
+ghost use Rattle.ee_acts.specs.Repeats.{Content};
+ghost use Rattle.ee_acts.specs.Paid.{paid_lines, NoneTwice, ArePaidRight};
+ghost use Rattle.ee_acts.specs.Sound.{IsSound};
+ghost use Rattle.ee_acts.specs.Conserved.{IsConserved};
+
+use ee_keeper::Keeper;
+
+/// What the books of every keeper are, at any time and whatever was answered: no serial stands on two lines
+/// over all tickets, each line pays the value of its bond in the month of its ticket's day, and what was
+/// paid stands in the batches and on the open day. It does nothing.
+pub fn known<K: Keeper>(_keeper: &K)
+    ensures sound { (c : Content) → K.has _keeper.now c → IsSound c.books }
+    ensures once { (c : Content) → K.has _keeper.now c → NoneTwice (paid_lines c.books.tickets) }
+    ensures right { (c : Content) → K.has _keeper.now c → ArePaidRight c.books }
+    ensures conserved { (c : Content) → K.has _keeper.now c → IsConserved c.books }
+{}
