@@ -24,7 +24,7 @@ const MOST_SERIALS: usize = 100;
 const MOST_TICKETS: u64 = 1000;
 
 /// Whether a month is a May or November.
-fn is_announcement(month: IssueMonth) -> bool
+pub fn is_announcement(month: IssueMonth) -> bool
     ensures { result ≡ is_announcement month }
 {
     let month = (month.count() + 4) % 12 + 1;
@@ -159,13 +159,15 @@ fn first_repeated_bond(bonds: &[Bond]) -> Option<Refusal>
     None
 }
 
-fn has_coowner(bond: &Bond, customer: Customer) -> bool
+/// Whether this is the coowner.
+pub fn has_coowner(bond: &Bond, customer: Customer) -> bool
     ensures { result ≡ has_coowner bond.now customer }
 {
     bond.coowner == Some(customer)
 }
 
-fn is_payee(bond: &Bond, payee: Customer) -> bool
+/// Whether this is the owner or the coowner.
+pub fn is_payee(bond: &Bond, payee: Customer) -> bool
     ensures { result ≡ is_payee bond.now payee }
 {
     bond.owner == payee || has_coowner(bond, payee)

@@ -1,5 +1,4 @@
 pub mod Outcomes
-pub mod PaidMarks
 pub mod Added
 pub mod Registered
 pub mod Picked
@@ -11,3 +10,4 @@ pub mod OwnBonds
 pub mod Batches
 pub mod SheetRows
 pub mod EveryRow
+pub mod AsParts

@@ -19,8 +19,9 @@ use Rattle.ee_acts.specs.Serials.{serial_cmp}
 use Rattle.ee_acts.specs.PlainBooks.{ticket_of}
 use Rattle.ee_acts.specs.Queries.{is_open_bond}
 use Rattle.ee_acts.proofs.Maps.{serials_total, exact_serials}
-use Rattle.ee_desk.specs.Kept.{bonds_in, held_at, AreMarked, own_bond}
-use Rattle.ee_desk.proofs.PaidMarks.{get_bond}
+use Rattle.ee_parts.specs.Marks.{bonds_held, held_at, AreMarked}
+use Rattle.ee_desk.specs.Kept.{own_bond}
+use Rattle.ee_parts.proofs.PaidMarks.{get_bond}
 use Rattle.ee_desk.proofs.Ordered.{entries_are}
 
 -- what holds wherever a key is found holds of each entry
@@ -69,8 +70,8 @@ own_among tickets customer (e ∷ es) h =
     (h.0.0 ∙ sym (ap (ticket_of tickets) h.0.1))
 
 pub own_is : (tickets : List Ticket) (customer : ℕ) (es : List (SerialNumber × Held)) → IsStrictlySortedBy serial_cmp (keys_of es) → AreMarked es tickets
-    → ((q : SerialNumber) → IfSome (finite.get (bonds_in es) q) (λ b. b.serial ≡ q))
-    → filter_map (own_bond customer) (values_of es) ≡ filter (is_open_bond tickets customer) (finite.values (bonds_in es))
+    → ((q : SerialNumber) → IfSome (finite.get (bonds_held es) q) (λ b. b.serial ≡ q))
+    → filter_map (own_bond customer) (values_of es) ≡ filter (is_open_bond tickets customer) (finite.values (bonds_held es))
 own_is tickets customer es ordered marked keyed =
     own_among tickets customer es (all_entries serials_total (IsKeptRight tickets) es ordered (λ q.
     right_if tickets q (held_at es q) (marked q) (subst (λ o. IfSome o (λ b. b.serial ≡ q)) (get_bond es q) (keyed q))))

@@ -16,8 +16,9 @@ use Rattle.ee_acts.specs.PlainBooks.{ticket_of}
 use Rattle.ee_acts.specs.Seen.{held_as}
 use Rattle.ee_acts.specs.Views.{picked}
 use Rattle.ee_acts.proofs.Maps.{get_picked, same_key}
-use Rattle.ee_desk.specs.Kept.{noted, noted_at, held_at, bonds_in}
-use Rattle.ee_desk.proofs.PaidMarks.{get_bond}
+use Rattle.ee_parts.specs.Marks.{held_at, bonds_held}
+use Rattle.ee_desk.specs.Kept.{noted, noted_at}
+use Rattle.ee_parts.proofs.PaidMarks.{get_bond}
 
 any_push : {A : Type 0} (p : A → Bool) (xs : List A) (y : A) → list_any p (xs ++ y ∷ []) ≡ (p y || list_any p xs)
 any_push p [] y = refl
@@ -76,5 +77,5 @@ held_marked tickets q (Some held) h = ap (λ t. Some (record { bond = held.bond;
 
 -- what is kept of a serial is what the books hold
 pub held_is : (bonds : List (SerialNumber × Held)) (tickets : List Ticket) (q : SerialNumber) → IfSome (held_at bonds q) (λ h. h.ticket ≡ ticket_of tickets q)
-    → option_map (held_as tickets q) (finite.get (bonds_in bonds) q) ≡ held_at bonds q
+    → option_map (held_as tickets q) (finite.get (bonds_held bonds) q) ≡ held_at bonds q
 held_is bonds tickets q h = ap (option_map (held_as tickets q)) (get_bond bonds q) ∙ held_marked tickets q (held_at bonds q) h

@@ -14,10 +14,11 @@ use Rattle.ee_acts.specs.declared.replies.Ticket.{Ticket}
 use Rattle.ee_acts.specs.Serials.{serial_cmp}
 use Rattle.ee_acts.specs.PlainBooks.{PlainBooks, ticket_of}
 use Rattle.ee_acts.proofs.Maps.{serials_total, exact_serials, get_lookup, same_key}
-use Rattle.ee_desk.specs.Kept.{bonds_in, held_in, held_at, AreMarked}
+use Rattle.ee_parts.specs.Marks.{bonds_held, held_at, AreMarked}
+use Rattle.ee_desk.specs.Kept.{held_in}
 use Rattle.ee_desk.specs.Added.{held_row, bond_row, with_row, with_changes, AreNew}
 use Rattle.ee_desk.specs.Applicable.{IsUnpaid}
-use Rattle.ee_desk.proofs.PaidMarks.{get_bond}
+use Rattle.ee_parts.proofs.PaidMarks.{get_bond}
 
 abbrev bond_of : Held → Bond
 bond_of held = held.bond
@@ -90,19 +91,19 @@ marked_after books held (c ∷ cs) unpaid are = marked_after books (with_row hel
 at_is : (es : List (SerialNumber × Held)) (q : SerialNumber) → finite.get (held_in es) q ≡ held_at es q
 at_is es q = get_lookup serials_total es q
 
-bonds_of_held : (es : List (SerialNumber × Held)) → AreBondsOf (held_in es) (bonds_in es)
+bonds_of_held : (es : List (SerialNumber × Held)) → AreBondsOf (held_in es) (bonds_held es)
 bonds_of_held es q = get_bond es q ∙ ap (option_map bond_of) (sym (at_is es q))
 
 -- bonds that aren't registered aren't in memory
-pub new_in_memory : (es : List (SerialNumber × Held)) (cs : List Change) → AreNew bond_row (bonds_in es) cs → AreNew held_row (held_in es) cs
-new_in_memory es cs new = new_held (held_in es) (bonds_in es) cs (bonds_of_held es) new
+pub new_in_memory : (es : List (SerialNumber × Held)) (cs : List Change) → AreNew bond_row (bonds_held es) cs → AreNew held_row (held_in es) cs
+new_in_memory es cs new = new_held (held_in es) (bonds_held es) cs (bonds_of_held es) new
 
 -- the bonds that memory stands for gain what memory gains
-pub bonds_gain : (es fs : List (SerialNumber × Held)) (cs : List Change) → held_in fs ≡ with_changes held_row (held_in es) cs → bonds_in fs ≡ with_changes bond_row (bonds_in es) cs
+pub bonds_gain : (es fs : List (SerialNumber × Held)) (cs : List Change) → held_in fs ≡ with_changes held_row (held_in es) cs → bonds_held fs ≡ with_changes bond_row (bonds_held es) cs
 bonds_gain es fs cs is = same_map serials_total exact_serials _ _ (λ q.
-    bonds_of_held fs q ∙ ap (λ m. option_map bond_of (finite.get m q)) is ∙ sym (bonds_after (held_in es) (bonds_in es) cs (bonds_of_held es) q))
+    bonds_of_held fs q ∙ ap (λ m. option_map bond_of (finite.get m q)) is ∙ sym (bonds_after (held_in es) (bonds_held es) cs (bonds_of_held es) q))
 
-pub bonds_stay : (es fs : List (SerialNumber × Held)) → held_in fs ≡ held_in es → bonds_in fs ≡ bonds_in es
+pub bonds_stay : (es fs : List (SerialNumber × Held)) → held_in fs ≡ held_in es → bonds_held fs ≡ bonds_held es
 bonds_stay es fs is = same_map serials_total exact_serials _ _ (λ q.
     bonds_of_held fs q ∙ ap (λ m. option_map bond_of (finite.get m q)) is ∙ sym (bonds_of_held es q))
 

@@ -15,24 +15,14 @@ use Rattle.ee_acts.specs.declared.replies.Ticket.{Ticket}
 use Rattle.ee_acts.specs.declared.replies.Batch.{Batch}
 use Rattle.ee_decide.specs.declared.views.DayCounts.{DayCounts}
 use Rattle.ee_acts.specs.Serials.{serial_cmp}
+use Rattle.ee_parts.specs.Marks.{bonds_held}
 use Rattle.ee_acts.specs.PlainBooks.{PlainBooks, ticket_of}
 
 abbrev pub rates_in : List (ℕ × Rates) → FinMap nat_cmp Rates
 rates_in rates = finite.from_entries rates
 
-abbrev pub bonds_in : List (SerialNumber × Held) → FinMap serial_cmp Bond
-bonds_in bonds = finite.from_entries (map (λ e. (e.0, e.1.bond)) bonds)
-
 abbrev pub held_in : List (SerialNumber × Held) → FinMap serial_cmp Held
 held_in bonds = finite.from_entries bonds
-
--- what is kept of a serial
-abbrev pub held_at : List (SerialNumber × Held) → SerialNumber → Option Held
-held_at bonds serial = lookup (is_at (serial_cmp serial)) bonds
-
--- each bond is marked with the ticket that pays it
-abbrev pub AreMarked : List (SerialNumber × Held) → List Ticket → Type 0
-AreMarked bonds tickets = (serial : SerialNumber) → IfSome (held_at bonds serial) (λ held. held.ticket ≡ ticket_of tickets serial)
 
 -- the counts are those of a batch
 abbrev pub AreCounts : Batch → DayCounts → Type 0
@@ -41,11 +31,7 @@ AreCounts batch counts = (counts.tickets ≡ batch.tickets) × (counts.bonds ≡
 -- the books that the parts in memory stand for
 abbrev pub books_of : List (ℕ × Rates) → List (SerialNumber × Held) → Option ℕ → Option ℕ → List Ticket → List Batch → PlainBooks
 books_of rates bonds day last tickets batches =
-    record { rates = rates_in rates; bonds = bonds_in bonds; day = day; last_day = last; tickets = tickets; batches = batches }
-
--- a bond as a ticket leaves it, if the ticket pays it
-abbrev pub marked : Bool → ℕ → Held → Held
-marked pays ticket held = record { bond = held.bond; ticket = if pays then Some ticket else held.ticket }
+    record { rates = rates_in rates; bonds = bonds_held bonds; day = day; last_day = last; tickets = tickets; batches = batches }
 
 -- with what is found for one more key
 abbrev pub noted : {K V : Type 0} {R : K → K → Ordering} → (K → Option V) → FinMap R V → K → FinMap R V

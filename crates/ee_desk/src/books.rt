@@ -1,4 +1,4 @@
-ghost use Rattle.std.specs.Prelude.{◌≡◌, map, Some, IfOk, IfSome, OnOk, OnErr};
+ghost use Rattle.std.specs.Prelude.{◌≡◌, map, Some, IfOk, IfSome, OnOk, OnErr, IfErr};
 ghost use Rattle.std.specs.Option.{option_map};
 ghost use Rattle.ee_acts.specs.declared.acts.Act.{Act};
 ghost use Rattle.ee_acts.specs.PlainBooks.{no_books, batch_of};
@@ -9,12 +9,14 @@ ghost use Rattle.ee_acts.specs.Effects.{effects_of};
 ghost use Rattle.ee_acts.specs.Acts.{applied, books_after, reply_to};
 ghost use Rattle.ee_acts.specs.Views.{shown_by, view_of};
 ghost use Rattle.ee_acts.specs.Queries.{ticket_numbered, batch_on, bonds_of, inventory, quote_of, shown_in_row, shown_in_sheet};
+ghost use Rattle.ee_parts.specs.Parts.{parts_of, AreUnsound};
 
 use crate::ledger::Ledger;
 use crate::{seeing, sheets};
 use ee_acts::{Act, Batch, Effects, Reply, Ticket, in_range};
 use ee_calculator::{Bond, Row, Sheet, sheet};
 use ee_decide::{View, decide};
+use ee_parts::{Parts, PartsFault, checked};
 use ee_units::{Customer, Day, Denom, IssueMonth, Month};
 use std::alloc::{AllocError, Global};
 use std::marker::Model;
@@ -52,6 +54,25 @@ impl Books {
             alloc,
             ledger: Ledger::empty(alloc),
         }
+    }
+
+    /// The books of these parts. It answers `Unsound` exactly where no sound books have them, as where
+    /// rates or bonds stand in another order.
+    pub fn from_parts(alloc: Global, parts: Parts) -> Result<Books, PartsFault>
+        ensures ok { IfOk result (λ books. parts_of books ≡ parts) }
+        ensures unsound { IfErr result (λ fault. fault ≡ PartsFault.Unsound → AreUnsound parts) }
+    {
+        let indexes = checked(alloc, &parts)?;
+        let ledger = Ledger::of_parts(parts, indexes);
+        Ok(Books { alloc, ledger })
+    }
+
+    /// A copy of the books as lists: rates in rising order of month, bonds in rising order of serial,
+    /// tickets in order of number, batches in order of day.
+    pub fn parts(&self) -> Result<Parts, AllocError>
+        ensures { IfOk result (λ parts. parts ≡ parts_of self.now) }
+    {
+        self.ledger.parts(self.alloc)
     }
 
     /// What all books are: sound, so that no serial is paid twice and each line pays the value of its

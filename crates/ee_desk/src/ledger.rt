@@ -9,16 +9,18 @@ ghost use Rattle.ee_acts.specs.Acts.{changed, applied};
 ghost use Rattle.ee_acts.specs.Seen.{held_of, open_batch};
 ghost use Rattle.ee_acts.specs.Queries.{ticket_numbered, batch_on, bonds_of};
 ghost use Rattle.ee_acts.specs.declared.changes.Change.TheVariants as change;
-ghost use Rattle.ee_desk.specs.Kept.{AreCounts, AreKeyed};
+ghost use Rattle.ee_parts.specs.Parts.{parts_of};
+ghost use Rattle.ee_parts.specs.Marks.{AreMarked};
+ghost use Rattle.ee_desk.specs.Kept.{books_of, AreCounts, AreKeyed};
 ghost use Rattle.ee_desk.specs.Added.{rate_row, bond_row, with_changes, AreNew};
 ghost use Rattle.ee_desk.specs.Applicable.{IsUnpaid, IsNextTicket, AreApplicable};
 
 use crate::additions::{add_bonds, add_rates};
-use crate::marks::mark_all;
 use crate::queries;
-use ee_acts::{Batch, Change, Held, Tables, Terms, Ticket};
+use ee_acts::{Batch, Change, Held, Rows, Tables, Terms, Ticket};
 use ee_calculator::Bond;
 use ee_decide::DayCounts;
+use ee_parts::{Indexes, Parts, copy_tickets, held_bonds, mark_all, rate_rows};
 use ee_units::{Cents, Customer, Day, IssueMonth, Serial};
 use std::alloc::{AllocError, Global};
 use std::collections::BTreeMap;
@@ -42,7 +44,8 @@ impl Model for Ledger {
     ghost use Rattle.std.specs.Coded.{codes};
     ghost use Rattle.std.specs.FinMap as finite;
     ghost use Rattle.ee_acts.specs.PlainBooks.{PlainBooks, batch_so_far};
-    ghost use Rattle.ee_desk.specs.Kept.{books_of, AreMarked, AreCounts};
+    ghost use Rattle.ee_parts.specs.Marks.{AreMarked};
+    ghost use Rattle.ee_desk.specs.Kept.{books_of, AreCounts};
 
     ghost Value = { PlainBooks };
 
@@ -229,5 +232,56 @@ impl Ledger {
         ensures { IfOk result (λ bonds. bonds.items ≡ bonds_of self.now customer) }
     {
         queries::own_bonds(alloc, &self.bonds, customer)
+    }
+}
+
+impl Ledger {
+    /// What these parts and their indexes are.
+    pub fn of_parts(parts: Parts, indexes: Indexes) -> Ledger
+        requires marked { AreMarked indexes.bonds.entries parts.tickets }
+        requires counted { AreCounts (batch_so_far parts.day parts.tickets) indexes.counts }
+        ensures { result ≡ books_of indexes.terms.entries indexes.bonds.entries parts.day parts.last_day parts.tickets parts.batches }
+    {
+        let Indexes {
+            tables,
+            terms,
+            bonds,
+            counts,
+        } = indexes;
+        let Parts {
+            day,
+            last_day,
+            tickets,
+            batches,
+            ..
+        } = parts;
+        Ledger {
+            tables,
+            rates: terms,
+            bonds,
+            day,
+            last_day,
+            tickets: tickets.into_vec(),
+            batches: batches.into_vec(),
+            counts,
+        }
+    }
+
+    /// A copy of it as lists.
+    pub fn parts(&self, alloc: Global) -> Result<Parts, AllocError>
+        ensures { IfOk result (λ parts. parts ≡ parts_of self.now) }
+    {
+        let rates = rate_rows(alloc, &self.rates)?;
+        let bonds = held_bonds(alloc, &self.bonds)?;
+        let tickets = copy_tickets(alloc, self.tickets.as_slice())?;
+        let batches = Vec::from_slice(alloc, self.batches.as_slice())?;
+        Ok(Parts {
+            rates: Rows::new(rates),
+            bonds: Rows::new(bonds),
+            day: self.day,
+            last_day: self.last_day,
+            tickets: Rows::new(tickets),
+            batches: Rows::new(batches),
+        })
     }
 }

@@ -5,7 +5,8 @@
 mod additions;
 mod books;
 mod ledger;
-mod marks;
+#[cfg(test)]
+mod parts_tests;
 mod queries;
 mod seeing;
 mod sheets;
@@ -19,3 +20,4 @@ pub use ee_acts::{
 };
 pub use ee_calculator::{Bond, Row, Sheet};
 pub use ee_decide::{DayCounts, View, ViewParts, decide};
+pub use ee_parts::{Parts, PartsFault, parts_tell};

@@ -444,6 +444,14 @@ fn unpaid_bonds_are_shown(rt: HostRuntime) -> Result<(), Fail> {
     Ok(())
 }
 
+/// The books after a closed day.
+pub fn worked_books(alloc: Global) -> Result<Books, Fail> {
+    let mut books = begun_books(alloc)?;
+    let _ = books.step(&redeem(alloc, DAY, "7", &["L1EE", "K2EE", "M3EE"])?)?;
+    let _ = books.step(&close(DAY)?)?;
+    Ok(books)
+}
+
 #[test]
 fn paid_bonds_are_on_tickets(rt: HostRuntime) -> Result<(), Fail> {
     let alloc = rt.alloc();

@@ -1,0 +1,10 @@
+pub mod Walks
+pub mod InOrder
+pub mod Entries
+pub mod PaidMarks
+pub mod Payable
+pub mod Counts
+pub mod SortedRows
+pub mod LinePays
+pub mod SoundParts
+pub mod Making

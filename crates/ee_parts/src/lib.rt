@@ -1,0 +1,18 @@
+//! The parts of a desk's books as lists, and whether they are those of sound books.
+#![tactic(auto)]
+
+mod checks;
+mod days;
+mod laws;
+mod lines;
+mod lists;
+mod marks;
+mod order;
+mod parts;
+mod register;
+
+pub use checks::{Indexes, checked};
+pub use laws::parts_tell;
+pub use lists::{copy_tickets, held_bonds, rate_rows};
+pub use marks::mark_all;
+pub use parts::{Parts, PartsFault};
