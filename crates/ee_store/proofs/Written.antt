@@ -16,7 +16,7 @@ use Rattle.ee_acts.proofs.Orders.{rising_below}
 use Rattle.ee_desk.specs.Added.{bond_row as added_bond}
 use Rattle.ee_desk.specs.Applicable.{IsRate, IsBond, IsUnpaid, AreApplicable}
 use Rattle.ee_tables.specs.Rows.{Rows, with_ticket, with_lines}
-use Rattle.ee_store.specs.Standing.{rate_rows, ticket_rows, ticket_row, paid_row, batch_row, rows_of}
+use Rattle.ee_contents.specs.Standing.{rate_rows, ticket_rows, ticket_row, paid_row, batch_row, rows_of}
 use Rattle.ee_store.specs.Written.{changed_rows, applied_rows}
 use Rattle.ee_store.proofs.Changes.{with_new_rate, with_new_bond, with_other_days, with_new_ticket, with_new_lines, with_new_marks, with_new_batch, lines_parts}
 

@@ -4,7 +4,7 @@ use Rattle.std.specs.FinMap.{insert}
 use Rattle.ee_acts.specs.declared.changes.Change.{Change}
 use Rattle.ee_acts.specs.declared.changes.Change.TheVariants as change
 use Rattle.ee_tables.specs.Rows.{Rows, BondRow, BatchRow, with_ticket, with_lines}
-use Rattle.ee_store.specs.Standing.{key_of, bond_row, ticket_row, paid_row, batch_row}
+use Rattle.ee_contents.specs.Standing.{key_of, bond_row, ticket_row, paid_row, batch_row}
 
 abbrev pub with_rate : Rows → ℕ → ℕ → Rows
 with_rate rows period rate = record rows { rates = insert rows.rates period rate }

@@ -3,8 +3,5 @@
 #![tactic(auto)]
 
 mod keys;
-mod laws;
 mod repeats;
 mod values;
-
-pub use laws::one_content;

@@ -27,9 +27,9 @@ use Rattle.ee_acts.proofs.Maps.{serials_total, exact_serials}
 use Rattle.ee_acts.proofs.RequestNumbers.{numbers_total, numbers_exact}
 use Rattle.ee_texts.proofs.Same.{one_act, one_reply}
 use Rattle.ee_tables.specs.Rows.{Rows, DeskRow, PaidRow, TicketRow, BatchRow}
-use Rattle.ee_store.specs.Standing.{rate_rows, bond_rows, bond_row, key_of, ticket_rows, ticket_row, paid_rows, paid_row, placed, batch_rows, batch_row, reply_rows, reply_row, desk_rows, rows_of, IsKept, StandFor}
-use Rattle.ee_store.proofs.Images.{get_rate, get_reply, get_bond}
-use Rattle.ee_store.proofs.Orders.{ticket_entry, ticket_entries, ticket_lines, paid_entries, batch_entry, batch_entries, rising_front}
+use Rattle.ee_contents.specs.Standing.{rate_rows, bond_rows, bond_row, key_of, ticket_rows, ticket_row, paid_rows, paid_row, placed, batch_rows, batch_row, reply_rows, reply_row, desk_rows, rows_of, IsKept, StandFor}
+use Rattle.ee_contents.proofs.Images.{get_rate, get_reply, get_bond}
+use Rattle.ee_contents.proofs.Orders.{ticket_entry, ticket_entries, ticket_lines, paid_entries, batch_entry, batch_entries, rising_front}
 
 -- what is the same in two forms is the same
 same_some : {A B : Type 0} (f g : A → B) (P : A → Type 0) → ((x y : A) → P x → P y → f x ≡ g y → x ≡ y) → (o p : Option A) → IfSome o P → IfSome p P
@@ -77,7 +77,7 @@ same_bond ts us s x y a b e = λ i. record {
   coowner = (e i).coowner;
 }
 
-keyed : (rates : FinMap nat_cmp Rates) (s : SerialNumber) (o : Option Bond) → IfSome o (IsRightBond rates s) → IfSome o (λ bond. bond.serial ≡ s)
+pub keyed : (rates : FinMap nat_cmp Rates) (s : SerialNumber) (o : Option Bond) → IfSome o (IsRightBond rates s) → IfSome o (λ bond. bond.serial ≡ s)
 keyed rates s None h = tt
 keyed rates s (Some bond) h = h.keyed
 
@@ -91,11 +91,11 @@ same_bonds one other ts us a b e = same_map serials_total exact_serials one othe
     (sym (get_bond one ts s) ∙ ap (λ m. finite.get m (key_of s)) e ∙ get_bond other us s))
 
 -- ---- tickets
-abbrev head_of : {A : Type 0} → A → List A → A
+abbrev pub head_of : {A : Type 0} → A → List A → A
 head_of x [] = x
 head_of x (y ∷ ys) = y
 
-abbrev tail_of : {A : Type 0} → List A → List A
+abbrev pub tail_of : {A : Type 0} → List A → List A
 tail_of [] = []
 tail_of (x ∷ xs) = xs
 
@@ -169,7 +169,7 @@ one_content rows one other h k =
     let lines = sym (paid_entries one.books.tickets a.numbered) ∙ ap (λ (r : Rows). entries r.paid) same ∙ paid_entries other.books.tickets b.numbered in
     let tickets = same_tickets one.books.tickets other.books.tickets heads lines in
     let closed = sym (batch_entries one.books.batches (rising_front (map day_of_batch one.books.batches) (open_days one.books.day) a.rising))
-        ∙ ap (λ (r : Rows). entries r.batches) same ∙ batch_entries other.books.batches (rising_front (map day_of_batch other.books.batches) (open_days other.books.day) b.rising) in
+    ∙ ap (λ (r : Rows). entries r.batches) same ∙ batch_entries other.books.batches (rising_front (map day_of_batch other.books.batches) (open_days other.books.day) b.rising) in
     let batches = sym (batches_back one.books.batches) ∙ ap (map batch_at) closed ∙ batches_back other.books.batches in
     let days = same_desk one.books.day one.books.last_day other.books.day other.books.last_day (ap (λ (r : Rows). r.desk) same) in
     let rates = same_rates one.books.rates other.books.rates (ap (λ (r : Rows). r.rates) same) in
