@@ -7,15 +7,11 @@ use Rattle.ee_acts.specs.PlainBooks.{PlainBooks}
 use Rattle.ee_acts.specs.Sound.{IsSound}
 use Rattle.ee_acts.specs.Repeats.{Content}
 use Rattle.ee_parts.specs.declared.parts.Parts.{Parts}
-use Rattle.ee_parts.specs.declared.parts.PartsFault.{PartsFault}
-use Rattle.ee_parts.specs.declared.parts.PartsFault.TheVariants.{Unsound, NoMemory}
 use Rattle.ee_parts.specs.Parts.{parts_of, AreUnsound}
-use Rattle.ee_contents.specs.declared.contents.ContentFault.{ContentFault}
-use Rattle.ee_contents.specs.declared.contents.ContentFault.TheVariants as content
 use Rattle.ee_contents.specs.declared.stored.Stored.{Stored}
 use Rattle.ee_contents.specs.Standing.{StandFor}
 use Rattle.ee_contents.specs.Stored.{AreInOrder, rows_in}
-use Rattle.ee_contents.specs.Contents.{PartsFit, KeepsReply, content_fault}
+use Rattle.ee_contents.specs.Contents.{PartsFit, KeepsReply}
 use Rattle.ee_contents.specs.Reading.{parts_in}
 use Rattle.ee_contents.proofs.ReadBack.{some_is}
 use Rattle.ee_contents.proofs.RowsOfBooks.{rows_of_parts, parts_in_range, parts_read, parts_are, replies_kept, content_stands}
@@ -33,14 +29,10 @@ pub not_kept : (stored : Stored) (right : Bool) → AreInOrder stored → (right
     → (content : Content) → StandFor (rows_in stored) content → ⊥
 not_kept stored right order is wrong content stands = false≢true (sym wrong ∙ is.1 (replies_kept stored content order stands))
 
-fault_is : (e : PartsFault) → content_fault e ≡ content.Unusable → e ≡ Unsound
-fault_is Unsound h = refl
-fault_is NoMemory h = absurd (cc)
-
-pub not_sound : (stored : Stored) (parts : Parts) (e : PartsFault) → AreInOrder stored → Some parts ≡ parts_in stored → (e ≡ Unsound → AreUnsound parts)
-    → content_fault e ≡ content.Unusable → (content : Content) → StandFor (rows_in stored) content → ⊥
-not_sound stored parts e order read unsound is content stands =
-    unsound (fault_is e is) content.books stands.right.sound (sym (some_is parts (parts_of content.books) (read ∙ read_as stored content order stands)))
+pub not_sound : (stored : Stored) (parts : Parts) → AreInOrder stored → Some parts ≡ parts_in stored → AreUnsound parts
+    → (content : Content) → StandFor (rows_in stored) content → ⊥
+not_sound stored parts order read unsound content stands =
+    unsound content.books stands.right.sound (sym (some_is parts (parts_of content.books) (read ∙ read_as stored content order stands)))
 
 pub founded : (stored : Stored) (parts : Parts) (books : PlainBooks) → AreInOrder stored → Some parts ≡ parts_in stored → PartsFit parts → parts_of books ≡ parts → IsSound books
     → AllByRecursion KeepsReply stored.replies.items → (content : Content) × (content.books ≡ books) × StandFor (rows_in stored) content

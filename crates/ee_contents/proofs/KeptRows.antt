@@ -1,6 +1,6 @@
 -- Rows of kept replies.
-use Rattle.std.proofs.Common.{◌≡◌, ◌↔◌, ℕ, ◌≤◌, Bool, true, false, not, List, refl, sym, ◌∙◌}
-use Rattle.std.specs.Prelude.{Some, None, string_bytes}
+use Rattle.std.proofs.Common.{◌≡◌, ◌↔◌, ℕ, ◌≤◌, Bool, true, false, not, List, refl, sym, ◌∙◌, subst}
+use Rattle.std.specs.Prelude.{Option, Some, None, string_bytes}
 use Rattle.std.proofs.lemmas.Bool.{false≢true}
 use Rattle.ee_acts.specs.declared.acts.Act.{Act}
 use Rattle.ee_acts.specs.declared.replies.Reply.{Reply}
@@ -42,3 +42,13 @@ keeps_one row a r reuse number act reply is = (
   ),
   λ k. not_true reuse (λ e. k.1.is_kept.first (sym (one_reply r k.0.reply reply.0 k.1.is_kept.reply_in_range (sym reply.1 ∙ k.1.reply)) ∙ is.0 e)),
 )
+
+-- the same, as the texts are read
+pub keeps_read : (row : StoredReply) (text other : List ℕ) (o : Option Act) (p : Option Reply) (a : Act) (r : Reply) (reuse : Bool) → (1 ≤ row.number) × (row.number ≤ 9223372036854775807)
+    → text ≡ string_bytes row.act → other ≡ string_bytes row.reply → ReadsAct text o → ReadsReply other p → o ≡ Some a → p ≡ Some r → (reuse ≡ true) ↔ (r ≡ Refused NumberReused)
+    → (not reuse ≡ true) ↔ KeepsReply row
+keeps_read row text other o p a r reuse number same alike act reply is are reused =
+    keeps_one row a r reuse number
+    (subst (λ q. ReadsAct (string_bytes row.act) q) is (subst (λ t. ReadsAct t o) same act))
+    (subst (λ q. ReadsReply (string_bytes row.reply) q) are (subst (λ t. ReadsReply t p) alike reply))
+    reused

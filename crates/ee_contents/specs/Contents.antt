@@ -12,8 +12,6 @@ use Rattle.ee_acts.specs.declared.replies.Batch.{Batch}
 use Rattle.ee_acts.specs.Seen.{held_as}
 use Rattle.ee_acts.specs.Sound.{IsDay}
 use Rattle.ee_parts.specs.declared.parts.Parts.{Parts}
-use Rattle.ee_parts.specs.declared.parts.PartsFault.{PartsFault}
-use Rattle.ee_parts.specs.declared.parts.PartsFault.TheVariants.{Unsound, NoMemory}
 use Rattle.ee_texts.specs.Texts.{act_text, reply_text}
 use Rattle.ee_texts.specs.Ranges.{RateRowFits, BondFits, TicketFits, BatchFits}
 use Rattle.ee_contents.specs.Standing.{IsKept}
@@ -25,8 +23,6 @@ use Rattle.ee_contents.specs.declared.stored.StoredLine.{StoredLine}
 use Rattle.ee_contents.specs.declared.stored.StoredBatch.{StoredBatch}
 use Rattle.ee_contents.specs.declared.stored.StoredReply.{StoredReply}
 use Rattle.ee_contents.specs.declared.stored.Stored.{Stored}
-use Rattle.ee_contents.specs.declared.contents.ContentFault.{ContentFault}
-use Rattle.ee_contents.specs.declared.contents.ContentFault.TheVariants as content
 
 abbrev pub stored_desk : Option ℕ → Option ℕ → StoredDesk
 stored_desk day last_day = record { id = 1; version = 1; day = day; last_day = last_day }
@@ -92,8 +88,3 @@ pub record IsReplyRow (row : StoredReply) (kept : Kept) : Type 0 where
 
 abbrev pub KeepsReply : StoredReply → Type 0
 KeepsReply row = (kept : Kept) × IsReplyRow row kept
-
--- rows of parts of no sound books are unusable
-abbrev pub content_fault : PartsFault → ContentFault
-content_fault Unsound = content.Unusable
-content_fault NoMemory = content.NoMemory

@@ -74,8 +74,12 @@ plain_bond_in coowner row = do
 abbrev pub marked_right : (SerialNumber → Option ℕ) → Option ℕ → Bond → Option Bond
 marked_right paid ticket bond = if option_eq nat_eq ticket (paid bond.serial) then Some bond else None
 
+-- a bond with this coowner, that stands on the ticket that pays it
+abbrev pub bond_with : (SerialNumber → Option ℕ) → Option ℕ → StoredBond → Option Bond
+bond_with paid coowner row = plain_bond_in coowner row >>= marked_right paid row.ticket
+
 abbrev pub bond_in : (SerialNumber → Option ℕ) → StoredBond → Option Bond
-bond_in paid row = optional_in customer_in row.coowner >>= λ coowner. plain_bond_in coowner row >>= marked_right paid row.ticket
+bond_in paid row = optional_in customer_in row.coowner >>= λ coowner. bond_with paid coowner row
 
 unfoldable pub line_in : StoredLine → Option Line
 line_in row = do

@@ -1,5 +1,6 @@
 ghost use Rattle.std.specs.Prelude.{◌≡◌, IfOk, IfErr, IfSome};
 ghost use Rattle.ee_acts.specs.Repeats.{Content};
+ghost use Rattle.ee_parts.specs.Parts.{parts_of, AreUnsound};
 ghost use Rattle.ee_contents.specs.Reading.{parts_in};
 ghost use Rattle.ee_contents.specs.Stored.{AreInOrder, rows_in};
 ghost use Rattle.ee_contents.specs.Standing.{StandFor};
@@ -39,20 +40,6 @@ impl From<AllocError> for ContentFault {
     }
 }
 
-impl From<PartsFault> for ContentFault {
-    ghost use Rattle.std.specs.Prelude.{◌≡◌};
-    ghost use Rattle.ee_contents.specs.Contents.{content_fault};
-
-    ghost from_gives = { λ fault e. e ≡ content_fault fault };
-
-    fn from(fault: PartsFault) -> ContentFault {
-        match fault {
-            PartsFault::Unsound => ContentFault::Unusable,
-            PartsFault::NoMemory => ContentFault::NoMemory,
-        }
-    }
-}
-
 /// The parts of books whose rows these are.
 #[tactic(auto, unfolding(crate::specs::Reading::parts_in))]
 fn parts_in(alloc: Global, stored: &Stored) -> Result<Option<Parts>, AllocError>
@@ -87,6 +74,20 @@ fn parts_in(alloc: Global, stored: &Stored) -> Result<Option<Parts>, AllocError>
     Ok(Some(parts))
 }
 
+/// The books of these parts, or `Unusable` where no sound books have them.
+fn books_of(alloc: Global, parts: Parts) -> Result<Books, ContentFault>
+    ensures ok { IfOk result (λ books. parts_of books ≡ parts) }
+    ensures unusable { IfErr result (λ fault. fault ≡ ContentFault.Unusable → AreUnsound parts) }
+{
+    match Books::from_parts(alloc, parts) {
+        Ok(books) => Ok(books),
+        Err(fault) => Err(match fault {
+            PartsFault::Unsound => ContentFault::Unusable,
+            PartsFault::NoMemory => ContentFault::NoMemory,
+        }),
+    }
+}
+
 /// The books that the rows of a store stand for, where they stand for books and kept replies. It
 /// answers `Unusable` exactly where they stand for none.
 pub fn content_of(alloc: Global, stored: &Stored) -> Result<Books, ContentFault>
@@ -100,7 +101,11 @@ pub fn content_of(alloc: Global, stored: &Stored) -> Result<Books, ContentFault>
     if !keep_replies(alloc, &stored.replies)? {
         return Err(ContentFault::Unusable);
     }
-    let books = Books::from_parts(alloc, parts)?;
-    books.known();
-    Ok(books)
+    match books_of(alloc, parts) {
+        Ok(books) => {
+            books.known();
+            Ok(books)
+        }
+        Err(fault) => Err(fault),
+    }
 }

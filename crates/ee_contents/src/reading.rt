@@ -1,8 +1,7 @@
 //! Rows of one table as the values that they stand for.
 
 ghost use Rattle.std.specs.Prelude.{◌≡◌, IfOk, option_map};
-ghost use Rattle.ee_contents.specs.Reading.{each, optional_in, day_in, customer_in, days_of, days_in, rate_in, plain_bond_in, marked_right, bond_in, batch_in, mark_at};
-ghost use Rattle.ee_units.specs.Spelling.{◌>>=◌};
+ghost use Rattle.ee_contents.specs.Reading.{each, optional_in, day_in, customer_in, days_of, days_in, rate_in, plain_bond_in, bond_with, bond_in, batch_in, mark_at};
 
 use crate::stored::{StoredBatch, StoredBond, StoredDesk, StoredRate};
 use crate::values::{customer_of, day_of, denom_of, issue_of, rate_of, serial_of};
@@ -120,12 +119,12 @@ fn mark_of(marks: &BTreeMap<Serial, u64>, bond: &Bond) -> Option<u64>
     marks.get(&bond.serial).copied()
 }
 
-fn marked_bond(
+fn bond_with(
     marks: &BTreeMap<Serial, u64>,
     coowner: Option<Customer>,
     row: &StoredBond,
 ) -> Option<Bond>
-    ensures { result ≡ (plain_bond_in coowner row.now >>= marked_right (mark_at marks.now.entries) row.now.ticket) }
+    ensures { result ≡ bond_with (mark_at marks.now.entries) coowner row.now }
 {
     let bond = plain_bond_in(coowner, row)?;
     if row.ticket == mark_of(marks, &bond) {
@@ -148,7 +147,7 @@ pub fn bonds_in(
         let Some(coowner) = optional_customer(row.coowner) else {
             return Ok(None);
         };
-        let Some(bond) = marked_bond(marks, coowner, row) else {
+        let Some(bond) = bond_with(marks, coowner, row) else {
             return Ok(None);
         };
         bonds.push(bond)?;

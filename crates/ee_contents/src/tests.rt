@@ -160,7 +160,12 @@ fn worked_rows() -> Result<(), Fail> {
     let books = content_of(alloc, &rows)?;
     let ticket = books.ticket(1)?.ok_or("ticket")?;
     assert_eq!(ticket.total.0, 519_622);
-    let cents: Vec<u64> = ticket.lines.as_slice().iter().map(|line| line.cents.0).collect(alloc)?;
+    let cents: Vec<u64> = ticket
+        .lines
+        .as_slice()
+        .iter()
+        .map(|line| line.cents.0)
+        .collect(alloc)?;
     assert_eq!(cents.as_slice(), [2588, 3834, 513_200].as_slice());
     assert_eq!(ticket.payee.number(), 7);
     let parts = books.parts()?;
@@ -199,23 +204,74 @@ fn unusable_rows() -> Result<(), Fail> {
     let (number, act, reply) = OPENED;
     let cases = [
         Told { desk: &[], ..good },
-        Told { desk: &[DESK, DESK], ..good },
-        Told { desk: &[other_version], ..good },
-        Told { desk: &[early], ..good },
-        Told { rates: &rates, ..good },
-        Told { bonds: &unmarked, ..good },
-        Told { bonds: &other_mark, ..good },
-        Told { bonds: &odd_denom, ..good },
-        Told { bonds: &odd_letter, ..good },
-        Told { tickets: &[few], ..good },
-        Told { tickets: &[], ..good },
-        Told { lines: &no_lines, ..good },
-        Told { lines: &two_places, ..good },
-        Told { lines: &other_cents, ..good },
-        Told { batches: &[batch], ..good },
-        Told { reply: (0, act, reply), ..good },
-        Told { reply: (number, reply, act), ..good },
-        Told { reply: (number, act, r#"{"code":10,"refused":"NumberReused"}"#), ..good },
+        Told {
+            desk: &[DESK, DESK],
+            ..good
+        },
+        Told {
+            desk: &[other_version],
+            ..good
+        },
+        Told {
+            desk: &[early],
+            ..good
+        },
+        Told {
+            rates: &rates,
+            ..good
+        },
+        Told {
+            bonds: &unmarked,
+            ..good
+        },
+        Told {
+            bonds: &other_mark,
+            ..good
+        },
+        Told {
+            bonds: &odd_denom,
+            ..good
+        },
+        Told {
+            bonds: &odd_letter,
+            ..good
+        },
+        Told {
+            tickets: &[few],
+            ..good
+        },
+        Told {
+            tickets: &[],
+            ..good
+        },
+        Told {
+            lines: &no_lines,
+            ..good
+        },
+        Told {
+            lines: &two_places,
+            ..good
+        },
+        Told {
+            lines: &other_cents,
+            ..good
+        },
+        Told {
+            batches: &[batch],
+            ..good
+        },
+        Told {
+            reply: (0, act, reply),
+            ..good
+        },
+        Told {
+            reply: (number, reply, act),
+            ..good
+        },
+        Told {
+            reply: (number, act, r#"{"code":10,"refused":"NumberReused"}"#),
+            ..good
+        },
     ];
     for case in cases {
         assert!(is_unusable(alloc, case)?);
