@@ -6,3 +6,4 @@ pub mod RowsOfBooks
 pub mod NotedMarks
 pub mod KeptRows
 pub mod Founded
+pub mod FoundParts
