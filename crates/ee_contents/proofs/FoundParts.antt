@@ -1,13 +1,12 @@
 -- Parts that are read table by table.
 use Rattle.std.proofs.Common.{◌≡◌, ℕ, List, refl, sym, ap, ◌∙◌}
-use Rattle.std.specs.Prelude.{Option, Some}
-use Rattle.ee_units.specs.Spelling.{SerialNumber, ◌>>=◌}
+use Rattle.std.specs.Prelude.{Some}
+use Rattle.ee_units.specs.Spelling.{SerialNumber}
 use Rattle.ee_value.specs.declared.rates.RateRow.{RateRow}
 use Rattle.ee_calculator.specs.declared.bonds.Bond.{Bond}
 use Rattle.ee_acts.specs.declared.replies.Ticket.{Ticket}
 use Rattle.ee_acts.specs.declared.replies.Batch.{Batch}
 use Rattle.ee_acts.specs.PlainBooks.{ticket_of}
-use Rattle.ee_parts.specs.declared.parts.Parts.{Parts}
 use Rattle.ee_contents.specs.declared.reading.Days.{Days}
 use Rattle.ee_contents.specs.declared.stored.Stored.{Stored}
 use Rattle.ee_contents.specs.Reading.{each, days_in, rate_in, bond_in, tickets_in, batch_in, parts_in, mark_at}

@@ -1,8 +1,7 @@
 -- Rows stand for one content at most.
-use Rattle.std.proofs.Common.{◌≡◌, ◌==◌, ℕ, suc, ◌+◌, Bool, true, false, cond, List, [], ◌∷◌, ◌++◌, map, length, arith, refl, sym, ap, ◌∙◌, subst}
-use Rattle.std.specs.Prelude.{flat_map, Option, Some, None, IfSome, is_some, ⊤}
+use Rattle.std.proofs.Common.{◌≡◌, ◌==◌, ℕ, suc, ◌+◌, cond, List, [], ◌∷◌, ◌++◌, map, length, arith, refl, sym, ap, ◌∙◌}
+use Rattle.std.specs.Prelude.{flat_map, Option, Some, None, IfSome, ⊤}
 use Rattle.std.specs.Option.{option_map, unwrap_or}
-use Rattle.std.specs.List.{AllByRecursion}
 use Rattle.std.specs.Ordering.{nat_cmp}
 use Rattle.std.specs.Cmp.{nat_cmp_total}
 use Rattle.std.specs.FinMap as finite
@@ -19,15 +18,14 @@ use Rattle.ee_acts.specs.declared.replies.Ticket.{Ticket}
 use Rattle.ee_acts.specs.declared.replies.Batch.{Batch}
 use Rattle.ee_acts.specs.Serials.{serial_cmp}
 use Rattle.ee_acts.specs.Numbers.{Number, number_cmp}
-use Rattle.ee_acts.specs.PlainBooks.{PlainBooks}
 use Rattle.ee_acts.specs.Seen.{held_as}
 use Rattle.ee_acts.specs.Sound.{IsRightBond, day_of_batch, open_days}
 use Rattle.ee_acts.specs.Repeats.{Content}
 use Rattle.ee_acts.proofs.Maps.{serials_total, exact_serials}
 use Rattle.ee_acts.proofs.RequestNumbers.{numbers_total, numbers_exact}
 use Rattle.ee_texts.proofs.Same.{one_act, one_reply}
-use Rattle.ee_tables.specs.Rows.{Rows, DeskRow, PaidRow, TicketRow, BatchRow}
-use Rattle.ee_contents.specs.Standing.{rate_rows, bond_rows, bond_row, key_of, ticket_rows, ticket_row, paid_rows, paid_row, placed, batch_rows, batch_row, reply_rows, reply_row, desk_rows, rows_of, IsKept, StandFor}
+use Rattle.ee_tables.specs.Rows.{Rows, DeskRow, PaidRow, BatchRow}
+use Rattle.ee_contents.specs.Standing.{rate_rows, bond_rows, bond_row, key_of, placed, reply_rows, reply_row, desk_rows, IsKept, StandFor}
 use Rattle.ee_contents.proofs.Images.{get_rate, get_reply, get_bond}
 use Rattle.ee_contents.proofs.Orders.{ticket_entry, ticket_entries, ticket_lines, paid_entries, batch_entry, batch_entries, rising_front}
 

@@ -1,11 +1,10 @@
 -- The rows of tickets, of their lines and of batches are in the order of their keys.
-use Rattle.std.proofs.Common.{◌≡◌, ℕ, suc, ◌+◌, ◌<◌, ◌≤◌, Bool, true, false, ◌&&◌, List, [], ◌∷◌, ◌++◌, map, length, arith, refl, sym, ap, ◌∙◌, subst, Less, Equal, Greater}
-use Rattle.std.specs.Prelude.{T, flat_map, Option, Some, None}
+use Rattle.std.proofs.Common.{◌≡◌, ℕ, suc, ◌+◌, ◌<◌, ◌≤◌, Bool, true, false, ◌&&◌, List, [], ◌∷◌, ◌++◌, map, arith, sym, subst, Less}
+use Rattle.std.specs.Prelude.{T, flat_map}
 use Rattle.std.specs.List.{AllByRecursion}
 use Rattle.std.specs.Ordering.{nat_cmp, is_lt, ordering_then}
 use Rattle.std.specs.Cmp.{nat_cmp_total, nat_cmp_is, tied_itself}
-use Rattle.std.specs.declared.cmp.Ordering.{Ordering}
-use Rattle.std.specs.FinMap.{FinMap, nat_cmp-IsAntisymmetric, entries, is_sorted}
+use Rattle.std.specs.FinMap.{nat_cmp-IsAntisymmetric, entries, is_sorted}
 use Rattle.std.specs.FinMap.Entries.{below_all}
 use Rattle.ee_acts.specs.declared.replies.Line.{Line}
 use Rattle.ee_acts.specs.declared.replies.Ticket.{Ticket}
@@ -14,7 +13,7 @@ use Rattle.ee_acts.specs.Lists.{Rising}
 use Rattle.ee_acts.specs.Sound.{NumberedFrom, day_of_batch}
 use Rattle.ee_tables.specs.Keyed.{pair_cmp}
 use Rattle.ee_tables.specs.Rows.{TicketRow, PaidRow, BatchRow}
-use Rattle.ee_contents.specs.Standing.{ticket_rows, ticket_row, paid_rows, paid_row, placed, batch_rows, batch_row}
+use Rattle.ee_contents.specs.Standing.{ticket_rows, ticket_row, paid_rows, placed, batch_rows, batch_row}
 use Rattle.ee_contents.proofs.Images.{pair_total, pair_same, sorted_entries}
 
 both : (a b : Bool) → T a → T b → T (a && b)

@@ -15,7 +15,6 @@ use Rattle.ee_calculator.specs.declared.bonds.Bond.{Bond}
 use Rattle.ee_acts.specs.declared.replies.Line.{Line}
 use Rattle.ee_acts.specs.declared.replies.Ticket.{Ticket}
 use Rattle.ee_acts.specs.declared.replies.Batch.{Batch}
-use Rattle.ee_acts.specs.Seen.{held_as}
 use Rattle.ee_acts.specs.Sound.{IsDay}
 use Rattle.ee_acts.specs.PlainBooks.{ticket_of}
 use Rattle.ee_texts.specs.Reading.{denom_with}

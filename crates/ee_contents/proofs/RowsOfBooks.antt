@@ -1,6 +1,6 @@
 -- The rows that stand for books and kept replies are those of their parts.
-use Rattle.std.proofs.Common.{◌≡◌, ℕ, ◌+◌, ◌≤◌, Bool, true, false, ◌&&◌, List, [], ◌∷◌, ◌++◌, map, length, arith, refl, sym, ap, ◌∙◌, subst}
-use Rattle.std.specs.Prelude.{T, flat_map, Option, Some, None, IfSome, string_bytes}
+use Rattle.std.proofs.Common.{◌≡◌, ℕ, ◌+◌, ◌&&◌, List, [], ◌∷◌, ◌++◌, map, refl, sym, ap, ◌∙◌, subst}
+use Rattle.std.specs.Prelude.{T, flat_map, Option, Some, None, IfSome}
 use Rattle.std.specs.List.{AllByRecursion}
 use Rattle.std.specs.Ordering.{nat_cmp, is_lt}
 use Rattle.std.specs.Cmp.{IsTotalOrder, nat_cmp_total}
@@ -9,29 +9,27 @@ use Rattle.std.specs.FinMap as finite
 use Rattle.std.specs.FinMap.{FinMap, IsAntisymmetric, nat_cmp-IsAntisymmetric, entries, is_sorted, entries_sorted, from_entries, from_sorted, entries-from_sorted, same_entries_map}
 use Rattle.std.specs.FinMap.Entries.{below_all}
 use Rattle.std.proofs.lemmas.List.{map-append}
-use Rattle.ee_units.specs.Spelling.{SerialNumber, ◌>>=◌}
+use Rattle.ee_units.specs.Spelling.{SerialNumber}
 use Rattle.ee_value.specs.declared.rates.Rates.{Rates}
-use Rattle.ee_value.specs.declared.rates.RateRow.{RateRow}
 use Rattle.ee_calculator.specs.declared.bonds.Bond.{Bond}
 use Rattle.ee_acts.specs.declared.changes.Kept.{Kept}
 use Rattle.ee_acts.specs.declared.replies.Line.{Line}
 use Rattle.ee_acts.specs.declared.replies.Ticket.{Ticket}
 use Rattle.ee_acts.specs.declared.replies.Batch.{Batch}
 use Rattle.ee_acts.specs.Serials.{serial_cmp}
-use Rattle.ee_acts.specs.Numbers.{Number, number_cmp}
+use Rattle.ee_acts.specs.Numbers.{number_cmp}
 use Rattle.ee_acts.specs.PlainBooks.{PlainBooks, ticket_of}
 use Rattle.ee_acts.specs.Seen.{held_as}
 use Rattle.ee_acts.specs.Sound.{IsSound, IsDay, IsRightRate, day_of_batch, open_days, last_of}
 use Rattle.ee_acts.specs.Repeats.{Content}
 use Rattle.ee_acts.proofs.Maps.{serials_total, exact_serials, all_map}
-use Rattle.ee_acts.proofs.RequestNumbers.{numbers_total, numbers_exact}
+use Rattle.ee_acts.proofs.RequestNumbers.{numbers_total}
 use Rattle.ee_parts.specs.declared.parts.Parts.{Parts}
 use Rattle.ee_parts.specs.Parts.{parts_of, row_of_entry}
 use Rattle.ee_parts.proofs.SortedRows.{all_entries, get_all, map_of_entries}
-use Rattle.ee_texts.specs.Ranges.{RateRowFits, BondFits, TicketFits, BatchFits}
+use Rattle.ee_texts.specs.Ranges.{RateRowFits, BondFits, BatchFits}
 use Rattle.ee_tables.specs.Keyed.{pair_cmp}
 use Rattle.ee_tables.specs.Rows.{Rows, DeskRow, BondRow, TicketRow, PaidRow, BatchRow, ReplyRow}
-use Rattle.ee_contents.specs.declared.reading.Days.{Days}
 use Rattle.ee_contents.specs.declared.stored.StoredDesk.{StoredDesk}
 use Rattle.ee_contents.specs.declared.stored.StoredRate.{StoredRate}
 use Rattle.ee_contents.specs.declared.stored.StoredBond.{StoredBond}
@@ -40,9 +38,9 @@ use Rattle.ee_contents.specs.declared.stored.StoredLine.{StoredLine}
 use Rattle.ee_contents.specs.declared.stored.StoredBatch.{StoredBatch}
 use Rattle.ee_contents.specs.declared.stored.StoredReply.{StoredReply}
 use Rattle.ee_contents.specs.declared.stored.Stored.{Stored}
-use Rattle.ee_contents.specs.Standing.{rate_rows, bond_rows, bond_row, key_of, ticket_rows, paid_rows, paid_row, placed, batch_rows, reply_rows, reply_row, desk_rows, rows_of, AreInRange, IsKept, IsRight, StandFor}
+use Rattle.ee_contents.specs.Standing.{rate_rows, bond_rows, bond_row, key_of, ticket_rows, paid_rows, paid_row, placed, batch_rows, reply_rows, reply_row, desk_rows, IsKept, IsRight, StandFor}
 use Rattle.ee_contents.specs.Stored.{desk_entry, rate_entry, bond_entry, ticket_entry, line_entry, batch_entry, reply_entry, AreInOrder, rows_in}
-use Rattle.ee_contents.specs.Contents.{stored_desk, stored_rate, stored_bond, stored_ticket, placed_lines, stored_lines, stored_batch, AreRowsOf, PartsFit, IsReplyRow, KeepsReply}
+use Rattle.ee_contents.specs.Contents.{stored_desk, stored_rate, stored_bond, stored_ticket, placed_lines, stored_lines, stored_batch, AreRowsOf, PartsFit, KeepsReply}
 use Rattle.ee_contents.specs.Reading.{each, days_in, rate_in, bond_in, tickets_in, batch_in, parts_in}
 use Rattle.ee_contents.proofs.Images.{pair_total, pair_same, sorted_entries}
 use Rattle.ee_contents.proofs.Orders as orders

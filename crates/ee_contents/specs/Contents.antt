@@ -1,5 +1,5 @@
 -- The rows of books and of kept replies.
-use Rattle.std.specs.Prelude.{◌≡◌, ◌≢◌, ℕ, ◌+◌, List, [], ◌∷◌, map, length, flat_map, Option, IfSome, string_bytes}
+use Rattle.std.specs.Prelude.{◌≡◌, ℕ, ◌+◌, List, [], ◌∷◌, map, length, flat_map, Option, IfSome, string_bytes}
 use Rattle.std.specs.List.{AllByRecursion}
 use Rattle.ee_units.specs.Denoms.{dollars}
 use Rattle.ee_value.specs.declared.rates.RateRow.{RateRow}

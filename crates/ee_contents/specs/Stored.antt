@@ -1,7 +1,7 @@
 -- The rows of the tables as entries of maps.
-use Rattle.std.specs.Prelude.{ℕ, List, map, string_bytes, T}
+use Rattle.std.specs.Prelude.{ℕ, map, string_bytes, T}
 use Rattle.std.specs.Ordering.{nat_cmp}
-use Rattle.std.specs.FinMap.{FinMap, from_sorted, is_sorted}
+use Rattle.std.specs.FinMap.{from_sorted, is_sorted}
 use Rattle.ee_tables.specs.Keyed.{pair_cmp}
 use Rattle.ee_tables.specs.Rows.{Rows, DeskRow, BondRow, TicketRow, PaidRow, BatchRow, ReplyRow}
 use Rattle.ee_contents.specs.declared.stored.StoredDesk.{StoredDesk}

@@ -136,13 +136,14 @@ before_next n place (e ∷ es) row h = ((λ is. let low = h.0 is in omega (arith
 
 before_apart : (n place : ℕ) (es : List ((ℕ × ℕ) × PaidRow)) → AreBefore n place es → AllByRecursion (λ e. eq_by_cmp pair_cmp (n, place) e.0 ≡ false) es
 before_apart n place [] h = tt
-before_apart n place (e ∷ es) h =
-    (false_from_ne_true (eq_by_cmp pair_cmp (n, place) e.0) (λ same.
-        let is = same_key pair_total pair_same (λ (_ : ℕ × ℕ). Some place) (n, place) e.0 same in
-        let low = h.0 (sym (ap (λ k. k.0) is)) in
-        let at = ap (λ k. k.1) is in
-        absurd (omega (arith, low, at))),
-    before_apart n place es h.1)
+before_apart n place (e ∷ es) h = (
+  false_from_ne_true (eq_by_cmp pair_cmp (n, place) e.0) (λ same.
+      let is = same_key pair_total pair_same (λ (_ : ℕ × ℕ). Some place) (n, place) e.0 same in
+      let low = h.0 (sym (ap (λ k. k.0) is)) in
+      let at = ap (λ k. k.1) is in
+      absurd (omega (arith, low, at))),
+  before_apart n place es h.1,
+)
 
 pub paid_with : FinMap pair_cmp PaidRow → ℕ → ℕ → List Line → FinMap pair_cmp PaidRow
 paid_with paid n place [] = paid

@@ -15,12 +15,7 @@ use std::alloc::Global;
 
 /// The reply to a number that comes again, by the kept texts of its act and its reply, and by the text of
 /// the act that is asked now: the kept reply where the acts are the same, and else `NumberReused`.
-pub fn reply_again(
-    alloc: Global,
-    act: &str,
-    reply: &str,
-    asked: &str,
-) -> Result<Reply, Unserved>
+pub fn reply_again(alloc: Global, act: &str, reply: &str, asked: &str) -> Result<Reply, Unserved>
     ensures { IfOk result (λ told. (number : Number) (kept : Kept) (again : Act) → IsKept number kept → ActFits again
         → act.now ≡ act_text kept.act → reply.now ≡ reply_text kept.reply → asked.now ≡ act_text again
         → told ≡ reply_again kept.act kept.reply again) }

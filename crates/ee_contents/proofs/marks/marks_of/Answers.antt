@@ -1,4 +1,4 @@
-use Rattle.std.proofs.Common.{◌≡◌, Some, None, cond, ◌∙◌}
+use Rattle.std.proofs.Common.{Some, None, cond, ◌∙◌}
 use Rattle.std.specs.Option.{option_or}
 use Rattle.std.specs.List.{list_any}
 use Rattle.ee_acts.specs.Serials.{same_serial}
