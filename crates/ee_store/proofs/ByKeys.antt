@@ -13,11 +13,11 @@ use Rattle.ee_acts.specs.Seen.{held_as, held_of}
 use Rattle.ee_acts.specs.Views.{picked, entry_of}
 use Rattle.ee_acts.specs.Sound.{IsRightBond}
 use Rattle.ee_acts.specs.Repeats.{Content}
-use Rattle.ee_store.specs.Standing.{rows_of, bond_row, key_of, IsRight}
+use Rattle.ee_contents.specs.Standing.{rows_of, bond_row, key_of, IsRight}
 use Rattle.ee_store.specs.Found.{with_found}
 use Rattle.ee_value.specs.declared.rates.Rates.{Rates}
-use Rattle.ee_store.proofs.Images.{get_bond, get_rate}
-use Rattle.ee_store.proofs.OneContent.{same_denom}
+use Rattle.ee_contents.proofs.Images.{get_bond, get_rate}
+use Rattle.ee_contents.proofs.OneContent.{same_denom}
 
 -- one more key of those picked
 found_case : {K V : Type 0} {R : K → K → Ordering} (k : K) (v : Option V) (es : List (K × V))

@@ -27,9 +27,9 @@ use Rattle.ee_acts.proofs.Maps.{serials_total, exact_serials, serials_tied, seri
 use Rattle.ee_acts.proofs.RequestNumbers.{numbers_total}
 use Rattle.ee_tables.specs.Keyed.{pair_cmp}
 use Rattle.ee_tables.specs.Rows.{Rows, BondRow, PaidRow, DeskRow, with_lines, marked_as}
-use Rattle.ee_store.specs.Standing.{rate_rows, bond_rows, bond_row, key_of, ticket_rows, ticket_row, paid_rows, paid_row, placed, batch_rows, batch_row, reply_rows, reply_row, desk_rows}
-use Rattle.ee_store.proofs.Images.{pair_total, pair_same, get_rate, get_reply, get_bond}
-use Rattle.ee_store.proofs.Orders.{ticket_entry, ticket_lines, batch_entry}
+use Rattle.ee_contents.specs.Standing.{rate_rows, bond_rows, bond_row, key_of, ticket_rows, ticket_row, paid_rows, paid_row, placed, batch_rows, batch_row, reply_rows, reply_row, desk_rows}
+use Rattle.ee_contents.proofs.Images.{pair_total, pair_same, get_rate, get_reply, get_bond}
+use Rattle.ee_contents.proofs.Orders.{ticket_entry, ticket_lines, batch_entry}
 
 -- ---- rates
 rate_case : (b : Bool) (r : Rates) (o : Option Rates) → option_map (λ (r : Rates). r.fixed) (cond b (Some r) o) ≡ cond b (Some r.fixed) (option_map (λ r. r.fixed) o)

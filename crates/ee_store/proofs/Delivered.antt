@@ -35,7 +35,7 @@ use Rattle.ee_acts.proofs.Soundness.{act_sound}
 use Rattle.ee_desk.proofs.Deciding.{applicable}
 use Rattle.ee_texts.specs.Ranges.{ActFits, ReplyFits, RateRowFits, BondFits, TicketFits, BatchFits}
 use Rattle.ee_tables.specs.Rows.{with_reply}
-use Rattle.ee_store.specs.Standing.{rows_of, reply_row, AreInRange, IsKept, IsRight}
+use Rattle.ee_contents.specs.Standing.{rows_of, reply_row, AreInRange, IsKept, IsRight}
 use Rattle.ee_store.specs.Written.{applied_rows}
 use Rattle.ee_store.proofs.Changes.{with_new_reply}
 use Rattle.ee_store.proofs.Written.{with_books, written}

@@ -1,6 +1,3 @@
-pub mod Images
-pub mod Orders
-pub mod OneContent
 pub mod Changes
 pub mod Written
 pub mod NeverReused

@@ -18,10 +18,10 @@ use Rattle.ee_texts.specs.Ranges.{ActFits, ReplyFits}
 use Rattle.ee_texts.specs.Texts.{act_text, reply_text}
 use Rattle.ee_tables.specs.Rows.{ReplyRow, Sees, with_reply}
 use Rattle.ee_tables.proofs.KeepLemmas.{unchanged_sees}
-use Rattle.ee_store.specs.Standing.{rows_of, reply_row, IsRight, IsKept}
+use Rattle.ee_contents.specs.Standing.{rows_of, reply_row, IsRight, IsKept}
 use Rattle.ee_store.specs.Written.{applied_rows}
 use Rattle.ee_store.specs.Serving.{SeesContent, IsDecided, IsServed}
-use Rattle.ee_store.proofs.Images.{get_reply}
+use Rattle.ee_contents.proofs.Images.{get_reply}
 use Rattle.ee_store.proofs.Again.{IsAgain}
 use Rattle.ee_store.proofs.Delivered.{rows_after, right_after}
 

@@ -10,7 +10,7 @@ use Rattle.ee_acts.specs.Contents.{content_after}
 use Rattle.ee_acts.proofs.Repeats.{one_known}
 use Rattle.ee_tables.specs.Rows.{IsInside, Holds}
 use Rattle.ee_tables.proofs.TransactionLemmas.{begun, begun_inside, begun_sees, still_has, committed_has}
-use Rattle.ee_store.specs.Standing.{rows_of}
+use Rattle.ee_contents.specs.Standing.{rows_of}
 use Rattle.ee_store.specs.Serving.{StandsFor, HasContent, SeesContent}
 
 -- a number that comes again leaves the content

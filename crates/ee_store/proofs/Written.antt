@@ -27,9 +27,9 @@ use Rattle.ee_desk.specs.Added as added
 use Rattle.ee_desk.specs.Added.{AreNew}
 use Rattle.ee_desk.specs.Applicable.{IsRate, IsBond, IsUnpaid, AreApplicable}
 use Rattle.ee_tables.specs.Rows.{Rows, DeskRow, insert_new, day_set, with_batch, with_ticket}
-use Rattle.ee_store.specs.Standing.{rate_rows, bond_rows, bond_row, key_of, ticket_row, batch_row, desk_rows, rows_of}
+use Rattle.ee_contents.specs.Standing.{rate_rows, bond_rows, bond_row, key_of, ticket_row, batch_row, desk_rows, rows_of}
 use Rattle.ee_store.specs.Written.{applied_rows}
-use Rattle.ee_store.proofs.Images.{get_rate, get_bond, get_desk}
+use Rattle.ee_contents.proofs.Images.{get_rate, get_bond, get_desk}
 use Rattle.ee_store.proofs.Changes.{with_new_rate, with_new_bond, with_other_days, with_new_ticket, with_new_lines, with_new_marks, with_new_batch, lines_parts}
 
 abbrev pub with_books : Content → PlainBooks → Content

@@ -1,4 +1,3 @@
-pub mod Standing
 pub mod Written
 pub mod Found
 pub mod Serving

@@ -18,7 +18,7 @@ use Rattle.ee_acts.specs.Answers.{answer}
 use Rattle.ee_laws.specs.Events.{World}
 use Rattle.ee_laws.specs.Ties.{Leaves}
 use Rattle.ee_tables.specs.Rows.{Rows, Holds, Sees, Has, IsInside}
-use Rattle.ee_store.specs.Standing.{rows_of, IsRight}
+use Rattle.ee_contents.specs.Standing.{rows_of, IsRight}
 
 -- what the trees of a store stand for
 pub record StandsFor (db : Trees) (content : Content) : Type 0 where

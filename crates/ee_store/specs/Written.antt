@@ -3,7 +3,7 @@ use Rattle.std.specs.Prelude.{ℕ, List, [], ◌∷◌, map, Option, Some, None}
 use Rattle.ee_acts.specs.declared.changes.Change.{Change}
 use Rattle.ee_acts.specs.declared.changes.Change.TheVariants as change
 use Rattle.ee_tables.specs.Rows.{Rows, with_rate, with_bond, with_day, with_batch, with_ticket, with_lines}
-use Rattle.ee_store.specs.Standing.{key_of, bond_row, ticket_row, paid_row, batch_row}
+use Rattle.ee_contents.specs.Standing.{key_of, bond_row, ticket_row, paid_row, batch_row}
 
 -- the rows after one change, where this is the last closed day
 abbrev pub changed_rows : Option ℕ → Rows → Change → Rows

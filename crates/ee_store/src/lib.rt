@@ -7,7 +7,6 @@ mod delivering;
 mod failures;
 mod keeper;
 mod keys;
-mod laws;
 mod looking;
 mod repeats;
 mod seeing;
@@ -16,5 +15,5 @@ mod terms;
 mod values;
 mod writing;
 
+pub use ee_contents::one_content;
 pub use keeper::SqlKeeper;
-pub use laws::one_content;

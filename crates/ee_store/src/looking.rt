@@ -8,7 +8,7 @@ ghost use Rattle.ee_acts.specs.Seen.{held_of};
 ghost use Rattle.ee_acts.specs.Views.{picked};
 ghost use Rattle.ee_tables.specs.AsRows.{row_of_bond};
 ghost use Rattle.ee_tables.specs.Statements.{StaysOpen, StaysInside, CommitsNothing, LeavesNoMore};
-ghost use Rattle.ee_store.specs.Standing.{bond_row};
+ghost use Rattle.ee_contents.specs.Standing.{bond_row};
 ghost use Rattle.ee_store.specs.Found.{bonds_found, with_found};
 ghost use Rattle.ee_store.specs.Serving.{FindsIn, LeavesRows};
 

@@ -7,7 +7,7 @@ ghost use Rattle.ee_acts.specs.Numbers.{Number};
 ghost use Rattle.ee_acts.specs.Answers.{reply_again};
 ghost use Rattle.ee_texts.specs.Ranges.{ActFits};
 ghost use Rattle.ee_texts.specs.Texts.{act_text, reply_text};
-ghost use Rattle.ee_store.specs.Standing.{IsKept};
+ghost use Rattle.ee_contents.specs.Standing.{IsKept};
 
 use crate::failures::Unfinished;
 use ee_acts::{Refusal, Reply};

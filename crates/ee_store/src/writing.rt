@@ -5,7 +5,7 @@ ghost use Rattle.sqlite.specs.Held.{state};
 ghost use Rattle.ee_tables.specs.AsRows.{Fits, FitsLine, FitsTicket, FitsBatch, FitsUnpaid, row_of_line, row_of_ticket, row_of_batch, key_of_unpaid, row_of_unpaid};
 ghost use Rattle.ee_tables.specs.Rows.{with_ticket, with_lines};
 ghost use Rattle.ee_tables.specs.Statements.{LeavesOpen, StaysOpen, StaysInside, CommitsNothing, LeavesNoMore, Makes};
-ghost use Rattle.ee_store.specs.Standing as standing;
+ghost use Rattle.ee_contents.specs.Standing as standing;
 ghost use Rattle.ee_store.specs.Written.{changed_rows, applied_rows};
 
 use crate::failures::Unfinished;

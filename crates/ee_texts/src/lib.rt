@@ -17,6 +17,7 @@ mod values;
 pub use act_reading::read_act;
 pub use acts::canonical;
 pub use laws::texts_law;
+pub use ranges::{batch_fits, bonds_fit, rate_rows_fit, ticket_fits};
 pub use replies::reply_text;
 pub use reply_reading::read_reply;
 

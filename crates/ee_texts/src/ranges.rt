@@ -45,7 +45,8 @@ fn rate_row_fits(row: &RateRow)
     let _rate = row.rates.rate_in(0);
 }
 
-fn rate_rows_fit(rows: &[RateRow])
+/// Rates are in range, by their types.
+pub fn rate_rows_fit(rows: &[RateRow])
     ensures { AllByRecursion RateRowFits rows.now }
 {
     for row in rows {
@@ -62,7 +63,8 @@ fn bond_fits(bond: &Bond)
     coowner_fits(bond.coowner);
 }
 
-fn bonds_fit(bonds: &[Bond])
+/// Bonds are in range, by their types.
+pub fn bonds_fit(bonds: &[Bond])
     ensures { AllByRecursion BondFits bonds.now }
 {
     for bond in bonds {
@@ -113,7 +115,8 @@ fn lines_fit(lines: &[Line])
     }
 }
 
-fn ticket_fits(ticket: &Ticket)
+/// A ticket is in range, by its types.
+pub fn ticket_fits(ticket: &Ticket)
     ensures { TicketFits ticket.now }
 {
     let _number = ticket.ticket;
@@ -123,7 +126,8 @@ fn ticket_fits(ticket: &Ticket)
     let _total = ticket.total.0;
 }
 
-fn batch_fits(batch: Batch)
+/// A batch is in range, by its types.
+pub fn batch_fits(batch: Batch)
     ensures { BatchFits batch }
 {
     day_fits(batch.day);

@@ -8,7 +8,7 @@ use Rattle.ee_tables.specs.declared.records.TicketSum.{TicketSum}
 use Rattle.ee_tables.specs.AsRows.{sum_of}
 use Rattle.ee_tables.specs.Rows.{tickets_on}
 use Rattle.ee_tables.proofs.KeepLemmas.{IfOk_then, unchanged_sees}
-use Rattle.ee_store.specs.Standing.{rows_of}
+use Rattle.ee_contents.specs.Standing.{rows_of}
 use Rattle.ee_store.proofs.ByKeys.{always}
 use Rattle.ee_store.proofs.DaySums.{sums_on, sums_length, sums_bonds, sums_total}
 use Rattle.ee_store.proofs.counting.day_in.Goals as goal

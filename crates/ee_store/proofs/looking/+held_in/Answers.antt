@@ -4,7 +4,7 @@ use Rattle.ee_acts.specs.Serials.{serial_cmp}
 use Rattle.ee_acts.specs.Seen.{held_of}
 use Rattle.ee_acts.specs.Views.{picked}
 use Rattle.ee_tables.proofs.KeepLemmas.{clean_before}
-use Rattle.ee_store.specs.Standing.{rows_of}
+use Rattle.ee_contents.specs.Standing.{rows_of}
 use Rattle.ee_store.specs.Serving.{SeesContent}
 use Rattle.ee_store.specs.Found.{with_found}
 use Rattle.ee_store.proofs.ByKeys.{picked_cons}

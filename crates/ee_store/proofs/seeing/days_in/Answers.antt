@@ -1,8 +1,8 @@
 use Rattle.std.proofs.Common.{◌∙◌}
 use Rattle.sqlite.specs.Held.{state}
 use Rattle.ee_tables.proofs.KeepLemmas.{IfOk_then, unchanged_sees}
-use Rattle.ee_store.specs.Standing.{rows_of}
-use Rattle.ee_store.proofs.Images.{get_desk}
+use Rattle.ee_contents.specs.Standing.{rows_of}
+use Rattle.ee_contents.proofs.Images.{get_desk}
 use Rattle.ee_store.proofs.ByKeys.{always}
 use Rattle.ee_store.proofs.seeing.days_in.Goals as goal
 

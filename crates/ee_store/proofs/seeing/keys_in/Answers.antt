@@ -4,7 +4,7 @@ use Rattle.sqlite.specs.Held.{state}
 use Rattle.ee_acts.specs.Seen.{held_of}
 use Rattle.ee_acts.specs.Views.{picked, serials_of}
 use Rattle.ee_tables.proofs.KeepLemmas.{clean_before}
-use Rattle.ee_store.specs.Standing.{rows_of}
+use Rattle.ee_contents.specs.Standing.{rows_of}
 use Rattle.ee_store.specs.Serving.{SeesContent}
 use Rattle.ee_store.proofs.seeing.keys_in.Goals as goal
 

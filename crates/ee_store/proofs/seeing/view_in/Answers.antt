@@ -1,7 +1,7 @@
 use Rattle.std.proofs.Common.{◌∙◌}
 use Rattle.sqlite.specs.Held.{state}
 use Rattle.ee_tables.proofs.KeepLemmas.{IfOk_then, clean_before}
-use Rattle.ee_store.specs.Standing.{rows_of}
+use Rattle.ee_contents.specs.Standing.{rows_of}
 use Rattle.ee_store.specs.Serving.{SeesContent}
 use Rattle.ee_store.proofs.ByKeys.{always}
 use Rattle.ee_store.proofs.seeing.view_in.Goals as goal

@@ -2,7 +2,7 @@ use Rattle.std.proofs.Common.{ap, ◌∙◌}
 use Rattle.std.specs.FinMap as finite
 use Rattle.sqlite.specs.Held.{state}
 use Rattle.ee_tables.proofs.KeepLemmas.{IfOk_then, unchanged_sees}
-use Rattle.ee_store.specs.Standing.{rows_of}
+use Rattle.ee_contents.specs.Standing.{rows_of}
 use Rattle.ee_store.proofs.ByKeys.{rates_found, always}
 use Rattle.ee_store.proofs.terms.find_terms.Goals as goal
 

@@ -3,7 +3,7 @@
 ghost use Rattle.std.specs.Prelude.{◌≡◌};
 ghost use Rattle.ee_acts.specs.Repeats.{Content};
 ghost use Rattle.ee_tables.specs.Rows.{Rows};
-ghost use Rattle.ee_store.specs.Standing.{StandFor};
+ghost use Rattle.ee_contents.specs.Standing.{StandFor};
 
 /// Rows stand for one content at most: the same books, and the same act and reply under each number.
 pub const fn one_content()

@@ -13,8 +13,8 @@ use Rattle.ee_acts.specs.Lists.{Rising}
 use Rattle.ee_acts.specs.Sound.{NumberedFrom, day_of_batch}
 use Rattle.ee_tables.specs.Keyed.{pair_cmp}
 use Rattle.ee_tables.specs.Rows.{TicketRow, PaidRow, BatchRow}
-use Rattle.ee_store.specs.Standing.{ticket_rows, ticket_row, paid_rows, placed, batch_rows, batch_row}
-use Rattle.ee_store.proofs.Images.{pair_total, pair_same, sorted_entries}
+use Rattle.ee_contents.specs.Standing.{ticket_rows, ticket_row, paid_rows, placed, batch_rows, batch_row}
+use Rattle.ee_contents.proofs.Images.{pair_total, pair_same, sorted_entries}
 
 both : (a b : Bool) → T a → T b → T (a && b)
 both true b p q = q

@@ -19,7 +19,7 @@ use Rattle.ee_acts.specs.Seen.{held_as}
 use Rattle.ee_acts.proofs.Maps.{serials_total, exact_serials, same_key}
 use Rattle.ee_acts.proofs.RequestNumbers.{numbers_total}
 use Rattle.ee_tables.specs.Keyed.{pair_cmp}
-use Rattle.ee_store.specs.Standing.{desk_rows, rate_rows, bond_rows, bond_row, key_of, reply_rows, reply_row}
+use Rattle.ee_contents.specs.Standing.{desk_rows, rate_rows, bond_rows, bond_row, key_of, reply_rows, reply_row}
 
 pub pair_total : IsTotalOrder pair_cmp
 pair_total = then_total (on_total (λ (p : ℕ × ℕ). p.0) nat_cmp_total) (on_total (λ (p : ℕ × ℕ). p.1) nat_cmp_total)

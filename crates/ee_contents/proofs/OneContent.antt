@@ -5,7 +5,7 @@ use Rattle.std.specs.Option.{option_map, unwrap_or}
 use Rattle.std.specs.Ordering.{nat_cmp}
 use Rattle.std.specs.Cmp.{nat_cmp_total}
 use Rattle.std.specs.FinMap as finite
-use Rattle.std.specs.FinMap.{FinMap, nat_cmp-IsAntisymmetric, entries, same_map}
+use Rattle.std.specs.FinMap.{FinMap, nat_cmp-IsAntisymmetric, entries, get-from_entries, same_map}
 use Rattle.ee_units.specs.Spelling.{SerialNumber}
 use Rattle.ee_units.specs.Denoms.{dollars}
 use Rattle.ee_units.specs.declared.denoms.Denom.{Denom}
@@ -25,9 +25,9 @@ use Rattle.ee_acts.proofs.Maps.{serials_total, exact_serials}
 use Rattle.ee_acts.proofs.RequestNumbers.{numbers_total, numbers_exact}
 use Rattle.ee_texts.proofs.Same.{one_act, one_reply}
 use Rattle.ee_tables.specs.Rows.{Rows, DeskRow, PaidRow, BatchRow}
-use Rattle.ee_store.specs.Standing.{rate_rows, bond_rows, bond_row, key_of, placed, reply_rows, reply_row, desk_rows, IsKept, StandFor}
-use Rattle.ee_store.proofs.Images.{get_rate, get_reply, get_bond, get_desk}
-use Rattle.ee_store.proofs.Orders.{ticket_entry, ticket_entries, ticket_lines, paid_entries, batch_entry, batch_entries, rising_front}
+use Rattle.ee_contents.specs.Standing.{rate_rows, bond_rows, bond_row, key_of, placed, reply_rows, reply_row, desk_rows, IsKept, StandFor}
+use Rattle.ee_contents.proofs.Images.{get_rate, get_reply, get_bond}
+use Rattle.ee_contents.proofs.Orders.{ticket_entry, ticket_entries, ticket_lines, paid_entries, batch_entry, batch_entries, rising_front}
 
 -- what is the same in two forms is the same
 same_some : {A B : Type 0} (f g : A → B) (P : A → Type 0) → ((x y : A) → P x → P y → f x ≡ g y → x ≡ y) → (o p : Option A) → IfSome o P → IfSome p P
@@ -75,7 +75,7 @@ same_bond ts us s x y a b e = λ i. record {
   coowner = (e i).coowner;
 }
 
-keyed : (rates : FinMap nat_cmp Rates) (s : SerialNumber) (o : Option Bond) → IfSome o (IsRightBond rates s) → IfSome o (λ bond. bond.serial ≡ s)
+pub keyed : (rates : FinMap nat_cmp Rates) (s : SerialNumber) (o : Option Bond) → IfSome o (IsRightBond rates s) → IfSome o (λ bond. bond.serial ≡ s)
 keyed rates s None h = tt
 keyed rates s (Some bond) h = h.keyed
 
@@ -89,11 +89,11 @@ same_bonds one other ts us a b e = same_map serials_total exact_serials one othe
     (sym (get_bond one ts s) ∙ ap (λ m. finite.get m (key_of s)) e ∙ get_bond other us s))
 
 -- ---- tickets
-abbrev head_of : {A : Type 0} → A → List A → A
+abbrev pub head_of : {A : Type 0} → A → List A → A
 head_of x [] = x
 head_of x (y ∷ ys) = y
 
-abbrev tail_of : {A : Type 0} → List A → List A
+abbrev pub tail_of : {A : Type 0} → List A → List A
 tail_of [] = []
 tail_of (x ∷ xs) = xs
 
@@ -149,6 +149,9 @@ same_kept one other a b e = same_map numbers_total numbers_exact one other (λ n
     (sym (get_reply one n) ∙ ap (λ m. finite.get m n) e ∙ get_reply other n))
 
 -- ---- days
+get_desk : (day last_day : Option ℕ) → finite.get (desk_rows day last_day) 1 ≡ Some (record { version = 1; day = day; last_day = last_day })
+get_desk day last_day = get-from_entries nat_cmp_total ((1, record { version = 1; day = day; last_day = last_day }) ∷ []) 1
+
 same_desk : (day last_day other_day other_last : Option ℕ) → desk_rows day last_day ≡ desk_rows other_day other_last → (day ≡ other_day) × (last_day ≡ other_last)
 same_desk day last_day other_day other_last e =
     let row : DeskRow = record { version = 1; day = day; last_day = last_day } in

@@ -1,0 +1,4 @@
+pub mod Standing
+pub mod Stored
+pub mod Reading
+pub mod Contents
