@@ -1,5 +1,5 @@
-//! Rows of a day at the counter, and rows that stand for nothing. The expected values are those of
-//! the worked rows: a $50 bond of 2010-11 at 3.50%, a $75 bond of 2010-10 and a $10,000 bond of
+//! Rows of a day at the counter, and rows that stand for nothing. The expected values are worked by hand:
+//! a $50 bond of 2010-11 at 3.50%, a $75 bond of 2010-10 and a $10,000 bond of
 //! 2011-02, paid in 2012-02.
 
 use crate::{
