@@ -17,6 +17,3 @@ pub use stored::{
     Stored, StoredBatch, StoredBond, StoredDesk, StoredLine, StoredRate, StoredReply, StoredTicket,
 };
 pub use values::{customer_of, day_of, denom_of, issue_of, rate_of, serial_of};
-
-#[cfg(test)]
-mod tests;

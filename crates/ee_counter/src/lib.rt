@@ -7,8 +7,6 @@ mod files;
 mod laws;
 mod requests;
 mod soundness;
-#[cfg(test)]
-mod tests;
 
 pub use answering::answer_message;
 pub use connections::{Ended, MOST_MESSAGES, Why, serve};

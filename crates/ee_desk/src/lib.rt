@@ -5,8 +5,6 @@
 mod additions;
 mod books;
 mod ledger;
-#[cfg(test)]
-mod parts_tests;
 mod queries;
 mod seeing;
 mod sheets;

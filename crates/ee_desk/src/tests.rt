@@ -1,12 +1,8 @@
-use crate::{
-    Act, Books, Effects, Held, Line, RateRow, Refusal, Reply, Rows, Sheet, Tables, Ticket, View,
-    ViewParts, decide,
-};
+use crate::{Act, Books, Line, RateRow, Refusal, Reply, Rows, Sheet, Ticket};
 use ee_calculator::Bond;
-use ee_units::{Cents, Serial, read_serial};
+use ee_units::{Serial, read_serial};
 use ee_value::Rates;
 use std::alloc::Global;
-use std::collections::BTreeMap;
 use std::fmt::Write;
 use std::test::Fail;
 
@@ -448,14 +444,6 @@ fn unpaid_bonds_are_shown(rt: HostRuntime) -> Result<(), Fail> {
     Ok(())
 }
 
-/// The books after a closed day.
-pub fn worked_books(alloc: Global) -> Result<Books, Fail> {
-    let mut books = begun_books(alloc)?;
-    let _ = books.step(&redeem(alloc, DAY, "7", &["L1EE", "K2EE", "M3EE"])?)?;
-    let _ = books.step(&close(DAY)?)?;
-    Ok(books)
-}
-
 #[test]
 fn paid_bonds_are_on_tickets(rt: HostRuntime) -> Result<(), Fail> {
     let alloc = rt.alloc();
@@ -473,70 +461,5 @@ fn paid_bonds_are_on_tickets(rt: HostRuntime) -> Result<(), Fail> {
     }
     let text = inventory_told(alloc, &books, "7")?;
     assert_eq!(rt; text.as_str(), NO_BONDS);
-    Ok(())
-}
-
-/// What a ticket for two bonds sees, after that many tickets.
-fn view_parts(alloc: Global, tables: &mut Tables, tickets: u64) -> Result<ViewParts, Fail> {
-    let mut rates = BTreeMap::new(alloc);
-    for (from, fixed) in [("2010-05", "2.00"), ("2010-11", "3.50")] {
-        let row = rate(from, fixed).ok_or("rate")?;
-        let terms = tables.add(alloc, row.rates).ok().ok_or("table")?;
-        rates.insert(row.from, terms)?;
-    }
-    let mut bonds = BTreeMap::new(alloc);
-    for row in [
-        ("L1EE", "50", "2010-11", "7", ""),
-        ("K2EE", "75", "2010-10", "7", "8"),
-    ] {
-        let bond = bond(&row).ok_or("bond")?;
-        bonds.insert(bond.serial, Held { bond, ticket: None })?;
-    }
-    Ok(ViewParts {
-        rates,
-        bonds,
-        day: DAY.parse().ok(),
-        last_day: None,
-        tickets,
-        day_tickets: 0,
-        day_bonds: 0,
-        day_total: Cents(0),
-    })
-}
-
-#[test]
-fn a_view_of_parts_decides(rt: HostRuntime) -> Result<(), Fail> {
-    let alloc = rt.alloc();
-    let act = redeem(alloc, DAY, "7", &["L1EE", "K2EE"])?;
-    let mut tables = Tables::new(alloc);
-    for (before, number) in [(0, 1), (71_199_999, 71_200_000), (71_200_000, 71_200_001)] {
-        let view = View::from_parts(view_parts(alloc, &mut tables, before)?).ok_or("view")?;
-        let Effects { reply, .. } = decide(alloc, &view, &act)?;
-        let wanted = format!(in alloc;
-            "Ticket {number} of 2012-02-06 to 7: L1EE 25.88 K2EE 38.34 = 64.22"
-        )?;
-        assert_eq!(rt; told(alloc, &reply)?.as_str(), wanted.as_str());
-    }
-    let over = View::from_parts(view_parts(alloc, &mut tables, 71_200_001)?);
-    assert!(rt; over.is_none());
-    Ok(())
-}
-
-#[test]
-fn one_table_is_kept_for_equal_rates(rt: HostRuntime) -> Result<(), Fail> {
-    let alloc = rt.alloc();
-    let low = rate("2010-05", "2.00").ok_or("rate")?.rates;
-    let high = rate("2010-11", "3.50").ok_or("rate")?.rates;
-    let mut tables = Tables::new(alloc);
-    assert!(rt; tables.terms(high)?.is_none());
-    let made = tables.add(alloc, high).ok().ok_or("table")?;
-    let again = tables.add(alloc, high).ok().ok_or("table")?;
-    let kept = tables.keep(&made)?;
-    let shared = tables.terms(high)?.ok_or("terms")?;
-    for terms in [&made, &again, &kept, &shared] {
-        assert_eq!(rt; terms.rates(), high);
-        assert_eq!(rt; *terms, made);
-    }
-    assert!(rt; tables.terms(low)?.is_none());
     Ok(())
 }

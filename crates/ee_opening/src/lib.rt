@@ -12,6 +12,3 @@ pub use entries::{
 };
 pub use making::{OpenFault, is_blank, make_tables};
 pub use whole::{AllRows, read_all};
-
-#[cfg(test)]
-mod tests;
