@@ -4,8 +4,6 @@
 mod commands;
 mod lines;
 mod rows;
-#[cfg(test)]
-mod tests;
 mod words;
 
 pub use commands::{Command, CommandFault, FileKind, read_command};
