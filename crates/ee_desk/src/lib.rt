@@ -8,8 +8,6 @@ mod ledger;
 mod queries;
 mod seeing;
 mod sheets;
-#[cfg(test)]
-mod tests;
 
 pub use books::Books;
 pub use ee_acts::{
