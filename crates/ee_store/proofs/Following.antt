@@ -9,7 +9,7 @@ use Rattle.ee_acts.specs.Repeats.{Content}
 use Rattle.ee_acts.specs.Contents.{content_after}
 use Rattle.ee_laws.specs.Events.{World, Told, one, decided, unserved}
 use Rattle.ee_laws.specs.Ties.{Leaves}
-use Rattle.ee_laws.proofs.Leaving.{leaves_new, leaves_kept, leaves_unserved, leaves_as_before}
+use Rattle.ee_laws.proofs.Leaving.{leaves_new, leaves_kept, leaves_unserved}
 use Rattle.ee_store.specs.Serving.{StandsFor, HasContent, FollowsWorld}
 
 module _ (old new : State) (q : Request) (w : World) (follows : FollowsWorld old w) where
@@ -32,12 +32,3 @@ module _ (old new : State) (q : Request) (w : World) (follows : FollowsWorld old
       at_now : (db : Trees) → old.may_leave db ⊎ ((S : Content) → HasContent old S → StandsFor db (content_after S (q ∷ []))) → old.may_leave db ⊎ StandsFor db (one w.now q)
       at_now db (inl before) = inl before
       at_now db (inr after) = inr (after w.now follows.0)
-
--- a query leaves all as it was
-pub follows_query : (old new : State) (w : World) → ((S : Content) → HasContent old S → HasContent new S) → ((db : Trees) → new.may_leave db → old.may_leave db ⊎ ⊥)
-    → FollowsWorld old w → FollowsWorld new w
-follows_query old new w kept crash follows = (kept w.now follows.0, leaves_as_before StandsFor old.may_leave new.may_leave w (λ db may. before db (crash db may)) follows.1)
-  where
-    before : (db : Trees) → old.may_leave db ⊎ ⊥ → old.may_leave db
-    before db (inl h) = h
-    before db (inr h) = absurd h

@@ -1,7 +1,7 @@
 use Rattle.std.proofs.Common.{rules, ◌≡◌, ap, ◌∙◌}
 use Rattle.std.specs.List.{filter_map}
 use Rattle.sqlite.specs.Held.{state}
-use Rattle.ee_acts.specs.Queries.{row_of, bonds_of, sheet_of}
+use Rattle.ee_acts.specs.Queries.{row_of, sheet_of}
 use Rattle.ee_desk.proofs.SheetRows.{sheet_is}
 use Rattle.ee_tables.proofs.KeepLemmas.{clean_before}
 use Rattle.ee_contents.specs.Standing.{rows_of}

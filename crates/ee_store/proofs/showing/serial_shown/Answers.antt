@@ -1,4 +1,3 @@
-use Rattle.ee_contents.proofs.OneContent.{head_of}
 use Rattle.ee_store.proofs.FoundBonds.{serial_read}
 use Rattle.ee_store.proofs.showing.serial_shown.Goals as goal
 
