@@ -2,7 +2,7 @@
 
 use super::devices::Page;
 use super::samples::{INVENTORY, RATES, bonds_of, rate_row, rates_of, three_bonds};
-use crate::{Column, FileCode, FileFault, WriteFault, write_inventory};
+use ee_files::{Column, FileCode, FileFault, WriteFault, write_inventory};
 use std::io::ErrorKind;
 use std::test::Fail;
 

@@ -1,7 +1,7 @@
 //! Spellings, good and bad, of every reader, and printed texts. The expected values are those of the
 //! rules for spellings, not of this crate.
 
-use crate::*;
+use ee_units::*;
 use std::test::Fail;
 
 #[test]

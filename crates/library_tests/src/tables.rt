@@ -1,4 +1,4 @@
-use crate::{
+use ee_tables::{
     Batch, Bond, Desk, Entry, Failure, Line, PlacedLine, Rate, Serial, Ticket, TicketSum,
     UnpaidBond, add_batch, add_bonds, add_rates, add_reply, add_ticket, bonds_of_owner,
     day_tickets, find_batch, find_bond, find_desk, find_rate, find_reply, find_ticket, last_ticket,

@@ -1,7 +1,7 @@
 //! Worked values. Each was found from the rules of value, and not by this crate.
 
-use crate::*;
 use ee_units::{Age, Bits, Cents, Denom, Rate};
+use ee_value::*;
 use std::test::Fail;
 
 fn rates(hundredths: u16) -> Rates {

@@ -1,4 +1,4 @@
-use super::{ReadFault, read_whole, write_whole};
+use ee_device::{ReadFault, read_whole, write_whole};
 use std::io::{self, ErrorKind, Read, Write};
 use std::test::Fail;
 

@@ -1,9 +1,9 @@
 //! The text of each act and of each shape of reply, and texts that are none. The expected texts are
 //! written by hand from the rules for texts.
 
-use crate::{canonical, read_act, read_reply, reply_text};
 use ee_acts::{Act, Batch, Line, RateRow, Refusal, Reply, Rows, Ticket};
 use ee_calculator::Bond;
+use ee_texts::{canonical, read_act, read_reply, reply_text};
 use ee_units::{Age, Cents, Day, IssueMonth, Serial};
 use ee_value::Rates;
 use std::alloc::Global;

@@ -1,6 +1,6 @@
 //! Bounds at 8 binary places, where each can be found by hand.
 
-use crate::*;
+use ee_roots::*;
 use ee_units::{Bits, Rate};
 
 #[test]

@@ -1,6 +1,6 @@
 ghost use Rattle.std.specs.Prelude.{◌≡◌, IfSome};
 
-use crate::{Bond, Row, Sheet, WriteFailed, plain_row, row, sheet, write_sheet};
+use ee_calculator::{Bond, Row, Sheet, WriteFailed, plain_row, row, sheet, write_sheet};
 use ee_units::{Bits, Total};
 use ee_value::{Rates, UnitTable, unit_table};
 use std::io::{self, ErrorKind, Write};

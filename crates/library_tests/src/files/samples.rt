@@ -1,7 +1,7 @@
 //! Files that are good.
 
-use crate::{FileFault, read_inventory, read_rates};
 use ee_calculator::Bond;
+use ee_files::{FileFault, read_inventory, read_rates};
 use ee_value::{RateRow, Rates};
 use std::test::Fail;
 

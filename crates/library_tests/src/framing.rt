@@ -1,4 +1,4 @@
-use crate::{Buffer, Next, WireEnd, next_message};
+use ee_framing::{Buffer, Next, WireEnd, next_message};
 use std::io::{self, ErrorKind, Read};
 use std::test::Fail;
 

@@ -2,7 +2,7 @@
 
 use super::devices::Source;
 use super::samples::{INVENTORY, RATES, bonds_of, rates_of};
-use crate::{Column, FileCode, FileFault, MOST_BYTES, read_inventory, read_rates};
+use ee_files::{Column, FileCode, FileFault, MOST_BYTES, read_inventory, read_rates};
 use std::io::ErrorKind;
 use std::test::Fail;
 

@@ -1,5 +1,5 @@
-use crate::{Call, Query, WireFault, decode};
 use ee_acts::{Act, Request};
+use ee_calls::{Call, Query, WireFault, decode};
 use std::test::Fail;
 
 /// What a message asks for, by its parts: a request as its number and what its act holds, a query as
