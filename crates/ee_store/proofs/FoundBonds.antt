@@ -1,12 +1,11 @@
 -- The unpaid bonds of an owner, by their rows.
 use Rattle.std.proofs.Common.{◌≡◌, ◌==◌, ◌&&◌, ℕ, Bool, true, false, cond, List, [], ◌∷◌, map, filter, refl, sym, ap, ◌∙◌, subst}
-use Rattle.std.specs.Prelude.{T, Option, Some, None, IfSome, is_none}
+use Rattle.std.specs.Prelude.{T, is_none}
 use Rattle.std.specs.List.{AllByRecursion}
 use Rattle.std.specs.Ordering.{is_lt}
 use Rattle.std.specs.FinMap.{FinMap, entries, is_sorted, entries_sorted}
 use Rattle.std.specs.FinMap.Entries.{below_all}
-use Rattle.ee_units.specs.Spelling.{SerialNumber, in_range, serial_at}
-use Rattle.ee_units.proofs.RateGrammar.{in_range-is}
+use Rattle.ee_units.specs.Spelling.{SerialNumber}
 use Rattle.ee_calculator.specs.declared.bonds.Bond.{Bond}
 use Rattle.ee_acts.specs.declared.replies.Ticket.{Ticket}
 use Rattle.ee_acts.specs.Serials.{serial_cmp}
@@ -23,23 +22,7 @@ use Rattle.ee_tables.specs.Rows.{BondRow, unpaid_of}
 use Rattle.ee_contents.specs.Standing.{rows_of, bond_rows, bond_row, key_of, IsRight}
 use Rattle.ee_contents.proofs.Images.{pair_total, pair_same, sorted_entries}
 use Rattle.ee_contents.proofs.OneContent.{keyed, same_denom, head_of, tail_of}
-use Rattle.ee_contents.proofs.ReadBack.{some_is, bind_is}
 use Rattle.ee_store.specs.Asking.{unpaid_row}
-
--- ---- serial numbers
-serial_is : (letter number : ℕ) (s : SerialNumber) → serial_at letter number ≡ Some s → (s.letter ≡ letter) × (s.number ≡ number)
-unfolding serial_at
-serial_is letter number s e =
-    let l = bind_is (in_range 1 26 letter) _ s e in
-    let n = bind_is (in_range 1 9999999999 number) _ s l.2 in
-    let is = some_is _ s n.2 in (
-      sym ((in_range-is 1 26 letter l.0 l.1).0 ∙ ap (λ (s : SerialNumber). s.letter) is),
-      sym ((in_range-is 1 9999999999 number n.0 n.1).0 ∙ ap (λ (s : SerialNumber). s.number) is),
-    )
-
-pub serial_read : (letter number : ℕ) (o : Option SerialNumber) → o ≡ serial_at letter number → IfSome o (λ s. (s.letter ≡ letter) × (s.number ≡ number))
-serial_read letter number None e = tt
-serial_read letter number (Some s) e = serial_is letter number s (sym e)
 
 -- ---- the rows of bonds, in order
 abbrev entry_at : List Ticket → SerialNumber × Bond → (ℕ × ℕ) × BondRow

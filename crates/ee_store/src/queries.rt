@@ -22,6 +22,9 @@ use sqlite::Alter;
 /// - `clean`, `shows`: what is shown is right, and the content stays, also where it answers `Unserved`.
 /// - `crash`: whenever the keeper stops, a crash leaves what it could leave before.
 /// - `follows`: so a query is no event of the law of stops and retries.
+///
+/// It answers `NoMemory` where memory was refused, and `StoreFailed` where the store failed, held what no
+/// row of a counter is, or was left within a transaction.
 impl<S: Alter> SqlKeeper<S> {
     /// The sheet in a month of the unpaid bonds whose owner is this customer, in order of serial.
     pub fn inventory(&mut self, customer: Customer, month: Month) -> Result<Sheet, Unserved>

@@ -8,13 +8,12 @@ ghost use Rattle.ee_store.specs.Asking.{row_of_placed, unpaid_row};
 
 use crate::failures::Unfinished;
 use crate::looking::held_from;
-use crate::values::{customer_of, day_of};
+use crate::values::{customer_of, day_of, serial_of};
 use ee_acts::{Batch, Line, Rows, Ticket};
 use ee_calculator::Bond;
-use ee_contents::serial_of;
 use ee_tables as tables;
 use ee_tables::{PlacedLine, UnpaidBond};
-use ee_units::{Cents, Customer, Day, Serial};
+use ee_units::{Cents, Customer, Day};
 use std::alloc::Global;
 
 /// The batch that a look-up showed of a day.
@@ -31,17 +30,10 @@ pub fn batch_shown(day: Day, found: Option<tables::Batch>) -> Option<Batch>
     })
 }
 
-/// The serial number of that letter, 1 for A, and that number.
-fn serial_shown(letter: u64, number: u64) -> Option<Serial>
-    ensures { IfSome result (λ serial. (serial.letter ≡ letter) × (serial.number ≡ number)) }
-{
-    serial_of(letter, number)
-}
-
 fn line_shown(row: &PlacedLine) -> Option<Line>
     ensures { IfSome result (λ line. paid_row line ≡ row_of_placed row.now) }
 {
-    let serial = serial_shown(row.letter, row.number)?;
+    let serial = serial_of(row.letter, row.number)?;
     Some(Line {
         serial,
         cents: Cents(row.cents),
@@ -93,7 +85,7 @@ pub fn ticket_shown(
 fn bond_shown(row: &UnpaidBond) -> Option<Bond>
     ensures { IfSome result (λ bond. unpaid_row bond ≡ row.now) }
 {
-    let serial = serial_shown(row.letter, row.number)?;
+    let serial = serial_of(row.letter, row.number)?;
     let unpaid = tables::Bond {
         denom: row.denom,
         issued: row.issued,
