@@ -1,6 +1,6 @@
 //! What a query finds in a transaction.
 
-ghost use Rattle.std.specs.Prelude.{◌≡◌, ◌+◌, ◌<◌, ◌^◌, map};
+ghost use Rattle.std.specs.Prelude.{◌≡◌, map};
 ghost use Rattle.std.specs.List.{filter_map};
 ghost use Rattle.sqlite.specs.Held.{state};
 ghost use Rattle.ee_acts.specs.Queries.{ticket_numbered, batch_on, bonds_of, row_of, shown_in_row};

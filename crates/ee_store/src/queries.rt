@@ -88,7 +88,8 @@ impl<S: Alter> SqlKeeper<S> {
         }
     }
 
-    /// The row in a month of a bond of that denomination and issue month, whether or not one is registered; None without rates for its issue period.
+    /// The row in a month of a bond of that denomination and issue month, whether or not one is
+    /// registered; None without rates for its issue period.
     pub fn quote(
         &mut self,
         denom: Denom,
