@@ -11,3 +11,6 @@ pub mod EachTable
 pub mod OneLemmas
 pub mod ReadLemmas
 pub mod WholeLemmas
+mod FaultLemmas
+mod VersionLemmas
+mod OpenLemmas

@@ -1,6 +1,6 @@
 //! Reading the rows of a table, and testing that their keys rise.
 
-ghost use Rattle.std.specs.Prelude.{◌≡◌, List, Bool, true, IsTrue, IfOk, OnOk, OnErr, map, ℕ};
+ghost use Rattle.std.specs.Prelude.{◌≡◌, ◌≢◌, List, Bool, true, IsTrue, IfOk, IfErr, OnOk, OnErr, map, ℕ};
 ghost use Rattle.sqlite.specs.State.{HasCleanDisk, IsUnchanged, KeepsCommit, Survives};
 ghost use Rattle.sqlite.specs.Held.{state};
 ghost use Rattle.sqlite.specs.Term.{Term};
@@ -23,7 +23,8 @@ pub trait Record: Sized {
 
     /// Reads a row that the query showed.
     fn read(row: &Row) -> Result<Self, OpenFault>
-        ensures exact { IfOk result (λ found. row.now ≡ shown found) };
+        ensures exact { IfOk result (λ found. row.now ≡ shown found) }
+        ensures other { IfErr result (λ e. e ≢ OpenFault.WrongVersion) };
 
     /// Whether its key is below the other's.
     fn precedes(&self, next: &Self) -> bool
@@ -33,6 +34,7 @@ pub trait Record: Sized {
 /// Reads the rows that a query showed, each of them.
 fn read_each<T: Record + Drop>(alloc: Global, rows: &[Row]) -> Result<Vec<T>, OpenFault>
     ensures exact { IfOk result (λ found. rows.now ≡ map T.shown found.items) }
+    ensures other { IfErr result (λ e. e ≢ OpenFault.WrongVersion) }
 {
     let mut found = Vec::new(alloc);
     for row in rows {
@@ -69,6 +71,7 @@ fn all_rows<S: Alter>(tx: &mut Transaction<'_, S>, sql: &str) -> Result<Vec<Row>
     ensures same { HasCleanDisk (state S.Store tx.new.conn.now) → OnOk result ((tree : ℕ) (terms : List Term) → AsksForAll counter_schema sql.now tree terms
         → IsInside (state S.Store tx.old.conn.now) → IsUnchanged (state S.Store tx.old.conn.now) (state S.Store tx.new.conn.now)) }
     ensures commit { HasCleanDisk (state S.Store tx.new.conn.now) → IsInside (state S.Store tx.old.conn.now) → KeepsCommit (state S.Store tx.old.conn.now) (state S.Store tx.new.conn.now) }
+    ensures other { IfErr result (λ e. e ≢ OpenFault.WrongVersion) }
     ensures crash { Survives (state S.Store tx.old.conn.now) (state S.Store tx.new.conn.now) (λ _. ⊥) }
 {
     let rows = tx.query_all(sql, &[])?;
@@ -89,6 +92,7 @@ pub(crate) fn read_table<S: Alter, T: Record + Drop>(
     ensures same { HasCleanDisk (state S.Store tx.new.conn.now) → OnOk result ((tree : ℕ) (terms : List Term) → AsksForAll counter_schema sql.now tree terms
         → IsInside (state S.Store tx.old.conn.now) → IsUnchanged (state S.Store tx.old.conn.now) (state S.Store tx.new.conn.now)) }
     ensures commit { HasCleanDisk (state S.Store tx.new.conn.now) → IsInside (state S.Store tx.old.conn.now) → KeepsCommit (state S.Store tx.old.conn.now) (state S.Store tx.new.conn.now) }
+    ensures other { IfErr result (λ e. e ≢ OpenFault.WrongVersion) }
     ensures crash { Survives (state S.Store tx.old.conn.now) (state S.Store tx.new.conn.now) (λ _. ⊥) }
 {
     let rows = all_rows(tx, sql)?;
