@@ -9,3 +9,5 @@ pub mod Transactions
 pub mod Named
 pub mod Following
 pub mod DaySums
+pub mod Readable
+pub mod Opened

@@ -2,12 +2,14 @@
 //! that keeps them there.
 #![tactic(auto)]
 
+mod adopting;
 mod counting;
 mod delivering;
 mod failures;
 mod keeper;
 mod keys;
 mod looking;
+mod opening;
 mod repeats;
 mod seeing;
 mod serving;
@@ -15,5 +17,8 @@ mod terms;
 mod values;
 mod writing;
 
+pub use adopting::NotAdopted;
 pub use ee_contents::one_content;
+pub use ee_opening::OpenFault;
 pub use keeper::SqlKeeper;
+pub use opening::open_as;
