@@ -1,0 +1,105 @@
+/* What a delivery of the counter costs in C over SQLite's own library: the same tables, reads and writes, and one
+   synchronous commit for each redemption of one bond. It decides nothing: the sums and texts are made up.
+   Build: cc -O2 -o redeem redeem.c -lsqlite3.  Run: ./redeem FILE BONDS TICKETS TICKETS_A_DAY (the file must not be there). */
+#include <sqlite3.h>
+#include <stdio.h>
+#include <stdlib.h>
+#include <string.h>
+#include <time.h>
+
+static sqlite3 *db;
+
+static double now(void) {
+    struct timespec t;
+    clock_gettime(CLOCK_MONOTONIC, &t);
+    return t.tv_sec + t.tv_nsec / 1e9;
+}
+
+static void fail(const char *what) {
+    fprintf(stderr, "%s: %s\n", what, sqlite3_errmsg(db));
+    exit(1);
+}
+
+static void run(const char *sql) {
+    if (sqlite3_exec(db, sql, 0, 0, 0)) fail(sql);
+}
+
+static sqlite3_stmt *prepare(const char *sql) {
+    sqlite3_stmt *statement;
+    if (sqlite3_prepare_v3(db, sql, -1, SQLITE_PREPARE_PERSISTENT, &statement, 0)) fail(sql);
+    return statement;
+}
+
+/* Binds numbers, runs the statement to its end, and gives how many rows it showed. */
+static int with(sqlite3_stmt *statement, int count, const sqlite3_int64 *numbers) {
+    int rows = 0, step;
+    for (int i = 0; i < count; i++) sqlite3_bind_int64(statement, i + 1, numbers[i]);
+    while ((step = sqlite3_step(statement)) == SQLITE_ROW) rows++;
+    if (step != SQLITE_DONE) fail("step");
+    sqlite3_reset(statement);
+    return rows;
+}
+#define WITH(statement, ...) with(statement, sizeof((sqlite3_int64[]){__VA_ARGS__}) / 8, (sqlite3_int64[]){__VA_ARGS__})
+
+static void make(long bonds) {
+    run("PRAGMA journal_mode = WAL; PRAGMA synchronous = FULL; BEGIN");
+    run("CREATE TABLE desk (id INTEGER NOT NULL PRIMARY KEY, version INTEGER NOT NULL, day INTEGER, last_day INTEGER) STRICT;"
+        "CREATE TABLE rates (period INTEGER NOT NULL PRIMARY KEY, rate INTEGER NOT NULL) STRICT;"
+        "CREATE TABLE bonds (letter INTEGER NOT NULL, number INTEGER NOT NULL, denom INTEGER NOT NULL, issued INTEGER NOT NULL,"
+        " owner INTEGER NOT NULL, coowner INTEGER, ticket INTEGER, PRIMARY KEY (letter, number)) STRICT;"
+        "CREATE INDEX bonds_owner ON bonds (owner, letter, number);"
+        "CREATE TABLE tickets (ticket INTEGER NOT NULL PRIMARY KEY, day INTEGER NOT NULL, payee INTEGER NOT NULL,"
+        " bonds INTEGER NOT NULL, total INTEGER NOT NULL) STRICT;"
+        "CREATE INDEX tickets_day ON tickets (day, ticket);"
+        "CREATE TABLE paid (ticket INTEGER NOT NULL, place INTEGER NOT NULL, letter INTEGER NOT NULL, number INTEGER NOT NULL,"
+        " cents INTEGER NOT NULL, PRIMARY KEY (ticket, place), UNIQUE (letter, number)) STRICT;"
+        "CREATE TABLE batches (day INTEGER NOT NULL PRIMARY KEY, tickets INTEGER NOT NULL, bonds INTEGER NOT NULL, total INTEGER NOT NULL) STRICT;"
+        "CREATE TABLE replies (number INTEGER NOT NULL PRIMARY KEY, act TEXT NOT NULL, reply TEXT NOT NULL) STRICT;"
+        "INSERT INTO desk VALUES (1, 1, 16559, NULL); INSERT INTO rates VALUES (60, 350)");
+    sqlite3_stmt *add = prepare("INSERT INTO bonds VALUES (1, ?1, 50, 60, ?2, NULL, NULL)");
+    for (long i = 1; i <= bonds; i++) WITH(add, i, i / 100 + 1);
+    sqlite3_finalize(add);
+    run("COMMIT");
+}
+
+int main(int count, char **words) {
+    if (count != 5) return 2;
+    long bonds = atol(words[2]), tickets = atol(words[3]), a_day = atol(words[4]);
+    if (sqlite3_open(words[1], &db)) fail("open");
+    make(bonds);
+    sqlite3_stmt *begin = prepare("BEGIN"), *commit = prepare("COMMIT");
+    sqlite3_stmt *find_reply = prepare("SELECT act, reply FROM replies WHERE number = ?1");
+    sqlite3_stmt *find_desk = prepare("SELECT version, day, last_day FROM desk WHERE id = ?1");
+    sqlite3_stmt *find_bond = prepare("SELECT denom, issued, owner, coowner, ticket FROM bonds WHERE letter = ?1 AND number = ?2");
+    sqlite3_stmt *find_rate = prepare("SELECT rate FROM rates WHERE period = ?1");
+    sqlite3_stmt *last = prepare("SELECT ticket FROM tickets ORDER BY ticket DESC LIMIT 1");
+    sqlite3_stmt *day_tickets = prepare("SELECT ticket, bonds, total FROM tickets WHERE day = ?1 ORDER BY ticket");
+    sqlite3_stmt *add_ticket = prepare("INSERT INTO tickets (ticket, day, payee, bonds, total) VALUES (?1, ?2, ?3, ?4, ?5)");
+    sqlite3_stmt *add_paid = prepare("INSERT INTO paid (ticket, place, letter, number, cents) VALUES (?1, ?2, ?3, ?4, ?5)");
+    sqlite3_stmt *mark = prepare("UPDATE bonds SET ticket = ?3 WHERE letter = ?1 AND number = ?2 RETURNING denom, issued, owner, coowner");
+    sqlite3_stmt *add_reply = prepare("INSERT INTO replies (number, act, reply) VALUES (?1, ?2, ?3)");
+    double start = now();
+    for (long i = 1; i <= tickets; i++) {
+        long serial = (i - 1) * (bonds / tickets) + 1, day = 16559 + (i - 1) / a_day;
+        char act[200], reply[200];
+        sprintf(act, "{\"act\":\"redeem\",\"day\":\"2015-05-04\",\"payee\":7,\"serials\":[\"A%ldEE\"]}", serial);
+        sprintf(reply, "{\"day\":\"2015-05-04\",\"lines\":[{\"cents\":\"29.74\",\"serial\":\"A%ldEE\"}],\"payee\":7,\"ticket\":%ld,\"total\":\"29.74\"}", serial, i);
+        with(begin, 0, 0);
+        WITH(find_reply, 1000 + i);
+        WITH(find_desk, 1);
+        WITH(find_bond, 1, serial);
+        WITH(find_rate, 60);
+        with(last, 0, 0);
+        WITH(day_tickets, day);
+        WITH(add_ticket, i, day, 7, 1, 2974);
+        WITH(add_paid, i, 1, 1, serial, 2974);
+        WITH(mark, 1, serial, i);
+        sqlite3_bind_text(add_reply, 2, act, -1, SQLITE_STATIC);
+        sqlite3_bind_text(add_reply, 3, reply, -1, SQLITE_STATIC);
+        WITH(add_reply, 1000 + i);
+        with(commit, 0, 0);
+    }
+    double took = now() - start;
+    printf("%ld bonds, %ld tickets, %ld a day: %.1f microseconds a redemption, %.0f a second\n", bonds, tickets, a_day, took / tickets * 1e6, tickets / took);
+    return 0;
+}
