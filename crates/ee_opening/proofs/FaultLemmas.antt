@@ -1,14 +1,16 @@
 -- A query that the tables understand is never refused because of them.
-use Rattle.std.proofs.Common.{◌≡◌, ◌≢◌, ◌⊎◌, inl, inr, ℕ, List, Some, None, Option, Ok, Err, Result, IfErr, IsErrAnd, sym, subst}
+use Rattle.std.proofs.Common.{◌≡◌, ◌≢◌, ◌<◌, ◌⊎◌, inl, inr, ℕ, List, length, ap, ◌∙◌, Some, None, Option, Ok, Err, Result, IfErr, IsErrAnd, sym, subst}
 use Rattle.sqlite_trees.specs.declared.error.StoreError.{StoreError}
 use Rattle.sqlite_trees.specs.declared.error.StoreError.TheVariants.{OutOfMemory, Io, Corrupt, Full, Broken, Unstorable}
 use Rattle.sqlite.specs.declared.error.Error.{Error}
-use Rattle.sqlite.specs.declared.error.Error.TheVariants.{InvalidQuery}
+use Rattle.sqlite.specs.declared.error.ErrorCode.TheVariants as code
+use Rattle.sqlite.specs.declared.error.Error.TheVariants.{SqliteFailure, InvalidQuery}
 use Rattle.sqlite_schema.specs.declared.command.Command.{Command}
 use Rattle.sqlite_schema.specs.declared.command.Command.TheVariants.{Select, Rows}
 use Rattle.sqlite_schema.specs.declared.command.Returning.{Returning}
 use Rattle.sqlite_resolve.specs.declared.compiled.Compiled.{Compiled}
-use Rattle.sqlite.specs.Order.{Row}
+use Rattle.sqlite.specs.declared.types.Value.{Value}
+use Rattle.sqlite_value.specs.Order.{Row, column}
 use Rattle.sqlite.specs.Effect.{Database, RefusesToRead}
 use Rattle.sqlite.specs.Listing.{understood}
 use Rattle.sqlite.specs.State.{State, store_error, Fails, IsNoStatement, IsNotRun, FailsToShow, FailsToQuery, IsTooLate}
@@ -60,7 +62,15 @@ query_usable old new sql params e plain (inl (inl (inr h))) = store_fails old ne
 query_usable old new sql params e plain (inl (inr h)) = shows_none old new sql h.0 _ e h.0.returning (subst IsPlain h.1.is plain).0 h.2
 query_usable old new sql params e plain (inr h) = same_error e _ h.4 (λ u. cc)
 
--- what is told of an error
+-- ---- errors that `?` hands on
+
+pub handed_on : {X : Type 0} (P : OpenFault → Type 0) (r : Result X OpenFault) (fault : OpenFault) → IsErrAnd r (λ f. f ≡ fault) → P fault → IfErr r P
+handed_on P (Ok x) fault is p = tt
+handed_on P (Err f) fault is p = subst P (sym is) p
+
 pub told_as : {X : Type 0} (P : OpenFault → Type 0) (r : Result X OpenFault) (e : Error) → IsErrAnd r (λ fault. fault ≡ fault_of e) → P (fault_of e) → IfErr r P
-told_as P (Ok x) e is p = tt
-told_as P (Err fault) e is p = subst P (sym is) p
+told_as P r e is p = handed_on P r (fault_of e) is p
+
+-- a value that is there and can be read is read, unless memory is short
+pub is_read : (V : Value → Type 0) (row : Row) (at : ℕ) (e : Error) → (e ≢ SqliteFailure code.OutOfMemory → at < length row → ¬ V (column row at)) → at < length row → V (column row at) → fault_of e ≢ Unusable
+is_read V row at e kind within reads told = kind (λ short. let u = sym told ∙ ap fault_of short in cc) within reads

@@ -14,3 +14,5 @@ pub mod WholeLemmas
 mod FaultLemmas
 mod VersionLemmas
 mod OpenLemmas
+mod UsableLemmas
+mod CanRead

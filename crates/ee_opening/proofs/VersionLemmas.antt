@@ -1,5 +1,5 @@
 -- What the query of the version shows.
-use Rattle.std.proofs.Common.{◌≡◌, ℕ, pos, List, [], ◌∷◌, codes, false, refl}
+use Rattle.std.proofs.Common.{◌≡◌, ℕ, pos, List, [], ◌∷◌, codes, false, Some, None, Option, refl, sym, ap, ◌∙◌}
 use Rattle.sqlite.specs.declared.types.Value.TheVariants.{Null, Int}
 use Rattle.sqlite.specs.Order.{Row}
 use Rattle.sqlite.specs.Term.{col}
@@ -10,10 +10,10 @@ use Rattle.sqlite.specs.Listing.{understood, reads_listing}
 use Rattle.sqlite.specs.State.{State, Shown}
 use Rattle.sqlite.proofs.Callers.{IsPlain, command_of, reads_as}
 use Rattle.ee_tables.specs.Tables.{counter_schema}
-use Rattle.ee_tables.specs.Rows.{Rows, Holds, desk_columns}
+use Rattle.ee_tables.specs.Rows.{Rows, DeskRow, Holds, desk_columns}
 use Rattle.ee_tables.proofs.Meaning.{by_number}
 use Rattle.ee_tables.proofs.ReadLemmas.{found_by_number}
-use Rattle.ee_opening.specs.Opening.{version_shown, versions_in}
+use Rattle.ee_opening.specs.Opening.{version_shown, versions_in, IsFirstVersion, IsOtherVersion}
 
 abbrev pub version_text : List ℕ
 version_text = codes "SELECT version FROM desk WHERE id = ?1"
@@ -36,3 +36,10 @@ pub shows_version : (old new : State) (rows : Rows) (found : List Row) → old.n
 shows_version old new rows found has stands shown =
     found_by_number desk_columns 0 version_query.project 1 [] (λ e. version_shown e.1) (λ r e one. rw (one 2) refl) old.now.trees rows.desk found refl stands.desk
     ((reads_as version_text given_id old new counter_schema has _ version_is.0 version_plain version_is.1 found shown).answer Null)
+
+abbrev version_in : Option DeskRow → ℕ
+version_in None = 0
+version_in (Some desk) = desk.version
+
+pub one_version : (rows : Rows) → IsFirstVersion rows → ¬ IsOtherVersion rows
+one_version rows first other = other.2 (ap version_in (sym other.1 ∙ first.1) ∙ first.2)

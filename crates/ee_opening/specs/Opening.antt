@@ -1,12 +1,13 @@
 -- Which tables a store has, their version, and which rows can be read.
-use Rattle.std.specs.Prelude.{◌≡◌, ◌≢◌, ℕ, Bool, List, [], ◌∷◌, Some, is_some, option_map, codes, IsUtf8}
+use Rattle.std.specs.Prelude.{◌≡◌, ◌≢◌, ℕ, Bool, List, [], ◌∷◌, Some, is_some, option_map, codes}
 use Rattle.std.specs.Option.{option_to_list}
 use Rattle.std.specs.List.{list_any}
 use Rattle.std.specs.FinMap.{get}
 use Rattle.sqlite.specs.Order.{Row}
 use Rattle.sqlite.specs.Schema.{Schema}
 use Rattle.sqlite_schema.specs.Names.{table_named}
-use Rattle.ee_tables.specs.Rows.{Rows, DeskRow, ReplyRow, number}
+use Rattle.ee_tables.specs.Rows.{Rows, DeskRow, number}
+use Rattle.ee_opening.specs.Shown.{AreWritten}
 
 -- the names of the tables
 abbrev pub table_names : List (List ℕ)
@@ -34,4 +35,4 @@ IsOtherVersion rows = (desk : DeskRow) × (get rows.desk 1 ≡ Some desk) × (de
 -- The desk has its row, and each text is UTF-8, as this program writes it.
 pub record AreReadable (rows : Rows) : Type 0 where
   pub desk : (desk : DeskRow) × (get rows.desk 1 ≡ Some desk)
-  pub texts : (n : ℕ) (reply : ReplyRow) → get rows.replies n ≡ Some reply → IsUtf8 reply.act × IsUtf8 reply.reply
+  pub texts : AreWritten rows.replies

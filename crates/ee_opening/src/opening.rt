@@ -8,7 +8,7 @@ ghost use Rattle.sqlite_schema.specs.Names.{table_named};
 ghost use Rattle.ee_tables.specs.Rows.{Rows, Has, Holds};
 ghost use Rattle.ee_opening.specs.Making.{IsBlank, first_rows};
 ghost use Rattle.ee_opening.specs.Whole.{rows_of, IsOurs, AreInOrder};
-ghost use Rattle.ee_opening.specs.Opening.{has_some_table, IsFirstVersion, IsOtherVersion};
+ghost use Rattle.ee_opening.specs.Opening.{has_some_table, IsFirstVersion, IsOtherVersion, AreReadable};
 
 use crate::making::{OpenFault, make_tables};
 use crate::whole::{AllRows, read_all};
@@ -59,6 +59,8 @@ pub fn open_rows<S: Alter>(conn: &mut Connection<S>, alloc: Global) -> Result<Al
     ensures order { IfOk result AreInOrder }
     ensures first { HasCleanDisk (state S.Store conn.new) → OnOk result ((rows : Rows) → Has (state S.Store conn.old) rows → IsTrue (state S.Store conn.old).is_open → IsFirstVersion rows) }
     ensures version { HasCleanDisk (state S.Store conn.new) → IfErr result (λ e. e ≡ OpenFault.WrongVersion → (rows : Rows) → Has (state S.Store conn.old) rows → IsTrue (state S.Store conn.old).is_open → IsOtherVersion rows) }
+    ensures tested { HasCleanDisk (state S.Store conn.new) → IfErr result (λ e. e ≡ OpenFault.Unusable → (rows : Rows) → Has (state S.Store conn.old) rows → IsTrue (state S.Store conn.old).is_open → ¬ IsOtherVersion rows) }
+    ensures unusable { HasCleanDisk (state S.Store conn.new) → IfErr result (λ e. e ≡ OpenFault.Unusable → (rows : Rows) → Has (state S.Store conn.old) rows → IsTrue (state S.Store conn.old).is_open → ¬ AreReadable rows) }
     ensures failed { HasCleanDisk (state S.Store conn.new) → OnErr result ((IsOurs (state S.Store conn.old) → KeepsCommit (state S.Store conn.old) (state S.Store conn.new))
         × (IsBlank (state S.Store conn.old) → KeepsCommit (state S.Store conn.old) (state S.Store conn.new) ⊎ Has (state S.Store conn.new) first_rows)) }
     ensures kept { HasCleanDisk (state S.Store conn.new) → OnOk result (IsOurs (state S.Store conn.old) → KeepsCommit (state S.Store conn.old) (state S.Store conn.new)) }
