@@ -18,6 +18,7 @@ use sqlite::{Alter, Connection};
 use std::alloc::Global;
 
 /// Keeps books and replies in the tables of a store.
+#[derive(Drop)]
 pub struct SqlKeeper<S: Alter> {
     pub(crate) alloc: Global,
     pub(crate) tables: Tables,
