@@ -10,17 +10,22 @@ ghost use Rattle.ee_tables.specs.Tables.{counter_schema};
 ghost use Rattle.ee_opening.specs.Making.{IsBlank, first_rows, SeesTables, AddsTable, AddsIndex, no_tables, register_tables, payment_tables};
 
 use sqlite::{Alter, Connection, Error, ErrorCode, Transaction};
+use thiserror::Error as Fault;
 
 /// Why a store isn't opened.
-#[derive(Clone, Copy, Debug, PartialEq, Eq)]
+#[derive(Clone, Copy, Debug, PartialEq, Eq, Fault)]
 pub enum OpenFault {
     /// There was not enough memory.
+    #[error("out of memory")]
     NoMemory,
     /// The store failed, or it isn't one that `sqlite` opens.
+    #[error("the store failed, or it is none that can be opened")]
     StoreFailed,
     /// The tables are of another version.
+    #[error("the tables of the store are of another version")]
     WrongVersion,
     /// The tables aren't those of this program, or their rows stand for no books.
+    #[error("the store has no tables and rows of books")]
     Unusable,
 }
 

@@ -100,6 +100,7 @@ fn ready<S: Alter>(conn: &mut Connection<S>, alloc: Global) -> Result<Tables, Op
     ensures follows { HasCleanDisk (state S.Store conn.new) → OnOk result (KeepsWorld (state S.Store conn.old) (state S.Store conn.new)) }
     ensures kept { HasCleanDisk (state S.Store conn.new) → OnErr result (KeepsRows (state S.Store conn.old) (state S.Store conn.new)) }
     ensures version { HasCleanDisk (state S.Store conn.new) → IfErr result (λ fault. fault ≡ OpenFault.WrongVersion → HadNone (state S.Store conn.old)) }
+    ensures unusable { HasCleanDisk (state S.Store conn.new) → IfErr result (λ fault. fault ≡ OpenFault.Unusable → HadNone (state S.Store conn.old)) }
     ensures crash { Survives (state S.Store conn.old) (state S.Store conn.new) (λ db. IsBlank (state S.Store conn.old) → StandsFor db nothing) }
     ensures left { HasCleanDisk (state S.Store conn.new) → LeavesAsBefore (state S.Store conn.old) (state S.Store conn.new) }
 {
@@ -115,6 +116,7 @@ impl<S: Alter> SqlKeeper<S> {
     /// - `found`: a store that has a content keeps it.
     /// - `stands`: so the keeper serves from a content, and never from rows that stand for none.
     /// - `follows`: the store follows the events of the law of stops and retries as it did.
+    /// - `version`, `unusable`: a store that has a content is refused for neither.
     /// - `kept`: after a refusal the rows are as they were. A store without tables may have got the
     ///   first ones.
     /// - `crash`, `left`: whenever the call stops, a crash leaves what it could leave before. Of a
@@ -135,6 +137,7 @@ impl<S: Alter> SqlKeeper<S> {
         ensures follows { IfOk result (λ keeper. HasCleanDisk (state S.Store keeper.conn) → KeepsWorld (state S.Store conn) (state S.Store keeper.conn)) }
         ensures kept { IfErr result (λ not. HasCleanDisk (state S.Store not.conn) → KeepsRows (state S.Store conn) (state S.Store not.conn)) }
         ensures version { IfErr result (λ not. HasCleanDisk (state S.Store not.conn) → not.fault ≡ OpenFault.WrongVersion → HadNone (state S.Store conn)) }
+        ensures unusable { IfErr result (λ not. HasCleanDisk (state S.Store not.conn) → not.fault ≡ OpenFault.Unusable → HadNone (state S.Store conn)) }
         ensures crash { MatchResult result (λ keeper. Survives (state S.Store conn) (state S.Store keeper.conn) (λ db. IsBlank (state S.Store conn) → StandsFor db nothing))
             (λ not. Survives (state S.Store conn) (state S.Store not.conn) (λ db. IsBlank (state S.Store conn) → StandsFor db nothing)) }
         ensures left { MatchResult result (λ keeper. HasCleanDisk (state S.Store keeper.conn) → LeavesAsBefore (state S.Store conn) (state S.Store keeper.conn))

@@ -40,18 +40,6 @@ returns-else-has_tables-clause-failed g c clean =
     let settled = c.is_autocommit.ensures.settled c.if-not-is_autocommit.false in
     still_err c.open_blank.result (either_failed old settled c.has_tables.result c.has_tables.ensures new c.if-has_tables.false) (c.open_blank.ensures.failed clean)
 
-pub returns-else-has_tables-clause-tested : goal.returns-else-has_tables-clause-tested
-returns-else-has_tables-clause-tested g c clean =
-    let old = state g.S.Store c.args.conn.now in
-    let settled = c.is_autocommit.ensures.settled c.if-not-is_autocommit.false in
-    each_err c.open_blank.result (λ e wrong rows has is_open. absurd (not_ours old settled c.has_tables.result c.has_tables.ensures c.if-has_tables.false (λ o. (has o).0) is_open))
-
-pub returns-else-has_tables-clause-unusable : goal.returns-else-has_tables-clause-unusable
-returns-else-has_tables-clause-unusable g c clean =
-    let old = state g.S.Store c.args.conn.now in
-    let settled = c.is_autocommit.ensures.settled c.if-not-is_autocommit.false in
-    each_err c.open_blank.result (λ e wrong rows has is_open. absurd (not_ours old settled c.has_tables.result c.has_tables.ensures c.if-has_tables.false (λ o. (has o).0) is_open))
-
 pub returns-then-has_tables-clause-kept : goal.returns-then-has_tables-clause-kept
 returns-then-has_tables-clause-kept g c clean = if_ok c.read_all.result (c.read_all.ensures.kept clean)
 
@@ -84,3 +72,15 @@ returns-else-has_tables-clause-left g c clean is_open ours =
     let old = state g.S.Store c.args.conn.now in
     let settled = c.is_autocommit.ensures.settled c.if-not-is_autocommit.false in
     absurd (not_ours old settled c.has_tables.result c.has_tables.ensures c.if-has_tables.false ours is_open)
+
+pub returns-else-has_tables-clause-tested : goal.returns-else-has_tables-clause-tested
+returns-else-has_tables-clause-tested g c clean =
+    let old = state g.S.Store c.args.conn.now in
+    let settled = c.is_autocommit.ensures.settled c.if-not-is_autocommit.false in
+    each_err c.open_blank.result (λ e wrong rows has is_open. absurd (not_ours old settled c.has_tables.result c.has_tables.ensures c.if-has_tables.false (λ o. (has o).0) is_open))
+
+pub returns-else-has_tables-clause-unusable : goal.returns-else-has_tables-clause-unusable
+returns-else-has_tables-clause-unusable g c clean =
+    let old = state g.S.Store c.args.conn.now in
+    let settled = c.is_autocommit.ensures.settled c.if-not-is_autocommit.false in
+    each_err c.open_blank.result (λ e wrong rows has is_open. absurd (not_ours old settled c.has_tables.result c.has_tables.ensures c.if-has_tables.false (λ o. (has o).0) is_open))
