@@ -1,0 +1,10 @@
+//! Tests of the counter as a whole, by public calls alone. The expected texts are worked by hand from the
+//! rules, and none of them was told by the code.
+#![tactic(auto)]
+
+#[cfg(test)]
+mod days;
+#[cfg(test)]
+mod refusals;
+#[cfg(test)]
+mod talk;
