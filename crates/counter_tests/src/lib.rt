@@ -5,11 +5,15 @@
 #[cfg(test)]
 mod books;
 #[cfg(test)]
+mod calls;
+#[cfg(test)]
 mod days;
 #[cfg(test)]
 mod devices;
 #[cfg(test)]
 mod files;
+#[cfg(test)]
+mod lines;
 #[cfg(test)]
 mod refusals;
 #[cfg(test)]

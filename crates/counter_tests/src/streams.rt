@@ -4,10 +4,8 @@ use crate::days::BEGUN;
 use crate::devices::{Narrow, Source};
 use crate::talk::{compare, message};
 use ee_counter::{Ended, Why, serve};
-use ee_framing::FramingFault;
 use ee_keeper::{Keeper, ListKeeper};
 use std::alloc::Global;
-use std::fmt::Write;
 use std::process::Abort;
 use std::test::Fail;
 
@@ -25,21 +23,36 @@ const ROW: &str =
 const CUT: &str =
     "HTTP/1.1 400 Bad Request\r\nContent-Type: application/json\r\nContent-Length: 31\r\nConnection: close\r\n\r\n{\"code\":68,\"fault\":\"Truncated\"}";
 
-/// Serves a source, and compares what is written and how it ends.
-pub fn serves<K: Keeper>(
-    rt: &impl Abort,
+/// How many answers were written whole, why it ended, and what was written.
+fn ended_told(alloc: Global, ended: Ended, text: Vec<u8>) -> Result<String, Fail> {
+    let why = match ended.why {
+        Why::Closed => "Closed",
+        Why::Asked => "Asked",
+        Why::Limit => "Limit",
+        Why::Fault(_) => "Fault",
+        Why::ReadFailed => "ReadFailed",
+        Why::WriteFailed => "WriteFailed",
+        Why::NoMemory => "NoMemory",
+    };
+    let text = String::from_utf8(text).ok().ok_or("text")?;
+    Ok(format!(in alloc; "{} {why}\n{text}", ended.messages)?)
+}
+
+/// What is told of serving a source.
+pub fn told_of<K: Keeper>(
     alloc: Global,
     keeper: &mut K,
     reader: &mut Source,
-    wanted: &str,
-    messages: usize,
-    why: Why,
-) -> Result<(), Fail> {
+) -> Result<String, Fail> {
     let mut text = Vec::new(alloc);
     let ended = serve(alloc, keeper, reader, &mut text);
-    assert_eq!(rt; text.as_slice(), wanted.as_bytes());
-    assert_eq!(rt; ended, Ended { messages, why });
-    Ok(())
+    ended_told(alloc, ended, text)
+}
+
+/// What is told of serving a stream over an empty keeper.
+fn alone(alloc: Global, stream: &str) -> Result<String, Fail> {
+    let mut reader = Source::of(stream.as_bytes(), 4_096, 4_096);
+    told_of(alloc, &mut ListKeeper::empty(alloc), &mut reader)
 }
 
 /// Two messages, cut after each byte in turn.
@@ -47,19 +60,11 @@ pub fn serves<K: Keeper>(
 fn a_stream_however_it_is_cut(rt: HostRuntime) -> Result<(), Fail> {
     let alloc = rt.alloc();
     let stream = format!(in alloc; "{RATE}{VALUE}")?;
-    let wanted = format!(in alloc; "{ADDED}{ROW}")?;
+    let wanted = format!(in alloc; "2 Closed\n{ADDED}{ROW}")?;
     for first in 1..=stream.len() {
         let mut reader = Source::of(stream.as_bytes(), first, 4_096);
-        let mut keeper = ListKeeper::empty(alloc);
-        serves(
-            &rt,
-            alloc,
-            &mut keeper,
-            &mut reader,
-            wanted.as_str(),
-            2,
-            Why::Closed,
-        )?;
+        let told = told_of(alloc, &mut ListKeeper::empty(alloc), &mut reader)?;
+        assert_eq!(rt; told.as_str(), wanted.as_str(), "cut after {first}");
     }
     Ok(())
 }
@@ -70,20 +75,11 @@ fn a_cut_message_is_truncated(rt: HostRuntime) -> Result<(), Fail> {
     let alloc = rt.alloc();
     let front = RATE.strip_suffix("}").ok_or("front")?;
     let stream = format!(in alloc; "{RATE}{VALUE}{front}")?;
-    let wanted = format!(in alloc; "{ADDED}{ROW}{CUT}")?;
+    let wanted = format!(in alloc; "3 Fault\n{ADDED}{ROW}{CUT}")?;
     for step in [1, 7, 4_096] {
         let mut reader = Source::of(stream.as_bytes(), step, step);
-        let mut keeper = ListKeeper::empty(alloc);
-        let why = Why::Fault(FramingFault::Truncated);
-        serves(
-            &rt,
-            alloc,
-            &mut keeper,
-            &mut reader,
-            wanted.as_str(),
-            3,
-            why,
-        )?;
+        let told = told_of(alloc, &mut ListKeeper::empty(alloc), &mut reader)?;
+        assert_eq!(rt; told.as_str(), wanted.as_str(), "pieces of {step}");
     }
     Ok(())
 }
@@ -96,31 +92,21 @@ fn answer(alloc: Global, status: &str, headers: &str, body: &str) -> Result<Stri
     )?)
 }
 
-/// Header lines, each ended by a bar, and the status, body and name of their fault.
+/// Header lines, each ended by a bar, and the status and body of their fault.
 const FAULTS: &str =
-    r#"Content-Length: 1|Content-Length: 1| => 400 Bad Request => {"code":63,"fault":"BadLength"} => BadLength
-Transfer-Encoding: chunked| => 400 Bad Request => {"code":63,"fault":"BadLength"} => BadLength
-Content-Length: 1x| => 400 Bad Request => {"code":63,"fault":"BadLength"} => BadLength
-Content-Length: | => 400 Bad Request => {"code":63,"fault":"BadLength"} => BadLength
-Content-Length: 999999999999999999999999999999| => 413 Content Too Large => {"code":62,"fault":"BodyTooLong"} => BodyTooLong
-Content-Length: 1048577| => 413 Content Too Large => {"code":62,"fault":"BodyTooLong"} => BodyTooLong
-no header| => 400 Bad Request => {"code":60,"fault":"BadHead"} => BadHead
+    r#"Content-Length: 1|Content-Length: 1| => 400 Bad Request => {"code":63,"fault":"BadLength"}
+Transfer-Encoding: chunked| => 400 Bad Request => {"code":63,"fault":"BadLength"}
+Content-Length: 1x| => 400 Bad Request => {"code":63,"fault":"BadLength"}
+Content-Length: | => 400 Bad Request => {"code":63,"fault":"BadLength"}
+Content-Length: 999999999999999999999999999999| => 413 Content Too Large => {"code":62,"fault":"BodyTooLong"}
+Content-Length: 1048577| => 413 Content Too Large => {"code":62,"fault":"BodyTooLong"}
+no header| => 400 Bad Request => {"code":60,"fault":"BadHead"}
 "#;
 
-/// How a connection over an empty keeper ends, and what is written to it.
-fn told_of(alloc: Global, stream: &str) -> Result<String, Fail> {
-    let mut keeper = ListKeeper::empty(alloc);
-    let mut reader = stream.as_bytes();
-    let mut text = Vec::new(alloc);
-    let ended = serve(alloc, &mut keeper, &mut reader, &mut text);
-    let text = String::from_utf8(text).ok().ok_or("text")?;
-    Ok(format!(in alloc; "{} {:?}\n{text}", ended.messages, ended.why)?)
-}
-
 /// What is told of one fault, after which nothing is answered.
-fn fault_told(alloc: Global, status: &str, body: &str, fault: &str) -> Result<String, Fail> {
+fn fault_told(alloc: Global, status: &str, body: &str) -> Result<String, Fail> {
     let answer = answer(alloc, status, "Connection: close\r\n", body)?;
-    Ok(format!(in alloc; "1 Fault({fault})\n{answer}")?)
+    Ok(format!(in alloc; "1 Fault\n{answer}")?)
 }
 
 #[test]
@@ -128,15 +114,16 @@ fn a_framing_fault_ends_the_connection(rt: HostRuntime) -> Result<(), Fail> {
     let alloc = rt.alloc();
     for row in FAULTS.lines() {
         let (headers, row) = row.split_once(" => ").ok_or("headers")?;
-        let (status, row) = row.split_once(" => ").ok_or("status")?;
-        let (body, fault) = row.split_once(" => ").ok_or("body")?;
+        let (status, body) = row.split_once(" => ").ok_or("status")?;
         let mut stream = String::from_str(alloc, "GET /ticket/1 HTTP/1.1\r\n")?;
         for header in headers.split_terminator('|') {
-            write!(stream, "{header}\r\n")?;
+            stream.push_str(header)?;
+            stream.push_str("\r\n")?;
         }
-        write!(stream, "\r\n{VALUE}")?;
-        let wanted = fault_told(alloc, status, body, fault)?;
-        assert_eq!(rt; told_of(alloc, stream.as_str())?.as_str(), wanted.as_str());
+        stream.push_str("\r\n")?;
+        stream.push_str(VALUE)?;
+        let wanted = fault_told(alloc, status, body)?;
+        assert_eq!(rt; alone(alloc, stream.as_str())?.as_str(), wanted.as_str());
     }
     Ok(())
 }
@@ -169,13 +156,11 @@ fn a_head_has_limits(rt: HostRuntime) -> Result<(), Fail> {
         alloc,
         "400 Bad Request",
         "{\"code\":60,\"fault\":\"BadHead\"}",
-        "BadHead",
     )?;
     let long = fault_told(
         alloc,
         "413 Content Too Large",
         "{\"code\":61,\"fault\":\"HeadTooLong\"}",
-        "HeadTooLong",
     )?;
     for (headers, length, wanted) in [
         (32, 0, &served),
@@ -184,7 +169,7 @@ fn a_head_has_limits(rt: HostRuntime) -> Result<(), Fail> {
         (32, 16_385, &long),
     ] {
         let stream = headed(alloc, headers, length)?;
-        let told = told_of(alloc, stream.as_str())?;
+        let told = alone(alloc, stream.as_str())?;
         assert_eq!(rt; told.as_str(), wanted.as_str(), "{headers} {length}");
     }
     Ok(())
@@ -208,7 +193,7 @@ fn a_deep_body_is_no_json(rt: HostRuntime) -> Result<(), Fail> {
         "{\"code\":64,\"fault\":\"BadJson\"}",
     )?;
     let wanted = format!(in alloc; "2 Closed\n{fault}{ADDED}")?;
-    assert_eq!(rt; told_of(alloc, stream.as_str())?.as_str(), wanted.as_str());
+    assert_eq!(rt; alone(alloc, stream.as_str())?.as_str(), wanted.as_str());
     Ok(())
 }
 
@@ -219,21 +204,13 @@ fn a_message_may_ask_to_close(rt: HostRuntime) -> Result<(), Fail> {
     let first = "GET /ticket/1 HTTP/1.1\r\nConnection: Close\r\n\r\n";
     let stream = format!(in alloc; "{first}{VALUE}")?;
     let missing = "{\"code\":69,\"fault\":\"NotFound\"}";
-    let wanted = answer(alloc, "404 Not Found", "Connection: close\r\n", missing)?;
+    let missing = answer(alloc, "404 Not Found", "Connection: close\r\n", missing)?;
+    let wanted = format!(in alloc; "1 Asked\n{missing}")?;
     let mut reader = Source::of(stream.as_bytes(), first.len(), first.len());
-    let mut keeper = ListKeeper::empty(alloc);
-    serves(
-        &rt,
-        alloc,
-        &mut keeper,
-        &mut reader,
-        wanted.as_str(),
-        1,
-        Why::Asked,
-    )?;
+    let told = told_of(alloc, &mut ListKeeper::empty(alloc), &mut reader)?;
+    assert_eq!(rt; told.as_str(), wanted.as_str());
     assert_eq!(rt; reader.reads, 1);
-    let old = told_of(alloc, "GET /ticket/1 HTTP/1.0\r\n\r\n")?;
-    let wanted = format!(in alloc; "1 Asked\n{wanted}")?;
+    let old = alone(alloc, "GET /ticket/1 HTTP/1.0\r\n\r\n")?;
     assert_eq!(rt; old.as_str(), wanted.as_str());
     Ok(())
 }
@@ -251,7 +228,7 @@ fn a_connection_has_a_thousand_messages(rt: HostRuntime) -> Result<(), Fail> {
     }
     stream.push_str("GET /a HTTP/1.1\r\n\r\nGET /a HTTP/1.1\r\n\r\n")?;
     wanted.push_str(answer(alloc, "404 Not Found", "Connection: close\r\n", fault)?.as_str())?;
-    assert_eq!(rt; told_of(alloc, stream.as_str())?.as_str(), wanted.as_str());
+    assert_eq!(rt; alone(alloc, stream.as_str())?.as_str(), wanted.as_str());
     Ok(())
 }
 
@@ -260,37 +237,39 @@ fn a_connection_has_a_thousand_messages(rt: HostRuntime) -> Result<(), Fail> {
 fn a_failed_read_ends_the_connection(rt: HostRuntime) -> Result<(), Fail> {
     let alloc = rt.alloc();
     let stream = format!(in alloc; "{RATE}{VALUE}")?;
-    let both = format!(in alloc; "{ADDED}{ROW}")?;
-    for fails in 1..stream.len() {
-        let before = fails.saturating_sub(1);
-        let (wanted, messages) = if before < RATE.len() {
-            ("", 0)
+    let one = format!(in alloc; "1 ReadFailed\n{ADDED}")?;
+    let both = format!(in alloc; "2 ReadFailed\n{ADDED}{ROW}")?;
+    for before in 0..=stream.len() {
+        let wanted = if before < RATE.len() {
+            "0 ReadFailed\n"
+        } else if before < stream.len() {
+            one.as_str()
         } else {
-            (ADDED, 1)
+            both.as_str()
         };
-        let mut reader = Source::failing(stream.as_bytes(), 1, fails);
-        let mut keeper = ListKeeper::empty(alloc);
-        serves(
-            &rt,
-            alloc,
-            &mut keeper,
-            &mut reader,
-            wanted,
-            messages,
-            Why::ReadFailed,
-        )?;
+        let mut reader = Source::failing(stream.as_bytes(), 1, before.saturating_add(1));
+        let told = told_of(alloc, &mut ListKeeper::empty(alloc), &mut reader)?;
+        assert_eq!(rt; told.as_str(), wanted, "after {before}");
     }
-    let mut reader = Source::failing(stream.as_bytes(), 1, stream.len().saturating_add(1));
-    let mut keeper = ListKeeper::empty(alloc);
-    serves(
-        &rt,
-        alloc,
-        &mut keeper,
-        &mut reader,
-        both.as_str(),
-        2,
-        Why::ReadFailed,
-    )
+    Ok(())
+}
+
+/// What is told of serving a stream to a writer that takes so many bytes.
+fn cut_short<K: Keeper>(
+    alloc: Global,
+    keeper: &mut K,
+    stream: &str,
+    room: usize,
+) -> Result<String, Fail> {
+    let mut reader = stream.as_bytes();
+    let mut writer = Narrow {
+        text: Vec::new(alloc),
+        step: 7,
+        room,
+    };
+    let ended = serve(alloc, keeper, &mut reader, &mut writer);
+    let Narrow { text, .. } = writer;
+    ended_told(alloc, ended, text)
 }
 
 /// The writer fails after each byte in turn. What it took is a front of the answers; the message whose
@@ -299,30 +278,19 @@ fn a_failed_read_ends_the_connection(rt: HostRuntime) -> Result<(), Fail> {
 fn a_failed_write_ends_the_connection(rt: HostRuntime) -> Result<(), Fail> {
     let alloc = rt.alloc();
     let stream = format!(in alloc; "{RATE}{VALUE}")?;
-    let both = format!(in alloc; "{ADDED}{ROW}")?;
-    for room in 0..both.len() {
+    let none = format!(in alloc; "0 WriteFailed\n{ADDED}")?;
+    let one = format!(in alloc; "1 WriteFailed\n{ADDED}{ROW}")?;
+    let both = format!(in alloc; "2 Closed\n{ADDED}{ROW}")?;
+    for room in 0..ADDED.len().saturating_add(ROW.len()) {
         let mut keeper = ListKeeper::empty(alloc);
-        let mut reader = stream.as_bytes();
-        let mut writer = Narrow {
-            text: Vec::new(alloc),
-            step: 7,
-            room,
-        };
-        let ended = serve(alloc, &mut keeper, &mut reader, &mut writer);
-        let messages = if room < ADDED.len() { 0 } else { 1 };
-        let why = Why::WriteFailed;
-        assert_eq!(rt; ended, Ended { messages, why });
-        assert_eq!(rt; writer.text.as_slice(), &both.as_bytes()[..room]);
+        let told = cut_short(alloc, &mut keeper, stream.as_str(), room)?;
+        let wanted = if room < ADDED.len() { &none } else { &one };
+        let length = room.saturating_add("0 WriteFailed\n".len());
+        assert_eq!(rt; told.len(), length);
+        assert!(rt; wanted.as_str().starts_with(told.as_str()), "{told}");
         let mut reader = Source::of(stream.as_bytes(), 4_096, 4_096);
-        serves(
-            &rt,
-            alloc,
-            &mut keeper,
-            &mut reader,
-            both.as_str(),
-            2,
-            Why::Closed,
-        )?;
+        let again = told_of(alloc, &mut keeper, &mut reader)?;
+        assert_eq!(rt; again.as_str(), both.as_str());
     }
     Ok(())
 }
@@ -345,28 +313,14 @@ pub fn lost_reply<K: Keeper>(rt: &impl Abort, alloc: Global, keeper: &mut K) -> 
     compare(rt, alloc, keeper, BEGUN)?;
     let redeem = message(alloc, REDEEM)?;
     let whole = answer(alloc, "200 OK", "", TICKET)?;
-    let mut reader = redeem.as_bytes();
-    let mut writer = Narrow {
-        text: Vec::new(alloc),
-        step: 64,
-        room: 200,
-    };
-    let ended = serve(alloc, keeper, &mut reader, &mut writer);
-    let why = Why::WriteFailed;
-    assert_eq!(rt; ended, Ended { messages: 0, why });
-    assert!(rt; whole.as_bytes().starts_with(writer.text.as_slice()));
-    assert_eq!(rt; writer.text.len(), 200);
+    let told = cut_short(alloc, keeper, redeem.as_str(), 200)?;
+    let front = told.as_str().strip_prefix("0 WriteFailed\n").ok_or("end")?;
+    assert!(rt; whole.as_str().starts_with(front));
     assert!(rt; keeper.ticket(1)?.is_some());
     let mut reader = Source::of(redeem.as_bytes(), 4_096, 4_096);
-    serves(
-        rt,
-        alloc,
-        keeper,
-        &mut reader,
-        whole.as_str(),
-        1,
-        Why::Closed,
-    )?;
+    let again = told_of(alloc, keeper, &mut reader)?;
+    let wanted = format!(in alloc; "1 Closed\n{whole}")?;
+    assert_eq!(rt; again.as_str(), wanted.as_str());
     compare(rt, alloc, keeper, AFTER)
 }
 
