@@ -1,0 +1,87 @@
+//! Command lines, and what they ask for.
+
+use ee_commands::{Command, CommandFault, FileKind, read_command};
+use std::alloc::Global;
+use std::test::Fail;
+
+/// Lines, and in plain words what they ask for, or what is wrong with them.
+const LINES: &str = "\
+value 50 2010-05 05/2015 3.50 => value of 50 issued 2010-05 in 2015-05 at 3.50%
+apply --db a.db => apply to a.db
+import rates r.csv --db a.db --number 9223372036854775807 => import of rates r.csv to a.db under 9223372036854775807
+import --number 1 --db a.db inventory i.csv => import of inventory i.csv to a.db under 1
+export 7 --db a.db => export of 7 from a.db
+sheet 007 2012-02 --db=a.db => sheet of 7 in 2012-02 from a.db
+serve --db a.db --port 65535 --connections 1000 => serve a.db on 65535, 1000 times
+ => a bad line
+--help => help
+import --help => help
+help => a bad line
+value 51 2010 2015 x => bad denom
+value 50 2010 2015 x => bad issued
+value 50 2010-05 2015 x => bad month
+value 50 2010-05 2015-05 x => bad rate
+value 50 2010-05 2015-05 => a bad line
+apply => a bad line
+import rats r.csv --db a.db --number 1 => a bad line
+import rates r.csv --db a.db --number 0 => a bad line
+import rates r.csv --db a.db --number 9223372036854775808 => a bad line
+export 0 --db a.db => bad customer
+sheet 0 x --db a.db => bad customer
+sheet 7 x --db a.db => bad month
+serve --db a.db --port 0 --connections 1 => a bad line
+serve --db a.db --port 65536 --connections 1 => a bad line
+serve --db a.db --port 1 --connections 1001 => a bad line
+";
+
+fn kind_told(kind: FileKind) -> &'static str {
+    match kind {
+        FileKind::Rates => "rates",
+        FileKind::Inventory => "inventory",
+    }
+}
+
+/// A command in plain words.
+fn command_told(alloc: Global, command: Command) -> Result<String, Fail> {
+    Ok(match command {
+        Command::Value(denom, issued, month, rate) => format!(in alloc;
+            "value of {denom} issued {issued} in {month} at {rate}"
+        )?,
+        Command::Apply(store) => format!(in alloc; "apply to {store}")?,
+        Command::Import(kind, file, store, number) => {
+            let kind = kind_told(kind);
+            let number = number.value();
+            format!(in alloc; "import of {kind} {file} to {store} under {number}")?
+        }
+        Command::Export(customer, store) => format!(in alloc; "export of {customer} from {store}")?,
+        Command::Sheet(customer, month, store) => format!(in alloc;
+            "sheet of {customer} in {month} from {store}"
+        )?,
+        Command::Serve(store, port, connections) => format!(in alloc;
+            "serve {store} on {port}, {connections} times"
+        )?,
+    })
+}
+
+/// What a line asks for, or what is wrong with it.
+fn told(alloc: Global, line: &str) -> Result<String, Fail> {
+    let line = format!(in alloc; "ee_cli {line}")?;
+    let words: Vec<&str> = line.as_str().split_ascii_whitespace().collect(alloc)?;
+    match read_command(alloc, words.as_slice()) {
+        Ok(command) => command_told(alloc, command),
+        Err(CommandFault::Help(_)) => Ok(String::from_str(alloc, "help")?),
+        Err(CommandFault::Line(_)) => Ok(String::from_str(alloc, "a bad line")?),
+        Err(CommandFault::Argument(name)) => Ok(format!(in alloc; "bad {name}")?),
+        Err(CommandFault::NoMemory) => Err("no memory".into()),
+    }
+}
+
+#[test]
+fn lines_are_read(rt: HostRuntime) -> Result<(), Fail> {
+    for row in LINES.lines() {
+        let (line, wanted) = row.split_once(" => ").ok_or("row")?;
+        let told = told(rt.alloc(), line)?;
+        assert_eq!(rt; told.as_str(), wanted, "{line}");
+    }
+    Ok(())
+}
