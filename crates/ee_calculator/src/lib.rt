@@ -9,8 +9,6 @@ mod notes;
 mod row_values;
 mod rows;
 mod sheets;
-#[cfg(test)]
-mod tests;
 mod totals;
 mod writing;
 

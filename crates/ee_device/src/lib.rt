@@ -5,8 +5,6 @@ ghost use Rattle.std.specs.Prelude.{◌≡◌, length};
 ghost use Rattle.ee_device.specs.Written.{WritesFront};
 
 mod reading;
-#[cfg(test)]
-mod tests;
 
 pub use reading::{ReadFault, read_whole};
 use std::io::Write;

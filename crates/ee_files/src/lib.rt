@@ -10,8 +10,6 @@ mod inventory;
 mod laws;
 mod rates;
 mod records;
-#[cfg(test)]
-mod tests;
 
 pub use columns::Column;
 pub use export::write_inventory;

@@ -11,10 +11,6 @@ mod laws;
 pub use buffer::{Buffer, Message, Next, Stop, WireEnd, next_message};
 pub use httparse::spans::Span;
 pub use laws::one_split;
-
-#[cfg(test)]
-mod tests;
-
 use thiserror::Error;
 
 /// The most bytes of a head.

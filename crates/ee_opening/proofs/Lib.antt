@@ -11,3 +11,8 @@ pub mod EachTable
 pub mod OneLemmas
 pub mod ReadLemmas
 pub mod WholeLemmas
+mod FaultLemmas
+mod VersionLemmas
+mod OpenLemmas
+mod UsableLemmas
+mod CanRead

@@ -1,5 +1,5 @@
 -- What reading several tables in turn gives.
-use Rattle.std.proofs.Common.{Ok, Err, Result, IfOk, inl, sym, subst}
+use Rattle.std.proofs.Common.{Ok, Err, Result, IfOk, IfErr, inl, sym, subst}
 use Rattle.sqlite.specs.Effect.{IsDatabase}
 use Rattle.sqlite.specs.State.{State, IsUnchanged, KeepsCommit}
 use Rattle.sqlite.proofs.InsideLemmas.{unchanged_keeps, keeps_then}
@@ -18,3 +18,7 @@ keeps_after a b c same keeps = keeps_then a b c (unchanged_keeps a b (inl same))
 pub each_ok : {X E : Type 0} {P Q : X → Type 0} (r : Result X E) → ((x : X) → P x → Q x) → IfOk r P → IfOk r Q
 each_ok (Ok x) f p = f x p
 each_ok (Err e) f p = tt
+
+pub each_fault : {X E : Type 0} {P Q : E → Type 0} (r : Result X E) → ((e : E) → P e → Q e) → IfErr r P → IfErr r Q
+each_fault (Ok x) f p = tt
+each_fault (Err e) f p = f e p

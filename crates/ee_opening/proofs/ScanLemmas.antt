@@ -48,12 +48,17 @@ stored_tree db t = ap (λ o. unwrap_or o (db t)) (none_given (nat_le (2 ^ 31) t)
     none_given true = refl
     none_given false = refl
 
+pub answers : (old new : State) (schema : Schema) (text : List ℕ) (tree : ℕ) (terms : List Term) (rows : List Row) (asks : AsksForAll schema text tree terms) → old.now.schema ≡ schema → Shown text [] old new rows
+    → IsAnswer (whole_table tree terms asks.order) (overlay old.now.trees []) [] rows
+answers old new schema text tree terms rows asks has shown =
+    let is = asked (whole_table tree terms asks.order) (understood schema text) asks.query in
+    (reads_as text [] old new schema has _ is.0 is.1 asks.unlisted rows shown).answer Null
+
 pub shows_all : (old new : State) (schema : Schema) (text : List ℕ) (tree : ℕ) (terms : List Term) (rows : List Row) → AsksForAll schema text tree terms → old.now.schema ≡ schema → Shown text [] old new rows
     → ShowsAll old.now.trees tree terms rows
 shows_all old new schema text tree terms rows asks has shown =
     let query = whole_table tree terms asks.order in
-    let is = asked query (understood schema text) asks.query in
-    let a : IsAnswer query (overlay old.now.trees []) [] rows = (reads_as text [] old new schema has _ is.0 is.1 asks.unlisted rows shown).answer Null in
+    let a : IsAnswer query (overlay old.now.trees []) [] rows = answers old new schema text tree terms rows asks has shown in
     let kept : a.kept ≡ map (output query) (flat_map (λ r. ([] ∷ r ∷ []) ∷ []) (old.now.trees tree)) = a.distinct ∙ ap (map (output query)) (a.grouped ∙ ap (flat_map (λ r. ([] ∷ r ∷ []) ∷ [])) (stored_tree old.now.trees tree)) in
     let same = IsPermutation-map (λ (o : Output). o.1) a.kept a.ordered a.same in
     subst (λ rs. IsPermutation rs rows) (ap (map (λ (o : Output). o.1)) kept ∙ each tree terms asks.order (old.now.trees tree)) (subst (IsPermutation (map (λ (o : Output). o.1) a.kept)) (sym a.shown) same)

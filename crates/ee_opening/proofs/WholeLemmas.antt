@@ -1,13 +1,17 @@
 -- A transaction that only reads, on a store with the tables of version 1.
-use Rattle.std.proofs.Common.{◌≡◌, inr, refl, IsTrue, sym, ap, subst, ◌∙◌}
+use Rattle.std.proofs.Common.{◌≡◌, inr, refl, IsTrue, T, sym, ap, subst, ◌∙◌, nat_cmp}
+use Rattle.std.specs.FinMap.{entries_sorted, is_sorted}
 use Rattle.sqlite.specs.Effect.{Database}
 use Rattle.sqlite.specs.State.{State, IsLive, IsRolledBack, KeepsCommit, Survives}
 use Rattle.sqlite.proofs.StateLemmas.{survives_then}
 use Rattle.sqlite.proofs.InsideLemmas.{unchanged_keeps, keeps_then}
+use Rattle.ee_tables.specs.Keyed.{pair_cmp}
 use Rattle.ee_tables.specs.Rows.{Rows, Holds, Has, IsInside}
 use Rattle.ee_tables.proofs.TransactionLemmas.{begun}
 use Rattle.ee_opening.specs.Reading.{IsSoundNow}
-use Rattle.ee_opening.specs.Whole.{IsOurs}
+use Rattle.ee_opening.specs.declared.whole.AllRows.{AllRows}
+use Rattle.ee_opening.specs.Shown.{desk_map, rate_map, bond_map, ticket_map, line_map, batch_map, reply_map}
+use Rattle.ee_opening.specs.Whole.{IsOurs, ListsAll, AreInOrder}
 use Rattle.ee_opening.proofs.OneLemmas.{one_rows}
 
 module _ (old start : State) (is : start ≡ begun old) (settled : IsTrue old.is_open → old.now ≡ old.committed) where
@@ -49,3 +53,15 @@ module _ (old start : State) (is : start ≡ begun old) (settled : IsTrue old.is
     where
       whole : Survives (begun old) new (λ _. ⊥) → Survives old new (λ _. ⊥)
       whole s = record { clean = s.clean; shield = s.shield; counts = s.counts; limit = s.limit; closes = s.closes; crash = s.crash }
+
+-- entries of maps are in order
+pub are_in_order : (all : AllRows) → ListsAll all → AreInOrder all
+are_in_order all lists = record {
+  desk = subst (λ es. T (is_sorted nat_cmp es)) lists.desk (entries_sorted (desk_map all.desk.items));
+  rates = subst (λ es. T (is_sorted nat_cmp es)) lists.rates (entries_sorted (rate_map all.rates.items));
+  bonds = subst (λ es. T (is_sorted pair_cmp es)) lists.bonds (entries_sorted (bond_map all.bonds.items));
+  tickets = subst (λ es. T (is_sorted nat_cmp es)) lists.tickets (entries_sorted (ticket_map all.tickets.items));
+  lines = subst (λ es. T (is_sorted pair_cmp es)) lists.lines (entries_sorted (line_map all.lines.items));
+  batches = subst (λ es. T (is_sorted nat_cmp es)) lists.batches (entries_sorted (batch_map all.batches.items));
+  replies = subst (λ es. T (is_sorted nat_cmp es)) lists.replies (entries_sorted (reply_map all.replies.items));
+}

@@ -1,5 +1,5 @@
 -- What is read of a whole table.
-use Rattle.std.specs.Prelude.{◌≡◌, ◌&&◌, ℕ, Bool, true, false, IsTrue, List, [], ◌∷◌, map, pos, negsuc, None, Ok, Err, Result, IsPermutation}
+use Rattle.std.specs.Prelude.{◌≡◌, ◌&&◌, ℕ, Bool, true, false, IsTrue, List, [], ◌∷◌, map, pos, negsuc, None, Ok, Err, Result, All, IsPermutation}
 use Rattle.sqlite.specs.declared.types.Value.TheVariants.{Int}
 use Rattle.sqlite.specs.Order.{Row}
 use Rattle.sqlite.specs.Tree.{Trees}
@@ -7,7 +7,8 @@ use Rattle.sqlite.specs.Schema.{Schema}
 use Rattle.sqlite.specs.Term.{Term, lit}
 use Rattle.sqlite_sql.specs.Term.{eval_all}
 use Rattle.sqlite_value.specs.declared.keys.Key.{Key}
-use Rattle.sqlite.specs.Query.{Query, inner, end}
+use Rattle.sqlite.specs.Query.{Query, IsAnswer, inner, end}
+use Rattle.sqlite.specs.Program.{overlay}
 use Rattle.sqlite_resolve.specs.declared.compiled.Compiled.{Compiled}
 use Rattle.sqlite_resolve.specs.declared.error.CompileError.{CompileError}
 use Rattle.sqlite.specs.Command.TheVariants.{Select}
@@ -56,3 +57,7 @@ ShowsAll db tree terms rows = IsPermutation (map (shown_by terms) (db tree)) row
 -- the tables obey the schema, as `sqlite` keeps them
 abbrev pub IsSoundNow : State → Type 0
 IsSoundNow s = IsTrue s.is_open → IsDatabase s.now
+
+-- What the query shows can be read, each row, and their keys rise.
+abbrev pub CanBeRead : {A : Type 0} → (Row → Type 0) → (A → Row) → (A → A → Bool) → Trees → Query → Type 0
+CanBeRead {A} IsReadable shown precedes db query = (rows : List Row) → IsAnswer query (overlay db []) [] rows → All IsReadable rows × ((found : List A) → rows ≡ map shown found → rises precedes found ≡ true)

@@ -1,11 +1,11 @@
 -- The rows of each table as a query of all their columns shows them, and as entries of maps.
-use Rattle.std.specs.Prelude.{ℕ, Bool, ◌&&◌, ◌||◌, ◌==◌, nat_lt, List, [], ◌∷◌, map, string_bytes}
+use Rattle.std.specs.Prelude.{◌≡◌, ℕ, ℤ, IsUtf8, Bool, ◌&&◌, ◌||◌, ◌==◌, nat_lt, List, [], ◌∷◌, Some, map, string_bytes}
 use Rattle.std.specs.Ordering.{nat_cmp}
-use Rattle.std.specs.FinMap.{FinMap, from_sorted}
+use Rattle.std.specs.FinMap.{FinMap, get, from_sorted}
 use Rattle.ee_tables.specs.Keyed.{pair_cmp}
-use Rattle.sqlite.specs.declared.types.Value.TheVariants.{Text}
+use Rattle.sqlite.specs.declared.types.Value.TheVariants.{Int, Text}
 use Rattle.sqlite.specs.Order.{Row}
-use Rattle.ee_tables.specs.Rows.{DeskRow, BondRow, TicketRow, PaidRow, BatchRow, ReplyRow, number, optional}
+use Rattle.ee_tables.specs.Rows.{DeskRow, BondRow, TicketRow, PaidRow, BatchRow, ReplyRow, number, optional, reply_columns}
 use Rattle.ee_opening.specs.declared.entries.StoredDesk.{StoredDesk}
 use Rattle.ee_opening.specs.declared.entries.StoredRate.{StoredRate}
 use Rattle.ee_opening.specs.declared.entries.StoredBond.{StoredBond}
@@ -40,6 +40,35 @@ batch_shown b = number b.day ∷ number b.tickets ∷ number b.bonds ∷ number 
 
 abbrev pub reply_shown : StoredReply → Row
 reply_shown r = number r.number ∷ Text (string_bytes r.act) ∷ Text (string_bytes r.reply) ∷ []
+
+-- ---- rows that this program writes
+
+-- under a number
+abbrev pub keyed_shown : {X : Type 0} → (X → Row) → ℕ × X → Row
+keyed_shown columns e = number e.0 ∷ columns e.1
+
+-- under a pair of numbers
+abbrev pub pair_shown : {X : Type 0} → (X → Row) → (ℕ × ℕ) × X → Row
+pair_shown columns e = number e.0.0 ∷ number e.0.1 ∷ columns e.1
+
+abbrev pub IsKeyed : {X : Type 0} → (X → Row) → Row → Type 0
+IsKeyed {X} columns row = (e : ℕ × X) × (row ≡ keyed_shown columns e)
+
+abbrev pub IsPaired : {X : Type 0} → (X → Row) → Row → Type 0
+IsPaired {X} columns row = (e : (ℕ × ℕ) × X) × (row ≡ pair_shown columns e)
+
+-- texts that can be read
+abbrev pub IsWritten : ReplyRow → Type 0
+IsWritten reply = IsUtf8 reply.act × IsUtf8 reply.reply
+
+abbrev pub AreWritten : FinMap nat_cmp ReplyRow → Type 0
+AreWritten replies = (n : ℕ) (reply : ReplyRow) → get replies n ≡ Some reply → IsWritten reply
+
+abbrev pub IsReply : Row → Type 0
+IsReply row = (e : ℕ × ReplyRow) × (row ≡ keyed_shown reply_columns e) × IsWritten e.1
+
+abbrev pub IsRowid : Row → Type 0
+IsRowid row = (i : ℤ) × (row ≡ Int i ∷ [])
 
 -- ---- entries
 

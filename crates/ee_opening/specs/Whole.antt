@@ -1,10 +1,11 @@
 -- What all rows of a store are together.
-use Rattle.std.specs.Prelude.{◌≡◌, IsTrue, map}
-use Rattle.std.specs.FinMap.{entries}
+use Rattle.std.specs.Prelude.{◌≡◌, IsTrue, T, map}
+use Rattle.std.specs.Ordering.{nat_cmp}
+use Rattle.std.specs.FinMap.{entries, is_sorted}
 use Rattle.sqlite.specs.Tree.{Trees}
 use Rattle.sqlite.specs.State.{State}
 use Rattle.ee_tables.specs.Tables.{counter_schema}
-use Rattle.ee_tables.specs.Keyed.{HoldsMap, HoldsPairs}
+use Rattle.ee_tables.specs.Keyed.{pair_cmp, HoldsMap, HoldsPairs}
 use Rattle.ee_tables.specs.Rows.{Rows, desk_columns, rate_columns, bond_columns, ticket_columns, paid_columns, batch_columns, reply_columns}
 use Rattle.ee_opening.specs.declared.whole.AllRows.{AllRows}
 use Rattle.ee_opening.specs.declared.whole.Register.{Register}
@@ -26,6 +27,16 @@ rows_of all = record {
   batches = batch_map all.batches.items;
   replies = reply_map all.replies.items;
 }
+
+-- Each table's rows are in order of their keys, and no key stands twice.
+pub record AreInOrder (all : AllRows) : Type 0 where
+  pub desk : T (is_sorted nat_cmp (map desk_entry all.desk.items))
+  pub rates : T (is_sorted nat_cmp (map rate_entry all.rates.items))
+  pub bonds : T (is_sorted pair_cmp (map bond_entry all.bonds.items))
+  pub tickets : T (is_sorted nat_cmp (map ticket_entry all.tickets.items))
+  pub lines : T (is_sorted pair_cmp (map line_entry all.lines.items))
+  pub batches : T (is_sorted nat_cmp (map batch_entry all.batches.items))
+  pub replies : T (is_sorted nat_cmp (map reply_entry all.replies.items))
 
 -- The entries of each map are the rows that were read, in their order.
 pub record ListsAll (all : AllRows) : Type 0 where

@@ -5,6 +5,7 @@
 
 ghost use Rattle.std.specs.Prelude.{◌≡◌, [], ◌∷◌, nat_lt, int_lt};
 ghost use Rattle.sqlite.specs.declared.types.Value.TheVariants.{Int};
+ghost use Rattle.ee_tables.specs.Rows.{desk_columns, rate_columns, bond_columns, ticket_columns, paid_columns, batch_columns};
 ghost use Rattle.ee_opening.specs.Shown as spec;
 
 use crate::making::OpenFault;
@@ -116,6 +117,8 @@ pub struct Rowid {
 impl Record for StoredDesk {
     ghost shown = { spec.desk_shown };
 
+    ghost is_readable = { spec.IsKeyed desk_columns };
+
     ghost stands_before = { λ a b. nat_lt a.id b.id };
 
     fn read(row: &Row) -> Result<StoredDesk, OpenFault> {
@@ -138,6 +141,8 @@ impl Record for StoredDesk {
 impl Record for StoredRate {
     ghost shown = { spec.rate_shown };
 
+    ghost is_readable = { spec.IsKeyed rate_columns };
+
     ghost stands_before = { λ a b. nat_lt a.period b.period };
 
     fn read(row: &Row) -> Result<StoredRate, OpenFault> {
@@ -157,6 +162,8 @@ impl Record for StoredRate {
 
 impl Record for StoredBond {
     ghost shown = { spec.bond_shown };
+
+    ghost is_readable = { spec.IsPaired bond_columns };
 
     ghost stands_before = { λ a b. spec.pair_lt (a.letter, a.number) (b.letter, b.number) };
 
@@ -183,6 +190,8 @@ impl Record for StoredBond {
 impl Record for StoredTicket {
     ghost shown = { spec.ticket_shown };
 
+    ghost is_readable = { spec.IsKeyed ticket_columns };
+
     ghost stands_before = { λ a b. nat_lt a.ticket b.ticket };
 
     fn read(row: &Row) -> Result<StoredTicket, OpenFault> {
@@ -205,6 +214,8 @@ impl Record for StoredTicket {
 
 impl Record for StoredLine {
     ghost shown = { spec.line_shown };
+
+    ghost is_readable = { spec.IsPaired paid_columns };
 
     ghost stands_before = { λ a b. spec.pair_lt (a.ticket, a.place) (b.ticket, b.place) };
 
@@ -229,6 +240,8 @@ impl Record for StoredLine {
 impl Record for StoredBatch {
     ghost shown = { spec.batch_shown };
 
+    ghost is_readable = { spec.IsKeyed batch_columns };
+
     ghost stands_before = { λ a b. nat_lt a.day b.day };
 
     fn read(row: &Row) -> Result<StoredBatch, OpenFault> {
@@ -251,6 +264,8 @@ impl Record for StoredBatch {
 impl Record for StoredReply {
     ghost shown = { spec.reply_shown };
 
+    ghost is_readable = { spec.IsReply };
+
     ghost stands_before = { λ a b. nat_lt a.number b.number };
 
     fn read(row: &Row) -> Result<StoredReply, OpenFault> {
@@ -271,6 +286,8 @@ impl Record for StoredReply {
 
 impl Record for Rowid {
     ghost shown = { λ it. Int it.rowid ∷ [] };
+
+    ghost is_readable = { spec.IsRowid };
 
     ghost stands_before = { λ a b. int_lt a.rowid b.rowid };
 

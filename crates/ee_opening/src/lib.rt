@@ -3,12 +3,15 @@
 
 mod entries;
 mod making;
+mod opening;
 mod reading;
 mod tables;
+mod version;
 mod whole;
 
 pub use entries::{
     StoredBatch, StoredBond, StoredDesk, StoredLine, StoredRate, StoredReply, StoredTicket,
 };
-pub use making::{OpenFault, is_blank, make_tables};
-pub use whole::{AllRows, read_all};
+pub use making::OpenFault;
+pub use opening::open_rows;
+pub use whole::AllRows;

@@ -25,6 +25,11 @@ pub enum OpenFault {
 }
 
 impl From<Error> for OpenFault {
+    ghost use Rattle.std.specs.Prelude.{◌≡◌};
+    ghost use Rattle.ee_opening.specs.Faults.{fault_of};
+
+    ghost from_gives = { λ error fault. fault ≡ fault_of error };
+
     fn from(error: Error) -> OpenFault {
         match error {
             Error::SqliteFailure(ErrorCode::OutOfMemory) => OpenFault::NoMemory,
@@ -170,10 +175,11 @@ fn make_in<S: Alter>(tx: &mut Transaction<'_, S>) -> Result<(), OpenFault>
 ///
 /// `NoMemory` where there is not enough memory, `Unusable` where a table of one of these names is
 /// there, and else `StoreFailed`, as where the connection is in a transaction.
-pub fn make_tables<S: Alter>(conn: &mut Connection<S>) -> Result<(), OpenFault>
+pub(crate) fn make_tables<S: Alter>(conn: &mut Connection<S>) -> Result<(), OpenFault>
     ensures made { HasCleanDisk (state S.Store conn.new) → OnOk result (IsBlank (state S.Store conn.old) → Has (state S.Store conn.new) first_rows) }
     ensures failed { HasCleanDisk (state S.Store conn.new) → OnErr result (KeepsCommit (state S.Store conn.old) (state S.Store conn.new)) }
     ensures crash { Survives (state S.Store conn.old) (state S.Store conn.new) (λ db. IsBlank (state S.Store conn.old) → Holds db first_rows) }
+    ensures open { HasCleanDisk (state S.Store conn.new) → OnOk result (IsTrue (state S.Store conn.old).is_open × IsTrue (state S.Store conn.new).is_open) }
     ensures durable { HasCleanDisk (state S.Store conn.new) → OnOk result ((db : Trees) → (state S.Store conn.new).may_leave db → db ≡ (state S.Store conn.new).committed.trees) }
 {
     if !conn.is_autocommit() {
@@ -183,12 +189,4 @@ pub fn make_tables<S: Alter>(conn: &mut Connection<S>) -> Result<(), OpenFault>
     make_in(&mut tx)?;
     tx.commit()?;
     Ok(())
-}
-
-/// Whether a store has no tables at all, so that they are to be made.
-pub fn is_blank<S: Alter>(conn: &Connection<S>) -> bool
-    ensures { IsTrue result → (state S.Store conn.now).now.schema ≡ no_tables }
-{
-    let schema = conn.schema();
-    schema.tables.is_empty() && schema.indexes.is_empty() && schema.views.is_empty()
 }

@@ -1,13 +1,15 @@
 //! Reading the rows of a table, and testing that their keys rise.
 
-ghost use Rattle.std.specs.Prelude.{◌≡◌, List, Bool, true, IsTrue, IfOk, OnOk, OnErr, map, ℕ};
+ghost use Rattle.std.specs.Prelude.{◌≡◌, ◌≢◌, List, Bool, true, IsTrue, IfOk, IfErr, OnOk, OnErr, map, ℕ, [], All};
 ghost use Rattle.sqlite.specs.State.{HasCleanDisk, IsUnchanged, KeepsCommit, Survives};
 ghost use Rattle.sqlite.specs.Held.{state};
 ghost use Rattle.sqlite.specs.Term.{Term};
+ghost use Rattle.sqlite.specs.Query.{IsAnswer};
+ghost use Rattle.sqlite.specs.Program.{overlay};
 ghost use Rattle.sqlite.specs.Order.{Row as Columns};
 ghost use Rattle.ee_tables.specs.Rows.{IsInside};
 ghost use Rattle.ee_tables.specs.Tables.{counter_schema};
-ghost use Rattle.ee_opening.specs.Reading.{rises, AsksForAll, ShowsAll};
+ghost use Rattle.ee_opening.specs.Reading.{rises, whole_table, AsksForAll, ShowsAll, CanBeRead};
 
 use crate::making::OpenFault;
 use sqlite::{Alter, Row, Transaction};
@@ -21,9 +23,14 @@ pub trait Record: Sized {
     // It stands before the other, in the order of the keys.
     ghost stands_before: { Self → Self → Bool };
 
+    // A row that this program writes, as the query shows it.
+    ghost is_readable: { Columns → Type 0 };
+
     /// Reads a row that the query showed.
     fn read(row: &Row) -> Result<Self, OpenFault>
-        ensures exact { IfOk result (λ found. row.now ≡ shown found) };
+        ensures exact { IfOk result (λ found. row.now ≡ shown found) }
+        ensures usable { IfErr result (λ e. e ≡ OpenFault.Unusable → ¬ is_readable row.now) }
+        ensures other { IfErr result (λ e. e ≢ OpenFault.WrongVersion) };
 
     /// Whether its key is below the other's.
     fn precedes(&self, next: &Self) -> bool
@@ -33,6 +40,8 @@ pub trait Record: Sized {
 /// Reads the rows that a query showed, each of them.
 fn read_each<T: Record + Drop>(alloc: Global, rows: &[Row]) -> Result<Vec<T>, OpenFault>
     ensures exact { IfOk result (λ found. rows.now ≡ map T.shown found.items) }
+    ensures usable { IfErr result (λ e. e ≡ OpenFault.Unusable → ¬ All T.is_readable rows.now) }
+    ensures other { IfErr result (λ e. e ≢ OpenFault.WrongVersion) }
 {
     let mut found = Vec::new(alloc);
     for row in rows {
@@ -66,9 +75,14 @@ fn all_rows<S: Alter>(tx: &mut Transaction<'_, S>, sql: &str) -> Result<Vec<Row>
     ensures open { HasCleanDisk (state S.Store tx.new.conn.now) → OnOk result (IsTrue (state S.Store tx.new.conn.now).is_open) }
     ensures found { HasCleanDisk (state S.Store tx.new.conn.now) → IfOk result (λ found. (tree : ℕ) (terms : List Term) → AsksForAll counter_schema sql.now tree terms
         → IsInside (state S.Store tx.old.conn.now) → IsTrue (state S.Store tx.old.conn.now).is_open × ShowsAll (state S.Store tx.old.conn.now).now.trees tree terms found.items) }
+    ensures answer { HasCleanDisk (state S.Store tx.new.conn.now) → IfOk result (λ found. (tree : ℕ) (terms : List Term) (asks : AsksForAll counter_schema sql.now tree terms)
+        → IsInside (state S.Store tx.old.conn.now) → IsAnswer (whole_table tree terms asks.order) (overlay (state S.Store tx.old.conn.now).now.trees []) [] found.items) }
+    ensures usable { HasCleanDisk (state S.Store tx.new.conn.now) → IfErr result (λ e. (tree : ℕ) (terms : List Term) → AsksForAll counter_schema sql.now tree terms
+        → IsInside (state S.Store tx.old.conn.now) → IsTrue (state S.Store tx.old.conn.now).is_open → e ≢ OpenFault.Unusable) }
     ensures same { HasCleanDisk (state S.Store tx.new.conn.now) → OnOk result ((tree : ℕ) (terms : List Term) → AsksForAll counter_schema sql.now tree terms
         → IsInside (state S.Store tx.old.conn.now) → IsUnchanged (state S.Store tx.old.conn.now) (state S.Store tx.new.conn.now)) }
     ensures commit { HasCleanDisk (state S.Store tx.new.conn.now) → IsInside (state S.Store tx.old.conn.now) → KeepsCommit (state S.Store tx.old.conn.now) (state S.Store tx.new.conn.now) }
+    ensures other { IfErr result (λ e. e ≢ OpenFault.WrongVersion) }
     ensures crash { Survives (state S.Store tx.old.conn.now) (state S.Store tx.new.conn.now) (λ _. ⊥) }
 {
     let rows = tx.query_all(sql, &[])?;
@@ -86,9 +100,13 @@ pub(crate) fn read_table<S: Alter, T: Record + Drop>(
     ensures found { HasCleanDisk (state S.Store tx.new.conn.now) → IfOk result (λ found. (tree : ℕ) (terms : List Term) → AsksForAll counter_schema sql.now tree terms
         → IsInside (state S.Store tx.old.conn.now) → IsTrue (state S.Store tx.old.conn.now).is_open × ShowsAll (state S.Store tx.old.conn.now).now.trees tree terms (map T.shown found.items)) }
     ensures rises { IfOk result (λ found. rises T.stands_before found.items ≡ true) }
+    ensures usable { HasCleanDisk (state S.Store tx.new.conn.now) → IfErr result (λ e. e ≡ OpenFault.Unusable → (tree : ℕ) (terms : List Term) (asks : AsksForAll counter_schema sql.now tree terms)
+        → IsInside (state S.Store tx.old.conn.now) → IsTrue (state S.Store tx.old.conn.now).is_open
+        → ¬ CanBeRead T.is_readable T.shown T.stands_before (state S.Store tx.old.conn.now).now.trees (whole_table tree terms asks.order)) }
     ensures same { HasCleanDisk (state S.Store tx.new.conn.now) → OnOk result ((tree : ℕ) (terms : List Term) → AsksForAll counter_schema sql.now tree terms
         → IsInside (state S.Store tx.old.conn.now) → IsUnchanged (state S.Store tx.old.conn.now) (state S.Store tx.new.conn.now)) }
     ensures commit { HasCleanDisk (state S.Store tx.new.conn.now) → IsInside (state S.Store tx.old.conn.now) → KeepsCommit (state S.Store tx.old.conn.now) (state S.Store tx.new.conn.now) }
+    ensures other { IfErr result (λ e. e ≢ OpenFault.WrongVersion) }
     ensures crash { Survives (state S.Store tx.old.conn.now) (state S.Store tx.new.conn.now) (λ _. ⊥) }
 {
     let rows = all_rows(tx, sql)?;

@@ -1,13 +1,14 @@
 //! Reading the whole of each table.
 
-ghost use Rattle.std.specs.Prelude.{◌≡◌, IsTrue, IfOk, OnOk, map};
-ghost use Rattle.std.specs.FinMap.{entries};
+ghost use Rattle.std.specs.Prelude.{◌≡◌, ◌≢◌, IsTrue, IfOk, IfErr, OnOk, map, ℕ};
+ghost use Rattle.std.specs.FinMap.{FinMap, entries};
+ghost use Rattle.std.specs.Ordering.{nat_cmp};
 ghost use Rattle.sqlite.specs.State.{HasCleanDisk, IsUnchanged, KeepsCommit, Survives};
 ghost use Rattle.sqlite.specs.Held.{state};
-ghost use Rattle.ee_tables.specs.Keyed.{HoldsMap, HoldsPairs};
-ghost use Rattle.ee_tables.specs.Rows.{IsInside, desk_columns, rate_columns, bond_columns, ticket_columns, paid_columns, batch_columns, reply_columns};
+ghost use Rattle.ee_tables.specs.Keyed.{pair_cmp, HoldsMap, HoldsPairs};
+ghost use Rattle.ee_tables.specs.Rows.{IsInside, DeskRow, BondRow, TicketRow, PaidRow, BatchRow, ReplyRow, desk_columns, rate_columns, bond_columns, ticket_columns, paid_columns, batch_columns, reply_columns};
 ghost use Rattle.ee_opening.specs.Reading.{IsSoundNow};
-ghost use Rattle.ee_opening.specs.Shown.{desk_map, rate_map, bond_map, ticket_map, line_map, batch_map, reply_map, desk_entry, rate_entry, bond_entry, ticket_entry, line_entry, batch_entry, reply_entry};
+ghost use Rattle.ee_opening.specs.Shown.{AreWritten, desk_map, rate_map, bond_map, ticket_map, line_map, batch_map, reply_map, desk_entry, rate_entry, bond_entry, ticket_entry, line_entry, batch_entry, reply_entry};
 
 use crate::entries::{
     Rowid, StoredBatch, StoredBond, StoredDesk, StoredLine, StoredRate, StoredReply, StoredTicket,
@@ -26,8 +27,10 @@ pub(crate) fn read_desk<S: Alter>(
     ensures open { HasCleanDisk (state S.Store tx.new.conn.now) → OnOk result (IsTrue (state S.Store tx.new.conn.now).is_open) }
     ensures found { HasCleanDisk (state S.Store tx.new.conn.now) → IsInside (state S.Store tx.old.conn.now) → IsSoundNow (state S.Store tx.old.conn.now) → IfOk result (λ found. HoldsMap desk_columns ((state S.Store tx.old.conn.now).now.trees 0) (desk_map found.items)) }
     ensures listed { IfOk result (λ found. entries (desk_map found.items) ≡ map desk_entry found.items) }
+    ensures usable { HasCleanDisk (state S.Store tx.new.conn.now) → IfErr result (λ e. e ≡ OpenFault.Unusable → IsInside (state S.Store tx.old.conn.now) → IsTrue (state S.Store tx.old.conn.now).is_open → (m : FinMap nat_cmp DeskRow) → ¬ HoldsMap desk_columns ((state S.Store tx.old.conn.now).now.trees 0) m) }
     ensures same { HasCleanDisk (state S.Store tx.new.conn.now) → IsInside (state S.Store tx.old.conn.now) → OnOk result (IsUnchanged (state S.Store tx.old.conn.now) (state S.Store tx.new.conn.now)) }
     ensures commit { HasCleanDisk (state S.Store tx.new.conn.now) → IsInside (state S.Store tx.old.conn.now) → KeepsCommit (state S.Store tx.old.conn.now) (state S.Store tx.new.conn.now) }
+    ensures other { IfErr result (λ e. e ≢ OpenFault.WrongVersion) }
     ensures crash { Survives (state S.Store tx.old.conn.now) (state S.Store tx.new.conn.now) (λ _. ⊥) }
 {
     read_table(
@@ -46,8 +49,10 @@ pub(crate) fn read_rates<S: Alter>(
     ensures open { HasCleanDisk (state S.Store tx.new.conn.now) → OnOk result (IsTrue (state S.Store tx.new.conn.now).is_open) }
     ensures found { HasCleanDisk (state S.Store tx.new.conn.now) → IsInside (state S.Store tx.old.conn.now) → IsSoundNow (state S.Store tx.old.conn.now) → IfOk result (λ found. HoldsMap rate_columns ((state S.Store tx.old.conn.now).now.trees 1) (rate_map found.items)) }
     ensures listed { IfOk result (λ found. entries (rate_map found.items) ≡ map rate_entry found.items) }
+    ensures usable { HasCleanDisk (state S.Store tx.new.conn.now) → IfErr result (λ e. e ≡ OpenFault.Unusable → IsInside (state S.Store tx.old.conn.now) → IsTrue (state S.Store tx.old.conn.now).is_open → (m : FinMap nat_cmp ℕ) → ¬ HoldsMap rate_columns ((state S.Store tx.old.conn.now).now.trees 1) m) }
     ensures same { HasCleanDisk (state S.Store tx.new.conn.now) → IsInside (state S.Store tx.old.conn.now) → OnOk result (IsUnchanged (state S.Store tx.old.conn.now) (state S.Store tx.new.conn.now)) }
     ensures commit { HasCleanDisk (state S.Store tx.new.conn.now) → IsInside (state S.Store tx.old.conn.now) → KeepsCommit (state S.Store tx.old.conn.now) (state S.Store tx.new.conn.now) }
+    ensures other { IfErr result (λ e. e ≢ OpenFault.WrongVersion) }
     ensures crash { Survives (state S.Store tx.old.conn.now) (state S.Store tx.new.conn.now) (λ _. ⊥) }
 {
     read_table(tx, alloc, "SELECT period, rate FROM rates ORDER BY period")
@@ -62,8 +67,10 @@ pub(crate) fn read_tickets<S: Alter>(
     ensures open { HasCleanDisk (state S.Store tx.new.conn.now) → OnOk result (IsTrue (state S.Store tx.new.conn.now).is_open) }
     ensures found { HasCleanDisk (state S.Store tx.new.conn.now) → IsInside (state S.Store tx.old.conn.now) → IsSoundNow (state S.Store tx.old.conn.now) → IfOk result (λ found. HoldsMap ticket_columns ((state S.Store tx.old.conn.now).now.trees 5) (ticket_map found.items)) }
     ensures listed { IfOk result (λ found. entries (ticket_map found.items) ≡ map ticket_entry found.items) }
+    ensures usable { HasCleanDisk (state S.Store tx.new.conn.now) → IfErr result (λ e. e ≡ OpenFault.Unusable → IsInside (state S.Store tx.old.conn.now) → IsTrue (state S.Store tx.old.conn.now).is_open → (m : FinMap nat_cmp TicketRow) → ¬ HoldsMap ticket_columns ((state S.Store tx.old.conn.now).now.trees 5) m) }
     ensures same { HasCleanDisk (state S.Store tx.new.conn.now) → IsInside (state S.Store tx.old.conn.now) → OnOk result (IsUnchanged (state S.Store tx.old.conn.now) (state S.Store tx.new.conn.now)) }
     ensures commit { HasCleanDisk (state S.Store tx.new.conn.now) → IsInside (state S.Store tx.old.conn.now) → KeepsCommit (state S.Store tx.old.conn.now) (state S.Store tx.new.conn.now) }
+    ensures other { IfErr result (λ e. e ≢ OpenFault.WrongVersion) }
     ensures crash { Survives (state S.Store tx.old.conn.now) (state S.Store tx.new.conn.now) (λ _. ⊥) }
 {
     read_table(
@@ -82,8 +89,10 @@ pub(crate) fn read_batches<S: Alter>(
     ensures open { HasCleanDisk (state S.Store tx.new.conn.now) → OnOk result (IsTrue (state S.Store tx.new.conn.now).is_open) }
     ensures found { HasCleanDisk (state S.Store tx.new.conn.now) → IsInside (state S.Store tx.old.conn.now) → IsSoundNow (state S.Store tx.old.conn.now) → IfOk result (λ found. HoldsMap batch_columns ((state S.Store tx.old.conn.now).now.trees 10) (batch_map found.items)) }
     ensures listed { IfOk result (λ found. entries (batch_map found.items) ≡ map batch_entry found.items) }
+    ensures usable { HasCleanDisk (state S.Store tx.new.conn.now) → IfErr result (λ e. e ≡ OpenFault.Unusable → IsInside (state S.Store tx.old.conn.now) → IsTrue (state S.Store tx.old.conn.now).is_open → (m : FinMap nat_cmp BatchRow) → ¬ HoldsMap batch_columns ((state S.Store tx.old.conn.now).now.trees 10) m) }
     ensures same { HasCleanDisk (state S.Store tx.new.conn.now) → IsInside (state S.Store tx.old.conn.now) → OnOk result (IsUnchanged (state S.Store tx.old.conn.now) (state S.Store tx.new.conn.now)) }
     ensures commit { HasCleanDisk (state S.Store tx.new.conn.now) → IsInside (state S.Store tx.old.conn.now) → KeepsCommit (state S.Store tx.old.conn.now) (state S.Store tx.new.conn.now) }
+    ensures other { IfErr result (λ e. e ≢ OpenFault.WrongVersion) }
     ensures crash { Survives (state S.Store tx.old.conn.now) (state S.Store tx.new.conn.now) (λ _. ⊥) }
 {
     read_table(
@@ -102,8 +111,10 @@ pub(crate) fn read_replies<S: Alter>(
     ensures open { HasCleanDisk (state S.Store tx.new.conn.now) → OnOk result (IsTrue (state S.Store tx.new.conn.now).is_open) }
     ensures found { HasCleanDisk (state S.Store tx.new.conn.now) → IsInside (state S.Store tx.old.conn.now) → IsSoundNow (state S.Store tx.old.conn.now) → IfOk result (λ found. HoldsMap reply_columns ((state S.Store tx.old.conn.now).now.trees 11) (reply_map found.items)) }
     ensures listed { IfOk result (λ found. entries (reply_map found.items) ≡ map reply_entry found.items) }
+    ensures usable { HasCleanDisk (state S.Store tx.new.conn.now) → IfErr result (λ e. e ≡ OpenFault.Unusable → IsInside (state S.Store tx.old.conn.now) → IsTrue (state S.Store tx.old.conn.now).is_open → (m : FinMap nat_cmp ReplyRow) → AreWritten m → ¬ HoldsMap reply_columns ((state S.Store tx.old.conn.now).now.trees 11) m) }
     ensures same { HasCleanDisk (state S.Store tx.new.conn.now) → IsInside (state S.Store tx.old.conn.now) → OnOk result (IsUnchanged (state S.Store tx.old.conn.now) (state S.Store tx.new.conn.now)) }
     ensures commit { HasCleanDisk (state S.Store tx.new.conn.now) → IsInside (state S.Store tx.old.conn.now) → KeepsCommit (state S.Store tx.old.conn.now) (state S.Store tx.new.conn.now) }
+    ensures other { IfErr result (λ e. e ≢ OpenFault.WrongVersion) }
     ensures crash { Survives (state S.Store tx.old.conn.now) (state S.Store tx.new.conn.now) (λ _. ⊥) }
 {
     read_table(
@@ -122,8 +133,10 @@ pub(crate) fn read_bonds<S: Alter>(
     ensures open { HasCleanDisk (state S.Store tx.new.conn.now) → OnOk result (IsTrue (state S.Store tx.new.conn.now).is_open) }
     ensures found { HasCleanDisk (state S.Store tx.new.conn.now) → IsInside (state S.Store tx.old.conn.now) → IsSoundNow (state S.Store tx.old.conn.now) → IfOk result (λ found. HoldsPairs bond_columns ((state S.Store tx.old.conn.now).now.trees 2) (bond_map found.items)) }
     ensures listed { IfOk result (λ found. entries (bond_map found.items) ≡ map bond_entry found.items) }
+    ensures usable { HasCleanDisk (state S.Store tx.new.conn.now) → IfErr result (λ e. e ≡ OpenFault.Unusable → IsInside (state S.Store tx.old.conn.now) → IsTrue (state S.Store tx.old.conn.now).is_open → (m : FinMap pair_cmp BondRow) → ¬ HoldsPairs bond_columns ((state S.Store tx.old.conn.now).now.trees 2) m) }
     ensures same { HasCleanDisk (state S.Store tx.new.conn.now) → IsInside (state S.Store tx.old.conn.now) → OnOk result (IsUnchanged (state S.Store tx.old.conn.now) (state S.Store tx.new.conn.now)) }
     ensures commit { HasCleanDisk (state S.Store tx.new.conn.now) → IsInside (state S.Store tx.old.conn.now) → KeepsCommit (state S.Store tx.old.conn.now) (state S.Store tx.new.conn.now) }
+    ensures other { IfErr result (λ e. e ≢ OpenFault.WrongVersion) }
     ensures crash { Survives (state S.Store tx.old.conn.now) (state S.Store tx.new.conn.now) (λ _. ⊥) }
 {
     let found = read_table(
@@ -144,8 +157,10 @@ pub(crate) fn read_lines<S: Alter>(
     ensures open { HasCleanDisk (state S.Store tx.new.conn.now) → OnOk result (IsTrue (state S.Store tx.new.conn.now).is_open) }
     ensures found { HasCleanDisk (state S.Store tx.new.conn.now) → IsInside (state S.Store tx.old.conn.now) → IsSoundNow (state S.Store tx.old.conn.now) → IfOk result (λ found. HoldsPairs paid_columns ((state S.Store tx.old.conn.now).now.trees 7) (line_map found.items)) }
     ensures listed { IfOk result (λ found. entries (line_map found.items) ≡ map line_entry found.items) }
+    ensures usable { HasCleanDisk (state S.Store tx.new.conn.now) → IfErr result (λ e. e ≡ OpenFault.Unusable → IsInside (state S.Store tx.old.conn.now) → IsTrue (state S.Store tx.old.conn.now).is_open → (m : FinMap pair_cmp PaidRow) → ¬ HoldsPairs paid_columns ((state S.Store tx.old.conn.now).now.trees 7) m) }
     ensures same { HasCleanDisk (state S.Store tx.new.conn.now) → IsInside (state S.Store tx.old.conn.now) → OnOk result (IsUnchanged (state S.Store tx.old.conn.now) (state S.Store tx.new.conn.now)) }
     ensures commit { HasCleanDisk (state S.Store tx.new.conn.now) → IsInside (state S.Store tx.old.conn.now) → KeepsCommit (state S.Store tx.old.conn.now) (state S.Store tx.new.conn.now) }
+    ensures other { IfErr result (λ e. e ≢ OpenFault.WrongVersion) }
     ensures crash { Survives (state S.Store tx.old.conn.now) (state S.Store tx.new.conn.now) (λ _. ⊥) }
 {
     let found = read_table(

@@ -6,8 +6,6 @@ mod amounts;
 mod products;
 mod roots;
 mod search;
-#[cfg(test)]
-mod tests;
 
 pub use amounts::settle;
 pub use products::{mul_down, mul_up};

@@ -9,3 +9,7 @@ pub mod Transactions
 pub mod Named
 pub mod Following
 pub mod DaySums
+pub mod ReadValues
+pub mod FoundTickets
+pub mod FoundBonds
+pub mod FoundRows

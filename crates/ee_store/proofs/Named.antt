@@ -25,7 +25,7 @@ found_push f (x ∷ xs) y = ap (cons_option (f x)) (found_push f xs y) ∙ front
 pub found_next : {A B : Type 0} (f : A → Option B) (xs : List A) (i : ℕ) (d : A) → i < length xs → filter_map f (take (i + 1) xs) ≡ filter_map f (take i xs) ++ cons_option (f (get_or xs i d)) []
 found_next f xs i d h = ap (filter_map f) (take_more xs i d h) ∙ found_push f (take i xs) (get_or xs i d)
 
-same_found : {A B : Type 0} (f g : A → Option B) (xs : List A) → AllByRecursion (λ x. f x ≡ g x) xs → filter_map f xs ≡ filter_map g xs
+pub same_found : {A B : Type 0} (f g : A → Option B) (xs : List A) → AllByRecursion (λ x. f x ≡ g x) xs → filter_map f xs ≡ filter_map g xs
 same_found f g [] h = refl
 same_found f g (x ∷ xs) h = λ i. cons_option (h.0 i) (same_found f g xs h.1 i)
 

@@ -2,16 +2,19 @@
 use Rattle.std.proofs.Common.{◌≡◌, ◌⊎◌, inl, inr, Bool, true, false, not, true≢false, IsTrue, [], ◌∷◌, refl, sym, ◌∙◌, subst}
 use Rattle.std.specs.FinMap as finite
 use Rattle.sqlite.specs.Tree.{Trees}
-use Rattle.sqlite.specs.State.{State, HasCleanDisk, Survives, KeepsCommit, Shows}
+use Rattle.sqlite.specs.State.{State, HasCleanDisk, Survives, IsRolledBack, KeepsCommit, Shows}
 use Rattle.ee_acts.specs.declared.acts.Request.{Request}
 use Rattle.ee_acts.specs.Numbers.{number_of}
 use Rattle.ee_acts.specs.Repeats.{Content}
 use Rattle.ee_acts.specs.Contents.{content_after}
 use Rattle.ee_acts.proofs.Repeats.{one_known}
 use Rattle.ee_tables.specs.Rows.{IsInside, Holds}
-use Rattle.ee_tables.proofs.TransactionLemmas.{begun, begun_inside, begun_sees, still_has, committed_has}
+use Rattle.ee_tables.specs.Statements.{CommitsNothing}
+use Rattle.ee_tables.proofs.KeepLemmas.{clean_before}
+use Rattle.ee_tables.proofs.TransactionLemmas.{begun, begun_inside, begun_sees, still_has, committed_has, rolled_keeps}
 use Rattle.ee_contents.specs.Standing.{rows_of}
 use Rattle.ee_store.specs.Serving.{StandsFor, HasContent, SeesContent}
+use Rattle.ee_store.specs.Asking.{KeepsContent}
 
 -- a number that comes again leaves the content
 pub known_stays : (S : Content) (q : Request) (is_new : Bool) → is_new ≡ false → is_new ≡ not (finite.contains_key S.kept (number_of q)) → S ≡ content_after S (q ∷ [])
@@ -57,6 +60,12 @@ module _ (old start : State) (is : start ≡ begun old) (middle new : State) whe
       first : middle.may_leave db ⊎ ⊥ → old.may_leave db
       first (inl h) = second (one.crash clean_middle db h)
       first (inr h) = absurd h
+
+-- a transaction that is read and rolled back keeps the content
+pub read_keeps : (old start : State) (is : start ≡ begun old) (settled : IsTrue old.is_open → old.now ≡ old.committed) (middle new : State)
+    → CommitsNothing start middle → Survives middle new (λ _. ⊥) → (HasCleanDisk new → IsRolledBack middle new) → KeepsContent old new
+read_keeps old start is settled middle new commit survives undone clean S has =
+    still_content old start is middle new S has (commit (clean_before middle new survives clean) (inside_content old start is settled S has)) (rolled_keeps old start is middle new (undone clean))
 
 -- what a commit makes stands for the content
 pub stands_when_open : (s : State) (S : Content) → SeesContent s S → IsTrue s.is_open → StandsFor s.now.trees S

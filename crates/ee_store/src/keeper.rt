@@ -19,9 +19,9 @@ use std::alloc::Global;
 
 /// Keeps books and replies in the tables of a store.
 pub struct SqlKeeper<S: Alter> {
-    alloc: Global,
-    tables: Tables,
-    conn: Connection<S>,
+    pub(crate) alloc: Global,
+    pub(crate) tables: Tables,
+    pub(crate) conn: Connection<S>,
 }
 
 impl<S: Alter> SqlKeeper<S> {

@@ -2,15 +2,20 @@
 //! that keeps them there.
 #![tactic(auto)]
 
+mod asking;
 mod counting;
 mod delivering;
 mod failures;
+mod finding;
 mod keeper;
 mod keys;
 mod looking;
+mod queries;
 mod repeats;
 mod seeing;
 mod serving;
+mod sheets;
+mod showing;
 mod terms;
 mod values;
 mod writing;

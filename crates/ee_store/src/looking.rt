@@ -33,7 +33,7 @@ fn coowner_of(number: Option<u64>) -> Option<Option<Customer>>
 }
 
 /// The bond that a row shows, and the ticket that paid it.
-fn held_from(serial: Serial, row: tables::Bond) -> Option<Held>
+pub fn held_from(serial: Serial, row: tables::Bond) -> Option<Held>
     ensures { IfSome result (λ held. (bond_row held ≡ row_of_bond row) × (held.bond.serial ≡ serial)) }
 {
     let denom = denom_of(row.denom)?;

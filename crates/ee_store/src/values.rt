@@ -3,65 +3,47 @@
 ghost use Rattle.std.specs.Prelude.{◌≡◌, IfSome};
 ghost use Rattle.ee_units.specs.Denoms.{dollars};
 
-use ee_units::{Customer, Day, Denom, IssueMonth, Rate};
+use ee_contents as contents;
+use ee_units::{Customer, Day, Denom, IssueMonth, Rate, Serial};
 
 /// The denomination of that many dollars.
 pub fn denom_of(number: u64) -> Option<Denom>
     ensures { IfSome result (λ denom. dollars denom ≡ number) }
 {
-    match number {
-        50 => Some(Denom::Fifty),
-        75 => Some(Denom::SeventyFive),
-        100 => Some(Denom::Hundred),
-        200 => Some(Denom::TwoHundred),
-        500 => Some(Denom::FiveHundred),
-        1000 => Some(Denom::Thousand),
-        5000 => Some(Denom::FiveThousand),
-        10000 => Some(Denom::TenThousand),
-        _ => None,
-    }
+    contents::denom_of(number)
 }
 
 /// The issue month of that count from May 2005.
 pub fn issue_of(count: u64) -> Option<IssueMonth>
     ensures { IfSome result (λ month. month ≡ count) }
 {
-    if count <= 1135 {
-        Some(IssueMonth::from_count(count as u16))
-    } else {
-        None
-    }
+    contents::issue_of(count)
 }
 
 /// The day of that count from 1970-01-01.
 pub fn day_of(count: u64) -> Option<Day>
     ensures { IfSome result (λ day. day ≡ count) }
 {
-    if count <= 84_005 {
-        Day::new(count as u32)
-    } else {
-        None
-    }
+    contents::day_of(count)
 }
 
 /// The rate of that many hundredths of a percent.
 pub fn rate_of(hundredths: u64) -> Option<Rate>
     ensures { IfSome result (λ rate. rate ≡ hundredths) }
 {
-    if hundredths <= 2000 {
-        Some(Rate::from_hundredths(hundredths as u16))
-    } else {
-        None
-    }
+    contents::rate_of(hundredths)
 }
 
 /// The customer of that number.
 pub fn customer_of(number: u64) -> Option<Customer>
     ensures { IfSome result (λ customer. customer ≡ number) }
 {
-    if number <= 999_999_999 {
-        Customer::new(number as u32)
-    } else {
-        None
-    }
+    contents::customer_of(number)
+}
+
+/// The serial number of that letter, 1 for A, and that number.
+pub fn serial_of(letter: u64, number: u64) -> Option<Serial>
+    ensures { IfSome result (λ serial. (serial.letter ≡ letter) × (serial.number ≡ number)) }
+{
+    contents::serial_of(letter, number)
 }

@@ -10,8 +10,6 @@ mod rates;
 mod reading;
 mod records;
 mod replies;
-#[cfg(test)]
-mod tests;
 mod tickets;
 mod values;
 

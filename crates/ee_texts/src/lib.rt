@@ -20,6 +20,3 @@ pub use laws::texts_law;
 pub use ranges::{batch_fits, bonds_fit, rate_rows_fit, ticket_fits};
 pub use replies::reply_text;
 pub use reply_reading::read_reply;
-
-#[cfg(test)]
-mod tests;

@@ -27,6 +27,3 @@ pub use months::{IssueMonth, Month, read_issue, read_month};
 pub use precision::Bits;
 pub use rates::{Rate, read_rate};
 pub use serials::{Serial, read_serial};
-
-#[cfg(test)]
-mod tests;

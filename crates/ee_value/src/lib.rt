@@ -11,8 +11,6 @@ mod laws;
 mod quotes;
 mod rates;
 mod tables;
-#[cfg(test)]
-mod tests;
 
 pub use accrual::unit_at;
 pub use bonds::bond_value;

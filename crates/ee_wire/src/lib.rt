@@ -14,6 +14,3 @@ pub use ee_framing::{
     WireEnd, next_message, one_split,
 };
 pub use writing::write_reply;
-
-#[cfg(test)]
-mod tests;

@@ -1,13 +1,17 @@
-use Rattle.std.proofs.Common.{[], ◌∷◌, map, subst}
+use Rattle.std.proofs.Common.{[], ◌∷◌, map, sym, subst}
 use Rattle.sqlite.specs.declared.types.Value.TheVariants.{Int}
 use Rattle.sqlite.specs.Effect.{Database}
 use Rattle.sqlite.specs.Held.{state}
 use Rattle.sqlite.proofs.Callers.{unchanged_then}
+use Rattle.ee_tables.specs.Keyed.{HoldsPairs}
+use Rattle.ee_tables.specs.Rows.{paid_columns}
 use Rattle.ee_tables.proofs.KeepLemmas.{clean_before, unchanged_inside}
 use Rattle.ee_opening.specs.declared.entries.Rowid.{Rowid}
 use Rattle.ee_opening.specs.Reading.{ShowsAll}
 use Rattle.ee_opening.proofs.QuestionLemmas.{line_terms, rowid_terms, asks_lines, asks_line_rowids}
 use Rattle.ee_opening.proofs.ReadLemmas.{keeps_after}
+use Rattle.ee_opening.proofs.FaultLemmas.{handed_on}
+use Rattle.ee_opening.proofs.CanRead.{can_read_lines, can_read_line_rowids}
 use Rattle.ee_opening.proofs.EachTable.{holds_lines, listed_lines}
 use Rattle.ee_opening.proofs.tables.read_lines.Goals as goal
 
@@ -57,3 +61,20 @@ returns-clause-found g c clean inside sound =
 
 pub returns-clause-listed : goal.returns-clause-listed
 returns-clause-listed g c = listed_lines c.in_ok-found.found.items c.in_ok-found.ensures.rises
+
+pub returns-in_err-found-clause-usable : goal.returns-in_err-found-clause-usable
+returns-in_err-found-clause-usable g c clean =
+    let old = state g.S.Store c.args.tx.now.conn.now in
+    handed_on _ c.from_residual.result c.in_err-found.field-0.0 c.from_residual.ensures.1 (λ unusable inside is_open m holds.
+    c.in_err-found.ensures.usable clean unusable 7 line_terms asks_lines inside is_open (can_read_lines old.now.trees m holds))
+
+pub returns-in_err-_rowids-clause-usable : goal.returns-in_err-_rowids-clause-usable
+returns-in_err-_rowids-clause-usable g c clean =
+    let old = state g.S.Store c.args.tx.now.conn.now in
+    let middle = state g.S.Store c.read_table.new.tx.conn.now in
+    let new = state g.S.Store c.read_table-2.new.tx.conn.now in
+    handed_on _ c.from_residual-in_err-_rowids.result c.in_err-_rowids.field-0.0 c.from_residual-in_err-_rowids.ensures.1 (λ unusable inside is_open m holds.
+    let before = clean_before middle new c.read_table-2.ensures.crash clean in
+    let same = c.in_ok-found.ensures.same before 7 line_terms asks_lines inside in
+    let inside_then = unchanged_inside old middle same inside in
+    c.in_err-_rowids.ensures.usable clean unusable 7 rowid_terms asks_line_rowids inside_then same.0.is_open (can_read_line_rowids middle.now.trees m (subst (λ (d : Database). HoldsPairs paid_columns (d.trees 7) m) (sym same.0.now_is) holds)))

@@ -1,7 +1,8 @@
 use Rattle.sqlite.specs.Held.{state}
 use Rattle.ee_tables.proofs.KeepLemmas.{on_ok}
 use Rattle.ee_opening.proofs.QuestionLemmas.{rate_terms, asks_rates}
-use Rattle.ee_opening.proofs.ReadLemmas.{both_ok, each_ok}
+use Rattle.ee_opening.proofs.ReadLemmas.{both_ok, each_ok, each_fault}
+use Rattle.ee_opening.proofs.CanRead.{can_read_rates}
 use Rattle.ee_opening.proofs.EachTable.{holds_rates, listed_rates}
 use Rattle.ee_opening.proofs.tables.read_rates.Goals as goal
 
@@ -15,3 +16,8 @@ returns-clause-same g c clean inside = on_ok c.read_table.result (λ same. same 
 
 pub returns-clause-listed : goal.returns-clause-listed
 returns-clause-listed g c = each_ok c.read_table.result (λ found up. listed_rates found.items up) c.read_table.ensures.rises
+
+pub returns-clause-usable : goal.returns-clause-usable
+returns-clause-usable g c clean =
+    let old = state g.S.Store c.args.tx.now.conn.now in
+    each_fault c.read_table.result (λ e usable unusable inside is_open m holds. usable unusable 1 rate_terms asks_rates inside is_open (can_read_rates old.now.trees m holds)) (c.read_table.ensures.usable clean)

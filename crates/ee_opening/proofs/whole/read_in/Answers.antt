@@ -1,9 +1,11 @@
-use Rattle.std.proofs.Common.{subst, ◌∙◌}
+use Rattle.std.proofs.Common.{sym, subst, ◌∙◌}
 use Rattle.sqlite.specs.Effect.{Database}
 use Rattle.sqlite.specs.Held.{state}
 use Rattle.sqlite.proofs.Callers.{unchanged_then}
+use Rattle.ee_tables.specs.Rows.{Holds}
 use Rattle.ee_tables.proofs.KeepLemmas.{clean_before, unchanged_inside}
 use Rattle.ee_opening.specs.Whole.{HoldsPayments, HoldsRecords}
+use Rattle.ee_opening.proofs.FaultLemmas.{handed_on}
 use Rattle.ee_opening.proofs.ReadLemmas.{sound_after, keeps_after}
 use Rattle.ee_opening.proofs.whole.read_in.Goals as goal
 
@@ -97,3 +99,45 @@ returns-clause-listed g c =
       batches = records.batches;
       replies = records.replies;
     }
+
+pub returns-in_err-register-clause-usable : goal.returns-in_err-register-clause-usable
+returns-in_err-register-clause-usable g c clean =
+    handed_on _ c.from_residual.result c.in_err-register.field-0.0 c.from_residual.ensures.1 (λ unusable inside_0 open_0 rows written holds_0.
+    let at_0 = state g.S.Store c.args.tx.now.conn.now in
+    let at_1 = state g.S.Store c.read_register.new.tx.conn.now in
+    let clean_1 = clean in
+    c.in_err-register.ensures.usable clean_1 unusable inside_0 open_0 rows holds_0)
+
+pub returns-in_err-payments-clause-usable : goal.returns-in_err-payments-clause-usable
+returns-in_err-payments-clause-usable g c clean =
+    handed_on _ c.from_residual-in_err-payments.result c.in_err-payments.field-0.0 c.from_residual-in_err-payments.ensures.1 (λ unusable inside_0 open_0 rows written holds_0.
+    let at_0 = state g.S.Store c.args.tx.now.conn.now in
+    let at_1 = state g.S.Store c.read_register.new.tx.conn.now in
+    let at_2 = state g.S.Store c.read_payments.new.tx.conn.now in
+    let clean_2 = clean in
+    let clean_1 = clean_before at_1 at_2 c.read_payments.ensures.crash clean_2 in
+    let same_1 = c.in_ok-register.ensures.same clean_1 inside_0 in
+    let inside_1 = unchanged_inside at_0 at_1 same_1 inside_0 in
+    let open_1 = same_1.0.is_open in
+    let holds_1 = subst (λ (d : Database). Holds d.trees rows) (sym same_1.0.now_is) holds_0 in
+    c.in_err-payments.ensures.usable clean_2 unusable inside_1 open_1 rows holds_1)
+
+pub returns-in_err-records-clause-usable : goal.returns-in_err-records-clause-usable
+returns-in_err-records-clause-usable g c clean =
+    handed_on _ c.from_residual-in_err-records.result c.in_err-records.field-0.0 c.from_residual-in_err-records.ensures.1 (λ unusable inside_0 open_0 rows written holds_0.
+    let at_0 = state g.S.Store c.args.tx.now.conn.now in
+    let at_1 = state g.S.Store c.read_register.new.tx.conn.now in
+    let at_2 = state g.S.Store c.read_payments.new.tx.conn.now in
+    let at_3 = state g.S.Store c.read_records.new.tx.conn.now in
+    let clean_3 = clean in
+    let clean_2 = clean_before at_2 at_3 c.read_records.ensures.crash clean_3 in
+    let clean_1 = clean_before at_1 at_2 c.read_payments.ensures.crash clean_2 in
+    let same_1 = c.in_ok-register.ensures.same clean_1 inside_0 in
+    let inside_1 = unchanged_inside at_0 at_1 same_1 inside_0 in
+    let open_1 = same_1.0.is_open in
+    let holds_1 = subst (λ (d : Database). Holds d.trees rows) (sym same_1.0.now_is) holds_0 in
+    let same_2 = c.in_ok-payments.ensures.same clean_2 inside_1 in
+    let inside_2 = unchanged_inside at_1 at_2 same_2 inside_1 in
+    let open_2 = same_2.0.is_open in
+    let holds_2 = subst (λ (d : Database). Holds d.trees rows) (sym same_2.0.now_is) holds_1 in
+    c.in_err-records.ensures.usable clean_3 unusable inside_2 open_2 rows written holds_2)

@@ -1,0 +1,39 @@
+use Rattle.std.proofs.Common.{inr}
+use Rattle.sqlite.specs.Held.{state}
+use Rattle.sqlite.proofs.StateLemmas.{survives_then}
+use Rattle.ee_tables.specs.Rows.{Holds}
+use Rattle.ee_tables.proofs.KeepLemmas.{clean_before, IfOk_then, if_err}
+use Rattle.ee_opening.specs.Making.{IsBlank, first_rows}
+use Rattle.ee_opening.proofs.OpenLemmas.{kept_has}
+use Rattle.ee_opening.proofs.opening.open_blank.Goals as goal
+
+pub returns-clause-found : goal.returns-clause-found
+returns-clause-found g c clean =
+    let middle = state g.S.Store c.make_tables.new.conn in
+    let new = state g.S.Store c.read_all.new.conn in
+    let made = c.in_ok-make_tables.ensures.made (clean_before middle new c.read_all.ensures.crash clean) in
+    IfOk_then c.read_all.result (λ all found blank. found (λ is_open. (made blank is_open).0)) (c.read_all.ensures.found clean)
+
+pub returns-clause-made : goal.returns-clause-made
+returns-clause-made g c clean =
+    let middle = state g.S.Store c.make_tables.new.conn in
+    let new = state g.S.Store c.read_all.new.conn in
+    let before = clean_before middle new c.read_all.ensures.crash clean in
+    let made = c.in_ok-make_tables.ensures.made before in
+    IfOk_then c.read_all.result (λ all those blank. those first_rows (made blank) (c.in_ok-make_tables.ensures.open before).1) (c.read_all.ensures.those clean)
+
+pub returns-clause-failed : goal.returns-clause-failed
+returns-clause-failed g c clean =
+    let middle = state g.S.Store c.make_tables.new.conn in
+    let new = state g.S.Store c.read_all.new.conn in
+    let before = clean_before middle new c.read_all.ensures.crash clean in
+    let made = c.in_ok-make_tables.ensures.made before in
+    if_err c.read_all.result (inr ((c.in_ok-make_tables.ensures.open before).0, λ blank. kept_has middle new first_rows (c.read_all.ensures.kept clean (λ is_open. (made blank is_open).0)) (made blank)))
+
+pub returns-clause-crash : goal.returns-clause-crash
+returns-clause-crash g c =
+    let old = state g.S.Store c.args.conn.now in
+    let middle = state g.S.Store c.make_tables.new.conn in
+    let new = state g.S.Store c.read_all.new.conn in
+    survives_then old middle new (λ db. IsBlank old → Holds db first_rows) (λ _. ⊥) (λ db. IsBlank old → Holds db first_rows) (λ _ db h. h) (λ _ db h. absurd h)
+    c.in_ok-make_tables.ensures.crash c.read_all.ensures.crash

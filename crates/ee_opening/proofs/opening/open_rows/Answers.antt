@@ -1,0 +1,53 @@
+use Rattle.sqlite.specs.Held.{state}
+use Rattle.ee_tables.proofs.KeepLemmas.{IfOk_then}
+use Rattle.ee_opening.proofs.OpenLemmas.{not_ours, either_failed, is_ours_if, is_blank_if, any_ok, each_err, still_err}
+use Rattle.ee_opening.proofs.opening.open_rows.Goals as goal
+
+pub returns-then-has_tables-clause-found : goal.returns-then-has_tables-clause-found
+returns-then-has_tables-clause-found g c clean =
+    let old = state g.S.Store c.args.conn.now in
+    let settled = c.is_autocommit.ensures.settled c.if-not-is_autocommit.false in
+    IfOk_then c.read_all.result (λ all found either. found (is_ours_if old settled c.has_tables.result c.has_tables.ensures c.if-has_tables.true either)) (c.read_all.ensures.found clean)
+
+pub returns-else-has_tables-clause-found : goal.returns-else-has_tables-clause-found
+returns-else-has_tables-clause-found g c clean =
+    let old = state g.S.Store c.args.conn.now in
+    let settled = c.is_autocommit.ensures.settled c.if-not-is_autocommit.false in
+    IfOk_then c.open_blank.result (λ all found either. found (is_blank_if old settled c.has_tables.result c.has_tables.ensures c.if-has_tables.false either)) (c.open_blank.ensures.found clean)
+
+pub returns-else-has_tables-clause-those : goal.returns-else-has_tables-clause-those
+returns-else-has_tables-clause-those g c clean =
+    let old = state g.S.Store c.args.conn.now in
+    let settled = c.is_autocommit.ensures.settled c.if-not-is_autocommit.false in
+    any_ok c.open_blank.result (λ all rows has is_open. absurd (not_ours old settled c.has_tables.result c.has_tables.ensures c.if-has_tables.false (λ o. (has o).0) is_open))
+
+pub returns-else-has_tables-clause-first : goal.returns-else-has_tables-clause-first
+returns-else-has_tables-clause-first g c clean =
+    let old = state g.S.Store c.args.conn.now in
+    let settled = c.is_autocommit.ensures.settled c.if-not-is_autocommit.false in
+    any_ok c.open_blank.result (λ all rows has is_open. absurd (not_ours old settled c.has_tables.result c.has_tables.ensures c.if-has_tables.false (λ o. (has o).0) is_open))
+
+pub returns-else-has_tables-clause-version : goal.returns-else-has_tables-clause-version
+returns-else-has_tables-clause-version g c clean =
+    let old = state g.S.Store c.args.conn.now in
+    let settled = c.is_autocommit.ensures.settled c.if-not-is_autocommit.false in
+    each_err c.open_blank.result (λ e wrong rows has is_open. absurd (not_ours old settled c.has_tables.result c.has_tables.ensures c.if-has_tables.false (λ o. (has o).0) is_open))
+
+pub returns-else-has_tables-clause-failed : goal.returns-else-has_tables-clause-failed
+returns-else-has_tables-clause-failed g c clean =
+    let old = state g.S.Store c.args.conn.now in
+    let new = state g.S.Store c.open_blank.new.conn in
+    let settled = c.is_autocommit.ensures.settled c.if-not-is_autocommit.false in
+    still_err c.open_blank.result (either_failed old settled c.has_tables.result c.has_tables.ensures new c.if-has_tables.false) (c.open_blank.ensures.failed clean)
+
+pub returns-else-has_tables-clause-tested : goal.returns-else-has_tables-clause-tested
+returns-else-has_tables-clause-tested g c clean =
+    let old = state g.S.Store c.args.conn.now in
+    let settled = c.is_autocommit.ensures.settled c.if-not-is_autocommit.false in
+    each_err c.open_blank.result (λ e wrong rows has is_open. absurd (not_ours old settled c.has_tables.result c.has_tables.ensures c.if-has_tables.false (λ o. (has o).0) is_open))
+
+pub returns-else-has_tables-clause-unusable : goal.returns-else-has_tables-clause-unusable
+returns-else-has_tables-clause-unusable g c clean =
+    let old = state g.S.Store c.args.conn.now in
+    let settled = c.is_autocommit.ensures.settled c.if-not-is_autocommit.false in
+    each_err c.open_blank.result (λ e wrong rows has is_open. absurd (not_ours old settled c.has_tables.result c.has_tables.ensures c.if-has_tables.false (λ o. (has o).0) is_open))

@@ -1,0 +1,17 @@
+-- What a failure of `sqlite` says of a store that is opened.
+use Rattle.sqlite.specs.declared.error.Error.{Error}
+use Rattle.sqlite.specs.declared.error.Error.TheVariants.{SqliteFailure, SqlInputError, InvalidColumnIndex, InvalidColumnType, IntegralValueOutOfRange, Utf8Error}
+use Rattle.sqlite.specs.declared.error.ErrorCode.TheVariants.{OutOfMemory, NameTaken}
+use Rattle.ee_opening.specs.declared.making.OpenFault.{OpenFault}
+use Rattle.ee_opening.specs.declared.making.OpenFault.TheVariants.{NoMemory, StoreFailed, Unusable}
+
+-- A statement that the tables refuse and a value that can't be read tell of another store than ours.
+abbrev pub fault_of : Error → OpenFault
+fault_of (SqliteFailure OutOfMemory) = NoMemory
+fault_of (SqliteFailure NameTaken) = Unusable
+fault_of (SqlInputError refused) = Unusable
+fault_of (InvalidColumnIndex at) = Unusable
+fault_of (InvalidColumnType at kind) = Unusable
+fault_of (IntegralValueOutOfRange at) = Unusable
+fault_of (Utf8Error at) = Unusable
+fault_of _ = StoreFailed

@@ -1,0 +1,38 @@
+-- Which tables a store has, their version, and which rows can be read.
+use Rattle.std.specs.Prelude.{◌≡◌, ◌≢◌, ℕ, Bool, List, [], ◌∷◌, Some, is_some, option_map, codes}
+use Rattle.std.specs.Option.{option_to_list}
+use Rattle.std.specs.List.{list_any}
+use Rattle.std.specs.FinMap.{get}
+use Rattle.sqlite.specs.Order.{Row}
+use Rattle.sqlite.specs.Schema.{Schema}
+use Rattle.sqlite_schema.specs.Names.{table_named}
+use Rattle.ee_tables.specs.Rows.{Rows, DeskRow, number}
+use Rattle.ee_opening.specs.Shown.{AreWritten}
+
+-- the names of the tables
+abbrev pub table_names : List (List ℕ)
+table_names = codes "desk" ∷ codes "rates" ∷ codes "bonds" ∷ codes "tickets" ∷ codes "paid" ∷ codes "batches" ∷ codes "replies" ∷ []
+
+-- a table has one of the names, but for the case of letters
+abbrev pub has_some_table : Schema → Bool
+has_some_table schema = list_any (λ name. is_some (table_named schema name)) table_names
+
+-- the version, as a query of the desk's row shows it
+abbrev pub version_shown : DeskRow → Row
+version_shown desk = number desk.version ∷ []
+
+abbrev pub versions_in : Rows → List Row
+versions_in rows = option_to_list (option_map version_shown (get rows.desk 1))
+
+-- the desk has its row, of version 1
+abbrev pub IsFirstVersion : Rows → Type 0
+IsFirstVersion rows = (desk : DeskRow) × (get rows.desk 1 ≡ Some desk) × (desk.version ≡ 1)
+
+-- the desk has its row, of another version
+abbrev pub IsOtherVersion : Rows → Type 0
+IsOtherVersion rows = (desk : DeskRow) × (get rows.desk 1 ≡ Some desk) × (desk.version ≢ 1)
+
+-- The desk has its row, and each text is UTF-8, as this program writes it.
+pub record AreReadable (rows : Rows) : Type 0 where
+  pub desk : (desk : DeskRow) × (get rows.desk 1 ≡ Some desk)
+  pub texts : AreWritten rows.replies

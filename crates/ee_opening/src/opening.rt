@@ -1,0 +1,76 @@
+//! Opening a store: its rows are found, and made where it has none.
+
+ghost use Rattle.std.specs.Prelude.{◌≡◌, ◌⊎◌, is_some, IsTrue, IfOk, IfErr, OnOk, OnErr};
+ghost use Rattle.sqlite.specs.State.{HasCleanDisk, KeepsCommit, Survives};
+ghost use Rattle.sqlite.specs.Held.{state};
+ghost use Rattle.sqlite_schema.specs.Names.{table_named};
+ghost use Rattle.ee_tables.specs.Rows.{Rows, Has, Holds};
+ghost use Rattle.ee_opening.specs.Making.{IsBlank, first_rows};
+ghost use Rattle.ee_opening.specs.Whole.{rows_of, IsOurs, AreInOrder};
+ghost use Rattle.ee_opening.specs.Opening.{has_some_table, IsFirstVersion, IsOtherVersion, AreReadable};
+
+use crate::making::{OpenFault, make_tables};
+use crate::whole::{AllRows, read_all};
+use sqlite::{Alter, Connection};
+use sqlite_schema::schema::Schema;
+use std::alloc::Global;
+
+/// Whether a table has the name, but for the case of letters.
+fn has_table(schema: &Schema, name: &str) -> bool
+    ensures { result ≡ is_some (table_named schema.now name.now) }
+{
+    schema.table_named(name.as_bytes()).is_some()
+}
+
+/// Whether the store has a table of one of the names.
+fn has_tables<S: Alter>(conn: &Connection<S>) -> bool
+    ensures { result ≡ has_some_table (state S.Store conn.now).now.schema }
+{
+    let schema = conn.schema();
+    has_table(schema, "desk")
+        | has_table(schema, "rates")
+        | has_table(schema, "bonds")
+        | has_table(schema, "tickets")
+        | has_table(schema, "paid")
+        | has_table(schema, "batches")
+        | has_table(schema, "replies")
+}
+
+/// Makes the tables, and reads their rows.
+fn open_blank<S: Alter>(conn: &mut Connection<S>, alloc: Global) -> Result<AllRows, OpenFault>
+    ensures found { HasCleanDisk (state S.Store conn.new) → IfOk result (λ all. IsBlank (state S.Store conn.old) → Has (state S.Store conn.new) (rows_of all)) }
+    ensures made { HasCleanDisk (state S.Store conn.new) → IfOk result (λ all. IsBlank (state S.Store conn.old) → rows_of all ≡ first_rows) }
+    ensures order { IfOk result AreInOrder }
+    ensures open { HasCleanDisk (state S.Store conn.new) → OnOk result (IsTrue (state S.Store conn.old).is_open) }
+    ensures failed { HasCleanDisk (state S.Store conn.new) → OnErr result (KeepsCommit (state S.Store conn.old) (state S.Store conn.new)
+        ⊎ (IsTrue (state S.Store conn.old).is_open × (IsBlank (state S.Store conn.old) → Has (state S.Store conn.new) first_rows))) }
+    ensures crash { Survives (state S.Store conn.old) (state S.Store conn.new) (λ db. IsBlank (state S.Store conn.old) → Holds db first_rows) }
+{
+    make_tables(conn)?;
+    read_all(conn, alloc)
+}
+
+/// The rows of a store; the tables of version 1 are made where it has none of them.
+pub fn open_rows<S: Alter>(conn: &mut Connection<S>, alloc: Global) -> Result<AllRows, OpenFault>
+    ensures found { HasCleanDisk (state S.Store conn.new) → IfOk result (λ all. (IsOurs (state S.Store conn.old) ⊎ IsBlank (state S.Store conn.old)) → Has (state S.Store conn.new) (rows_of all)) }
+    ensures made { HasCleanDisk (state S.Store conn.new) → IfOk result (λ all. IsBlank (state S.Store conn.old) → IsTrue (state S.Store conn.old).is_open → rows_of all ≡ first_rows) }
+    ensures those { HasCleanDisk (state S.Store conn.new) → IfOk result (λ all. (rows : Rows) → Has (state S.Store conn.old) rows → IsTrue (state S.Store conn.old).is_open → rows_of all ≡ rows) }
+    ensures order { IfOk result AreInOrder }
+    ensures first { HasCleanDisk (state S.Store conn.new) → OnOk result ((rows : Rows) → Has (state S.Store conn.old) rows → IsTrue (state S.Store conn.old).is_open → IsFirstVersion rows) }
+    ensures version { HasCleanDisk (state S.Store conn.new) → IfErr result (λ e. e ≡ OpenFault.WrongVersion → (rows : Rows) → Has (state S.Store conn.old) rows → IsTrue (state S.Store conn.old).is_open → IsOtherVersion rows) }
+    ensures tested { HasCleanDisk (state S.Store conn.new) → IfErr result (λ e. e ≡ OpenFault.Unusable → (rows : Rows) → Has (state S.Store conn.old) rows → IsTrue (state S.Store conn.old).is_open → ¬ IsOtherVersion rows) }
+    ensures unusable { HasCleanDisk (state S.Store conn.new) → IfErr result (λ e. e ≡ OpenFault.Unusable → (rows : Rows) → Has (state S.Store conn.old) rows → IsTrue (state S.Store conn.old).is_open → ¬ AreReadable rows) }
+    ensures failed { HasCleanDisk (state S.Store conn.new) → OnErr result ((IsOurs (state S.Store conn.old) → KeepsCommit (state S.Store conn.old) (state S.Store conn.new))
+        × (IsBlank (state S.Store conn.old) → KeepsCommit (state S.Store conn.old) (state S.Store conn.new) ⊎ Has (state S.Store conn.new) first_rows)) }
+    ensures clean { HasCleanDisk (state S.Store conn.new) → HasCleanDisk (state S.Store conn.old) }
+    ensures crash { Survives (state S.Store conn.old) (state S.Store conn.new) (λ db. IsBlank (state S.Store conn.old) → Holds db first_rows) }
+{
+    if !conn.is_autocommit() {
+        return Err(OpenFault::StoreFailed);
+    }
+    if has_tables(conn) {
+        read_all(conn, alloc)
+    } else {
+        open_blank(conn, alloc)
+    }
+}

@@ -1,0 +1,39 @@
+-- The values that plain numbers of rows are read as have those numbers.
+use Rattle.std.proofs.Common.{◌≡◌, ◌==◌, ℕ, Bool, true, false, cond, refl, sym, ap, ◌∙◌}
+use Rattle.std.specs.Prelude.{Option, Some, None, IfSome}
+use Rattle.std.proofs.lemmas.Bool.{eqb-true}
+use Rattle.ee_units.specs.Spelling.{SerialNumber, in_range, serial_at}
+use Rattle.ee_units.specs.Denoms.{dollars}
+use Rattle.ee_units.specs.declared.denoms.Denom.{Denom}
+use Rattle.ee_units.specs.declared.denoms.Denom.TheVariants as denom
+use Rattle.ee_units.proofs.RateGrammar.{in_range-is}
+use Rattle.ee_texts.specs.Reading.{denom_with}
+use Rattle.ee_contents.proofs.ReadBack.{bind_is, some_is}
+
+pub number_read : (low high n : ℕ) (o : Option ℕ) → o ≡ in_range low high n → IfSome o (λ m. m ≡ n)
+number_read low high n None e = tt
+number_read low high n (Some m) e = sym (in_range-is low high n m (sym e)).0
+
+pub serial_read : (letter number : ℕ) (o : Option SerialNumber) → o ≡ serial_at letter number → IfSome o (λ s. (s.letter ≡ letter) × (s.number ≡ number))
+unfolding serial_at
+serial_read letter number None e = tt
+serial_read letter number (Some s) e =
+    let l = bind_is (in_range 1 26 letter) _ s (sym e) in
+    let n = bind_is (in_range 1 9999999999 number) _ s l.2 in
+    let is = some_is _ s n.2 in (
+      sym ((in_range-is 1 26 letter l.0 l.1).0 ∙ ap (λ (s : SerialNumber). s.letter) is),
+      sym ((in_range-is 1 9999999999 number n.0 n.1).0 ∙ ap (λ (s : SerialNumber). s.number) is),
+    )
+
+-- a denomination that is the first choice, or a later one
+choice : (n k : ℕ) (d : Denom) (later : Option Denom) → k ≡ dollars d → IfSome later (λ d. dollars d ≡ n) → IfSome (cond (n == k) (Some d) later) (λ d. dollars d ≡ n)
+choice n k d later is rest = chosen (n == k) refl
+  where
+    chosen : (b : Bool) → (n == k) ≡ b → IfSome (cond b (Some d) later) (λ d. dollars d ≡ n)
+    chosen true same = sym (eqb-true n k same ∙ is)
+    chosen false apart = rest
+
+pub denom_read : (n : ℕ) → IfSome (denom_with n) (λ d. dollars d ≡ n)
+denom_read n =
+    choice n 50 denom.Fifty _ refl (choice n 75 denom.SeventyFive _ refl (choice n 100 denom.Hundred _ refl (choice n 200 denom.TwoHundred _ refl
+    (choice n 500 denom.FiveHundred _ refl (choice n 1000 denom.Thousand _ refl (choice n 5000 denom.FiveThousand _ refl (choice n 10000 denom.TenThousand None refl tt)))))))

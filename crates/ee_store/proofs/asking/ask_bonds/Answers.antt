@@ -1,0 +1,17 @@
+use Rattle.std.proofs.Common.{sym, ap, subst, ◌∙◌}
+use Rattle.sqlite.specs.Held.{state}
+use Rattle.ee_store.specs.Asking.{KeepsContent}
+use Rattle.ee_store.proofs.Transactions.{read_keeps}
+use Rattle.ee_store.proofs.asking.ask_bonds.Goals as goal
+
+pub returns-clause-kept : goal.returns-clause-kept
+returns-clause-kept g c =
+    let old = state g.S.Store c.args.conn.now in
+    let start = state g.S.Store c.transaction-tx.result.conn.now in
+    let is = ap (state g.S.Store) c.transaction-tx.ensures.begun in
+    let settled = c.is_autocommit.ensures.settled c.if-not-is_autocommit.false in
+    let middle = state g.S.Store c.bonds_in.new.tx.conn.now in
+    let new = state g.S.Store c.drop-tx.new.self.0 in
+    let same = c.conn-1.given.1 (sym (c.bonds_in.ensures.same_reference ∙ c.transaction-tx.ensures.same_reference)) in
+    subst (λ h. KeepsContent old (state g.S.Store h)) (sym same)
+    (read_keeps old start is settled middle new c.bonds_in.ensures.commit c.drop-tx.ensures.survives c.drop-tx.ensures.undone)

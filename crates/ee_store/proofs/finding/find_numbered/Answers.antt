@@ -1,0 +1,24 @@
+use Rattle.std.proofs.Common.{rules, ◌≡◌, sym, ap, ◌∙◌}
+use Rattle.std.specs.Option.{option_map}
+use Rattle.sqlite.specs.Held.{state}
+use Rattle.ee_tables.specs.AsRows.{row_of_ticket}
+use Rattle.ee_tables.proofs.KeepLemmas.{clean_before, unchanged_sees}
+use Rattle.ee_contents.specs.Standing.{rows_of}
+use Rattle.ee_store.proofs.FoundTickets.{no_ticket, ticket_found}
+use Rattle.ee_store.proofs.finding.find_numbered.Goals as goal
+
+pub returns-in_default-clause-found : goal.returns-in_default-clause-found
+returns-in_default-clause-found g c clean inside S sees =
+    no_ticket S c.args.number (sym (ap (option_map row_of_ticket) c.in_default.is) ∙ c.in_ok-row.ensures.found clean (rows_of S) sees.rows)
+
+pub returns-clause-found : goal.returns-clause-found
+returns-clause-found g c clean inside S sees =
+    let old = state g.S.Store c.args.tx.now.conn.now in
+    let middle = state g.S.Store c.find_ticket.new.tx.conn.now in
+    let new = state g.S.Store c.ticket_lines.new.tx.conn.now in
+    let before = clean_before middle new c.ticket_lines.ensures.crash clean in
+    let still = unchanged_sees old middle (rows_of S) (c.in_ok-row.ensures.same before inside) sees.rows in
+    let own : c.as_slice-rows.result.now ≡ c.in_ok-lines.lines.items = search rules in
+    ticket_found S c.args.number c.in_ok-ticket.ticket (row_of_ticket c.in-Some.row) c.as_slice-rows.result.now sees.right
+    (sym (ap (option_map row_of_ticket) c.in-Some.is) ∙ c.in_ok-row.ensures.found before (rows_of S) sees.rows)
+    (own ∙ c.in_ok-lines.ensures.found clean (rows_of S) still) c.in_ok-ticket.ensures.ticket c.in_ok-ticket.ensures.lines

@@ -1,0 +1,169 @@
+//! What a query finds in a transaction.
+
+ghost use Rattle.std.specs.Prelude.{◌≡◌, map};
+ghost use Rattle.std.specs.List.{filter_map};
+ghost use Rattle.sqlite.specs.Held.{state};
+ghost use Rattle.ee_acts.specs.Queries.{ticket_numbered, batch_on, bonds_of, row_of, shown_in_row};
+ghost use Rattle.ee_tables.specs.AsRows.{Fits};
+ghost use Rattle.ee_tables.specs.Statements.{StaysOpen, StaysInside, CommitsNothing, LeavesNoMore};
+ghost use Rattle.ee_keeper.specs.Keeping.{IsInventory, IsQuote};
+ghost use Rattle.ee_store.specs.Serving.{FindsIn, LeavesRows};
+
+use crate::counting::tickets_in;
+use crate::failures::Unfinished;
+use crate::sheets::{periods_in, quote, rows_of};
+use crate::showing::{batch_shown, bonds_shown, ticket_shown};
+use crate::terms::{find_terms, terms_in};
+use ee_acts::{Batch, Tables, Ticket};
+use ee_calculator::{Bond, Row, Sheet, sheet};
+use ee_tables::{bonds_of_owner, find_batch, find_ticket, ticket_lines};
+use ee_units::calendar::period_of;
+use ee_units::{Customer, Day, Denom, IssueMonth, Month};
+use sqlite::{Alter, Transaction};
+use std::alloc::Global;
+
+/// The batch of a day, where that day is closed.
+pub fn batch_in<S: Alter>(
+    tx: &mut Transaction<'_, S>,
+    day: Day,
+) -> Result<Option<Batch>, Unfinished>
+    ensures same_reference { tx.new.conn.ghost_name ≡ tx.old.conn.ghost_name }
+    ensures found { FindsIn (state S.Store tx.old.conn.now) (state S.Store tx.new.conn.now) result (λ content batch. batch ≡ batch_on content.books day) }
+    ensures commit { CommitsNothing (state S.Store tx.old.conn.now) (state S.Store tx.new.conn.now) }
+    ensures crash { LeavesNoMore (state S.Store tx.old.conn.now) (state S.Store tx.new.conn.now) }
+{
+    let found = find_batch(tx, day.count() as u64)?;
+    Ok(batch_shown(day, found))
+}
+
+/// The ticket of a number that the store can hold, where there is one.
+fn find_numbered<S: Alter>(
+    tx: &mut Transaction<'_, S>,
+    alloc: Global,
+    number: u64,
+) -> Result<Option<Ticket>, Unfinished>
+    requires { Fits number }
+    ensures same_reference { tx.new.conn.ghost_name ≡ tx.old.conn.ghost_name }
+    ensures found { FindsIn (state S.Store tx.old.conn.now) (state S.Store tx.new.conn.now) result (λ content ticket. ticket ≡ ticket_numbered content.books number) }
+    ensures commit { CommitsNothing (state S.Store tx.old.conn.now) (state S.Store tx.new.conn.now) }
+    ensures crash { LeavesNoMore (state S.Store tx.old.conn.now) (state S.Store tx.new.conn.now) }
+{
+    let Some(row) = find_ticket(tx, number)? else {
+        return Ok(None);
+    };
+    let lines = ticket_lines(tx, alloc, number)?;
+    let rows = lines.as_slice();
+    let ticket = ticket_shown(alloc, number, row, rows)?;
+    Ok(Some(ticket))
+}
+
+/// No ticket, where the tickets so far have smaller numbers.
+fn none_beyond<S: Alter>(
+    tx: &mut Transaction<'_, S>,
+    number: u64,
+) -> Result<Option<Ticket>, Unfinished>
+    ensures same_reference { tx.new.conn.ghost_name ≡ tx.old.conn.ghost_name }
+    ensures found { FindsIn (state S.Store tx.old.conn.now) (state S.Store tx.new.conn.now) result (λ content ticket. ticket ≡ ticket_numbered content.books number) }
+    ensures commit { CommitsNothing (state S.Store tx.old.conn.now) (state S.Store tx.new.conn.now) }
+    ensures crash { LeavesNoMore (state S.Store tx.old.conn.now) (state S.Store tx.new.conn.now) }
+{
+    let count = tickets_in(tx)?;
+    if count < number {
+        Ok(None)
+    } else {
+        Err(Unfinished::StoreFailed)
+    }
+}
+
+/// The ticket of a number, where there is one.
+pub fn ticket_in<S: Alter>(
+    tx: &mut Transaction<'_, S>,
+    alloc: Global,
+    number: u64,
+) -> Result<Option<Ticket>, Unfinished>
+    ensures same_reference { tx.new.conn.ghost_name ≡ tx.old.conn.ghost_name }
+    ensures found { FindsIn (state S.Store tx.old.conn.now) (state S.Store tx.new.conn.now) result (λ content ticket. ticket ≡ ticket_numbered content.books number) }
+    ensures commit { CommitsNothing (state S.Store tx.old.conn.now) (state S.Store tx.new.conn.now) }
+    ensures crash { LeavesNoMore (state S.Store tx.old.conn.now) (state S.Store tx.new.conn.now) }
+{
+    if number <= 9_223_372_036_854_775_807 {
+        find_numbered(tx, alloc, number)
+    } else {
+        none_beyond(tx, number)
+    }
+}
+
+/// The row in a month of a bond that isn't registered, where there are rates for its issue period.
+pub fn quote_in<S: Alter>(
+    tx: &mut Transaction<'_, S>,
+    alloc: Global,
+    tables: &mut Tables,
+    denom: Denom,
+    issued: IssueMonth,
+    month: Month,
+) -> Result<Option<Row>, Unfinished>
+    ensures same_reference { tx.new.conn.ghost_name ≡ tx.old.conn.ghost_name }
+    ensures found { FindsIn (state S.Store tx.old.conn.now) (state S.Store tx.new.conn.now) result (λ content row. IsQuote content.books denom issued month row) }
+    ensures commit { CommitsNothing (state S.Store tx.old.conn.now) (state S.Store tx.new.conn.now) }
+    ensures crash { LeavesNoMore (state S.Store tx.old.conn.now) (state S.Store tx.new.conn.now) }
+{
+    let terms = find_terms(tx, alloc, tables, period_of(issued))?;
+    Ok(quote(terms, denom, issued, month))
+}
+
+/// The unpaid bonds whose owner is this customer, in order of serial.
+pub fn bonds_in<S: Alter>(
+    tx: &mut Transaction<'_, S>,
+    alloc: Global,
+    customer: Customer,
+) -> Result<Vec<Bond>, Unfinished>
+    ensures same_reference { tx.new.conn.ghost_name ≡ tx.old.conn.ghost_name }
+    ensures inside { StaysInside (state S.Store tx.old.conn.now) (state S.Store tx.new.conn.now) result }
+    ensures found { FindsIn (state S.Store tx.old.conn.now) (state S.Store tx.new.conn.now) result (λ content bonds. bonds.items ≡ bonds_of content.books customer) }
+    ensures rows { LeavesRows (state S.Store tx.old.conn.now) (state S.Store tx.new.conn.now) result }
+    ensures commit { CommitsNothing (state S.Store tx.old.conn.now) (state S.Store tx.new.conn.now) }
+    ensures crash { LeavesNoMore (state S.Store tx.old.conn.now) (state S.Store tx.new.conn.now) }
+{
+    let rows = bonds_of_owner(tx, alloc, customer.number() as u64)?;
+    let own = rows.as_slice();
+    bonds_shown(alloc, own)
+}
+
+/// The rows in a month of bonds, on the rates of their issue periods.
+fn rows_in<S: Alter>(
+    tx: &mut Transaction<'_, S>,
+    alloc: Global,
+    tables: &mut Tables,
+    bonds: &[Bond],
+    month: Month,
+) -> Result<Vec<Row>, Unfinished>
+    ensures same_reference { tx.new.conn.ghost_name ≡ tx.old.conn.ghost_name }
+    ensures found { FindsIn (state S.Store tx.old.conn.now) (state S.Store tx.new.conn.now) result (λ content rows. map shown_in_row rows.items ≡ filter_map (row_of content.books.rates month) bonds.now) }
+    ensures commit { CommitsNothing (state S.Store tx.old.conn.now) (state S.Store tx.new.conn.now) }
+    ensures crash { LeavesNoMore (state S.Store tx.old.conn.now) (state S.Store tx.new.conn.now) }
+{
+    let periods = periods_in(alloc, bonds)?;
+    let asked = periods.as_slice();
+    let terms = terms_in(tx, alloc, tables, asked)?;
+    let rows = rows_of(alloc, &terms, bonds, month)?;
+    Ok(rows)
+}
+
+/// The sheet in a month of the unpaid bonds whose owner is this customer, in order of serial.
+pub fn inventory_in<S: Alter>(
+    tx: &mut Transaction<'_, S>,
+    alloc: Global,
+    tables: &mut Tables,
+    customer: Customer,
+    month: Month,
+) -> Result<Sheet, Unfinished>
+    ensures same_reference { tx.new.conn.ghost_name ≡ tx.old.conn.ghost_name }
+    ensures found { FindsIn (state S.Store tx.old.conn.now) (state S.Store tx.new.conn.now) result (λ content sheet. IsInventory content.books customer month sheet) }
+    ensures commit { CommitsNothing (state S.Store tx.old.conn.now) (state S.Store tx.new.conn.now) }
+    ensures crash { LeavesNoMore (state S.Store tx.old.conn.now) (state S.Store tx.new.conn.now) }
+{
+    let bonds = bonds_in(tx, alloc, customer)?;
+    let own = bonds.as_slice();
+    let rows = rows_in(tx, alloc, tables, own, month)?;
+    Ok(sheet(rows))
+}

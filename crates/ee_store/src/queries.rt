@@ -1,0 +1,158 @@
+//! What is asked of a keeper over the tables.
+
+ghost use Rattle.std.specs.Prelude.{◌≡◌};
+ghost use Rattle.sqlite.specs.Held.{state};
+ghost use Rattle.sqlite.specs.State.{HasCleanDisk, Survives};
+ghost use Rattle.ee_acts.specs.Repeats.{Content};
+ghost use Rattle.ee_acts.specs.Queries.{ticket_numbered, batch_on, bonds_of};
+ghost use Rattle.ee_laws.specs.Events.{World};
+ghost use Rattle.ee_keeper.specs.Keeping.{Shows, IsInventory, IsQuote};
+ghost use Rattle.ee_store.specs.Serving.{HasContent, FollowsWorld};
+
+use crate::asking::{ask_batch, ask_bonds, ask_inventory, ask_quote, ask_ticket};
+use crate::keeper::SqlKeeper;
+use ee_acts::{Batch, Reply, Request, Ticket, Unserved};
+use ee_calculator::{Bond, Row, Sheet};
+use ee_keeper::Keeper;
+use ee_units::{Customer, Day, Denom, IssueMonth, Month};
+use sqlite::Alter;
+
+/// Each query is one transaction that is read and rolled back.
+///
+/// - `clean`, `shows`: what is shown is right, and the content stays, also where it answers `Unserved`.
+/// - `crash`: whenever the keeper stops, a crash leaves what it could leave before.
+/// - `follows`: so a query is no event of the law of stops and retries.
+///
+/// It answers `NoMemory` where memory was refused, and `StoreFailed` where the store failed, held what no
+/// row of a counter is, or was left within a transaction.
+impl<S: Alter> SqlKeeper<S> {
+    /// The sheet in a month of the unpaid bonds whose owner is this customer, in order of serial.
+    pub fn inventory(&mut self, customer: Customer, month: Month) -> Result<Sheet, Unserved>
+        ensures clean { HasCleanDisk (state S.Store self.new.conn) → HasCleanDisk (state S.Store self.old.conn) }
+        ensures shows { HasCleanDisk (state S.Store self.new.conn) → (content : Content) → HasContent (state S.Store self.old.conn) content
+            → Shows (IsInventory content.books customer month) result (HasContent (state S.Store self.new.conn) content) }
+        ensures crash { Survives (state S.Store self.old.conn) (state S.Store self.new.conn) (λ _. ⊥) }
+        ensures follows { HasCleanDisk (state S.Store self.new.conn) → (w : World) → FollowsWorld (state S.Store self.old.conn) w → FollowsWorld (state S.Store self.new.conn) w }
+    {
+        match ask_inventory(
+            &mut self.conn,
+            self.alloc,
+            &mut self.tables,
+            customer,
+            month,
+        ) {
+            Ok(sheet) => Ok(sheet),
+            Err(unfinished) => Err(Unserved::from(unfinished)),
+        }
+    }
+
+    /// The unpaid bonds whose owner is this customer, in order of serial.
+    pub fn bonds_of(&mut self, customer: Customer) -> Result<Vec<Bond>, Unserved>
+        ensures clean { HasCleanDisk (state S.Store self.new.conn) → HasCleanDisk (state S.Store self.old.conn) }
+        ensures shows { HasCleanDisk (state S.Store self.new.conn) → (content : Content) → HasContent (state S.Store self.old.conn) content
+            → Shows (λ bonds. bonds.items ≡ bonds_of content.books customer) result (HasContent (state S.Store self.new.conn) content) }
+        ensures crash { Survives (state S.Store self.old.conn) (state S.Store self.new.conn) (λ _. ⊥) }
+        ensures follows { HasCleanDisk (state S.Store self.new.conn) → (w : World) → FollowsWorld (state S.Store self.old.conn) w → FollowsWorld (state S.Store self.new.conn) w }
+    {
+        match ask_bonds(&mut self.conn, self.alloc, customer) {
+            Ok(bonds) => Ok(bonds),
+            Err(unfinished) => Err(Unserved::from(unfinished)),
+        }
+    }
+
+    /// The ticket of a number, where there is one.
+    pub fn ticket(&mut self, number: u64) -> Result<Option<Ticket>, Unserved>
+        ensures clean { HasCleanDisk (state S.Store self.new.conn) → HasCleanDisk (state S.Store self.old.conn) }
+        ensures shows { HasCleanDisk (state S.Store self.new.conn) → (content : Content) → HasContent (state S.Store self.old.conn) content
+            → Shows (λ ticket. ticket ≡ ticket_numbered content.books number) result (HasContent (state S.Store self.new.conn) content) }
+        ensures crash { Survives (state S.Store self.old.conn) (state S.Store self.new.conn) (λ _. ⊥) }
+        ensures follows { HasCleanDisk (state S.Store self.new.conn) → (w : World) → FollowsWorld (state S.Store self.old.conn) w → FollowsWorld (state S.Store self.new.conn) w }
+    {
+        match ask_ticket(&mut self.conn, self.alloc, number) {
+            Ok(ticket) => Ok(ticket),
+            Err(unfinished) => Err(Unserved::from(unfinished)),
+        }
+    }
+
+    /// The batch of a day, where that day is closed.
+    pub fn batch(&mut self, day: Day) -> Result<Option<Batch>, Unserved>
+        ensures clean { HasCleanDisk (state S.Store self.new.conn) → HasCleanDisk (state S.Store self.old.conn) }
+        ensures shows { HasCleanDisk (state S.Store self.new.conn) → (content : Content) → HasContent (state S.Store self.old.conn) content
+            → Shows (λ batch. batch ≡ batch_on content.books day) result (HasContent (state S.Store self.new.conn) content) }
+        ensures crash { Survives (state S.Store self.old.conn) (state S.Store self.new.conn) (λ _. ⊥) }
+        ensures follows { HasCleanDisk (state S.Store self.new.conn) → (w : World) → FollowsWorld (state S.Store self.old.conn) w → FollowsWorld (state S.Store self.new.conn) w }
+    {
+        match ask_batch(&mut self.conn, day) {
+            Ok(batch) => Ok(batch),
+            Err(unfinished) => Err(Unserved::from(unfinished)),
+        }
+    }
+
+    /// The row in a month of a bond of that denomination and issue month, whether or not one is
+    /// registered; None without rates for its issue period.
+    pub fn quote(
+        &mut self,
+        denom: Denom,
+        issued: IssueMonth,
+        month: Month,
+    ) -> Result<Option<Row>, Unserved>
+        ensures clean { HasCleanDisk (state S.Store self.new.conn) → HasCleanDisk (state S.Store self.old.conn) }
+        ensures shows { HasCleanDisk (state S.Store self.new.conn) → (content : Content) → HasContent (state S.Store self.old.conn) content
+            → Shows (IsQuote content.books denom issued month) result (HasContent (state S.Store self.new.conn) content) }
+        ensures crash { Survives (state S.Store self.old.conn) (state S.Store self.new.conn) (λ _. ⊥) }
+        ensures follows { HasCleanDisk (state S.Store self.new.conn) → (w : World) → FollowsWorld (state S.Store self.old.conn) w → FollowsWorld (state S.Store self.new.conn) w }
+    {
+        match ask_quote(
+            &mut self.conn,
+            self.alloc,
+            &mut self.tables,
+            denom,
+            issued,
+            month,
+        ) {
+            Ok(row) => Ok(row),
+            Err(unfinished) => Err(Unserved::from(unfinished)),
+        }
+    }
+}
+
+impl<S: Alter> Keeper for SqlKeeper<S> {
+    ghost use Rattle.sqlite.specs.Held.{state};
+    ghost use Rattle.sqlite.specs.State.{HasCleanDisk};
+    ghost use Rattle.ee_store.specs.Serving.{HasContent};
+
+    ghost has = { λ k content. HasContent (state S.Store k.conn) content };
+
+    ghost is_clean = { λ k. HasCleanDisk (state S.Store k.conn) };
+
+    ghost sound = { λ _ _ has. has.right.sound };
+
+    fn deliver(&mut self, request: &Request) -> Result<Reply, Unserved> {
+        SqlKeeper::deliver(self, request)
+    }
+
+    fn inventory(&mut self, customer: Customer, month: Month) -> Result<Sheet, Unserved> {
+        SqlKeeper::inventory(self, customer, month)
+    }
+
+    fn bonds_of(&mut self, customer: Customer) -> Result<Vec<Bond>, Unserved> {
+        SqlKeeper::bonds_of(self, customer)
+    }
+
+    fn ticket(&mut self, number: u64) -> Result<Option<Ticket>, Unserved> {
+        SqlKeeper::ticket(self, number)
+    }
+
+    fn batch(&mut self, day: Day) -> Result<Option<Batch>, Unserved> {
+        SqlKeeper::batch(self, day)
+    }
+
+    fn quote(
+        &mut self,
+        denom: Denom,
+        issued: IssueMonth,
+        month: Month,
+    ) -> Result<Option<Row>, Unserved> {
+        SqlKeeper::quote(self, denom, issued, month)
+    }
+}

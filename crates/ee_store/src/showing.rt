@@ -1,0 +1,116 @@
+//! Rows of the tables as what they show: batches, tickets and bonds.
+
+ghost use Rattle.std.specs.Prelude.{◌≡◌, IfOk, IfSome, map};
+ghost use Rattle.std.specs.Option.{option_map};
+ghost use Rattle.ee_tables.specs.AsRows.{row_of_batch};
+ghost use Rattle.ee_contents.specs.Standing.{batch_row, paid_row};
+ghost use Rattle.ee_store.specs.Asking.{row_of_placed, unpaid_row};
+
+use crate::failures::Unfinished;
+use crate::looking::held_from;
+use crate::values::{customer_of, day_of, serial_of};
+use ee_acts::{Batch, Line, Rows, Ticket};
+use ee_calculator::Bond;
+use ee_tables as tables;
+use ee_tables::{PlacedLine, UnpaidBond};
+use ee_units::{Cents, Customer, Day};
+use std::alloc::Global;
+
+/// The batch that a look-up showed of a day.
+pub fn batch_shown(day: Day, found: Option<tables::Batch>) -> Option<Batch>
+    ensures row { option_map batch_row result ≡ option_map row_of_batch found }
+    ensures day { IfSome result (λ batch. batch.day ≡ day) }
+{
+    let row = found?;
+    Some(Batch {
+        day,
+        tickets: row.tickets,
+        bonds: row.bonds,
+        total: Cents(row.total),
+    })
+}
+
+fn line_shown(row: &PlacedLine) -> Option<Line>
+    ensures { IfSome result (λ line. paid_row line ≡ row_of_placed row.now) }
+{
+    let serial = serial_of(row.letter, row.number)?;
+    Some(Line {
+        serial,
+        cents: Cents(row.cents),
+    })
+}
+
+/// The lines of a ticket, in the order of their rows.
+fn lines_shown(alloc: Global, rows: &[PlacedLine]) -> Result<Vec<Line>, Unfinished>
+    ensures { IfOk result (λ lines. map paid_row lines.items ≡ map row_of_placed rows.now) }
+{
+    let mut lines = Vec::new(alloc);
+    for row in rows {
+        let Some(line) = line_shown(row) else {
+            return Err(Unfinished::StoreFailed);
+        };
+        if lines.push(line).is_err() {
+            return Err(Unfinished::NoMemory);
+        }
+    }
+    Ok(lines)
+}
+
+/// A ticket and its lines, by their rows.
+pub fn ticket_shown(
+    alloc: Global,
+    number: u64,
+    row: tables::Ticket,
+    lines: &[PlacedLine],
+) -> Result<Ticket, Unfinished>
+    ensures ticket { IfOk result (λ ticket. (ticket.ticket ≡ number) × (ticket.day ≡ row.day) × (ticket.payee ≡ row.payee) × (ticket.total.0 ≡ row.total)) }
+    ensures lines { IfOk result (λ ticket. map paid_row ticket.lines ≡ map row_of_placed lines.now) }
+{
+    let Some(day) = day_of(row.day) else {
+        return Err(Unfinished::StoreFailed);
+    };
+    let Some(payee) = customer_of(row.payee) else {
+        return Err(Unfinished::StoreFailed);
+    };
+    let lines = lines_shown(alloc, lines)?;
+    Ok(Ticket {
+        ticket: number,
+        day,
+        payee,
+        lines: Rows::new(lines),
+        total: Cents(row.total),
+    })
+}
+
+fn bond_shown(row: &UnpaidBond) -> Option<Bond>
+    ensures { IfSome result (λ bond. unpaid_row bond ≡ row.now) }
+{
+    let serial = serial_of(row.letter, row.number)?;
+    let unpaid = tables::Bond {
+        denom: row.denom,
+        issued: row.issued,
+        owner: row.owner,
+        coowner: row.coowner,
+        ticket: None,
+    };
+    let held = held_from(serial, unpaid)?;
+    Some(held.bond)
+}
+
+/// Unpaid bonds, in the order of their rows.
+pub fn bonds_shown(alloc: Global, rows: &[UnpaidBond]) -> Result<Vec<Bond>, Unfinished>
+    ensures { IfOk result (λ bonds. map unpaid_row bonds.items ≡ rows.now) }
+{
+    let mut bonds = Vec::new(alloc);
+    for row in rows {
+        let Some(bond) = bond_shown(row) else {
+            return Err(Unfinished::StoreFailed);
+        };
+        // The proof of this loop has to meet the type of a bond's owner.
+        let _owner: Customer = bond.owner;
+        if bonds.push(bond).is_err() {
+            return Err(Unfinished::NoMemory);
+        }
+    }
+    Ok(bonds)
+}

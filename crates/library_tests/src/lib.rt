@@ -1,0 +1,26 @@
+//! Tests of the libraries below the desk, by their public calls alone. A crate with tests is proved twice, so the tests of
+//! all of them stand here.
+#![tactic(auto)]
+
+#[cfg(test)]
+mod calculator;
+#[cfg(test)]
+mod calls;
+#[cfg(test)]
+mod device;
+#[cfg(test)]
+mod files;
+#[cfg(test)]
+mod framing;
+#[cfg(test)]
+mod roots;
+#[cfg(test)]
+mod tables;
+#[cfg(test)]
+mod texts;
+#[cfg(test)]
+mod units;
+#[cfg(test)]
+mod value;
+#[cfg(test)]
+mod wire;
