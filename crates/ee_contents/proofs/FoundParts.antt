@@ -8,11 +8,11 @@ use Rattle.ee_acts.specs.declared.replies.Ticket.{Ticket}
 use Rattle.ee_acts.specs.declared.replies.Batch.{Batch}
 use Rattle.ee_acts.specs.PlainBooks.{ticket_of}
 use Rattle.ee_contents.specs.declared.reading.Days.{Days}
-use Rattle.ee_contents.specs.declared.stored.Stored.{Stored}
+use Rattle.ee_opening.specs.declared.whole.AllRows.{AllRows}
 use Rattle.ee_contents.specs.Reading.{each, days_in, rate_in, bond_in, tickets_in, batch_in, parts_in, mark_at}
 use Rattle.ee_contents.proofs.ReadBack.{bind_some}
 
-pub parts_found : (stored : Stored) (days : Days) (rates : List RateRow) (tickets : List Ticket) (marks : List (SerialNumber × ℕ)) (bonds : List Bond) (batches : List Batch)
+pub parts_found : (stored : AllRows) (days : Days) (rates : List RateRow) (tickets : List Ticket) (marks : List (SerialNumber × ℕ)) (bonds : List Bond) (batches : List Batch)
     → days_in stored.desk.items ≡ Some days → each rate_in stored.rates.items ≡ Some rates → tickets_in stored.tickets.items stored.lines.items ≡ Some tickets
     → ((q : SerialNumber) → mark_at marks q ≡ ticket_of tickets q) → each (bond_in (mark_at marks)) stored.bonds.items ≡ Some bonds → each batch_in stored.batches.items ≡ Some batches
     → Some (record { rates = rates; bonds = bonds; day = days.day; last_day = days.last_day; tickets = tickets; batches = batches }) ≡ parts_in stored

@@ -21,12 +21,12 @@ use Rattle.ee_texts.specs.Reading.{denom_with}
 use Rattle.ee_texts.specs.Ranges.{IsSerial, IsCustomer, RateRowFits, BondFits, LineFits, TicketFits, BatchFits}
 use Rattle.ee_texts.proofs.Amounts.{in_range_back, denom_back}
 use Rattle.ee_contents.specs.declared.reading.Days.{Days}
-use Rattle.ee_contents.specs.declared.stored.StoredDesk.{StoredDesk}
-use Rattle.ee_contents.specs.declared.stored.StoredRate.{StoredRate}
-use Rattle.ee_contents.specs.declared.stored.StoredBond.{StoredBond}
-use Rattle.ee_contents.specs.declared.stored.StoredTicket.{StoredTicket}
-use Rattle.ee_contents.specs.declared.stored.StoredLine.{StoredLine}
-use Rattle.ee_contents.specs.declared.stored.StoredBatch.{StoredBatch}
+use Rattle.ee_opening.specs.declared.entries.StoredDesk.{StoredDesk}
+use Rattle.ee_opening.specs.declared.entries.StoredRate.{StoredRate}
+use Rattle.ee_opening.specs.declared.entries.StoredBond.{StoredBond}
+use Rattle.ee_opening.specs.declared.entries.StoredTicket.{StoredTicket}
+use Rattle.ee_opening.specs.declared.entries.StoredLine.{StoredLine}
+use Rattle.ee_opening.specs.declared.entries.StoredBatch.{StoredBatch}
 use Rattle.ee_contents.specs.Contents.{stored_desk, stored_rate, stored_held, stored_bond, stored_ticket, stored_line, placed_lines, stored_lines, stored_batch}
 use Rattle.ee_contents.specs.Reading.{each, optional_in, issue_in, day_in, rate_of, customer_in, days_of, days_in, rate_in, plain_bond_in, marked_right, bond_in, line_in, line_at, lines_at, ticket_with, ticket_in, tickets_in, batch_in}
 

@@ -30,16 +30,17 @@ use Rattle.ee_parts.proofs.SortedRows.{all_entries, get_all, map_of_entries}
 use Rattle.ee_texts.specs.Ranges.{RateRowFits, BondFits, BatchFits}
 use Rattle.ee_tables.specs.Keyed.{pair_cmp}
 use Rattle.ee_tables.specs.Rows.{Rows, DeskRow, BondRow, TicketRow, PaidRow, BatchRow, ReplyRow}
-use Rattle.ee_contents.specs.declared.stored.StoredDesk.{StoredDesk}
-use Rattle.ee_contents.specs.declared.stored.StoredRate.{StoredRate}
-use Rattle.ee_contents.specs.declared.stored.StoredBond.{StoredBond}
-use Rattle.ee_contents.specs.declared.stored.StoredTicket.{StoredTicket}
-use Rattle.ee_contents.specs.declared.stored.StoredLine.{StoredLine}
-use Rattle.ee_contents.specs.declared.stored.StoredBatch.{StoredBatch}
-use Rattle.ee_contents.specs.declared.stored.StoredReply.{StoredReply}
-use Rattle.ee_contents.specs.declared.stored.Stored.{Stored}
+use Rattle.ee_opening.specs.declared.entries.StoredDesk.{StoredDesk}
+use Rattle.ee_opening.specs.declared.entries.StoredRate.{StoredRate}
+use Rattle.ee_opening.specs.declared.entries.StoredBond.{StoredBond}
+use Rattle.ee_opening.specs.declared.entries.StoredTicket.{StoredTicket}
+use Rattle.ee_opening.specs.declared.entries.StoredLine.{StoredLine}
+use Rattle.ee_opening.specs.declared.entries.StoredBatch.{StoredBatch}
+use Rattle.ee_opening.specs.declared.entries.StoredReply.{StoredReply}
+use Rattle.ee_opening.specs.declared.whole.AllRows.{AllRows}
 use Rattle.ee_contents.specs.Standing.{rate_rows, bond_rows, bond_row, key_of, ticket_rows, paid_rows, paid_row, placed, batch_rows, reply_rows, reply_row, desk_rows, IsKept, IsRight, StandFor}
-use Rattle.ee_contents.specs.Stored.{desk_entry, rate_entry, bond_entry, ticket_entry, line_entry, batch_entry, reply_entry, AreInOrder, rows_in}
+use Rattle.ee_opening.specs.Shown.{desk_entry, rate_entry, bond_entry, ticket_entry, line_entry, batch_entry, reply_entry}
+use Rattle.ee_opening.specs.Whole.{AreInOrder, rows_of}
 use Rattle.ee_contents.specs.Contents.{stored_desk, stored_rate, stored_bond, stored_ticket, placed_lines, stored_lines, stored_batch, AreRowsOf, PartsFit, KeepsReply}
 use Rattle.ee_contents.specs.Reading.{each, days_in, rate_in, bond_in, tickets_in, batch_in, parts_in}
 use Rattle.ee_contents.proofs.Images.{pair_total, pair_same, sorted_entries}
@@ -165,7 +166,7 @@ module _ {K X : Type 0} {R : K → K → Ordering} where
   map_of : (es : List (K × X)) (m : FinMap R X) → T (is_sorted R es) → es ≡ entries m → from_sorted es ≡ m
   map_of es m sorted is = same_entries_map (from_sorted es) m (entries-from_sorted R es sorted ∙ is)
 
-pub rows_of_parts : (stored : Stored) (content : Content) → AreInOrder stored → StandFor (rows_in stored) content → AreRowsOf (parts_of content.books) stored
+pub rows_of_parts : (stored : AllRows) (content : Content) → AreInOrder stored → StandFor (rows_of stored) content → AreRowsOf (parts_of content.books) stored
 rows_of_parts stored content order stands =
     let books = content.books in
     let sound = stands.right.sound in
@@ -203,7 +204,7 @@ parts_in_range content right =
     }
 
 -- ---- reading the rows of parts
-pub parts_read : (parts : Parts) (stored : Stored) → AreRowsOf parts stored → PartsFit parts → parts_in stored ≡ Some parts
+pub parts_read : (parts : Parts) (stored : AllRows) → AreRowsOf parts stored → PartsFit parts → parts_in stored ≡ Some parts
 unfolding parts_in
 parts_read parts stored are fit =
     bind_some (days_in stored.desk.items) (record { day = parts.day; last_day = parts.last_day }) _ _
@@ -214,7 +215,7 @@ parts_read parts stored are fit =
     (ap (each (bond_in (ticket_of parts.tickets))) are.bonds ∙ each_read (bond_in (ticket_of parts.tickets)) (stored_bond parts.tickets) BondFits (bond_read parts.tickets) parts.bonds fit.bonds)
     (bind_some (each batch_in stored.batches.items) parts.batches _ _ (ap (each batch_in) are.batches ∙ each_read batch_in stored_batch BatchFits batch_read parts.batches fit.batches) refl))))
 
-pub parts_are : (parts : Parts) (stored : Stored) → parts_in stored ≡ Some parts → AreRowsOf parts stored
+pub parts_are : (parts : Parts) (stored : AllRows) → parts_in stored ≡ Some parts → AreRowsOf parts stored
 unfolding parts_in
 parts_are parts stored e =
     let days = bind_is (days_in stored.desk.items) _ parts e in
@@ -262,7 +263,7 @@ keeps (row ∷ rows) (k ∷ es) all e =
       keeps rows es all.1 (ap tail_of e),
     )
 
-pub replies_kept : (stored : Stored) (content : Content) → AreInOrder stored → StandFor (rows_in stored) content → AllByRecursion KeepsReply stored.replies.items
+pub replies_kept : (stored : AllRows) (content : Content) → AreInOrder stored → StandFor (rows_of stored) content → AllByRecursion KeepsReply stored.replies.items
 replies_kept stored content order stands =
     keeps stored.replies.items (entries content.kept) (all_entries numbers_total nat_cmp-IsAntisymmetric IsKept content.kept stands.right.kept)
     (entries_of _ _ order.replies (ap (λ (r : Rows). r.replies) stands.are) ∙ reply_entries content.kept)
@@ -273,8 +274,8 @@ values_fit books all s =
     subst (λ m. IfSome (finite.get m s) BondFits) (map_of_entries serial_cmp serials_total exact_serials books.bonds)
     (get_all serials_total exact_serials (λ s bond. BondFits bond) (entries books.bonds) (all_unmapped BondFits (λ (e : SerialNumber × Bond). e.1) (entries books.bonds) all) s)
 
-pub content_stands : (stored : Stored) (books : PlainBooks) → AreInOrder stored → AreRowsOf (parts_of books) stored → PartsFit (parts_of books) → IsSound books
-    → AllByRecursion KeepsReply stored.replies.items → (content : Content) × (content.books ≡ books) × StandFor (rows_in stored) content
+pub content_stands : (stored : AllRows) (books : PlainBooks) → AreInOrder stored → AreRowsOf (parts_of books) stored → PartsFit (parts_of books) → IsSound books
+    → AllByRecursion KeepsReply stored.replies.items → (content : Content) × (content.books ≡ books) × StandFor (rows_of stored) content
 content_stands stored books order are fit sound all =
     let rows = stored.replies.items in
     let desk = map_of (map desk_entry stored.desk.items) (desk_rows books.day books.last_day) order.desk (ap (map desk_entry) are.desk ∙ sym (desk_entries books.day books.last_day)) in

@@ -15,14 +15,14 @@ use Rattle.ee_parts.specs.declared.parts.Parts.{Parts}
 use Rattle.ee_texts.specs.Texts.{act_text, reply_text}
 use Rattle.ee_texts.specs.Ranges.{RateRowFits, BondFits, TicketFits, BatchFits}
 use Rattle.ee_contents.specs.Standing.{IsKept}
-use Rattle.ee_contents.specs.declared.stored.StoredDesk.{StoredDesk}
-use Rattle.ee_contents.specs.declared.stored.StoredRate.{StoredRate}
-use Rattle.ee_contents.specs.declared.stored.StoredBond.{StoredBond}
-use Rattle.ee_contents.specs.declared.stored.StoredTicket.{StoredTicket}
-use Rattle.ee_contents.specs.declared.stored.StoredLine.{StoredLine}
-use Rattle.ee_contents.specs.declared.stored.StoredBatch.{StoredBatch}
-use Rattle.ee_contents.specs.declared.stored.StoredReply.{StoredReply}
-use Rattle.ee_contents.specs.declared.stored.Stored.{Stored}
+use Rattle.ee_opening.specs.declared.entries.StoredDesk.{StoredDesk}
+use Rattle.ee_opening.specs.declared.entries.StoredRate.{StoredRate}
+use Rattle.ee_opening.specs.declared.entries.StoredBond.{StoredBond}
+use Rattle.ee_opening.specs.declared.entries.StoredTicket.{StoredTicket}
+use Rattle.ee_opening.specs.declared.entries.StoredLine.{StoredLine}
+use Rattle.ee_opening.specs.declared.entries.StoredBatch.{StoredBatch}
+use Rattle.ee_opening.specs.declared.entries.StoredReply.{StoredReply}
+use Rattle.ee_opening.specs.declared.whole.AllRows.{AllRows}
 
 abbrev pub stored_desk : Option ℕ → Option ℕ → StoredDesk
 stored_desk day last_day = record { id = 1; version = 1; day = day; last_day = last_day }
@@ -63,7 +63,7 @@ abbrev pub stored_batch : Batch → StoredBatch
 stored_batch batch = record { day = batch.day; tickets = batch.tickets; bonds = batch.bonds; total = batch.total.0 }
 
 -- the rows are those of these parts of books
-pub record AreRowsOf (parts : Parts) (stored : Stored) : Type 0 where
+pub record AreRowsOf (parts : Parts) (stored : AllRows) : Type 0 where
   pub desk : stored.desk.items ≡ stored_desk parts.day parts.last_day ∷ []
   pub rates : stored.rates.items ≡ map stored_rate parts.rates
   pub bonds : stored.bonds.items ≡ map (stored_bond parts.tickets) parts.bonds

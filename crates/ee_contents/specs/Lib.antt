@@ -1,4 +1,3 @@
 pub mod Standing
-pub mod Stored
 pub mod Reading
 pub mod Contents

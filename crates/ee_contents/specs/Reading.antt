@@ -14,13 +14,13 @@ use Rattle.ee_acts.specs.Serials.{serial_cmp}
 use Rattle.ee_parts.specs.declared.parts.Parts.{Parts}
 use Rattle.ee_texts.specs.Reading.{denom_with}
 use Rattle.ee_contents.specs.declared.reading.Days.{Days}
-use Rattle.ee_contents.specs.declared.stored.StoredDesk.{StoredDesk}
-use Rattle.ee_contents.specs.declared.stored.StoredRate.{StoredRate}
-use Rattle.ee_contents.specs.declared.stored.StoredBond.{StoredBond}
-use Rattle.ee_contents.specs.declared.stored.StoredTicket.{StoredTicket}
-use Rattle.ee_contents.specs.declared.stored.StoredLine.{StoredLine}
-use Rattle.ee_contents.specs.declared.stored.StoredBatch.{StoredBatch}
-use Rattle.ee_contents.specs.declared.stored.Stored.{Stored}
+use Rattle.ee_opening.specs.declared.entries.StoredDesk.{StoredDesk}
+use Rattle.ee_opening.specs.declared.entries.StoredRate.{StoredRate}
+use Rattle.ee_opening.specs.declared.entries.StoredBond.{StoredBond}
+use Rattle.ee_opening.specs.declared.entries.StoredTicket.{StoredTicket}
+use Rattle.ee_opening.specs.declared.entries.StoredLine.{StoredLine}
+use Rattle.ee_opening.specs.declared.entries.StoredBatch.{StoredBatch}
+use Rattle.ee_opening.specs.declared.whole.AllRows.{AllRows}
 
 -- what each row stands for, if each stands for something
 abbrev pub each : {A B : Type 0} → (A → Option B) → List A → Option (List B)
@@ -124,7 +124,7 @@ abbrev pub mark_at : List (SerialNumber × ℕ) → SerialNumber → Option ℕ
 mark_at marks serial = lookup (is_at (serial_cmp serial)) marks
 
 -- the parts of books whose rows these are, if they are the rows of books
-unfoldable pub parts_in : Stored → Option Parts
+unfoldable pub parts_in : AllRows → Option Parts
 parts_in stored = do
   days ← days_in stored.desk.items
   rates ← each rate_in stored.rates.items

@@ -2,7 +2,7 @@ ghost use Rattle.std.specs.Prelude.{◌≡◌, IfOk, IfErr, IfSome};
 ghost use Rattle.ee_acts.specs.Repeats.{Content};
 ghost use Rattle.ee_parts.specs.Parts.{parts_of, AreUnsound};
 ghost use Rattle.ee_contents.specs.Reading.{parts_in};
-ghost use Rattle.ee_contents.specs.Stored.{AreInOrder, rows_in};
+ghost use Rattle.ee_opening.specs.Whole.{AreInOrder, rows_of};
 ghost use Rattle.ee_contents.specs.Standing.{StandFor};
 ghost use Rattle.ee_contents.specs.Contents.{PartsFit};
 
@@ -10,10 +10,10 @@ use crate::marks::marks_of;
 use crate::ranges::parts_fit;
 use crate::reading::{batches_in, bonds_in, days_in, rates_in};
 use crate::replies::keep_replies;
-use crate::stored::Stored;
 use crate::tickets::tickets_in;
 use ee_acts::Rows;
 use ee_desk::Books;
+use ee_opening::AllRows;
 use ee_parts::{Parts, PartsFault};
 use std::alloc::{AllocError, Global};
 use thiserror::Error;
@@ -42,7 +42,7 @@ impl From<AllocError> for ContentFault {
 
 /// The parts of books whose rows these are.
 #[tactic(auto, unfolding(crate::specs::Reading::parts_in))]
-fn parts_in(alloc: Global, stored: &Stored) -> Result<Option<Parts>, AllocError>
+fn parts_in(alloc: Global, stored: &AllRows) -> Result<Option<Parts>, AllocError>
     ensures value { IfOk result (λ o. o ≡ parts_in stored.now) }
     ensures fits { IfOk result (λ o. IfSome o PartsFit) }
 {
@@ -90,10 +90,10 @@ fn books_of(alloc: Global, parts: Parts) -> Result<Books, ContentFault>
 
 /// The books that the rows of a store stand for, where they stand for books and kept replies. It
 /// answers `Unusable` exactly where they stand for none.
-pub fn content_of(alloc: Global, stored: &Stored) -> Result<Books, ContentFault>
+pub fn content_of(alloc: Global, stored: &AllRows) -> Result<Books, ContentFault>
     requires { AreInOrder stored.now }
-    ensures ok { IfOk result (λ books. (content : Content) × (content.books ≡ books) × StandFor (rows_in stored.now) content) }
-    ensures unusable { IfErr result (λ fault. fault ≡ ContentFault.Unusable → (content : Content) → StandFor (rows_in stored.now) content → ⊥) }
+    ensures ok { IfOk result (λ books. (content : Content) × (content.books ≡ books) × StandFor (rows_of stored.now) content) }
+    ensures unusable { IfErr result (λ fault. fault ≡ ContentFault.Unusable → (content : Content) → StandFor (rows_of stored.now) content → ⊥) }
 {
     let Some(parts) = parts_in(alloc, stored)? else {
         return Err(ContentFault::Unusable);

@@ -7,13 +7,9 @@ mod marks;
 mod ranges;
 mod reading;
 mod replies;
-mod stored;
 mod tickets;
 mod values;
 
 pub use contents::{ContentFault, content_of};
 pub use laws::one_content;
-pub use stored::{
-    Stored, StoredBatch, StoredBond, StoredDesk, StoredLine, StoredRate, StoredReply, StoredTicket,
-};
 pub use values::{customer_of, day_of, denom_of, issue_of, rate_of, serial_of};

@@ -3,10 +3,10 @@
 ghost use Rattle.std.specs.Prelude.{◌≡◌, IfOk, option_map};
 ghost use Rattle.ee_contents.specs.Reading.{each, optional_in, day_in, customer_in, days_of, days_in, rate_in, plain_bond_in, bond_with, bond_in, batch_in, mark_at};
 
-use crate::stored::{StoredBatch, StoredBond, StoredDesk, StoredRate};
 use crate::values::{customer_of, day_of, denom_of, issue_of, rate_of, serial_of};
 use ee_acts::{Batch, RateRow};
 use ee_calculator::Bond;
+use ee_opening::{StoredBatch, StoredBond, StoredDesk, StoredRate};
 use ee_units::{Cents, Customer, Day, Serial};
 use ee_value::Rates;
 use std::alloc::{AllocError, Global};

@@ -6,8 +6,8 @@ ghost use Rattle.ee_acts.specs.declared.replies.Reply.TheVariants.{Refused};
 ghost use Rattle.ee_acts.specs.declared.refusals.Refusal.TheVariants.{NumberReused};
 ghost use Rattle.ee_contents.specs.Contents.{KeepsReply};
 
-use crate::stored::StoredReply;
 use ee_acts::{Refusal, Reply};
+use ee_opening::StoredReply;
 use ee_texts::{read_act, read_reply};
 use std::alloc::{AllocError, Global};
 

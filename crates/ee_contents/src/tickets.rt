@@ -3,9 +3,9 @@
 ghost use Rattle.std.specs.Prelude.{◌≡◌, ◌+◌, ◌<◌, ◌^◌, IfOk, option_map, length};
 ghost use Rattle.ee_contents.specs.Reading.{line_in, line_at, lines_at, ticket_with, ticket_in, tickets_in};
 
-use crate::stored::{StoredLine, StoredTicket};
 use crate::values::{customer_of, day_of, serial_of};
 use ee_acts::{Line, Rows, Ticket};
+use ee_opening::{StoredLine, StoredTicket};
 use ee_units::{Cents, Customer};
 use std::alloc::{AllocError, Global};
 

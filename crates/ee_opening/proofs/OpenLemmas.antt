@@ -1,7 +1,8 @@
 -- A store that has the tables, and one that has none.
-use Rattle.std.proofs.Common.{◌≡◌, ◌⊎◌, inl, inr, Bool, true, false, IsTrue, Ok, Err, Result, IfOk, IfErr, OnErr, refl, sym, ap, subst, ◌∙◌}
+use Rattle.std.proofs.Common.{◌≡◌, ◌⊎◌, inl, inr, Bool, true, false, IsTrue, Ok, Err, Result, IfOk, IfErr, OnOk, OnErr, refl, sym, ap, subst, ◌∙◌}
 use Rattle.sqlite.specs.Effect.{Database}
-use Rattle.sqlite.specs.State.{State, KeepsCommit}
+use Rattle.sqlite.specs.Tree.{Trees}
+use Rattle.sqlite.specs.State.{State, HasCleanDisk, KeepsCommit, Survives}
 use Rattle.sqlite_schema.specs.Names.{same_name}
 use Rattle.ee_tables.specs.Tables.{counter_schema}
 use Rattle.ee_tables.specs.Rows.{Rows, Holds, Has}
@@ -61,3 +62,15 @@ each_err (Err e) p = p e
 pub still_err : {X E P Q : Type 0} (r : Result X E) → (P → Q) → OnErr r P → OnErr r Q
 still_err (Ok x) f h = tt
 still_err (Err e) f h = f h
+
+pub if_ok : {X E Q : Type 0} (r : Result X E) → Q → OnOk r Q
+if_ok (Ok x) q = q
+if_ok (Err e) q = tt
+
+pub still_ok : {X E P Q : Type 0} (r : Result X E) → (P → Q) → OnOk r P → OnOk r Q
+still_ok (Ok x) f h = f h
+still_ok (Err e) f h = tt
+
+-- a crash leaves nothing that it could not leave before
+pub leaves_less : (old new : State) → Survives old new (λ _. ⊥) → HasCleanDisk new → (db : Trees) → new.may_leave db → old.may_leave db
+leaves_less old new it clean db may = elim (it.crash clean db may) [ inl before ↦ before | inr none ↦ absurd none ]

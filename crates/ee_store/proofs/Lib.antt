@@ -13,3 +13,5 @@ pub mod ReadValues
 pub mod FoundTickets
 pub mod FoundBonds
 pub mod FoundRows
+pub mod Readable
+pub mod Opened

@@ -2,3 +2,4 @@ pub mod Written
 pub mod Found
 pub mod Serving
 pub mod Asking
+pub mod Adopted

@@ -2,6 +2,7 @@
 //! that keeps them there.
 #![tactic(auto)]
 
+mod adopting;
 mod asking;
 mod counting;
 mod delivering;
@@ -10,6 +11,7 @@ mod finding;
 mod keeper;
 mod keys;
 mod looking;
+mod opening;
 mod queries;
 mod repeats;
 mod seeing;
@@ -20,5 +22,8 @@ mod terms;
 mod values;
 mod writing;
 
+pub use adopting::NotAdopted;
 pub use ee_contents::one_content;
+pub use ee_opening::OpenFault;
 pub use keeper::SqlKeeper;
+pub use opening::open_as;

@@ -1,0 +1,121 @@
+-- Opening a store: what the rows that were found stand for.
+use Rattle.std.proofs.Common.{◌≡◌, ◌⊎◌, inl, inr, Bool, true, false, true≢false, ℕ, List, [], ◌∷◌, map, length, Some, IsTrue, refl, sym, ap, ◌∙◌, subst, arith}
+use Rattle.std.specs.Prelude.{IfSome, Result, Ok, Err, IfErr, OnOk}
+use Rattle.std.specs.Option.{unwrap_or}
+use Rattle.std.specs.declared.cmp.Ordering.{Ordering}
+use Rattle.std.specs.Ordering.{nat_cmp}
+use Rattle.std.specs.FinMap.{empty, entries, from_entries, get-empty, len-empty, len-entries}
+use Rattle.sqlite.specs.Effect.{Database}
+use Rattle.sqlite.specs.Tree.{Trees}
+use Rattle.sqlite.specs.State.{State, Survives, KeepsCommit}
+use Rattle.sqlite.proofs.StateLemmas.{survives_weaker}
+use Rattle.ee_units.specs.Spelling.{SerialNumber}
+use Rattle.ee_calculator.specs.declared.bonds.Bond.{Bond}
+use Rattle.ee_value.specs.declared.rates.Rates.{Rates}
+use Rattle.ee_acts.specs.declared.changes.Kept.{Kept}
+use Rattle.ee_acts.specs.Serials.{serial_cmp}
+use Rattle.ee_acts.specs.Numbers.{number_cmp}
+use Rattle.ee_acts.specs.Seen.{held_as}
+use Rattle.ee_acts.specs.Repeats.{Content, nothing}
+use Rattle.ee_acts.proofs.Soundness.{empty_is_sound}
+use Rattle.ee_texts.specs.Ranges.{BondFits}
+use Rattle.ee_tables.specs.Keyed.{pair_cmp}
+use Rattle.ee_tables.specs.Rows.{Rows, DeskRow, Has, Holds}
+use Rattle.ee_opening.specs.Making.{IsBlank, first_rows}
+use Rattle.ee_opening.specs.Whole.{IsOurs}
+use Rattle.ee_opening.specs.Opening.{IsOtherVersion}
+use Rattle.ee_contents.specs.Standing.{rows_of, bond_row, reply_row, key_of, StandFor, IsRight, IsKept}
+use Rattle.ee_contents.proofs.Images.{get_desk}
+use Rattle.ee_laws.proofs.Leaving.{leaves_as_before}
+use Rattle.ee_store.specs.Serving.{StandsFor, HasContent}
+use Rattle.ee_store.specs.Adopted.{KeepsContent, KeepsWorld}
+
+-- ---- the empty content and the first rows
+
+pub nothing_right : IsRight nothing
+nothing_right = record {
+  sound = empty_is_sound;
+  in_range = record { bonds = λ s. subst (λ o. IfSome o BondFits) (sym (get-empty serial_cmp s)) tt; tickets = tt; batches = tt };
+  kept = λ n. subst (λ o. IfSome o (IsKept n)) (sym (get-empty number_cmp n)) tt;
+}
+
+no_length : {A : Type 0} (xs : List A) → length xs ≡ 0 → xs ≡ []
+no_length [] e = refl
+no_length (x ∷ xs) e = absurd (omega arith)
+
+-- an empty map has no entries
+none_in : {K X : Type 0} (R : K → K → Ordering) → entries (empty {X = X} {R = R}) ≡ []
+none_in {X = X} R = no_length _ (sym (len-entries (empty {X = X} {R = R})) ∙ len-empty R X)
+
+pub nothing_rows : rows_of nothing ≡ first_rows
+nothing_rows =
+    let rates = ap (λ (es : List (ℕ × Rates)). from_entries {R = nat_cmp} (map (λ e. (e.0, e.1.fixed)) es)) (none_in nat_cmp) in
+    let bonds = ap (λ (es : List (SerialNumber × Bond)). from_entries {R = pair_cmp} (map (λ e. (key_of e.0, bond_row (held_as [] e.0 e.1))) es)) (none_in serial_cmp) in
+    let replies = ap (λ (es : List (ℕ × Kept)). from_entries {R = nat_cmp} (map (λ e. (e.0, reply_row e.1)) es)) (none_in number_cmp) in
+    λ i. record first_rows { rates = rates i; bonds = bonds i; replies = replies i }
+
+-- what a store has it has while nothing is committed
+kept_has : (old new : State) (rows : Rows) → KeepsCommit old new → Has old rows → Has new rows
+kept_has old new rows keeps has is_open =
+    let it = has (keeps.was_open is_open) in
+    let same = keeps.committed is_open in
+    (ap (λ (d : Database). d.schema) same ∙ it.0, subst (λ (d : Database). Holds d.trees rows) (sym same) it.1)
+
+-- a store whose rows are kept was open if it is
+pub was_open : (old new : State) → (IsOurs old → KeepsCommit old new) → IsTrue new.is_open → IsTrue old.is_open
+was_open old new kept is_open = by_case old.is_open refl
+  where
+    by_case : (b : Bool) → old.is_open ≡ b → IsTrue old.is_open
+    by_case true is = is
+    by_case false is = (kept (λ o. absurd (true≢false (sym o ∙ is)))).was_open is_open
+
+pub begins : (old new : State) (rows : Rows) → (IsOurs old → KeepsCommit old new) → (IsTrue old.is_open → rows ≡ first_rows) → Has new rows → HasContent new nothing
+begins old new rows kept is has = record { right = nothing_right; rows = λ is_open. subst (λ r. Has new r) (is (was_open old new kept is_open) ∙ sym nothing_rows) has is_open }
+
+pub begun_survives : (old new : State) → Survives old new (λ db. IsBlank old → Holds db first_rows) → Survives old new (λ db. IsBlank old → StandsFor db nothing)
+begun_survives old new one =
+    survives_weaker old new (λ db. IsBlank old → Holds db first_rows) (λ db. IsBlank old → StandsFor db nothing)
+    (λ clean db holds blank. record { right = nothing_right; holds = subst (Holds db) (sym nothing_rows) (holds blank) }) one
+
+-- ---- rows of a content
+
+pub ours : (old : State) (rows : Rows) → Has old rows → IsOurs old
+ours old rows has is_open = (has is_open).0
+
+pub keeps_content : (old new : State) → (IsOurs old → KeepsCommit old new) → (content : Content) → HasContent old content → HasContent new content
+keeps_content old new kept content has = record { right = has.right; rows = kept_has old new (rows_of content) (kept (ours old (rows_of content) has.rows)) has.rows }
+
+pub has_some : (old new : State) (rows : Rows) → (IsOurs old ⊎ IsBlank old → Has new rows) → (content : Content) × StandFor rows content → IsOurs old ⊎ IsBlank old → (content : Content) × HasContent new content
+has_some old new rows found some is = (some.0, record { right = some.1.right; rows = subst (Has new) some.1.are (found is) })
+
+-- rows that stand for no content aren't those of a content
+pub stood_for_none : (old : State) (rows : Rows) → ((before : Rows) → Has old before → IsTrue old.is_open → rows ≡ before) → ((content : Content) → StandFor rows content → ⊥)
+    → IsTrue old.is_open → (content : Content) → HasContent old content → ⊥
+stood_for_none old rows those none is_open content has = none content (record { are = those (rows_of content) has.rows is_open; right = has.right })
+
+same_some : (a b : DeskRow) → Some a ≡ Some b → a ≡ b
+same_some a b e = ap (λ o. unwrap_or o a) e
+
+-- the rows of a content are of version 1
+pub of_version : (content : Content) → IsOtherVersion (rows_of content) → ⊥
+of_version content other =
+    let books = content.books in
+    other.2 (ap (λ (d : DeskRow). d.version) (same_some other.0 (record { version = 1; day = books.day; last_day = books.last_day }) (sym other.1 ∙ get_desk books.day books.last_day)))
+
+-- ---- what a call leaves
+
+pub keeps_world : (old new : State) → KeepsContent old new → (IsOurs old → (db : Trees) → new.may_leave db → old.may_leave db) → KeepsWorld old new
+keeps_world old new found stays w follows =
+    (found w.now follows.0, leaves_as_before StandsFor old.may_leave new.may_leave w (stays (ours old (rows_of w.now) follows.0.rows)) follows.1)
+
+pub begun_or : (old new : State) → KeepsCommit old new ⊎ Has new first_rows → KeepsCommit old new ⊎ HasContent new nothing
+begun_or old new (inl kept) = inl kept
+begun_or old new (inr has) = inr (record { right = nothing_right; rows = subst (Has new) (sym nothing_rows) has })
+
+pub err_then : {X E : Type 0} {P Q : E → Type 0} (r : Result X E) → ((e : E) → P e → Q e) → IfErr r P → IfErr r Q
+err_then (Ok x) f h = tt
+err_then (Err e) f h = f e h
+
+pub if_ok : {X E Q : Type 0} (r : Result X E) → Q → OnOk r Q
+if_ok (Ok x) q = q
+if_ok (Err e) q = tt

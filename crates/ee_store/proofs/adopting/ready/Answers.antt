@@ -1,0 +1,63 @@
+use Rattle.std.proofs.Common.{rules, ◌≡◌, inr, IsTrue, IfErr}
+use Rattle.sqlite.specs.Held.{state}
+use Rattle.ee_tables.specs.Rows.{Rows, Has}
+use Rattle.ee_tables.proofs.KeepLemmas.{if_err, IfOk_on}
+use Rattle.ee_opening.specs.declared.making.OpenFault.TheVariants.{WrongVersion}
+use Rattle.ee_opening.specs.Whole as whole
+use Rattle.ee_opening.specs.Opening.{IsOtherVersion}
+use Rattle.ee_contents.specs.Standing.{rows_of}
+use Rattle.ee_store.proofs.Opened.{begins, begun_or, begun_survives, keeps_content, has_some, of_version, keeps_world, if_ok, err_then}
+use Rattle.ee_store.proofs.adopting.ready.Goals as goal
+
+pub returns-in_err-all-clause-kept : goal.returns-in_err-all-clause-kept
+returns-in_err-all-clause-kept g c clean =
+    let old = state g.S.Store c.args.conn.now in
+    let new = state g.S.Store c.open_rows.new.conn in
+    let it = c.in_err-all.ensures.failed clean in
+    if_err c.from_residual.result (it.0, λ blank. begun_or old new (it.1 blank))
+
+pub returns-in_err-all-clause-version : goal.returns-in_err-all-clause-version
+returns-in_err-all-clause-version g c clean =
+    let old = state g.S.Store c.args.conn.now in
+    let told : IfErr c.from_residual.result (λ e. e ≡ WrongVersion → (rows : Rows) → Has old rows → IsTrue old.is_open → IsOtherVersion rows) = search rules in
+    err_then c.from_residual.result (λ e other is is_open content has. of_version content (other is (rows_of content) has.rows is_open)) told
+
+pub returns-in_err-all-clause-crash : goal.returns-in_err-all-clause-crash
+returns-in_err-all-clause-crash g c = begun_survives (state g.S.Store c.args.conn.now) (state g.S.Store c.open_rows.new.conn) c.in_err-all.ensures.crash
+
+pub returns-clause-begins : goal.returns-clause-begins
+returns-clause-begins g c clean =
+    let old = state g.S.Store c.args.conn.now in
+    let new = state g.S.Store c.open_rows.new.conn in
+    let it = c.in_ok-all.ensures in
+    if_ok c.prepared.result (λ blank. begins old new (whole.rows_of c.in_ok-all.all) (it.kept clean) (it.made clean blank) (it.found clean (inr blank)))
+
+pub returns-clause-found : goal.returns-clause-found
+returns-clause-found g c clean =
+    let old = state g.S.Store c.args.conn.now in
+    let new = state g.S.Store c.open_rows.new.conn in
+    if_ok c.prepared.result (keeps_content old new (c.in_ok-all.ensures.kept clean))
+
+pub returns-clause-stands : goal.returns-clause-stands
+returns-clause-stands g c clean =
+    let old = state g.S.Store c.args.conn.now in
+    let new = state g.S.Store c.open_rows.new.conn in
+    let it = c.in_ok-all.ensures in
+    IfOk_on c.prepared.result (λ tables ok. has_some old new (whole.rows_of c.in_ok-all.all) (it.found clean) ok.0) c.prepared.ensures.ok
+
+pub returns-clause-follows : goal.returns-clause-follows
+returns-clause-follows g c clean =
+    let old = state g.S.Store c.args.conn.now in
+    let new = state g.S.Store c.open_rows.new.conn in
+    let it = c.in_ok-all.ensures in
+    if_ok c.prepared.result (keeps_world old new (keeps_content old new (it.kept clean)) (it.stays clean))
+
+pub returns-clause-kept : goal.returns-clause-kept
+returns-clause-kept g c clean =
+    let old = state g.S.Store c.args.conn.now in
+    let new = state g.S.Store c.open_rows.new.conn in
+    let it = c.in_ok-all.ensures in
+    if_err c.prepared.result (it.kept clean, λ blank. inr (begins old new (whole.rows_of c.in_ok-all.all) (it.kept clean) (it.made clean blank) (it.found clean (inr blank))))
+
+pub returns-clause-crash : goal.returns-clause-crash
+returns-clause-crash g c = begun_survives (state g.S.Store c.args.conn.now) (state g.S.Store c.open_rows.new.conn) c.in_ok-all.ensures.crash

@@ -1,0 +1,66 @@
+-- What a store that is opened has, and what it had.
+-- Of a store that a failing disk has shut nothing is said.
+use Rattle.std.specs.Prelude.{◌⊎◌, List, map, IsTrue}
+use Rattle.std.specs.FinMap as finite
+use Rattle.std.specs.FinMap.{FinMap}
+use Rattle.sqlite_disk.specs.declared.Disk.{Ghosts}
+use Rattle.sqlite.specs.declared.FileStore.{FileStore}
+use Rattle.sqlite.specs.Tree.{Trees}
+use Rattle.sqlite.specs.Held.{Held}
+use Rattle.sqlite.specs.Files.{file_state, IsOpened}
+use Rattle.sqlite.specs.Recovery.{Image}
+use Rattle.sqlite.specs.Start.{FindsIn}
+use Rattle.sqlite.specs.State.{State, KeepsCommit}
+use Rattle.ee_value.specs.declared.rates.Rates.{Rates}
+use Rattle.ee_acts.specs.Tables.{rates_cmp}
+use Rattle.ee_acts.specs.Repeats.{Content, nothing}
+use Rattle.ee_laws.specs.Events.{World}
+use Rattle.ee_opening.specs.declared.entries.StoredRate.{StoredRate}
+use Rattle.ee_opening.specs.Making.{IsBlank}
+use Rattle.ee_opening.specs.Whole.{IsOurs}
+use Rattle.ee_store.specs.Serving.{HasContent, FollowsWorld}
+
+-- a store without tables has come to have the empty content
+abbrev pub BeginsEmpty : State → State → Type 0
+BeginsEmpty old new = IsBlank old → HasContent new nothing
+
+-- whichever content the store had, it has
+abbrev pub KeepsContent : State → State → Type 0
+KeepsContent old new = (content : Content) → HasContent old content → HasContent new content
+
+-- a store with the tables, or with none, has some content
+abbrev pub HasSome : State → State → Type 0
+HasSome old new = IsOurs old ⊎ IsBlank old → (content : Content) × HasContent new content
+
+-- the store follows the events of requests, as before
+abbrev pub KeepsWorld : State → State → Type 0
+KeepsWorld old new = (w : World) → FollowsWorld old w → FollowsWorld new w
+
+-- nothing was committed, but for the first rows of a store without tables
+abbrev pub KeepsRows : State → State → Type 0
+KeepsRows old new = (IsOurs old → KeepsCommit old new) × (IsBlank old → KeepsCommit old new ⊎ HasContent new nothing)
+
+-- a store that was open had no content
+abbrev pub HadNone : State → Type 0
+HadNone old = IsTrue old.is_open → (content : Content) → HasContent old content → ⊥
+
+-- a crash of a store with the tables leaves what it could leave before
+abbrev pub LeavesAsBefore : State → State → Type 0
+LeavesAsBefore old new = IsTrue old.is_open → IsOurs old → (db : Trees) → new.may_leave db → old.may_leave db
+
+-- the keeper has what was found in the files, which held this at first
+pub record IsOpenedFrom {D : Type 0} {g : Ghosts D} (start : Image) (now : Held (FileStore D g)) : Type 0 where
+  pub was : Held (FileStore D g)
+  pub opened : IsOpened was
+  pub found : FindsIn start (file_state was)
+  pub begins : BeginsEmpty (file_state was) (file_state now)
+  pub keeps : KeepsContent (file_state was) (file_state now)
+  pub some : HasSome (file_state was) (file_state now)
+  pub follows : KeepsWorld (file_state was) (file_state now)
+
+abbrev pub rates_in_row : StoredRate → Rates
+rates_in_row row = record { fixed = row.rate }
+
+-- a table for the rates of each row
+abbrev pub tables_for : List StoredRate → FinMap rates_cmp Rates
+tables_for rows = finite.from_entries (map (λ row. (rates_in_row row, rates_in_row row)) rows)

@@ -1,0 +1,165 @@
+//! Taking over a connection, and handing it back.
+
+ghost use Rattle.std.specs.Prelude.{◌≡◌, ◌≢◌, ◌⊎◌, IsTrue, IfOk, IfErr, OnOk, OnErr, MatchResult};
+ghost use Rattle.std.specs.FinMap as finite;
+ghost use Rattle.sqlite.specs.Held.{state};
+ghost use Rattle.sqlite.specs.Tree.{Trees};
+ghost use Rattle.sqlite.specs.State.{HasCleanDisk, Survives};
+ghost use Rattle.ee_acts.specs.Repeats.{Content, nothing};
+ghost use Rattle.ee_opening.specs.Making.{IsBlank};
+ghost use Rattle.ee_opening.specs.Whole.{IsOurs, rows_of, AreInOrder};
+ghost use Rattle.ee_contents.specs.Standing.{StandFor};
+ghost use Rattle.ee_store.specs.Serving.{StandsFor};
+ghost use Rattle.ee_store.specs.Adopted.{BeginsEmpty, KeepsContent, HasSome, HadNone, KeepsRows, KeepsWorld, LeavesAsBefore, tables_for};
+
+use crate::keeper::SqlKeeper;
+use crate::values::rate_of;
+use ee_acts::Tables;
+use ee_contents::{ContentFault, content_of};
+use ee_opening::{AllRows, OpenFault, StoredRate, open_rows};
+use ee_value::{Rates, ValueFault};
+use sqlite::{Alter, Connection};
+use std::alloc::Global;
+
+/// A connection that was not taken over, and why.
+#[derive(Drop)]
+pub struct NotAdopted<S: Alter> {
+    /// Why it was not.
+    pub fault: OpenFault,
+    /// The connection, handed back.
+    pub conn: Connection<S>,
+}
+
+/// The table of a rate in hundredths of a percent, made where there is none.
+fn add_table(alloc: Global, tables: &mut Tables, hundredths: u64) -> Result<(), OpenFault>
+    ensures added { OnOk result (tables.new ≡ finite.insert tables.old (record { fixed = hundredths }) (record { fixed = hundredths })) }
+    ensures fault { IfErr result (λ fault. (fault ≡ OpenFault.NoMemory) ⊎ (fault ≡ OpenFault.StoreFailed)) }
+{
+    let Some(fixed) = rate_of(hundredths) else {
+        return Err(OpenFault::StoreFailed);
+    };
+    match tables.add(alloc, Rates { fixed }) {
+        Ok(_terms) => Ok(()),
+        Err(ValueFault::NoMemory) => Err(OpenFault::NoMemory),
+        Err(ValueFault::Unsettled { .. }) => Err(OpenFault::StoreFailed),
+    }
+}
+
+fn no_tables(alloc: Global) -> Tables
+    ensures { result ≡ finite.empty }
+{
+    Tables::new(alloc)
+}
+
+/// A table for the rates of each row.
+fn tables_of(alloc: Global, rows: &[StoredRate]) -> Result<Tables, OpenFault>
+    ensures made { IfOk result (λ tables. tables ≡ tables_for rows.now) }
+    ensures fault { IfErr result (λ fault. (fault ≡ OpenFault.NoMemory) ⊎ (fault ≡ OpenFault.StoreFailed)) }
+{
+    match rows.split_first() {
+        None => Ok(no_tables(alloc)),
+        Some((row, rest)) => {
+            let mut tables = tables_of(alloc, rest)?;
+            add_table(alloc, &mut tables, row.rate)?;
+            Ok(tables)
+        }
+    }
+}
+
+/// Tests that rows stand for books and kept replies.
+fn tested(alloc: Global, all: &AllRows) -> Result<(), OpenFault>
+    requires { AreInOrder all.now }
+    ensures ok { OnOk result ((content : Content) × StandFor (rows_of all.now) content) }
+    ensures unusable { IfErr result (λ fault. fault ≡ OpenFault.Unusable → (content : Content) → StandFor (rows_of all.now) content → ⊥) }
+    ensures version { IfErr result (λ fault. fault ≢ OpenFault.WrongVersion) }
+{
+    match content_of(alloc, all) {
+        Ok(_books) => Ok(()),
+        Err(ContentFault::Unusable) => Err(OpenFault::Unusable),
+        Err(ContentFault::NoMemory) => Err(OpenFault::NoMemory),
+    }
+}
+
+/// The tables of unit values for the rates of rows that stand for books and kept replies.
+fn prepared(alloc: Global, all: &AllRows) -> Result<Tables, OpenFault>
+    requires { AreInOrder all.now }
+    ensures ok { IfOk result (λ tables. ((content : Content) × StandFor (rows_of all.now) content) × (tables ≡ tables_for all.now.rates.items)) }
+    ensures unusable { IfErr result (λ fault. fault ≡ OpenFault.Unusable → (content : Content) → StandFor (rows_of all.now) content → ⊥) }
+    ensures version { IfErr result (λ fault. fault ≢ OpenFault.WrongVersion) }
+{
+    tested(alloc, all)?;
+    tables_of(alloc, &all.rates)
+}
+
+/// Finds the rows of a store, or makes its first ones, and tests that they stand for books and kept
+/// replies. It answers the tables of unit values for their rates.
+fn ready<S: Alter>(conn: &mut Connection<S>, alloc: Global) -> Result<Tables, OpenFault>
+    ensures begins { HasCleanDisk (state S.Store conn.new) → OnOk result (BeginsEmpty (state S.Store conn.old) (state S.Store conn.new)) }
+    ensures found { HasCleanDisk (state S.Store conn.new) → OnOk result (KeepsContent (state S.Store conn.old) (state S.Store conn.new)) }
+    ensures stands { HasCleanDisk (state S.Store conn.new) → OnOk result (HasSome (state S.Store conn.old) (state S.Store conn.new)) }
+    ensures follows { HasCleanDisk (state S.Store conn.new) → OnOk result (KeepsWorld (state S.Store conn.old) (state S.Store conn.new)) }
+    ensures kept { HasCleanDisk (state S.Store conn.new) → OnErr result (KeepsRows (state S.Store conn.old) (state S.Store conn.new)) }
+    ensures version { HasCleanDisk (state S.Store conn.new) → IfErr result (λ fault. fault ≡ OpenFault.WrongVersion → HadNone (state S.Store conn.old)) }
+    ensures crash { Survives (state S.Store conn.old) (state S.Store conn.new) (λ db. IsBlank (state S.Store conn.old) → StandsFor db nothing) }
+    ensures left { HasCleanDisk (state S.Store conn.new) → LeavesAsBefore (state S.Store conn.old) (state S.Store conn.new) }
+{
+    let all = open_rows(conn, alloc)?;
+    prepared(alloc, &all)
+}
+
+impl<S: Alter> SqlKeeper<S> {
+    /// Takes over a connection that is in no transaction. In a store that has none of the tables it
+    /// makes them, in one transaction, and begins with nothing; else it reads all rows and tests them.
+    ///
+    /// - `begins`: a store without tables gets the empty content.
+    /// - `found`: a store that has a content keeps it.
+    /// - `stands`: so the keeper serves from a content, and never from rows that stand for none.
+    /// - `follows`: the store follows the events of the law of stops and retries as it did.
+    /// - `kept`: after a refusal the rows are as they were. A store without tables may have got the
+    ///   first ones.
+    /// - `crash`, `left`: whenever the call stops, a crash leaves what it could leave before. Of a
+    ///   store without tables it may also leave the empty content.
+    ///
+    /// # Errors
+    ///
+    /// With each the connection is handed back.
+    ///
+    /// - `NoMemory` where there is not enough memory.
+    /// - `StoreFailed` where the store fails, or the connection is in a transaction.
+    /// - `WrongVersion` where the tables are of another version.
+    /// - `Unusable` where the rows stand for no books and kept replies.
+    pub fn adopt(conn: Connection<S>, alloc: Global) -> Result<SqlKeeper<S>, NotAdopted<S>>
+        ensures begins { IfOk result (λ keeper. HasCleanDisk (state S.Store keeper.conn) → BeginsEmpty (state S.Store conn) (state S.Store keeper.conn)) }
+        ensures found { IfOk result (λ keeper. HasCleanDisk (state S.Store keeper.conn) → KeepsContent (state S.Store conn) (state S.Store keeper.conn)) }
+        ensures stands { IfOk result (λ keeper. HasCleanDisk (state S.Store keeper.conn) → HasSome (state S.Store conn) (state S.Store keeper.conn)) }
+        ensures follows { IfOk result (λ keeper. HasCleanDisk (state S.Store keeper.conn) → KeepsWorld (state S.Store conn) (state S.Store keeper.conn)) }
+        ensures kept { IfErr result (λ not. HasCleanDisk (state S.Store not.conn) → KeepsRows (state S.Store conn) (state S.Store not.conn)) }
+        ensures version { IfErr result (λ not. HasCleanDisk (state S.Store not.conn) → not.fault ≡ OpenFault.WrongVersion → HadNone (state S.Store conn)) }
+        ensures crash { MatchResult result (λ keeper. Survives (state S.Store conn) (state S.Store keeper.conn) (λ db. IsBlank (state S.Store conn) → StandsFor db nothing))
+            (λ not. Survives (state S.Store conn) (state S.Store not.conn) (λ db. IsBlank (state S.Store conn) → StandsFor db nothing)) }
+        ensures left { MatchResult result (λ keeper. HasCleanDisk (state S.Store keeper.conn) → LeavesAsBefore (state S.Store conn) (state S.Store keeper.conn))
+            (λ not. HasCleanDisk (state S.Store not.conn) → LeavesAsBefore (state S.Store conn) (state S.Store not.conn)) }
+    {
+        let mut own = conn;
+        match ready(&mut own, alloc) {
+            Ok(tables) => Ok(SqlKeeper {
+                alloc,
+                tables,
+                conn: own,
+            }),
+            Err(fault) => Err(NotAdopted { fault, conn: own }),
+        }
+    }
+
+    /// Hands the connection back. What is committed stays. It takes no memory.
+    pub fn close(self) -> Connection<S>
+        ensures { result ≡ self.conn }
+    {
+        let SqlKeeper {
+            alloc: _,
+            tables: _,
+            conn,
+        } = self;
+        conn
+    }
+}
