@@ -55,7 +55,11 @@ fn apply<O: Stores, R: Read, W: Write>(
         (λ (left : O.Store). Applies (R.remaining input.old) (W.contents output.old) (W.contents output.new) c result (O.Store.has left)) }
 {
     match stores.open(db) {
-        Ok(mut store) => apply_to(rt.alloc(), &mut store, input, output),
+        Ok(mut store) => {
+            let ended = apply_to(rt.alloc(), &mut store, input, output);
+            stores.close(store);
+            ended
+        }
         Err(fault) => Err(fault),
     }
 }
@@ -74,7 +78,11 @@ fn import<O: Stores, W: Write>(
         (λ (left : O.Store). ImportsInto kind None (W.contents output.old) (W.contents output.new) number c result (O.Store.has left)) }
 {
     match stores.open(db) {
-        Ok(mut store) => import_path(rt, &mut store, kind, file, number, output),
+        Ok(mut store) => {
+            let ended = import_path(rt, &mut store, kind, file, number, output);
+            stores.close(store);
+            ended
+        }
         Err(fault) => Err(fault),
     }
 }
@@ -92,7 +100,11 @@ fn export<O: Stores, W: Write>(
     ensures done { IfOk result (λ outcome. outcome ≡ Outcome.Done) }
 {
     match stores.open(db) {
-        Ok(mut store) => export_from(rt.alloc(), &mut store, customer, output),
+        Ok(mut store) => {
+            let ended = export_from(rt.alloc(), &mut store, customer, output);
+            stores.close(store);
+            ended
+        }
         Err(fault) => Err(fault),
     }
 }
@@ -110,7 +122,11 @@ fn sheet<O: Stores, W: Write>(
     ensures done { IfOk result (λ outcome. outcome ≡ Outcome.Done) }
 {
     match stores.open(db) {
-        Ok(mut store) => sheet_of(&mut store, customer, month, output),
+        Ok(mut store) => {
+            let ended = sheet_of(&mut store, customer, month, output);
+            stores.close(store);
+            ended
+        }
         Err(fault) => Err(fault),
     }
 }
@@ -129,7 +145,11 @@ fn serve<O: Stores, W: Write>(
     ensures done { IfOk result (λ outcome. outcome ≡ Outcome.Done) }
 {
     match stores.open(db) {
-        Ok(mut store) => serve_port(rt, &mut store, port, connections, output),
+        Ok(mut store) => {
+            let ended = serve_port(rt, &mut store, port, connections, output);
+            stores.close(store);
+            ended
+        }
         Err(fault) => Err(fault),
     }
 }

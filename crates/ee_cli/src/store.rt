@@ -1,8 +1,12 @@
 //! Stores in files.
 
+ghost use Rattle.std.specs.Prelude.{◌≡◌};
+ghost use Rattle.ee_cli.specs.Faults.{fault_of_opening};
+
 use crate::stores::Stores;
 use ee_actions::{RunFault, StoreFault};
-use ee_keeper::ListKeeper;
+use ee_store::{OpenFault, SqlKeeper};
+use sqlite::{File, FileStore};
 
 /// The stores in the files of this system.
 #[derive(Clone, Copy)]
@@ -11,15 +15,31 @@ pub struct StoreFiles<'a> {
 }
 
 impl Stores for StoreFiles<'_> {
-    type Store = ListKeeper;
+    type Store = SqlKeeper<FileStore<File>>;
 
     // What a file holds no clause can say.
     ghost holds = { λ _ _ _. ⊥ };
 
-    fn open(&self, path: &str) -> Result<ListKeeper, RunFault> {
-        if path.is_empty() {
-            return Err(RunFault::Store(StoreFault::StoreFailed));
+    fn open(&self, path: &str) -> Result<SqlKeeper<FileStore<File>>, RunFault> {
+        match SqlKeeper::open(self.rt, path) {
+            Ok(keeper) => Ok(keeper),
+            Err(fault) => Err(told(fault)),
         }
-        Ok(ListKeeper::empty(self.rt.alloc()))
+    }
+
+    fn close(&self, store: SqlKeeper<FileStore<File>>) {
+        let _closed = store.close();
+    }
+}
+
+// How a store that isn't opened is told.
+fn told(fault: OpenFault) -> RunFault
+    ensures { result ≡ fault_of_opening fault }
+{
+    match fault {
+        OpenFault::NoMemory => RunFault::NoMemory,
+        OpenFault::StoreFailed => RunFault::Store(StoreFault::StoreFailed),
+        OpenFault::WrongVersion => RunFault::Store(StoreFault::WrongVersion),
+        OpenFault::Unusable => RunFault::Store(StoreFault::Unusable),
     }
 }
