@@ -1,25 +1,33 @@
--- What an exit status says of the words of a line.
-use Rattle.std.specs.Prelude.{◌≡◌, ◌≤◌, ◌⊎◌, ℕ, List, Ok, Err}
-use Rattle.clap.specs.Words.{IsAmong, Text, fault_of}
-use Rattle.clap.specs.declared.error.ErrorKind.TheVariants.{DisplayHelp}
-use Rattle.ee_units.specs.declared.denoms.Denom.{Denom}
-use Rattle.ee_value.specs.Open.{IsFirstOpen}
-use Rattle.ee_cli.specs.CommandLine.{Asked, value, program}
-use Rattle.ee_cli.specs.Answer.{IsAsked, IsRefused}
+-- What an exit status says of the words of a line, and of what was carried out.
+use Rattle.std.specs.Prelude.{◌≡◌, ◌≤◌, ◌⊎◌, ℕ, List, Option, Result, Ok, Err, IfOk, ⊤}
+use Rattle.clap.specs.Words.{Text}
+use Rattle.ee_actions.specs.Values.{PrintsValue}
+use Rattle.ee_actions.specs.declared.faults.Outcome.{Outcome}
+use Rattle.ee_actions.specs.declared.faults.Outcome.TheVariants as outcome
+use Rattle.ee_actions.specs.declared.faults.RunFault.{RunFault}
+use Rattle.ee_commands.specs.CommandLine.{Asked, value, apply, imports, export, sheet, serve}
+use Rattle.ee_commands.specs.Answer.{IsAsked, IsRefused, AsksForHelp}
 
--- a value at a rate that has open ages at 62 binary places is asked for; this is the least of them
-pub record IsUnsettled (asked : Asked) (age : ℕ) : Type 0 where
-  pub denom : Denom
-  pub issued : ℕ
-  pub month : ℕ
-  pub rate : ℕ
-  pub asks : asked ≡ value denom issued month rate
-  pub first : IsFirstOpen (record { fixed = rate }) 62 age
+-- whatever the store holds: a value is printed, and what shows or serves is never refused. A value needs no store.
+abbrev pub Carries : Option (List ℕ) → Option (List ℕ) → Asked → Result Outcome RunFault → Type 0
+Carries old new (value denom issued month rate) result = PrintsValue denom issued month rate old new result
+Carries old new (apply db) result = ⊤
+Carries old new (imports kind file db number) result = ⊤
+Carries old new (export customer db) result = IfOk result (λ ended. ended ≡ outcome.Done)
+Carries old new (sheet customer month db) result = IfOk result (λ ended. ended ≡ outcome.Done)
+Carries old new (serve db port connections) result = IfOk result (λ ended. ended ≡ outcome.Done)
 
--- 0: the words ask for a command, or for help; 1: for a value that is unsettled;
--- 2: one of them spells no value, or clap refuses them; 3: anything
-pub record IsStatusOf (words : List Text) (status : ℕ) : Type 0 where
+-- an unsettled value that could not be told is status 3
+abbrev pub IsStatusFor : Outcome → ℕ → Type 0
+IsStatusFor outcome.Done status = status ≡ 0
+IsStatusFor outcome.Refused status = status ≡ 1
+IsStatusFor (outcome.Unsettled age) status = (status ≡ 1) ⊎ (status ≡ 3)
+
+-- 0: the words ask for a command, which was done, or for help; 1: for a command that was refused; 2: one of them spells
+-- no value, or clap refuses them; 3: anything. `Carried` says what is known of a command that ended so.
+pub record IsRun (words : List Text) (Carried : Asked → Result Outcome RunFault → Type 0) (status : ℕ) : Type 0 where
   pub range : status ≤ 3
-  pub done : status ≡ 0 → ((asked : Asked) × IsAsked words (Ok asked)) ⊎ IsAmong DisplayHelp (fault_of program words)
-  pub refused : status ≡ 1 → (asked : Asked) × IsAsked words (Ok asked) × (age : ℕ) × IsUnsettled asked age
+  pub done : status ≡ 0 → ((asked : Asked) × IsAsked words (Ok asked) × Carried asked (Ok outcome.Done)) ⊎ AsksForHelp words
+  pub refused : status ≡ 1 → (asked : Asked) × IsAsked words (Ok asked)
+      × (Carried asked (Ok outcome.Refused) ⊎ ((age : ℕ) × Carried asked (Ok (outcome.Unsettled age))))
   pub bad_line : status ≡ 2 → ((name : Text) × IsAsked words (Err name)) ⊎ IsRefused words

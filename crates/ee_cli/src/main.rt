@@ -1,22 +1,23 @@
 //! The counter of a paying agent for paper Series EE savings bonds: the program.
 #![tactic(auto)]
 
-mod commands;
-mod faults;
-mod lines;
+mod carrying;
+mod opening;
 mod run;
-#[cfg(test)]
-mod tests;
-mod values;
+mod store;
+mod stores;
 
 use run::run_words;
 use std::io;
 use std::process::ExitCode;
+use store::StoreFiles;
 
 fn main(rt: HostRuntime) -> io::Result<ExitCode> {
     let words: Vec<String> = std::env::args(&rt)?.collect(rt.alloc())?;
+    let stores = StoreFiles { rt: &rt };
     let status = run_words(
         &rt,
+        &stores,
         words.as_slice(),
         &mut rt.stdin(),
         &mut rt.stdout(),

@@ -1,19 +1,16 @@
 //! Running one command line.
 
-ghost use Rattle.std.specs.Prelude.{◌≡◌, ◌⊎◌, ℕ, IfErr, OnOk, map, string_bytes};
+ghost use Rattle.std.specs.Prelude.{◌≡◌, ◌⊎◌, map, string_bytes};
 ghost use Rattle.std.specs.Io.KnownBytes.{Appends};
-ghost use Rattle.ee_units.specs.declared.denoms.Denom.{Denom};
-ghost use Rattle.ee_cli.specs.Answer.{IsAsked, view_of};
-ghost use Rattle.ee_cli.specs.CommandLine.{value};
-ghost use Rattle.ee_cli.specs.Faults.{IsFaultFor, IsToldAs};
-ghost use Rattle.ee_cli.specs.Printed.{value_line};
-ghost use Rattle.ee_cli.specs.Statuses.{IsStatusOf};
+ghost use Rattle.clap.specs.Words.{Text};
+ghost use Rattle.ee_acts.specs.Repeats.{Content};
+ghost use Rattle.ee_cli.specs.Statuses.{Carries, IsRun, IsStatusFor};
+ghost use Rattle.ee_cli.specs.Stores.{AreClean, CarriesOver};
 
-use crate::commands::{Command, CommandFault, read_command};
-use crate::faults::RunFault;
-use crate::values::value_text;
-use ee_device::write_whole;
-use std::alloc::Global;
+use crate::carrying::carry_out;
+use crate::stores::Stores;
+use ee_actions::{Outcome, RunFault, print};
+use ee_commands::{CommandFault, read_command};
 use std::io::{Read, Write};
 
 /// The line was carried out.
@@ -28,64 +25,59 @@ pub const BAD_LINE: u8 = 2;
 /// A file, a socket, memory or a store failed.
 pub const FAILED: u8 = 3;
 
-/// Runs the line of those words, the first of which is the program's name: the exit status. Where the
-/// words ask for a value and the status is 0, the output gained just that value's line.
-pub fn run_words<R: Read, W: Write, E: Write>(
+/// Runs the line of those words, the first of which is the program's name, over these stores: the exit
+/// status. What is told of faults goes to `faults`, all else to `output`.
+///
+/// - `status`: what the words were, and of a value what was printed.
+/// - `over`: what a command over a store did and printed, by what the store held (`contents`).
+pub fn run_words<O: Stores, R: Read, W: Write, E: Write>(
     rt: &HostRuntime,
+    stores: &O,
     words: &[String],
-    _input: &mut R,
+    input: &mut R,
     output: &mut W,
     faults: &mut E,
 ) -> u8
-    ensures status { IsStatusOf (map (λ w. string_bytes w) words.now) result }
-    ensures printed { (denom : Denom) (issued month rate : ℕ)
-        → IsAsked (map (λ w. string_bytes w) words.now) (Ok (value denom issued month rate)) → result ≡ 0
-        → Appends (W.contents output.old) (W.contents output.new) (value_line denom issued month rate) }
+    ensures status { IsRun (map (λ w. string_bytes w) words.now) (Carries (W.contents output.old) (W.contents output.new)) result }
+    ensures over { AreClean O.Store.is_clean → (contents : Text → Content) → ((path : Text) → O.holds stores.now path (contents path))
+        → IsRun (map (λ w. string_bytes w) words.now) (CarriesOver O.Store.has contents (R.remaining input.old) (W.contents output.old) (W.contents output.new)) result }
 {
     match read_command(rt.alloc(), words) {
-        Ok(command) => match run_command(rt.alloc(), command, output) {
-            Ok(()) => DONE,
+        Ok(command) => match carry_out(rt, stores, command, input, output) {
+            Ok(outcome) => conclude(outcome, faults),
             Err(fault) => report(fault, faults),
         },
         Err(CommandFault::Help(text)) => help(&text, output, faults),
-        Err(fault) => refuse(&fault, faults),
+        Err(CommandFault::Line(text)) => refuse_line(&text, faults),
+        Err(CommandFault::Argument(name)) => refuse_argument(name, faults),
+        Err(CommandFault::NoMemory) => report(RunFault::NoMemory, faults),
     }
 }
 
-// Carries out a command.
-fn run_command<W: Write>(alloc: Global, command: Command, output: &mut W) -> Result<(), RunFault>
-    ensures fault { IfErr result (IsFaultFor (view_of command)) }
-    ensures printed { (denom : Denom) (issued month rate : ℕ) → view_of command ≡ value denom issued month rate
-        → OnOk result (Appends (W.contents output.old) (W.contents output.new) (value_line denom issued month rate)) }
+// Tells how a command ended that was carried out.
+fn conclude<E: Write>(outcome: Outcome, faults: &mut E) -> u8
+    ensures { IsStatusFor outcome result }
 {
-    match command {
-        Command::Value(denom, issued, month, rate) => {
-            let text = value_text(alloc, denom, issued, month, rate)?;
-            print(&text, output)
+    match outcome {
+        Outcome::Done => DONE,
+        Outcome::Refused => REFUSED,
+        Outcome::Unsettled(age) => {
+            let age = age.months();
+            if writeln!(faults, "unsettled at age {age}").is_ok() {
+                REFUSED
+            } else {
+                FAILED
+            }
         }
-    }
-}
-
-fn print<W: Write>(text: &str, output: &mut W) -> Result<(), RunFault>
-    ensures fault { IfErr result (λ fault. fault ≡ RunFault.Device) }
-    ensures printed { OnOk result (Appends (W.contents output.old) (W.contents output.new) text.now) }
-{
-    if write_whole(output, text.as_bytes()) {
-        Ok(())
-    } else {
-        Err(RunFault::Device)
     }
 }
 
 // Tells why a command was not carried out.
 fn report<E: Write>(fault: RunFault, faults: &mut E) -> u8
-    ensures { IsToldAs fault result }
+    ensures { result ≡ 3 }
 {
-    let told = writeln!(faults, "{fault}");
-    match fault {
-        RunFault::Unsettled(_) if told.is_ok() => REFUSED,
-        RunFault::Unsettled(_) | RunFault::Device | RunFault::NoMemory => FAILED,
-    }
+    let _told = writeln!(faults, "{fault}");
+    FAILED
 }
 
 fn help<W: Write, E: Write>(text: &str, output: &mut W, faults: &mut E) -> u8
@@ -98,15 +90,18 @@ fn help<W: Write, E: Write>(text: &str, output: &mut W, faults: &mut E) -> u8
     }
 }
 
-// Tells why the words ask for nothing.
-fn refuse<E: Write>(fault: &CommandFault, faults: &mut E) -> u8
-    ensures told { (result ≡ 2) ⊎ (result ≡ 3) }
-    ensures memory { fault.now ≡ CommandFault.NoMemory → result ≡ 3 }
+// Tells that the words fit no row.
+fn refuse_line<E: Write>(text: &str, faults: &mut E) -> u8
+    ensures { (result ≡ 2) ⊎ (result ≡ 3) }
 {
-    let told = match fault {
-        CommandFault::Help(text) | CommandFault::Line(text) => write!(faults, "{text}"),
-        CommandFault::Argument(name) => writeln!(faults, "bad argument: {name}"),
-        CommandFault::NoMemory => return report(RunFault::NoMemory, faults),
-    };
+    let told = write!(faults, "{text}");
+    if told.is_ok() { BAD_LINE } else { FAILED }
+}
+
+// Tells which word spells no value.
+fn refuse_argument<E: Write>(name: &str, faults: &mut E) -> u8
+    ensures { (result ≡ 2) ⊎ (result ≡ 3) }
+{
+    let told = writeln!(faults, "bad argument: {name}");
     if told.is_ok() { BAD_LINE } else { FAILED }
 }

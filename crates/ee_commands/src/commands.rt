@@ -37,7 +37,7 @@ pub enum Command<'a> {
     /// The sheet of a customer's bonds in a month, from the store of that path.
     Sheet(Customer, Month, &'a str),
     /// To serve over the store of that path, on that port, that many connections.
-    Serve(&'a str, u64, u64),
+    Serve(&'a str, u16, u64),
 }
 
 /// Why a command line asks for nothing.

@@ -5,10 +5,8 @@ ghost use Rattle.ee_commands.specs.CommandLine.{apply_asked, export_asked, impor
 ghost use Rattle.ee_commands.specs.Answer.{Gives, view_of};
 
 use crate::commands::{Command, CommandFault};
-use crate::words::{customer, denom, issue, kind, month, number, rate, request_number, text};
+use crate::words::{customer, denom, issue, kind, month, number, port, rate, request_number, text};
 use clap::ArgMatches;
-
-const MOST_PORT: u64 = 65_535;
 
 const MOST_CONNECTIONS: u64 = 1_000;
 
@@ -73,7 +71,7 @@ pub fn serve_line<'a>(matches: &ArgMatches<'a>) -> Result<Command<'a>, CommandFa
 {
     Ok(Command::Serve(
         text(matches, "db")?,
-        number(matches, "port", MOST_PORT)?,
+        port(matches, "port")?,
         number(matches, "connections", MOST_CONNECTIONS)?,
     ))
 }

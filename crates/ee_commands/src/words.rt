@@ -4,7 +4,7 @@ ghost use Rattle.std.specs.Prelude.{◌≡◌, ◌≤◌, ◌<◌, ◌^◌, IfOk
 ghost use Rattle.clap.specs.Words.{first_of, found_of, one_of, rows_of};
 ghost use Rattle.ee_units.specs.Denoms.{denom_of};
 ghost use Rattle.ee_units.specs.Spelling.{customer_of, in_range, issue_of, month_of, rate_of};
-ghost use Rattle.ee_commands.specs.CommandLine.{kind_of_file, most_number, number_word, numbered, spelled, text_of};
+ghost use Rattle.ee_commands.specs.CommandLine.{kind_of_file, most_number, most_port, number_word, numbered, spelled, text_of};
 ghost use Rattle.ee_commands.specs.Answer.{Gives};
 
 use crate::commands::{CommandFault, FileKind};
@@ -16,6 +16,8 @@ use ee_units::{
 };
 
 const MOST_NUMBER: u64 = 9_223_372_036_854_775_807;
+
+const MOST_PORT: u64 = 65_535;
 
 fn word<'a>(matches: &ArgMatches<'a>, name: &'static str) -> Option<&'a str>
     ensures { option_map (λ s. s.now) result ≡ first_of name.now (rows_of (found_of matches.now)) }
@@ -118,4 +120,11 @@ pub fn request_number(matches: &ArgMatches, name: &'static str) -> Result<Number
         Some(number) => Ok(number),
         None => Err(CommandFault::Argument(name)),
     }
+}
+
+/// A port.
+pub fn port(matches: &ArgMatches, name: &'static str) -> Result<u16, CommandFault>
+    ensures { Gives (λ v. v) result (numbered name.now most_port (rows_of (found_of matches.now))) }
+{
+    Ok(number(matches, name, MOST_PORT)? as u16)
 }

@@ -1,0 +1,5 @@
+pub mod Endings
+pub mod Printed
+pub mod Actions
+pub mod Connections
+pub mod Values

@@ -1,0 +1,41 @@
+//! The command `apply`.
+
+ghost use Rattle.std.specs.Prelude.{◌≡◌};
+ghost use Rattle.ee_acts.specs.Repeats.{Content};
+ghost use Rattle.ee_actions.specs.Actions.{Applies};
+ghost use Rattle.ee_actions.specs.Endings.{ending_of};
+
+use crate::faults::{Outcome, RunFault};
+use ee_counter::{Why, serve};
+use ee_keeper::Keeper;
+use std::alloc::Global;
+use std::io::{Read, Write};
+
+/// Serves the input as one connection, and writes the answers to the output. It is done where the input
+/// ends between two messages, where a message asks to close, and after 1,000 messages; it is refused where
+/// the bytes are no message, which is answered. Where a device failed it is `Device`, where memory was
+/// refused `NoMemory`: the last message may then have been decided without a whole answer.
+pub fn apply_to<K: Keeper, R: Read, W: Write>(
+    alloc: Global,
+    keeper: &mut K,
+    input: &mut R,
+    output: &mut W,
+) -> Result<Outcome, RunFault>
+    ensures clean { K.is_clean keeper.new → K.is_clean keeper.old }
+    ensures applies { K.is_clean keeper.new → (c : Content) → K.has keeper.old c
+        → Applies (R.remaining input.old) (W.contents output.old) (W.contents output.new) c result (K.has keeper.new) }
+{
+    let ended = serve(alloc, keeper, input, output);
+    ending(ended.why)
+}
+
+fn ending(why: Why) -> Result<Outcome, RunFault>
+    ensures { result ≡ ending_of why }
+{
+    match why {
+        Why::Closed | Why::Asked | Why::Limit => Ok(Outcome::Done),
+        Why::Fault(_) => Ok(Outcome::Refused),
+        Why::ReadFailed | Why::WriteFailed => Err(RunFault::Device),
+        Why::NoMemory => Err(RunFault::NoMemory),
+    }
+}

@@ -1,0 +1,20 @@
+//! Printing a text.
+
+ghost use Rattle.std.specs.Prelude.{◌≡◌, IfErr, is_ok};
+ghost use Rattle.ee_device.specs.Written.{WritesFront};
+
+use crate::faults::RunFault;
+use ee_device::write_whole;
+use std::io::Write;
+
+/// Prints the text: all of it, or a front of it where the output failed, which is told as `Device`.
+pub fn print<W: Write>(text: &str, output: &mut W) -> Result<(), RunFault>
+    ensures printed { WritesFront (W.contents output.old) (W.contents output.new) text.now (is_ok result) }
+    ensures fault { IfErr result (λ fault. fault ≡ RunFault.Device) }
+{
+    if write_whole(output, text.as_bytes()) {
+        Ok(())
+    } else {
+        Err(RunFault::Device)
+    }
+}

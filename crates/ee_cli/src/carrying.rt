@@ -1,0 +1,155 @@
+//! Carrying out a command.
+
+ghost use Rattle.std.specs.Prelude.{◌≡◌, IfOk, None};
+ghost use Rattle.clap.specs.Words.{Text};
+ghost use Rattle.ee_acts.specs.Repeats.{Content};
+ghost use Rattle.ee_actions.specs.Actions.{Applies, ExportsFrom, ImportsInto, ShowsSheet};
+ghost use Rattle.ee_actions.specs.Connections.{ServesAll};
+ghost use Rattle.ee_commands.specs.Answer.{view_of};
+ghost use Rattle.ee_cli.specs.Statuses.{Carries};
+ghost use Rattle.ee_cli.specs.Stores.{AreClean, CarriesOver, Over};
+
+use crate::opening::{import_path, serve_port};
+use crate::stores::Stores;
+use ee_actions::{Outcome, RunFault, apply_to, export_from, print_value, sheet_of};
+use ee_acts::Number;
+use ee_commands::{Command, FileKind};
+use ee_units::{Customer, Month};
+use std::io::{Read, Write};
+
+/// Carries out a command. A store is opened before a file or a port is.
+pub fn carry_out<O: Stores, R: Read, W: Write>(
+    rt: &HostRuntime,
+    stores: &O,
+    command: Command,
+    input: &mut R,
+    output: &mut W,
+) -> Result<Outcome, RunFault>
+    ensures carries { Carries (W.contents output.old) (W.contents output.new) (view_of command.entry) result }
+    ensures over { AreClean O.Store.is_clean → (contents : Text → Content) → ((path : Text) → O.holds stores.now path (contents path))
+        → CarriesOver O.Store.has contents (R.remaining input.old) (W.contents output.old) (W.contents output.new) (view_of command.entry) result }
+{
+    match command {
+        Command::Value(denom, issued, month, rate) => {
+            print_value(rt.alloc(), denom, issued, month, rate, output)
+        }
+        Command::Apply(db) => apply(rt, stores, db, input, output),
+        Command::Import(kind, file, db, number) => {
+            import(rt, stores, kind, file, db, number, output)
+        }
+        Command::Export(customer, db) => export(rt, stores, customer, db, output),
+        Command::Sheet(customer, month, db) => sheet(stores, customer, month, db, output),
+        Command::Serve(db, port, connections) => serve(rt, stores, db, port, connections, output),
+    }
+}
+
+fn apply<O: Stores, R: Read, W: Write>(
+    rt: &HostRuntime,
+    stores: &O,
+    db: &str,
+    input: &mut R,
+    output: &mut W,
+) -> Result<Outcome, RunFault>
+    ensures { AreClean O.Store.is_clean → (c : Content) → O.holds stores.now db.now c
+        → Over (W.contents output.old) (W.contents output.new) result
+        (λ (left : O.Store). Applies (R.remaining input.old) (W.contents output.old) (W.contents output.new) c result (O.Store.has left)) }
+{
+    match stores.open(db) {
+        Ok(mut store) => {
+            let ended = apply_to(rt.alloc(), &mut store, input, output);
+            stores.close(store);
+            ended
+        }
+        Err(fault) => Err(fault),
+    }
+}
+
+fn import<O: Stores, W: Write>(
+    rt: &HostRuntime,
+    stores: &O,
+    kind: FileKind,
+    file: &str,
+    db: &str,
+    number: Number,
+    output: &mut W,
+) -> Result<Outcome, RunFault>
+    ensures { AreClean O.Store.is_clean → (c : Content) → O.holds stores.now db.now c
+        → Over (W.contents output.old) (W.contents output.new) result
+        (λ (left : O.Store). ImportsInto kind None (W.contents output.old) (W.contents output.new) number c result (O.Store.has left)) }
+{
+    match stores.open(db) {
+        Ok(mut store) => {
+            let ended = import_path(rt, &mut store, kind, file, number, output);
+            stores.close(store);
+            ended
+        }
+        Err(fault) => Err(fault),
+    }
+}
+
+fn export<O: Stores, W: Write>(
+    rt: &HostRuntime,
+    stores: &O,
+    customer: Customer,
+    db: &str,
+    output: &mut W,
+) -> Result<Outcome, RunFault>
+    ensures over { AreClean O.Store.is_clean → (c : Content) → O.holds stores.now db.now c
+        → Over (W.contents output.old) (W.contents output.new) result
+        (λ (left : O.Store). ExportsFrom (W.contents output.old) (W.contents output.new) customer c result (O.Store.has left)) }
+    ensures done { IfOk result (λ outcome. outcome ≡ Outcome.Done) }
+{
+    match stores.open(db) {
+        Ok(mut store) => {
+            let ended = export_from(rt.alloc(), &mut store, customer, output);
+            stores.close(store);
+            ended
+        }
+        Err(fault) => Err(fault),
+    }
+}
+
+fn sheet<O: Stores, W: Write>(
+    stores: &O,
+    customer: Customer,
+    month: Month,
+    db: &str,
+    output: &mut W,
+) -> Result<Outcome, RunFault>
+    ensures over { AreClean O.Store.is_clean → (c : Content) → O.holds stores.now db.now c
+        → Over (W.contents output.old) (W.contents output.new) result
+        (λ (left : O.Store). ShowsSheet (W.contents output.old) (W.contents output.new) customer month c result (O.Store.has left c)) }
+    ensures done { IfOk result (λ outcome. outcome ≡ Outcome.Done) }
+{
+    match stores.open(db) {
+        Ok(mut store) => {
+            let ended = sheet_of(&mut store, customer, month, output);
+            stores.close(store);
+            ended
+        }
+        Err(fault) => Err(fault),
+    }
+}
+
+fn serve<O: Stores, W: Write>(
+    rt: &HostRuntime,
+    stores: &O,
+    db: &str,
+    port: u16,
+    connections: u64,
+    output: &mut W,
+) -> Result<Outcome, RunFault>
+    ensures over { AreClean O.Store.is_clean → (c : Content) → O.holds stores.now db.now c
+        → Over (W.contents output.old) (W.contents output.new) result
+        (λ (left : O.Store). ServesAll connections (W.contents output.old) (W.contents output.new) c result (O.Store.has left)) }
+    ensures done { IfOk result (λ outcome. outcome ≡ Outcome.Done) }
+{
+    match stores.open(db) {
+        Ok(mut store) => {
+            let ended = serve_port(rt, &mut store, port, connections, output);
+            stores.close(store);
+            ended
+        }
+        Err(fault) => Err(fault),
+    }
+}

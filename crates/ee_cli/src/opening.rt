@@ -1,0 +1,53 @@
+//! Opening the file of an import, and the port of a server.
+
+ghost use Rattle.std.specs.Prelude.{◌≡◌, IfOk, None};
+ghost use Rattle.ee_acts.specs.Repeats.{Content};
+ghost use Rattle.ee_actions.specs.Actions.{ImportsInto};
+ghost use Rattle.ee_actions.specs.Connections.{ServesAll};
+ghost use Rattle.ee_cli.specs.Stores.{Over};
+
+use ee_actions::{Outcome, RunFault, import_into, serve_on};
+use ee_acts::Number;
+use ee_commands::FileKind;
+use ee_keeper::Keeper;
+use std::fs;
+use std::io::Write;
+use std::net::TcpListener;
+
+/// Imports the file of that path. A file that doesn't open is told as `Device`.
+pub fn import_path<K: Keeper, W: Write>(
+    rt: &HostRuntime,
+    keeper: &mut K,
+    kind: FileKind,
+    path: &str,
+    number: Number,
+    output: &mut W,
+) -> Result<Outcome, RunFault>
+    ensures { K.is_clean keeper.new → (c : Content) → K.has keeper.old c
+        → Over (W.contents output.old) (W.contents output.new) result
+        (λ (left : K). ImportsInto kind None (W.contents output.old) (W.contents output.new) number c result (K.has left)) }
+{
+    match fs::open(rt, path) {
+        Ok(mut file) => import_into(rt.alloc(), keeper, kind, number, &mut file, output),
+        Err(_) => Err(RunFault::Device),
+    }
+}
+
+/// Serves on a port of 127.0.0.1. A port that can't be bound is told as `Device`.
+pub fn serve_port<K: Keeper, W: Write>(
+    rt: &HostRuntime,
+    keeper: &mut K,
+    port: u16,
+    connections: u64,
+    output: &mut W,
+) -> Result<Outcome, RunFault>
+    ensures over { K.is_clean keeper.new → (c : Content) → K.has keeper.old c
+        → Over (W.contents output.old) (W.contents output.new) result
+        (λ (left : K). ServesAll connections (W.contents output.old) (W.contents output.new) c result (K.has left)) }
+    ensures done { IfOk result (λ outcome. outcome ≡ Outcome.Done) }
+{
+    match TcpListener::bind(rt, ("127.0.0.1", port)) {
+        Ok(listener) => serve_on(rt.alloc(), keeper, &listener, connections, output),
+        Err(_) => Err(RunFault::Device),
+    }
+}

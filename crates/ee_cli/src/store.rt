@@ -1,0 +1,45 @@
+//! Stores in files.
+
+ghost use Rattle.std.specs.Prelude.{◌≡◌};
+ghost use Rattle.ee_cli.specs.Faults.{fault_of_opening};
+
+use crate::stores::Stores;
+use ee_actions::{RunFault, StoreFault};
+use ee_store::{OpenFault, SqlKeeper};
+use sqlite::{File, FileStore};
+
+/// The stores in the files of this system.
+#[derive(Clone, Copy)]
+pub struct StoreFiles<'a> {
+    pub rt: &'a HostRuntime,
+}
+
+impl Stores for StoreFiles<'_> {
+    type Store = SqlKeeper<FileStore<File>>;
+
+    // What a file holds no clause can say.
+    ghost holds = { λ _ _ _. ⊥ };
+
+    fn open(&self, path: &str) -> Result<SqlKeeper<FileStore<File>>, RunFault> {
+        match SqlKeeper::open(self.rt, path) {
+            Ok(keeper) => Ok(keeper),
+            Err(fault) => Err(told(fault)),
+        }
+    }
+
+    fn close(&self, store: SqlKeeper<FileStore<File>>) {
+        let _closed = store.close();
+    }
+}
+
+// How a store that isn't opened is told.
+fn told(fault: OpenFault) -> RunFault
+    ensures { result ≡ fault_of_opening fault }
+{
+    match fault {
+        OpenFault::NoMemory => RunFault::NoMemory,
+        OpenFault::StoreFailed => RunFault::Store(StoreFault::StoreFailed),
+        OpenFault::WrongVersion => RunFault::Store(StoreFault::WrongVersion),
+        OpenFault::Unusable => RunFault::Store(StoreFault::Unusable),
+    }
+}
