@@ -21,11 +21,11 @@ went : {B E R : Type 0} {b : B} {Stops : E → Type 0} → ((stop : E) × Stops 
 went (inl stopped) = absurd (let e = stopped.2 in cc)
 went (inr on) = on
 
-same_value : {B E : Type 0} {a b : B} → ◌≡◌ {A = Result B E} (Ok a) (Ok b) → a ≡ b
+pub same_value : {B E : Type 0} {a b : B} → ◌≡◌ {A = Result B E} (Ok a) (Ok b) → a ≡ b
 same_value e = cc
 
 -- a command as the lemmas on callers say it
-said : (text : List ℕ) (command : Command) (r : Result Compiled CompileError) → IsCommand text command r → (command_of r ≡ command) × IsPlain r × (statement_of text r ≡ text)
+pub said : (text : List ℕ) (command : Command) (r : Result Compiled CompileError) → IsCommand text command r → (command_of r ≡ command) × IsPlain r × (statement_of text r ≡ text)
 said text command (Ok c) h = (h.0, (h.1, h.2), h.3)
 said text command (Err e) h = absurd h
 

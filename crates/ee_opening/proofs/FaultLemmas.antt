@@ -24,7 +24,7 @@ use Rattle.ee_opening.specs.Faults.{fault_of}
 abbrev pub IsUsable : Error → Type 0
 IsUsable e = fault_of e ≢ Unusable
 
-same_error : (e f : Error) → e ≡ f → IsUsable f → IsUsable e
+pub same_error : (e f : Error) → e ≡ f → IsUsable f → IsUsable e
 same_error e f is usable = subst IsUsable (sym is) usable
 
 failed : (cause : StoreError) → IsUsable (store_error cause)
@@ -35,10 +35,10 @@ failed Full h = cc
 failed Broken h = cc
 failed Unstorable h = cc
 
-store_fails : (old new : State) (e : Error) → Fails old new ⊥ e → IsUsable e
+pub store_fails : {TooBig : Type 0} (old new : State) (e : Error) → Fails old new TooBig e → IsUsable e
 store_fails old new e h = same_error e _ h.1 (failed h.0)
 
-no_statement : (s : State) (sql : List ℕ) (params : Row) (e : Error) → IsPlain (understood s.now.schema sql) → IsNoStatement s sql params e → IsUsable e
+pub no_statement : (s : State) (sql : List ℕ) (params : Row) (e : Error) → IsPlain (understood s.now.schema sql) → IsNoStatement s sql params e → IsUsable e
 no_statement s sql params e plain (inl h) = absurd (subst IsPlain h.1 plain)
 no_statement s sql params e plain (inr (c, is, inl h)) = same_error e _ h.1 (λ u. cc)
 no_statement s sql params e plain (inr (c, is, inr (inl h))) = same_error e _ h.1 (λ u. cc)

@@ -31,16 +31,20 @@ use Rattle.ee_opening.specs.Making.{first_desk, first_rows}
 abbrev pub desk_row_text : List ℕ
 desk_row_text = codes "INSERT INTO desk (id, version, day, last_day) VALUES (1, 1, NULL, NULL)"
 
-abbrev terms : List Term
+abbrev pub terms : List Term
 terms = lit (Int (pos 1)) ∷ lit Null ∷ lit (Int (pos 1)) ∷ lit Null ∷ lit Null ∷ []
 
-desk_row_is : command_of (understood counter_schema desk_row_text) ≡ Insert 0 (Values terms 5)
+pub desk_row_is : command_of (understood counter_schema desk_row_text) ≡ Insert 0 (Values terms 5)
 unfolding understood everything
 desk_row_is = refl
 
-desk_row_plain : IsPlain (understood counter_schema desk_row_text)
+pub desk_row_plain : IsPlain (understood counter_schema desk_row_text)
 unfolding understood everything
 desk_row_plain = (refl, refl)
+
+pub desk_row_whole : statement_of desk_row_text (understood counter_schema desk_row_text) ≡ desk_row_text
+unfolding understood everything
+desk_row_whole = refl
 
 no_length : {A : Type 0} (xs : List A) → length xs ≡ 0 → xs ≡ []
 no_length [] e = refl

@@ -16,3 +16,4 @@ mod VersionLemmas
 mod OpenLemmas
 mod UsableLemmas
 mod CanRead
+mod MakeUsable

@@ -1,6 +1,6 @@
 -- A store with no tables, and the tables of version 1 as they are made in it.
-use Rattle.std.specs.Prelude.{◌≡◌, IsTrue, List, ℕ, [], ◌∷◌, Some, None, Ok, Err, Result, false, slice_get}
-use Rattle.std.specs.List.{AllByRecursion}
+use Rattle.std.specs.Prelude.{◌≡◌, IsTrue, List, ℕ, [], ◌∷◌, Some, None, Ok, Err, Result, true, false, not, slice_get}
+use Rattle.std.specs.List.{AllByRecursion, list_all}
 use Rattle.std.specs.FinMap.{empty, insert}
 use Rattle.sqlite.specs.Table.{Table}
 use Rattle.sqlite.specs.Schema.{Schema}
@@ -11,6 +11,7 @@ use Rattle.sqlite_resolve.specs.Compile.{index_defined_by, table_defined_by}
 use Rattle.sqlite.specs.Command.{Command}
 use Rattle.sqlite.specs.Command.TheVariants.{CreateTable, CreateIndex}
 use Rattle.sqlite.specs.Change.{created, indexed}
+use Rattle.sqlite_catalog.specs.Change.{is_used, automatics}
 use Rattle.sqlite.specs.Does.{lacks_sequence}
 use Rattle.sqlite.specs.Listing.{understood}
 use Rattle.sqlite.specs.State.{State, text_of}
@@ -67,6 +68,9 @@ pub record AddsTable (before : Schema) (text : List ℕ) (after : Schema) : Type
   pub defined : table_defined_by text ≡ Ok table
   pub is : created before table ≡ after
   pub uncounted : lacks_sequence after ≡ false
+  -- its name and those of its own indexes are free
+  pub free : is_used before table.name ≡ false
+  pub all_free : list_all (λ index. not (is_used before index.name)) (automatics table 0 0 table.uniques) ≡ true
 
 -- likewise for an index over the table at a place
 pub record AddsIndex (before : Schema) (text : List ℕ) (after : Schema) : Type 0 where
@@ -77,3 +81,4 @@ pub record AddsIndex (before : Schema) (text : List ℕ) (after : Schema) : Type
   pub index : Index
   pub defined : index_defined_by table text ≡ Ok index
   pub is : indexed before table index ≡ after
+  pub free : is_used before index.name ≡ false

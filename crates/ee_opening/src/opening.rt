@@ -1,6 +1,6 @@
 //! Opening a store: its rows are found, and made where it has none.
 
-ghost use Rattle.std.specs.Prelude.{◌≡◌, ◌⊎◌, is_some, IsTrue, IfOk, IfErr, OnOk, OnErr};
+ghost use Rattle.std.specs.Prelude.{◌≡◌, ◌≢◌, ◌⊎◌, is_some, IsTrue, IfOk, IfErr, OnOk, OnErr};
 ghost use Rattle.sqlite.specs.State.{HasCleanDisk, KeepsCommit, Survives};
 ghost use Rattle.sqlite.specs.Held.{state};
 ghost use Rattle.sqlite.specs.Tree.{Trees};
@@ -43,6 +43,7 @@ fn open_blank<S: Alter>(conn: &mut Connection<S>, alloc: Global) -> Result<AllRo
     ensures made { HasCleanDisk (state S.Store conn.new) → IfOk result (λ all. IsBlank (state S.Store conn.old) → rows_of all ≡ first_rows) }
     ensures order { IfOk result AreInOrder }
     ensures open { HasCleanDisk (state S.Store conn.new) → OnOk result (IsTrue (state S.Store conn.old).is_open) }
+    ensures blank { HasCleanDisk (state S.Store conn.new) → IfErr result (λ e. IsBlank (state S.Store conn.old) → IsTrue (state S.Store conn.old).is_open → (e ≢ OpenFault.Unusable) × (e ≢ OpenFault.WrongVersion)) }
     ensures failed { HasCleanDisk (state S.Store conn.new) → OnErr result (KeepsCommit (state S.Store conn.old) (state S.Store conn.new)
         ⊎ (IsTrue (state S.Store conn.old).is_open × (IsBlank (state S.Store conn.old) → Has (state S.Store conn.new) first_rows))) }
     ensures crash { Survives (state S.Store conn.old) (state S.Store conn.new) (λ db. IsBlank (state S.Store conn.old) → Holds db first_rows) }
@@ -52,6 +53,18 @@ fn open_blank<S: Alter>(conn: &mut Connection<S>, alloc: Global) -> Result<AllRo
 }
 
 /// The rows of a store; the tables of version 1 are made where it has none of them.
+///
+/// The tables are known by their names, whatever the case of their letters; other tables aren't
+/// looked at. Where none is there they are made in one transaction, with the desk's row: version 1,
+/// no open day and no last day. The version is tested before all else is read. Each table's rows come
+/// in order of their keys. It takes time and memory in proportion to the rows.
+///
+/// # Errors
+///
+/// `WrongVersion` where the desk's row is of another version. `Unusable` where the tables refuse a
+/// statement, the desk's row is missing, or a row has a value that no row of this program has.
+/// `NoMemory` where there is not enough memory, and else `StoreFailed`, as where the connection is in
+/// a transaction. What was committed stays, or just the new tables and the desk's row are there.
 pub fn open_rows<S: Alter>(conn: &mut Connection<S>, alloc: Global) -> Result<AllRows, OpenFault>
     ensures found { HasCleanDisk (state S.Store conn.new) → IfOk result (λ all. (IsOurs (state S.Store conn.old) ⊎ IsBlank (state S.Store conn.old)) → Has (state S.Store conn.new) (rows_of all)) }
     ensures made { HasCleanDisk (state S.Store conn.new) → IfOk result (λ all. IsBlank (state S.Store conn.old) → IsTrue (state S.Store conn.old).is_open → rows_of all ≡ first_rows) }
@@ -61,6 +74,7 @@ pub fn open_rows<S: Alter>(conn: &mut Connection<S>, alloc: Global) -> Result<Al
     ensures version { HasCleanDisk (state S.Store conn.new) → IfErr result (λ e. e ≡ OpenFault.WrongVersion → (rows : Rows) → Has (state S.Store conn.old) rows → IsTrue (state S.Store conn.old).is_open → IsOtherVersion rows) }
     ensures tested { HasCleanDisk (state S.Store conn.new) → IfErr result (λ e. e ≡ OpenFault.Unusable → (rows : Rows) → Has (state S.Store conn.old) rows → IsTrue (state S.Store conn.old).is_open → ¬ IsOtherVersion rows) }
     ensures unusable { HasCleanDisk (state S.Store conn.new) → IfErr result (λ e. e ≡ OpenFault.Unusable → (rows : Rows) → Has (state S.Store conn.old) rows → IsTrue (state S.Store conn.old).is_open → ¬ AreReadable rows) }
+    ensures blank { HasCleanDisk (state S.Store conn.new) → IfErr result (λ e. IsBlank (state S.Store conn.old) → IsTrue (state S.Store conn.old).is_open → (e ≢ OpenFault.Unusable) × (e ≢ OpenFault.WrongVersion)) }
     ensures failed { HasCleanDisk (state S.Store conn.new) → OnErr result ((IsOurs (state S.Store conn.old) → KeepsCommit (state S.Store conn.old) (state S.Store conn.new))
         × (IsBlank (state S.Store conn.old) → KeepsCommit (state S.Store conn.old) (state S.Store conn.new) ⊎ Has (state S.Store conn.new) first_rows)) }
     ensures kept { HasCleanDisk (state S.Store conn.new) → OnOk result (IsOurs (state S.Store conn.old) → KeepsCommit (state S.Store conn.old) (state S.Store conn.new)) }

@@ -1,6 +1,8 @@
 use Rattle.sqlite.specs.Held.{state}
 use Rattle.ee_tables.proofs.KeepLemmas.{inside_if_ok}
 use Rattle.ee_opening.proofs.DefineLemmas.{adds_index}
+use Rattle.ee_opening.proofs.FaultLemmas.{told_as}
+use Rattle.ee_opening.proofs.MakeUsable.{within_or_ended, adds_index_usable}
 use Rattle.ee_opening.proofs.making.define_index.Goals as goal
 
 pub returns-clause-added : goal.returns-clause-added
@@ -10,3 +12,10 @@ returns-clause-added g c clean before after adds sees =
     let inside = inside_if_ok old.in_transaction c.execute.result c.in_ok-execute.field-0 c.in_ok-execute.was c.execute.ensures.ended in
     let it = c.in_ok-execute.ensures.runs clean inside in
     λ _. adds_index old new c.args.sql.now c.in_ok-execute.field-0 before after adds (sees it.1.was_open) it.0
+
+pub returns-in_err-execute-clause-usable : goal.returns-in_err-execute-clause-usable
+returns-in_err-execute-clause-usable g c clean =
+    let old = state g.S.Store c.args.tx.now.conn.now in
+    let new = state g.S.Store c.execute.new.self.conn.now in
+    told_as _ c.from_residual.result c.in_err-execute.field-0.0 c.from_residual.ensures.1 (λ before after adds sees is_open.
+    within_or_ended old.in_transaction c.in_err-execute.field-0.0 (λ inside. adds_index_usable old new c.args.sql.now c.in_err-execute.field-0.0 before after adds (sees is_open).0 (c.in_err-execute.ensures.runs clean inside)) (λ outside. (c.in_err-execute.ensures.ended outside).0))

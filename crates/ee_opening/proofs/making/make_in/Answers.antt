@@ -1,5 +1,7 @@
 use Rattle.sqlite.specs.Held.{state}
 use Rattle.ee_tables.proofs.KeepLemmas.{clean_before, on_ok}
+use Rattle.ee_opening.proofs.FaultLemmas.{handed_on}
+use Rattle.ee_opening.proofs.ReadLemmas.{each_fault}
 use Rattle.ee_opening.proofs.making.make_in.Goals as goal
 
 pub returns-clause-added : goal.returns-clause-added
@@ -10,3 +12,39 @@ returns-clause-added g c clean =
     let clean_2 = clean_before second new c.make_records.ensures.crash clean in
     let clean_1 = clean_before first second c.make_payments.ensures.crash clean_2 in
     on_ok c.make_records.result (λ added none. added (c.in_ok-make_payments.ensures.added clean_2 (c.in_ok-make_register.ensures.added clean_1 none))) (c.make_records.ensures.added clean)
+
+pub returns-in_err-make_register-clause-usable : goal.returns-in_err-make_register-clause-usable
+returns-in_err-make_register-clause-usable g c clean =
+    let at_0 = state g.S.Store c.args.tx.now.conn.now in
+    let at_1 = state g.S.Store c.make_register.new.tx.conn.now in
+    let clean_1 = clean in
+    handed_on _ c.from_residual.result c.in_err-make_register.field-0.0 c.from_residual.ensures.1 (λ sees_0 open_0.
+    c.in_err-make_register.ensures.usable clean_1 sees_0 open_0)
+
+pub returns-in_err-make_payments-clause-usable : goal.returns-in_err-make_payments-clause-usable
+returns-in_err-make_payments-clause-usable g c clean =
+    let at_0 = state g.S.Store c.args.tx.now.conn.now in
+    let at_1 = state g.S.Store c.make_register.new.tx.conn.now in
+    let at_2 = state g.S.Store c.make_payments.new.tx.conn.now in
+    let clean_2 = clean in
+    let clean_1 = clean_before at_1 at_2 c.make_payments.ensures.crash clean_2 in
+    handed_on _ c.from_residual-in_err-make_payments.result c.in_err-make_payments.field-0.0 c.from_residual-in_err-make_payments.ensures.1 (λ sees_0 open_0.
+    let sees_1 = c.in_ok-make_register.ensures.added clean_1 sees_0 in
+    let open_1 = c.in_ok-make_register.ensures.open clean_1 in
+    c.in_err-make_payments.ensures.usable clean_2 sees_1 open_1)
+
+pub returns-clause-usable : goal.returns-clause-usable
+returns-clause-usable g c clean =
+    let at_0 = state g.S.Store c.args.tx.now.conn.now in
+    let at_1 = state g.S.Store c.make_register.new.tx.conn.now in
+    let at_2 = state g.S.Store c.make_payments.new.tx.conn.now in
+    let at_3 = state g.S.Store c.make_records.new.tx.conn.now in
+    let clean_3 = clean in
+    let clean_2 = clean_before at_2 at_3 c.make_records.ensures.crash clean_3 in
+    let clean_1 = clean_before at_1 at_2 c.make_payments.ensures.crash clean_2 in
+    each_fault c.make_records.result (λ e usable sees_0 open_0.
+    let sees_1 = c.in_ok-make_register.ensures.added clean_1 sees_0 in
+    let open_1 = c.in_ok-make_register.ensures.open clean_1 in
+    let sees_2 = c.in_ok-make_payments.ensures.added clean_2 sees_1 in
+    let open_2 = c.in_ok-make_payments.ensures.open clean_2 in
+    usable sees_2 open_2) (c.make_records.ensures.usable clean)

@@ -2,6 +2,8 @@ use Rattle.sqlite.specs.Held.{state}
 use Rattle.ee_tables.proofs.KeepLemmas.{clean_before, on_ok}
 use Rattle.ee_opening.specs.Making.{register_tables, payment_tables}
 use Rattle.ee_opening.proofs.TextLemmas.{with_tickets, with_days, adds_tickets, adds_day, adds_paid}
+use Rattle.ee_opening.proofs.FaultLemmas.{handed_on}
+use Rattle.ee_opening.proofs.ReadLemmas.{each_fault}
 use Rattle.ee_opening.proofs.making.make_payments.Goals as goal
 
 pub returns-clause-added : goal.returns-clause-added
@@ -13,3 +15,39 @@ returns-clause-added g c clean =
     let clean_1 = clean_before first second c.define_index.ensures.crash clean_2 in
     on_ok c.define_table-2.result (λ added before. added with_days payment_tables adds_paid (c.in_ok-define_index.ensures.added clean_2 with_tickets with_days adds_day
     (c.in_ok-define_table.ensures.added clean_1 register_tables with_tickets adds_tickets before))) (c.define_table-2.ensures.added clean)
+
+pub returns-in_err-define_table-clause-usable : goal.returns-in_err-define_table-clause-usable
+returns-in_err-define_table-clause-usable g c clean =
+    let at_0 = state g.S.Store c.args.tx.now.conn.now in
+    let at_1 = state g.S.Store c.define_table.new.tx.conn.now in
+    let clean_1 = clean in
+    handed_on _ c.from_residual.result c.in_err-define_table.field-0.0 c.from_residual.ensures.1 (λ sees_0 open_0.
+    c.in_err-define_table.ensures.usable clean_1 register_tables with_tickets adds_tickets sees_0 open_0)
+
+pub returns-in_err-define_index-clause-usable : goal.returns-in_err-define_index-clause-usable
+returns-in_err-define_index-clause-usable g c clean =
+    let at_0 = state g.S.Store c.args.tx.now.conn.now in
+    let at_1 = state g.S.Store c.define_table.new.tx.conn.now in
+    let at_2 = state g.S.Store c.define_index.new.tx.conn.now in
+    let clean_2 = clean in
+    let clean_1 = clean_before at_1 at_2 c.define_index.ensures.crash clean_2 in
+    handed_on _ c.from_residual-in_err-define_index.result c.in_err-define_index.field-0.0 c.from_residual-in_err-define_index.ensures.1 (λ sees_0 open_0.
+    let sees_1 = c.in_ok-define_table.ensures.added clean_1 register_tables with_tickets adds_tickets sees_0 in
+    let open_1 = c.in_ok-define_table.ensures.open clean_1 in
+    c.in_err-define_index.ensures.usable clean_2 with_tickets with_days adds_day sees_1 open_1)
+
+pub returns-clause-usable : goal.returns-clause-usable
+returns-clause-usable g c clean =
+    let at_0 = state g.S.Store c.args.tx.now.conn.now in
+    let at_1 = state g.S.Store c.define_table.new.tx.conn.now in
+    let at_2 = state g.S.Store c.define_index.new.tx.conn.now in
+    let at_3 = state g.S.Store c.define_table-2.new.tx.conn.now in
+    let clean_3 = clean in
+    let clean_2 = clean_before at_2 at_3 c.define_table-2.ensures.crash clean_3 in
+    let clean_1 = clean_before at_1 at_2 c.define_index.ensures.crash clean_2 in
+    each_fault c.define_table-2.result (λ e usable sees_0 open_0.
+    let sees_1 = c.in_ok-define_table.ensures.added clean_1 register_tables with_tickets adds_tickets sees_0 in
+    let open_1 = c.in_ok-define_table.ensures.open clean_1 in
+    let sees_2 = c.in_ok-define_index.ensures.added clean_2 with_tickets with_days adds_day sees_1 in
+    let open_2 = c.in_ok-define_index.ensures.open clean_2 in
+    usable with_days payment_tables adds_paid sees_2 open_2) (c.define_table-2.ensures.usable clean)

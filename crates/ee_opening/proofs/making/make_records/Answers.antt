@@ -3,6 +3,8 @@ use Rattle.ee_tables.specs.Tables.{counter_schema}
 use Rattle.ee_tables.proofs.KeepLemmas.{clean_before, on_ok}
 use Rattle.ee_opening.specs.Making.{payment_tables}
 use Rattle.ee_opening.proofs.TextLemmas.{with_batches, adds_batches, adds_replies}
+use Rattle.ee_opening.proofs.FaultLemmas.{handed_on}
+use Rattle.ee_opening.proofs.ReadLemmas.{each_fault}
 use Rattle.ee_opening.proofs.making.make_records.Goals as goal
 
 pub returns-clause-added : goal.returns-clause-added
@@ -14,3 +16,39 @@ returns-clause-added g c clean =
     let clean_1 = clean_before first second c.define_table-2.ensures.crash clean_2 in
     on_ok c.add_desk.result (λ added before. added (c.in_ok-define_table-2.ensures.added clean_2 with_batches counter_schema adds_replies
     (c.in_ok-define_table.ensures.added clean_1 payment_tables with_batches adds_batches before))) (c.add_desk.ensures.added clean)
+
+pub returns-in_err-define_table-clause-usable : goal.returns-in_err-define_table-clause-usable
+returns-in_err-define_table-clause-usable g c clean =
+    let at_0 = state g.S.Store c.args.tx.now.conn.now in
+    let at_1 = state g.S.Store c.define_table.new.tx.conn.now in
+    let clean_1 = clean in
+    handed_on _ c.from_residual.result c.in_err-define_table.field-0.0 c.from_residual.ensures.1 (λ sees_0 open_0.
+    c.in_err-define_table.ensures.usable clean_1 payment_tables with_batches adds_batches sees_0 open_0)
+
+pub returns-in_err-define_table-2-clause-usable : goal.returns-in_err-define_table-2-clause-usable
+returns-in_err-define_table-2-clause-usable g c clean =
+    let at_0 = state g.S.Store c.args.tx.now.conn.now in
+    let at_1 = state g.S.Store c.define_table.new.tx.conn.now in
+    let at_2 = state g.S.Store c.define_table-2.new.tx.conn.now in
+    let clean_2 = clean in
+    let clean_1 = clean_before at_1 at_2 c.define_table-2.ensures.crash clean_2 in
+    handed_on _ c.from_residual-in_err-define_table-2.result c.in_err-define_table-2.field-0.0 c.from_residual-in_err-define_table-2.ensures.1 (λ sees_0 open_0.
+    let sees_1 = c.in_ok-define_table.ensures.added clean_1 payment_tables with_batches adds_batches sees_0 in
+    let open_1 = c.in_ok-define_table.ensures.open clean_1 in
+    c.in_err-define_table-2.ensures.usable clean_2 with_batches counter_schema adds_replies sees_1 open_1)
+
+pub returns-clause-usable : goal.returns-clause-usable
+returns-clause-usable g c clean =
+    let at_0 = state g.S.Store c.args.tx.now.conn.now in
+    let at_1 = state g.S.Store c.define_table.new.tx.conn.now in
+    let at_2 = state g.S.Store c.define_table-2.new.tx.conn.now in
+    let at_3 = state g.S.Store c.add_desk.new.tx.conn.now in
+    let clean_3 = clean in
+    let clean_2 = clean_before at_2 at_3 c.add_desk.ensures.crash clean_3 in
+    let clean_1 = clean_before at_1 at_2 c.define_table-2.ensures.crash clean_2 in
+    each_fault c.add_desk.result (λ e usable sees_0 open_0.
+    let sees_1 = c.in_ok-define_table.ensures.added clean_1 payment_tables with_batches adds_batches sees_0 in
+    let open_1 = c.in_ok-define_table.ensures.open clean_1 in
+    let sees_2 = c.in_ok-define_table-2.ensures.added clean_2 with_batches counter_schema adds_replies sees_1 in
+    let open_2 = c.in_ok-define_table-2.ensures.open clean_2 in
+    usable sees_2 open_2) (c.add_desk.ensures.usable clean)

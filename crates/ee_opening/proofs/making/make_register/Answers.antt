@@ -2,6 +2,8 @@ use Rattle.sqlite.specs.Held.{state}
 use Rattle.ee_tables.proofs.KeepLemmas.{clean_before, on_ok}
 use Rattle.ee_opening.specs.Making.{no_tables, register_tables}
 use Rattle.ee_opening.proofs.TextLemmas.{with_desk, with_rates, with_bonds, adds_desk, adds_rates, adds_bonds, adds_owner}
+use Rattle.ee_opening.proofs.FaultLemmas.{handed_on}
+use Rattle.ee_opening.proofs.ReadLemmas.{each_fault}
 use Rattle.ee_opening.proofs.making.make_register.Goals as goal
 
 pub returns-clause-added : goal.returns-clause-added
@@ -15,3 +17,59 @@ returns-clause-added g c clean =
     let clean_1 = clean_before first second c.define_table-2.ensures.crash clean_2 in
     on_ok c.define_index.result (λ added none. added with_bonds register_tables adds_owner (c.in_ok-define_table-3.ensures.added clean_3 with_rates with_bonds adds_bonds
     (c.in_ok-define_table-2.ensures.added clean_2 with_desk with_rates adds_rates (c.in_ok-define_table.ensures.added clean_1 no_tables with_desk adds_desk none)))) (c.define_index.ensures.added clean)
+
+pub returns-in_err-define_table-clause-usable : goal.returns-in_err-define_table-clause-usable
+returns-in_err-define_table-clause-usable g c clean =
+    let at_0 = state g.S.Store c.args.tx.now.conn.now in
+    let at_1 = state g.S.Store c.define_table.new.tx.conn.now in
+    let clean_1 = clean in
+    handed_on _ c.from_residual.result c.in_err-define_table.field-0.0 c.from_residual.ensures.1 (λ sees_0 open_0.
+    c.in_err-define_table.ensures.usable clean_1 no_tables with_desk adds_desk sees_0 open_0)
+
+pub returns-in_err-define_table-2-clause-usable : goal.returns-in_err-define_table-2-clause-usable
+returns-in_err-define_table-2-clause-usable g c clean =
+    let at_0 = state g.S.Store c.args.tx.now.conn.now in
+    let at_1 = state g.S.Store c.define_table.new.tx.conn.now in
+    let at_2 = state g.S.Store c.define_table-2.new.tx.conn.now in
+    let clean_2 = clean in
+    let clean_1 = clean_before at_1 at_2 c.define_table-2.ensures.crash clean_2 in
+    handed_on _ c.from_residual-in_err-define_table-2.result c.in_err-define_table-2.field-0.0 c.from_residual-in_err-define_table-2.ensures.1 (λ sees_0 open_0.
+    let sees_1 = c.in_ok-define_table.ensures.added clean_1 no_tables with_desk adds_desk sees_0 in
+    let open_1 = c.in_ok-define_table.ensures.open clean_1 in
+    c.in_err-define_table-2.ensures.usable clean_2 with_desk with_rates adds_rates sees_1 open_1)
+
+pub returns-in_err-define_table-3-clause-usable : goal.returns-in_err-define_table-3-clause-usable
+returns-in_err-define_table-3-clause-usable g c clean =
+    let at_0 = state g.S.Store c.args.tx.now.conn.now in
+    let at_1 = state g.S.Store c.define_table.new.tx.conn.now in
+    let at_2 = state g.S.Store c.define_table-2.new.tx.conn.now in
+    let at_3 = state g.S.Store c.define_table-3.new.tx.conn.now in
+    let clean_3 = clean in
+    let clean_2 = clean_before at_2 at_3 c.define_table-3.ensures.crash clean_3 in
+    let clean_1 = clean_before at_1 at_2 c.define_table-2.ensures.crash clean_2 in
+    handed_on _ c.from_residual-in_err-define_table-3.result c.in_err-define_table-3.field-0.0 c.from_residual-in_err-define_table-3.ensures.1 (λ sees_0 open_0.
+    let sees_1 = c.in_ok-define_table.ensures.added clean_1 no_tables with_desk adds_desk sees_0 in
+    let open_1 = c.in_ok-define_table.ensures.open clean_1 in
+    let sees_2 = c.in_ok-define_table-2.ensures.added clean_2 with_desk with_rates adds_rates sees_1 in
+    let open_2 = c.in_ok-define_table-2.ensures.open clean_2 in
+    c.in_err-define_table-3.ensures.usable clean_3 with_rates with_bonds adds_bonds sees_2 open_2)
+
+pub returns-clause-usable : goal.returns-clause-usable
+returns-clause-usable g c clean =
+    let at_0 = state g.S.Store c.args.tx.now.conn.now in
+    let at_1 = state g.S.Store c.define_table.new.tx.conn.now in
+    let at_2 = state g.S.Store c.define_table-2.new.tx.conn.now in
+    let at_3 = state g.S.Store c.define_table-3.new.tx.conn.now in
+    let at_4 = state g.S.Store c.define_index.new.tx.conn.now in
+    let clean_4 = clean in
+    let clean_3 = clean_before at_3 at_4 c.define_index.ensures.crash clean_4 in
+    let clean_2 = clean_before at_2 at_3 c.define_table-3.ensures.crash clean_3 in
+    let clean_1 = clean_before at_1 at_2 c.define_table-2.ensures.crash clean_2 in
+    each_fault c.define_index.result (λ e usable sees_0 open_0.
+    let sees_1 = c.in_ok-define_table.ensures.added clean_1 no_tables with_desk adds_desk sees_0 in
+    let open_1 = c.in_ok-define_table.ensures.open clean_1 in
+    let sees_2 = c.in_ok-define_table-2.ensures.added clean_2 with_desk with_rates adds_rates sees_1 in
+    let open_2 = c.in_ok-define_table-2.ensures.open clean_2 in
+    let sees_3 = c.in_ok-define_table-3.ensures.added clean_3 with_rates with_bonds adds_bonds sees_2 in
+    let open_3 = c.in_ok-define_table-3.ensures.open clean_3 in
+    usable with_bonds register_tables adds_owner sees_3 open_3) (c.define_index.ensures.usable clean)

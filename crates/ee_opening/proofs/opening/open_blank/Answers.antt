@@ -4,7 +4,9 @@ use Rattle.sqlite.proofs.StateLemmas.{survives_then}
 use Rattle.ee_tables.specs.Rows.{Holds}
 use Rattle.ee_tables.proofs.KeepLemmas.{clean_before, IfOk_then, if_err}
 use Rattle.ee_opening.specs.Making.{IsBlank, first_rows}
-use Rattle.ee_opening.proofs.OpenLemmas.{kept_has}
+use Rattle.ee_opening.proofs.OpenLemmas.{kept_has, two_faults, first_is_first, first_readable}
+use Rattle.ee_opening.proofs.FaultLemmas.{handed_on}
+use Rattle.ee_opening.proofs.VersionLemmas.{one_version}
 use Rattle.ee_opening.proofs.opening.open_blank.Goals as goal
 
 pub returns-clause-found : goal.returns-clause-found
@@ -37,3 +39,18 @@ returns-clause-crash g c =
     let new = state g.S.Store c.read_all.new.conn in
     survives_then old middle new (λ db. IsBlank old → Holds db first_rows) (λ _. ⊥) (λ db. IsBlank old → Holds db first_rows) (λ _ db h. h) (λ _ db h. absurd h)
     c.in_ok-make_tables.ensures.crash c.read_all.ensures.crash
+
+pub returns-in_err-make_tables-clause-blank : goal.returns-in_err-make_tables-clause-blank
+returns-in_err-make_tables-clause-blank g c clean =
+    handed_on _ c.from_residual.result c.in_err-make_tables.field-0.0 c.from_residual.ensures.1 (λ blank is_open. (c.in_err-make_tables.ensures.usable clean blank is_open, c.in_err-make_tables.ensures.other))
+
+pub returns-clause-blank : goal.returns-clause-blank
+returns-clause-blank g c clean =
+    let middle = state g.S.Store c.make_tables.new.conn in
+    let new = state g.S.Store c.read_all.new.conn in
+    let before = clean_before middle new c.read_all.ensures.crash clean in
+    let made = c.in_ok-make_tables.ensures.made before in
+    two_faults c.read_all.result (λ e usable version blank is_open. (
+      λ unusable. usable unusable first_rows (made blank) (c.in_ok-make_tables.ensures.open before).1 first_readable,
+      λ wrong. one_version first_rows first_is_first (version wrong first_rows (made blank)),
+    )) (c.read_all.ensures.usable clean) (c.read_all.ensures.version clean)

@@ -1,6 +1,6 @@
 use Rattle.sqlite.specs.Held.{state}
 use Rattle.ee_tables.proofs.KeepLemmas.{IfOk_then}
-use Rattle.ee_opening.proofs.OpenLemmas.{not_ours, either_failed, is_ours_if, is_blank_if, any_ok, each_err, still_err, if_ok, still_ok, leaves_less}
+use Rattle.ee_opening.proofs.OpenLemmas.{not_blank, not_ours, either_failed, is_ours_if, is_blank_if, any_ok, each_err, still_err, if_ok, still_ok, leaves_less}
 use Rattle.ee_opening.proofs.opening.open_rows.Goals as goal
 
 pub returns-then-has_tables-clause-found : goal.returns-then-has_tables-clause-found
@@ -84,3 +84,9 @@ returns-else-has_tables-clause-unusable g c clean =
     let old = state g.S.Store c.args.conn.now in
     let settled = c.is_autocommit.ensures.settled c.if-not-is_autocommit.false in
     each_err c.open_blank.result (λ e wrong rows has is_open. absurd (not_ours old settled c.has_tables.result c.has_tables.ensures c.if-has_tables.false (λ o. (has o).0) is_open))
+
+pub returns-then-has_tables-clause-blank : goal.returns-then-has_tables-clause-blank
+returns-then-has_tables-clause-blank g c clean =
+    let old = state g.S.Store c.args.conn.now in
+    let settled = c.is_autocommit.ensures.settled c.if-not-is_autocommit.false in
+    each_err c.read_all.result (λ e blank is_open. absurd (not_blank old settled c.has_tables.result c.has_tables.ensures c.if-has_tables.true blank is_open))
