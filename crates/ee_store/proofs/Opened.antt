@@ -28,7 +28,7 @@ use Rattle.ee_contents.specs.Standing.{rows_of, bond_row, reply_row, key_of, Sta
 use Rattle.ee_contents.proofs.Images.{get_desk}
 use Rattle.ee_laws.proofs.Leaving.{leaves_as_before}
 use Rattle.ee_store.specs.Serving.{StandsFor, HasContent}
-use Rattle.ee_store.specs.Adopted.{KeepsContent, KeepsWorld}
+use Rattle.ee_store.specs.Adopted.{KeepsContent, KeepsWorld, HadNone}
 
 -- ---- the empty content and the first rows
 
@@ -88,10 +88,13 @@ keeps_content old new kept content has = record { right = has.right; rows = kept
 pub has_some : (old new : State) (rows : Rows) → (IsOurs old ⊎ IsBlank old → Has new rows) → (content : Content) × StandFor rows content → IsOurs old ⊎ IsBlank old → (content : Content) × HasContent new content
 has_some old new rows found some is = (some.0, record { right = some.1.right; rows = subst (Has new) some.1.are (found is) })
 
--- rows that stand for no content aren't those of a content
-pub stood_for_none : (old : State) (rows : Rows) → ((before : Rows) → Has old before → IsTrue old.is_open → rows ≡ before) → ((content : Content) → StandFor rows content → ⊥)
-    → IsTrue old.is_open → (content : Content) → HasContent old content → ⊥
-stood_for_none old rows those none is_open content has = none content (record { are = those (rows_of content) has.rows is_open; right = has.right })
+-- rows that stand for no content are neither those of a content nor the first ones
+pub stood_for_none : (old : State) (rows : Rows) → ((before : Rows) → Has old before → IsTrue old.is_open → rows ≡ before) → (IsBlank old → IsTrue old.is_open → rows ≡ first_rows)
+    → ((content : Content) → StandFor rows content → ⊥) → HadNone old
+stood_for_none old rows those made none is_open = (
+  λ content has. none content (record { are = those (rows_of content) has.rows is_open; right = has.right }),
+  λ blank. none nothing (record { are = made blank is_open ∙ sym nothing_rows; right = nothing_right }),
+)
 
 same_some : (a b : DeskRow) → Some a ≡ Some b → a ≡ b
 same_some a b e = ap (λ o. unwrap_or o a) e
@@ -115,6 +118,10 @@ begun_or old new (inr has) = inr (record { right = nothing_right; rows = subst (
 pub err_then : {X E : Type 0} {P Q : E → Type 0} (r : Result X E) → ((e : E) → P e → Q e) → IfErr r P → IfErr r Q
 err_then (Ok x) f h = tt
 err_then (Err e) f h = f e h
+
+pub both_then : {X E : Type 0} {P Q R : E → Type 0} (r : Result X E) → ((e : E) → P e → Q e → R e) → IfErr r P → IfErr r Q → IfErr r R
+both_then (Ok x) f p q = tt
+both_then (Err e) f p q = f e p q
 
 pub if_ok : {X E Q : Type 0} (r : Result X E) → Q → OnOk r Q
 if_ok (Ok x) q = q

@@ -40,9 +40,9 @@ KeepsWorld old new = (w : World) → FollowsWorld old w → FollowsWorld new w
 abbrev pub KeepsRows : State → State → Type 0
 KeepsRows old new = (IsOurs old → KeepsCommit old new) × (IsBlank old → KeepsCommit old new ⊎ HasContent new nothing)
 
--- a store that was open had no content
+-- a store that was open had no content, and it had tables
 abbrev pub HadNone : State → Type 0
-HadNone old = IsTrue old.is_open → (content : Content) → HasContent old content → ⊥
+HadNone old = IsTrue old.is_open → ((content : Content) → HasContent old content → ⊥) × (IsBlank old → ⊥)
 
 -- a crash of a store with the tables leaves what it could leave before
 abbrev pub LeavesAsBefore : State → State → Type 0

@@ -116,7 +116,7 @@ impl<S: Alter> SqlKeeper<S> {
     /// - `found`: a store that has a content keeps it.
     /// - `stands`: so the keeper serves from a content, and never from rows that stand for none.
     /// - `follows`: the store follows the events of the law of stops and retries as it did.
-    /// - `version`, `unusable`: a store that has a content is refused for neither.
+    /// - `version`, `unusable`: a store that has a content, or no tables, is refused for neither.
     /// - `kept`: after a refusal the rows are as they were. A store without tables may have got the
     ///   first ones.
     /// - `crash`, `left`: whenever the call stops, a crash leaves what it could leave before. Of a

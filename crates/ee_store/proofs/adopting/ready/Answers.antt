@@ -1,12 +1,13 @@
-use Rattle.std.proofs.Common.{rules, ◌≡◌, inr, IsTrue, IfErr}
+use Rattle.std.proofs.Common.{rules, ◌≡◌, ◌≢◌, inr, IsTrue, IfErr}
 use Rattle.sqlite.specs.Held.{state}
 use Rattle.ee_tables.specs.Rows.{Rows, Has}
 use Rattle.ee_tables.proofs.KeepLemmas.{if_err, IfOk_on}
 use Rattle.ee_opening.specs.declared.making.OpenFault.TheVariants.{WrongVersion, Unusable}
+use Rattle.ee_opening.specs.Making.{IsBlank}
 use Rattle.ee_opening.specs.Whole as whole
 use Rattle.ee_opening.specs.Opening.{IsOtherVersion, AreReadable}
 use Rattle.ee_contents.specs.Standing.{rows_of}
-use Rattle.ee_store.proofs.Opened.{begins, begun_or, begun_survives, keeps_content, has_some, stood_for_none, of_version, keeps_world, if_ok, err_then}
+use Rattle.ee_store.proofs.Opened.{begins, begun_or, begun_survives, keeps_content, has_some, stood_for_none, of_version, keeps_world, if_ok, err_then, both_then}
 use Rattle.ee_store.proofs.Readable.{readable}
 use Rattle.ee_store.proofs.adopting.ready.Goals as goal
 
@@ -21,18 +22,20 @@ pub returns-in_err-all-clause-version : goal.returns-in_err-all-clause-version
 returns-in_err-all-clause-version g c clean =
     let old = state g.S.Store c.args.conn.now in
     let told : IfErr c.from_residual.result (λ e. e ≡ WrongVersion → (rows : Rows) → Has old rows → IsTrue old.is_open → IsOtherVersion rows) = search rules in
-    err_then c.from_residual.result (λ e other is is_open content has. of_version content (other is (rows_of content) has.rows is_open)) told
+    let blank : IfErr c.from_residual.result (λ e. IsBlank old → IsTrue old.is_open → (e ≢ Unusable) × (e ≢ WrongVersion)) = search rules in
+    both_then c.from_residual.result (λ e other apart is is_open. (λ content has. of_version content (other is (rows_of content) has.rows is_open), λ none. (apart none is_open).1 is)) told blank
 
 pub returns-in_err-all-clause-unusable : goal.returns-in_err-all-clause-unusable
 returns-in_err-all-clause-unusable g c clean =
     let old = state g.S.Store c.args.conn.now in
     let told : IfErr c.from_residual.result (λ e. e ≡ Unusable → (rows : Rows) → Has old rows → IsTrue old.is_open → ¬ AreReadable rows) = search rules in
-    err_then c.from_residual.result (λ e unread is is_open content has. unread is (rows_of content) has.rows is_open (readable content has.right)) told
+    let blank : IfErr c.from_residual.result (λ e. IsBlank old → IsTrue old.is_open → (e ≢ Unusable) × (e ≢ WrongVersion)) = search rules in
+    both_then c.from_residual.result (λ e unread apart is is_open. (λ content has. unread is (rows_of content) has.rows is_open (readable content has.right), λ none. (apart none is_open).0 is)) told blank
 
 pub returns-clause-unusable : goal.returns-clause-unusable
 returns-clause-unusable g c clean =
     let old = state g.S.Store c.args.conn.now in
-    err_then c.prepared.result (λ e none is. stood_for_none old (whole.rows_of c.in_ok-all.all) (c.in_ok-all.ensures.those clean) (none is)) c.prepared.ensures.unusable
+    err_then c.prepared.result (λ e none is. stood_for_none old (whole.rows_of c.in_ok-all.all) (c.in_ok-all.ensures.those clean) (c.in_ok-all.ensures.made clean) (none is)) c.prepared.ensures.unusable
 
 pub returns-in_err-all-clause-crash : goal.returns-in_err-all-clause-crash
 returns-in_err-all-clause-crash g c = begun_survives (state g.S.Store c.args.conn.now) (state g.S.Store c.open_rows.new.conn) c.in_err-all.ensures.crash
