@@ -6,6 +6,8 @@ mod opening;
 mod run;
 mod store;
 mod stores;
+#[cfg(test)]
+mod tests;
 
 use run::run_words;
 use std::io;
