@@ -17,6 +17,8 @@ mod lines;
 #[cfg(test)]
 mod refusals;
 #[cfg(test)]
+mod stores;
+#[cfg(test)]
 mod streams;
 #[cfg(test)]
 mod talk;
