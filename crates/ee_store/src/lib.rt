@@ -10,6 +10,7 @@ mod failures;
 mod finding;
 mod keeper;
 mod keys;
+pub mod laws;
 mod looking;
 mod opening;
 mod queries;
