@@ -179,15 +179,14 @@ fn pay<K: Keeper>(rt: &HostRuntime, keeper: &mut K, size: Size) -> Result<Paymen
         cents: 0,
         took: Duration::from_secs(0),
     };
-    let mut first = 0;
-    while first < size.tickets {
-        let paid = pay_day(rt, keeper, size, first)?;
+    let a_day = size.a_day.max(1);
+    for count in 0..size.tickets.div_ceil(a_day) {
+        let paid = pay_day(rt, keeper, size, count.saturating_mul(a_day))?;
         all = Payments {
             tickets: all.tickets.wrapping_add(paid.tickets),
             cents: all.cents.wrapping_add(paid.cents),
             took: all.took.saturating_add(paid.took),
         };
-        first = first.saturating_add(size.a_day.max(1));
     }
     Ok(all)
 }
