@@ -4,3 +4,4 @@ pub mod Settled
 pub mod OpenAges
 pub mod Accruals
 pub mod FirstOpen
+pub mod Lemmas
