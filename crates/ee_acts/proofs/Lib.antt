@@ -13,3 +13,4 @@ pub mod PaidRight
 pub mod KeptReplies
 pub mod Turns
 pub mod Inventories
+pub mod Lemmas

@@ -11,3 +11,4 @@ pub mod Batches
 pub mod SheetRows
 pub mod EveryRow
 pub mod AsParts
+pub mod Lemmas

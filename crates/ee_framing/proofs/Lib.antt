@@ -6,3 +6,4 @@ pub mod More
 pub mod Calls
 pub mod OneSplit
 pub mod FieldSteps
+pub mod Lemmas

@@ -9,3 +9,4 @@ pub mod OneTeller
 pub mod Merges
 pub mod DayEnd
 pub mod InTurn
+pub mod Lemmas

@@ -8,3 +8,4 @@ pub mod SortedRows
 pub mod LinePays
 pub mod SoundParts
 pub mod Making
+pub mod Lemmas

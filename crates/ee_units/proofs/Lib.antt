@@ -10,3 +10,4 @@ pub mod DenomTexts
 pub mod MonthGrammar
 pub mod DayGrammar
 pub mod SerialGrammar
+pub mod Lemmas
