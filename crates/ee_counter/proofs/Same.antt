@@ -1,6 +1,6 @@
 -- Answers that the content settles.
-use Rattle.std.proofs.Common.{◌≡◌, ℕ, Bool, List, [], ◌∷◌, ◌++◌, map, append-nil, append_assoc, Option, Some, None, Result, Ok, Err, refl, sym, ap, ◌∙◌}
-use Rattle.std.specs.List.{AllByRecursion, flat_map}
+use Rattle.std.proofs.Common.{◌≡◌, List, [], ◌∷◌, ◌++◌, Result, Ok, Err, refl, sym, ap, ◌∙◌}
+use Rattle.std.specs.List.{AllByRecursion}
 use Rattle.ee_acts.specs.declared.acts.Request.{Request}
 use Rattle.ee_acts.specs.declared.replies.Reply.{Reply}
 use Rattle.ee_acts.specs.declared.refusals.Unserved.{Unserved}
