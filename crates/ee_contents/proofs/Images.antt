@@ -16,8 +16,8 @@ use Rattle.ee_acts.specs.declared.replies.Ticket.{Ticket}
 use Rattle.ee_acts.specs.Serials.{serial_cmp}
 use Rattle.ee_acts.specs.Numbers.{number_cmp}
 use Rattle.ee_acts.specs.Seen.{held_as}
-use Rattle.ee_acts.proofs.Maps.{serials_total, exact_serials, same_key}
-use Rattle.ee_acts.proofs.RequestNumbers.{numbers_total}
+use Rattle.ee_acts.proofs.Lemmas.Maps.{serials_total, serials_exact, numbers_total}
+use Rattle.std.proofs.lemmas.Map.Views.{tells_apart}
 use Rattle.ee_tables.specs.Keyed.{pair_cmp}
 use Rattle.ee_contents.specs.Standing.{desk_rows, rate_rows, bond_rows, bond_row, key_of, reply_rows, reply_row}
 
@@ -32,7 +32,7 @@ module _ {K L X Y : Type 0} {R : K → K → Ordering} {S : L → L → Ordering
     (key : K → L) (value : K → X → Y) (alike : (q k : K) → eq_by_cmp S (key q) (key k) ≡ eq_by_cmp R q k) where
   find_step : (q k : K) (x : X) (rest : Option X) (more : Option Y) (b : Bool) → eq_by_cmp R q k ≡ b → more ≡ option_map (value q) rest
       → cond b (Some (value k x)) more ≡ option_map (value q) (cond b (Some x) rest)
-  find_step q k x rest more true same is = ap (λ k. Some (value k x)) (sym (same_key o exact (λ (_ : K). Some x) q k same))
+  find_step q k x rest more true same is = ap (λ k. Some (value k x)) (sym (tells_apart exact q k same))
   find_step q k x rest more false apart is = is
 
   find_image : (q : K) (es : List (K × X)) → find S (key q) (map (λ e. (key e.0, value e.0 e.1)) es) ≡ option_map (value q) (find R q es)
@@ -59,7 +59,7 @@ get_reply kept number = get_image numbers_total nat_cmp_total nat_cmp-IsAntisymm
 pub get_bond : (bonds : FinMap serial_cmp Bond) (tickets : List Ticket) (serial : SerialNumber)
     → finite.get (bond_rows bonds tickets) (key_of serial) ≡ option_map (λ bond. bond_row (held_as tickets serial bond)) (finite.get bonds serial)
 get_bond bonds tickets serial =
-    get_image serials_total pair_total exact_serials key_of (λ serial (bond : Bond). bond_row (held_as tickets serial bond)) (λ q k. refl) bonds serial
+    get_image serials_total pair_total serials_exact key_of (λ serial (bond : Bond). bond_row (held_as tickets serial bond)) (λ q k. refl) bonds serial
 
 pub get_desk : (day last_day : Option ℕ) → finite.get (desk_rows day last_day) 1 ≡ Some (record { version = 1; day = day; last_day = last_day })
 get_desk day last_day = get-from_entries nat_cmp_total ((1, record { version = 1; day = day; last_day = last_day }) ∷ []) 1

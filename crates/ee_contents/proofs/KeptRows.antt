@@ -7,7 +7,7 @@ use Rattle.ee_acts.specs.declared.replies.Reply.{Reply}
 use Rattle.ee_acts.specs.declared.replies.Reply.TheVariants.{Refused}
 use Rattle.ee_acts.specs.declared.refusals.Refusal.TheVariants.{NumberReused}
 use Rattle.ee_texts.specs.Reading.{ReadsAct, ReadsReply}
-use Rattle.ee_texts.proofs.Same.{one_reply}
+use Rattle.ee_texts.proofs.Lemmas.{one_reply}
 use Rattle.ee_opening.specs.declared.entries.StoredReply.{StoredReply}
 use Rattle.ee_contents.specs.Contents.{KeepsReply}
 

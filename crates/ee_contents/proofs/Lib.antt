@@ -7,3 +7,4 @@ pub mod NotedMarks
 pub mod KeptRows
 pub mod Founded
 pub mod FoundParts
+pub mod Lemmas

@@ -11,7 +11,7 @@ use Rattle.ee_acts.specs.declared.replies.Line.{Line}
 use Rattle.ee_acts.specs.declared.replies.Ticket.{Ticket}
 use Rattle.ee_acts.specs.Serials.{serial_cmp, same_serial}
 use Rattle.ee_acts.specs.PlainBooks.{names, ticket_of}
-use Rattle.ee_acts.proofs.Maps.{serials_tied, serials_swap, serial_is}
+use Rattle.ee_acts.proofs.Lemmas.Maps.{serials_tied, same_serial-swap, same_serial-is}
 use Rattle.ee_contents.specs.Reading.{mark_at}
 
 -- ---- one serial
@@ -25,8 +25,8 @@ pub noted_new : (es fs : List (SerialNumber × ℕ)) (s : SerialNumber) (n : ℕ
     → ((q : SerialNumber) → mark_at fs q ≡ cond (is_at (serial_cmp s) q) (Some n) (mark_at es q))
     → (q : SerialNumber) → mark_at fs q ≡ option_or (mark_at es q) (cond (same_serial q s) (Some n) None)
 noted_new es fs s n none is q =
-    is q ∙ ap (λ b. cond b (Some n) (mark_at es q)) (serials_tied s q ∙ serials_swap s q)
-    ∙ note_new (mark_at es q) n (same_serial q s) (λ e. ap (mark_at es) (serial_is q s e) ∙ none)
+    is q ∙ ap (λ b. cond b (Some n) (mark_at es q)) (serials_tied s q ∙ same_serial-swap s q)
+    ∙ note_new (mark_at es q) n (same_serial q s) (λ e. ap (mark_at es) (same_serial-is q s e) ∙ none)
 
 note_old : (o : Option ℕ) (n : ℕ) (b : Bool) → (b ≡ true → is_some o ≡ true) → o ≡ option_or o (cond b (Some n) None)
 note_old (Some m) n b h = refl
@@ -35,7 +35,7 @@ note_old None n true h = absurd (let e = h refl in cc)
 
 pub noted_old : (es : List (SerialNumber × ℕ)) (s : SerialNumber) (n : ℕ) → is_some (mark_at es s) ≡ true
     → (q : SerialNumber) → mark_at es q ≡ option_or (mark_at es q) (cond (same_serial q s) (Some n) None)
-noted_old es s n known q = note_old (mark_at es q) n (same_serial q s) (λ e. ap (λ t. is_some (mark_at es t)) (serial_is q s e) ∙ known)
+noted_old es s n known q = note_old (mark_at es q) n (same_serial q s) (λ e. ap (λ t. is_some (mark_at es t)) (same_serial-is q s e) ∙ known)
 
 -- ---- lines
 or_right : (b : Bool) → (b || false) ≡ b

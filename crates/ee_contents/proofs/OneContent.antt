@@ -21,9 +21,8 @@ use Rattle.ee_acts.specs.Numbers.{Number, number_cmp}
 use Rattle.ee_acts.specs.Seen.{held_as}
 use Rattle.ee_acts.specs.Sound.{IsRightBond, day_of_batch, open_days}
 use Rattle.ee_acts.specs.Repeats.{Content}
-use Rattle.ee_acts.proofs.Maps.{serials_total, exact_serials}
-use Rattle.ee_acts.proofs.RequestNumbers.{numbers_total, numbers_exact}
-use Rattle.ee_texts.proofs.Same.{one_act, one_reply}
+use Rattle.ee_acts.proofs.Lemmas.Maps.{serials_total, serials_exact, numbers_total, numbers_exact}
+use Rattle.ee_texts.proofs.Lemmas.{one_act, one_reply}
 use Rattle.ee_tables.specs.Rows.{Rows, DeskRow, PaidRow, BatchRow}
 use Rattle.ee_contents.specs.Standing.{rate_rows, bond_rows, bond_row, key_of, placed, reply_rows, reply_row, desk_rows, IsKept, StandFor}
 use Rattle.ee_contents.proofs.Images.{get_rate, get_reply, get_bond}
@@ -83,7 +82,7 @@ abbrev AreKeyed : FinMap serial_cmp Bond → Type 0
 AreKeyed bonds = (s : SerialNumber) → IfSome (finite.get bonds s) (λ bond. bond.serial ≡ s)
 
 same_bonds : (one other : FinMap serial_cmp Bond) (ts us : List Ticket) → AreKeyed one → AreKeyed other → bond_rows one ts ≡ bond_rows other us → one ≡ other
-same_bonds one other ts us a b e = same_map serials_total exact_serials one other (λ s.
+same_bonds one other ts us a b e = same_map serials_total serials_exact one other (λ s.
     same_some (λ bond. bond_row (held_as ts s bond)) (λ bond. bond_row (held_as us s bond)) (λ bond. bond.serial ≡ s) (λ x y h k. same_bond ts us s x y h k)
     (finite.get one s) (finite.get other s) (a s) (b s)
     (sym (get_bond one ts s) ∙ ap (λ m. finite.get m (key_of s)) e ∙ get_bond other us s))

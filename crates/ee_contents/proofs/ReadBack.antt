@@ -9,7 +9,8 @@ use Rattle.ee_units.specs.Spelling.{SerialNumber, in_range, serial_at, ◌>>=◌
 use Rattle.ee_units.specs.Denoms.{dollars}
 use Rattle.ee_units.specs.declared.denoms.Denom.{Denom}
 use Rattle.ee_units.specs.declared.denoms.Denom.TheVariants as denom
-use Rattle.ee_units.proofs.RateGrammar.{in_range-is}
+use Rattle.ee_units.proofs.Lemmas.{in_range-is}
+use Rattle.ee_texts.proofs.Lemmas.{in_range_back, denom_with-dollars}
 use Rattle.ee_value.specs.declared.rates.RateRow.{RateRow}
 use Rattle.ee_calculator.specs.declared.bonds.Bond.{Bond}
 use Rattle.ee_acts.specs.declared.replies.Line.{Line}
@@ -19,7 +20,6 @@ use Rattle.ee_acts.specs.Sound.{IsDay}
 use Rattle.ee_acts.specs.PlainBooks.{ticket_of}
 use Rattle.ee_texts.specs.Reading.{denom_with}
 use Rattle.ee_texts.specs.Ranges.{IsSerial, IsCustomer, RateRowFits, BondFits, LineFits, TicketFits, BatchFits}
-use Rattle.ee_texts.proofs.Amounts.{in_range_back, denom_back}
 use Rattle.ee_contents.specs.declared.reading.Days.{Days}
 use Rattle.ee_opening.specs.declared.entries.StoredDesk.{StoredDesk}
 use Rattle.ee_opening.specs.declared.entries.StoredRate.{StoredRate}
@@ -174,7 +174,7 @@ plain_bond_read : (ticket : Option ℕ) (bond : Bond) → BondFits bond → plai
 unfolding plain_bond_in
 plain_bond_read ticket bond h =
     bind_some (serial_at bond.serial.letter bond.serial.number) bond.serial _ _ (serial_read bond.serial h.serial)
-    (bind_some (denom_with (dollars bond.denom)) bond.denom _ _ (denom_back bond.denom)
+    (bind_some (denom_with (dollars bond.denom)) bond.denom _ _ (denom_with-dollars bond.denom)
     (bind_some (issue_in bond.issued) bond.issued _ _ (in_range_back 0 1135 bond.issued (omega arith) h.issued)
     (bind_some (customer_in bond.owner) bond.owner _ _ (customer_read bond.owner h.owner) refl)))
 

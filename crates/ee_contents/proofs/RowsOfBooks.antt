@@ -22,11 +22,10 @@ use Rattle.ee_acts.specs.PlainBooks.{PlainBooks, ticket_of}
 use Rattle.ee_acts.specs.Seen.{held_as}
 use Rattle.ee_acts.specs.Sound.{IsSound, IsDay, IsRightRate, day_of_batch, open_days, last_of}
 use Rattle.ee_acts.specs.Repeats.{Content}
-use Rattle.ee_acts.proofs.Maps.{serials_total, exact_serials, all_map}
-use Rattle.ee_acts.proofs.RequestNumbers.{numbers_total}
+use Rattle.ee_acts.proofs.Lemmas.Maps.{serials_total, serials_exact, all_weaker, numbers_total}
+use Rattle.ee_parts.proofs.Lemmas.{all_entries, get_all, map_of_entries}
 use Rattle.ee_parts.specs.declared.parts.Parts.{Parts}
 use Rattle.ee_parts.specs.Parts.{parts_of, row_of_entry}
-use Rattle.ee_parts.proofs.SortedRows.{all_entries, get_all, map_of_entries}
 use Rattle.ee_texts.specs.Ranges.{RateRowFits, BondFits, BatchFits}
 use Rattle.ee_tables.specs.Keyed.{pair_cmp}
 use Rattle.ee_tables.specs.Rows.{Rows, DeskRow, BondRow, TicketRow, PaidRow, BatchRow, ReplyRow}
@@ -115,7 +114,7 @@ rates_as : (rates : FinMap nat_cmp Rates) → map rate_entry (map stored_rate (m
 rates_as rates = ap (map rate_entry) (fuse stored_rate row_of_entry _ (λ e. refl) (entries rates)) ∙ fuse rate_entry (λ e. stored_rate (row_of_entry e)) _ (λ e. refl) (entries rates) ∙ sym (rate_entries rates)
 
 all_keyed : (books : PlainBooks) → IsSound books → AllByRecursion (λ e. e.1.serial ≡ e.0) (entries books.bonds)
-all_keyed books sound = all_entries serials_total exact_serials (λ s (bond : Bond). bond.serial ≡ s) books.bonds (λ s. keyed books.rates s _ (sound.bonds s))
+all_keyed books sound = all_entries serials_total serials_exact (λ s (bond : Bond). bond.serial ≡ s) books.bonds (λ s. keyed books.rates s _ (sound.bonds s))
 
 bonds_as : (books : PlainBooks) → IsSound books → map bond_entry (map (stored_bond books.tickets) (finite.values books.bonds)) ≡ entries (bond_rows books.bonds books.tickets)
 bonds_as books sound =
@@ -197,8 +196,8 @@ parts_in_range content right =
       day = all_days books.day (all_back IsDay (map day_of_batch books.batches) (open_days books.day) sound.in_range);
       last_day = subst (λ o. IfSome o IsDay) (sym sound.last) (last_fits books.batches (all_front IsDay (map day_of_batch books.batches) (open_days books.day) sound.in_range));
       rates = all_mapped RateRowFits row_of_entry (entries books.rates)
-          (all_map _ (λ (e : ℕ × Rates). RateRowFits (row_of_entry e)) (λ e h. h.in_range) (entries books.rates) (all_entries nat_cmp_total nat_cmp-IsAntisymmetric IsRightRate books.rates sound.rates));
-      bonds = all_mapped BondFits (λ (e : SerialNumber × Bond). e.1) (entries books.bonds) (all_entries serials_total exact_serials (λ s bond. BondFits bond) books.bonds right.in_range.bonds);
+          (all_weaker _ (λ (e : ℕ × Rates). RateRowFits (row_of_entry e)) (λ e h. h.in_range) (entries books.rates) (all_entries nat_cmp_total nat_cmp-IsAntisymmetric IsRightRate books.rates sound.rates));
+      bonds = all_mapped BondFits (λ (e : SerialNumber × Bond). e.1) (entries books.bonds) (all_entries serials_total serials_exact (λ s bond. BondFits bond) books.bonds right.in_range.bonds);
       tickets = right.in_range.tickets;
       batches = right.in_range.batches;
     }
@@ -271,8 +270,8 @@ replies_kept stored content order stands =
 -- ---- rows of parts stand for the books of these parts
 values_fit : (books : PlainBooks) → AllByRecursion BondFits (finite.values books.bonds) → (s : SerialNumber) → IfSome (finite.get books.bonds s) BondFits
 values_fit books all s =
-    subst (λ m. IfSome (finite.get m s) BondFits) (map_of_entries serial_cmp serials_total exact_serials books.bonds)
-    (get_all serials_total exact_serials (λ s bond. BondFits bond) (entries books.bonds) (all_unmapped BondFits (λ (e : SerialNumber × Bond). e.1) (entries books.bonds) all) s)
+    subst (λ m. IfSome (finite.get m s) BondFits) (map_of_entries serial_cmp serials_total serials_exact books.bonds)
+    (get_all serials_total serials_exact (λ s bond. BondFits bond) (entries books.bonds) (all_unmapped BondFits (λ (e : SerialNumber × Bond). e.1) (entries books.bonds) all) s)
 
 pub content_stands : (stored : AllRows) (books : PlainBooks) → AreInOrder stored → AreRowsOf (parts_of books) stored → PartsFit (parts_of books) → IsSound books
     → AllByRecursion KeepsReply stored.replies.items → (content : Content) × (content.books ≡ books) × StandFor (rows_of stored) content

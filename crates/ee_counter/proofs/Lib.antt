@@ -1,6 +1,6 @@
-pub mod Runs
-pub mod Right
-pub mod Turns
-pub mod Same
-pub mod Texts
-pub mod Streams
+mod Runs
+mod Right
+mod Turns
+mod Same
+mod Texts
+mod Streams

@@ -6,7 +6,7 @@ use Rattle.ee_acts.specs.declared.refusals.Unserved.{Unserved}
 use Rattle.ee_acts.specs.Repeats.{Content}
 use Rattle.ee_acts.specs.Contents.{content_after}
 use Rattle.ee_acts.specs.Answers.{served, AreAnswers}
-use Rattle.ee_acts.proofs.Turns.{run_turn}
+use Rattle.ee_acts.proofs.Lemmas.Requests.{run_turn}
 use Rattle.ee_keeper.specs.Keeping.{Delivers}
 
 pub one_more : (S : Content) (all : List Request) (i : ℕ) (q : Request) (told more : List (Result Reply Unserved)) (r : Result Reply Unserved) (Has : Content → Type 0)

@@ -1,13 +1,13 @@
 -- Answers that the content settles.
-use Rattle.std.proofs.Common.{◌≡◌, ℕ, Bool, List, [], ◌∷◌, ◌++◌, map, append-nil, append_assoc, Option, Some, None, Result, Ok, Err, refl, sym, ap, ◌∙◌}
-use Rattle.std.specs.List.{AllByRecursion, flat_map}
+use Rattle.std.proofs.Common.{◌≡◌, List, [], ◌∷◌, ◌++◌, Result, Ok, Err, refl, sym, ap, ◌∙◌}
+use Rattle.std.specs.List.{AllByRecursion}
 use Rattle.ee_acts.specs.declared.acts.Request.{Request}
 use Rattle.ee_acts.specs.declared.replies.Reply.{Reply}
 use Rattle.ee_acts.specs.declared.refusals.Unserved.{Unserved}
 use Rattle.ee_acts.specs.Repeats.{Content}
 use Rattle.ee_acts.specs.Contents.{content_after}
 use Rattle.ee_acts.specs.Answers.{served, AreAnswers}
-use Rattle.ee_acts.proofs.Repeats.{content_append}
+use Rattle.ee_acts.proofs.Lemmas.Requests.{content_after-append}
 use Rattle.ee_calls.specs.declared.calls.Call.{Call}
 use Rattle.ee_calls.specs.declared.calls.Call.TheVariants as call
 use Rattle.ee_calls.specs.declared.faults.WireFault.{WireFault}
@@ -67,4 +67,4 @@ all_left c [] = refl
 all_left c (t ∷ ts) =
     all_left (left_by c t) ts
     ∙ ap (λ d. content_after d (requests_in ts)) (one_left c (call_of t.message) t.answer)
-    ∙ content_append c (request_in (call_of t.message) t.answer) (requests_in ts)
+    ∙ content_after-append c (request_in (call_of t.message) t.answer) (requests_in ts)

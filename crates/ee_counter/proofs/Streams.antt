@@ -3,7 +3,7 @@ use Rattle.std.proofs.Common.{◌≡◌, ℕ, zero, suc, ◌+◌, List, [], ◌�
 use Rattle.std.specs.Prelude.{⊤}
 use Rattle.ee_acts.specs.Repeats.{Content}
 use Rattle.ee_framing.specs.Framing.{Message, BeginsMessages}
-use Rattle.ee_framing.proofs.OneSplit.{same_message}
+use Rattle.ee_framing.proofs.Lemmas.{same_message}
 use Rattle.ee_wire.specs.Answers.{answer_text}
 use Rattle.ee_counter.specs.Answering.{call_of, IsAnswer, after_call}
 use Rattle.ee_counter.specs.Serving.{Told, AreAnswered, is_last, messages, text_of, texts}

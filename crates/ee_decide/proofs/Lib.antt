@@ -1,1 +1,1 @@
-pub mod Payable
+mod Payable

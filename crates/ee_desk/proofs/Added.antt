@@ -12,7 +12,8 @@ use Rattle.std.proofs.lemmas.Bool.{or_parts}
 use Rattle.std.proofs.lemmas.List.{take_more}
 use Rattle.std.proofs.lemmas.Map.Lookups.{CmpEqualImpliesEq}
 use Rattle.ee_acts.specs.declared.changes.Change.{Change}
-use Rattle.ee_acts.proofs.Maps.{get_lookup, same_key}
+use Rattle.ee_acts.proofs.Lemmas.Maps.{get_lookup}
+use Rattle.std.proofs.lemmas.Map.Views.{tells_apart}
 use Rattle.ee_desk.specs.Added.{with_row, without_row, with_changes, without_changes, AreNew}
 
 pub taken_out : {K V : Type 0} {R : K → K → Ordering} (o : IsTotalOrder R) (exact : CmpEqualImpliesEq R) (es fs : List (K × V)) (k : K)
@@ -58,7 +59,7 @@ module _ {K V : Type 0} {R : K → K → Ordering} (o : IsTotalOrder R) (exact :
   before_none m (Some r) q new e = by_case (eq_by_cmp R q r.0) refl
     where
       by_case : (b : Bool) → eq_by_cmp R q r.0 ≡ b → finite.get m q ≡ None
-      by_case true same = ap (finite.get m) (same_key o exact (finite.get m) q r.0 same) ∙ new
+      by_case true same = ap (finite.get m) (tells_apart exact q r.0 same) ∙ new
       by_case false apart = sym (get-insert o m r.0 r.1 q ∙ ap (λ b. cond b (Some r.1) (finite.get m q)) apart) ∙ e
 
   new_none : (m : FinMap R V) (cs : List Change) (q : K) → AreNew row m cs → has q cs ≡ true → finite.get m q ≡ None
@@ -67,7 +68,7 @@ module _ {K V : Type 0} {R : K → K → Ordering} (o : IsTotalOrder R) (exact :
       by_case (row c) new.0 e (λ later. before_none m (row c) q new.0 (new_none (with_row m (row c)) cs q new.1 later))
     where
       here : (k : K) (b : Bool) → eq_by_cmp R q k ≡ b → finite.get m k ≡ None → (b || has q cs) ≡ true → (has q cs ≡ true → finite.get m q ≡ None) → finite.get m q ≡ None
-      here k true same none any rest = ap (finite.get m) (same_key o exact (finite.get m) q k same) ∙ none
+      here k true same none any rest = ap (finite.get m) (tells_apart exact q k same) ∙ none
       here k false apart none any rest = rest any
 
       by_case : (added : Option (K × V)) → IfSome added (λ r. finite.get m r.0 ≡ None) → (is_row q added || has q cs) ≡ true → (has q cs ≡ true → finite.get m q ≡ None) → finite.get m q ≡ None

@@ -14,7 +14,7 @@ use Rattle.ee_acts.specs.declared.changes.Held.{Held}
 use Rattle.ee_acts.specs.declared.replies.Ticket.{Ticket}
 use Rattle.ee_acts.specs.declared.replies.Batch.{Batch}
 use Rattle.ee_acts.specs.Serials.{serial_cmp}
-use Rattle.ee_acts.proofs.Maps.{serials_total, exact_serials}
+use Rattle.ee_acts.proofs.Lemmas.Maps.{serials_total, serials_exact}
 use Rattle.ee_parts.specs.declared.parts.Parts.{Parts}
 use Rattle.ee_parts.specs.Parts.{parts_of, row_of_entry}
 use Rattle.ee_desk.specs.Kept.{books_of}
@@ -39,7 +39,7 @@ pub as_parts : (terms : List (ℕ × Rates)) (held : List (SerialNumber × Held)
     → ◌≡◌ {A = Parts} (record { rates = rows; bonds = bonds; day = day; last_day = last; tickets = own; batches = closed }) (parts_of (books_of terms held day last tickets batches))
 as_parts terms held day last tickets batches rows bonds own closed months serials a b c d = λ i. record {
   rates = (a ∙ ap (map row_of_entry) (sym (entries_are nat_cmp nat_cmp_total nat_cmp-IsAntisymmetric terms months))) i;
-  bonds = (b ∙ same_bonds held ∙ ap values_of (sym (entries_are serial_cmp serials_total exact_serials (bonds_kept held) (subst (IsStrictlySortedBy serial_cmp) (sym (same_keys held)) serials)))) i;
+  bonds = (b ∙ same_bonds held ∙ ap values_of (sym (entries_are serial_cmp serials_total serials_exact (bonds_kept held) (subst (IsStrictlySortedBy serial_cmp) (sym (same_keys held)) serials)))) i;
   day = day;
   last_day = last;
   tickets = c i;

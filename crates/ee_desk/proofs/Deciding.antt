@@ -29,11 +29,8 @@ use Rattle.ee_acts.specs.Acts.{done, applied}
 use Rattle.ee_acts.specs.Ranges.{IsInRange}
 use Rattle.ee_acts.specs.Sound.{IsSound}
 use Rattle.ee_acts.specs.Views.{view_of, shown_by}
-use Rattle.ee_acts.proofs.Maps.{serials_total, serials_tied, all_map}
-use Rattle.ee_acts.proofs.Orders.{all_filter, all_passed}
-use Rattle.ee_acts.proofs.Seeing.{seen_enough, applied_is}
-use Rattle.ee_acts.proofs.Soundness.{done_sound, act_sound, no_refusal, all_of, payable, held_bond, none_is, or_none, mapped_none, test_passed, unregistered_unpaid, opens_empty, redeem_opened}
-use Rattle.ee_acts.proofs.Bounds.{few_on, bonds_small, total_small}
+use Rattle.ee_acts.proofs.Lemmas.Maps.{serials_total, serials_tied, all_weaker, all_filter, all_passed}
+use Rattle.ee_acts.proofs.Lemmas.Books.{seen_enough, applied_are_books_after, done_keeps_sound, act_keeps_sound, no_test_refuses, no_row_refused, unrefused_is_payable, held_is_registered, none_from_is_none, none_from_option_or, none_from_option_map, none_from_cond, unregistered_unpaid, opened_day_is_empty, redeem_on_open_day, few_tickets_on, few_bonds_on, small_total_on}
 use Rattle.ee_desk.specs.Added.{rate_row, bond_row, AreNew}
 use Rattle.ee_desk.specs.Applicable.{IsRate, IsBond, IsUnpaid, HasRoom, AreApplicable}
 
@@ -54,7 +51,7 @@ find_push q (x ∷ rows) row e = step (eqb x.from q) e (find_push q rows row)
 
 known_push : (seen : Seen) (earlier : List RateRow) (row : RateRow) (q : ℕ) → known_rate seen (earlier ++ row ∷ []) q ≡ None → (known_rate seen earlier q ≡ None) × (eqb row.from q ≡ false)
 known_push seen earlier row q e =
-    let p = or_none (seen.rate q) _ e in
+    let p = none_from_option_or (seen.rate q) _ e in
     let f = find_push q earlier row p.1 in
     (ap (λ o. option_or o (option_map (λ r. r.rates) (find (λ r. r.from == q) earlier))) p.0 ∙ f.0, f.1)
 
@@ -85,7 +82,7 @@ new_rows seen m earlier (row ∷ rows) free =
         → (known_rate seen earlier row.from ≡ None → AreNew rate_row (finite.insert m row.from row.rates) (map rate_change (new_rates seen (earlier ++ row ∷ []) rows)))
         → AreNew rate_row m (map rate_change (new_rates seen (earlier ++ row ∷ []) rows))
         → AreNew rate_row m (map rate_change (cond b (row ∷ new_rates seen (earlier ++ row ∷ []) rows) (new_rates seen (earlier ++ row ∷ []) rows)))
-    by_case true is fresh held = let none = none_is (known_rate seen earlier row.from) is in (free row.from none, fresh none)
+    by_case true is fresh held = let none = none_from_is_none (known_rate seen earlier row.from) is in (free row.from none, fresh none)
     by_case false is fresh held = held
 
 rates_applicable : (books : PlainBooks) (rows : List RateRow) → AreNew rate_row books.rates (map rate_change rows) → AreApplicable books (map rate_change rows)
@@ -115,14 +112,14 @@ Distinct [] = Unit {0}
 Distinct (bond ∷ bonds) = AllByRecursion (λ other. same_serial other.serial bond.serial ≡ false) bonds × Distinct bonds
 
 apart_from : (earlier : List Bond) (bond : Bond) (bonds : List Bond) → AreApart (earlier ++ bond ∷ []) bonds → AllByRecursion (λ other. same_serial other.serial bond.serial ≡ false) bonds
-apart_from earlier bond bonds h = all_map _ _ (λ other e. (any_front other.serial earlier bond e).1) bonds h
+apart_from earlier bond bonds h = all_weaker _ _ (λ other e. (any_front other.serial earlier bond e).1) bonds h
 
 unrepeated : (earlier bonds : List Bond) → repeated_bond earlier bonds ≡ None → AreApart earlier bonds × Distinct bonds
 unrepeated earlier [] none = (tt, tt)
 unrepeated earlier (bond ∷ bonds) none =
-    let p = test_passed (list_any (λ other. same_serial bond.serial other.serial) earlier) (Repeated bond.serial) (repeated_bond (earlier ++ bond ∷ []) bonds) none in
+    let p = none_from_cond (list_any (λ other. same_serial bond.serial other.serial) earlier) (Repeated bond.serial) (repeated_bond (earlier ++ bond ∷ []) bonds) none in
     let rest = unrepeated (earlier ++ bond ∷ []) bonds p.1 in
-    ((p.0, all_map _ _ (λ other e. (any_front other.serial earlier bond e).0) bonds rest.0), (apart_from earlier bond bonds rest.0, rest.1))
+    ((p.0, all_weaker _ _ (λ other e. (any_front other.serial earlier bond e).0) bonds rest.0), (apart_from earlier bond bonds rest.0, rest.1))
 
 distinct_filter : (p : Bond → Bool) (bonds : List Bond) → Distinct bonds → Distinct (filter p bonds)
 distinct_filter p [] h = tt
@@ -155,11 +152,11 @@ all_unpaid books sound (bond ∷ bonds) h = (unregistered_unpaid books sound bon
 
 add_bonds_applicable : (books : PlainBooks) (bonds : List Bond) → IsSound books → refusal_of (shown books) (AddBonds bonds) ≡ None → AreApplicable books (map change.Bond (new_bonds (shown books) bonds))
 add_bonds_applicable books bonds sound none =
-    let tests = no_refusal (tests_of (shown books) (AddBonds bonds)) none in
+    let tests = no_test_refuses (tests_of (shown books) (AddBonds bonds)) none in
     let new = new_bonds (shown books) bonds in
     let distinct = distinct_filter (λ b. is_none (held_of books b.serial)) bonds (unrepeated [] bonds tests.1.1.0).1 in
-    let absent = all_map (λ b. is_none (held_of books b.serial) ≡ true) (λ b. finite.get books.bonds b.serial ≡ None)
-    (λ b e. mapped_none (held_as books.tickets b.serial) (finite.get books.bonds b.serial) (none_is (held_of books b.serial) e)) new (all_passed (λ b. is_none (held_of books b.serial)) bonds) in
+    let absent = all_weaker (λ b. is_none (held_of books b.serial) ≡ true) (λ b. finite.get books.bonds b.serial ≡ None)
+    (λ b e. none_from_option_map (held_as books.tickets b.serial) (finite.get books.bonds b.serial) (none_from_is_none (held_of books b.serial) e)) new (all_passed (λ b. is_none (held_of books b.serial)) bonds) in
     bonds_applicable books new (new_registered books.bonds new distinct absent) (all_unpaid books sound new absent)
 
 -- ---- tickets
@@ -167,31 +164,31 @@ unpaid_lines : (books : PlainBooks) (month payee : ℕ) (ss : List SerialNumber)
     → AllByRecursion (λ line. ticket_of books.tickets line.serial ≡ None) (map (line_for (shown books) month) ss)
 unpaid_lines books month payee [] h = tt
 unpaid_lines books month payee (s ∷ ss) h =
-    let p = payable month payee s (held_of books s) h.0 in
-    let b = held_bond books.tickets s (finite.get books.bonds s) p.0 p.1 in
+    let p = unrefused_is_payable month payee s (held_of books s) h.0 in
+    let b = held_is_registered books.tickets s (finite.get books.bonds s) p.0 p.1 in
     (sym b.1 ∙ p.2.unpaid, unpaid_lines books month payee ss h.1)
 
 room : (books : PlainBooks) (t : Ticket) → IsSound (record books { tickets = books.tickets ++ t ∷ [] }) → HasRoom books.tickets t
 room books t sound =
     let after : PlainBooks = record books { tickets = books.tickets ++ t ∷ [] } in
-    let a = few_on after sound t.day in
-    let b = bonds_small after sound t.day in
-    let c = total_small after sound t.day in
+    let a = few_tickets_on after sound t.day in
+    let b = few_bonds_on after sound t.day in
+    let c = small_total_on after sound t.day in
     (omega (arith, a), omega (arith, b), omega (arith, c))
 
 accepted_applicable : (books : PlainBooks) (asked : Act) → IsSound books → AllByRecursion IsInRange (accepted (shown books) asked).changes → refusal_of (shown books) asked ≡ None
     → AreApplicable books (accepted (shown books) asked).changes
 accepted_applicable books (AddRates rows) sound ranges none =
-    rates_applicable books (new_rates (shown books) [] rows) (new_rows (shown books) books.rates [] rows (λ q e. (or_none (finite.get books.rates q) _ e).0))
+    rates_applicable books (new_rates (shown books) [] rows) (new_rows (shown books) books.rates [] rows (λ q e. (none_from_option_or (finite.get books.rates q) _ e).0))
 accepted_applicable books (AddBonds bonds) sound ranges none = add_bonds_applicable books bonds sound none
-accepted_applicable books (OpenDay day) sound ranges none = (refl, opens_empty books day sound none)
+accepted_applicable books (OpenDay day) sound ranges none = (refl, opened_day_is_empty books day sound none)
 accepted_applicable books (Redeem day payee ss) sound ranges none =
-    let tests = no_refusal (tests_of (shown books) (Redeem day payee ss)) none in (
+    let tests = no_test_refuses (tests_of (shown books) (Redeem day payee ss)) none in (
       refl,
       (
-        unpaid_lines books (month_of_day day) payee ss (all_of (refusal_of_serial (shown books) (month_of_day day) payee) ss tests.1.1.1.1.1.0),
-        redeem_opened books day payee ss none,
-        room books (ticket_for (shown books) day payee ss) (done_sound books (Redeem day payee ss) sound none ranges),
+        unpaid_lines books (month_of_day day) payee ss (no_row_refused (refusal_of_serial (shown books) (month_of_day day) payee) ss tests.1.1.1.1.1.0),
+        redeem_on_open_day books day payee ss none,
+        room books (ticket_for (shown books) day payee ss) (done_keeps_sound books (Redeem day payee ss) sound none ranges),
       ),
     )
 accepted_applicable books (CloseDay day) sound ranges none = refl
@@ -220,5 +217,5 @@ pub sound_after : {A E : Type 0} (r : Result A E) (old new : PlainBooks) (effect
 sound_after r old new effects ranges (asked, is) ok err sound =
     let same = is ∙ seen_enough old asked in
     by_result r old new (applied old effects.changes) ok err sound
-    (subst IsSound (sym (ap (λ (e : Effects). applied old e.changes) is ∙ applied_is old asked))
-    (act_sound old asked sound (subst (λ (e : Effects). AllByRecursion IsInRange e.changes) same ranges)))
+    (subst IsSound (sym (ap (λ (e : Effects). applied old e.changes) is ∙ applied_are_books_after old asked))
+    (act_keeps_sound old asked sound (subst (λ (e : Effects). AllByRecursion IsInRange e.changes) same ranges)))

@@ -20,7 +20,8 @@ use Rattle.ee_calculator.specs.declared.rows.Row.{Row}
 use Rattle.ee_acts.specs.Sound.{IsSound, IsRightBond}
 use Rattle.ee_acts.specs.PlainBooks.{PlainBooks}
 use Rattle.ee_acts.specs.Queries.{PlainRow, shown_in_row, row_of, plain_row, is_open_bond, bonds_of}
-use Rattle.ee_acts.proofs.Maps.{serials_total, exact_serials, same_key}
+use Rattle.ee_acts.proofs.Lemmas.Maps.{serials_total, serials_exact}
+use Rattle.std.proofs.lemmas.Map.Views.{tells_apart}
 
 front : (a b : Bool) → T (a && b) → T a
 front true b p = tt
@@ -44,7 +45,7 @@ module _ {K V : Type 0} {R : K → K → Ordering} (o : IsTotalOrder R) (exact :
   past : (e : K × V) (es : List (K × V)) (q : K) → T (below_all R e.0 es) → (b : Bool) → eq_by_cmp R q e.0 ≡ b
       → IfSome (cond b (Some e.1) (find R q es)) (P q) → IfSome (find R q es) (P q)
   past e es q h true is p =
-      let none = subst (λ k. find R k es ≡ None) (sym (same_key o exact (λ k. find R k es) q e.0 is)) (absent e.0 es h) in
+      let none = subst (λ k. find R k es ≡ None) (sym (tells_apart exact q e.0 is)) (absent e.0 es h) in
       subst (λ (v : Option V). IfSome v (P q)) (sym none) tt
   past e es q h false is p = p
 
@@ -95,5 +96,5 @@ pub every_row : (books : PlainBooks) (customer month : ℕ) (rows : List Row) �
 every_row books customer month rows sound is =
     same_serials rows ∙ ap serials_shown is
     ∙ rows_among books.rates month (is_open_bond books.tickets customer) (finite.entries books.bonds)
-    (all_in serials_total exact_serials (λ serial bond. IsRated books.rates bond) (finite.entries books.bonds) (entries_sorted books.bonds)
+    (all_in serials_total serials_exact (λ serial bond. IsRated books.rates bond) (finite.entries books.bonds) (entries_sorted books.bonds)
     (λ serial. subst (λ o. IfSome o (IsRated books.rates)) (get-entries books.bonds serial) (rated_if books.rates serial (finite.get books.bonds serial) (sound.bonds serial))))

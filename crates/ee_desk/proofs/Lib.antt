@@ -1,13 +1,14 @@
-pub mod Outcomes
-pub mod Added
-pub mod Registered
-pub mod Picked
-pub mod Counts
-pub mod Applied
-pub mod Deciding
-pub mod Ordered
-pub mod OwnBonds
-pub mod Batches
-pub mod SheetRows
-pub mod EveryRow
-pub mod AsParts
+mod Outcomes
+mod Added
+mod Registered
+mod Picked
+mod Counts
+mod Applied
+mod Deciding
+mod Ordered
+mod OwnBonds
+mod Batches
+mod SheetRows
+mod EveryRow
+mod AsParts
+pub mod Lemmas

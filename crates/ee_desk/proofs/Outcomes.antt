@@ -1,6 +1,6 @@
 -- What holds by how a call ended.
 use Rattle.std.proofs.Common.{Result, Ok, Err}
-use Rattle.std.specs.Result.{IfOk, OnOk, OnErr}
+use Rattle.std.specs.Result.{OnOk, OnErr}
 use Rattle.std.proofs.Common.{◌≡◌, Option, Some, None}
 use Rattle.std.specs.Option.{IfSome}
 use Rattle.ee_value.specs.declared.rates.Rates.{Rates}
@@ -9,18 +9,6 @@ use Rattle.std.specs.Ordering.{nat_cmp}
 use Rattle.ee_units.specs.Spelling.{SerialNumber}
 use Rattle.ee_calculator.specs.declared.bonds.Bond.{Bond}
 use Rattle.ee_acts.specs.Sound.{IsRightBond}
-
-pub on_ok : {A E : Type 0} {P Q : Type 0} (r : Result A E) → (P → Q) → OnOk r P → OnOk r Q
-on_ok (Ok x) f h = f h
-on_ok (Err e) f h = h
-
-pub if_ok : {A E : Type 0} {P Q : A → Type 0} (r : Result A E) → ((x : A) → P x → Q x) → IfOk r P → IfOk r Q
-if_ok (Ok x) f h = f x h
-if_ok (Err e) f h = h
-
-pub on_err : {A E : Type 0} {P Q : Type 0} (r : Result A E) → (P → Q) → OnErr r P → OnErr r Q
-on_err (Ok x) f h = h
-on_err (Err e) f h = f h
 
 pub either_way : {A E : Type 0} {P Q R : Type 0} (r : Result A E) → (P → R) → (Q → R) → OnOk r P → OnErr r Q → R
 either_way (Ok x) f g h k = f h

@@ -18,10 +18,10 @@ use Rattle.ee_acts.specs.declared.replies.Ticket.{Ticket}
 use Rattle.ee_acts.specs.Serials.{serial_cmp}
 use Rattle.ee_acts.specs.PlainBooks.{ticket_of}
 use Rattle.ee_acts.specs.Queries.{is_open_bond}
-use Rattle.ee_acts.proofs.Maps.{serials_total, exact_serials}
+use Rattle.ee_acts.proofs.Lemmas.Maps.{serials_total, serials_exact}
+use Rattle.ee_parts.proofs.Lemmas.{get_held_bond}
 use Rattle.ee_parts.specs.Marks.{bonds_held, held_at, AreMarked}
 use Rattle.ee_desk.specs.Kept.{own_bond}
-use Rattle.ee_parts.proofs.PaidMarks.{get_bond}
 use Rattle.ee_desk.proofs.Ordered.{entries_are}
 
 -- what holds wherever a key is found holds of each entry
@@ -74,6 +74,6 @@ pub own_is : (tickets : List Ticket) (customer : ℕ) (es : List (SerialNumber �
     → filter_map (own_bond customer) (values_of es) ≡ filter (is_open_bond tickets customer) (finite.values (bonds_held es))
 own_is tickets customer es ordered marked keyed =
     own_among tickets customer es (all_entries serials_total (IsKeptRight tickets) es ordered (λ q.
-    right_if tickets q (held_at es q) (marked q) (subst (λ o. IfSome o (λ b. b.serial ≡ q)) (get_bond es q) (keyed q))))
+    right_if tickets q (held_at es q) (marked q) (subst (λ o. IfSome o (λ b. b.serial ≡ q)) (get_held_bond es q) (keyed q))))
     ∙ ap (λ bs. filter (is_open_bond tickets customer) (values_of bs))
-    (sym (entries_are serial_cmp serials_total exact_serials (bonds_kept es) (subst (IsStrictlySortedBy serial_cmp) (sym (same_keys es)) ordered)))
+    (sym (entries_are serial_cmp serials_total serials_exact (bonds_kept es) (subst (IsStrictlySortedBy serial_cmp) (sym (same_keys es)) ordered)))

@@ -15,10 +15,11 @@ use Rattle.ee_acts.specs.declared.replies.Ticket.{Ticket}
 use Rattle.ee_acts.specs.PlainBooks.{ticket_of}
 use Rattle.ee_acts.specs.Seen.{held_as}
 use Rattle.ee_acts.specs.Views.{picked}
-use Rattle.ee_acts.proofs.Maps.{get_picked, same_key}
+use Rattle.ee_acts.proofs.Lemmas.Maps.{get_picked}
+use Rattle.std.proofs.lemmas.Map.Views.{tells_apart}
+use Rattle.ee_parts.proofs.Lemmas.{get_held_bond}
 use Rattle.ee_parts.specs.Marks.{held_at, bonds_held}
 use Rattle.ee_desk.specs.Kept.{noted, noted_at}
-use Rattle.ee_parts.proofs.PaidMarks.{get_bond}
 
 any_push : {A : Type 0} (p : A → Bool) (xs : List A) (y : A) → list_any p (xs ++ y ∷ []) ≡ (p y || list_any p xs)
 any_push p [] y = refl
@@ -32,13 +33,13 @@ any_push p (x ∷ xs) y = ap (λ b. p x || b) (any_push p xs y) ∙ swap (p x) (
 module _ {K V : Type 0} {R : K → K → Ordering} (o : IsTotalOrder R) (exact : CmpEqualImpliesEq R) (look : K → Option V) where
   push_at : (ks : List K) (k : K) (v : Option V) → look k ≡ v → (q : K) (b : Bool) → eq_by_cmp R q k ≡ b
       → cond (b || list_any (eq_by_cmp R q) ks) (look q) None ≡ finite.get (option_map_or (λ x. finite.insert (picked {R = R} look ks) k x) v (picked look ks)) q
-  push_at ks k None is q true same = let none : look q ≡ None = ap look (same_key o exact look q k same) ∙ is in none ∙ sym (get_picked o exact look ks q ∙ ap (λ x. cond (list_any (eq_by_cmp R q) ks) x None) none ∙ both (list_any (eq_by_cmp R q) ks))
+  push_at ks k None is q true same = let none : look q ≡ None = ap look (tells_apart exact q k same) ∙ is in none ∙ sym (get_picked o exact look ks q ∙ ap (λ x. cond (list_any (eq_by_cmp R q) ks) x None) none ∙ both (list_any (eq_by_cmp R q) ks))
     where
       both : (b : Bool) → ◌≡◌ {A = Option V} (cond {A = Option V} b None None) None
       both true = refl
       both false = refl
   push_at ks k None is q false same = sym (get_picked o exact look ks q)
-  push_at ks k (Some x) is q true same = ap look (same_key o exact look q k same) ∙ is ∙ sym (get-insert o (picked {R = R} look ks) k x q ∙ ap (λ b. cond b (Some x) (finite.get (picked {R = R} look ks) q)) same)
+  push_at ks k (Some x) is q true same = ap look (tells_apart exact q k same) ∙ is ∙ sym (get-insert o (picked {R = R} look ks) k x q ∙ ap (λ b. cond b (Some x) (finite.get (picked {R = R} look ks) q)) same)
   push_at ks k (Some x) is q false same = sym (get-insert o (picked {R = R} look ks) k x q ∙ ap (λ b. cond b (Some x) (finite.get (picked {R = R} look ks) q)) same ∙ get_picked o exact look ks q)
 
   pub picked_push : (ks : List K) (k : K) → picked {R = R} look (ks ++ k ∷ []) ≡ noted look (picked look ks) k
@@ -78,4 +79,4 @@ held_marked tickets q (Some held) h = ap (λ t. Some (record { bond = held.bond;
 -- what is kept of a serial is what the books hold
 pub held_is : (bonds : List (SerialNumber × Held)) (tickets : List Ticket) (q : SerialNumber) → IfSome (held_at bonds q) (λ h. h.ticket ≡ ticket_of tickets q)
     → option_map (held_as tickets q) (finite.get (bonds_held bonds) q) ≡ held_at bonds q
-held_is bonds tickets q h = ap (option_map (held_as tickets q)) (get_bond bonds q) ∙ held_marked tickets q (held_at bonds q) h
+held_is bonds tickets q h = ap (option_map (held_as tickets q)) (get_held_bond bonds q) ∙ held_marked tickets q (held_at bonds q) h

@@ -13,12 +13,13 @@ use Rattle.ee_acts.specs.declared.changes.Change.TheVariants as change
 use Rattle.ee_acts.specs.declared.replies.Ticket.{Ticket}
 use Rattle.ee_acts.specs.Serials.{serial_cmp}
 use Rattle.ee_acts.specs.PlainBooks.{PlainBooks, ticket_of}
-use Rattle.ee_acts.proofs.Maps.{serials_total, exact_serials, get_lookup, same_key}
+use Rattle.ee_acts.proofs.Lemmas.Maps.{serials_total, serials_exact, get_lookup}
+use Rattle.std.proofs.lemmas.Map.Views.{tells_apart}
+use Rattle.ee_parts.proofs.Lemmas.{get_held_bond}
 use Rattle.ee_parts.specs.Marks.{bonds_held, held_at, AreMarked}
 use Rattle.ee_desk.specs.Kept.{held_in}
 use Rattle.ee_desk.specs.Added.{held_row, bond_row, with_row, with_changes, AreNew}
 use Rattle.ee_desk.specs.Applicable.{IsUnpaid}
-use Rattle.ee_parts.proofs.PaidMarks.{get_bond}
 
 abbrev bond_of : Held → Bond
 bond_of held = held.bond
@@ -81,7 +82,7 @@ marked_more books held (change.Bond bond) unpaid are =
     let new : Held = record { bond = bond; ticket = None } in
     λ q. subst (λ o. IfSome o (λ h. h.ticket ≡ ticket_of books.tickets q)) (sym (get-insert serials_total held bond.serial new q))
     (marked_if (eq_by_cmp serial_cmp q bond.serial) books.tickets q new (finite.get held q)
-    (λ same. sym (ap (ticket_of books.tickets) (same_key serials_total exact_serials (finite.get held) q bond.serial same) ∙ unpaid)) (are q))
+    (λ same. sym (ap (ticket_of books.tickets) (tells_apart serials_exact q bond.serial same) ∙ unpaid)) (are q))
 
 marked_after : (books : PlainBooks) (held : FinMap serial_cmp Held) (cs : List Change) → AllByRecursion (IsUnpaid books) cs → AreMarkedIn held books.tickets → AreMarkedIn (with_changes held_row held cs) books.tickets
 marked_after books held [] unpaid are = are
@@ -92,7 +93,7 @@ at_is : (es : List (SerialNumber × Held)) (q : SerialNumber) → finite.get (he
 at_is es q = get_lookup serials_total es q
 
 bonds_of_held : (es : List (SerialNumber × Held)) → AreBondsOf (held_in es) (bonds_held es)
-bonds_of_held es q = get_bond es q ∙ ap (option_map bond_of) (sym (at_is es q))
+bonds_of_held es q = get_held_bond es q ∙ ap (option_map bond_of) (sym (at_is es q))
 
 -- bonds that aren't registered aren't in memory
 pub new_in_memory : (es : List (SerialNumber × Held)) (cs : List Change) → AreNew bond_row (bonds_held es) cs → AreNew held_row (held_in es) cs
@@ -100,11 +101,11 @@ new_in_memory es cs new = new_held (held_in es) (bonds_held es) cs (bonds_of_hel
 
 -- the bonds that memory stands for gain what memory gains
 pub bonds_gain : (es fs : List (SerialNumber × Held)) (cs : List Change) → held_in fs ≡ with_changes held_row (held_in es) cs → bonds_held fs ≡ with_changes bond_row (bonds_held es) cs
-bonds_gain es fs cs is = same_map serials_total exact_serials _ _ (λ q.
+bonds_gain es fs cs is = same_map serials_total serials_exact _ _ (λ q.
     bonds_of_held fs q ∙ ap (λ m. option_map bond_of (finite.get m q)) is ∙ sym (bonds_after (held_in es) (bonds_held es) cs (bonds_of_held es) q))
 
 pub bonds_stay : (es fs : List (SerialNumber × Held)) → held_in fs ≡ held_in es → bonds_held fs ≡ bonds_held es
-bonds_stay es fs is = same_map serials_total exact_serials _ _ (λ q.
+bonds_stay es fs is = same_map serials_total serials_exact _ _ (λ q.
     bonds_of_held fs q ∙ ap (λ m. option_map bond_of (finite.get m q)) is ∙ sym (bonds_of_held es q))
 
 marks_in : (es : List (SerialNumber × Held)) (tickets : List Ticket) → AreMarked es tickets → AreMarkedIn (held_in es) tickets

@@ -17,8 +17,7 @@ use Rattle.ee_units.specs.Spelling.{SerialNumber, serial_of, customer_of, issue_
 use Rattle.ee_units.specs.Texts.{serial_text, month_text}
 use Rattle.ee_units.specs.declared.denoms.Denom.{Denom}
 use Rattle.ee_units.specs.declared.denoms.Denom.TheVariants as denom
-use Rattle.ee_units.proofs.DenomTexts.{denom_back}
-use Rattle.ee_units.proofs.ReadBack.{serial_back, issue_back, customer_back}
+use Rattle.ee_units.proofs.Lemmas.{denom_back, serial_back, issue_back, customer_back}
 use Rattle.ee_calculator.specs.declared.bonds.Bond.{Bond}
 use Rattle.ee_files.specs.BondFile.{bond_columns, bond_entry, bonds_of_file, bond_fields, inventory_text, coowner_of, coowner_text, IsBond}
 use Rattle.ee_files.specs.Fields.{Bytes, field_value}

@@ -1,8 +1,8 @@
-pub mod Taking
-pub mod Entries
-pub mod Fuel
-pub mod RowsWritten
-pub mod RowsRead
-pub mod InOrder
-pub mod BondsBack
-pub mod NamesInPlace
+mod Taking
+mod Entries
+mod Fuel
+mod RowsWritten
+mod RowsRead
+mod InOrder
+mod BondsBack
+mod NamesInPlace

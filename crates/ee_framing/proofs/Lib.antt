@@ -1,8 +1,9 @@
-pub mod Heads
-pub mod Cuts
-pub mod WholeLines
-pub mod Tested
-pub mod More
-pub mod Calls
-pub mod OneSplit
-pub mod FieldSteps
+mod Heads
+mod Cuts
+mod WholeLines
+mod Tested
+mod More
+mod Calls
+mod OneSplit
+mod FieldSteps
+pub mod Lemmas

@@ -9,7 +9,6 @@ use Rattle.std.proofs.lemmas.List.Sums.{sum_by-cons}
 use Rattle.ee_acts.specs.declared.acts.Request.{Request}
 use Rattle.ee_acts.specs.Refusals.{most_tickets}
 use Rattle.ee_acts.specs.Repeats.{Content}
-use Rattle.ee_acts.proofs.Repeats.{one}
 use Rattle.ee_laws.specs.Tellers.{Asked, requests, asked_by, list_of, IsMerge, AreTellers, open_tickets, new_lines, Interleaved}
 use Rattle.ee_laws.proofs.Lists.{filter_append, map_append}
 use Rattle.ee_laws.proofs.OneTeller.{blank}

@@ -1,11 +1,12 @@
-pub mod Elements
-pub mod Survival
-pub mod Retries
-pub mod Leaving
-pub mod Served
-pub mod Lists
-pub mod Classes
-pub mod OneTeller
-pub mod Merges
-pub mod DayEnd
-pub mod InTurn
+mod Elements
+mod Survival
+mod Retries
+mod Leaving
+mod Served
+mod Lists
+mod Classes
+mod OneTeller
+mod Merges
+mod DayEnd
+mod InTurn
+pub mod Lemmas

@@ -11,11 +11,10 @@ use Rattle.ee_acts.specs.declared.acts.Request.{Request}
 use Rattle.ee_acts.specs.Serials.{same_serial}
 use Rattle.ee_acts.specs.Refusals.{most_tickets}
 use Rattle.ee_acts.specs.Numbers.{Number, number_of}
-use Rattle.ee_acts.proofs.RequestNumbers.{number_self}
+use Rattle.ee_acts.proofs.Lemmas.Maps.{same_number-self}
 use Rattle.ee_acts.specs.Repeats.{Content}
 use Rattle.ee_acts.specs.Contents.{books_after}
 use Rattle.ee_acts.specs.Answers.{is_of}
-use Rattle.ee_acts.proofs.Repeats.{one}
 use Rattle.ee_laws.specs.Tellers.{Asked, requests, asked_by, list_of, IsMerge, IsRedeem, AreStrange, AreTellers, open_tickets, for_teller, replies_to, unnumbered}
 use Rattle.ee_laws.proofs.Classes.{same_elements, same_flat}
 use Rattle.ee_acts.specs.Views.{serials_of}
@@ -47,7 +46,7 @@ serial_self s = ap (λ b. b && eqb s.number s.number) (eq_self s.letter) ∙ eq_
 own_fits : (S : Content) (rs : List Request) (q : Request) → In q rs → IsRedeem q.act → Fits S (serials_in rs) (numbers_of rs) true q
 own_fits S rs q i redeem = record {
   redeem = redeem;
-  number = any_in (is_of (number_of q)) q rs i (number_self (number_of q));
+  number = any_in (is_of (number_of q)) q rs i (same_number-self (number_of q));
   serials = all_in (λ s. serials_in rs s ≡ true) (serials_of q.act) (λ s j. any_in (has_serial s) q rs i (any_in (same_serial s) s (serials_of q.act) j (serial_self s)));
 }
 

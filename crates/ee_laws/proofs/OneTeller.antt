@@ -30,15 +30,14 @@ use Rattle.ee_acts.specs.Acts.{same_act, unless_refused}
 use Rattle.ee_acts.specs.Outcomes.{Outcome}
 use Rattle.ee_acts.specs.Effects as effects
 use Rattle.ee_acts.specs.Numbers.{Number, number_cmp, same_number, number_of, numbered}
-use Rattle.ee_acts.proofs.RequestNumbers.{number_is}
+use Rattle.ee_acts.proofs.Lemmas.Maps.{same_number-is, same_serial-is, all_append}
+use Rattle.ee_laws.specs.Events.{one}
+use Rattle.ee_acts.proofs.Lemmas.Requests.{content_after-known, content_after-new, get_kept-insert, content_after-first, content_after-append, answer_after}
 use Rattle.ee_acts.specs.Repeats.{Content}
 use Rattle.ee_acts.specs.Contents.{content_after, books_after}
 use Rattle.ee_acts.specs.Answers.{answer, answer_for, reply_again}
-use Rattle.ee_acts.proofs.Repeats.{one, one_known, one_new, get_more, content_step, content_append, answer_after}
 use Rattle.ee_laws.specs.Tellers.{Asked, requests, asked_by, IsRedeem, open_tickets, told, for_teller, old_number, unnumbered_refusal, unnumbered}
 use Rattle.ee_acts.specs.Views.{serials_of}
-use Rattle.ee_acts.proofs.Maps.{serial_is}
-use Rattle.ee_acts.proofs.Orders.{all_append}
 use Rattle.ee_laws.proofs.Lists.{filter_append, find_append, map_append, map_map, or_alike}
 
 -- a ticket without its number
@@ -123,7 +122,7 @@ module _ (S : Content) (mine : SerialNumber → Bool) (own : Number → Bool) wh
 
       by_case : (b : Bool) → same_serial s l.serial ≡ b → (b || list_any (λ x. same_serial s x.serial) lines) ≡ true
           → (list_any (λ x. same_serial s x.serial) lines ≡ true → list_any (λ x. mine x.serial) lines ≡ true) → (mine l.serial || list_any (λ x. mine x.serial) lines) ≡ true
-      by_case true is h rest = ap (λ b. b || list_any (λ x. mine x.serial) lines) (sym (ap mine (serial_is s l.serial is)) ∙ m)
+      by_case true is h rest = ap (λ b. b || list_any (λ x. mine x.serial) lines) (sym (ap mine (same_serial-is s l.serial is)) ∙ m)
       by_case false is h rest = ap (λ b. mine l.serial || b) (rest h) ∙ or_true (mine l.serial)
 
   found_mine : (s : SerialNumber) (xs : List Ticket) → mine s ≡ true → find (names s) xs ≡ find (names s) (filter pays xs)
@@ -331,7 +330,7 @@ module _ (S : Content) (mine : SerialNumber → Bool) (own : Number → Bool) wh
       → one (with new kept) (asked_new n day payee ss) ≡ with (added new day payee ss (refusal new day payee ss)) (finite.insert kept n (entry new day payee ss))
   new_step new kept n day payee ss none =
       let e = act_by new day payee ss (refusal new day payee ss) in
-      one_new (with new kept) (asked_new n day payee ss) (ap is_some none)
+      content_after-new (with new kept) (asked_new n day payee ss) (ap is_some none)
       ∙ (λ i. record { books = (e i).books; kept = finite.insert kept n (record { act = Redeem day payee ss; reply = (e i).reply }) })
 
   new_reply : (new : List Ticket) (kept : FinMap number_cmp Kept) (n : Number) (day payee : ℕ) (ss : List SerialNumber) → finite.get kept n ≡ None
@@ -342,7 +341,7 @@ module _ (S : Content) (mine : SerialNumber → Bool) (own : Number → Bool) wh
   kept_more : (kept_m kept_t : FinMap number_cmp Kept) (n k : Number) (x y : Kept) → hidden x ≡ hidden y → option_map hidden (finite.get kept_m k) ≡ option_map hidden (finite.get kept_t k)
       → option_map hidden (finite.get (finite.insert kept_m n x) k) ≡ option_map hidden (finite.get (finite.insert kept_t n y) k)
   kept_more kept_m kept_t n k x y e h =
-      ap (option_map hidden) (get_more kept_m n x k) ∙ by_case (same_number k n) ∙ sym (ap (option_map hidden) (get_more kept_t n y k))
+      ap (option_map hidden) (get_kept-insert kept_m n x k) ∙ by_case (same_number k n) ∙ sym (ap (option_map hidden) (get_kept-insert kept_t n y k))
     where
       by_case : (b : Bool) → option_map hidden (cond b (Some x) (finite.get kept_m k)) ≡ option_map hidden (cond b (Some y) (finite.get kept_t k))
       by_case true = ap Some e
@@ -350,10 +349,10 @@ module _ (S : Content) (mine : SerialNumber → Bool) (own : Number → Bool) wh
 
   kept_passed : (kept_m kept_t : FinMap number_cmp Kept) (n k : Number) (x : Kept) → own k ≡ true → own n ≡ false → option_map hidden (finite.get kept_m k) ≡ option_map hidden (finite.get kept_t k)
       → option_map hidden (finite.get (finite.insert kept_m n x) k) ≡ option_map hidden (finite.get kept_t k)
-  kept_passed kept_m kept_t n k x mine_k not_n h = ap (option_map hidden) (get_more kept_m n x k) ∙ by_case (same_number k n) refl
+  kept_passed kept_m kept_t n k x mine_k not_n h = ap (option_map hidden) (get_kept-insert kept_m n x k) ∙ by_case (same_number k n) refl
     where
       by_case : (b : Bool) → same_number k n ≡ b → option_map hidden (cond b (Some x) (finite.get kept_m k)) ≡ option_map hidden (finite.get kept_t k)
-      by_case true is = absurd (true≢false (sym mine_k ∙ ap own (number_is k n is) ∙ not_n))
+      by_case true is = absurd (true≢false (sym mine_k ∙ ap own (same_number-is k n is) ∙ not_n))
       by_case false is = h
 
   own_step : (n : Number) (a : Act) → IsRedeem a → own n ≡ true → AllByRecursion (λ s. mine s ≡ true) (serials_of a)
@@ -374,8 +373,8 @@ module _ (S : Content) (mine : SerialNumber → Bool) (own : Number → Bool) wh
         tickets_t = new_t;
         replies_m = kept_m;
         replies_t = kept_t;
-        m = one_known (with new_m kept_m) (asked_new n day payee ss) (ap is_some e);
-        t = one_known (with new_t kept_t) (asked_new n day payee ss) (ap is_some d);
+        m = content_after-known (with new_m kept_m) (asked_new n day payee ss) (ap is_some e);
+        t = content_after-known (with new_t kept_t) (asked_new n day payee ss) (ap is_some d);
         alike = a;
         reply =
             ap (λ o. unnumbered before (answer_for (with new_m kept_m) [] (asked_new n day payee ss) o)) e
@@ -414,7 +413,7 @@ module _ (S : Content) (mine : SerialNumber → Bool) (own : Number → Bool) wh
   other_step n (Redeem day payee ss) is o h new_m new_t kept_m kept_t a = by_case (finite.get kept_m n) refl
     where
       by_case : (x : Option Kept) → finite.get kept_m n ≡ x → Passed (asked_new n day payee ss) new_m new_t kept_m kept_t
-      by_case (Some k) e = record { tickets_m = new_m; replies_m = kept_m; m = one_known (with new_m kept_m) (asked_new n day payee ss) (ap is_some e); alike = a; grown = omega arith }
+      by_case (Some k) e = record { tickets_m = new_m; replies_m = kept_m; m = content_after-known (with new_m kept_m) (asked_new n day payee ss) (ap is_some e); alike = a; grown = omega arith }
       by_case None e = record {
         tickets_m = added new_m day payee ss (refusal new_m day payee ss);
         replies_m = finite.insert kept_m n (entry new_m day payee ss);
@@ -472,7 +471,7 @@ module _ (S : Content) (mine : SerialNumber → Bool) (own : Number → Bool) wh
         ≡ map (unnumbered before) (told_at (with new_t kept_t) (asked_by teller merge))
 
   go_on : (C D E : Content) (q : Request) (qs : List Request) → one C q ≡ D → content_after D qs ≡ E → content_after C (q ∷ qs) ≡ E
-  go_on C D E q qs step rest = content_step C q qs ∙ ap (λ T. content_after T qs) step ∙ rest
+  go_on C D E q qs step rest = content_after-first C q qs ∙ ap (λ T. content_after T qs) step ∙ rest
 
   -- what a turn leaves to be shown, where the test of the teller is known
   abbrev own_list : Bool → Asked → ℕ → List Asked → List Request
@@ -567,7 +566,7 @@ module _ (S : Content) (mine : SerialNumber → Bool) (own : Number → Bool) wh
   made_one Q n (Redeem day payee ss) is makes new kept h = by_case (finite.get kept n) refl
     where
       by_case : (x : Option Kept) → finite.get kept n ≡ x → Made Q (asked_new n day payee ss ∷ []) new kept
-      by_case (Some k) e = record { tickets = new; replies = kept; is = one_known (with new kept) (asked_new n day payee ss) (ap is_some e); all = h }
+      by_case (Some k) e = record { tickets = new; replies = kept; is = content_after-known (with new kept) (asked_new n day payee ss) (ap is_some e); all = h }
       by_case None e = record {
         tickets = added new day payee ss (refusal new day payee ss);
         replies = finite.insert kept n (entry new day payee ss);
@@ -594,4 +593,4 @@ module _ (S : Content) (mine : SerialNumber → Bool) (own : Number → Bool) wh
   told_is T earlier [] = refl
   told_is T earlier (q ∷ qs) =
       (λ i. sym (answer_after T earlier q) i ∷ told_is T (earlier ++ q ∷ []) qs i)
-      ∙ ap (λ C. answer (content_after T earlier) [] q ∷ told_at C qs) (sym (content_append T earlier (q ∷ [])))
+      ∙ ap (λ C. answer (content_after T earlier) [] q ∷ told_at C qs) (sym (content_after-append T earlier (q ∷ [])))

@@ -5,13 +5,12 @@ use Rattle.std.proofs.lemmas.List.Sums.{length-filter}
 use Rattle.std.specs.FinMap as finite
 use Rattle.ee_acts.specs.declared.acts.Request.{Request}
 use Rattle.ee_acts.specs.Numbers.{Number, same_number, number_of}
-use Rattle.ee_acts.proofs.RequestNumbers.{number_is, number_self}
+use Rattle.ee_acts.proofs.Lemmas.Maps.{same_number-is, same_number-self, all_weaker}
 use Rattle.ee_acts.specs.Repeats.{Content, firsts, once}
 use Rattle.ee_acts.specs.Contents.{content_after}
 use Rattle.ee_acts.specs.Answers.{answer, is_of}
 use Rattle.ee_laws.specs.Events.{Event, World, begun, one, may_after, decided, unserved, stopped, Happens}
 use Rattle.ee_laws.specs.Stops.{CanHappen, LeadsOn, sent, acknowledged, AreDone, StillTold, StandOnce, HoldsAcknowledged, SettlesByRetries}
-use Rattle.ee_acts.proofs.Maps.{all_map}
 use Rattle.ee_laws.specs.Events.Event.{Deliver, Lose, Unserved, Stop_within, Stop_between, Reopen}
 use Rattle.ee_laws.proofs.Elements.{at_head, in_tail}
 use Rattle.ee_laws.proofs.Survival.{survives}
@@ -20,7 +19,7 @@ abbrev Holds : List Request → List Request → List Request → Type 0
 Holds done told asked = AllByRecursion (Contains done) told × AllByRecursion (Contains asked) done
 
 holds_more : (q : Request) (done told asked : List Request) → Holds done told asked → Holds (q ∷ done) told (q ∷ asked)
-holds_more q done told asked h = (all_map _ _ (in_tail q done) told h.0, (at_head q asked, all_map _ _ (in_tail q asked) done h.1))
+holds_more q done told asked h = (all_weaker _ _ (in_tail q done) told h.0, (at_head q asked, all_weaker _ _ (in_tail q asked) done h.1))
 
 pub acknowledged_done : HoldsAcknowledged
 acknowledged_done [] done h = (tt, subst (AllByRecursion (Contains [])) (sym h) tt)
@@ -32,11 +31,11 @@ acknowledged_done (Lose q ∷ events) done (rest, is, h) =
 acknowledged_done (Unserved q ∷ events) done (inl (rest, is, h)) =
     subst (λ d. Holds d (acknowledged events) (q ∷ sent events)) (sym is) (holds_more q rest (acknowledged events) (sent events) (acknowledged_done events rest h))
 acknowledged_done (Unserved q ∷ events) done (inr h) =
-    let m = acknowledged_done events done h in (m.0, all_map _ _ (in_tail q (sent events)) done m.1)
+    let m = acknowledged_done events done h in (m.0, all_weaker _ _ (in_tail q (sent events)) done m.1)
 acknowledged_done (Stop_within q ∷ events) done (inl (rest, is, h)) =
     subst (λ d. Holds d (acknowledged events) (q ∷ sent events)) (sym is) (holds_more q rest (acknowledged events) (sent events) (acknowledged_done events rest h))
 acknowledged_done (Stop_within q ∷ events) done (inr h) =
-    let m = acknowledged_done events done h in (m.0, all_map _ _ (in_tail q (sent events)) done m.1)
+    let m = acknowledged_done events done h in (m.0, all_weaker _ _ (in_tail q (sent events)) done m.1)
 acknowledged_done (Stop_between ∷ events) done h = acknowledged_done events done h
 acknowledged_done (Reopen ∷ events) done h = acknowledged_done events done h
 
@@ -85,7 +84,7 @@ stands_no_more known n (q ∷ all) h =
     by_case : (b c : Bool) → known (number_of q) ≡ b → same_number n (number_of q) ≡ c → filter (is_of n) (firsts known all) ≡ [] → later known n q all ≡ []
         → filter (is_of n) (cond b (firsts known all) (q ∷ firsts (λ m. known m || same_number m (number_of q)) all)) ≡ []
     by_case true c e same skip none = skip
-    by_case false true e same skip none = absurd (true≢false (sym h ∙ ap known (number_is n (number_of q) same) ∙ e))
+    by_case false true e same skip none = absurd (true≢false (sym h ∙ ap known (same_number-is n (number_of q) same) ∙ e))
     by_case false false e apart skip none = ap (λ c. cond c (q ∷ later known n q all) (later known n q all)) apart ∙ none
 
 -- a new number stands once
@@ -100,7 +99,7 @@ stands_once known n (q ∷ all) new h =
         → ((known n || same_number n (number_of q)) ≡ false → list_any (is_of n) all ≡ true → IsOne (later known n q all))
         → ((known n || same_number n (number_of q)) ≡ true → later known n q all ≡ [])
         → IsOne (filter (is_of n) (cond b (firsts known all) (q ∷ firsts (λ m. known m || same_number m (number_of q)) all)))
-    by_case true true e same skip more none = absurd (true≢false (sym e ∙ ap known (sym (number_is n (number_of q) same)) ∙ new))
+    by_case true true e same skip more none = absurd (true≢false (sym e ∙ ap known (sym (same_number-is n (number_of q) same)) ∙ new))
     by_case true false e apart skip more none = skip (sym (ap (λ c. c || list_any (is_of n) all) apart) ∙ h)
     by_case false true e same skip more none =
         (q, ap (λ c. cond c (q ∷ later known n q all) (later known n q all)) same ∙ ap (λ l. q ∷ l) (none (ap (λ c. known n || c) same ∙ or_true (known n))))
@@ -117,7 +116,7 @@ any_append n (x ∷ xs) ys h = ap (λ b. is_of n x || b) (any_append n xs ys h) 
 
 any_of : (q : Request) (xs : List Request) → Contains xs q → list_any (is_of (number_of q)) xs ≡ true
 any_of q [] c = absurd (omega (arith, c.1))
-any_of q (x ∷ xs) (zero, below, is) = ap (λ b. b || list_any (is_of (number_of q)) xs) (ap (λ (r : Request). same_number (number_of q) (number_of r)) is ∙ number_self (number_of q))
+any_of q (x ∷ xs) (zero, below, is) = ap (λ b. b || list_any (is_of (number_of q)) xs) (ap (λ (r : Request). same_number (number_of q) (number_of r)) is ∙ same_number-self (number_of q))
 any_of q (x ∷ xs) (suc k, below, is) = ap (λ b. is_of (number_of q) x || b) (any_of q xs (k, omega (arith, below), is)) ∙ or_true (is_of (number_of q) x)
 
 stand_once : (start : Content) (done again asked : List Request) → AllByRecursion (Contains again) asked → StandOnce start (done ++ again) asked

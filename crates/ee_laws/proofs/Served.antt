@@ -2,7 +2,7 @@
 use Rattle.std.proofs.Common.{[], ◌∷◌, ◌++◌, Ok, Err, refl, sym, ap, ◌∙◌, append-nil, append_assoc}
 use Rattle.ee_acts.specs.Contents.{content_after}
 use Rattle.ee_acts.specs.Answers.{answer, served}
-use Rattle.ee_acts.proofs.Repeats.{content_append}
+use Rattle.ee_acts.proofs.Lemmas.Requests.{content_after-append}
 use Rattle.ee_laws.specs.Events.{one, decided, unserved}
 use Rattle.ee_laws.specs.Runs.{TellsServed, RunsAsEvents}
 
@@ -19,7 +19,7 @@ run_happens S before [] (a ∷ answers) w up is h = absurd h
 run_happens S before (q ∷ qs) [] w up is h = absurd h
 run_happens S before (q ∷ qs) (Ok reply ∷ answers) w up is h =
     let u = decided w q (record { request = q; reply = answer w.now [] q } ∷ w.told) in
-    let r = run_happens S (before ++ q ∷ []) qs answers u refl (ap (λ C. one C q) is ∙ content_append S before (q ∷ [])) h.1 in
+    let r = run_happens S (before ++ q ∷ []) qs answers u refl (ap (λ C. one C q) is ∙ content_after-append S before (q ∷ [])) h.1 in
     (r.0, (u, (up, refl), r.1), r.2 ∙ ap (content_after S) (append_assoc before (q ∷ []) (served qs answers)))
 run_happens S before (q ∷ qs) (Err e ∷ answers) w up is h =
     let r = run_happens S before qs answers (unserved w q) up is h in (r.0, (unserved w q, (up, refl), r.1), r.2)

@@ -9,15 +9,13 @@ use Rattle.ee_acts.specs.declared.acts.Request.{Request}
 use Rattle.ee_acts.specs.declared.changes.Kept.{Kept}
 use Rattle.ee_acts.specs.Outcomes.{act}
 use Rattle.ee_acts.specs.Numbers.{Number, same_number, number_of}
-use Rattle.ee_acts.proofs.RequestNumbers.{number_is, number_self}
+use Rattle.ee_acts.proofs.Lemmas.Maps.{same_number-is, same_number-self, all_weaker}
+use Rattle.ee_acts.proofs.Lemmas.Requests.{content_after-known, content_after-new, get_kept-own, content_after-first, answer_after, get_kept-insert, same_act-self}
 use Rattle.ee_acts.specs.Repeats.{Content}
 use Rattle.ee_acts.specs.Contents.{content_after}
 use Rattle.ee_acts.specs.Answers.{answer, answer_for, reply_again}
-use Rattle.ee_acts.proofs.Repeats.{one_known, one_new, kept_own, content_step, answer_after, get_more}
 use Rattle.ee_laws.specs.Events.{Event, Told, World, begun, one, decided, stopped, Leads, Happens}
 use Rattle.ee_laws.specs.Stops.{BeginsWith, AreDone, StillTold, IsOfEvents, SurvivesStops}
-use Rattle.ee_acts.proofs.Maps.{all_map}
-use Rattle.ee_acts.proofs.SameActs.{act_self}
 use Rattle.ee_laws.specs.Events.Event.{Deliver, Lose, Unserved, Stop_within, Stop_between, Reopen}
 use Rattle.ee_laws.proofs.Elements.{contained}
 
@@ -26,12 +24,12 @@ stays : (C : Content) (q : Request) (n : Number) (k : Kept) → finite.get C.kep
 stays C q n k had = by_case _ refl
   where
     other : (b : Bool) → same_number n (number_of q) ≡ b → finite.contains_key C.kept (number_of q) ≡ false → cond b (Some (record { act = q.act; reply = (act C.books q.act).reply })) (finite.get C.kept n) ≡ Some k
-    other true same new = absurd (true≢false (sym (ap is_some had) ∙ ap (finite.contains_key C.kept) (number_is n (number_of q) same) ∙ new))
+    other true same new = absurd (true≢false (sym (ap is_some had) ∙ ap (finite.contains_key C.kept) (same_number-is n (number_of q) same) ∙ new))
     other false apart new = had
 
     by_case : (b : Bool) → finite.contains_key C.kept (number_of q) ≡ b → finite.get (one C q).kept n ≡ Some k
-    by_case true known = ap (λ T. finite.get T.kept n) (one_known C q known) ∙ had
-    by_case false new = ap (λ T. finite.get T.kept n) (one_new C q new) ∙ get_more C.kept (number_of q) _ n ∙ other (same_number n (number_of q)) refl new
+    by_case true known = ap (λ T. finite.get T.kept n) (content_after-known C q known) ∙ had
+    by_case false new = ap (λ T. finite.get T.kept n) (content_after-new C q new) ∙ get_kept-insert C.kept (number_of q) _ n ∙ other (same_number n (number_of q)) refl new
 
 -- a content answers as a reply was told
 record Honours (C : Content) (t : Told) : Type 0 where
@@ -62,8 +60,8 @@ told_now C q = by_case (finite.get C.kept (number_of q)) refl
         let new : Kept = record { act = q.act; reply = (act C.books q.act).reply } in
         record {
           kept = new;
-          is = kept_own C q (number_of q) (ap is_some is) (number_self (number_of q));
-          reply = ap (answer_for C [] q) is ∙ sym (ap (λ b. cond b new.reply (Refused NumberReused)) (act_self q.act));
+          is = get_kept-own C q (number_of q) (ap is_some is) (same_number-self (number_of q));
+          reply = ap (answer_for C [] q) is ∙ sym (ap (λ b. cond b new.reply (Refused NumberReused)) (same_act-self q.act));
         }
 
 -- a kept number's reply is told again by each content that keeps it so
@@ -80,7 +78,7 @@ known_as (Some x) h = (x, refl)
 
 module _ (Goal : Content → Type 0) (Rest : List Request → Type 0) where
   after_one : (C : Content) (q : Request) → ((done : List Request) → BeginsWith q Rest done → Goal (content_after C done)) → (done : List Request) → Rest done → Goal (content_after (one C q) done)
-  after_one C q ends done h = subst Goal (content_step C q done) (ends (q ∷ done) (begins q Rest done h))
+  after_one C q ends done h = subst Goal (content_after-first C q done) (ends (q ∷ done) (begins q Rest done h))
 
   decided_now : (now : Content) (told more : List Told) (q : Request) → Fine Goal (BeginsWith q Rest) now told now → AllByRecursion (Honours (one now q)) more
       → Fine Goal Rest (one now q) more (one now q)
@@ -92,9 +90,9 @@ module _ (Goal : Content → Type 0) (Rest : List Request → Type 0) where
   decided_may now told more q kept is honours C h =
       let here = h.keeps (number_of q) kept is in
       record {
-        keeps = λ n k had. h.keeps n k (sym (ap (λ T. finite.get T.kept n) (one_known now q (ap is_some is))) ∙ had);
+        keeps = λ n k had. h.keeps n k (sym (ap (λ T. finite.get T.kept n) (content_after-known now q (ap is_some is))) ∙ had);
         honours = honours C here h.honours;
-        ends = λ done r. subst (λ T. Goal (content_after T done)) (one_known C q (ap is_some here)) (after_one C q h.ends done r);
+        ends = λ done r. subst (λ T. Goal (content_after T done)) (content_after-known C q (ap is_some here)) (after_one C q h.ends done r);
       }
 
   decided_fine : (w : World) (q : Request) (more : List Told) → AllFine Goal (BeginsWith q Rest) w
@@ -109,7 +107,7 @@ module _ (Goal : Content → Type 0) (Rest : List Request → Type 0) where
       by_case : (b : Bool) → finite.contains_key w.now.kept (number_of q) ≡ b → AllFine Goal Rest (record { now = one w.now q; may = cond b w.may (one w.now q ∷ []); told = more; up = true })
       by_case true known =
           let k = known_as (finite.get w.now.kept (number_of q)) known in
-          record { now = first; may = all_map _ _ (decided_may w.now w.told more q k.0 k.1 (again k.0 k.1)) w.may h.may }
+          record { now = first; may = all_weaker _ _ (decided_may w.now w.told more q k.0 k.1 (again k.0 k.1)) w.may h.may }
       by_case false new = record { now = first; may = (first, tt) }
 
   -- what isn't decided leaves what was, or is decided by a stop
@@ -119,7 +117,7 @@ module _ (Goal : Content → Type 0) (Rest : List Request → Type 0) where
   put_in : (now : Content) (told : List Told) (q : Request) → Fine Goal (λ done. BeginsWith q Rest done ⊎ Rest done) now told now → Fine Goal Rest now told (one now q)
   put_in now told q h = record {
     keeps = λ n k had. stays now q n k had;
-    honours = all_map _ _ (honours_more now q) told h.honours;
+    honours = all_weaker _ _ (honours_more now q) told h.honours;
     ends = after_one now q (λ done b. h.ends done (inl b));
   }
 
@@ -132,19 +130,19 @@ module _ (Goal : Content → Type 0) (Rest : List Request → Type 0) where
 step : (Goal : Content → Type 0) (events : List Event) (w u : World) (e : Event) → AllFine Goal (AreDone (e ∷ events)) w → Leads w e u → AllFine Goal (AreDone events) u
 step Goal events w u (Deliver q) h l =
     subst (AllFine Goal (AreDone events)) (sym l.1) (decided_fine Goal (AreDone events) w q _ h
-    (told_now w.now q, all_map _ _ (honours_more w.now q) w.told h.now.honours)
+    (told_now w.now q, all_weaker _ _ (honours_more w.now q) w.told h.now.honours)
     (λ k is C here before. (told_kept w.now C q k is here, before)))
 step Goal events w u (Lose q) h l =
     subst (AllFine Goal (AreDone events)) (sym l.1) (decided_fine Goal (AreDone events) w q w.told h
-    (all_map _ _ (honours_more w.now q) w.told h.now.honours) (λ k is C here before. before))
+    (all_weaker _ _ (honours_more w.now q) w.told h.now.honours) (λ k is C here before. before))
 step Goal events w u (Unserved q) h l =
     subst (AllFine Goal (AreDone events)) (sym l.1) (record {
       now = left_out Goal (AreDone events) w.now w.told q w.now h.now;
-      may = (put_in Goal (AreDone events) w.now w.told q h.now, all_map _ _ (left_out Goal (AreDone events) w.now w.told q) w.may h.may);
+      may = (put_in Goal (AreDone events) w.now w.told q h.now, all_weaker _ _ (left_out Goal (AreDone events) w.now w.told q) w.may h.may);
     })
 step Goal events w u (Stop_within q) h l =
     subst (AllFine Goal (AreDone events)) (sym l.3) (stopped_fine Goal (AreDone events) w l.1
-    (contained _ (one w.now q ∷ w.may) l.1 (put_in Goal (AreDone events) w.now w.told q h.now, all_map _ _ (left_out Goal (AreDone events) w.now w.told q) w.may h.may) l.2))
+    (contained _ (one w.now q ∷ w.may) l.1 (put_in Goal (AreDone events) w.now w.told q h.now, all_weaker _ _ (left_out Goal (AreDone events) w.now w.told q) w.may h.may) l.2))
 step Goal events w u Stop_between h l = subst (AllFine Goal (AreDone events)) (sym l.2) (stopped_fine Goal (AreDone events) w l.0 (contained _ w.may l.0 h.may l.1))
 step Goal events w u Reopen h l = subst (AllFine Goal (AreDone events)) (sym l.1) (record { now = h.now; may = h.may })
 
@@ -170,4 +168,4 @@ begin start events = let first : Fine (Made start events) (AreDone events) start
 pub survives : SurvivesStops
 survives start events w h =
     let fine = run (Made start events) events (begun start) w (begin start events) h in
-    record { content = of_events start events w.now w.told w.now fine.now; others = all_map _ _ (of_events start events w.now w.told) w.may fine.may }
+    record { content = of_events start events w.now w.told w.now fine.now; others = all_weaker _ _ (of_events start events w.now w.told) w.may fine.may }

@@ -2,7 +2,7 @@
 use Rattle.std.proofs.Common.{◌≡◌, IsTrue, sym, ap, subst, ◌∙◌}
 use Rattle.sqlite.specs.Effect.{Database}
 use Rattle.sqlite.specs.State.{State}
-use Rattle.ee_tables.proofs.TransactionLemmas.{begun}
+use Rattle.ee_tables.proofs.Lemmas.Transactions.{begun}
 use Rattle.ee_opening.specs.Making.{IsBlank, SeesTables, no_tables}
 
 begun_blank : (old : State) → (IsTrue old.is_open → old.now ≡ old.committed) → IsBlank old → SeesTables (begun old) no_tables

@@ -8,7 +8,7 @@ use Rattle.sqlite.specs.Query.{output}
 use Rattle.sqlite.specs.Tree.{Trees}
 use Rattle.ee_tables.specs.Keyed.{pair_cmp, row_of, stored, ReadAlike, HoldsMap, HoldsPairs}
 use Rattle.ee_tables.specs.Rows.{DeskRow, BondRow, TicketRow, PaidRow, BatchRow, ReplyRow, desk_columns, rate_columns, bond_columns, ticket_columns, paid_columns, batch_columns, reply_columns}
-use Rattle.ee_tables.proofs.Meaning.{by_column}
+use Rattle.ee_tables.proofs.Lemmas.Rows.{by_column}
 use Rattle.ee_opening.specs.declared.entries.StoredDesk.{StoredDesk}
 use Rattle.ee_opening.specs.declared.entries.StoredRate.{StoredRate}
 use Rattle.ee_opening.specs.declared.entries.StoredBond.{StoredBond}

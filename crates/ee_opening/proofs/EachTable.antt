@@ -16,7 +16,7 @@ use Rattle.sqlite_keyed.proofs.RuleLemmas.{first_of_both}
 use Rattle.ee_tables.specs.Tables.{counter_schema, desk, rates, bonds, tickets, paid, batches, replies}
 use Rattle.ee_tables.specs.Keyed.{pair_cmp, row_of, stored, ReadAlike, HoldsMap, HoldsPairs}
 use Rattle.ee_tables.specs.Rows.{DeskRow, BondRow, TicketRow, PaidRow, BatchRow, ReplyRow, optional, desk_columns, rate_columns, bond_columns, ticket_columns, paid_columns, batch_columns, reply_columns}
-use Rattle.ee_tables.proofs.HoldsLemmas.{pair_total}
+use Rattle.ee_tables.proofs.Lemmas.Rows.{pair_total}
 use Rattle.ee_opening.specs.declared.entries.StoredDesk.{StoredDesk}
 use Rattle.ee_opening.specs.declared.entries.StoredRate.{StoredRate}
 use Rattle.ee_opening.specs.declared.entries.StoredBond.{StoredBond}

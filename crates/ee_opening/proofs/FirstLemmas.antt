@@ -24,8 +24,7 @@ use Rattle.sqlite.proofs.Callers.{IsPlain, command_of, statement_of, runs_as, on
 use Rattle.ee_tables.specs.Tables.{desk, counter_schema}
 use Rattle.ee_tables.specs.Keyed.{pair_cmp, row_of, AreRows, HoldsTable, HoldsMap}
 use Rattle.ee_tables.specs.Rows.{desk_columns, Holds}
-use Rattle.ee_tables.proofs.KeyedLemmas.{adds_keyed}
-use Rattle.ee_tables.proofs.WriteLemmas.{cast_int, cast_null, went, same_value}
+use Rattle.ee_tables.proofs.Lemmas.Rows.{adds_keyed, cast_int, cast_null, went_on, same_ok}
 use Rattle.ee_opening.specs.Making.{first_desk, first_rows}
 
 abbrev pub desk_row_text : List ℕ
@@ -73,12 +72,12 @@ adds_first old new count has none h =
     let command = Insert 0 (Values terms 5) in
     let w = runs_as desk_row_text [] old new counter_schema has command desk_row_is desk_row_plain count h in
     let text = statement_of desk_row_text (understood counter_schema desk_row_text) in
-    let done = went (subst (λ s. Does old.step_limit (mode_of old) [] (record old.now { schema = s }) text None command (Ok (w.tally, new.now))) has w.changed) in
-    let now = ap (λ (p : Tally × Database). p.1) (same_value (went (went done.2).2).2) in
-    let given_rows = went done.1 in
-    let written = went (went given_rows.2).2 in
-    let counted = went written.2 in
-    let trees : done.0.trees ≡ written.0 = ap (λ (it : Written). it.trees) (same_value counted.2) ∙ same_value counted.1 in
+    let done = went_on (subst (λ s. Does old.step_limit (mode_of old) [] (record old.now { schema = s }) text None command (Ok (w.tally, new.now))) has w.changed) in
+    let now = ap (λ (p : Tally × Database). p.1) (same_ok (went_on (went_on done.2).2).2) in
+    let given_rows = went_on done.1 in
+    let written = went_on (went_on given_rows.2).2 in
+    let counted = went_on written.2 in
+    let trees : done.0.trees ≡ written.0 = ap (λ (it : Written). it.trees) (same_ok counted.2) ∙ same_ok counted.1 in
     let edit = edit_of db desk [] Chosen 0 given_rows.0 in
     let applied = one_step counter_schema _ db written.0 edit refl written.1 in
     let row = row_of desk_columns (pos 1, (1, first_desk)) in

@@ -12,7 +12,7 @@ use Rattle.sqlite.specs.declared.types.Value.TheVariants.{Null}
 use Rattle.sqlite_value.specs.Order.{Row, column}
 use Rattle.sqlite_trees.specs.Tree.{IsAscending}
 use Rattle.sqlite_keyed.proofs.ListLemmas.{along_permutation, all_unmap, all_map, map_back, map-map}
-use Rattle.ee_tables.proofs.PairLemmas.{exchanged}
+use Rattle.ee_tables.proofs.Lemmas.Rows.{first_two_exchanged}
 use Rattle.ee_opening.specs.Reading.{rises}
 use Rattle.ee_tables.specs.Keyed.{ReadAlike, AreRows, AreApart, HoldsTable}
 
@@ -67,7 +67,7 @@ module _ {X : Type 0} where
   skip x xs ys h = (IsPermutation-cons x _ _ h.0, λ apart. (alls (λ y. x ≢ y) xs ys h.0 apart.0, h.1 apart.1))
 
   turn : (x y : X) (xs : List X) → StayApart (x ∷ y ∷ xs) (y ∷ x ∷ xs)
-  turn x y xs = (exchanged x y xs, λ apart. (((λ e. apart.0.0 (sym e)), apart.1.0), (apart.0.1, apart.1.1)))
+  turn x y xs = (first_two_exchanged x y xs, λ apart. (((λ e. apart.0.0 (sym e)), apart.1.0), (apart.0.1, apart.1.1)))
 
   -- in whatever order
   pub apart_permuted : (xs ys : List X) → IsPermutation xs ys → AllApart xs → AllApart ys

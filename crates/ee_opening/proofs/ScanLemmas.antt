@@ -17,7 +17,7 @@ use Rattle.sqlite.specs.Listing.{understood}
 use Rattle.sqlite_schema.specs.declared.command.Returning.{Returning}
 use Rattle.sqlite.specs.State.{State, Shown, ShowsRows, KeepsCommit}
 use Rattle.sqlite.proofs.InsideLemmas.{unchanged_keeps}
-use Rattle.ee_tables.proofs.KeepLemmas.{write_keeps}
+use Rattle.ee_tables.proofs.Lemmas.Transactions.{write_keeps}
 use Rattle.sqlite.proofs.Callers.{IsPlain, command_of, reads_as}
 use Rattle.ee_opening.specs.Reading.{whole_table, IsQuery, AsksForAll, ShowsAll, shown_by}
 

@@ -20,7 +20,7 @@ use Rattle.sqlite_sql.specs.Ops.{is_null}
 use Rattle.sqlite_keyed.proofs.ListLemmas.{map-map, map_same, map_back, all_unmap}
 use Rattle.sqlite_keyed.proofs.RuleLemmas.{first_of_both, second_of_both}
 use Rattle.ee_tables.specs.Keyed.{pair_cmp, row_of, stored, ReadAlike, HoldsMap, HoldsPairs}
-use Rattle.ee_tables.proofs.PairLemmas.{both_parts}
+use Rattle.ee_tables.proofs.Lemmas.Rows.{both_parts}
 use Rattle.ee_opening.specs.Reading.{rises, shown_by}
 use Rattle.ee_opening.specs.Shown.{pair_lt}
 use Rattle.ee_opening.proofs.FoundLemmas.{alls, AllApart, apart_permuted, each_shown, holds_table}

@@ -20,11 +20,7 @@ use Rattle.sqlite_value.proofs.OrderLemmas.{value_cmp-Int, then-Equal}
 use Rattle.sqlite_keyed.proofs.ListLemmas.{map-map, map_same, map_back, all_weaker, ascending-map, ascending_weaker, filter_all, all_of}
 use Rattle.ee_tables.specs.Keyed.{pair_cmp, row_of, stored, ReadAlike, HoldsMap, HoldsPairs}
 use Rattle.ee_tables.specs.Rows.{ReplyRow, reply_columns}
-use Rattle.ee_tables.proofs.Meaning.{no_limit, by_column}
-use Rattle.ee_tables.proofs.PairLemmas.{both_parts}
-use Rattle.ee_tables.proofs.SelectLemmas.{cmp_pos, matched}
-use Rattle.ee_tables.proofs.ReadLemmas.{keyed_same}
-use Rattle.ee_tables.proofs.OrderLemmas.{keys_rise, in_order}
+use Rattle.ee_tables.proofs.Lemmas.Rows.{no_limit, by_column, both_parts, cmp_pos, rows_that_match, keyed_same, keys_rise, rows_in_order}
 use Rattle.ee_opening.specs.Reading.{rises, whole_table, CanBeRead}
 use Rattle.ee_opening.specs.Shown.{pair_lt, keyed_shown, pair_shown, IsKeyed, IsPaired, IsReply, IsRowid, IsWritten, AreWritten}
 use Rattle.ee_opening.specs.declared.entries.Rowid.{Rowid}
@@ -71,7 +67,7 @@ module _ {X : Type 0} (columns : X → Row) (uncolumns : Row → X) (back : (x :
     shows_keyed : (rows : List Row) → IsAnswer keyed_query (overlay db []) [] rows → rows ≡ map (keyed_shown columns) (entries m)
     shows_keyed rows a =
         let every = filter_all (λ (e : ℕ × X). true) (entries m) (all_of _ (λ e. refl) (entries m)) in
-        in_order (λ p. row_of columns (pos p.1.0, p.1)) (λ p. p.1) tree [] terms (by_column 0 ∷ []) no_limit [] (λ e. true) keyed_out (λ r p one. refl) shows db rows holds.table.numbered (entries m) read
+        rows_in_order (λ p. row_of columns (pos p.1.0, p.1)) (λ p. p.1) tree [] terms (by_column 0 ∷ []) no_limit [] (λ e. true) keyed_out (λ r p one. refl) shows db rows holds.table.numbered (entries m) read
         (keyed_same columns (db tree) holds.table.numbered holds.keyed holds.table.are) holds.table.same
         (subst (IsAscending _) (sym every) (ascending_weaker _ _ keyed_up _ (keys_rise nat_cmp (entries m) (entries_sorted m)))) a
         ∙ ap (λ es. map (λ (o : Output). o.1) (map keyed_out es)) every ∙ map-map (λ (o : Output). o.1) keyed_out (entries m)
@@ -147,7 +143,7 @@ module _ {X : Type 0} (columns : X → Row) (uncolumns : Row → X) (back : (x :
     shows_pairs : (rows : List Row) → IsAnswer pair_query (overlay db []) [] rows → rows ≡ map (pair_shown columns) (entries m)
     shows_pairs rows a =
         let every = filter_all (λ (e : (ℕ × ℕ) × X). true) (entries m) (all_of _ (λ e. refl) (entries m)) in
-        in_order (stored columns) (λ p. p.1) tree [] terms (by_column 1 ∷ by_column 2 ∷ []) no_limit [] (λ e. true) pair_out (λ r p one. refl) shows db rows holds.numbered (entries m) read holds.are holds.same
+        rows_in_order (stored columns) (λ p. p.1) tree [] terms (by_column 1 ∷ by_column 2 ∷ []) no_limit [] (λ e. true) pair_out (λ r p one. refl) shows db rows holds.numbered (entries m) read holds.are holds.same
         (subst (IsAscending _) (sym every) (ascending_weaker _ _ pair_up _ (keys_rise pair_cmp (entries m) (entries_sorted m)))) a
         ∙ ap (λ es. map (λ (o : Output). o.1) (map pair_out es)) every ∙ map-map (λ (o : Output). o.1) pair_out (entries m)
 
@@ -219,7 +215,7 @@ module _ (tree : ℕ) where
     can_read_rowids rows a =
         let every = filter_all (λ (p : ℤ × ((ℕ × ℕ) × X)). true) holds.numbered (all_of _ (λ p. refl) holds.numbered) in
         let kept : a.kept ≡ map rowid_out ids = a.distinct ∙ ap (map (output rowid_query)) (a.grouped ∙ ap (flat_map (λ (r : Row). ([] ∷ r ∷ []) ∷ [])) read)
-        ∙ matched (stored columns) [] [] (λ p. true) (output rowid_query) (λ p. rowid_out p.0) (λ r p one. refl) shows_rowid (db tree) holds.numbered holds.are
+        ∙ rows_that_match (stored columns) [] [] (λ p. true) (output rowid_query) (λ p. rowid_out p.0) (λ r p one. refl) shows_rowid (db tree) holds.numbered holds.are
         ∙ ap (map (λ (p : ℤ × ((ℕ × ℕ) × X)). rowid_out p.0)) every ∙ sym (map-map rowid_out (λ p. p.0) holds.numbered) in
         let same = subst (λ os. IsPermutation os a.ordered) kept a.same in
         let each = alls _ (map rowid_out ids) a.ordered same (they_are ids) in

@@ -11,8 +11,7 @@ use Rattle.sqlite.specs.State.{State, Shown}
 use Rattle.sqlite.proofs.Callers.{IsPlain, command_of, reads_as}
 use Rattle.ee_tables.specs.Tables.{counter_schema}
 use Rattle.ee_tables.specs.Rows.{Rows, DeskRow, Holds, desk_columns}
-use Rattle.ee_tables.proofs.Meaning.{by_number}
-use Rattle.ee_tables.proofs.ReadLemmas.{found_by_number}
+use Rattle.ee_tables.proofs.Lemmas.Rows.{by_number, found_by_number}
 use Rattle.ee_opening.specs.Opening.{version_shown, versions_in, IsFirstVersion, IsOtherVersion}
 
 abbrev pub version_text : List ℕ

@@ -7,7 +7,7 @@ use Rattle.sqlite.proofs.StateLemmas.{survives_then}
 use Rattle.sqlite.proofs.InsideLemmas.{unchanged_keeps, keeps_then}
 use Rattle.ee_tables.specs.Keyed.{pair_cmp}
 use Rattle.ee_tables.specs.Rows.{Rows, Holds, Has, IsInside}
-use Rattle.ee_tables.proofs.TransactionLemmas.{begun}
+use Rattle.ee_tables.proofs.Lemmas.Transactions.{begun}
 use Rattle.ee_opening.specs.Reading.{IsSoundNow}
 use Rattle.ee_opening.specs.declared.whole.AllRows.{AllRows}
 use Rattle.ee_opening.specs.Shown.{desk_map, rate_map, bond_map, ticket_map, line_map, batch_map, reply_map}

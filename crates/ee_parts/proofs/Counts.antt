@@ -14,7 +14,7 @@ use Rattle.std.specs.Cmp.{unsigned_tied}
 use Rattle.ee_acts.specs.declared.replies.Ticket.{Ticket}
 use Rattle.ee_acts.specs.PlainBooks.{of_day, bonds_on, total_of}
 use Rattle.ee_decide.specs.declared.views.DayCounts.{DayCounts}
-use Rattle.ee_acts.proofs.Orders.{all_append, all_filter}
+use Rattle.ee_acts.proofs.Lemmas.Maps.{all_append, all_filter}
 use Rattle.ee_parts.specs.Days.{counts_at, counts_on, no_counts, counted, AreNothing, AreCounted, HasMore, IsSmall, HasSpace, HasRoom, FitCounts, FitDays}
 use Rattle.ee_parts.proofs.Walks.{taken_is, all_at, all_taken}
 

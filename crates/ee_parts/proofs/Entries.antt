@@ -14,7 +14,7 @@ use Rattle.ee_value.specs.declared.rates.RateRow.{RateRow}
 use Rattle.ee_calculator.specs.declared.bonds.Bond.{Bond}
 use Rattle.ee_acts.specs.declared.changes.Held.{Held}
 use Rattle.ee_acts.specs.Serials.{serial_cmp}
-use Rattle.ee_acts.proofs.Maps.{serials_total}
+use Rattle.ee_acts.proofs.Lemmas.Maps.{serials_total}
 use Rattle.ee_parts.specs.Checks.{InOrder, HaveRisingMonths, HaveRisingSerials, entry_of_row}
 use Rattle.ee_parts.specs.Marks.{unpaid}
 use Rattle.ee_parts.proofs.Walks.{taken_is}

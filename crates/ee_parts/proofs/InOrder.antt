@@ -4,7 +4,7 @@ use Rattle.std.specs.Option.{IfSome}
 use Rattle.std.specs.List.{AllByRecursion}
 use Rattle.ee_acts.specs.declared.replies.Batch.{Batch}
 use Rattle.ee_acts.specs.Sound.{open_days, last_of}
-use Rattle.ee_acts.proofs.Maps.{serials_total}
+use Rattle.ee_acts.proofs.Lemmas.Maps.{serials_total}
 use Rattle.ee_units.specs.Spelling.{SerialNumber}
 use Rattle.ee_parts.specs.Checks.{InOrder, IsAfter, IsBefore}
 use Rattle.ee_parts.proofs.Walks.{left_is}

@@ -1,10 +1,11 @@
-pub mod Walks
-pub mod InOrder
-pub mod Entries
-pub mod PaidMarks
-pub mod Payable
-pub mod Counts
-pub mod SortedRows
-pub mod LinePays
-pub mod SoundParts
-pub mod Making
+mod Walks
+mod InOrder
+mod Entries
+mod PaidMarks
+mod Payable
+mod Counts
+mod SortedRows
+mod LinePays
+mod SoundParts
+mod Making
+pub mod Lemmas

@@ -12,7 +12,7 @@ use Rattle.ee_acts.specs.declared.replies.Line.{Line}
 use Rattle.ee_acts.specs.declared.replies.Ticket.{Ticket}
 use Rattle.ee_acts.specs.Serials.{serial_cmp, same_serial}
 use Rattle.ee_acts.specs.PlainBooks.{ticket_of, names}
-use Rattle.ee_acts.proofs.Maps.{serials_total, exact_serials, serials_tied, serials_swap, serial_is, get_lookup}
+use Rattle.ee_acts.proofs.Lemmas.Maps.{serials_total, serials_exact, serials_tied, same_serial-swap, same_serial-is, get_lookup}
 use Rattle.ee_parts.specs.Marks.{bonds_held, held_at, AreMarked, marked}
 
 bond_if : (b : Bool) (h : Held) (o : Option Held) → cond b (Some h.bond) (option_map (λ x. x.bond) o) ≡ option_map (λ x. x.bond) (cond b (Some h) o)
@@ -32,7 +32,7 @@ bond_stays b n (Some h) = refl
 
 pub same_bonds : (es fs : List (SerialNumber × Held)) (pays : SerialNumber → Bool) (n : ℕ)
     → ((q : SerialNumber) → held_at fs q ≡ option_map (marked (pays q) n) (held_at es q)) → bonds_held fs ≡ bonds_held es
-same_bonds es fs pays n is = same_map serials_total exact_serials _ _ (λ q.
+same_bonds es fs pays n is = same_map serials_total serials_exact _ _ (λ q.
     get_bond fs q ∙ ap (option_map (λ h. h.bond)) (is q) ∙ bond_stays (pays q) n (held_at es q) ∙ sym (get_bond es q))
 
 unmarked : (n : ℕ) (o : Option Held) → option_map (marked false n) o ≡ o
@@ -42,14 +42,14 @@ unmarked n (Some h) = refl
 mark_case : (es fs : List (SerialNumber × Held)) (s : SerialNumber) (h : Held) (n : ℕ) (q : SerialNumber) (b : Bool) → held_at es s ≡ Some h → same_serial q s ≡ b
     → held_at fs q ≡ cond b (Some (record { bond = h.bond; ticket = Some n })) (held_at es q)
     → held_at fs q ≡ option_map (marked b n) (held_at es q)
-mark_case es fs s h n q true at same is = is ∙ ap (option_map (marked true n)) (sym (ap (held_at es) (serial_is q s same) ∙ at))
+mark_case es fs s h n q true at same is = is ∙ ap (option_map (marked true n)) (sym (ap (held_at es) (same_serial-is q s same) ∙ at))
 mark_case es fs s h n q false at same is = is ∙ sym (unmarked n (held_at es q))
 
 pub mark_one : (es fs : List (SerialNumber × Held)) (s : SerialNumber) (h : Held) (n : ℕ) → held_at es s ≡ Some h
     → ((q : SerialNumber) → held_at fs q ≡ cond (is_at (serial_cmp s) q) (Some (record { bond = h.bond; ticket = Some n })) (held_at es q))
     → (q : SerialNumber) → held_at fs q ≡ option_map (marked (same_serial q s) n) (held_at es q)
 mark_one es fs s h n at is q = mark_case es fs s h n q (same_serial q s) at refl
-    (is q ∙ ap (λ b. cond b (Some (record { bond = h.bond; ticket = Some n })) (held_at es q)) (serials_tied s q ∙ serials_swap s q))
+    (is q ∙ ap (λ b. cond b (Some (record { bond = h.bond; ticket = Some n })) (held_at es q)) (serials_tied s q ∙ same_serial-swap s q))
 
 or_push : (b c : Bool) (t u : Ticket) (o p : Option Ticket) → option_map (λ x. x.ticket) o ≡ option_or (option_map (λ x. x.ticket) p) (cond c (Some t.ticket) None)
     → option_map (λ x. x.ticket) (cond b (Some u) o) ≡ option_or (option_map (λ x. x.ticket) (cond b (Some u) p)) (cond c (Some t.ticket) None)
@@ -80,7 +80,7 @@ unpaid_of tickets q [] h e = absurd (true≢false (sym e))
 unpaid_of tickets q (line ∷ lines) h e = by_case (unpaid_of tickets q lines h.1) (same_serial q line.serial) refl e
   where
     by_case : (list_any (λ l. same_serial q l.serial) lines ≡ true → ticket_of tickets q ≡ None) → (b : Bool) → same_serial q line.serial ≡ b → (b || list_any (λ l. same_serial q l.serial) lines) ≡ true → ticket_of tickets q ≡ None
-    by_case later true same any = ap (ticket_of tickets) (serial_is q line.serial same) ∙ h.0
+    by_case later true same any = ap (ticket_of tickets) (same_serial-is q line.serial same) ∙ h.0
     by_case later false apart any = later any
 
 pub ticket_kept : (bonds new : List (SerialNumber × Held)) (tickets pushed : List Ticket) (t : Ticket)

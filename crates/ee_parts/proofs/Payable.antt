@@ -9,7 +9,7 @@ use Rattle.ee_acts.specs.declared.replies.Ticket.{Ticket}
 use Rattle.ee_acts.specs.Serials.{same_serial}
 use Rattle.ee_acts.specs.PlainBooks.{ticket_of}
 use Rattle.ee_acts.specs.Paid.{paid_lines}
-use Rattle.ee_acts.proofs.Maps.{serials_swap}
+use Rattle.ee_acts.proofs.Lemmas.Maps.{same_serial-swap}
 use Rattle.ee_parts.specs.Marks.{held_at, marked, IsFree, ArePayable, AreMarked}
 use Rattle.ee_parts.proofs.Walks.{left_is, taken_is}
 use Rattle.ee_parts.proofs.PaidMarks.{ticket_kept}
@@ -30,7 +30,7 @@ module _ (es fs : Entries) (line : Line) (n : ℕ) (marks : AreMarkedAt es fs li
   still_free : (other : Line) → IsFree (held_at fs other.serial) ↔ (IsFree (held_at es other.serial) × (same_serial line.serial other.serial ≡ false))
   still_free other =
       subst (λ (p : Option Held × Bool). IsFree p.0 ↔ (IsFree (held_at es other.serial) × (p.1 ≡ false)))
-      (λ i. (sym (marks other.serial) i, serials_swap other.serial line.serial i))
+      (λ i. (sym (marks other.serial) i, same_serial-swap other.serial line.serial i))
       (free_after (held_at es other.serial) (same_serial other.serial line.serial) n)
 
   back_free : (lines : List Line) → AllByRecursion (λ l. IsFree (held_at fs l.serial)) lines

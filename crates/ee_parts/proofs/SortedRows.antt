@@ -12,7 +12,7 @@ use Rattle.std.specs.declared.cmp.Ordering.{Ordering}
 use Rattle.std.specs.declared.cmp.Ordering.TheVariants.{Less, Equal, Greater}
 use Rattle.std.proofs.lemmas.Map.Lookups.{CmpEqualImpliesEq}
 use Rattle.std.proofs.lemmas.Bool.{ltb-true}
-use Rattle.ee_acts.proofs.Maps.{same_key}
+use Rattle.std.proofs.lemmas.Map.Views.{tells_apart}
 use Rattle.ee_parts.specs.Checks.{InOrder}
 
 and_T : (a b : Bool) → T a → T b → T (a && b)
@@ -78,7 +78,7 @@ module _ {K V : Type 0} {R : K → K → Ordering} (o : IsTotalOrder R) (exact :
   past : (e : K × V) (es : List (K × V)) (q : K) → T (below_all R e.0 es) → (b : Bool) → eq_by_cmp R q e.0 ≡ b
       → IfSome (cond b (Some e.1) (find R q es)) (P q) → IfSome (find R q es) (P q)
   past e es q h true is p =
-      let none = subst (λ k. find R k es ≡ None) (sym (same_key o exact (λ k. find R k es) q e.0 is)) (absent e.0 es h) in
+      let none = subst (λ k. find R k es ≡ None) (sym (tells_apart exact q e.0 is)) (absent e.0 es h) in
       subst (λ (v : Option V). IfSome v (P q)) (sym none) tt
   past e es q h false is p = p
 
@@ -96,7 +96,7 @@ module _ {K V : Type 0} {R : K → K → Ordering} (o : IsTotalOrder R) (exact :
   all_rows es s h = all_in es (is_ordered R es s) (λ q. subst (λ v. IfSome v (P q)) (get-from_entries o es q) (h q))
 
   found : (e : K × V) (q : K) (rest : Option V) (b : Bool) → eq_by_cmp R q e.0 ≡ b → P e.0 e.1 → IfSome rest (P q) → IfSome (cond b (Some e.1) rest) (P q)
-  found e q rest true is p r = subst (λ k. P k e.1) (sym (same_key o exact (λ (k : K). find R k (e ∷ [])) q e.0 is)) p
+  found e q rest true is p r = subst (λ k. P k e.1) (sym (tells_apart exact q e.0 is)) p
   found e q rest false is p r = r
 
   find_all : (es : List (K × V)) (q : K) → AllByRecursion (λ e. P e.0 e.1) es → IfSome (find R q es) (P q)

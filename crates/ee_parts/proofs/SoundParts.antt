@@ -26,9 +26,8 @@ use Rattle.ee_acts.specs.Lists.{Rising, NeverFalling}
 use Rattle.ee_acts.specs.Paid.{paid_lines}
 use Rattle.ee_acts.specs.PlainBooks.{PlainBooks, batch_of, batch_so_far, cents_of}
 use Rattle.ee_acts.specs.Sound.{IsSound, IsDay, IsRightRate, IsRightBond, IsRightLine, IsRightTicket, day_of, day_of_batch, days}
-use Rattle.ee_acts.proofs.Maps.{serials_total, exact_serials, get_lookup, all_map}
-use Rattle.ee_acts.proofs.Orders.{all_append}
-use Rattle.ee_acts.proofs.Bounds.{value_le}
+use Rattle.ee_acts.proofs.Lemmas.Maps.{serials_total, serials_exact, get_lookup, all_weaker, all_append}
+use Rattle.ee_acts.proofs.Lemmas.Books.{value_le}
 use Rattle.ee_decide.specs.declared.views.DayCounts.{DayCounts}
 use Rattle.ee_parts.specs.declared.parts.Parts.{Parts}
 use Rattle.ee_parts.specs.Parts.{parts_of, row_of_entry, AreUnsound}
@@ -89,7 +88,7 @@ bonds_rise bonds h = subst (InOrder IsBefore) (sym (keys_of_bonds bonds)) h
 pub parts_kept : (parts : Parts) → HaveRisingMonths parts.rates → HaveRisingSerials parts.bonds → parts_of (books_of parts) ≡ parts
 parts_kept parts months serials = λ i. record {
   rates = (ap (map row_of_entry) (entries_are nat_cmp nat_cmp_total nat_cmp-IsAntisymmetric (map entry_of_row parts.rates) (rows_rise parts.rates months)) ∙ rows_back parts.rates) i;
-  bonds = (ap (map (λ (e : SerialNumber × Bond). e.1)) (entries_are serial_cmp serials_total exact_serials (map entry_of_bond parts.bonds) (bonds_rise parts.bonds serials)) ∙ bonds_back parts.bonds) i;
+  bonds = (ap (map (λ (e : SerialNumber × Bond). e.1)) (entries_are serial_cmp serials_total serials_exact (map entry_of_bond parts.bonds) (bonds_rise parts.bonds serials)) ∙ bonds_back parts.bonds) i;
   day = parts.day;
   last_day = parts.last_day;
   tickets = parts.tickets;
@@ -102,13 +101,13 @@ keyed_if rates serial (Some bond) h = h.keyed
 
 module _ (books : PlainBooks) (sound : IsSound books) where
   keyed : AreKeyedEntries (finite.entries books.bonds)
-  keyed = all_entries serials_total exact_serials (λ serial bond. bond.serial ≡ serial) books.bonds (λ q. keyed_if books.rates q (finite.get books.bonds q) (sound.bonds q))
+  keyed = all_entries serials_total serials_exact (λ serial bond. bond.serial ≡ serial) books.bonds (λ q. keyed_if books.rates q (finite.get books.bonds q) (sound.bonds q))
 
   -- sound books are those that their parts stand for
   pub books_kept : books ≡ books_of (parts_of books)
   books_kept = λ i. record {
     rates = sym (ap finite.from_entries (entries_back (finite.entries books.rates)) ∙ map_of_entries nat_cmp nat_cmp_total nat_cmp-IsAntisymmetric books.rates) i;
-    bonds = sym (ap finite.from_entries (keyed_back (finite.entries books.bonds) keyed) ∙ map_of_entries serial_cmp serials_total exact_serials books.bonds) i;
+    bonds = sym (ap finite.from_entries (keyed_back (finite.entries books.bonds) keyed) ∙ map_of_entries serial_cmp serials_total serials_exact books.bonds) i;
     day = books.day;
     last_day = books.last_day;
     tickets = books.tickets;
@@ -153,7 +152,7 @@ pub rates_right : (rows : List RateRow) → AllByRecursion IsRightRow rows → (
 rates_right rows h = get_all nat_cmp_total nat_cmp-IsAntisymmetric IsRightRate (map entry_of_row rows) (rate_rows rows h)
 
 bonds_right : (rates : FinMap nat_cmp Rates) (bonds : List Bond) → AllByRecursion (IsRightOwn rates) bonds → (serial : SerialNumber) → IfSome (finite.get (bonds_in bonds) serial) (IsRightBond rates serial)
-bonds_right rates bonds h = get_all serials_total exact_serials (IsRightBond rates) (map entry_of_bond bonds) (bond_rows rates bonds h)
+bonds_right rates bonds h = get_all serials_total serials_exact (IsRightBond rates) (map entry_of_bond bonds) (bond_rows rates bonds h)
 
 -- the bonds, each unpaid
 lookup_unpaid : (bonds : List Bond) (test : SerialNumber → Bool) → lookup test (map unpaid bonds) ≡ option_map (λ (b : Bond). (unpaid b).1) (lookup test (map entry_of_bond bonds))
@@ -189,7 +188,7 @@ free_lines : (rates : FinMap nat_cmp Rates) (bonds : List Bond) (tickets : List 
 free_lines rates bonds [] h = tt
 free_lines rates bonds (t ∷ tickets) h =
     all_append (λ (line : Line). IsFree (held_at (map unpaid bonds) line.serial)) t.lines (paid_lines tickets)
-    (all_map (IsRightLine rates (bonds_in bonds) t) (λ (line : Line). IsFree (held_at (map unpaid bonds) line.serial)) (free_line rates bonds t) t.lines h.0.lines)
+    (all_weaker (IsRightLine rates (bonds_in bonds) t) (λ (line : Line). IsFree (held_at (map unpaid bonds) line.serial)) (free_line rates bonds t) t.lines h.0.lines)
     (free_lines rates bonds tickets h.1)
 
 -- ---- order
@@ -236,7 +235,7 @@ module _ (parts : Parts) (sound : AreSound parts) where
     months = sound.months;
     serials = sound.serials;
     right = row_rates parts.rates (all_rows nat_cmp_total nat_cmp-IsAntisymmetric IsRightRate (map entry_of_row parts.rates) (rows_rise parts.rates sound.months) sound.books.rates);
-    owned = row_bonds (rates_in parts.rates) parts.bonds (all_rows serials_total exact_serials (IsRightBond (rates_in parts.rates)) (map entry_of_bond parts.bonds) (bonds_rise parts.bonds sound.serials) sound.books.bonds);
+    owned = row_bonds (rates_in parts.rates) parts.bonds (all_rows serials_total serials_exact (IsRightBond (rates_in parts.rates)) (map entry_of_bond parts.bonds) (bonds_rise parts.bonds sound.serials) sound.books.bonds);
   }
 
   pub paid_is : CanBePaid (rates_in parts.rates) (map unpaid parts.bonds) parts.tickets

@@ -1,2 +1,3 @@
-pub mod Directed
-pub mod Bounds
+mod Directed
+mod Bounds
+pub mod Lemmas

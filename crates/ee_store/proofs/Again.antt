@@ -10,11 +10,11 @@ use Rattle.ee_acts.specs.declared.refusals.Refusal.TheVariants.{NumberReused}
 use Rattle.ee_acts.specs.Acts.{same_act}
 use Rattle.ee_acts.specs.Numbers.{Number}
 use Rattle.ee_acts.specs.Answers.{reply_again}
-use Rattle.ee_acts.proofs.SameActs.{act_is, act_self}
+use Rattle.ee_acts.proofs.Lemmas.Requests.{same_act-is, same_act-self}
+use Rattle.ee_texts.proofs.Lemmas.{one_act, reply_only}
 use Rattle.ee_texts.specs.Ranges.{ActFits}
 use Rattle.ee_texts.specs.Reading.{ReadsReply}
 use Rattle.ee_texts.specs.Texts.{act_text, reply_text}
-use Rattle.ee_texts.proofs.Same.{one_act, reply_only}
 use Rattle.ee_contents.specs.Standing.{IsKept}
 
 abbrev pub IsAgain : List ℕ → List ℕ → List ℕ → Reply → Type 0
@@ -23,7 +23,7 @@ IsAgain act reply asked told = (number : Number) (kept : Kept) (again : Act) →
 
 pub of_other : (act reply asked : List ℕ) → act ≢ asked → IsAgain act reply asked (Refused NumberReused)
 of_other act reply asked apart number kept again is fits one two three =
-    let differs = false_from_ne_true (same_act kept.act again) (λ same. apart (one ∙ ap act_text (act_is kept.act again same) ∙ sym three)) in
+    let differs = false_from_ne_true (same_act kept.act again) (λ same. apart (one ∙ ap act_text (same_act-is kept.act again same) ∙ sym three)) in
     sym (ap (λ b. cond b kept.reply (Refused NumberReused)) differs)
 
 some_is : (a b : Reply) → Some a ≡ Some b → a ≡ b
@@ -32,6 +32,6 @@ some_is a b e = ap (λ o. unwrap_or o a) e
 pub of_same : (act reply asked : List ℕ) (told : Reply) → act ≡ asked → ReadsReply reply (Some told) → IsAgain act reply asked told
 of_same act reply asked told same reads number kept again is fits one two three =
     let acts = one_act kept.act again is.act_in_range fits (sym one ∙ same ∙ three) in
-    let is_same = ap (same_act kept.act) (sym acts) ∙ act_self kept.act in
+    let is_same = ap (same_act kept.act) (sym acts) ∙ same_act-self kept.act in
     some_is told kept.reply (reply_only kept.reply (Some told) is.reply_in_range (subst (λ t. ReadsReply t (Some told)) two reads))
     ∙ sym (ap (λ b. cond b kept.reply (Refused NumberReused)) is_same)

@@ -16,8 +16,7 @@ use Rattle.ee_acts.specs.Repeats.{Content}
 use Rattle.ee_contents.specs.Standing.{rows_of, bond_row, key_of, IsRight}
 use Rattle.ee_store.specs.Found.{with_found}
 use Rattle.ee_value.specs.declared.rates.Rates.{Rates}
-use Rattle.ee_contents.proofs.Images.{get_bond, get_rate}
-use Rattle.ee_contents.proofs.OneContent.{same_denom}
+use Rattle.ee_contents.proofs.Lemmas.{get_bond_row, get_rate_row, same_denom}
 
 -- one more key of those picked
 found_case : {K V : Type 0} {R : K → K → Ordering} (k : K) (v : Option V) (es : List (K × V))
@@ -43,7 +42,7 @@ held_by ts s (Some x) None h k e = absurd (cc)
 held_by ts s (Some x) (Some b) h k e = ap Some (same_held x (held_as ts s b) (h ∙ sym k) (ap (λ o. unwrap_or o (bond_row x)) e))
 
 pub held_found : (S : Content) (s : SerialNumber) (o : Option Held) → IsRight S → IfSome o (λ h. h.bond.serial ≡ s) → option_map bond_row o ≡ finite.get (rows_of S).bonds (key_of s) → o ≡ held_of S.books s
-held_found S s o right own e = held_by S.books.tickets s o (finite.get S.books.bonds s) own (keyed (finite.get S.books.bonds s) (right.sound.bonds s)) (e ∙ get_bond S.books.bonds S.books.tickets s)
+held_found S s o right own e = held_by S.books.tickets s o (finite.get S.books.bonds s) own (keyed (finite.get S.books.bonds s) (right.sound.bonds s)) (e ∙ get_bond_row S.books.bonds S.books.tickets s)
   where
     keyed : (p : Option Bond) → IfSome p (IsRightBond S.books.rates s) → IfSome p (λ b. b.serial ≡ s)
     keyed None h = tt
@@ -55,7 +54,7 @@ always (Err e) q = tt
 
 -- rates that their row shows
 pub rates_found : (S : Content) (period : ℕ) (o : Option Rates) → option_map (λ rates. rates.fixed) o ≡ finite.get (rows_of S).rates period → o ≡ finite.get S.books.rates period
-rates_found S period o e = one o (finite.get S.books.rates period) (e ∙ get_rate S.books.rates period)
+rates_found S period o e = one o (finite.get S.books.rates period) (e ∙ get_rate_row S.books.rates period)
   where
     one : (o p : Option Rates) → option_map (λ rates. rates.fixed) o ≡ option_map (λ rates. rates.fixed) p → o ≡ p
     one None None e = refl

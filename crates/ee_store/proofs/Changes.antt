@@ -23,13 +23,13 @@ use Rattle.ee_acts.specs.Numbers.{Number, number_cmp}
 use Rattle.ee_acts.specs.PlainBooks.{ticket_of, names}
 use Rattle.ee_acts.specs.Seen.{held_as}
 use Rattle.ee_acts.specs.Sound.{NumberedFrom, day_of_batch}
-use Rattle.ee_acts.proofs.Maps.{serials_total, exact_serials, serials_tied, serial_is, same_key}
-use Rattle.ee_acts.proofs.RequestNumbers.{numbers_total}
+use Rattle.ee_acts.proofs.Lemmas.Maps.{serials_total, serials_exact, serials_tied, same_serial-is, numbers_total}
+use Rattle.std.proofs.lemmas.Map.Views.{tells_apart}
+use Rattle.ee_tables.proofs.Lemmas.Rows.{pair_total, pair_same}
+use Rattle.ee_contents.proofs.Lemmas.{get_rate_row, get_reply_row, get_bond_row, ticket_entry, ticket_lines, batch_entry}
 use Rattle.ee_tables.specs.Keyed.{pair_cmp}
 use Rattle.ee_tables.specs.Rows.{Rows, BondRow, PaidRow, DeskRow, with_lines, marked_as}
 use Rattle.ee_contents.specs.Standing.{rate_rows, bond_rows, bond_row, key_of, ticket_rows, ticket_row, paid_rows, paid_row, placed, batch_rows, batch_row, reply_rows, reply_row, desk_rows}
-use Rattle.ee_contents.proofs.Images.{pair_total, pair_same, get_rate, get_reply, get_bond}
-use Rattle.ee_contents.proofs.Orders.{ticket_entry, ticket_lines, batch_entry}
 
 -- ---- rates
 rate_case : (b : Bool) (r : Rates) (o : Option Rates) → option_map (λ (r : Rates). r.fixed) (cond b (Some r) o) ≡ cond b (Some r.fixed) (option_map (λ r. r.fixed) o)
@@ -38,9 +38,9 @@ rate_case false r o = refl
 
 pub with_new_rate : (rates : FinMap nat_cmp Rates) (from : ℕ) (r : Rates) → rate_rows (insert rates from r) ≡ insert (rate_rows rates) from r.fixed
 with_new_rate rates from r = same_map nat_cmp_total nat_cmp-IsAntisymmetric _ _ (λ q.
-    get_rate (insert rates from r) q ∙ ap (option_map (λ r. r.fixed)) (get-insert nat_cmp_total rates from r q)
+    get_rate_row (insert rates from r) q ∙ ap (option_map (λ r. r.fixed)) (get-insert nat_cmp_total rates from r q)
     ∙ rate_case (eq_by_cmp nat_cmp q from) r (finite.get rates q)
-    ∙ ap (cond (eq_by_cmp nat_cmp q from) (Some r.fixed)) (sym (get_rate rates q))
+    ∙ ap (cond (eq_by_cmp nat_cmp q from) (Some r.fixed)) (sym (get_rate_row rates q))
     ∙ sym (get-insert nat_cmp_total (rate_rows rates) from r.fixed q))
 
 -- ---- replies
@@ -50,9 +50,9 @@ reply_case false k o = refl
 
 pub with_new_reply : (kept : FinMap number_cmp Kept) (n : Number) (k : Kept) → reply_rows (insert kept n k) ≡ insert (reply_rows kept) n (reply_row k)
 with_new_reply kept n k = same_map nat_cmp_total nat_cmp-IsAntisymmetric _ _ (λ q.
-    get_reply (insert kept n k) q ∙ ap (option_map reply_row) (get-insert numbers_total kept n k q)
+    get_reply_row (insert kept n k) q ∙ ap (option_map reply_row) (get-insert numbers_total kept n k q)
     ∙ reply_case (eq_by_cmp number_cmp q n) k (finite.get kept q)
-    ∙ ap (cond (eq_by_cmp number_cmp q n) (Some (reply_row k))) (sym (get_reply kept q))
+    ∙ ap (cond (eq_by_cmp number_cmp q n) (Some (reply_row k))) (sym (get_reply_row kept q))
     ∙ sym (get-insert nat_cmp_total (reply_rows kept) n (reply_row k) q))
 
 -- ---- bonds
@@ -65,15 +65,15 @@ row_at tickets s bond = bond_row (held_as tickets s bond)
 bond_case : (tickets : List Ticket) (s new : SerialNumber) (bond : Bond) (o : Option Bond) (b : Bool) → ticket_of tickets new ≡ None → eq_by_cmp serial_cmp s new ≡ b
     → option_map (row_at tickets s) (cond b (Some bond) o) ≡ cond b (Some (bond_row (record { bond = bond; ticket = None }))) (option_map (row_at tickets s) o)
 bond_case tickets s new bond o true unpaid same =
-    ap (λ t. Some (bond_row (record { bond = bond; ticket = t }))) (ap (ticket_of tickets) (same_key serials_total exact_serials (λ (_ : SerialNumber). Some bond) s new same) ∙ unpaid)
+    ap (λ t. Some (bond_row (record { bond = bond; ticket = t }))) (ap (ticket_of tickets) (tells_apart serials_exact s new same) ∙ unpaid)
 bond_case tickets s new bond o false unpaid apart = refl
 
 pub with_new_bond : (bonds : FinMap serial_cmp Bond) (tickets : List Ticket) (s : SerialNumber) (bond : Bond) → ticket_of tickets s ≡ None
     → bond_rows (insert bonds s bond) tickets ≡ insert (bond_rows bonds tickets) (key_of s) (bond_row (record { bond = bond; ticket = None }))
 with_new_bond bonds tickets s bond unpaid = same_map pair_total pair_same _ _ (λ q.
-    get_bond (insert bonds s bond) tickets (at q) ∙ ap (option_map (row_at tickets (at q))) (get-insert serials_total bonds s bond (at q))
+    get_bond_row (insert bonds s bond) tickets (at q) ∙ ap (option_map (row_at tickets (at q))) (get-insert serials_total bonds s bond (at q))
     ∙ bond_case tickets (at q) s bond (finite.get bonds (at q)) (eq_by_cmp serial_cmp (at q) s) unpaid refl
-    ∙ ap (cond (eq_by_cmp serial_cmp (at q) s) (Some (bond_row (record { bond = bond; ticket = None })))) (sym (get_bond bonds tickets (at q)))
+    ∙ ap (cond (eq_by_cmp serial_cmp (at q) s) (Some (bond_row (record { bond = bond; ticket = None })))) (sym (get_bond_row bonds tickets (at q)))
     ∙ sym (get-insert pair_total (bond_rows bonds tickets) (key_of s) (bond_row (record { bond = bond; ticket = None })) q))
 
 -- ---- days
@@ -133,7 +133,7 @@ before_apart : (n place : ℕ) (es : List ((ℕ × ℕ) × PaidRow)) → AreBefo
 before_apart n place [] h = tt
 before_apart n place (e ∷ es) h = (
   false_from_ne_true (eq_by_cmp pair_cmp (n, place) e.0) (λ same.
-      let is = same_key pair_total pair_same (λ (_ : ℕ × ℕ). Some place) (n, place) e.0 same in
+      let is = tells_apart pair_same (n, place) e.0 same in
       let low = h.0 (sym (ap (λ k. k.0) is)) in
       let at = ap (λ k. k.1) is in
       absurd (omega (arith, low, at))),
@@ -204,10 +204,10 @@ one_marked false n bond o h = sym (not_marked n o)
 get_mark : (bonds : FinMap pair_cmp BondRow) (k : ℕ × ℕ) (n : ℕ) (o : Option BondRow) (q : ℕ × ℕ) → finite.get bonds k ≡ o
     → finite.get (mark_as bonds k n o) q ≡ option_map (mark_if (eq_by_cmp pair_cmp q k) n) (finite.get bonds q)
 unfolding mark_as
-get_mark bonds k n None q is = none_marked (eq_by_cmp pair_cmp q k) n (finite.get bonds q) (λ same. ap (finite.get bonds) (same_key pair_total pair_same (finite.get bonds) q k same) ∙ is)
+get_mark bonds k n None q is = none_marked (eq_by_cmp pair_cmp q k) n (finite.get bonds q) (λ same. ap (finite.get bonds) (tells_apart pair_same q k same) ∙ is)
 get_mark bonds k n (Some bond) q is =
     get-insert pair_total bonds k (record bond { ticket = Some n }) q
-    ∙ one_marked (eq_by_cmp pair_cmp q k) n bond (finite.get bonds q) (λ same. ap (finite.get bonds) (same_key pair_total pair_same (finite.get bonds) q k same) ∙ is)
+    ∙ one_marked (eq_by_cmp pair_cmp q k) n bond (finite.get bonds q) (λ same. ap (finite.get bonds) (tells_apart pair_same q k same) ∙ is)
 
 twice_marked : (b c : Bool) (n : ℕ) (o : Option BondRow) → option_map (mark_if c n) (option_map (mark_if b n) o) ≡ option_map (mark_if (b || c) n) o
 twice_marked b c n None = refl
@@ -257,7 +257,7 @@ unpaid_of tickets q [] h e = absurd (true≢false (sym e))
 unpaid_of tickets q (line ∷ lines) h e = by_case (unpaid_of tickets q lines h.1) (same_serial q line.serial) refl e
   where
     by_case : (list_any (λ l. same_serial q l.serial) lines ≡ true → ticket_of tickets q ≡ None) → (b : Bool) → same_serial q line.serial ≡ b → (b || list_any (λ l. same_serial q l.serial) lines) ≡ true → ticket_of tickets q ≡ None
-    by_case later true same any = ap (ticket_of tickets) (serial_is q line.serial same) ∙ h.0
+    by_case later true same any = ap (ticket_of tickets) (same_serial-is q line.serial same) ∙ h.0
     by_case later false apart any = later any
 
 paid_row_at : (b : Bool) (n : ℕ) (old new : List Ticket) (s : SerialNumber) (o : Option Bond) → ticket_of new s ≡ cond b (Some n) (ticket_of old s)
@@ -270,10 +270,10 @@ pub with_new_marks : (bonds : FinMap serial_cmp Bond) (tickets : List Ticket) (t
 with_new_marks bonds tickets t unpaid = same_map pair_total pair_same _ _ (λ q.
     let s = at q in
     let pays = ticket_of_push tickets t s ∙ last_pays (names s t) t.ticket (ticket_of tickets s) (unpaid_of tickets s t.lines unpaid) in
-    get_bond bonds (tickets ++ t ∷ []) s
+    get_bond_row bonds (tickets ++ t ∷ []) s
     ∙ paid_row_at (names s t) t.ticket tickets (tickets ++ t ∷ []) s (finite.get bonds s) pays
     ∙ ap (λ b. option_map (mark_if b t.ticket) (option_map (row_at tickets s) (finite.get bonds s))) (sym (any_names s t.lines))
-    ∙ ap (option_map (mark_if (list_any (λ line. eq_by_cmp pair_cmp q (key_of line.serial)) t.lines) t.ticket)) (sym (get_bond bonds tickets s))
+    ∙ ap (option_map (mark_if (list_any (λ line. eq_by_cmp pair_cmp q (key_of line.serial)) t.lines) t.ticket)) (sym (get_bond_row bonds tickets s))
     ∙ sym (get_marks (bond_rows bonds tickets) t.ticket t.lines q))
 
 -- what is written line by line

@@ -11,7 +11,7 @@ use Rattle.ee_tables.specs.declared.records.TicketSum.{TicketSum}
 use Rattle.ee_tables.specs.AsRows.{sum_of}
 use Rattle.ee_tables.specs.Rows.{TicketRow, last_number, tickets_on}
 use Rattle.ee_contents.specs.Standing.{rows_of, IsRight}
-use Rattle.ee_contents.proofs.Orders.{ticket_entry, ticket_entries}
+use Rattle.ee_contents.proofs.Lemmas.{ticket_entry, ticket_entries}
 
 last_is : (n : ℕ) (t : Ticket) (ts : List Ticket) → NumberedFrom n (t ∷ ts) → last_number (map ticket_entry (t ∷ ts)) ≡ Some (length ts + n)
 last_is n t [] h = ap Some (let is = h.0 in omega (arith, is))

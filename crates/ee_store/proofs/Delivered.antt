@@ -26,13 +26,11 @@ use Rattle.ee_acts.specs.Ranges.{IsInRange}
 use Rattle.ee_acts.specs.Sound.{IsSound}
 use Rattle.ee_acts.specs.Repeats.{Content}
 use Rattle.ee_acts.specs.Contents.{content_after}
-use Rattle.ee_acts.proofs.Maps.{serials_total, same_key, all_map}
-use Rattle.ee_acts.proofs.Orders.{all_append, all_filter, all_mapped}
-use Rattle.ee_acts.proofs.Repeats.{one_new}
-use Rattle.ee_acts.proofs.RequestNumbers.{numbers_total, numbers_exact}
-use Rattle.ee_acts.proofs.Seeing.{seen_enough, applied_is}
-use Rattle.ee_acts.proofs.Soundness.{act_sound}
-use Rattle.ee_desk.proofs.Deciding.{applicable}
+use Rattle.ee_acts.proofs.Lemmas.Maps.{serials_total, all_weaker, all_append, all_filter, all_mapped, numbers_total, numbers_exact}
+use Rattle.std.proofs.lemmas.Map.Views.{tells_apart}
+use Rattle.ee_acts.proofs.Lemmas.Requests.{content_after-new}
+use Rattle.ee_acts.proofs.Lemmas.Books.{seen_enough, applied_are_books_after, act_keeps_sound}
+use Rattle.ee_desk.proofs.Lemmas.{decided_are_applicable}
 use Rattle.ee_texts.specs.Ranges.{ActFits, ReplyFits, RateRowFits, BondFits, TicketFits, BatchFits}
 use Rattle.ee_tables.specs.Rows.{with_reply}
 use Rattle.ee_contents.specs.Standing.{rows_of, reply_row, AreInRange, IsKept, IsRight}
@@ -53,7 +51,7 @@ fitting_rates seen earlier (row ∷ rows) h = keep (is_none (known_rate seen ear
 
 fitting : (seen : Seen) (asked : Act) → ActFits asked → AllByRecursion IsInRange (accepted seen asked).changes
 fitting seen (AddRates rows) h = fitting_rates seen [] rows h
-fitting seen (AddBonds bonds) h = all_mapped IsInRange change.Bond (new_bonds seen bonds) (all_map BondFits _ (λ b fits. fits.issued) (new_bonds seen bonds) (all_filter BondFits _ bonds h))
+fitting seen (AddBonds bonds) h = all_mapped IsInRange change.Bond (new_bonds seen bonds) (all_weaker BondFits _ (λ b fits. fits.issued) (new_bonds seen bonds) (all_filter BondFits _ bonds h))
 fitting seen (OpenDay day) h = (h, tt)
 fitting seen (Redeem day payee serials) h = (tt, tt)
 fitting seen (CloseDay day) h = (tt, tt)
@@ -115,16 +113,16 @@ module _ (S : Content) (q : Request) (right : IsRight S) (new : finite.get S.kep
   own = record { act = q.act; reply = (act S.books q.act).reply }
 
   books_are : applied S.books effects.changes ≡ books_after S.books q.act
-  books_are = ap (λ (e : Effects). applied S.books e.changes) (sym (seen_enough S.books q.act)) ∙ applied_is S.books q.act
+  books_are = ap (λ (e : Effects). applied S.books e.changes) (sym (seen_enough S.books q.act)) ∙ applied_are_books_after S.books q.act
 
   fits : AllByRecursion IsInRange effects.changes
   fits = changes_fit (shown S.books) q.act asked
 
   sound_then : IsSound (books_after S.books q.act)
-  sound_then = act_sound S.books q.act right.sound fits
+  sound_then = act_keeps_sound S.books q.act right.sound fits
 
   content_is : content_after S (q ∷ []) ≡ record { books = books_after S.books q.act; kept = insert S.kept (number_of q) own }
-  content_is = one_new S q (ap is_some new)
+  content_is = content_after-new S q (ap is_some new)
 
   own_is_kept : IsKept (number_of q) own
   own_is_kept = record { number_in_range = numbered; act_in_range = asked; reply_in_range = told; first = never_reused (shown S.books) q.act }
@@ -133,7 +131,7 @@ module _ (S : Content) (q : Request) (right : IsRight S) (new : finite.get S.kep
   all_kept n = subst (λ o. IfSome o (IsKept n)) (sym (get-insert numbers_total S.kept (number_of q) own n)) (by_case (eq_by_cmp number_cmp n (number_of q)) refl)
     where
       by_case : (b : Bool) → eq_by_cmp number_cmp n (number_of q) ≡ b → IfSome (cond b (Some own) (finite.get S.kept n)) (IsKept n)
-      by_case true same = subst (λ m. IsKept m own) (sym (same_key numbers_total numbers_exact (finite.get S.kept) n (number_of q) same)) own_is_kept
+      by_case true same = subst (λ m. IsKept m own) (sym (tells_apart numbers_exact n (number_of q) same)) own_is_kept
       by_case false apart = right.kept n
 
   pub right_after : IsRight (content_after S (q ∷ []))
@@ -146,7 +144,7 @@ module _ (S : Content) (q : Request) (right : IsRight S) (new : finite.get S.kep
   pub rows_after : rows_of (content_after S (q ∷ [])) ≡ with_reply (applied_rows S.books.last_day (rows_of S) effects.changes) (number_of q) (reply_row own)
   rows_after =
       let sound = subst IsSound (sym books_are) sound_then in
-      let fitting = applicable S.books effects right.sound fits (q.act, sym (seen_enough S.books q.act)) in
+      let fitting = decided_are_applicable S.books effects right.sound fits (q.act, sym (seen_enough S.books q.act)) in
       ap rows_of content_is
       ∙ (λ i. record (rows_of (with_books S (sym books_are i))) { replies = with_new_reply S.kept (number_of q) own i })
       ∙ ap (λ rows. with_reply rows (number_of q) (reply_row own)) (written S effects.changes sound fitting)

@@ -9,7 +9,7 @@ use Rattle.ee_acts.specs.Repeats.{Content}
 use Rattle.ee_acts.specs.Contents.{content_after}
 use Rattle.ee_laws.specs.Events.{World, Told, one, decided, unserved}
 use Rattle.ee_laws.specs.Ties.{Leaves}
-use Rattle.ee_laws.proofs.Leaving.{leaves_new, leaves_kept, leaves_unserved}
+use Rattle.ee_laws.proofs.Lemmas.{leaves_new, leaves_kept, leaves_unserved}
 use Rattle.ee_store.specs.Serving.{StandsFor, HasContent, FollowsWorld}
 
 module _ (old new : State) (q : Request) (w : World) (follows : FollowsWorld old w) where

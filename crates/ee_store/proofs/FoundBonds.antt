@@ -13,15 +13,15 @@ use Rattle.ee_acts.specs.PlainBooks.{ticket_of}
 use Rattle.ee_acts.specs.Seen.{held_as}
 use Rattle.ee_acts.specs.Queries.{is_open_bond, bonds_of}
 use Rattle.ee_acts.specs.Repeats.{Content}
-use Rattle.ee_acts.proofs.Maps.{serials_total, exact_serials}
-use Rattle.ee_parts.proofs.SortedRows.{all_entries}
+use Rattle.ee_acts.proofs.Lemmas.Maps.{serials_total, serials_exact}
+use Rattle.ee_parts.proofs.Lemmas.{all_entries}
+use Rattle.ee_tables.proofs.Lemmas.Rows.{pair_total, pair_same}
+use Rattle.ee_contents.proofs.Lemmas.{sorted_entries, right_bond_is_keyed, same_denom, head_of, tail_of}
 use Rattle.ee_tables.specs.declared.records.UnpaidBond.{UnpaidBond}
 use Rattle.ee_tables.specs.AsRows.{unpaid_bond_of}
 use Rattle.ee_tables.specs.Keyed.{pair_cmp}
 use Rattle.ee_tables.specs.Rows.{BondRow, unpaid_of}
 use Rattle.ee_contents.specs.Standing.{rows_of, bond_rows, bond_row, key_of, IsRight}
-use Rattle.ee_contents.proofs.Images.{pair_total, pair_same, sorted_entries}
-use Rattle.ee_contents.proofs.OneContent.{keyed, same_denom, head_of, tail_of}
 use Rattle.ee_store.specs.Asking.{unpaid_row}
 
 -- ---- the rows of bonds, in order
@@ -80,4 +80,4 @@ bonds_found S customer bonds rows right are found =
     same_bonds bonds (bonds_of books customer)
     (are ∙ found ∙ ap (λ es. map unpaid_bond_of (filter (is_own customer) es)) (bond_entries books.bonds books.tickets)
     ∙ own_rows books.tickets customer (entries books.bonds)
-    (all_entries serials_total exact_serials (λ s (bond : Bond). bond.serial ≡ s) books.bonds (λ s. keyed books.rates s _ (right.sound.bonds s))))
+    (all_entries serials_total serials_exact (λ s (bond : Bond). bond.serial ≡ s) books.bonds (λ s. right_bond_is_keyed books.rates s _ (right.sound.bonds s))))

@@ -11,12 +11,12 @@ use Rattle.ee_value.specs.declared.rates.Rates.{Rates}
 use Rattle.ee_calculator.specs.declared.bonds.Bond.{Bond}
 use Rattle.ee_acts.specs.Queries.{plain_row, row_of}
 use Rattle.ee_acts.specs.Views.{picked}
-use Rattle.ee_acts.proofs.Maps.{get_named, all_map}
+use Rattle.ee_acts.proofs.Lemmas.Maps.{get_named, all_weaker}
 use Rattle.ee_store.proofs.Named.{same_found}
 
 pub rows_found : (rates : FinMap nat_cmp Rates) (periods : List ℕ) (month : ℕ) (bonds : List Bond)
     → AllByRecursion (λ (bond : Bond). list_any (eq_by_cmp nat_cmp (period_start bond.issued)) periods ≡ true) bonds
     → filter_map (row_of (picked (finite.get rates) periods) month) bonds ≡ filter_map (row_of rates month) bonds
-rows_found rates periods month bonds named = same_found _ _ bonds (all_map _ _ (λ (bond : Bond) here.
+rows_found rates periods month bonds named = same_found _ _ bonds (all_weaker _ _ (λ (bond : Bond) here.
     ap (option_map (plain_row (Some bond.serial) bond.denom bond.issued month)) (get_named nat_cmp_total nat_cmp-IsAntisymmetric (finite.get rates) periods (period_start bond.issued) here))
     bonds named)

@@ -19,7 +19,7 @@ use Rattle.ee_tables.specs.declared.records.PlacedLine.{PlacedLine}
 use Rattle.ee_tables.specs.AsRows.{placed_of}
 use Rattle.ee_tables.specs.Rows.{PaidRow, TicketRow, lines_on}
 use Rattle.ee_contents.specs.Standing.{rows_of, batch_row, ticket_row, paid_row, placed, IsRight}
-use Rattle.ee_contents.proofs.Orders.{ticket_lines, paid_entries}
+use Rattle.ee_contents.proofs.Lemmas.{ticket_lines, paid_entries}
 use Rattle.ee_store.specs.Asking.{row_of_placed}
 
 -- ---- what is found by a number, in the rows of a list

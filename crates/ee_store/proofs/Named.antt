@@ -12,7 +12,7 @@ use Rattle.ee_acts.specs.Serials.{serial_cmp}
 use Rattle.ee_acts.specs.PlainBooks.{PlainBooks}
 use Rattle.ee_acts.specs.Seen.{held_of}
 use Rattle.ee_acts.specs.Views.{picked, period_of_held}
-use Rattle.ee_acts.proofs.Maps.{serials_total, exact_serials, get_named, all_named, all_map}
+use Rattle.ee_acts.proofs.Lemmas.Maps.{serials_total, serials_exact, get_named, all_named, all_weaker}
 
 found_push : {A B : Type 0} (f : A → Option B) (xs : List A) (y : A) → filter_map f (xs ++ y ∷ []) ≡ filter_map f xs ++ cons_option (f y) []
 found_push f [] y = refl
@@ -31,6 +31,6 @@ same_found f g (x ∷ xs) h = λ i. cons_option (h.0 i) (same_found f g xs h.1 i
 
 pub periods_named : (books : PlainBooks) (found : FinMap serial_cmp Held) (ss : List SerialNumber) → found ≡ picked (held_of books) ss
     → filter_map (λ s. option_map period_of_held (finite.get found s)) ss ≡ filter_map (λ s. option_map period_of_held (held_of books s)) ss
-periods_named books found ss is = same_found _ _ ss (all_map _ _ (λ s named.
-    ap (option_map period_of_held) (ap (λ m. finite.get m s) is ∙ get_named serials_total exact_serials (held_of books) ss s (subst (λ l. list_any (eq_by_cmp serial_cmp s) l ≡ true) (map-id ss) named)))
+periods_named books found ss is = same_found _ _ ss (all_weaker _ _ (λ s named.
+    ap (option_map period_of_held) (ap (λ m. finite.get m s) is ∙ get_named serials_total serials_exact (held_of books) ss s (subst (λ l. list_any (eq_by_cmp serial_cmp s) l ≡ true) (map-id ss) named)))
     ss (all_named serials_total (λ s. s) ss))

@@ -17,7 +17,9 @@ use Rattle.ee_acts.specs.Serials.{serial_cmp}
 use Rattle.ee_acts.specs.Numbers.{number_cmp}
 use Rattle.ee_acts.specs.Seen.{held_as}
 use Rattle.ee_acts.specs.Repeats.{Content, nothing}
-use Rattle.ee_acts.proofs.Soundness.{empty_is_sound}
+use Rattle.ee_acts.proofs.Lemmas.Books.{empty_is_sound}
+use Rattle.ee_contents.proofs.Lemmas.{get_desk_row}
+use Rattle.ee_laws.proofs.Lemmas.{leaves_as_before}
 use Rattle.ee_texts.specs.Ranges.{BondFits}
 use Rattle.ee_tables.specs.Keyed.{pair_cmp}
 use Rattle.ee_tables.specs.Rows.{Rows, DeskRow, Has, Holds}
@@ -25,8 +27,6 @@ use Rattle.ee_opening.specs.Making.{IsBlank, first_rows}
 use Rattle.ee_opening.specs.Whole.{IsOurs}
 use Rattle.ee_opening.specs.Opening.{IsOtherVersion}
 use Rattle.ee_contents.specs.Standing.{rows_of, bond_row, reply_row, key_of, StandFor, IsRight, IsKept}
-use Rattle.ee_contents.proofs.Images.{get_desk}
-use Rattle.ee_laws.proofs.Leaving.{leaves_as_before}
 use Rattle.ee_store.specs.Serving.{StandsFor, HasContent}
 use Rattle.ee_store.specs.Adopted.{KeepsContent, KeepsWorld, HadNone}
 
@@ -103,7 +103,7 @@ same_some a b e = ap (λ o. unwrap_or o a) e
 pub of_version : (content : Content) → IsOtherVersion (rows_of content) → ⊥
 of_version content other =
     let books = content.books in
-    other.2 (ap (λ (d : DeskRow). d.version) (same_some other.0 (record { version = 1; day = books.day; last_day = books.last_day }) (sym other.1 ∙ get_desk books.day books.last_day)))
+    other.2 (ap (λ (d : DeskRow). d.version) (same_some other.0 (record { version = 1; day = books.day; last_day = books.last_day }) (sym other.1 ∙ get_desk_row books.day books.last_day)))
 
 -- ---- what a call leaves
 

@@ -6,9 +6,10 @@ use Rattle.ee_units.specs.Spelling.{SerialNumber, in_range, serial_at}
 use Rattle.ee_units.specs.Denoms.{dollars}
 use Rattle.ee_units.specs.declared.denoms.Denom.{Denom}
 use Rattle.ee_units.specs.declared.denoms.Denom.TheVariants as denom
-use Rattle.ee_units.proofs.RateGrammar.{in_range-is}
+use Rattle.ee_units.proofs.Lemmas.{in_range-is}
+use Rattle.ee_contents.proofs.Lemmas.{some_from_bind}
+use Rattle.std.proofs.lemmas.Option.{same_Some}
 use Rattle.ee_texts.specs.Reading.{denom_with}
-use Rattle.ee_contents.proofs.ReadBack.{bind_is, some_is}
 
 pub number_read : (low high n : ℕ) (o : Option ℕ) → o ≡ in_range low high n → IfSome o (λ m. m ≡ n)
 number_read low high n None e = tt
@@ -18,9 +19,9 @@ pub serial_read : (letter number : ℕ) (o : Option SerialNumber) → o ≡ seri
 unfolding serial_at
 serial_read letter number None e = tt
 serial_read letter number (Some s) e =
-    let l = bind_is (in_range 1 26 letter) _ s (sym e) in
-    let n = bind_is (in_range 1 9999999999 number) _ s l.2 in
-    let is = some_is _ s n.2 in (
+    let l = some_from_bind (in_range 1 26 letter) _ s (sym e) in
+    let n = some_from_bind (in_range 1 9999999999 number) _ s l.2 in
+    let is = same_Some _ s n.2 in (
       sym ((in_range-is 1 26 letter l.0 l.1).0 ∙ ap (λ (s : SerialNumber). s.letter) is),
       sym ((in_range-is 1 9999999999 number n.0 n.1).0 ∙ ap (λ (s : SerialNumber). s.number) is),
     )

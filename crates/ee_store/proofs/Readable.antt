@@ -18,8 +18,9 @@ use Rattle.ee_units.specs.Spelling.{SerialNumber}
 use Rattle.ee_units.specs.Denoms.{dollars}
 use Rattle.ee_units.specs.Calendar.{year_of, month_of_year}
 use Rattle.ee_units.specs.Texts.{two_digits, decimal_text, rate_text, month_text, day_text, serial_text}
-use Rattle.ee_units.proofs.ReadBack.{day_back}
-use Rattle.ee_units.proofs.DayGrammar.{day_sound}
+use Rattle.ee_units.proofs.Lemmas.{day_back, day_of-sound}
+use Rattle.ee_texts.proofs.Lemmas.{dollars_small}
+use Rattle.ee_contents.proofs.Lemmas.{get_desk_row, get_reply_row}
 use Rattle.ee_value.specs.declared.rates.RateRow.{RateRow}
 use Rattle.ee_calculator.specs.declared.bonds.Bond.{Bond}
 use Rattle.ee_acts.specs.declared.acts.Act.{Act}
@@ -39,12 +40,10 @@ use Rattle.ee_acts.specs.Sound.{IsDay, IsIssueMonth}
 use Rattle.ee_texts.specs.declared.refusals.Named.{Named}
 use Rattle.ee_texts.specs.declared.refusals.Named.TheVariants as named
 use Rattle.ee_texts.specs.Data.{number_data, month_data, serial_data, rate_row_data, with_coowner, bond_data, act_data, line_data, ticket_data, batch_data, names, refused_data, reply_data}
-use Rattle.ee_texts.proofs.Amounts.{dollars_small}
 use Rattle.ee_texts.specs.Ranges.{IsCustomer, IsSerial, RateRowFits, BondFits, ActFits, LineFits, TicketFits, BatchFits, NamedFits, ReplyFits}
 use Rattle.ee_tables.specs.Rows.{ReplyRow}
 use Rattle.ee_opening.specs.Opening.{AreReadable}
 use Rattle.ee_contents.specs.Standing.{rows_of, reply_row, IsRight, IsKept}
-use Rattle.ee_contents.proofs.Images.{get_desk, get_reply}
 
 -- ---- texts of JSON
 
@@ -180,7 +179,7 @@ digits_small (d ∷ ds) all =
 
 day_small : (n : ℕ) → IsDay n → AreSmall (day_text n)
 day_small n fits =
-    let it = day_sound (day_text n) n (day_back n fits.0 fits.1) in
+    let it = day_of-sound (day_text n) n (day_back n fits.0 fits.1) in
     subst AreSmall (sym it.parts)
     (joined it.ys _ (digits_small it.ys it.year_is.writes.digits) (lit< tt, joined it.ms _ (digits_small it.ms it.month_is.writes.digits) (lit< tt, digits_small it.ds it.day_is.writes.digits)))
 
@@ -308,6 +307,6 @@ row_readable n (Some k) row kept is =
 
 pub readable : (content : Content) → IsRight content → AreReadable (rows_of content)
 readable content right = record {
-  desk = (record { version = 1; day = content.books.day; last_day = content.books.last_day }, get_desk content.books.day content.books.last_day);
-  texts = λ n row got. row_readable n (finite.get content.kept n) row (right.kept n) (sym got ∙ get_reply content.kept n);
+  desk = (record { version = 1; day = content.books.day; last_day = content.books.last_day }, get_desk_row content.books.day content.books.last_day);
+  texts = λ n row got. row_readable n (finite.get content.kept n) row (right.kept n) (sym got ∙ get_reply_row content.kept n);
 }

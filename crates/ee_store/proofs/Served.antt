@@ -13,15 +13,15 @@ use Rattle.ee_acts.specs.Numbers.{Number, number_of}
 use Rattle.ee_acts.specs.Seen.{shown}
 use Rattle.ee_acts.specs.Effects.{effects_of}
 use Rattle.ee_acts.specs.Repeats.{Content}
-use Rattle.ee_acts.proofs.KeptReplies.{told_again, stays, told_new}
+use Rattle.ee_acts.proofs.Lemmas.Requests.{answer_again, content_after-kept, answer_new}
+use Rattle.ee_tables.proofs.Lemmas.Transactions.{unchanged_sees}
+use Rattle.ee_contents.proofs.Lemmas.{get_reply_row}
 use Rattle.ee_texts.specs.Ranges.{ActFits, ReplyFits}
 use Rattle.ee_texts.specs.Texts.{act_text, reply_text}
 use Rattle.ee_tables.specs.Rows.{ReplyRow, Sees, with_reply}
-use Rattle.ee_tables.proofs.KeepLemmas.{unchanged_sees}
 use Rattle.ee_contents.specs.Standing.{rows_of, reply_row, IsRight, IsKept}
 use Rattle.ee_store.specs.Written.{applied_rows}
 use Rattle.ee_store.specs.Serving.{SeesContent, IsDecided, IsServed}
-use Rattle.ee_contents.proofs.Images.{get_reply}
 use Rattle.ee_store.proofs.Again.{IsAgain}
 use Rattle.ee_store.proofs.Delivered.{rows_after, right_after}
 
@@ -52,13 +52,13 @@ kept_by row (Some kept) is = (kept, refl, ap (λ o. unwrap_or o row) is)
 pub is_again : (old new : State) (q : Request) (S : Content) (row : ReplyRow) (reply : Reply) → IsUnchanged old new → SeesContent old S
     → Some row ≡ finite.get (rows_of S).replies (number_of q) → ActFits q.act → IsAgain row.act row.reply (act_text q.act) reply → IsServed new q S false reply
 is_again old new q S row reply same sees is fits again =
-    let found = kept_by row (finite.get S.kept (number_of q)) (is ∙ get_reply S.kept (number_of q)) in
+    let found = kept_by row (finite.get S.kept (number_of q)) (is ∙ get_reply_row S.kept (number_of q)) in
     let kept = found.0 in
     let kept_is = found.1 in
     let right = subst (λ o. IfSome o (IsKept (number_of q))) kept_is (sees.right.kept (number_of q)) in
-    let stays = stays S q kept kept_is in
+    let stays = content_after-kept S q kept kept_is in
     record {
-      told = again (number_of q) kept q.act right fits (ap (λ r. r.act) found.2) (ap (λ r. r.reply) found.2) refl ∙ told_again S q kept kept_is;
+      told = again (number_of q) kept q.act right fits (ap (λ r. r.act) found.2) (ap (λ r. r.reply) found.2) refl ∙ answer_again S q kept kept_is;
       seen = subst (SeesContent new) stays (record { right = sees.right; rows = unchanged_sees old new (rows_of S) same sees.rows });
       first = sym (ap (λ o. not (is_some o)) kept_is);
     }
@@ -68,11 +68,11 @@ not_kept None is = refl
 not_kept (Some kept) is = absurd (cc)
 
 pub is_new : (S : Content) (n : Number) → None ≡ finite.get (rows_of S).replies n → finite.get S.kept n ≡ None
-is_new S n is = not_kept (finite.get S.kept n) (is ∙ get_reply S.kept n)
+is_new S n is = not_kept (finite.get S.kept n) (is ∙ get_reply_row S.kept n)
 
 pub is_first : (new : State) (q : Request) (S : Content) (reply : Reply) → finite.get S.kept (number_of q) ≡ None → IsDecided new q S reply → IsServed new q S true reply
 is_first new q S reply none is = record {
-  told = is.told ∙ told_new S q none;
+  told = is.told ∙ answer_new S q none;
   seen = is.seen;
   first = sym (ap (λ o. not (is_some o)) none);
 }

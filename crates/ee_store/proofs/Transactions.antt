@@ -7,18 +7,17 @@ use Rattle.ee_acts.specs.declared.acts.Request.{Request}
 use Rattle.ee_acts.specs.Numbers.{number_of}
 use Rattle.ee_acts.specs.Repeats.{Content}
 use Rattle.ee_acts.specs.Contents.{content_after}
-use Rattle.ee_acts.proofs.Repeats.{one_known}
+use Rattle.ee_acts.proofs.Lemmas.Requests.{content_after-known}
+use Rattle.ee_tables.proofs.Lemmas.Transactions.{clean_before, begun, begun_inside, begun_sees, still_has, committed_has, rolled_keeps}
 use Rattle.ee_tables.specs.Rows.{IsInside, Holds}
 use Rattle.ee_tables.specs.Statements.{CommitsNothing}
-use Rattle.ee_tables.proofs.KeepLemmas.{clean_before}
-use Rattle.ee_tables.proofs.TransactionLemmas.{begun, begun_inside, begun_sees, still_has, committed_has, rolled_keeps}
 use Rattle.ee_contents.specs.Standing.{rows_of}
 use Rattle.ee_store.specs.Serving.{StandsFor, HasContent, SeesContent}
 use Rattle.ee_store.specs.Asking.{KeepsContent}
 
 -- a number that comes again leaves the content
 pub known_stays : (S : Content) (q : Request) (is_new : Bool) → is_new ≡ false → is_new ≡ not (finite.contains_key S.kept (number_of q)) → S ≡ content_after S (q ∷ [])
-known_stays S q is_new again first = sym (one_known S q (negated (finite.contains_key S.kept (number_of q)) (sym again ∙ first)))
+known_stays S q is_new again first = sym (content_after-known S q (negated (finite.contains_key S.kept (number_of q)) (sym again ∙ first)))
   where
     negated : (b : Bool) → false ≡ not b → b ≡ true
     negated true e = refl

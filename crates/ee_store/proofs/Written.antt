@@ -22,14 +22,14 @@ use Rattle.ee_acts.specs.Acts.{changed, applied}
 use Rattle.ee_acts.specs.Sound.{IsSound, NumberedFrom, day_of_batch}
 use Rattle.ee_acts.specs.Lists.{Rising}
 use Rattle.ee_acts.specs.Repeats.{Content}
-use Rattle.ee_acts.proofs.Orders.{rising_below}
+use Rattle.ee_acts.proofs.Lemmas.Maps.{rising_below}
+use Rattle.ee_contents.proofs.Lemmas.{get_rate_row, get_bond_row, get_desk_row}
 use Rattle.ee_desk.specs.Added as added
 use Rattle.ee_desk.specs.Added.{AreNew}
 use Rattle.ee_desk.specs.Applicable.{IsRate, IsBond, IsUnpaid, AreApplicable}
 use Rattle.ee_tables.specs.Rows.{Rows, DeskRow, insert_new, day_set, with_batch, with_ticket}
 use Rattle.ee_contents.specs.Standing.{rate_rows, bond_rows, bond_row, key_of, ticket_row, batch_row, desk_rows, rows_of}
 use Rattle.ee_store.specs.Written.{applied_rows}
-use Rattle.ee_contents.proofs.Images.{get_rate, get_bond, get_desk}
 use Rattle.ee_store.proofs.Changes.{with_new_rate, with_new_bond, with_other_days, with_new_ticket, with_new_lines, with_new_marks, with_new_batch, lines_parts}
 
 abbrev pub with_books : Content → PlainBooks → Content
@@ -44,7 +44,7 @@ put_new m k x None none = refl
 put_new m k x (Some y) none = absurd (cc)
 
 no_rate : (rates : FinMap nat_cmp Rates) (from : ℕ) → finite.get rates from ≡ None → finite.get (rate_rows rates) from ≡ None
-no_rate rates from none = get_rate rates from ∙ ap (option_map (λ rates. rates.fixed)) none
+no_rate rates from none = get_rate_row rates from ∙ ap (option_map (λ rates. rates.fixed)) none
 
 rate_written : (rates : FinMap nat_cmp Rates) (from : ℕ) (r : Rates) → finite.get rates from ≡ None
     → rate_rows (insert rates from r) ≡ insert_new (rate_rows rates) from r.fixed (finite.get (rate_rows rates) from)
@@ -62,7 +62,7 @@ rates_written S (change.Batch batch ∷ cs) h new = absurd h.0
 
 -- ---- bonds
 no_bond : (bonds : FinMap serial_cmp Bond) (tickets : List Ticket) (s : SerialNumber) → finite.get bonds s ≡ None → finite.get (bond_rows bonds tickets) (key_of s) ≡ None
-no_bond bonds tickets s none = get_bond bonds tickets s ∙ ap (option_map (λ bond. bond_row (held_as tickets s bond))) none
+no_bond bonds tickets s none = get_bond_row bonds tickets s ∙ ap (option_map (λ bond. bond_row (held_as tickets s bond))) none
 
 bond_written : (bonds : FinMap serial_cmp Bond) (tickets : List Ticket) (bond : Bond) → finite.get bonds bond.serial ≡ None → ticket_of tickets bond.serial ≡ None
     → bond_rows (insert bonds bond.serial bond) tickets ≡ insert_new (bond_rows bonds tickets) (key_of bond.serial) (bond_row (record { bond = bond; ticket = None })) (finite.get (bond_rows bonds tickets) (key_of bond.serial))
@@ -94,7 +94,7 @@ days_written : (rows : Rows) (day last_day old_day old_last : Option ℕ) → ro
     → record rows { desk = desk_rows day last_day } ≡ day_set rows day last_day (finite.get rows.desk 1)
 days_written rows day last_day old_day old_last is =
     (λ i. record rows { desk = (with_other_days old_day old_last day last_day ∙ ap (λ desk. insert desk 1 (record { version = 1; day = day; last_day = last_day })) (sym is)) i })
-    ∙ days_set rows day last_day old_day old_last (finite.get rows.desk 1) (ap (λ desk. finite.get desk 1) is ∙ get_desk old_day old_last)
+    ∙ days_set rows day last_day old_day old_last (finite.get rows.desk 1) (ap (λ desk. finite.get desk 1) is ∙ get_desk_row old_day old_last)
 
 -- ---- a ticket
 numbered_front : (n : ℕ) (tickets more : List Ticket) → NumberedFrom n (tickets ++ more) → NumberedFrom n tickets

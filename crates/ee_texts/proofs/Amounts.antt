@@ -13,9 +13,7 @@ use Rattle.ee_units.specs.Grammar.{WritesNumber, WritesDigits}
 use Rattle.ee_units.specs.Denoms.{dollars}
 use Rattle.ee_units.specs.declared.denoms.Denom.{Denom}
 use Rattle.ee_units.specs.declared.denoms.Denom.TheVariants as denom
-use Rattle.ee_units.proofs.Numbers.{own}
-use Rattle.ee_units.proofs.Parts.{number_of-writes, parts_at-joined}
-use Rattle.ee_units.proofs.MonthGrammar.{digits_of-writes}
+use Rattle.ee_units.proofs.Lemmas.{digits_are_numerals, number_of-writes, parts_at-joined, digits_of-writes}
 use Rattle.ee_texts.specs.Reading.{cents_of, denom_with}
 
 two_fits : (n : ℕ) → n < 100 → WritesDigits 2 (two_digits n) n
@@ -45,8 +43,8 @@ dollars_fit n small =
     record {
       some = decimal_nonempty n fits;
       few = length-decimal-le 18 n some small fits;
-      digits = digits_decimal own n fits;
-      value = digits_value-decimal own n fits;
+      digits = digits_decimal digits_are_numerals n fits;
+      value = digits_value-decimal digits_are_numerals n fits;
     }
 
 -- a number in a range is found there

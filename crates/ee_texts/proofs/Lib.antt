@@ -1,4 +1,5 @@
-pub mod Amounts
-pub mod Back
-pub mod Whole
-pub mod Same
+mod Amounts
+mod Back
+mod Whole
+mod Same
+pub mod Lemmas

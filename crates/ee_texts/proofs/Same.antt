@@ -8,7 +8,7 @@ use Rattle.serde_json.specs.Read.{read}
 use Rattle.serde_json.specs.View.{items_of}
 use Rattle.ee_units.specs.Spelling.{SerialNumber, in_range, serial_of}
 use Rattle.ee_units.specs.Texts.{serial_text}
-use Rattle.ee_units.proofs.ReadBack.{rate_back, issue_back, day_back, serial_back}
+use Rattle.ee_units.proofs.Lemmas.{rate_back, issue_back, day_back, serial_back}
 use Rattle.ee_calculator.specs.declared.bonds.Bond.{Bond}
 use Rattle.ee_value.specs.declared.rates.RateRow.{RateRow}
 use Rattle.ee_acts.specs.declared.acts.Act.{Act}

@@ -1,12 +1,13 @@
-pub mod Numbers
-pub mod Texts
-pub mod Parts
-pub mod Known
-pub mod MonthOfDay
-pub mod Padded
-pub mod ReadBack
-pub mod RateGrammar
-pub mod DenomTexts
-pub mod MonthGrammar
-pub mod DayGrammar
-pub mod SerialGrammar
+mod Numbers
+mod Texts
+mod Parts
+mod Known
+mod MonthOfDay
+mod Padded
+mod ReadBack
+mod RateGrammar
+mod DenomTexts
+mod MonthGrammar
+mod DayGrammar
+mod SerialGrammar
+pub mod Lemmas

@@ -1,6 +1,7 @@
-pub mod Rounding
-pub mod Starts
-pub mod Settled
-pub mod OpenAges
-pub mod Accruals
-pub mod FirstOpen
+mod Rounding
+mod Starts
+mod Settled
+mod OpenAges
+mod Accruals
+mod FirstOpen
+pub mod Lemmas

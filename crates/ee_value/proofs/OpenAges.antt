@@ -6,10 +6,9 @@ use Rattle.std.specs.Option.{ok_or}
 use Rattle.ee_roots.specs.Products.{power_down, power_up}
 use Rattle.ee_roots.specs.Roots.{IsLow, IsHigh}
 use Rattle.ee_roots.specs.Amounts.{cents}
-use Rattle.ee_roots.proofs.Directed.{power_up-mono, power_down-le-up, top_exceeds, top_reaches}
+use Rattle.ee_roots.proofs.Lemmas.{power_up-mono, power_down-le-up, top_exceeds, top_reaches, Encloses-from_root}
 use Rattle.std.proofs.Math.Pow.{shr_mono}
 use Rattle.std.proofs.Math.Nat.{mul-le-mul_left}
-use Rattle.ee_roots.proofs.Bounds.{Encloses-from_root}
 use Rattle.ee_value.proofs.Settled.{Rounds-settled, Close-from_bounds}
 use Rattle.ee_value.specs.declared.rates.Rates.{Rates}
 use Rattle.ee_value.specs.Rounding.{Rounds, grown}

@@ -6,14 +6,14 @@ use Rattle.std.proofs.lemmas.Bool.{cases_lt}
 use Rattle.ee_roots.specs.Products.{power_down, power_up}
 use Rattle.ee_roots.specs.Roots.{Encloses}
 use Rattle.ee_roots.specs.Amounts.{cents}
-use Rattle.ee_roots.proofs.Bounds.{power_up-ge, power_down-le, pow-pow}
+use Rattle.ee_roots.proofs.Lemmas.{power_up-ge, power_down-le, pow-mul}
 use Rattle.ee_value.specs.Rounding.{Rounds}
 use Rattle.ee_value.specs.Open.{Close}
 
 -- ---- powers of the bounds enclose powers of the root
 
 sixth-swap : (n k : ℕ) → (n ^ k) ^ 6 ≡ (n ^ 6) ^ k
-sixth-swap n k = sym (pow-pow n 6 k) ∙ ap (λ e. n ^ e) (mul_comm 6 k) ∙ pow-pow n k 6
+sixth-swap n k = sym (pow-mul n 6 k) ∙ ap (λ e. n ^ e) (mul_comm 6 k) ∙ pow-mul n k 6
 
 cancel : (l x p t s f : ℕ) → 0 < x → l * x ≤ p → p * t ≤ x * s * f → l * t ≤ s * f
 cancel l x p t s f some h k =
@@ -35,7 +35,7 @@ pub low_power : (b r low k : ℕ) → low ^ 6 * 20000 ≤ 2 ^ (6 * b) * (20000 +
 low_power b r low k h =
     let a : power_down b low k ^ 6 * ((2 ^ b) ^ k) ^ 6 ≤ (low ^ (k + 1)) ^ 6 =
     rw (mul-pow (power_down b low k) ((2 ^ b) ^ k) 6) at (pow-le-pow_left (power_down-le b low k) 6) in
-    let h' : low ^ 6 * 20000 ≤ (2 ^ b) ^ 6 * (20000 + r) = rw (pow-pow 2 6 b) at h in
+    let h' : low ^ 6 * 20000 ≤ (2 ^ b) ^ 6 * (20000 + r) = rw (pow-mul 2 6 b) at h in
     let c : (low ^ 6 * 20000) ^ (k + 1) ≤ ((2 ^ b) ^ 6 * (20000 + r)) ^ (k + 1) = pow-le-pow_left h' (k + 1) in
     let d : (low ^ (k + 1)) ^ 6 * 20000 ^ (k + 1) ≤ ((2 ^ b) ^ k) ^ 6 * (2 ^ b) ^ 6 * (20000 + r) ^ (k + 1) =
     rw (sixth_terms low 20000 k, sixth_terms (2 ^ b) (20000 + r) k, sixth_next (2 ^ b) k) at c in
@@ -51,7 +51,7 @@ pub high_power : (b r high k : ℕ) → 2 ^ (6 * b) * (20000 + r) ≤ high ^ 6 *
 high_power b r high k h =
     let a : (high ^ (k + 1)) ^ 6 ≤ power_up b high k ^ 6 * ((2 ^ b) ^ k) ^ 6 =
     rw (mul-pow (power_up b high k) ((2 ^ b) ^ k) 6) at (pow-le-pow_left (power_up-ge b high k) 6) in
-    let h' : (2 ^ b) ^ 6 * (20000 + r) ≤ high ^ 6 * 20000 = rw (pow-pow 2 6 b) at h in
+    let h' : (2 ^ b) ^ 6 * (20000 + r) ≤ high ^ 6 * 20000 = rw (pow-mul 2 6 b) at h in
     let c : ((2 ^ b) ^ 6 * (20000 + r)) ^ (k + 1) ≤ (high ^ 6 * 20000) ^ (k + 1) = pow-le-pow_left h' (k + 1) in
     let d : ((2 ^ b) ^ k) ^ 6 * (2 ^ b) ^ 6 * (20000 + r) ^ (k + 1) ≤ (high ^ (k + 1)) ^ 6 * 20000 ^ (k + 1) =
     rw (sixth_terms high 20000 k, sixth_terms (2 ^ b) (20000 + r) k, sixth_next (2 ^ b) k) at c in

@@ -1,1 +1,1 @@
-pub mod Texts
+mod Texts

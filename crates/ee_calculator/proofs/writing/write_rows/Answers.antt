@@ -1,14 +1,14 @@
 use Rattle.ee_calculator.specs.Sheets.{line, row_cell}
-use Rattle.ee_device.proofs.Fronts.{piece_done, piece_cut, all_done}
+use Rattle.ee_device.proofs.Lemmas.{next_piece_written, next_piece_cut, all_pieces_written}
 use Rattle.ee_calculator.proofs.writing.write_rows.Goals as goal
 
 pub loop-row-preserved : goal.loop-row-preserved
 loop-row-preserved g c =
-    piece_done _ _ _ (λ r. line (row_cell r)) c.args.rows.now c.loop-row.row-index c.row-item.result c.row-item.result c.write_line.result c.loop-row-test.true c.row-item.is c.loop-row.invariant c.write_line.ensures c.if-not-write_line.false
+    next_piece_written _ _ _ (λ r. line (row_cell r)) c.args.rows.now c.loop-row.row-index c.row-item.result c.row-item.result c.write_line.result c.loop-row-test.true c.row-item.is c.loop-row.invariant c.write_line.ensures c.if-not-write_line.false
 
 pub returns-then-not-write_line : goal.returns-then-not-write_line
 returns-then-not-write_line g c =
-    piece_cut _ _ _ (λ r. line (row_cell r)) c.args.rows.now c.loop-row.row-index c.row-item.result c.row-item.result c.write_line.result c.loop-row-test.true c.row-item.is c.loop-row.invariant c.write_line.ensures c.if-not-write_line.true
+    next_piece_cut _ _ _ (λ r. line (row_cell r)) c.args.rows.now c.loop-row.row-index c.row-item.result c.row-item.result c.write_line.result c.loop-row-test.true c.row-item.is c.loop-row.invariant c.write_line.ensures c.if-not-write_line.true
 
 pub returns : goal.returns
-returns g c = all_done _ _ (λ r. line (row_cell r)) c.args.rows.now c.loop-row.row-index c.loop-row-test.false c.loop-row.invariant
+returns g c = all_pieces_written _ _ (λ r. line (row_cell r)) c.args.rows.now c.loop-row.row-index c.loop-row-test.false c.loop-row.invariant

@@ -1,11 +1,9 @@
 use Rattle.std.proofs.Common.{ap, sym, ◌∙◌}
-use Rattle.ee_acts.proofs.Maps.{exact_serials}
-use Rattle.ee_acts.proofs.Maps.{serials_total}
-use Rattle.ee_acts.proofs.Maps.{one_more}
+use Rattle.ee_acts.proofs.Lemmas.Maps.{serials_exact, serials_total, map_with_one_more}
 use Rattle.ee_desk.specs.Kept.{held_in}
 use Rattle.ee_desk.specs.Added.{held_row, with_row}
 use Rattle.ee_desk.proofs.additions.add_bond.Goals as goal
 
 pub returns-in_ok-insert-clause-ok : goal.returns-in_ok-insert-clause-ok
 returns-in_ok-insert-clause-ok c =
-    one_more serials_total exact_serials _ _ _ _ c.in_ok-insert.ensures.updates.0 ∙ ap (λ x. with_row (held_in c.args.bonds.now.entries) (held_row x)) (sym c.in-Bond.is)
+    map_with_one_more serials_total serials_exact _ _ _ _ c.in_ok-insert.ensures.updates.0 ∙ ap (λ x. with_row (held_in c.args.bonds.now.entries) (held_row x)) (sym c.in-Bond.is)

@@ -1,6 +1,5 @@
 use Rattle.std.proofs.Common.{ap, sym, ◌∙◌, take}
-use Rattle.ee_acts.proofs.Maps.{exact_serials}
-use Rattle.ee_acts.proofs.Maps.{serials_total}
+use Rattle.ee_acts.proofs.Lemmas.Maps.{serials_exact, serials_total}
 use Rattle.ee_desk.specs.Kept.{held_in}
 use Rattle.ee_desk.specs.Added.{held_row, with_row, without_changes}
 use Rattle.ee_desk.proofs.Added.{undone, new_take, with_more}
@@ -9,7 +8,7 @@ use Rattle.ee_desk.proofs.additions.add_bonds.Goals as goal
 pub returns-in-Err-clause-err : goal.returns-in-Err-clause-err
 returns-in-Err-clause-err c =
     c.take_bonds.ensures ∙ ap (λ m. without_changes held_row m (take c.loop-i.i c.args.changes.now)) (ap held_in c.in-Err.ensures.err ∙ c.loop-i.invariant)
-    ∙ undone serials_total exact_serials held_row _ (take c.loop-i.i c.args.changes.now) (new_take held_row _ c.loop-i.i c.args.changes.now c.requires)
+    ∙ undone serials_total serials_exact held_row _ (take c.loop-i.i c.args.changes.now) (new_take held_row _ c.loop-i.i c.args.changes.now c.requires)
 
 pub loop-i-preserved : goal.loop-i-preserved
 loop-i-preserved c =

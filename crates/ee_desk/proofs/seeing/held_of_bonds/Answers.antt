@@ -1,7 +1,7 @@
 use Rattle.std.proofs.Common.{sym, ◌∙◌}
 use Rattle.ee_calculator.specs.declared.bonds.Bond.{Bond}
 use Rattle.ee_acts.specs.Seen.{held_of}
-use Rattle.ee_acts.proofs.Maps.{serials_total, exact_serials}
+use Rattle.ee_acts.proofs.Lemmas.Maps.{serials_total, serials_exact}
 use Rattle.ee_desk.specs.Kept.{noted}
 use Rattle.ee_desk.proofs.Picked.{picked_more}
 use Rattle.ee_desk.proofs.seeing.held_of_bonds.Goals as goal
@@ -9,4 +9,4 @@ use Rattle.ee_desk.proofs.seeing.held_of_bonds.Goals as goal
 pub loop-bond-preserved : goal.loop-bond-preserved
 loop-bond-preserved c =
     c.in_ok-note_held.ensures ∙ (λ i. noted (held_of c.args.ledger.now) (c.loop-bond.invariant i) (c.bond-item.is i).serial)
-    ∙ sym (picked_more serials_total exact_serials (held_of c.args.ledger.now) (λ (b : Bond). b.serial) c.args.bonds.now c.loop-bond.bond-index c.bond-item.result c.loop-bond-test.true)
+    ∙ sym (picked_more serials_total serials_exact (held_of c.args.ledger.now) (λ (b : Bond). b.serial) c.args.bonds.now c.loop-bond.bond-index c.bond-item.result c.loop-bond-test.true)

@@ -1,5 +1,5 @@
 use Rattle.sqlite.specs.Held.{state}
-use Rattle.ee_tables.proofs.KeepLemmas.{inside_if_ok}
+use Rattle.ee_tables.proofs.Lemmas.Transactions.{inside_if_ok}
 use Rattle.ee_opening.proofs.FirstLemmas.{adds_first}
 use Rattle.ee_opening.proofs.FaultLemmas.{told_as}
 use Rattle.ee_opening.proofs.MakeUsable.{within_or_ended, adds_desk_usable}

@@ -1,5 +1,6 @@
 use Rattle.sqlite.specs.Held.{state}
-use Rattle.ee_tables.proofs.KeepLemmas.{clean_before, on_ok}
+use Rattle.ee_tables.proofs.Lemmas.Transactions.{clean_before}
+use Rattle.std.proofs.lemmas.Result.{on_ok_weaker}
 use Rattle.ee_opening.proofs.FaultLemmas.{handed_on}
 use Rattle.ee_opening.proofs.ReadLemmas.{each_fault}
 use Rattle.ee_opening.proofs.making.make_in.Goals as goal
@@ -11,7 +12,7 @@ returns-clause-added g c clean =
     let new = state g.S.Store c.make_records.new.tx.conn.now in
     let clean_2 = clean_before second new c.make_records.ensures.crash clean in
     let clean_1 = clean_before first second c.make_payments.ensures.crash clean_2 in
-    on_ok c.make_records.result (λ added none. added (c.in_ok-make_payments.ensures.added clean_2 (c.in_ok-make_register.ensures.added clean_1 none))) (c.make_records.ensures.added clean)
+    on_ok_weaker c.make_records.result (λ added none. added (c.in_ok-make_payments.ensures.added clean_2 (c.in_ok-make_register.ensures.added clean_1 none))) (c.make_records.ensures.added clean)
 
 pub returns-in_err-make_register-clause-usable : goal.returns-in_err-make_register-clause-usable
 returns-in_err-make_register-clause-usable g c clean =

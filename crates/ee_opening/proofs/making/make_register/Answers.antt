@@ -1,5 +1,6 @@
 use Rattle.sqlite.specs.Held.{state}
-use Rattle.ee_tables.proofs.KeepLemmas.{clean_before, on_ok}
+use Rattle.ee_tables.proofs.Lemmas.Transactions.{clean_before}
+use Rattle.std.proofs.lemmas.Result.{on_ok_weaker}
 use Rattle.ee_opening.specs.Making.{no_tables, register_tables}
 use Rattle.ee_opening.proofs.TextLemmas.{with_desk, with_rates, with_bonds, adds_desk, adds_rates, adds_bonds, adds_owner}
 use Rattle.ee_opening.proofs.FaultLemmas.{handed_on}
@@ -15,7 +16,7 @@ returns-clause-added g c clean =
     let clean_3 = clean_before third new c.define_index.ensures.crash clean in
     let clean_2 = clean_before second third c.define_table-3.ensures.crash clean_3 in
     let clean_1 = clean_before first second c.define_table-2.ensures.crash clean_2 in
-    on_ok c.define_index.result (λ added none. added with_bonds register_tables adds_owner (c.in_ok-define_table-3.ensures.added clean_3 with_rates with_bonds adds_bonds
+    on_ok_weaker c.define_index.result (λ added none. added with_bonds register_tables adds_owner (c.in_ok-define_table-3.ensures.added clean_3 with_rates with_bonds adds_bonds
     (c.in_ok-define_table-2.ensures.added clean_2 with_desk with_rates adds_rates (c.in_ok-define_table.ensures.added clean_1 no_tables with_desk adds_desk none)))) (c.define_index.ensures.added clean)
 
 pub returns-in_err-define_table-clause-usable : goal.returns-in_err-define_table-clause-usable

@@ -2,8 +2,7 @@ use Rattle.std.proofs.Common.{◌∙◌, sym, ap, subst}
 use Rattle.sqlite.specs.Held.{state}
 use Rattle.sqlite.specs.State.{HasCleanDisk, Survives}
 use Rattle.ee_tables.specs.Rows.{Has, Holds}
-use Rattle.ee_tables.proofs.KeepLemmas.{clean_before}
-use Rattle.ee_tables.proofs.TransactionLemmas.{committed_has, commit_survives}
+use Rattle.ee_tables.proofs.Lemmas.Transactions.{clean_before, committed_has, commit_survives}
 use Rattle.ee_opening.specs.Making.{IsBlank, first_rows}
 use Rattle.ee_opening.proofs.BeginLemmas.{sees_none}
 use Rattle.ee_opening.proofs.making.make_tables.Goals as goal

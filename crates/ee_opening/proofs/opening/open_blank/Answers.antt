@@ -2,7 +2,8 @@ use Rattle.std.proofs.Common.{inr}
 use Rattle.sqlite.specs.Held.{state}
 use Rattle.sqlite.proofs.StateLemmas.{survives_then}
 use Rattle.ee_tables.specs.Rows.{Holds}
-use Rattle.ee_tables.proofs.KeepLemmas.{clean_before, IfOk_then, if_err}
+use Rattle.ee_tables.proofs.Lemmas.Transactions.{clean_before, on_err_from}
+use Rattle.std.proofs.lemmas.Result.{IfOk-weaker}
 use Rattle.ee_opening.specs.Making.{IsBlank, first_rows}
 use Rattle.ee_opening.proofs.OpenLemmas.{kept_has, two_faults, first_is_first, first_readable}
 use Rattle.ee_opening.proofs.FaultLemmas.{handed_on}
@@ -14,7 +15,7 @@ returns-clause-found g c clean =
     let middle = state g.S.Store c.make_tables.new.conn in
     let new = state g.S.Store c.read_all.new.conn in
     let made = c.in_ok-make_tables.ensures.made (clean_before middle new c.read_all.ensures.crash clean) in
-    IfOk_then c.read_all.result (λ all found blank. found (λ is_open. (made blank is_open).0)) (c.read_all.ensures.found clean)
+    IfOk-weaker c.read_all.result _ _ (λ all found blank. found (λ is_open. (made blank is_open).0)) (c.read_all.ensures.found clean)
 
 pub returns-clause-made : goal.returns-clause-made
 returns-clause-made g c clean =
@@ -22,7 +23,7 @@ returns-clause-made g c clean =
     let new = state g.S.Store c.read_all.new.conn in
     let before = clean_before middle new c.read_all.ensures.crash clean in
     let made = c.in_ok-make_tables.ensures.made before in
-    IfOk_then c.read_all.result (λ all those blank. those first_rows (made blank) (c.in_ok-make_tables.ensures.open before).1) (c.read_all.ensures.those clean)
+    IfOk-weaker c.read_all.result _ _ (λ all those blank. those first_rows (made blank) (c.in_ok-make_tables.ensures.open before).1) (c.read_all.ensures.those clean)
 
 pub returns-clause-failed : goal.returns-clause-failed
 returns-clause-failed g c clean =
@@ -30,7 +31,7 @@ returns-clause-failed g c clean =
     let new = state g.S.Store c.read_all.new.conn in
     let before = clean_before middle new c.read_all.ensures.crash clean in
     let made = c.in_ok-make_tables.ensures.made before in
-    if_err c.read_all.result (inr ((c.in_ok-make_tables.ensures.open before).0, λ blank. kept_has middle new first_rows (c.read_all.ensures.kept clean (λ is_open. (made blank is_open).0)) (made blank)))
+    on_err_from c.read_all.result (inr ((c.in_ok-make_tables.ensures.open before).0, λ blank. kept_has middle new first_rows (c.read_all.ensures.kept clean (λ is_open. (made blank is_open).0)) (made blank)))
 
 pub returns-clause-crash : goal.returns-clause-crash
 returns-clause-crash g c =

@@ -1,5 +1,5 @@
 use Rattle.sqlite.specs.Held.{state}
-use Rattle.ee_tables.proofs.KeepLemmas.{IfOk_then}
+use Rattle.std.proofs.lemmas.Result.{IfOk-weaker}
 use Rattle.ee_opening.proofs.OpenLemmas.{not_blank, not_ours, either_failed, is_ours_if, is_blank_if, any_ok, each_err, still_err, if_ok, still_ok, leaves_less}
 use Rattle.ee_opening.proofs.opening.open_rows.Goals as goal
 
@@ -7,13 +7,13 @@ pub returns-then-has_tables-clause-found : goal.returns-then-has_tables-clause-f
 returns-then-has_tables-clause-found g c clean =
     let old = state g.S.Store c.args.conn.now in
     let settled = c.is_autocommit.ensures.settled c.if-not-is_autocommit.false in
-    IfOk_then c.read_all.result (λ all found either. found (is_ours_if old settled c.has_tables.result c.has_tables.ensures c.if-has_tables.true either)) (c.read_all.ensures.found clean)
+    IfOk-weaker c.read_all.result _ _ (λ all found either. found (is_ours_if old settled c.has_tables.result c.has_tables.ensures c.if-has_tables.true either)) (c.read_all.ensures.found clean)
 
 pub returns-else-has_tables-clause-found : goal.returns-else-has_tables-clause-found
 returns-else-has_tables-clause-found g c clean =
     let old = state g.S.Store c.args.conn.now in
     let settled = c.is_autocommit.ensures.settled c.if-not-is_autocommit.false in
-    IfOk_then c.open_blank.result (λ all found either. found (is_blank_if old settled c.has_tables.result c.has_tables.ensures c.if-has_tables.false either)) (c.open_blank.ensures.found clean)
+    IfOk-weaker c.open_blank.result _ _ (λ all found either. found (is_blank_if old settled c.has_tables.result c.has_tables.ensures c.if-has_tables.false either)) (c.open_blank.ensures.found clean)
 
 pub returns-else-has_tables-clause-those : goal.returns-else-has_tables-clause-those
 returns-else-has_tables-clause-those g c clean =

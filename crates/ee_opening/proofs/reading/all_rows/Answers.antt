@@ -4,7 +4,7 @@ use Rattle.sqlite.specs.Order.{Row}
 use Rattle.sqlite.specs.Listing.{understood}
 use Rattle.sqlite.proofs.Callers.{IsPlain}
 use Rattle.ee_tables.specs.Tables.{counter_schema}
-use Rattle.ee_tables.proofs.KeepLemmas.{query_keeps, shown_open, is_open_after, query_same}
+use Rattle.ee_tables.proofs.Lemmas.Transactions.{query_keeps, shown_open, is_open_after, query_same}
 use Rattle.ee_opening.proofs.FaultLemmas.{query_usable, told_as}
 use Rattle.ee_opening.proofs.ScanLemmas.{is_plain, answers, shows_all, shown_keeps}
 use Rattle.ee_opening.proofs.reading.all_rows.Goals as goal

@@ -1,5 +1,5 @@
 use Rattle.sqlite.specs.Held.{state}
-use Rattle.ee_tables.proofs.KeepLemmas.{on_ok}
+use Rattle.std.proofs.lemmas.Result.{on_ok_weaker}
 use Rattle.ee_opening.proofs.QuestionLemmas.{desk_terms, asks_desk}
 use Rattle.ee_opening.proofs.ReadLemmas.{both_ok, each_ok, each_fault}
 use Rattle.ee_opening.proofs.CanRead.{can_read_desk}
@@ -12,7 +12,7 @@ returns-clause-found g c clean inside sound =
     both_ok c.read_table.result (λ found shows up. holds_desk old.now (sound (shows 0 desk_terms asks_desk inside).0) (inside (shows 0 desk_terms asks_desk inside).0).1 found.items (shows 0 desk_terms asks_desk inside).1 up) (c.read_table.ensures.found clean) c.read_table.ensures.rises
 
 pub returns-clause-same : goal.returns-clause-same
-returns-clause-same g c clean inside = on_ok c.read_table.result (λ same. same 0 desk_terms asks_desk inside) (c.read_table.ensures.same clean)
+returns-clause-same g c clean inside = on_ok_weaker c.read_table.result (λ same. same 0 desk_terms asks_desk inside) (c.read_table.ensures.same clean)
 
 pub returns-clause-listed : goal.returns-clause-listed
 returns-clause-listed g c = each_ok c.read_table.result (λ found up. listed_desk found.items up) c.read_table.ensures.rises

@@ -5,7 +5,7 @@ use Rattle.sqlite.specs.Held.{state}
 use Rattle.sqlite.proofs.Callers.{unchanged_then}
 use Rattle.ee_tables.specs.Keyed.{HoldsPairs}
 use Rattle.ee_tables.specs.Rows.{paid_columns}
-use Rattle.ee_tables.proofs.KeepLemmas.{clean_before, unchanged_inside}
+use Rattle.ee_tables.proofs.Lemmas.Transactions.{clean_before, unchanged_inside}
 use Rattle.ee_opening.specs.declared.entries.Rowid.{Rowid}
 use Rattle.ee_opening.specs.Reading.{ShowsAll}
 use Rattle.ee_opening.proofs.QuestionLemmas.{line_terms, rowid_terms, asks_lines, asks_line_rowids}

@@ -6,7 +6,7 @@ use Rattle.sqlite.specs.Held.{state}
 use Rattle.ee_tables.specs.Tables.{counter_schema}
 use Rattle.ee_tables.specs.Rows.{IsInside}
 use Rattle.ee_opening.specs.declared.making.OpenFault.TheVariants.{Unusable}
-use Rattle.ee_tables.proofs.KeepLemmas.{query_keeps, shown_open, is_open_after, query_same}
+use Rattle.ee_tables.proofs.Lemmas.Transactions.{query_keeps, shown_open, is_open_after, query_same}
 use Rattle.ee_opening.proofs.FaultLemmas.{query_usable, told_as}
 use Rattle.ee_opening.proofs.ScanLemmas.{shown_keeps}
 use Rattle.ee_opening.proofs.VersionLemmas.{version_text, version_plain, given_id, shows_version}

@@ -2,7 +2,7 @@ use Rattle.std.proofs.Common.{◌≡◌, IsTrue, sym, ap, subst, ◌∙◌}
 use Rattle.sqlite.specs.Held.{state}
 use Rattle.sqlite.specs.State.{HasCleanDisk}
 use Rattle.ee_tables.specs.Rows.{Rows, Has}
-use Rattle.ee_tables.proofs.KeepLemmas.{clean_before}
+use Rattle.ee_tables.proofs.Lemmas.Transactions.{clean_before}
 use Rattle.ee_opening.specs.Whole.{IsOurs, rows_of}
 use Rattle.ee_opening.proofs.WholeLemmas.{are_in_order, starts_inside, starts_sound, is_ours, are_those, has_read}
 use Rattle.ee_opening.proofs.whole.read_all.Goals as goal

@@ -2,7 +2,7 @@ use Rattle.std.proofs.Common.{sym, subst, ◌∙◌}
 use Rattle.sqlite.specs.Effect.{Database}
 use Rattle.sqlite.specs.Held.{state}
 use Rattle.ee_tables.specs.Rows.{Holds}
-use Rattle.ee_tables.proofs.KeepLemmas.{clean_before, unchanged_inside}
+use Rattle.ee_tables.proofs.Lemmas.Transactions.{clean_before, unchanged_inside}
 use Rattle.ee_opening.proofs.FaultLemmas.{handed_on}
 use Rattle.ee_opening.proofs.ReadLemmas.{each_fault}
 use Rattle.ee_opening.proofs.VersionLemmas.{one_version}

@@ -4,7 +4,7 @@ use Rattle.sqlite.specs.Held.{state}
 use Rattle.sqlite.proofs.Callers.{unchanged_then}
 use Rattle.ee_tables.specs.Keyed.{HoldsMap, HoldsPairs}
 use Rattle.ee_tables.specs.Rows.{rate_columns, bond_columns, Holds}
-use Rattle.ee_tables.proofs.KeepLemmas.{clean_before, unchanged_inside}
+use Rattle.ee_tables.proofs.Lemmas.Transactions.{clean_before, unchanged_inside}
 use Rattle.ee_opening.specs.Shown.{rate_map, bond_map}
 use Rattle.ee_opening.proofs.FaultLemmas.{handed_on}
 use Rattle.ee_opening.proofs.ReadLemmas.{sound_after, keeps_after}

@@ -5,7 +5,7 @@ use Rattle.std.specs.BTreeMap.{is_at}
 use Rattle.std.specs.Ordering.{nat_cmp}
 use Rattle.std.specs.Cmp.{nat_cmp_total}
 use Rattle.ee_units.specs.Calendar.{period_start}
-use Rattle.ee_acts.proofs.Maps.{get_lookup}
+use Rattle.ee_acts.proofs.Lemmas.Maps.{get_lookup}
 use Rattle.ee_acts.specs.PlainBooks.{is_payee}
 use Rattle.ee_parts.proofs.LinePays.{pays_if, no_terms}
 use Rattle.ee_parts.proofs.lines.pays_bond.Goals as goal

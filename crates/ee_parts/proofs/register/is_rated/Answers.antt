@@ -5,7 +5,7 @@ use Rattle.std.specs.BTreeMap.{is_at}
 use Rattle.std.specs.Ordering.{nat_cmp}
 use Rattle.std.specs.Cmp.{nat_cmp_total}
 use Rattle.ee_units.specs.Calendar.{period_start}
-use Rattle.ee_acts.proofs.Maps.{get_lookup}
+use Rattle.ee_acts.proofs.Lemmas.Maps.{get_lookup}
 use Rattle.ee_parts.proofs.register.is_rated.Goals as goal
 
 pub returns : goal.returns

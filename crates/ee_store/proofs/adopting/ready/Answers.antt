@@ -1,7 +1,8 @@
 use Rattle.std.proofs.Common.{rules, ◌≡◌, ◌≢◌, inr, IsTrue, IfErr}
 use Rattle.sqlite.specs.Held.{state}
 use Rattle.ee_tables.specs.Rows.{Rows, Has}
-use Rattle.ee_tables.proofs.KeepLemmas.{if_err, IfOk_on}
+use Rattle.ee_tables.proofs.Lemmas.Transactions.{on_err_from}
+use Rattle.std.proofs.lemmas.Result.{IfOk-weaker}
 use Rattle.ee_opening.specs.declared.making.OpenFault.TheVariants.{WrongVersion, Unusable}
 use Rattle.ee_opening.specs.Making.{IsBlank}
 use Rattle.ee_opening.specs.Whole as whole
@@ -16,7 +17,7 @@ returns-in_err-all-clause-kept g c clean =
     let old = state g.S.Store c.args.conn.now in
     let new = state g.S.Store c.open_rows.new.conn in
     let it = c.in_err-all.ensures.failed clean in
-    if_err c.from_residual.result (it.0, λ blank. begun_or old new (it.1 blank))
+    on_err_from c.from_residual.result (it.0, λ blank. begun_or old new (it.1 blank))
 
 pub returns-in_err-all-clause-version : goal.returns-in_err-all-clause-version
 returns-in_err-all-clause-version g c clean =
@@ -58,7 +59,7 @@ returns-clause-stands g c clean =
     let old = state g.S.Store c.args.conn.now in
     let new = state g.S.Store c.open_rows.new.conn in
     let it = c.in_ok-all.ensures in
-    IfOk_on c.prepared.result (λ tables ok. has_some old new (whole.rows_of c.in_ok-all.all) (it.found clean) ok.0) c.prepared.ensures.ok
+    IfOk-weaker c.prepared.result _ _ (λ tables ok. has_some old new (whole.rows_of c.in_ok-all.all) (it.found clean) ok.0) c.prepared.ensures.ok
 
 pub returns-clause-follows : goal.returns-clause-follows
 returns-clause-follows g c clean =
@@ -72,7 +73,7 @@ returns-clause-kept g c clean =
     let old = state g.S.Store c.args.conn.now in
     let new = state g.S.Store c.open_rows.new.conn in
     let it = c.in_ok-all.ensures in
-    if_err c.prepared.result (it.kept clean, λ blank. inr (begins old new (whole.rows_of c.in_ok-all.all) (it.kept clean) (it.made clean blank) (it.found clean (inr blank))))
+    on_err_from c.prepared.result (it.kept clean, λ blank. inr (begins old new (whole.rows_of c.in_ok-all.all) (it.kept clean) (it.made clean blank) (it.found clean (inr blank))))
 
 pub returns-clause-crash : goal.returns-clause-crash
 returns-clause-crash g c = begun_survives (state g.S.Store c.args.conn.now) (state g.S.Store c.open_rows.new.conn) c.in_ok-all.ensures.crash

@@ -7,7 +7,8 @@ use Rattle.ee_decide.specs.declared.views.DayCounts.{DayCounts}
 use Rattle.ee_tables.specs.declared.records.TicketSum.{TicketSum}
 use Rattle.ee_tables.specs.AsRows.{sum_of}
 use Rattle.ee_tables.specs.Rows.{tickets_on}
-use Rattle.ee_tables.proofs.KeepLemmas.{IfOk_then, unchanged_sees}
+use Rattle.std.proofs.lemmas.Result.{IfOk-weaker}
+use Rattle.ee_tables.proofs.Lemmas.Transactions.{unchanged_sees}
 use Rattle.ee_contents.specs.Standing.{rows_of}
 use Rattle.ee_store.proofs.ByKeys.{always}
 use Rattle.ee_store.proofs.DaySums.{sums_on, sums_length, sums_bonds, sums_total}
@@ -20,7 +21,7 @@ all_three P Q R (Err e) p q r = tt
 pub returns-clause-found : goal.returns-clause-found
 returns-clause-found g c clean inside =
     let own : c.as_slice-all.result.now ≡ c.in_ok-sums.sums.items = search rules in
-    IfOk_then c.counts_of.result (λ counts is S sees.
+    IfOk-weaker c.counts_of.result _ _ (λ counts is S sees.
     let found = own ∙ c.in_ok-sums.ensures.found clean (rows_of S) sees.rows ∙ ap (λ day. map sum_of (tickets_on (rows_of S) day)) c.count.ensures.value ∙ sums_on S c.args.day sees.right in
     let tickets = of_day c.args.day S.books.tickets in (
       is.0 ∙ ap length found ∙ sums_length tickets,

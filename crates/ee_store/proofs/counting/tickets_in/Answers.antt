@@ -1,7 +1,7 @@
 use Rattle.std.proofs.Common.{ap, ◌∙◌}
 use Rattle.std.specs.Option.{unwrap_or}
 use Rattle.sqlite.specs.Held.{state}
-use Rattle.ee_tables.proofs.KeepLemmas.{unchanged_sees}
+use Rattle.ee_tables.proofs.Lemmas.Transactions.{unchanged_sees}
 use Rattle.ee_contents.specs.Standing.{rows_of}
 use Rattle.ee_store.proofs.DaySums.{last_is_count}
 use Rattle.ee_store.proofs.counting.tickets_in.Goals as goal

@@ -4,8 +4,7 @@ use Rattle.sqlite.specs.State.{HasCleanDisk, Survives}
 use Rattle.ee_acts.specs.Repeats.{Content}
 use Rattle.ee_acts.specs.Contents.{content_after}
 use Rattle.ee_acts.specs.Answers.{answer}
-use Rattle.ee_tables.proofs.KeepLemmas.{clean_before, if_err}
-use Rattle.ee_tables.proofs.TransactionLemmas.{rolled_keeps, failed_keeps, commit_survives}
+use Rattle.ee_tables.proofs.Lemmas.Transactions.{clean_before, on_err_from, rolled_keeps, failed_keeps, commit_survives}
 use Rattle.ee_store.specs.Serving.{StandsFor, HasContent}
 use Rattle.ee_store.proofs.Transactions.{known_stays, inside_content, sees_content, still_content, committed_content, stands_when_open}
 use Rattle.ee_store.proofs.delivering.deliver_on.Goals as goal
@@ -22,7 +21,7 @@ returns-in_err-is_new-clause-failed g c =
     let same = c.conn-1.given.1 (sym (c.in_err-is_new.ensures.same_reference ∙ c.transaction-tx.ensures.same_reference)) in
     subst (λ h. HasCleanDisk (state g.S.Store h) → OnErr c.from_residual.result ((S : Content) → HasContent old S → HasContent (state g.S.Store h) S)) (sym same) (λ clean.
     let before = clean_before middle new c.drop-tx.ensures.survives clean in
-    if_err c.from_residual.result (λ S has. still_content old start is middle new S has (c.in_err-is_new.ensures.commit before (inside_content old start is settled S has))
+    on_err_from c.from_residual.result (λ S has. still_content old start is middle new S has (c.in_err-is_new.ensures.commit before (inside_content old start is settled S has))
     (rolled_keeps old start is middle new (c.drop-tx.ensures.undone clean))))
 
 pub returns-then-not-is_new-clause-told : goal.returns-then-not-is_new-clause-told
@@ -67,7 +66,7 @@ returns-in_err-commit-clause-failed g c =
     let same = c.conn-2-1.given.1 (sym (c.in_ok-is_new.ensures.same_reference ∙ c.transaction-tx.ensures.same_reference)) in
     subst (λ h. HasCleanDisk (state g.S.Store h) → OnErr c.from_residual-in_err-commit.result ((S : Content) → HasContent old S → HasContent (state g.S.Store h) S)) (sym same) (λ clean.
     let before = clean_before middle new c.in_err-commit.ensures.survives clean in
-    if_err c.from_residual-in_err-commit.result (λ S has. still_content old start is middle new S has (c.in_ok-is_new.ensures.commit before (inside_content old start is settled S has))
+    on_err_from c.from_residual-in_err-commit.result (λ S has. still_content old start is middle new S has (c.in_ok-is_new.ensures.commit before (inside_content old start is settled S has))
     (failed_keeps old start is middle new _ (c.in_err-commit.ensures.err clean))))
 
 pub returns-in_err-commit-clause-crash : goal.returns-in_err-commit-clause-crash

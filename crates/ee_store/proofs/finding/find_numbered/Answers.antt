@@ -2,7 +2,7 @@ use Rattle.std.proofs.Common.{rules, ◌≡◌, sym, ap, ◌∙◌}
 use Rattle.std.specs.Option.{option_map}
 use Rattle.sqlite.specs.Held.{state}
 use Rattle.ee_tables.specs.AsRows.{row_of_ticket}
-use Rattle.ee_tables.proofs.KeepLemmas.{clean_before, unchanged_sees}
+use Rattle.ee_tables.proofs.Lemmas.Transactions.{clean_before, unchanged_sees}
 use Rattle.ee_contents.specs.Standing.{rows_of}
 use Rattle.ee_store.proofs.FoundTickets.{no_ticket, ticket_found}
 use Rattle.ee_store.proofs.finding.find_numbered.Goals as goal

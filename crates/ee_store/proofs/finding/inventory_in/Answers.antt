@@ -2,8 +2,8 @@ use Rattle.std.proofs.Common.{rules, ◌≡◌, ap, ◌∙◌}
 use Rattle.std.specs.List.{filter_map}
 use Rattle.sqlite.specs.Held.{state}
 use Rattle.ee_acts.specs.Queries.{row_of, sheet_of}
-use Rattle.ee_desk.proofs.SheetRows.{sheet_is}
-use Rattle.ee_tables.proofs.KeepLemmas.{clean_before}
+use Rattle.ee_desk.proofs.Lemmas.{sheet_shows_rows}
+use Rattle.ee_tables.proofs.Lemmas.Transactions.{clean_before}
 use Rattle.ee_contents.specs.Standing.{rows_of}
 use Rattle.ee_store.specs.Serving.{SeesContent}
 use Rattle.ee_store.proofs.finding.inventory_in.Goals as goal
@@ -17,4 +17,4 @@ returns-clause-found g c clean inside S sees =
     let own : c.as_slice-own.result.now ≡ c.in_ok-bonds.bonds.items = search rules in
     let are = own ∙ c.in_ok-bonds.ensures.found before inside S sees in
     let rows = c.in_ok-rows.ensures.found clean (c.in_ok-bonds.ensures.inside before inside) S still ∙ ap (filter_map (row_of S.books.rates c.args.month)) are in
-    sheet_is c.sheet.result c.in_ok-rows.rows.items c.sheet.ensures.rows c.sheet.ensures.price c.sheet.ensures.value c.sheet.ensures.interest ∙ ap sheet_of rows
+    sheet_shows_rows c.sheet.result c.in_ok-rows.rows.items c.sheet.ensures.rows c.sheet.ensures.price c.sheet.ensures.value c.sheet.ensures.interest ∙ ap sheet_of rows

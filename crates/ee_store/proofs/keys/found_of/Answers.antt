@@ -2,7 +2,7 @@ use Rattle.std.proofs.Common.{rules, ◌≡◌, sym, ◌∙◌}
 use Rattle.std.specs.Map.{lookup}
 use Rattle.std.specs.BTreeMap.{is_at}
 use Rattle.ee_acts.specs.Serials.{serial_cmp}
-use Rattle.ee_acts.proofs.Maps.{get_lookup, serials_total}
+use Rattle.ee_acts.proofs.Lemmas.Maps.{get_lookup, serials_total}
 use Rattle.ee_store.proofs.keys.found_of.Goals as goal
 
 pub returns : goal.returns

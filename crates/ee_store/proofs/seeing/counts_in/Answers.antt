@@ -1,5 +1,5 @@
 use Rattle.sqlite.specs.Held.{state}
-use Rattle.ee_tables.proofs.KeepLemmas.{clean_before}
+use Rattle.ee_tables.proofs.Lemmas.Transactions.{clean_before}
 use Rattle.ee_contents.specs.Standing.{rows_of}
 use Rattle.ee_store.specs.Serving.{SeesContent}
 use Rattle.ee_store.proofs.seeing.counts_in.Goals as goal

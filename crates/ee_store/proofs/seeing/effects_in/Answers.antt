@@ -1,7 +1,7 @@
 use Rattle.std.proofs.Common.{ap, ◌∙◌}
 use Rattle.ee_acts.specs.Effects.{effects_of}
 use Rattle.ee_acts.specs.Views.{PlainView, shown_by}
-use Rattle.ee_acts.proofs.Seeing.{seen_enough}
+use Rattle.ee_acts.proofs.Lemmas.Books.{seen_enough}
 use Rattle.ee_store.proofs.seeing.effects_in.Goals as goal
 
 pub returns-clause-found : goal.returns-clause-found

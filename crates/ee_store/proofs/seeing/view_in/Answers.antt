@@ -1,6 +1,7 @@
 use Rattle.std.proofs.Common.{◌∙◌}
 use Rattle.sqlite.specs.Held.{state}
-use Rattle.ee_tables.proofs.KeepLemmas.{IfOk_then, clean_before}
+use Rattle.std.proofs.lemmas.Result.{IfOk-weaker}
+use Rattle.ee_tables.proofs.Lemmas.Transactions.{clean_before}
 use Rattle.ee_contents.specs.Standing.{rows_of}
 use Rattle.ee_store.specs.Serving.{SeesContent}
 use Rattle.ee_store.proofs.ByKeys.{always}
@@ -15,7 +16,7 @@ returns-clause-found g c clean inside =
     let clean_a = clean_before a b c.keys_in.ensures.crash clean_b in
     let inside_a = c.in_ok-days.ensures.inside clean_a inside in
     let inside_b = c.in_ok-keys.ensures.inside clean_b inside_a in
-    IfOk_then c.view_from.result (λ view is S sees.
+    IfOk-weaker c.view_from.result _ _ (λ view is S sees.
     let sees_a : SeesContent a S = record { right = sees.right; rows = c.in_ok-days.ensures.rows clean_a inside (rows_of S) sees.rows } in
     let sees_b : SeesContent b S = record { right = sees.right; rows = c.in_ok-keys.ensures.rows clean_b inside_a (rows_of S) sees_a.rows } in
     let d = c.in_ok-days.ensures.found clean_a inside S sees in

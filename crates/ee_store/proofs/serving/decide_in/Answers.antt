@@ -4,7 +4,7 @@ use Rattle.sqlite.specs.Held.{state}
 use Rattle.ee_acts.specs.declared.changes.Change.{Change}
 use Rattle.ee_texts.specs.Texts.{act_text, reply_text}
 use Rattle.ee_tables.specs.Rows.{Sees, ReplyRow, with_reply}
-use Rattle.ee_tables.proofs.KeepLemmas.{clean_before}
+use Rattle.ee_tables.proofs.Lemmas.Transactions.{clean_before}
 use Rattle.ee_contents.specs.Standing.{rows_of}
 use Rattle.ee_store.specs.Written.{applied_rows}
 use Rattle.ee_store.proofs.Served.{is_decided}

@@ -6,7 +6,7 @@ use Rattle.sqlite.specs.Held.{state}
 use Rattle.ee_acts.specs.Numbers.{number_of}
 use Rattle.ee_texts.specs.Texts.{act_text}
 use Rattle.ee_tables.specs.AsRows.{row_of_reply}
-use Rattle.ee_tables.proofs.KeepLemmas.{clean_before, unchanged_sees, unchanged_inside}
+use Rattle.ee_tables.proofs.Lemmas.Transactions.{clean_before, unchanged_sees, unchanged_inside}
 use Rattle.ee_contents.specs.Standing.{rows_of}
 use Rattle.ee_store.specs.Serving.{SeesContent}
 use Rattle.ee_store.proofs.Served.{is_again, is_new, is_first}

@@ -2,7 +2,7 @@ use Rattle.std.proofs.Common.{ℕ, None, Some, subst}
 use Rattle.sqlite.specs.Held.{state}
 use Rattle.ee_tables.specs.Rows.{Sees, BatchRow}
 use Rattle.ee_tables.specs.AsRows.{row_of_batch}
-use Rattle.ee_tables.proofs.KeepLemmas.{clean_before}
+use Rattle.ee_tables.proofs.Lemmas.Transactions.{clean_before}
 use Rattle.ee_tables.specs.Rows.{with_day, with_batch}
 use Rattle.ee_store.proofs.writing.write_batch.Goals as goal
 

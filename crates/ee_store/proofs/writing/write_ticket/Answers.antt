@@ -2,7 +2,7 @@ use Rattle.std.proofs.Common.{rules, ◌≡◌, ℕ, List, map, subst}
 use Rattle.sqlite.specs.Held.{state}
 use Rattle.ee_tables.specs.Rows.{Sees, TicketRow, PaidRow, with_ticket, with_lines}
 use Rattle.ee_tables.specs.AsRows.{row_of_ticket, row_of_line}
-use Rattle.ee_tables.proofs.KeepLemmas.{clean_before}
+use Rattle.ee_tables.proofs.Lemmas.Transactions.{clean_before}
 use Rattle.ee_contents.specs.Standing.{paid_row}
 use Rattle.ee_store.proofs.writing.write_ticket.Goals as goal
 

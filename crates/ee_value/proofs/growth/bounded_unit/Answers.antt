@@ -2,7 +2,7 @@ use Rattle.std.proofs.Common.{◌≡◌, ◌+◌, ◌-◌, ◌*◌, ◌^◌, ◌
 use Rattle.std.proofs.Math.Pow.{pow_mono}
 use Rattle.ee_roots.specs.Products.{power_down, power_up}
 use Rattle.ee_roots.specs.Amounts.{cents}
-use Rattle.ee_roots.proofs.Bounds.{low-le_high}
+use Rattle.ee_roots.proofs.Lemmas.{low-le_high}
 use Rattle.ee_value.specs.Rounding.{grown}
 use Rattle.ee_value.specs.Open.{bounds_differ}
 use Rattle.ee_value.proofs.OpenAges.{settle_cases, settled, unsettled, unit-fits}

@@ -1,11 +1,11 @@
 use Rattle.std.proofs.Common.{◌≡◌, length, arith, ap}
 use Rattle.ee_acts.specs.Views.{PlainView}
-use Rattle.ee_acts.proofs.Bounds.{tickets_small}
+use Rattle.ee_acts.proofs.Lemmas.Books.{few_tickets}
 use Rattle.ee_decide.proofs.views.View.from_parts.Goals as goal
 
 pub returns-else-parts-le-MOST_TICKETS-clause-fits : goal.returns-else-parts-le-MOST_TICKETS-clause-fits
 returns-else-parts-le-MOST_TICKETS-clause-fits c = λ books asked sound is.
-    let few = tickets_small books sound in
+    let few = few_tickets books sound in
     let same : c.args.parts.tickets ≡ length books.tickets = ap (λ (v : PlainView). v.tickets) is in
     let many = c.if-parts-le-MOST_TICKETS.false in
     absurd (omega (arith, few, same, many))

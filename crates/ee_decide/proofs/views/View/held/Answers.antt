@@ -3,7 +3,7 @@ use Rattle.std.specs.Map.{lookup}
 use Rattle.std.specs.BTreeMap.{is_at}
 use Rattle.std.specs.FinMap as finite
 use Rattle.ee_acts.specs.Serials.{serial_cmp}
-use Rattle.ee_acts.proofs.Maps.{get_lookup, serials_total}
+use Rattle.ee_acts.proofs.Lemmas.Maps.{get_lookup, serials_total}
 use Rattle.ee_decide.proofs.views.View.held.Goals as goal
 
 pub returns : goal.returns

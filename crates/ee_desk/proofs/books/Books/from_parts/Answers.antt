@@ -2,7 +2,7 @@ use Rattle.std.proofs.Common.{sym, ap, ◌∙◌, subst}
 use Rattle.ee_acts.specs.Sound.{IsSound}
 use Rattle.ee_decide.specs.declared.views.DayCounts.{DayCounts}
 use Rattle.ee_parts.specs.Parts.{parts_of}
-use Rattle.ee_parts.proofs.SoundParts.{parts_kept, books_made}
+use Rattle.ee_parts.proofs.Lemmas.{parts_of-books_of, books_of-made}
 use Rattle.ee_desk.proofs.books.Books.from_parts.Goals as goal
 
 pub of_parts-ledger-requires-clause-marked : goal.of_parts-ledger-requires-clause-marked
@@ -16,9 +16,9 @@ of_parts-ledger-requires-clause-counted c =
 pub invariant_of-result : goal.invariant_of-result
 invariant_of-result c =
     let made = c.in_ok-indexes.ensures.ok in
-    subst IsSound (sym (c.of_parts-ledger.ensures ∙ books_made c.args.parts _ _ made.rates made.bonds)) made.sound.books
+    subst IsSound (sym (c.of_parts-ledger.ensures ∙ books_of-made c.args.parts _ _ made.rates made.bonds)) made.sound.books
 
 pub returns-clause-ok : goal.returns-clause-ok
 returns-clause-ok c =
     let made = c.in_ok-indexes.ensures.ok in
-    ap parts_of (c.of_parts-ledger.ensures ∙ books_made c.args.parts _ _ made.rates made.bonds) ∙ parts_kept c.args.parts made.sound.months made.sound.serials
+    ap parts_of (c.of_parts-ledger.ensures ∙ books_of-made c.args.parts _ _ made.rates made.bonds) ∙ parts_of-books_of c.args.parts made.sound.months made.sound.serials

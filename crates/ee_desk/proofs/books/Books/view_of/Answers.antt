@@ -1,6 +1,6 @@
 use Rattle.std.proofs.Common.{arith}
-use Rattle.ee_acts.proofs.Bounds.{tickets_small}
+use Rattle.ee_acts.proofs.Lemmas.Books.{few_tickets}
 use Rattle.ee_desk.proofs.books.Books.view_of.Goals as goal
 
 pub view_of-requires : goal.view_of-requires
-view_of-requires c = let few = tickets_small c.self.inside.ledger c.self.invariant in omega (arith, few)
+view_of-requires c = let few = few_tickets c.self.inside.ledger c.self.invariant in omega (arith, few)

@@ -1,11 +1,12 @@
 use Rattle.std.proofs.Common.{sym, ap, ◌∙◌, subst}
 use Rattle.std.specs.List.{AllByRecursion}
+use Rattle.std.proofs.lemmas.Result.{on_ok_weaker, on_err_weaker}
 use Rattle.ee_acts.specs.PlainBooks.{PlainBooks}
 use Rattle.ee_parts.specs.Marks.{AreMarked}
 use Rattle.ee_desk.specs.Kept.{books_of}
 use Rattle.ee_desk.specs.Added.{bond_row, with_changes, AreNew}
 use Rattle.ee_desk.specs.Applicable.{IsUnpaid}
-use Rattle.ee_desk.proofs.Outcomes.{on_ok, on_err, either_way}
+use Rattle.ee_desk.proofs.Outcomes.{either_way}
 use Rattle.ee_desk.proofs.Registered.{new_in_memory, bonds_gain, bonds_stay, marks_gain, marks_stay}
 use Rattle.ee_desk.proofs.ledger.Ledger.add_bonds.Goals as goal
 
@@ -26,7 +27,7 @@ invariant_of-self c =
 pub returns-clause-ok : goal.returns-clause-ok
 returns-clause-ok c =
     let old : PlainBooks = books_of c.self.inside.rates.entries c.self.inside.bonds.entries c.self.inside.day c.self.inside.last_day c.self.inside.tickets.items c.self.inside.batches.items in
-    on_ok c.add_bonds.result
+    on_ok_weaker c.add_bonds.result
     (λ is. (λ i. record old { bonds = bonds_gain c.self.inside.bonds.entries c.add_bonds.new.bonds.entries c.args.changes.now is i })
     ∙ ap (λ (b : PlainBooks). record b { bonds = with_changes bond_row b.bonds c.args.changes.now }) c.self.view_is)
     c.add_bonds.ensures.ok
@@ -34,6 +35,6 @@ returns-clause-ok c =
 pub returns-clause-err : goal.returns-clause-err
 returns-clause-err c =
     let old : PlainBooks = books_of c.self.inside.rates.entries c.self.inside.bonds.entries c.self.inside.day c.self.inside.last_day c.self.inside.tickets.items c.self.inside.batches.items in
-    on_err c.add_bonds.result
+    on_err_weaker c.add_bonds.result
     (λ is. (λ i. record old { bonds = bonds_stay c.self.inside.bonds.entries c.add_bonds.new.bonds.entries is i }) ∙ c.self.view_is)
     c.add_bonds.ensures.err

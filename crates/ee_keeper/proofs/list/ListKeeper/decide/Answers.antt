@@ -5,8 +5,8 @@ use Rattle.ee_acts.specs.declared.replies.Reply.{Reply}
 use Rattle.ee_acts.specs.Numbers.{number_of}
 use Rattle.ee_acts.specs.Acts.{applied, books_after, reply_to}
 use Rattle.ee_acts.specs.Repeats.{Content}
-use Rattle.ee_acts.proofs.Seeing.{seen_enough, applied_is}
-use Rattle.ee_acts.proofs.KeptReplies.{decided, forgotten}
+use Rattle.ee_acts.proofs.Lemmas.Books.{seen_enough, applied_are_books_after}
+use Rattle.ee_acts.proofs.Lemmas.Requests.{content_after-decided, remove-insert_kept}
 use Rattle.ee_keeper.specs.Kept.{kept_in}
 use Rattle.ee_keeper.proofs.list.ListKeeper.decide.Goals as goal
 
@@ -24,8 +24,8 @@ returns-in-Ok-clause-content c =
     ap (λ (e : Effects). e.reply) (c.in_ok-effects.ensures ∙ seen_enough c.self.inside.books c.args.request.now.act)
     ∙ ap (λ (S : Content). reply_to S.books c.args.request.now.act) c.self.view_is in
     let kept = c.in_ok-kept.ensures ∙ ap (λ (r : Reply). record { act = c.args.request.now.act; reply = r }) reply in
-    decided c.args.self.now (record { books = c.apply.new.self; kept = kept_in c.keep.new.kept.entries }) c.args.request.now c.requires
-    (c.in-Ok.ensures.ok ∙ ap (λ (e : Effects). applied c.self.inside.books e.changes) c.in_ok-effects.ensures ∙ applied_is c.self.inside.books c.args.request.now.act
+    content_after-decided c.args.self.now (record { books = c.apply.new.self; kept = kept_in c.keep.new.kept.entries }) c.args.request.now c.requires
+    (c.in-Ok.ensures.ok ∙ ap (λ (e : Effects). applied c.self.inside.books e.changes) c.in_ok-effects.ensures ∙ applied_are_books_after c.self.inside.books c.args.request.now.act
     ∙ ap (λ (S : Content). books_after S.books c.args.request.now.act) c.self.view_is)
     (c.in_ok-keep.ensures.ok ∙ (λ i. finite.insert (c.self.view_is i).kept (number_of c.args.request.now) (kept i)))
 
@@ -33,7 +33,7 @@ pub returns-clause-err : goal.returns-clause-err
 returns-clause-err c =
     let number = number_of c.args.request.now in
     let none = ap (λ (S : Content). finite.get S.kept number) c.self.view_is ∙ c.requires in
-    let kept = c.forget.ensures ∙ ap (λ m. finite.remove m number) c.in_ok-keep.ensures.ok ∙ forgotten (kept_in c.self.inside.kept.entries) number c.in_ok-kept.kept none in
+    let kept = c.forget.ensures ∙ ap (λ m. finite.remove m number) c.in_ok-keep.ensures.ok ∙ remove-insert_kept (kept_in c.self.inside.kept.entries) number c.in_ok-kept.kept none in
     let back : ◌≡◌ {A = Content} (record { books = c.apply.new.self; kept = kept_in c.forget.new.kept.entries }) (record { books = c.self.inside.books; kept = kept_in c.self.inside.kept.entries }) =
     (λ i. record { books = c.in-Err.ensures.err i; kept = kept i }) in
     back ∙ c.self.view_is

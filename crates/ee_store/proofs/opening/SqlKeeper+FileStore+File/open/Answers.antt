@@ -1,5 +1,5 @@
-use Rattle.ee_tables.proofs.KeepLemmas.{IfOk_then}
+use Rattle.std.proofs.lemmas.Result.{IfOk-weaker}
 use Rattle.ee_store.proofs.opening.SqlKeeper+FileStore+File.open.Goals as goal
 
 pub returns : goal.returns
-returns c = IfOk_then c.open_as.result (λ keeper it clean. (_, it clean)) c.open_as.ensures
+returns c = IfOk-weaker c.open_as.result _ _ (λ keeper it clean. (_, it clean)) c.open_as.ensures

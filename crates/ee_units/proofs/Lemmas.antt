@@ -1,0 +1,75 @@
+-- Lemmas that the proofs of crates above use.
+use Rattle.std.proofs.Common.{List, Result, Some, false, true, ℕ, ◌++◌, ◌<◌, ◌∷◌, ◌≡◌, ◌≤◌}
+use Rattle.std.specs.Char.{is_ascii_digit}
+use Rattle.std.specs.Fmt.{decimal}
+use Rattle.std.specs.Result.{result_ok}
+use Rattle.std.specs.Str.Parse.{ParsesUnsigned, digits_value}
+use Rattle.std.proofs.lemmas.Str.Parse.{IsNumeralModel}
+use Rattle.ee_units.specs.Denoms.{denom_of, dollars}
+use Rattle.ee_units.specs.Grammar.{IsDayText, WritesDigits, WritesNumber}
+use Rattle.ee_units.specs.Spelling.{SerialNumber, customer_of, day_of, digits_of, in_range, is_number, issue_of, number_of, parts_at, rate_of, serial_of}
+use Rattle.ee_units.specs.Texts.{day_text, month_text, rate_text, serial_text}
+use Rattle.ee_units.specs.declared.denoms.Denom.{Denom}
+use Rattle.ee_units.proofs.DayGrammar
+use Rattle.ee_units.proofs.DenomTexts
+use Rattle.ee_units.proofs.MonthGrammar
+use Rattle.ee_units.proofs.Numbers
+use Rattle.ee_units.proofs.Parts
+use Rattle.ee_units.proofs.RateGrammar
+use Rattle.ee_units.proofs.ReadBack
+pub use Rattle.ee_units.proofs.Numbers.{IsDigits}
+
+-- ---- digits and numbers
+-- texts of digits are numerals, each with its value
+pub digits_are_numerals : IsNumeralModel IsDigits (digits_value 10)
+digits_are_numerals = Numbers.own
+
+-- of at most 18 digits, what `parse` answers is the number
+pub parse_gives_number : {E : Type 0} (most : ℕ) (bs : List ℕ) (r : Result ℕ E) → ParsesUnsigned 64 10 bs r → is_number most bs ≡ true → most < 19
+    → result_ok r ≡ number_of most bs
+parse_gives_number = Numbers.parsed
+
+-- digits of a fixed count that write a number are read as that number
+pub digits_of-writes : (count : ℕ) (ds : List ℕ) (n : ℕ) → WritesDigits count ds n → digits_of count ds ≡ Some n
+digits_of-writes = MonthGrammar.digits_of-writes
+
+-- digits of a bounded count that write a number are read as that number
+pub number_of-writes : (most : ℕ) (ds : List ℕ) (n : ℕ) → WritesNumber most ds n → number_of most ds ≡ Some n
+number_of-writes = Parts.number_of-writes
+
+-- two texts joined by a mark, of which the first has digits alone, are parted there
+pub parts_at-joined : (c : ℕ) (xs ys : List ℕ) → is_ascii_digit c ≡ false → IsDigits xs → parts_at c (xs ++ c ∷ ys) ≡ Some (xs, ys)
+parts_at-joined = Parts.parts_at-joined
+
+-- a number that passed the test of a range is itself, and in the range
+pub in_range-is : (low high x r : ℕ) → in_range low high x ≡ Some r → (x ≡ r) × ((low ≤ r) × (r ≤ high))
+in_range-is = RateGrammar.in_range-is
+
+-- ---- texts are read back
+-- the text of a rate is read as that rate
+pub rate_back : (r : ℕ) → r ≤ 2000 → rate_of (rate_text r) ≡ Some r
+rate_back = ReadBack.rate_back
+
+-- the text of an issue month is read as that month
+pub issue_back : (m : ℕ) → m ≤ 1135 → issue_of (month_text m) ≡ Some m
+issue_back = ReadBack.issue_back
+
+-- the text of a day is read as that day
+pub day_back : (n : ℕ) → 12904 ≤ n → n ≤ 84005 → day_of (day_text n) ≡ Some n
+day_back = ReadBack.day_back
+
+-- the text of a serial number is read as that serial number
+pub serial_back : (s : SerialNumber) → 1 ≤ s.letter → s.letter ≤ 26 → 1 ≤ s.number → s.number ≤ 9999999999 → serial_of (serial_text s) ≡ Some s
+serial_back = ReadBack.serial_back
+
+-- the text of a customer is read as that customer
+pub customer_back : (n : ℕ) → 1 ≤ n → n ≤ 999999999 → customer_of (decimal n) ≡ Some n
+customer_back = ReadBack.customer_back
+
+-- the text of a denomination's dollars is read as that denomination
+pub denom_back : (d : Denom) → denom_of (decimal (dollars d)) ≡ Some d
+denom_back = DenomTexts.denom_back
+
+-- what is read as a day is that day's text
+pub day_of-sound : (text : List ℕ) (n : ℕ) → day_of text ≡ Some n → IsDayText text n
+day_of-sound = DayGrammar.day_sound
