@@ -13,7 +13,7 @@ pub mod ReadLemmas
 pub mod WholeLemmas
 mod FaultLemmas
 mod VersionLemmas
-mod OpenLemmas
+pub mod OpenLemmas
 mod UsableLemmas
 mod CanRead
 mod MakeUsable
