@@ -23,7 +23,7 @@ impl Stores for StoreFiles<'_> {
     fn open(&self, path: &str) -> Result<SqlKeeper<FileStore<File>>, RunFault> {
         match SqlKeeper::open(self.rt, path) {
             Ok(keeper) => Ok(keeper),
-            Err(fault) => Err(told(fault)),
+            Err(not) => Err(told(not.fault)),
         }
     }
 

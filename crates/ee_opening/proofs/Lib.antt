@@ -1,16 +1,17 @@
-pub mod DefineLemmas
-pub mod TextLemmas
-pub mod FirstLemmas
-pub mod BeginLemmas
-pub mod ScanLemmas
-pub mod FoundLemmas
-pub mod RowLemmas
-pub mod TableLemmas
-pub mod QuestionLemmas
-pub mod EachTable
-pub mod OneLemmas
-pub mod ReadLemmas
-pub mod WholeLemmas
+pub mod Lemmas
+mod DefineLemmas
+mod TextLemmas
+mod FirstLemmas
+mod BeginLemmas
+mod ScanLemmas
+mod FoundLemmas
+mod RowLemmas
+mod TableLemmas
+mod QuestionLemmas
+mod EachTable
+mod OneLemmas
+mod ReadLemmas
+mod WholeLemmas
 mod FaultLemmas
 mod VersionLemmas
 mod OpenLemmas

@@ -10,11 +10,15 @@ use Rattle.ee_tables.specs.Tables.{counter_schema}
 use Rattle.ee_tables.specs.Rows.{Rows, ReplyRow, Holds, Has}
 use Rattle.ee_opening.specs.Making.{first_desk, IsBlank, first_rows}
 use Rattle.ee_opening.specs.Whole.{IsOurs}
-use Rattle.ee_opening.specs.Opening.{has_some_table, IsFirstVersion, AreReadable}
+use Rattle.ee_opening.specs.Opening.{has_some_table, HasTables, IsFirstVersion, AreReadable}
 
 ours_has : has_some_table counter_schema ≡ true
 unfolding same_name
 ours_has = refl
+
+-- the tables of version 1 have these names
+pub ours_tables : (s : State) → IsOurs s → HasTables s
+ours_tables s ours is_open = ap has_some_table (ours is_open) ∙ ours_has
 
 module _ (old : State) (settled : IsTrue old.is_open → old.now ≡ old.committed) (has : Bool) (is : has ≡ has_some_table old.now.schema) where
   pub not_blank : has ≡ true → IsBlank old → IsTrue old.is_open → ⊥
@@ -24,12 +28,14 @@ module _ (old : State) (settled : IsTrue old.is_open → old.now ≡ old.committ
       let e = sym some ∙ none in
       cc
 
-  pub not_ours : has ≡ false → IsOurs old → IsTrue old.is_open → ⊥
-  not_ours none ours is_open =
-      let schema = ap (λ (d : Database). d.schema) (settled is_open) ∙ ours is_open in
-      let some : has ≡ true = is ∙ ap has_some_table schema ∙ ours_has in
+  pub not_tables : has ≡ false → HasTables old → IsTrue old.is_open → ⊥
+  not_tables none tables is_open =
+      let some : has ≡ true = is ∙ ap (λ (d : Database). has_some_table d.schema) (settled is_open) ∙ tables is_open in
       let e = sym some ∙ none in
       cc
+
+  pub not_ours : has ≡ false → IsOurs old → IsTrue old.is_open → ⊥
+  not_ours none ours = not_tables none (ours_tables old ours)
 
   pub is_ours_if : has ≡ true → IsOurs old ⊎ IsBlank old → IsOurs old
   is_ours_if some (inl ours) = ours
@@ -40,9 +46,9 @@ module _ (old : State) (settled : IsTrue old.is_open → old.now ≡ old.committ
   is_blank_if none (inr blank) = blank
 
   pub either_failed : (new : State) → has ≡ false → KeepsCommit old new ⊎ (IsTrue old.is_open × (IsBlank old → Has new first_rows))
-      → (IsOurs old → KeepsCommit old new) × (IsBlank old → KeepsCommit old new ⊎ Has new first_rows)
-  either_failed new none (inl keeps) = (λ ours. keeps, λ blank. inl keeps)
-  either_failed new none (inr made) = (λ ours. absurd (not_ours none ours made.0), λ blank. inr (made.1 blank))
+      → (HasTables old → KeepsCommit old new) × (IsBlank old → KeepsCommit old new ⊎ Has new first_rows)
+  either_failed new none (inl keeps) = (λ tables. keeps, λ blank. inl keeps)
+  either_failed new none (inr made) = (λ tables. absurd (not_tables none tables made.0), λ blank. inr (made.1 blank))
 
 -- what a store has it has while nothing is committed
 pub kept_has : (old new : State) (rows : Rows) → KeepsCommit old new → Has old rows → Has new rows

@@ -1,8 +1,7 @@
 -- What reading several tables in turn gives.
-use Rattle.std.proofs.Common.{Ok, Err, Result, IfOk, IfErr, inl, sym, subst}
+use Rattle.std.proofs.Common.{Ok, Err, Result, IfOk, IfErr, sym, subst}
 use Rattle.sqlite.specs.Effect.{IsDatabase}
-use Rattle.sqlite.specs.State.{State, IsUnchanged, KeepsCommit}
-use Rattle.sqlite.proofs.InsideLemmas.{unchanged_keeps, keeps_then}
+use Rattle.sqlite.specs.State.{State, IsUnchanged}
 use Rattle.ee_opening.specs.Reading.{IsSoundNow}
 
 pub both_ok : {X E : Type 0} {P Q R : X → Type 0} (r : Result X E) → ((x : X) → P x → Q x → R x) → IfOk r P → IfOk r Q → IfOk r R
@@ -11,9 +10,6 @@ both_ok (Err e) f p q = tt
 
 pub sound_after : (a b : State) → IsUnchanged a b → IsSoundNow a → IsSoundNow b
 sound_after a b same sound is_open = subst IsDatabase (sym same.0.now_is) (sound same.0.was_open)
-
-pub keeps_after : (a b c : State) → IsUnchanged a b → KeepsCommit b c → KeepsCommit a c
-keeps_after a b c same keeps = keeps_then a b c (unchanged_keeps a b (inl same)) keeps
 
 pub each_ok : {X E : Type 0} {P Q : X → Type 0} (r : Result X E) → ((x : X) → P x → Q x) → IfOk r P → IfOk r Q
 each_ok (Ok x) f p = f x p

@@ -17,9 +17,9 @@ use Rattle.sqlite.specs.Listing.{understood}
 use Rattle.sqlite_schema.specs.declared.command.Returning.{Returning}
 use Rattle.sqlite.specs.State.{State, Shown, ShowsRows, KeepsCommit}
 use Rattle.sqlite.proofs.InsideLemmas.{unchanged_keeps}
-use Rattle.ee_tables.proofs.Lemmas.Transactions.{write_keeps}
+use Rattle.ee_tables.proofs.Lemmas.Transactions.{write_keeps, shown_open}
 use Rattle.sqlite.proofs.Callers.{IsPlain, command_of, reads_as}
-use Rattle.ee_opening.specs.Reading.{whole_table, IsQuery, AsksForAll, ShowsAll, shown_by}
+use Rattle.ee_opening.specs.Reading.{whole_table, IsQuery, AsksForAll, ShowsAll, shown_by, IsBegun}
 
 abbrev named : (query : Query) (r : Result Compiled CompileError) → IsQuery query r → List (List ℕ)
 named query (Ok c) h = h.0
@@ -72,3 +72,13 @@ keeps_by old new sql c params rows (Some what) h inside = write_keeps old new h.
 pub shown_keeps : (old new : State) (sql : List ℕ) (params : Row) (rows : List Row) → Shown sql params old new rows → IsTrue old.in_transaction → KeepsCommit old new
 unfolding Shown
 shown_keeps old new sql params rows h inside = keeps_by old new sql h.0 _ rows h.0.returning h.2 inside
+
+-- and the transaction goes on
+
+mode_by : (old new : State) (sql : List ℕ) (c : Compiled) (params : Row) (rows : List Row) (what : Option Returning) → ShowsRows old new sql c params rows what → new.in_transaction ≡ old.in_transaction
+mode_by old new sql c params rows None h = h.3.0.mode
+mode_by old new sql c params rows (Some what) h = h.1.shown.mode
+
+pub shown_begun : (old new : State) (sql : List ℕ) (params : Row) (rows : List Row) → Shown sql params old new rows → IsBegun old → IsBegun new
+unfolding Shown
+shown_begun old new sql params rows h begun is_open = mode_by old new sql h.0 _ rows h.0.returning h.2 ∙ begun (shown_open old new sql params rows h)

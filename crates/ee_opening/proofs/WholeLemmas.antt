@@ -8,7 +8,7 @@ use Rattle.sqlite.proofs.InsideLemmas.{unchanged_keeps, keeps_then}
 use Rattle.ee_tables.specs.Keyed.{pair_cmp}
 use Rattle.ee_tables.specs.Rows.{Rows, Holds, Has, IsInside}
 use Rattle.ee_tables.proofs.Lemmas.Transactions.{begun}
-use Rattle.ee_opening.specs.Reading.{IsSoundNow}
+use Rattle.ee_opening.specs.Reading.{IsSoundNow, IsBegun}
 use Rattle.ee_opening.specs.declared.whole.AllRows.{AllRows}
 use Rattle.ee_opening.specs.Shown.{desk_map, rate_map, bond_map, ticket_map, line_map, batch_map, reply_map}
 use Rattle.ee_opening.specs.Whole.{IsOurs, ListsAll, AreInOrder}
@@ -20,6 +20,9 @@ module _ (old start : State) (is : start ≡ begun old) (settled : IsTrue old.is
 
   pub starts_inside : IsOurs old → IsInside start
   starts_inside ours = subst IsInside (sym is) (inside_begun ours)
+
+  pub starts_begun : IsBegun start
+  starts_begun = subst IsBegun (sym is) (λ is_open. refl)
 
   sound_begun : IsLive old → IsSoundNow (begun old)
   sound_begun live is_open = (live is_open).0

@@ -1,10 +1,11 @@
 -- Which tables a store has, their version, and which rows can be read.
-use Rattle.std.specs.Prelude.{◌≡◌, ◌≢◌, ℕ, Bool, List, [], ◌∷◌, Some, is_some, option_map, codes}
+use Rattle.std.specs.Prelude.{◌≡◌, ◌≢◌, ℕ, Bool, IsTrue, List, [], ◌∷◌, Some, is_some, option_map, codes}
 use Rattle.std.specs.Option.{option_to_list}
 use Rattle.std.specs.List.{list_any}
 use Rattle.std.specs.FinMap.{get}
 use Rattle.sqlite.specs.Order.{Row}
 use Rattle.sqlite.specs.Schema.{Schema}
+use Rattle.sqlite.specs.State.{State}
 use Rattle.sqlite_schema.specs.Names.{table_named}
 use Rattle.ee_tables.specs.Rows.{Rows, DeskRow, number}
 use Rattle.ee_opening.specs.Shown.{AreWritten}
@@ -16,6 +17,10 @@ table_names = codes "desk" ∷ codes "rates" ∷ codes "bonds" ∷ codes "ticket
 -- a table has one of the names, but for the case of letters
 abbrev pub has_some_table : Schema → Bool
 has_some_table schema = list_any (λ name. is_some (table_named schema name)) table_names
+
+-- the last commit left a table of one of the names
+abbrev pub HasTables : State → Type 0
+HasTables s = IsTrue s.is_open → IsTrue (has_some_table s.committed.schema)
 
 -- the version, as a query of the desk's row shows it
 abbrev pub version_shown : DeskRow → Row

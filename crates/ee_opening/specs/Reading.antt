@@ -58,6 +58,10 @@ ShowsAll db tree terms rows = IsPermutation (map (shown_by terms) (db tree)) row
 abbrev pub IsSoundNow : State → Type 0
 IsSoundNow s = IsTrue s.is_open → IsDatabase s.now
 
+-- a transaction is begun, over whatever tables
+abbrev pub IsBegun : State → Type 0
+IsBegun s = IsTrue s.is_open → IsTrue s.in_transaction
+
 -- What the query shows can be read, each row, and their keys rise.
 abbrev pub CanBeRead : {A : Type 0} → (Row → Type 0) → (A → Row) → (A → A → Bool) → Trees → Query → Type 0
 CanBeRead {A} IsReadable shown precedes db query = (rows : List Row) → IsAnswer query (overlay db []) [] rows → All IsReadable rows × ((found : List A) → rows ≡ map shown found → rises precedes found ≡ true)

@@ -8,7 +8,7 @@ ghost use Rattle.sqlite_schema.specs.Names.{table_named};
 ghost use Rattle.ee_tables.specs.Rows.{Rows, Has, Holds};
 ghost use Rattle.ee_opening.specs.Making.{IsBlank, first_rows};
 ghost use Rattle.ee_opening.specs.Whole.{rows_of, IsOurs, AreInOrder};
-ghost use Rattle.ee_opening.specs.Opening.{has_some_table, IsFirstVersion, IsOtherVersion, AreReadable};
+ghost use Rattle.ee_opening.specs.Opening.{has_some_table, HasTables, IsFirstVersion, IsOtherVersion, AreReadable};
 
 use crate::making::{OpenFault, make_tables};
 use crate::whole::{AllRows, read_all};
@@ -64,7 +64,8 @@ fn open_blank<S: Alter>(conn: &mut Connection<S>, alloc: Global) -> Result<AllRo
 /// `WrongVersion` where the desk's row is of another version. `Unusable` where the tables refuse a
 /// statement, the desk's row is missing, or a row has a value that no row of this program has.
 /// `NoMemory` where there is not enough memory, and else `StoreFailed`, as where the connection is in
-/// a transaction. What was committed stays, or just the new tables and the desk's row are there.
+/// a transaction. What was committed stays, or just the new tables and the desk's row are there. Where
+/// any of the tables is there nothing is committed, whatever their definitions are.
 pub fn open_rows<S: Alter>(conn: &mut Connection<S>, alloc: Global) -> Result<AllRows, OpenFault>
     ensures found { HasCleanDisk (state S.Store conn.new) → IfOk result (λ all. (IsOurs (state S.Store conn.old) ⊎ IsBlank (state S.Store conn.old)) → Has (state S.Store conn.new) (rows_of all)) }
     ensures made { HasCleanDisk (state S.Store conn.new) → IfOk result (λ all. IsBlank (state S.Store conn.old) → IsTrue (state S.Store conn.old).is_open → rows_of all ≡ first_rows) }
@@ -75,11 +76,11 @@ pub fn open_rows<S: Alter>(conn: &mut Connection<S>, alloc: Global) -> Result<Al
     ensures tested { HasCleanDisk (state S.Store conn.new) → IfErr result (λ e. e ≡ OpenFault.Unusable → (rows : Rows) → Has (state S.Store conn.old) rows → IsTrue (state S.Store conn.old).is_open → ¬ IsOtherVersion rows) }
     ensures unusable { HasCleanDisk (state S.Store conn.new) → IfErr result (λ e. e ≡ OpenFault.Unusable → (rows : Rows) → Has (state S.Store conn.old) rows → IsTrue (state S.Store conn.old).is_open → ¬ AreReadable rows) }
     ensures blank { HasCleanDisk (state S.Store conn.new) → IfErr result (λ e. IsBlank (state S.Store conn.old) → IsTrue (state S.Store conn.old).is_open → (e ≢ OpenFault.Unusable) × (e ≢ OpenFault.WrongVersion)) }
-    ensures failed { HasCleanDisk (state S.Store conn.new) → OnErr result ((IsOurs (state S.Store conn.old) → KeepsCommit (state S.Store conn.old) (state S.Store conn.new))
+    ensures failed { HasCleanDisk (state S.Store conn.new) → OnErr result ((HasTables (state S.Store conn.old) → KeepsCommit (state S.Store conn.old) (state S.Store conn.new))
         × (IsBlank (state S.Store conn.old) → KeepsCommit (state S.Store conn.old) (state S.Store conn.new) ⊎ Has (state S.Store conn.new) first_rows)) }
-    ensures kept { HasCleanDisk (state S.Store conn.new) → OnOk result (IsOurs (state S.Store conn.old) → KeepsCommit (state S.Store conn.old) (state S.Store conn.new)) }
-    ensures stays { HasCleanDisk (state S.Store conn.new) → OnOk result (IsOurs (state S.Store conn.old) → (db : Trees) → (state S.Store conn.new).may_leave db → (state S.Store conn.old).may_leave db) }
-    ensures left { HasCleanDisk (state S.Store conn.new) → IsTrue (state S.Store conn.old).is_open → IsOurs (state S.Store conn.old) → (db : Trees) → (state S.Store conn.new).may_leave db → (state S.Store conn.old).may_leave db }
+    ensures kept { HasCleanDisk (state S.Store conn.new) → OnOk result (HasTables (state S.Store conn.old) → KeepsCommit (state S.Store conn.old) (state S.Store conn.new)) }
+    ensures stays { HasCleanDisk (state S.Store conn.new) → OnOk result (HasTables (state S.Store conn.old) → (db : Trees) → (state S.Store conn.new).may_leave db → (state S.Store conn.old).may_leave db) }
+    ensures left { HasCleanDisk (state S.Store conn.new) → IsTrue (state S.Store conn.old).is_open → HasTables (state S.Store conn.old) → (db : Trees) → (state S.Store conn.new).may_leave db → (state S.Store conn.old).may_leave db }
     ensures clean { HasCleanDisk (state S.Store conn.new) → HasCleanDisk (state S.Store conn.old) }
     ensures crash { Survives (state S.Store conn.old) (state S.Store conn.new) (λ db. IsBlank (state S.Store conn.old) → Holds db first_rows) }
 {

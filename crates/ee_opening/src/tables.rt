@@ -7,7 +7,7 @@ ghost use Rattle.sqlite.specs.State.{HasCleanDisk, IsUnchanged, KeepsCommit, Sur
 ghost use Rattle.sqlite.specs.Held.{state};
 ghost use Rattle.ee_tables.specs.Keyed.{pair_cmp, HoldsMap, HoldsPairs};
 ghost use Rattle.ee_tables.specs.Rows.{IsInside, DeskRow, BondRow, TicketRow, PaidRow, BatchRow, ReplyRow, desk_columns, rate_columns, bond_columns, ticket_columns, paid_columns, batch_columns, reply_columns};
-ghost use Rattle.ee_opening.specs.Reading.{IsSoundNow};
+ghost use Rattle.ee_opening.specs.Reading.{IsSoundNow, IsBegun};
 ghost use Rattle.ee_opening.specs.Shown.{AreWritten, desk_map, rate_map, bond_map, ticket_map, line_map, batch_map, reply_map, desk_entry, rate_entry, bond_entry, ticket_entry, line_entry, batch_entry, reply_entry};
 
 use crate::entries::{
@@ -29,7 +29,8 @@ pub(crate) fn read_desk<S: Alter>(
     ensures listed { IfOk result (λ found. entries (desk_map found.items) ≡ map desk_entry found.items) }
     ensures usable { HasCleanDisk (state S.Store tx.new.conn.now) → IfErr result (λ e. e ≡ OpenFault.Unusable → IsInside (state S.Store tx.old.conn.now) → IsTrue (state S.Store tx.old.conn.now).is_open → (m : FinMap nat_cmp DeskRow) → ¬ HoldsMap desk_columns ((state S.Store tx.old.conn.now).now.trees 0) m) }
     ensures same { HasCleanDisk (state S.Store tx.new.conn.now) → IsInside (state S.Store tx.old.conn.now) → OnOk result (IsUnchanged (state S.Store tx.old.conn.now) (state S.Store tx.new.conn.now)) }
-    ensures commit { HasCleanDisk (state S.Store tx.new.conn.now) → IsInside (state S.Store tx.old.conn.now) → KeepsCommit (state S.Store tx.old.conn.now) (state S.Store tx.new.conn.now) }
+    ensures begun { HasCleanDisk (state S.Store tx.new.conn.now) → IsBegun (state S.Store tx.old.conn.now) → OnOk result (IsBegun (state S.Store tx.new.conn.now)) }
+    ensures commit { HasCleanDisk (state S.Store tx.new.conn.now) → IsBegun (state S.Store tx.old.conn.now) → KeepsCommit (state S.Store tx.old.conn.now) (state S.Store tx.new.conn.now) }
     ensures other { IfErr result (λ e. e ≢ OpenFault.WrongVersion) }
     ensures crash { Survives (state S.Store tx.old.conn.now) (state S.Store tx.new.conn.now) (λ _. ⊥) }
 {
@@ -51,7 +52,8 @@ pub(crate) fn read_rates<S: Alter>(
     ensures listed { IfOk result (λ found. entries (rate_map found.items) ≡ map rate_entry found.items) }
     ensures usable { HasCleanDisk (state S.Store tx.new.conn.now) → IfErr result (λ e. e ≡ OpenFault.Unusable → IsInside (state S.Store tx.old.conn.now) → IsTrue (state S.Store tx.old.conn.now).is_open → (m : FinMap nat_cmp ℕ) → ¬ HoldsMap rate_columns ((state S.Store tx.old.conn.now).now.trees 1) m) }
     ensures same { HasCleanDisk (state S.Store tx.new.conn.now) → IsInside (state S.Store tx.old.conn.now) → OnOk result (IsUnchanged (state S.Store tx.old.conn.now) (state S.Store tx.new.conn.now)) }
-    ensures commit { HasCleanDisk (state S.Store tx.new.conn.now) → IsInside (state S.Store tx.old.conn.now) → KeepsCommit (state S.Store tx.old.conn.now) (state S.Store tx.new.conn.now) }
+    ensures begun { HasCleanDisk (state S.Store tx.new.conn.now) → IsBegun (state S.Store tx.old.conn.now) → OnOk result (IsBegun (state S.Store tx.new.conn.now)) }
+    ensures commit { HasCleanDisk (state S.Store tx.new.conn.now) → IsBegun (state S.Store tx.old.conn.now) → KeepsCommit (state S.Store tx.old.conn.now) (state S.Store tx.new.conn.now) }
     ensures other { IfErr result (λ e. e ≢ OpenFault.WrongVersion) }
     ensures crash { Survives (state S.Store tx.old.conn.now) (state S.Store tx.new.conn.now) (λ _. ⊥) }
 {
@@ -69,7 +71,8 @@ pub(crate) fn read_tickets<S: Alter>(
     ensures listed { IfOk result (λ found. entries (ticket_map found.items) ≡ map ticket_entry found.items) }
     ensures usable { HasCleanDisk (state S.Store tx.new.conn.now) → IfErr result (λ e. e ≡ OpenFault.Unusable → IsInside (state S.Store tx.old.conn.now) → IsTrue (state S.Store tx.old.conn.now).is_open → (m : FinMap nat_cmp TicketRow) → ¬ HoldsMap ticket_columns ((state S.Store tx.old.conn.now).now.trees 5) m) }
     ensures same { HasCleanDisk (state S.Store tx.new.conn.now) → IsInside (state S.Store tx.old.conn.now) → OnOk result (IsUnchanged (state S.Store tx.old.conn.now) (state S.Store tx.new.conn.now)) }
-    ensures commit { HasCleanDisk (state S.Store tx.new.conn.now) → IsInside (state S.Store tx.old.conn.now) → KeepsCommit (state S.Store tx.old.conn.now) (state S.Store tx.new.conn.now) }
+    ensures begun { HasCleanDisk (state S.Store tx.new.conn.now) → IsBegun (state S.Store tx.old.conn.now) → OnOk result (IsBegun (state S.Store tx.new.conn.now)) }
+    ensures commit { HasCleanDisk (state S.Store tx.new.conn.now) → IsBegun (state S.Store tx.old.conn.now) → KeepsCommit (state S.Store tx.old.conn.now) (state S.Store tx.new.conn.now) }
     ensures other { IfErr result (λ e. e ≢ OpenFault.WrongVersion) }
     ensures crash { Survives (state S.Store tx.old.conn.now) (state S.Store tx.new.conn.now) (λ _. ⊥) }
 {
@@ -91,7 +94,8 @@ pub(crate) fn read_batches<S: Alter>(
     ensures listed { IfOk result (λ found. entries (batch_map found.items) ≡ map batch_entry found.items) }
     ensures usable { HasCleanDisk (state S.Store tx.new.conn.now) → IfErr result (λ e. e ≡ OpenFault.Unusable → IsInside (state S.Store tx.old.conn.now) → IsTrue (state S.Store tx.old.conn.now).is_open → (m : FinMap nat_cmp BatchRow) → ¬ HoldsMap batch_columns ((state S.Store tx.old.conn.now).now.trees 10) m) }
     ensures same { HasCleanDisk (state S.Store tx.new.conn.now) → IsInside (state S.Store tx.old.conn.now) → OnOk result (IsUnchanged (state S.Store tx.old.conn.now) (state S.Store tx.new.conn.now)) }
-    ensures commit { HasCleanDisk (state S.Store tx.new.conn.now) → IsInside (state S.Store tx.old.conn.now) → KeepsCommit (state S.Store tx.old.conn.now) (state S.Store tx.new.conn.now) }
+    ensures begun { HasCleanDisk (state S.Store tx.new.conn.now) → IsBegun (state S.Store tx.old.conn.now) → OnOk result (IsBegun (state S.Store tx.new.conn.now)) }
+    ensures commit { HasCleanDisk (state S.Store tx.new.conn.now) → IsBegun (state S.Store tx.old.conn.now) → KeepsCommit (state S.Store tx.old.conn.now) (state S.Store tx.new.conn.now) }
     ensures other { IfErr result (λ e. e ≢ OpenFault.WrongVersion) }
     ensures crash { Survives (state S.Store tx.old.conn.now) (state S.Store tx.new.conn.now) (λ _. ⊥) }
 {
@@ -113,7 +117,8 @@ pub(crate) fn read_replies<S: Alter>(
     ensures listed { IfOk result (λ found. entries (reply_map found.items) ≡ map reply_entry found.items) }
     ensures usable { HasCleanDisk (state S.Store tx.new.conn.now) → IfErr result (λ e. e ≡ OpenFault.Unusable → IsInside (state S.Store tx.old.conn.now) → IsTrue (state S.Store tx.old.conn.now).is_open → (m : FinMap nat_cmp ReplyRow) → AreWritten m → ¬ HoldsMap reply_columns ((state S.Store tx.old.conn.now).now.trees 11) m) }
     ensures same { HasCleanDisk (state S.Store tx.new.conn.now) → IsInside (state S.Store tx.old.conn.now) → OnOk result (IsUnchanged (state S.Store tx.old.conn.now) (state S.Store tx.new.conn.now)) }
-    ensures commit { HasCleanDisk (state S.Store tx.new.conn.now) → IsInside (state S.Store tx.old.conn.now) → KeepsCommit (state S.Store tx.old.conn.now) (state S.Store tx.new.conn.now) }
+    ensures begun { HasCleanDisk (state S.Store tx.new.conn.now) → IsBegun (state S.Store tx.old.conn.now) → OnOk result (IsBegun (state S.Store tx.new.conn.now)) }
+    ensures commit { HasCleanDisk (state S.Store tx.new.conn.now) → IsBegun (state S.Store tx.old.conn.now) → KeepsCommit (state S.Store tx.old.conn.now) (state S.Store tx.new.conn.now) }
     ensures other { IfErr result (λ e. e ≢ OpenFault.WrongVersion) }
     ensures crash { Survives (state S.Store tx.old.conn.now) (state S.Store tx.new.conn.now) (λ _. ⊥) }
 {
@@ -135,7 +140,8 @@ pub(crate) fn read_bonds<S: Alter>(
     ensures listed { IfOk result (λ found. entries (bond_map found.items) ≡ map bond_entry found.items) }
     ensures usable { HasCleanDisk (state S.Store tx.new.conn.now) → IfErr result (λ e. e ≡ OpenFault.Unusable → IsInside (state S.Store tx.old.conn.now) → IsTrue (state S.Store tx.old.conn.now).is_open → (m : FinMap pair_cmp BondRow) → ¬ HoldsPairs bond_columns ((state S.Store tx.old.conn.now).now.trees 2) m) }
     ensures same { HasCleanDisk (state S.Store tx.new.conn.now) → IsInside (state S.Store tx.old.conn.now) → OnOk result (IsUnchanged (state S.Store tx.old.conn.now) (state S.Store tx.new.conn.now)) }
-    ensures commit { HasCleanDisk (state S.Store tx.new.conn.now) → IsInside (state S.Store tx.old.conn.now) → KeepsCommit (state S.Store tx.old.conn.now) (state S.Store tx.new.conn.now) }
+    ensures begun { HasCleanDisk (state S.Store tx.new.conn.now) → IsBegun (state S.Store tx.old.conn.now) → OnOk result (IsBegun (state S.Store tx.new.conn.now)) }
+    ensures commit { HasCleanDisk (state S.Store tx.new.conn.now) → IsBegun (state S.Store tx.old.conn.now) → KeepsCommit (state S.Store tx.old.conn.now) (state S.Store tx.new.conn.now) }
     ensures other { IfErr result (λ e. e ≢ OpenFault.WrongVersion) }
     ensures crash { Survives (state S.Store tx.old.conn.now) (state S.Store tx.new.conn.now) (λ _. ⊥) }
 {
@@ -159,7 +165,8 @@ pub(crate) fn read_lines<S: Alter>(
     ensures listed { IfOk result (λ found. entries (line_map found.items) ≡ map line_entry found.items) }
     ensures usable { HasCleanDisk (state S.Store tx.new.conn.now) → IfErr result (λ e. e ≡ OpenFault.Unusable → IsInside (state S.Store tx.old.conn.now) → IsTrue (state S.Store tx.old.conn.now).is_open → (m : FinMap pair_cmp PaidRow) → ¬ HoldsPairs paid_columns ((state S.Store tx.old.conn.now).now.trees 7) m) }
     ensures same { HasCleanDisk (state S.Store tx.new.conn.now) → IsInside (state S.Store tx.old.conn.now) → OnOk result (IsUnchanged (state S.Store tx.old.conn.now) (state S.Store tx.new.conn.now)) }
-    ensures commit { HasCleanDisk (state S.Store tx.new.conn.now) → IsInside (state S.Store tx.old.conn.now) → KeepsCommit (state S.Store tx.old.conn.now) (state S.Store tx.new.conn.now) }
+    ensures begun { HasCleanDisk (state S.Store tx.new.conn.now) → IsBegun (state S.Store tx.old.conn.now) → OnOk result (IsBegun (state S.Store tx.new.conn.now)) }
+    ensures commit { HasCleanDisk (state S.Store tx.new.conn.now) → IsBegun (state S.Store tx.old.conn.now) → KeepsCommit (state S.Store tx.old.conn.now) (state S.Store tx.new.conn.now) }
     ensures other { IfErr result (λ e. e ≢ OpenFault.WrongVersion) }
     ensures crash { Survives (state S.Store tx.old.conn.now) (state S.Store tx.new.conn.now) (λ _. ⊥) }
 {

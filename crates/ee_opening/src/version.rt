@@ -4,9 +4,10 @@ ghost use Rattle.std.specs.Prelude.{◌≡◌, ◌≢◌, Some, pos, IfOk, IfErr
 ghost use Rattle.std.specs.Option.{option_to_list};
 ghost use Rattle.std.specs.FinMap.{get};
 ghost use Rattle.sqlite.specs.Held.{state};
-ghost use Rattle.sqlite.specs.State.{HasCleanDisk};
+ghost use Rattle.sqlite.specs.State.{HasCleanDisk, KeepsCommit};
 ghost use Rattle.ee_tables.specs.Rows.{Rows, DeskRow, IsInside, Sees};
-ghost use Rattle.ee_tables.specs.Statements.{LeavesOpen, Finds, ChangesNothing, CommitsNothing, LeavesNoMore};
+ghost use Rattle.ee_tables.specs.Statements.{LeavesOpen, Finds, ChangesNothing, LeavesNoMore};
+ghost use Rattle.ee_opening.specs.Reading.{IsBegun};
 ghost use Rattle.ee_opening.specs.Opening.{version_shown, versions_in, IsFirstVersion, IsOtherVersion};
 
 use crate::making::OpenFault;
@@ -19,7 +20,8 @@ fn version_rows<S: Alter>(tx: &mut Transaction<'_, S>) -> Result<Vec<Row>, OpenF
     ensures open { LeavesOpen (state S.Store tx.new.conn.now) result }
     ensures found { Finds (state S.Store tx.old.conn.now) (state S.Store tx.new.conn.now) result (λ rows found. found.items ≡ versions_in rows) }
     ensures same { ChangesNothing (state S.Store tx.old.conn.now) (state S.Store tx.new.conn.now) result }
-    ensures commit { CommitsNothing (state S.Store tx.old.conn.now) (state S.Store tx.new.conn.now) }
+    ensures begun { HasCleanDisk (state S.Store tx.new.conn.now) → IsBegun (state S.Store tx.old.conn.now) → OnOk result (IsBegun (state S.Store tx.new.conn.now)) }
+    ensures commit { HasCleanDisk (state S.Store tx.new.conn.now) → IsBegun (state S.Store tx.old.conn.now) → KeepsCommit (state S.Store tx.old.conn.now) (state S.Store tx.new.conn.now) }
     ensures usable { HasCleanDisk (state S.Store tx.new.conn.now) → IfErr result (λ e. IsInside (state S.Store tx.old.conn.now) → IsTrue (state S.Store tx.old.conn.now).is_open → e ≢ OpenFault.Unusable) }
     ensures other { IfErr result (λ e. e ≢ OpenFault.WrongVersion) }
     ensures crash { LeavesNoMore (state S.Store tx.old.conn.now) (state S.Store tx.new.conn.now) }
@@ -51,7 +53,8 @@ pub(crate) fn check_version<S: Alter>(tx: &mut Transaction<'_, S>) -> Result<(),
     ensures other { HasCleanDisk (state S.Store tx.new.conn.now) → IfErr result (λ e. e ≡ OpenFault.WrongVersion → (rows : Rows) → Sees (state S.Store tx.old.conn.now) rows → IsOtherVersion rows) }
     ensures usable { HasCleanDisk (state S.Store tx.new.conn.now) → IfErr result (λ e. e ≡ OpenFault.Unusable → (rows : Rows) → IsInside (state S.Store tx.old.conn.now) → Sees (state S.Store tx.old.conn.now) rows → IsTrue (state S.Store tx.old.conn.now).is_open → get rows.desk 1 ≡ None) }
     ensures same { ChangesNothing (state S.Store tx.old.conn.now) (state S.Store tx.new.conn.now) result }
-    ensures commit { CommitsNothing (state S.Store tx.old.conn.now) (state S.Store tx.new.conn.now) }
+    ensures begun { HasCleanDisk (state S.Store tx.new.conn.now) → IsBegun (state S.Store tx.old.conn.now) → OnOk result (IsBegun (state S.Store tx.new.conn.now)) }
+    ensures commit { HasCleanDisk (state S.Store tx.new.conn.now) → IsBegun (state S.Store tx.old.conn.now) → KeepsCommit (state S.Store tx.old.conn.now) (state S.Store tx.new.conn.now) }
     ensures crash { LeavesNoMore (state S.Store tx.old.conn.now) (state S.Store tx.new.conn.now) }
 {
     let rows = version_rows(tx)?;

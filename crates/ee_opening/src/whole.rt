@@ -6,7 +6,7 @@ ghost use Rattle.sqlite.specs.Held.{state};
 ghost use Rattle.ee_tables.specs.Rows.{Rows, IsInside, Sees, Has, Holds};
 ghost use Rattle.ee_opening.specs.Opening.{IsFirstVersion, IsOtherVersion, AreReadable};
 ghost use Rattle.ee_opening.specs.Shown.{AreWritten};
-ghost use Rattle.ee_opening.specs.Reading.{IsSoundNow};
+ghost use Rattle.ee_opening.specs.Reading.{IsSoundNow, IsBegun};
 ghost use Rattle.ee_opening.specs.Whole.{rows_of, HoldsRegister, HoldsPayments, HoldsRecords, IsOurs, AreInOrder, ListsAll, ListsRegister, ListsPayments, ListsRecords};
 
 use crate::entries::{
@@ -72,7 +72,8 @@ fn read_register<S: Alter>(
     ensures listed { IfOk result ListsRegister }
     ensures usable { HasCleanDisk (state S.Store tx.new.conn.now) → IfErr result (λ e. e ≡ OpenFault.Unusable → IsInside (state S.Store tx.old.conn.now) → IsTrue (state S.Store tx.old.conn.now).is_open → (rows : Rows) → ¬ Holds (state S.Store tx.old.conn.now).now.trees rows) }
     ensures same { HasCleanDisk (state S.Store tx.new.conn.now) → IsInside (state S.Store tx.old.conn.now) → OnOk result (IsUnchanged (state S.Store tx.old.conn.now) (state S.Store tx.new.conn.now)) }
-    ensures commit { HasCleanDisk (state S.Store tx.new.conn.now) → IsInside (state S.Store tx.old.conn.now) → KeepsCommit (state S.Store tx.old.conn.now) (state S.Store tx.new.conn.now) }
+    ensures begun { HasCleanDisk (state S.Store tx.new.conn.now) → IsBegun (state S.Store tx.old.conn.now) → OnOk result (IsBegun (state S.Store tx.new.conn.now)) }
+    ensures commit { HasCleanDisk (state S.Store tx.new.conn.now) → IsBegun (state S.Store tx.old.conn.now) → KeepsCommit (state S.Store tx.old.conn.now) (state S.Store tx.new.conn.now) }
     ensures other { IfErr result (λ e. e ≢ OpenFault.WrongVersion) }
     ensures crash { Survives (state S.Store tx.old.conn.now) (state S.Store tx.new.conn.now) (λ _. ⊥) }
 {
@@ -93,7 +94,8 @@ fn read_payments<S: Alter>(
     ensures listed { IfOk result ListsPayments }
     ensures usable { HasCleanDisk (state S.Store tx.new.conn.now) → IfErr result (λ e. e ≡ OpenFault.Unusable → IsInside (state S.Store tx.old.conn.now) → IsTrue (state S.Store tx.old.conn.now).is_open → (rows : Rows) → ¬ Holds (state S.Store tx.old.conn.now).now.trees rows) }
     ensures same { HasCleanDisk (state S.Store tx.new.conn.now) → IsInside (state S.Store tx.old.conn.now) → OnOk result (IsUnchanged (state S.Store tx.old.conn.now) (state S.Store tx.new.conn.now)) }
-    ensures commit { HasCleanDisk (state S.Store tx.new.conn.now) → IsInside (state S.Store tx.old.conn.now) → KeepsCommit (state S.Store tx.old.conn.now) (state S.Store tx.new.conn.now) }
+    ensures begun { HasCleanDisk (state S.Store tx.new.conn.now) → IsBegun (state S.Store tx.old.conn.now) → OnOk result (IsBegun (state S.Store tx.new.conn.now)) }
+    ensures commit { HasCleanDisk (state S.Store tx.new.conn.now) → IsBegun (state S.Store tx.old.conn.now) → KeepsCommit (state S.Store tx.old.conn.now) (state S.Store tx.new.conn.now) }
     ensures other { IfErr result (λ e. e ≢ OpenFault.WrongVersion) }
     ensures crash { Survives (state S.Store tx.old.conn.now) (state S.Store tx.new.conn.now) (λ _. ⊥) }
 {
@@ -110,7 +112,8 @@ fn read_records<S: Alter>(tx: &mut Transaction<'_, S>, alloc: Global) -> Result<
     ensures listed { IfOk result ListsRecords }
     ensures usable { HasCleanDisk (state S.Store tx.new.conn.now) → IfErr result (λ e. e ≡ OpenFault.Unusable → IsInside (state S.Store tx.old.conn.now) → IsTrue (state S.Store tx.old.conn.now).is_open → (rows : Rows) → AreWritten rows.replies → ¬ Holds (state S.Store tx.old.conn.now).now.trees rows) }
     ensures same { HasCleanDisk (state S.Store tx.new.conn.now) → IsInside (state S.Store tx.old.conn.now) → OnOk result (IsUnchanged (state S.Store tx.old.conn.now) (state S.Store tx.new.conn.now)) }
-    ensures commit { HasCleanDisk (state S.Store tx.new.conn.now) → IsInside (state S.Store tx.old.conn.now) → KeepsCommit (state S.Store tx.old.conn.now) (state S.Store tx.new.conn.now) }
+    ensures begun { HasCleanDisk (state S.Store tx.new.conn.now) → IsBegun (state S.Store tx.old.conn.now) → OnOk result (IsBegun (state S.Store tx.new.conn.now)) }
+    ensures commit { HasCleanDisk (state S.Store tx.new.conn.now) → IsBegun (state S.Store tx.old.conn.now) → KeepsCommit (state S.Store tx.old.conn.now) (state S.Store tx.new.conn.now) }
     ensures other { IfErr result (λ e. e ≢ OpenFault.WrongVersion) }
     ensures crash { Survives (state S.Store tx.old.conn.now) (state S.Store tx.new.conn.now) (λ _. ⊥) }
 {
@@ -127,7 +130,7 @@ fn read_in<S: Alter>(tx: &mut Transaction<'_, S>, alloc: Global) -> Result<AllRo
     ensures listed { IfOk result ListsAll }
     ensures usable { HasCleanDisk (state S.Store tx.new.conn.now) → IfErr result (λ e. e ≡ OpenFault.Unusable → IsInside (state S.Store tx.old.conn.now) → IsTrue (state S.Store tx.old.conn.now).is_open → (rows : Rows) → AreWritten rows.replies → ¬ Holds (state S.Store tx.old.conn.now).now.trees rows) }
     ensures same { HasCleanDisk (state S.Store tx.new.conn.now) → IsInside (state S.Store tx.old.conn.now) → OnOk result (IsUnchanged (state S.Store tx.old.conn.now) (state S.Store tx.new.conn.now)) }
-    ensures commit { HasCleanDisk (state S.Store tx.new.conn.now) → IsInside (state S.Store tx.old.conn.now) → KeepsCommit (state S.Store tx.old.conn.now) (state S.Store tx.new.conn.now) }
+    ensures commit { HasCleanDisk (state S.Store tx.new.conn.now) → IsBegun (state S.Store tx.old.conn.now) → KeepsCommit (state S.Store tx.old.conn.now) (state S.Store tx.new.conn.now) }
     ensures other { IfErr result (λ e. e ≢ OpenFault.WrongVersion) }
     ensures crash { Survives (state S.Store tx.old.conn.now) (state S.Store tx.new.conn.now) (λ _. ⊥) }
 {
@@ -155,7 +158,7 @@ fn read_current<S: Alter>(tx: &mut Transaction<'_, S>, alloc: Global) -> Result<
     ensures usable { HasCleanDisk (state S.Store tx.new.conn.now) → IfErr result (λ e. e ≡ OpenFault.Unusable → IsInside (state S.Store tx.old.conn.now) → IsTrue (state S.Store tx.old.conn.now).is_open → (rows : Rows) → Sees (state S.Store tx.old.conn.now) rows → ¬ AreReadable rows) }
     ensures tested { HasCleanDisk (state S.Store tx.new.conn.now) → IfErr result (λ e. e ≡ OpenFault.Unusable → IsInside (state S.Store tx.old.conn.now) → IsTrue (state S.Store tx.old.conn.now).is_open → (rows : Rows) → Sees (state S.Store tx.old.conn.now) rows → ¬ IsOtherVersion rows) }
     ensures same { HasCleanDisk (state S.Store tx.new.conn.now) → IsInside (state S.Store tx.old.conn.now) → OnOk result (IsUnchanged (state S.Store tx.old.conn.now) (state S.Store tx.new.conn.now)) }
-    ensures commit { HasCleanDisk (state S.Store tx.new.conn.now) → IsInside (state S.Store tx.old.conn.now) → KeepsCommit (state S.Store tx.old.conn.now) (state S.Store tx.new.conn.now) }
+    ensures commit { HasCleanDisk (state S.Store tx.new.conn.now) → IsBegun (state S.Store tx.old.conn.now) → KeepsCommit (state S.Store tx.old.conn.now) (state S.Store tx.new.conn.now) }
     ensures crash { Survives (state S.Store tx.old.conn.now) (state S.Store tx.new.conn.now) (λ _. ⊥) }
 {
     check_version(tx)?;
@@ -183,7 +186,7 @@ pub(crate) fn read_all<S: Alter>(
     ensures version { HasCleanDisk (state S.Store conn.new) → IfErr result (λ e. e ≡ OpenFault.WrongVersion → (rows : Rows) → Has (state S.Store conn.old) rows → IsOtherVersion rows) }
     ensures tested { HasCleanDisk (state S.Store conn.new) → IfErr result (λ e. e ≡ OpenFault.Unusable → (rows : Rows) → Has (state S.Store conn.old) rows → IsTrue (state S.Store conn.old).is_open → ¬ IsOtherVersion rows) }
     ensures usable { HasCleanDisk (state S.Store conn.new) → IfErr result (λ e. e ≡ OpenFault.Unusable → (rows : Rows) → Has (state S.Store conn.old) rows → IsTrue (state S.Store conn.old).is_open → ¬ AreReadable rows) }
-    ensures kept { HasCleanDisk (state S.Store conn.new) → IsOurs (state S.Store conn.old) → KeepsCommit (state S.Store conn.old) (state S.Store conn.new) }
+    ensures kept { HasCleanDisk (state S.Store conn.new) → KeepsCommit (state S.Store conn.old) (state S.Store conn.new) }
     ensures crash { Survives (state S.Store conn.old) (state S.Store conn.new) (λ _. ⊥) }
 {
     if !conn.is_autocommit() {

@@ -6,6 +6,7 @@ use Rattle.std.specs.declared.cmp.Ordering.{Ordering}
 use Rattle.std.specs.Ordering.{nat_cmp}
 use Rattle.std.specs.FinMap.{empty, entries, from_entries, get-empty, len-empty, len-entries}
 use Rattle.sqlite.specs.Effect.{Database}
+use Rattle.sqlite.specs.Held.{Held}
 use Rattle.sqlite.specs.Tree.{Trees}
 use Rattle.sqlite.specs.State.{State, Survives, KeepsCommit}
 use Rattle.sqlite.proofs.StateLemmas.{survives_weaker}
@@ -25,10 +26,13 @@ use Rattle.ee_tables.specs.Keyed.{pair_cmp}
 use Rattle.ee_tables.specs.Rows.{Rows, DeskRow, Has, Holds}
 use Rattle.ee_opening.specs.Making.{IsBlank, first_rows}
 use Rattle.ee_opening.specs.Whole.{IsOurs}
-use Rattle.ee_opening.specs.Opening.{IsOtherVersion}
+use Rattle.ee_opening.specs.Opening.{HasTables, IsOtherVersion}
+use Rattle.ee_opening.proofs.Lemmas.{ours_tables}
 use Rattle.ee_contents.specs.Standing.{rows_of, bond_row, reply_row, key_of, StandFor, IsRight, IsKept}
 use Rattle.ee_store.specs.Serving.{StandsFor, HasContent}
-use Rattle.ee_store.specs.Adopted.{KeepsContent, KeepsWorld, HadNone}
+use Rattle.ee_store.specs.Adopted.{KeepsContent, KeepsWorld, HadNone, IfConnection}
+use Rattle.ee_store.specs.declared.opening.Rest.{Rest}
+use Rattle.ee_store.specs.declared.opening.Rest.TheVariants.{Connection, Files}
 
 -- ---- the empty content and the first rows
 
@@ -62,14 +66,14 @@ kept_has old new rows keeps has is_open =
     (ap (λ (d : Database). d.schema) same ∙ it.0, subst (λ (d : Database). Holds d.trees rows) (sym same) it.1)
 
 -- a store whose rows are kept was open if it is
-pub was_open : (old new : State) → (IsOurs old → KeepsCommit old new) → IsTrue new.is_open → IsTrue old.is_open
+pub was_open : (old new : State) → (HasTables old → KeepsCommit old new) → IsTrue new.is_open → IsTrue old.is_open
 was_open old new kept is_open = by_case old.is_open refl
   where
     by_case : (b : Bool) → old.is_open ≡ b → IsTrue old.is_open
     by_case true is = is
     by_case false is = (kept (λ o. absurd (true≢false (sym o ∙ is)))).was_open is_open
 
-pub begins : (old new : State) (rows : Rows) → (IsOurs old → KeepsCommit old new) → (IsTrue old.is_open → rows ≡ first_rows) → Has new rows → HasContent new nothing
+pub begins : (old new : State) (rows : Rows) → (HasTables old → KeepsCommit old new) → (IsTrue old.is_open → rows ≡ first_rows) → Has new rows → HasContent new nothing
 begins old new rows kept is has = record { right = nothing_right; rows = λ is_open. subst (λ r. Has new r) (is (was_open old new kept is_open) ∙ sym nothing_rows) has is_open }
 
 pub begun_survives : (old new : State) → Survives old new (λ db. IsBlank old → Holds db first_rows) → Survives old new (λ db. IsBlank old → StandsFor db nothing)
@@ -79,11 +83,11 @@ begun_survives old new one =
 
 -- ---- rows of a content
 
-pub ours : (old : State) (rows : Rows) → Has old rows → IsOurs old
-ours old rows has is_open = (has is_open).0
+has_tables : (old : State) (rows : Rows) → Has old rows → HasTables old
+has_tables old rows has = ours_tables old (λ is_open. (has is_open).0)
 
-pub keeps_content : (old new : State) → (IsOurs old → KeepsCommit old new) → (content : Content) → HasContent old content → HasContent new content
-keeps_content old new kept content has = record { right = has.right; rows = kept_has old new (rows_of content) (kept (ours old (rows_of content) has.rows)) has.rows }
+pub keeps_content : (old new : State) → (HasTables old → KeepsCommit old new) → (content : Content) → HasContent old content → HasContent new content
+keeps_content old new kept content has = record { right = has.right; rows = kept_has old new (rows_of content) (kept (has_tables old (rows_of content) has.rows)) has.rows }
 
 pub has_some : (old new : State) (rows : Rows) → (IsOurs old ⊎ IsBlank old → Has new rows) → (content : Content) × StandFor rows content → IsOurs old ⊎ IsBlank old → (content : Content) × HasContent new content
 has_some old new rows found some is = (some.0, record { right = some.1.right; rows = subst (Has new) some.1.are (found is) })
@@ -107,9 +111,9 @@ of_version content other =
 
 -- ---- what a call leaves
 
-pub keeps_world : (old new : State) → KeepsContent old new → (IsOurs old → (db : Trees) → new.may_leave db → old.may_leave db) → KeepsWorld old new
+pub keeps_world : (old new : State) → KeepsContent old new → (HasTables old → (db : Trees) → new.may_leave db → old.may_leave db) → KeepsWorld old new
 keeps_world old new found stays w follows =
-    (found w.now follows.0, leaves_as_before StandsFor old.may_leave new.may_leave w (stays (ours old (rows_of w.now) follows.0.rows)) follows.1)
+    (found w.now follows.0, leaves_as_before StandsFor old.may_leave new.may_leave w (stays (has_tables old (rows_of w.now) follows.0.rows)) follows.1)
 
 pub begun_or : (old new : State) → KeepsCommit old new ⊎ Has new first_rows → KeepsCommit old new ⊎ HasContent new nothing
 begun_or old new (inl kept) = inl kept
@@ -126,3 +130,9 @@ both_then (Err e) f p q = f e p q
 pub if_ok : {X E Q : Type 0} (r : Result X E) → Q → OnOk r Q
 if_ok (Ok x) q = q
 if_ok (Err e) q = tt
+
+-- ---- connections that are handed back
+
+pub connection_then : {S L : Type 0} {P Q : Held S → Type 0} (rest : Rest S L) → ((conn : Held S) → P conn → Q conn) → IfConnection rest P → IfConnection rest Q
+connection_then (Connection conn) f h = f conn h
+connection_then (Files left) f h = tt

@@ -1,6 +1,6 @@
 -- What a store that is opened has, and what it had.
 -- Of a store that a failing disk has shut nothing is said.
-use Rattle.std.specs.Prelude.{◌⊎◌, List, map, IsTrue}
+use Rattle.std.specs.Prelude.{◌≡◌, ◌⊎◌, List, Option, map, IsTrue, ⊤}
 use Rattle.std.specs.FinMap as finite
 use Rattle.std.specs.FinMap.{FinMap}
 use Rattle.sqlite_disk.specs.declared.Disk.{Ghosts}
@@ -10,15 +10,20 @@ use Rattle.sqlite.specs.Held.{Held}
 use Rattle.sqlite.specs.Files.{file_state, IsOpened}
 use Rattle.sqlite.specs.Recovery.{Image}
 use Rattle.sqlite.specs.Start.{FindsIn}
-use Rattle.sqlite.specs.State.{State, KeepsCommit}
+use Rattle.sqlite.specs.State.{State, KeepsCommit, Survives}
 use Rattle.ee_value.specs.declared.rates.Rates.{Rates}
 use Rattle.ee_acts.specs.Tables.{rates_cmp}
 use Rattle.ee_acts.specs.Repeats.{Content, nothing}
 use Rattle.ee_laws.specs.Events.{World}
 use Rattle.ee_opening.specs.declared.entries.StoredRate.{StoredRate}
 use Rattle.ee_opening.specs.Making.{IsBlank}
+use Rattle.ee_opening.specs.Opening.{HasTables}
 use Rattle.ee_opening.specs.Whole.{IsOurs}
-use Rattle.ee_store.specs.Serving.{HasContent, FollowsWorld}
+use Rattle.ee_opening.specs.declared.making.OpenFault.{OpenFault}
+use Rattle.ee_opening.specs.declared.making.OpenFault.TheVariants.{WrongVersion, Unusable}
+use Rattle.ee_store.specs.declared.opening.Rest.{Rest}
+use Rattle.ee_store.specs.declared.opening.Rest.TheVariants.{Connection, Files}
+use Rattle.ee_store.specs.Serving.{StandsFor, HasContent, FollowsWorld}
 
 -- a store without tables has come to have the empty content
 abbrev pub BeginsEmpty : State → State → Type 0
@@ -36,17 +41,18 @@ HasSome old new = IsOurs old ⊎ IsBlank old → (content : Content) × HasConte
 abbrev pub KeepsWorld : State → State → Type 0
 KeepsWorld old new = (w : World) → FollowsWorld old w → FollowsWorld new w
 
--- nothing was committed, but for the first rows of a store without tables
+-- Nothing was committed in a store that had any of the tables, whatever their definitions were; a store without tables may
+-- have got the first rows.
 abbrev pub KeepsRows : State → State → Type 0
-KeepsRows old new = (IsOurs old → KeepsCommit old new) × (IsBlank old → KeepsCommit old new ⊎ HasContent new nothing)
+KeepsRows old new = (HasTables old → KeepsCommit old new) × (IsBlank old → KeepsCommit old new ⊎ HasContent new nothing)
 
 -- a store that was open had no content, and it had tables
 abbrev pub HadNone : State → Type 0
 HadNone old = IsTrue old.is_open → ((content : Content) → HasContent old content → ⊥) × (IsBlank old → ⊥)
 
--- a crash of a store with the tables leaves what it could leave before
+-- a crash of a store with any of the tables leaves what it could leave before
 abbrev pub LeavesAsBefore : State → State → Type 0
-LeavesAsBefore old new = IsTrue old.is_open → IsOurs old → (db : Trees) → new.may_leave db → old.may_leave db
+LeavesAsBefore old new = IsTrue old.is_open → HasTables old → (db : Trees) → new.may_leave db → old.may_leave db
 
 -- the keeper has what was found in the files, which held this at first
 pub record IsOpenedFrom {D : Type 0} {g : Ghosts D} (start : Image) (now : Held (FileStore D g)) : Type 0 where
@@ -57,6 +63,29 @@ pub record IsOpenedFrom {D : Type 0} {g : Ghosts D} (start : Image) (now : Held 
   pub keeps : KeepsContent (file_state was) (file_state now)
   pub some : HasSome (file_state was) (file_state now)
   pub follows : KeepsWorld (file_state was) (file_state now)
+  pub crash : Survives (file_state was) (file_state now) (λ db. IsBlank (file_state was) → StandsFor db nothing)
+  pub left : LeavesAsBefore (file_state was) (file_state now)
+
+-- the connection was refused with this fault, and is left as it was found in the files, which held this at first
+pub record IsRefusedFrom {D : Type 0} {g : Ghosts D} (start : Image) (fault : OpenFault) (now : Held (FileStore D g)) : Type 0 where
+  pub was : Held (FileStore D g)
+  pub opened : IsOpened was
+  pub found : FindsIn start (file_state was)
+  pub kept : KeepsRows (file_state was) (file_state now)
+  pub version : fault ≡ WrongVersion → HadNone (file_state was)
+  pub unusable : fault ≡ Unusable → HadNone (file_state was)
+  pub crash : Survives (file_state was) (file_state now) (λ db. IsBlank (file_state was) → StandsFor db nothing)
+  pub left : LeavesAsBefore (file_state was) (file_state now)
+
+-- what is told of the connection that is handed back
+abbrev pub IfConnection : {S L : Type 0} → Rest S L → (Held S → Type 0) → Type 0
+IfConnection (Connection conn) P = P conn
+IfConnection (Files left) P = ⊤
+
+-- and of what is left of files that `sqlite` didn't open
+abbrev pub IfFiles : {S L : Type 0} → Rest S L → (Option L → Type 0) → Type 0
+IfFiles (Connection conn) P = ⊤
+IfFiles (Files left) P = P left
 
 abbrev pub rates_in_row : StoredRate → Rates
 rates_in_row row = record { fixed = row.rate }

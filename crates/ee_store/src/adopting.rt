@@ -117,8 +117,8 @@ impl<S: Alter> SqlKeeper<S> {
     /// - `stands`: so the keeper serves from a content, and never from rows that stand for none.
     /// - `follows`: the store follows the events of the law of stops and retries as it did.
     /// - `version`, `unusable`: a store that has a content, or no tables, is refused for neither.
-    /// - `kept`: after a refusal the rows are as they were. A store without tables may have got the
-    ///   first ones.
+    /// - `kept`: after a refusal a store that had any of the tables, whatever their definitions, is as
+    ///   it was. A store without tables may have got the first ones.
     /// - `crash`, `left`: whenever the call stops, a crash leaves what it could leave before. Of a
     ///   store without tables it may also leave the empty content.
     ///

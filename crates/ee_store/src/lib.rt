@@ -27,4 +27,4 @@ pub use adopting::NotAdopted;
 pub use ee_contents::one_content;
 pub use ee_opening::OpenFault;
 pub use keeper::SqlKeeper;
-pub use opening::open_as;
+pub use opening::{NotOpened, Rest, open_as};

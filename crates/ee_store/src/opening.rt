@@ -1,21 +1,45 @@
 //! Opening a store in a file.
 
-ghost use Rattle.std.specs.Prelude.{IfOk};
+ghost use Rattle.std.specs.Prelude.{◌≡◌, ◌⊎◌, true, false, IfOk, IfErr, IfSome};
 ghost use Rattle.sqlite.specs.State.{HasCleanDisk};
-ghost use Rattle.sqlite.specs.Files.{file_state};
+ghost use Rattle.sqlite.specs.Files.{file_state, IsCleanLeft, LeavesFiles};
 ghost use Rattle.sqlite.specs.Recovery.{Image};
 ghost use Rattle.sqlite.specs.WalFiles.{image_at};
-ghost use Rattle.ee_store.specs.Adopted.{IsOpenedFrom};
+ghost use Rattle.sqlite_std_file.specs.File.{IsFresh};
+ghost use Rattle.ee_store.specs.Adopted.{IsOpenedFrom, IsRefusedFrom, IfConnection, IfFiles};
 
 use crate::keeper::SqlKeeper;
 use ee_opening::OpenFault;
-use sqlite::{Connection, File, FileFrom, FileStore, Start, Unknown};
+use sqlite::{Alter, Connection, File, FileFrom, FileStore, Leftover, Start, Unknown};
+
+/// What is left where a store in a file isn't opened: a connection, or what `sqlite` leaves of files
+/// that it doesn't open (`L`).
+#[derive(Drop)]
+pub enum Rest<S: Alter, L> {
+    /// The connection, handed back: what it holds was refused.
+    Connection(Connection<S>),
+    /// What `sqlite` left of the files, where it got as far as opening them.
+    Files(Option<L>),
+}
+
+/// A store in a file that wasn't opened, and why.
+#[derive(Drop)]
+pub struct NotOpened<S: Alter, L> {
+    /// Why it was not.
+    pub fault: OpenFault,
+    /// What is left of it.
+    pub rest: Rest<S, L>,
+}
 
 /// Opens the store in the file at a path, or makes it there, where `start` stands for what the file
 /// held.
 ///
-/// The keeper has what was found: the empty content where there was no store, and else the content
-/// that the store had, as `SqlKeeper::adopt` tells it.
+/// - `opened`: the keeper has what was found: the empty content where there was no store, and else the
+///   content that the store had, as `SqlKeeper::adopt` tells it.
+/// - `refused`: of a connection that is refused it tells the same: why, and what the call left.
+/// - `fault`: a file that `sqlite` doesn't open is told neither as of another version nor as unusable.
+/// - `left`: what is left of that file recovers to what was there, or, where no database was, to none or
+///   an empty one.
 ///
 /// # Errors
 ///
@@ -24,16 +48,31 @@ pub fn open_as<F: Start>(
     rt: &HostRuntime,
     path: &str,
     start: F,
-) -> Result<SqlKeeper<FileStore<FileFrom<F>>>, OpenFault>
-    ensures { IfOk result (λ keeper. HasCleanDisk (file_state keeper.conn) → IsOpenedFrom (image_at F.Start) keeper.conn) }
+) -> Result<
+    SqlKeeper<FileStore<FileFrom<F>>>,
+    NotOpened<FileStore<FileFrom<F>>, Leftover<FileFrom<F>>>,
+>
+    ensures opened { IfOk result (λ keeper. HasCleanDisk (file_state keeper.conn) → IsOpenedFrom (image_at F.Start) keeper.conn) }
+    ensures refused { IfErr result (λ not. IfConnection not.rest (λ conn. HasCleanDisk (file_state conn) → IsRefusedFrom (image_at F.Start) not.fault conn)) }
+    ensures fault { IfErr result (λ not. IfFiles not.rest (λ _. (not.fault ≡ OpenFault.NoMemory) ⊎ (not.fault ≡ OpenFault.StoreFailed))) }
+    ensures left { IfErr result (λ not. IfFiles not.rest (λ rest. IfSome rest (λ left. (files : _) × IsFresh true files.log × IsFresh false files.db
+        × (IsCleanLeft left → LeavesFiles files left)))) }
 {
     let conn = match Connection::open_from(rt, path, false, start) {
         Ok(conn) => conn,
-        Err((error, _)) => return Err(OpenFault::from(error)),
+        Err((error, left)) => {
+            return Err(NotOpened {
+                fault: OpenFault::from(error),
+                rest: Rest::Files(left),
+            });
+        }
     };
     match SqlKeeper::adopt(conn, rt.alloc()) {
         Ok(keeper) => Ok(keeper),
-        Err(not) => Err(not.fault),
+        Err(not) => Err(NotOpened {
+            fault: not.fault,
+            rest: Rest::Connection(not.conn),
+        }),
     }
 }
 
@@ -44,8 +83,15 @@ impl SqlKeeper<FileStore<File>> {
     /// # Errors
     ///
     /// Those of `SqlKeeper::adopt`; `StoreFailed` also where `sqlite` doesn't open the file.
-    pub fn open(rt: &HostRuntime, path: &str) -> Result<SqlKeeper<FileStore<File>>, OpenFault>
-        ensures { IfOk result (λ keeper. HasCleanDisk (file_state keeper.conn) → (start : Image) × IsOpenedFrom start keeper.conn) }
+    pub fn open(
+        rt: &HostRuntime,
+        path: &str,
+    ) -> Result<SqlKeeper<FileStore<File>>, NotOpened<FileStore<File>, Leftover<File>>>
+        ensures opened { IfOk result (λ keeper. HasCleanDisk (file_state keeper.conn) → (start : Image) × IsOpenedFrom start keeper.conn) }
+        ensures refused { IfErr result (λ not. IfConnection not.rest (λ conn. HasCleanDisk (file_state conn) → (start : Image) × IsRefusedFrom start not.fault conn)) }
+        ensures fault { IfErr result (λ not. IfFiles not.rest (λ _. (not.fault ≡ OpenFault.NoMemory) ⊎ (not.fault ≡ OpenFault.StoreFailed))) }
+        ensures left { IfErr result (λ not. IfFiles not.rest (λ rest. IfSome rest (λ left. (files : _) × IsFresh true files.log × IsFresh false files.db
+            × (IsCleanLeft left → LeavesFiles files left)))) }
     {
         open_as(rt, path, Unknown)
     }

@@ -31,7 +31,7 @@ returns-clause-failed g c clean =
     let new = state g.S.Store c.read_all.new.conn in
     let before = clean_before middle new c.read_all.ensures.crash clean in
     let made = c.in_ok-make_tables.ensures.made before in
-    on_err_from c.read_all.result (inr ((c.in_ok-make_tables.ensures.open before).0, λ blank. kept_has middle new first_rows (c.read_all.ensures.kept clean (λ is_open. (made blank is_open).0)) (made blank)))
+    on_err_from c.read_all.result (inr ((c.in_ok-make_tables.ensures.open before).0, λ blank. kept_has middle new first_rows (c.read_all.ensures.kept clean) (made blank)))
 
 pub returns-clause-crash : goal.returns-clause-crash
 returns-clause-crash g c =

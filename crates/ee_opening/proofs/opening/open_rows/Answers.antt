@@ -1,6 +1,8 @@
+use Rattle.std.proofs.Common.{inl}
 use Rattle.sqlite.specs.Held.{state}
 use Rattle.std.proofs.lemmas.Result.{IfOk-weaker}
-use Rattle.ee_opening.proofs.OpenLemmas.{not_blank, not_ours, either_failed, is_ours_if, is_blank_if, any_ok, each_err, still_err, if_ok, still_ok, leaves_less}
+use Rattle.ee_tables.proofs.Lemmas.Transactions.{on_err_from}
+use Rattle.ee_opening.proofs.OpenLemmas.{not_blank, not_tables, not_ours, either_failed, is_ours_if, is_blank_if, any_ok, each_err, still_err, if_ok, still_ok, leaves_less}
 use Rattle.ee_opening.proofs.opening.open_rows.Goals as goal
 
 pub returns-then-has_tables-clause-found : goal.returns-then-has_tables-clause-found
@@ -33,6 +35,11 @@ returns-else-has_tables-clause-version g c clean =
     let settled = c.is_autocommit.ensures.settled c.if-not-is_autocommit.false in
     each_err c.open_blank.result (λ e wrong rows has is_open. absurd (not_ours old settled c.has_tables.result c.has_tables.ensures c.if-has_tables.false (λ o. (has o).0) is_open))
 
+pub returns-then-has_tables-clause-failed : goal.returns-then-has_tables-clause-failed
+returns-then-has_tables-clause-failed g c clean =
+    let keeps = c.read_all.ensures.kept clean in
+    on_err_from c.read_all.result (λ tables. keeps, λ blank. inl keeps)
+
 pub returns-else-has_tables-clause-failed : goal.returns-else-has_tables-clause-failed
 returns-else-has_tables-clause-failed g c clean =
     let old = state g.S.Store c.args.conn.now in
@@ -41,37 +48,37 @@ returns-else-has_tables-clause-failed g c clean =
     still_err c.open_blank.result (either_failed old settled c.has_tables.result c.has_tables.ensures new c.if-has_tables.false) (c.open_blank.ensures.failed clean)
 
 pub returns-then-has_tables-clause-kept : goal.returns-then-has_tables-clause-kept
-returns-then-has_tables-clause-kept g c clean = if_ok c.read_all.result (c.read_all.ensures.kept clean)
+returns-then-has_tables-clause-kept g c clean = if_ok c.read_all.result (λ tables. c.read_all.ensures.kept clean)
 
 pub returns-else-has_tables-clause-kept : goal.returns-else-has_tables-clause-kept
 returns-else-has_tables-clause-kept g c clean =
     let old = state g.S.Store c.args.conn.now in
     let settled = c.is_autocommit.ensures.settled c.if-not-is_autocommit.false in
-    still_ok c.open_blank.result (λ is_open ours. absurd (not_ours old settled c.has_tables.result c.has_tables.ensures c.if-has_tables.false ours is_open)) (c.open_blank.ensures.open clean)
+    still_ok c.open_blank.result (λ is_open tables. absurd (not_tables old settled c.has_tables.result c.has_tables.ensures c.if-has_tables.false tables is_open)) (c.open_blank.ensures.open clean)
 
 pub returns-then-has_tables-clause-stays : goal.returns-then-has_tables-clause-stays
 returns-then-has_tables-clause-stays g c clean =
     let old = state g.S.Store c.args.conn.now in
     let new = state g.S.Store c.read_all.new.conn in
-    if_ok c.read_all.result (λ ours. leaves_less old new c.read_all.ensures.crash clean)
+    if_ok c.read_all.result (λ tables. leaves_less old new c.read_all.ensures.crash clean)
 
 pub returns-else-has_tables-clause-stays : goal.returns-else-has_tables-clause-stays
 returns-else-has_tables-clause-stays g c clean =
     let old = state g.S.Store c.args.conn.now in
     let settled = c.is_autocommit.ensures.settled c.if-not-is_autocommit.false in
-    still_ok c.open_blank.result (λ is_open ours. absurd (not_ours old settled c.has_tables.result c.has_tables.ensures c.if-has_tables.false ours is_open)) (c.open_blank.ensures.open clean)
+    still_ok c.open_blank.result (λ is_open tables. absurd (not_tables old settled c.has_tables.result c.has_tables.ensures c.if-has_tables.false tables is_open)) (c.open_blank.ensures.open clean)
 
 pub returns-then-has_tables-clause-left : goal.returns-then-has_tables-clause-left
-returns-then-has_tables-clause-left g c clean is_open ours =
+returns-then-has_tables-clause-left g c clean is_open tables =
     let old = state g.S.Store c.args.conn.now in
     let new = state g.S.Store c.read_all.new.conn in
     leaves_less old new c.read_all.ensures.crash clean
 
 pub returns-else-has_tables-clause-left : goal.returns-else-has_tables-clause-left
-returns-else-has_tables-clause-left g c clean is_open ours =
+returns-else-has_tables-clause-left g c clean is_open tables =
     let old = state g.S.Store c.args.conn.now in
     let settled = c.is_autocommit.ensures.settled c.if-not-is_autocommit.false in
-    absurd (not_ours old settled c.has_tables.result c.has_tables.ensures c.if-has_tables.false ours is_open)
+    absurd (not_tables old settled c.has_tables.result c.has_tables.ensures c.if-has_tables.false tables is_open)
 
 pub returns-else-has_tables-clause-tested : goal.returns-else-has_tables-clause-tested
 returns-else-has_tables-clause-tested g c clean =

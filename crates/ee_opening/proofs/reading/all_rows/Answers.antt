@@ -6,21 +6,27 @@ use Rattle.sqlite.proofs.Callers.{IsPlain}
 use Rattle.ee_tables.specs.Tables.{counter_schema}
 use Rattle.ee_tables.proofs.Lemmas.Transactions.{query_keeps, shown_open, is_open_after, query_same}
 use Rattle.ee_opening.proofs.FaultLemmas.{query_usable, told_as}
-use Rattle.ee_opening.proofs.ScanLemmas.{is_plain, answers, shows_all, shown_keeps}
+use Rattle.ee_opening.proofs.ScanLemmas.{is_plain, answers, shows_all, shown_begun, shown_keeps}
 use Rattle.ee_opening.proofs.reading.all_rows.Goals as goal
 
 pub returns-in_err-rows-clause-commit : goal.returns-in_err-rows-clause-commit
-returns-in_err-rows-clause-commit g c clean inside =
+returns-in_err-rows-clause-commit g c clean begun =
     let old = state g.S.Store c.args.tx.now.conn.now in
     let new = state g.S.Store c.query_all.new.self.conn.now in
     query_keeps old new c.args.sql.now [] _ (c.in_err-rows.ensures.err clean)
 
 pub returns-clause-commit : goal.returns-clause-commit
-returns-clause-commit g c clean inside =
+returns-clause-commit g c clean begun =
     let old = state g.S.Store c.args.tx.now.conn.now in
     let new = state g.S.Store c.query_all.new.self.conn.now in
     let shown = c.in_ok-rows.ensures.ok clean in
-    shown_keeps old new c.args.sql.now [] c.in_ok-rows.rows.items shown (inside (shown_open old new c.args.sql.now [] c.in_ok-rows.rows.items shown)).0
+    shown_keeps old new c.args.sql.now [] c.in_ok-rows.rows.items shown (begun (shown_open old new c.args.sql.now [] c.in_ok-rows.rows.items shown))
+
+pub returns-clause-begun : goal.returns-clause-begun
+returns-clause-begun g c clean =
+    let old = state g.S.Store c.args.tx.now.conn.now in
+    let new = state g.S.Store c.query_all.new.self.conn.now in
+    shown_begun old new c.args.sql.now [] c.in_ok-rows.rows.items (c.in_ok-rows.ensures.ok clean)
 
 pub returns-clause-open : goal.returns-clause-open
 returns-clause-open g c clean =

@@ -3,37 +3,47 @@ use Rattle.sqlite.specs.declared.types.Value.TheVariants.{Int}
 use Rattle.sqlite.specs.Effect.{Database}
 use Rattle.sqlite.specs.Held.{state}
 use Rattle.sqlite.proofs.Callers.{unchanged_then}
+use Rattle.sqlite.proofs.InsideLemmas.{keeps_then}
 use Rattle.ee_tables.specs.Keyed.{HoldsPairs}
 use Rattle.ee_tables.specs.Rows.{bond_columns}
 use Rattle.ee_tables.proofs.Lemmas.Transactions.{clean_before, unchanged_inside}
 use Rattle.ee_opening.specs.declared.entries.Rowid.{Rowid}
 use Rattle.ee_opening.specs.Reading.{ShowsAll}
 use Rattle.ee_opening.proofs.QuestionLemmas.{bond_terms, rowid_terms, asks_bonds, asks_bond_rowids}
-use Rattle.ee_opening.proofs.ReadLemmas.{keeps_after}
 use Rattle.ee_opening.proofs.FaultLemmas.{handed_on}
 use Rattle.ee_opening.proofs.CanRead.{can_read_bonds, can_read_bond_rowids}
 use Rattle.ee_opening.proofs.EachTable.{holds_bonds, listed_bonds}
 use Rattle.ee_opening.proofs.tables.read_bonds.Goals as goal
 
 pub returns-in_err-_rowids-clause-commit : goal.returns-in_err-_rowids-clause-commit
-returns-in_err-_rowids-clause-commit g c clean inside =
-    let old = state g.S.Store c.args.tx.now.conn.now in
-    let middle = state g.S.Store c.read_table.new.tx.conn.now in
-    let new = state g.S.Store c.read_table-2.new.tx.conn.now in
-    let before = clean_before middle new c.read_table-2.ensures.crash clean in
-    let same = c.in_ok-found.ensures.same before 2 bond_terms asks_bonds inside in
-    let inside_then = unchanged_inside old middle same inside in
-    keeps_after old middle new same (c.read_table-2.ensures.commit clean inside_then)
+returns-in_err-_rowids-clause-commit g c clean begun =
+    let at_0 = state g.S.Store c.args.tx.now.conn.now in
+    let at_1 = state g.S.Store c.read_table.new.tx.conn.now in
+    let at_2 = state g.S.Store c.read_table-2.new.tx.conn.now in
+    let clean_2 = clean in
+    let clean_1 = clean_before at_1 at_2 c.read_table-2.ensures.crash clean_2 in
+    let begun_0 = begun in
+    let begun_1 = c.in_ok-found.ensures.begun clean_1 begun_0 in
+    keeps_then at_0 at_1 at_2 (c.read_table.ensures.commit clean_1 begun_0) (c.read_table-2.ensures.commit clean_2 begun_1)
 
 pub returns-clause-commit : goal.returns-clause-commit
-returns-clause-commit g c clean inside =
-    let old = state g.S.Store c.args.tx.now.conn.now in
-    let middle = state g.S.Store c.read_table.new.tx.conn.now in
-    let new = state g.S.Store c.read_table-2.new.tx.conn.now in
-    let before = clean_before middle new c.read_table-2.ensures.crash clean in
-    let same = c.in_ok-found.ensures.same before 2 bond_terms asks_bonds inside in
-    let inside_then = unchanged_inside old middle same inside in
-    keeps_after old middle new same (c.read_table-2.ensures.commit clean inside_then)
+returns-clause-commit g c clean begun =
+    let at_0 = state g.S.Store c.args.tx.now.conn.now in
+    let at_1 = state g.S.Store c.read_table.new.tx.conn.now in
+    let at_2 = state g.S.Store c.read_table-2.new.tx.conn.now in
+    let clean_2 = clean in
+    let clean_1 = clean_before at_1 at_2 c.read_table-2.ensures.crash clean_2 in
+    let begun_0 = begun in
+    let begun_1 = c.in_ok-found.ensures.begun clean_1 begun_0 in
+    keeps_then at_0 at_1 at_2 (c.read_table.ensures.commit clean_1 begun_0) (c.read_table-2.ensures.commit clean_2 begun_1)
+
+pub returns-clause-begun : goal.returns-clause-begun
+returns-clause-begun g c clean begun =
+    let at_1 = state g.S.Store c.read_table.new.tx.conn.now in
+    let at_2 = state g.S.Store c.read_table-2.new.tx.conn.now in
+    let clean_2 = clean in
+    let clean_1 = clean_before at_1 at_2 c.read_table-2.ensures.crash clean_2 in
+    c.in_ok-_rowids.ensures.begun clean_2 (c.in_ok-found.ensures.begun clean_1 begun)
 
 pub returns-clause-same : goal.returns-clause-same
 returns-clause-same g c clean inside =

@@ -4,7 +4,7 @@ use Rattle.sqlite.specs.State.{HasCleanDisk}
 use Rattle.ee_tables.specs.Rows.{Rows, Has}
 use Rattle.ee_tables.proofs.Lemmas.Transactions.{clean_before}
 use Rattle.ee_opening.specs.Whole.{IsOurs, rows_of}
-use Rattle.ee_opening.proofs.WholeLemmas.{are_in_order, starts_inside, starts_sound, is_ours, are_those, has_read}
+use Rattle.ee_opening.proofs.WholeLemmas.{are_in_order, starts_begun, starts_inside, starts_sound, is_ours, are_those, has_read}
 use Rattle.ee_opening.proofs.whole.read_all.Goals as goal
 
 pub returns-clause-found : goal.returns-clause-found
@@ -20,7 +20,7 @@ returns-clause-found g c =
     let before = clean_before middle new c.drop-tx-2.ensures.survives clean in
     let inside = starts_inside old start is settled ours in
     let sound = starts_sound old start is settled c.schema-schema.ensures.live in
-    has_read old start is settled middle new (c.in_ok-all.ensures.commit before inside) (c.drop-tx-2.ensures.undone clean) (rows_of c.in_ok-all.all) ours (c.in_ok-all.ensures.found before inside sound))
+    has_read old start is settled middle new (c.in_ok-all.ensures.commit before (starts_begun old start is settled)) (c.drop-tx-2.ensures.undone clean) (rows_of c.in_ok-all.all) ours (c.in_ok-all.ensures.found before inside sound))
 
 pub returns-clause-those : goal.returns-clause-those
 returns-clause-those g c =

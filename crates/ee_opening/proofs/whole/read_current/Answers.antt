@@ -1,6 +1,7 @@
 use Rattle.std.proofs.Common.{sym, subst, ◌∙◌}
 use Rattle.sqlite.specs.Effect.{Database}
 use Rattle.sqlite.specs.Held.{state}
+use Rattle.sqlite.proofs.InsideLemmas.{keeps_then}
 use Rattle.ee_tables.specs.Rows.{Holds}
 use Rattle.ee_tables.proofs.Lemmas.Transactions.{clean_before, unchanged_inside}
 use Rattle.ee_opening.proofs.FaultLemmas.{handed_on}
@@ -36,3 +37,11 @@ returns-clause-tested g c clean =
     let new = state g.S.Store c.read_in.new.tx.conn.now in
     let before = clean_before middle new c.read_in.ensures.crash clean in
     each_fault c.read_in.result (λ e usable unusable inside is_open rows sees other. one_version rows (c.in_ok-check_version.ensures.first before rows sees) other) (c.read_in.ensures.usable clean)
+
+pub returns-clause-commit : goal.returns-clause-commit
+returns-clause-commit g c clean begun =
+    let old = state g.S.Store c.args.tx.now.conn.now in
+    let middle = state g.S.Store c.check_version.new.tx.conn.now in
+    let new = state g.S.Store c.read_in.new.tx.conn.now in
+    let before = clean_before middle new c.read_in.ensures.crash clean in
+    keeps_then old middle new (c.check_version.ensures.commit before begun) (c.read_in.ensures.commit clean (c.in_ok-check_version.ensures.begun before begun))

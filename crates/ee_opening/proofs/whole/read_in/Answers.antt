@@ -2,53 +2,52 @@ use Rattle.std.proofs.Common.{sym, subst, ◌∙◌}
 use Rattle.sqlite.specs.Effect.{Database}
 use Rattle.sqlite.specs.Held.{state}
 use Rattle.sqlite.proofs.Callers.{unchanged_then}
+use Rattle.sqlite.proofs.InsideLemmas.{keeps_then}
 use Rattle.ee_tables.specs.Rows.{Holds}
 use Rattle.ee_tables.proofs.Lemmas.Transactions.{clean_before, unchanged_inside}
 use Rattle.ee_opening.specs.Whole.{HoldsPayments, HoldsRecords}
 use Rattle.ee_opening.proofs.FaultLemmas.{handed_on}
-use Rattle.ee_opening.proofs.ReadLemmas.{sound_after, keeps_after}
+use Rattle.ee_opening.proofs.ReadLemmas.{sound_after}
 use Rattle.ee_opening.proofs.whole.read_in.Goals as goal
 
 pub returns-in_err-payments-clause-commit : goal.returns-in_err-payments-clause-commit
-returns-in_err-payments-clause-commit g c clean inside =
-    let old = state g.S.Store c.args.tx.now.conn.now in
+returns-in_err-payments-clause-commit g c clean begun =
+    let at_0 = state g.S.Store c.args.tx.now.conn.now in
     let at_1 = state g.S.Store c.read_register.new.tx.conn.now in
     let at_2 = state g.S.Store c.read_payments.new.tx.conn.now in
     let clean_2 = clean in
     let clean_1 = clean_before at_1 at_2 c.read_payments.ensures.crash clean_2 in
-    let same_1 = c.in_ok-register.ensures.same clean_1 inside in
-    let inside_1 = unchanged_inside old at_1 same_1 inside in
-    keeps_after old at_1 at_2 same_1 (c.read_payments.ensures.commit clean_2 inside_1)
+    let begun_0 = begun in
+    let begun_1 = c.in_ok-register.ensures.begun clean_1 begun_0 in
+    keeps_then at_0 at_1 at_2 (c.read_register.ensures.commit clean_1 begun_0) (c.read_payments.ensures.commit clean_2 begun_1)
 
 pub returns-in_err-records-clause-commit : goal.returns-in_err-records-clause-commit
-returns-in_err-records-clause-commit g c clean inside =
-    let old = state g.S.Store c.args.tx.now.conn.now in
+returns-in_err-records-clause-commit g c clean begun =
+    let at_0 = state g.S.Store c.args.tx.now.conn.now in
     let at_1 = state g.S.Store c.read_register.new.tx.conn.now in
     let at_2 = state g.S.Store c.read_payments.new.tx.conn.now in
     let at_3 = state g.S.Store c.read_records.new.tx.conn.now in
     let clean_3 = clean in
     let clean_2 = clean_before at_2 at_3 c.read_records.ensures.crash clean_3 in
     let clean_1 = clean_before at_1 at_2 c.read_payments.ensures.crash clean_2 in
-    let same_1 = c.in_ok-register.ensures.same clean_1 inside in
-    let inside_1 = unchanged_inside old at_1 same_1 inside in
-    let same_2 = c.in_ok-payments.ensures.same clean_2 inside_1 in
-    let inside_2 = unchanged_inside at_1 at_2 same_2 inside_1 in
-    keeps_after old at_1 at_3 same_1 (keeps_after at_1 at_2 at_3 same_2 (c.read_records.ensures.commit clean_3 inside_2))
+    let begun_0 = begun in
+    let begun_1 = c.in_ok-register.ensures.begun clean_1 begun_0 in
+    let begun_2 = c.in_ok-payments.ensures.begun clean_2 begun_1 in
+    keeps_then at_0 at_1 at_3 (c.read_register.ensures.commit clean_1 begun_0) (keeps_then at_1 at_2 at_3 (c.read_payments.ensures.commit clean_2 begun_1) (c.read_records.ensures.commit clean_3 begun_2))
 
 pub returns-clause-commit : goal.returns-clause-commit
-returns-clause-commit g c clean inside =
-    let old = state g.S.Store c.args.tx.now.conn.now in
+returns-clause-commit g c clean begun =
+    let at_0 = state g.S.Store c.args.tx.now.conn.now in
     let at_1 = state g.S.Store c.read_register.new.tx.conn.now in
     let at_2 = state g.S.Store c.read_payments.new.tx.conn.now in
     let at_3 = state g.S.Store c.read_records.new.tx.conn.now in
     let clean_3 = clean in
     let clean_2 = clean_before at_2 at_3 c.read_records.ensures.crash clean_3 in
     let clean_1 = clean_before at_1 at_2 c.read_payments.ensures.crash clean_2 in
-    let same_1 = c.in_ok-register.ensures.same clean_1 inside in
-    let inside_1 = unchanged_inside old at_1 same_1 inside in
-    let same_2 = c.in_ok-payments.ensures.same clean_2 inside_1 in
-    let inside_2 = unchanged_inside at_1 at_2 same_2 inside_1 in
-    keeps_after old at_1 at_3 same_1 (keeps_after at_1 at_2 at_3 same_2 (c.read_records.ensures.commit clean_3 inside_2))
+    let begun_0 = begun in
+    let begun_1 = c.in_ok-register.ensures.begun clean_1 begun_0 in
+    let begun_2 = c.in_ok-payments.ensures.begun clean_2 begun_1 in
+    keeps_then at_0 at_1 at_3 (c.read_register.ensures.commit clean_1 begun_0) (keeps_then at_1 at_2 at_3 (c.read_payments.ensures.commit clean_2 begun_1) (c.read_records.ensures.commit clean_3 begun_2))
 
 pub returns-clause-same : goal.returns-clause-same
 returns-clause-same g c clean inside =

@@ -2,35 +2,44 @@ use Rattle.std.proofs.Common.{sym, subst}
 use Rattle.sqlite.specs.Effect.{Database}
 use Rattle.sqlite.specs.Held.{state}
 use Rattle.sqlite.proofs.Callers.{unchanged_then}
+use Rattle.sqlite.proofs.InsideLemmas.{keeps_then}
 use Rattle.ee_tables.specs.Keyed.{HoldsPairs}
 use Rattle.ee_tables.specs.Rows.{paid_columns, Holds}
 use Rattle.ee_tables.proofs.Lemmas.Transactions.{clean_before, unchanged_inside}
 use Rattle.ee_opening.specs.Shown.{line_map}
 use Rattle.ee_opening.proofs.FaultLemmas.{handed_on}
-use Rattle.ee_opening.proofs.ReadLemmas.{sound_after, keeps_after}
+use Rattle.ee_opening.proofs.ReadLemmas.{sound_after}
 use Rattle.ee_opening.proofs.whole.read_payments.Goals as goal
 
 pub returns-in_err-lines-clause-commit : goal.returns-in_err-lines-clause-commit
-returns-in_err-lines-clause-commit g c clean inside =
-    let old = state g.S.Store c.args.tx.now.conn.now in
+returns-in_err-lines-clause-commit g c clean begun =
+    let at_0 = state g.S.Store c.args.tx.now.conn.now in
     let at_1 = state g.S.Store c.read_tickets.new.tx.conn.now in
     let at_2 = state g.S.Store c.read_lines.new.tx.conn.now in
     let clean_2 = clean in
     let clean_1 = clean_before at_1 at_2 c.read_lines.ensures.crash clean_2 in
-    let same_1 = c.in_ok-tickets.ensures.same clean_1 inside in
-    let inside_1 = unchanged_inside old at_1 same_1 inside in
-    keeps_after old at_1 at_2 same_1 (c.read_lines.ensures.commit clean_2 inside_1)
+    let begun_0 = begun in
+    let begun_1 = c.in_ok-tickets.ensures.begun clean_1 begun_0 in
+    keeps_then at_0 at_1 at_2 (c.read_tickets.ensures.commit clean_1 begun_0) (c.read_lines.ensures.commit clean_2 begun_1)
 
 pub returns-clause-commit : goal.returns-clause-commit
-returns-clause-commit g c clean inside =
-    let old = state g.S.Store c.args.tx.now.conn.now in
+returns-clause-commit g c clean begun =
+    let at_0 = state g.S.Store c.args.tx.now.conn.now in
     let at_1 = state g.S.Store c.read_tickets.new.tx.conn.now in
     let at_2 = state g.S.Store c.read_lines.new.tx.conn.now in
     let clean_2 = clean in
     let clean_1 = clean_before at_1 at_2 c.read_lines.ensures.crash clean_2 in
-    let same_1 = c.in_ok-tickets.ensures.same clean_1 inside in
-    let inside_1 = unchanged_inside old at_1 same_1 inside in
-    keeps_after old at_1 at_2 same_1 (c.read_lines.ensures.commit clean_2 inside_1)
+    let begun_0 = begun in
+    let begun_1 = c.in_ok-tickets.ensures.begun clean_1 begun_0 in
+    keeps_then at_0 at_1 at_2 (c.read_tickets.ensures.commit clean_1 begun_0) (c.read_lines.ensures.commit clean_2 begun_1)
+
+pub returns-clause-begun : goal.returns-clause-begun
+returns-clause-begun g c clean begun =
+    let at_1 = state g.S.Store c.read_tickets.new.tx.conn.now in
+    let at_2 = state g.S.Store c.read_lines.new.tx.conn.now in
+    let clean_2 = clean in
+    let clean_1 = clean_before at_1 at_2 c.read_lines.ensures.crash clean_2 in
+    c.in_ok-lines.ensures.begun clean_2 (c.in_ok-tickets.ensures.begun clean_1 begun)
 
 pub returns-clause-same : goal.returns-clause-same
 returns-clause-same g c clean inside =
