@@ -1,10 +1,10 @@
-pub mod Images
-pub mod Orders
-pub mod OneContent
-pub mod ReadBack
-pub mod RowsOfBooks
-pub mod NotedMarks
-pub mod KeptRows
-pub mod Founded
-pub mod FoundParts
+mod Images
+mod Orders
+mod OneContent
+mod ReadBack
+mod RowsOfBooks
+mod NotedMarks
+mod KeptRows
+mod Founded
+mod FoundParts
 pub mod Lemmas

@@ -1,17 +1,17 @@
-pub mod Changes
-pub mod Written
-pub mod NeverReused
-pub mod Delivered
-pub mod Again
-pub mod ByKeys
-pub mod Served
-pub mod Transactions
-pub mod Named
-pub mod Following
-pub mod DaySums
-pub mod ReadValues
-pub mod FoundTickets
-pub mod FoundBonds
-pub mod FoundRows
-pub mod Readable
-pub mod Opened
+mod Changes
+mod Written
+mod NeverReused
+mod Delivered
+mod Again
+mod ByKeys
+mod Served
+mod Transactions
+mod Named
+mod Following
+mod DaySums
+mod ReadValues
+mod FoundTickets
+mod FoundBonds
+mod FoundRows
+mod Readable
+mod Opened
