@@ -1,2 +1,4 @@
 pub mod LineLemmas
 pub mod Numbers
+pub mod Altered
+pub mod Meaning

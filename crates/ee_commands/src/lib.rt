@@ -2,6 +2,7 @@
 #![tactic(auto)]
 
 mod commands;
+pub mod laws;
 mod lines;
 mod rows;
 mod words;

@@ -1,0 +1,8 @@
+use Rattle.ee_commands.proofs.Meaning.{asks_for_one, asks_unrefused}
+use Rattle.ee_commands.proofs.laws.one_meaning.Goals as goal
+
+pub returns-clause-one : goal.returns-clause-one
+returns-clause-one c = asks_for_one
+
+pub returns-clause-unrefused : goal.returns-clause-unrefused
+returns-clause-unrefused c = asks_unrefused

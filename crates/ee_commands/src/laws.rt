@@ -1,0 +1,13 @@
+//! Laws of command lines: a body does nothing, and the clauses are the laws.
+
+ghost use Rattle.ee_commands.specs.Answer.{AsksForOne, AsksUnrefused};
+
+/// What the words of a line ask for is determined by the words.
+///
+/// - `one`: they ask for one thing at most, so the command that `read_command` answers is the only one
+///   that they ask for, or the argument that it names the only one.
+/// - `unrefused`: words that ask for something are neither refused, nor do they ask for help.
+pub const fn one_meaning()
+    ensures one { AsksForOne }
+    ensures unrefused { AsksUnrefused }
+{}
