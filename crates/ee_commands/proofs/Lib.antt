@@ -1,4 +1,5 @@
 pub mod LineLemmas
 pub mod Numbers
 pub mod Altered
-pub mod Meaning
+pub mod Determined
+pub mod Laws

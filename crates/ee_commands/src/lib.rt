@@ -2,9 +2,10 @@
 #![tactic(auto)]
 
 mod commands;
-pub mod laws;
 mod lines;
+mod meaning;
 mod rows;
 mod words;
 
 pub use commands::{Command, CommandFault, FileKind, read_command};
+pub use meaning::one_meaning;

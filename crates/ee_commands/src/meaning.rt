@@ -1,4 +1,4 @@
-//! Laws of command lines: a body does nothing, and the clauses are the laws.
+//! What words mean, as a law: the body does nothing, and the clauses are the law.
 
 ghost use Rattle.ee_commands.specs.Answer.{AsksForOne, AsksUnrefused};
 

@@ -1,5 +1,5 @@
-use Rattle.ee_commands.proofs.Meaning.{asks_for_one, asks_unrefused}
-use Rattle.ee_commands.proofs.laws.one_meaning.Goals as goal
+use Rattle.ee_commands.proofs.Laws.{asks_for_one, asks_unrefused}
+use Rattle.ee_commands.proofs.meaning.one_meaning.Goals as goal
 
 pub returns-clause-one : goal.returns-clause-one
 returns-clause-one c = asks_for_one
