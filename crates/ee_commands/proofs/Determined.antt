@@ -1,6 +1,6 @@
 -- The words determine what they ask for. Of the references that stand for the kinds of files clap looks at the texts alone:
 -- so all lists of references to the same words, wherever they are, make the same program.
-use Rattle.std.proofs.Common.{◌≡◌, ◌∙◌, Bool, List, [], ◌∷◌, map, drop, Option, Some, Result, refl, sym, ap, Bor, if◌then◌else◌, option_map}
+use Rattle.std.proofs.Common.{◌≡◌, ◌≢◌, ◌∙◌, Bool, List, [], ◌∷◌, map, drop, Option, Some, Result, refl, sym, ap, subst, inl, inr, Bor, if◌then◌else◌, option_map}
 use Rattle.std.specs.List.{list_any}
 use Rattle.clap.specs.Words.{App, Row, Text, fault_of, subcommand_of, same_text, IsAmong, Kinds}
 use Rattle.clap.specs.Facts.{parser_of_value}
@@ -10,12 +10,13 @@ use Rattle.clap.specs.Walk.{nothing_held, texts, stop_after}
 use Rattle.clap.specs.Simple.{built, entered, names_of}
 use Rattle.clap.specs.Faults.{built_fault}
 use Rattle.clap.specs.declared.error.kind.ErrorKind.{ErrorKind}
-use Rattle.clap.specs.declared.error.kind.ErrorKind.TheVariants.{InvalidValue}
+use Rattle.clap.specs.declared.error.kind.ErrorKind.TheVariants.{DisplayHelp, InvalidValue}
 use Rattle.clap.specs.declared.builder.value_parser.ValueParser.{ValueParser}
 use Rattle.clap.specs.declared.builder.value_parser.ValueParser.TheVariants as parser
 use Rattle.clap.proofs.WalkLemmas.{list_any-map}
 use Rattle.ee_commands.specs.CommandLine.{Asked, asked, program, kind_words}
-use Rattle.ee_commands.specs.Answer.{IsAsked, IsRefusedBy}
+use Rattle.ee_commands.specs.Answer.{IsAsked, IsRefusedBy, IsRefused, AsksForHelp}
+use Rattle.ee_commands.proofs.Helps.{IsAlone, help_alone}
 use Rattle.ee_commands.proofs.Altered.{alter_app, faults_same, entered_same, stop_same}
 
 -- a reference to this text, and one to these, at no place
@@ -90,3 +91,16 @@ pub asks_unrefused : (words : List Text) (r : Result Asked Text) (kind : ErrorKi
 asks_unrefused words r kind p q =
     none_among kind (fault_of (program p.kinds) words) (fault_of (program q.kinds) words)
     (faults_bare p.kinds words p.kind_words_are ∙ sym (faults_bare q.kinds words q.kind_words_are)) p.read q.refused
+
+only_help : (k : ErrorKind) → IsAmong k (DisplayHelp ∷ []) → k ≡ DisplayHelp
+only_help k (inl e) = e
+only_help k (inr h) = absurd h
+
+two_causes : (x y : Kinds) (k : ErrorKind) → IsAlone x → x ≡ y → IsAmong DisplayHelp x → IsAmong k y → k ≢ DisplayHelp → ⊥
+two_causes x y k alone e help among other = other (only_help k (subst (IsAmong k) (sym e ∙ alone help) among))
+
+pub asks_for_help_alone : (words : List Text) → AsksForHelp words → IsRefused words → ⊥
+asks_for_help_alone words p q =
+    two_causes (fault_of (program p.kinds) words) (fault_of (program q.by.kinds) words) q.kind
+    (help_alone (built (program p.kinds)) nothing_held (drop 1 words) refl)
+    (faults_bare p.kinds words p.kind_words_are ∙ sym (faults_bare q.by.kinds words q.by.kind_words_are)) p.refused q.by.refused q.no_help

@@ -51,6 +51,10 @@ AsksForOne = (words : List Text) (r s : Result Asked Text) → IsAsked words r �
 abbrev pub AsksUnrefused : Type 0
 AsksUnrefused = (words : List Text) (r : Result Asked Text) (kind : ErrorKind) → IsAsked words r → IsRefusedBy kind words → ⊥
 
+-- words that ask for help are not refused for another cause
+abbrev pub AsksForHelpAlone : Type 0
+AsksForHelpAlone = (words : List Text) → AsksForHelp words → IsRefused words → ⊥
+
 -- what an answer says of the words
 abbrev pub IsAnswer : List Text → Result Command CommandFault → Type 0
 IsAnswer words (Ok c) = IsAsked words (Ok (view_of c))
