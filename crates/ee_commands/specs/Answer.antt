@@ -19,7 +19,8 @@ view_of (command.Export customer db) = export customer db.now
 view_of (command.Sheet customer month db) = sheet customer month db.now
 view_of (command.Serve db port connections) = serve db.now port connections
 
--- clap reads the words by the program's rows, and this is what they ask for
+-- clap reads the words by the program's rows, and this is what they ask for. The words for the kinds of files stand behind
+-- references, and clap reads the same wherever those point.
 pub record IsAsked (words : List Text) (r : Result Asked Text) : Type 0 where
   pub kinds : Bor (List (Bor Text))
   pub kind_words_are : map (λ k. k.now) kinds.now ≡ kind_words
@@ -41,6 +42,18 @@ pub record IsRefused (words : List Text) : Type 0 where
   pub kind : ErrorKind
   pub by : IsRefusedBy kind words
   pub no_help : kind ≢ DisplayHelp
+
+-- words ask for one thing at most
+abbrev pub AsksForOne : Type 0
+AsksForOne = (words : List Text) (r s : Result Asked Text) → IsAsked words r → IsAsked words s → r ≡ s
+
+-- words that ask for something are not refused, nor do they ask for help
+abbrev pub AsksUnrefused : Type 0
+AsksUnrefused = (words : List Text) (r : Result Asked Text) (kind : ErrorKind) → IsAsked words r → IsRefusedBy kind words → ⊥
+
+-- words that ask for help are not refused for another cause
+abbrev pub AsksForHelpAlone : Type 0
+AsksForHelpAlone = (words : List Text) → AsksForHelp words → IsRefused words → ⊥
 
 -- what an answer says of the words
 abbrev pub IsAnswer : List Text → Result Command CommandFault → Type 0

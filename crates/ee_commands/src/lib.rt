@@ -3,7 +3,9 @@
 
 mod commands;
 mod lines;
+mod meaning;
 mod rows;
 mod words;
 
 pub use commands::{Command, CommandFault, FileKind, read_command};
+pub use meaning::one_meaning;

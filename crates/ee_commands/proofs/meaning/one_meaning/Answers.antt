@@ -1,0 +1,11 @@
+use Rattle.ee_commands.proofs.Laws.{asks_for_help_alone, asks_for_one, asks_unrefused}
+use Rattle.ee_commands.proofs.meaning.one_meaning.Goals as goal
+
+pub returns-clause-one : goal.returns-clause-one
+returns-clause-one c = asks_for_one
+
+pub returns-clause-unrefused : goal.returns-clause-unrefused
+returns-clause-unrefused c = asks_unrefused
+
+pub returns-clause-help_alone : goal.returns-clause-help_alone
+returns-clause-help_alone c = asks_for_help_alone
