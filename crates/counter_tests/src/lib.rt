@@ -11,9 +11,13 @@ mod days;
 #[cfg(test)]
 mod devices;
 #[cfg(test)]
+mod faults;
+#[cfg(test)]
 mod files;
 #[cfg(test)]
 mod lines;
+#[cfg(test)]
+mod noise;
 #[cfg(test)]
 mod refusals;
 #[cfg(test)]

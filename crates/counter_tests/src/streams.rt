@@ -9,18 +9,18 @@ use std::alloc::Global;
 use std::process::Abort;
 use std::test::Fail;
 
-const RATE: &str =
+pub const RATE: &str =
     "POST /rates HTTP/1.1\r\nContent-Length: 55\r\n\r\n{\"number\":1,\"rates\":[{\"from\":\"2010-11\",\"rate\":\"3.50\"}]}";
 
-const VALUE: &str = "GET /value/50/2010-11/2012-02 HTTP/1.1\r\n\r\n";
+pub const VALUE: &str = "GET /value/50/2010-11/2012-02 HTTP/1.1\r\n\r\n";
 
-const ADDED: &str =
+pub const ADDED: &str =
     "HTTP/1.1 200 OK\r\nContent-Type: application/json\r\nContent-Length: 18\r\n\r\n{\"new\":1,\"same\":0}";
 
-const ROW: &str =
+pub const ROW: &str =
     "HTTP/1.1 200 OK\r\nContent-Type: application/json\r\nContent-Length: 143\r\n\r\n{\"denom\":50,\"final\":\"2040-11\",\"interest\":\"0.88\",\"issued\":\"2010-11\",\"next\":\"2012-03\",\"note\":\"P5\",\"price\":\"25.00\",\"rate\":\"3.50%\",\"value\":\"25.88\"}";
 
-const CUT: &str =
+pub const CUT: &str =
     "HTTP/1.1 400 Bad Request\r\nContent-Type: application/json\r\nContent-Length: 31\r\nConnection: close\r\n\r\n{\"code\":68,\"fault\":\"Truncated\"}";
 
 /// How many answers were written whole, why it ended, and what was written.
@@ -85,7 +85,7 @@ fn a_cut_message_is_truncated(rt: HostRuntime) -> Result<(), Fail> {
 }
 
 /// An answer of JSON; `headers` stand after its length.
-fn answer(alloc: Global, status: &str, headers: &str, body: &str) -> Result<String, Fail> {
+pub fn answer(alloc: Global, status: &str, headers: &str, body: &str) -> Result<String, Fail> {
     let length = body.len();
     Ok(format!(in alloc;
         "HTTP/1.1 {status}\r\nContent-Type: application/json\r\nContent-Length: {length}\r\n{headers}\r\n{body}"
@@ -129,7 +129,7 @@ fn a_framing_fault_ends_the_connection(rt: HostRuntime) -> Result<(), Fail> {
 }
 
 /// A message with so many headers, and of so many bytes where that is more.
-fn headed(alloc: Global, headers: u64, length: usize) -> Result<String, Fail> {
+pub fn headed(alloc: Global, headers: u64, length: usize) -> Result<String, Fail> {
     let mut text = String::from_str(alloc, "GET /ticket/1 HTTP/1.1\r\n")?;
     for _ in 1..headers {
         text.push_str("a: b\r\n")?;

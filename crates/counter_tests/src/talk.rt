@@ -2,7 +2,7 @@
 //! status and the body of its answer. `[*COUNT ITEM*]` is a list of so many items, and `#` in
 //! the item is its place, from 1 on.
 
-use ee_counter::serve;
+use ee_actions::{Outcome, apply_to};
 use ee_keeper::Keeper;
 use std::alloc::Global;
 use std::fmt::Write;
@@ -58,14 +58,37 @@ fn told(alloc: Global, answer: &str) -> Result<String, Fail> {
     Ok(format!(in alloc; "{status} {body}")?)
 }
 
-/// The answer to one message, which is sent on a connection of its own.
+/// How the command `apply` ends on a stream, on a line, and what it answers.
+pub fn applied<K: Keeper>(alloc: Global, keeper: &mut K, stream: &[u8]) -> Result<String, Fail> {
+    let mut reader = stream;
+    let mut text = Vec::new(alloc);
+    let end = match apply_to(alloc, keeper, &mut reader, &mut text) {
+        Ok(Outcome::Done) => "Done",
+        Ok(Outcome::Refused) => "Refused",
+        _ => "Failed",
+    };
+    let text = String::from_utf8(text).ok().ok_or("text")?;
+    Ok(format!(in alloc; "{end}\n{text}")?)
+}
+
+/// The answer to one message, on which `apply` is done.
 pub fn ask<K: Keeper>(alloc: Global, keeper: &mut K, line: &str) -> Result<String, Fail> {
     let message = message(alloc, line)?;
-    let mut reader = message.as_bytes();
-    let mut answer = Vec::new(alloc);
-    let _ = serve(alloc, keeper, &mut reader, &mut answer);
-    let answer = String::from_utf8(answer).ok().ok_or("text")?;
-    told(alloc, answer.as_str())
+    let text = applied(alloc, keeper, message.as_bytes())?;
+    told(alloc, text.as_str().strip_prefix("Done\n").ok_or("end")?)
+}
+
+/// What `apply` does on each message of a transcript, in all bytes.
+pub fn answers<K: Keeper>(alloc: Global, keeper: &mut K, transcript: &str) -> Result<String, Fail> {
+    let transcript = whole(alloc, transcript)?;
+    let mut text = String::new(alloc);
+    for line in transcript.lines() {
+        if let Some(line) = line.strip_prefix("> ") {
+            let message = message(alloc, line)?;
+            text.push_str(applied(alloc, keeper, message.as_bytes())?.as_str())?;
+        }
+    }
+    Ok(text)
 }
 
 /// The transcript that comes of sending its messages again.

@@ -1,30 +1,27 @@
+use crate::comparing::same;
 use ee_acts::{Act, Request};
 use ee_calls::{Call, Query, WireFault, decode};
+use std::alloc::Global;
+use std::process::Abort;
 use std::test::Fail;
 
 /// What a message asks for, by its parts: a request as its number and what its act holds, a query as
 /// what it names, a fault as its code and its field or name.
-fn told(rt: &HostRuntime, path: &str, method: &str, body: &str) -> Result<String, Fail> {
-    match decode(
-        rt.alloc(),
-        path.as_bytes(),
-        method.as_bytes(),
-        body.as_bytes(),
-    ) {
-        Ok(Call::Request(request)) => request_told(rt, &request),
-        Ok(Call::Query(query)) => query_told(rt, query),
-        Err(fault) => fault_told(rt, fault),
+fn told(alloc: Global, path: &str, method: &str, body: &str) -> Result<String, Fail> {
+    match decode(alloc, path.as_bytes(), method.as_bytes(), body.as_bytes()) {
+        Ok(Call::Request(request)) => request_told(alloc, &request),
+        Ok(Call::Query(query)) => query_told(alloc, query),
+        Err(fault) => fault_told(alloc, fault),
     }
 }
 
-fn request_told(rt: &HostRuntime, request: &Request) -> Result<String, Fail> {
+fn request_told(alloc: Global, request: &Request) -> Result<String, Fail> {
     let number = request.number.value();
-    let act = act_told(rt, &request.act)?;
-    Ok(format!(in rt.alloc(); "{number} {act}")?)
+    let act = act_told(alloc, &request.act)?;
+    Ok(format!(in alloc; "{number} {act}")?)
 }
 
-fn query_told(rt: &HostRuntime, query: Query) -> Result<String, Fail> {
-    let alloc = rt.alloc();
+fn query_told(alloc: Global, query: Query) -> Result<String, Fail> {
     Ok(match query {
         Query::Inventory { customer, month } => {
             format!(in alloc; "inventory {customer} {month}")?
@@ -39,17 +36,16 @@ fn query_told(rt: &HostRuntime, query: Query) -> Result<String, Fail> {
     })
 }
 
-fn fault_told(rt: &HostRuntime, fault: WireFault) -> Result<String, Fail> {
+fn fault_told(alloc: Global, fault: WireFault) -> Result<String, Fail> {
     let code = fault.code();
     let name = match fault {
         WireFault::BadField(field) => field.name(),
         _ => fault.name(),
     };
-    Ok(format!(in rt.alloc(); "{code} {name}")?)
+    Ok(format!(in alloc; "{code} {name}")?)
 }
 
-fn act_told(rt: &HostRuntime, act: &Act) -> Result<String, Fail> {
-    let alloc = rt.alloc();
+fn act_told(alloc: Global, act: &Act) -> Result<String, Fail> {
     Ok(match act {
         Act::AddRates(rows) => {
             let mut text = format!(in alloc; "rates")?;
@@ -90,257 +86,114 @@ fn act_told(rt: &HostRuntime, act: &Act) -> Result<String, Fail> {
     })
 }
 
-#[test]
-fn bodies_are_read(rt: HostRuntime) -> Result<(), Fail> {
-    let table = [
-        (
-            "/rates",
-            r#"{"number":1,"rates":[{"from":"2010-11","rate":"3.50"}]}"#,
-            "1 rates 2010-11 3.50%",
-        ),
-        (
-            "/rates",
-            r#"{"rates":[{"rate":"2%","from":"05/2010"}],"number":1}"#,
-            "1 rates 2010-05 2.00%",
-        ),
-        ("/rates", r#"{"number":1,"rates":[]}"#, "1 rates"),
-        (
-            "/bonds",
-            r#"{"number":2,"bonds":[{"serial":"L1EE","denom":50,"issued":"2010-11","owner":7},{"coowner":8,"serial":"K-2-EE","denom":75,"issued":"2010-10","owner":7},{"coowner":null,"serial":"M3EE","denom":10000,"issued":"2011-02","owner":7}]}"#,
-            "2 bonds L1EE 50 2010-11 7 K2EE 75 2010-10 7 and 8 M3EE 10000 2011-02 7",
-        ),
-        (
-            "/day/open",
-            r#"{"number":3,"day":"2012-02-06"}"#,
-            "3 open 2012-02-06",
-        ),
-        (
-            "/redeem",
-            r#"{"number":4,"day":"2012-02-06","payee":7,"serials":["L1EE","K2EE"]}"#,
-            "4 redeem 2012-02-06 7 L1EE K2EE",
-        ),
-        (
-            "/day/close",
-            r#" {"number" : 9223372036854775807, "day":"2012-02-06"} "#,
-            "9223372036854775807 close 2012-02-06",
-        ),
-        // The last of a repeated key stays.
-        (
-            "/day/open",
-            r#"{"number":1,"number":2,"day":"x","day":"2012-02-06"}"#,
-            "2 open 2012-02-06",
-        ),
-        // No JSON.
-        ("/day/open", "", "64 BadJson"),
-        ("/day/open", "{", "64 BadJson"),
-        ("/day/open", "{} {}", "64 BadJson"),
-        ("/day/open", "{'number':1}", "64 BadJson"),
-        // No object.
-        ("/day/open", "[]", "65 body"),
-        ("/day/open", "null", "65 body"),
-        ("/day/open", r#""number""#, "65 body"),
-        // The number, before all other fields.
-        ("/day/open", "{}", "65 number"),
-        ("/day/open", r#"{"number":0,"day":"x","y":1}"#, "65 number"),
-        (
-            "/day/open",
-            r#"{"number":9223372036854775808,"day":"2012-02-06"}"#,
-            "65 number",
-        ),
-        (
-            "/day/open",
-            r#"{"number":1.0,"day":"2012-02-06"}"#,
-            "65 number",
-        ),
-        (
-            "/day/open",
-            r#"{"number":1e0,"day":"2012-02-06"}"#,
-            "65 number",
-        ),
-        (
-            "/day/open",
-            r#"{"number":-1,"day":"2012-02-06"}"#,
-            "65 number",
-        ),
-        (
-            "/day/open",
-            r#"{"number":-0,"day":"2012-02-06"}"#,
-            "65 number",
-        ),
-        (
-            "/day/open",
-            r#"{"number":"1","day":"2012-02-06"}"#,
-            "65 number",
-        ),
-        (
-            "/day/open",
-            r#"{"number":{"number":1},"day":"2012-02-06"}"#,
-            "65 number",
-        ),
-        // Then the fields in the order of the table, and then any other.
-        ("/day/open", r#"{"number":1}"#, "65 day"),
-        (
-            "/day/open",
-            r#"{"number":1,"day":"2012-02-30","y":1}"#,
-            "65 day",
-        ),
-        ("/day/close", r#"{"number":1,"day":"2005-04-30"}"#, "65 day"),
-        (
-            "/day/open",
-            r#"{"number":1,"day":"2012-02-06","y":1}"#,
-            "65 other",
-        ),
-        (
-            "/redeem",
-            r#"{"number":1,"day":"2012-02-06","serials":[]}"#,
-            "65 payee",
-        ),
-        (
-            "/redeem",
-            r#"{"number":1,"day":"2012-02-06","payee":1000000000,"serials":[]}"#,
-            "65 payee",
-        ),
-        (
-            "/redeem",
-            r#"{"number":1,"day":"2012-02-06","payee":7}"#,
-            "65 serials",
-        ),
-        (
-            "/redeem",
-            r#"{"number":1,"day":"2012-02-06","payee":7,"serials":["L1EE",7]}"#,
-            "65 serials",
-        ),
-        (
-            "/redeem",
-            r#"{"number":1,"day":"2012-02-06","payee":7,"serials":["L1"]}"#,
-            "65 serials",
-        ),
-        ("/rates", r#"{"number":1,"rates":{}}"#, "65 rates"),
-        ("/rates", r#"{"number":1,"rates":[[]]}"#, "65 rates"),
-        (
-            "/rates",
-            r#"{"number":1,"rates":[{"rate":"3.50"}]}"#,
-            "65 from",
-        ),
-        (
-            "/rates",
-            r#"{"number":1,"rates":[{"from":"2100-01","rate":"3.50"}]}"#,
-            "65 from",
-        ),
-        (
-            "/rates",
-            r#"{"number":1,"rates":[{"from":"2010-11","rate":"20.01"}]}"#,
-            "65 rate",
-        ),
-        (
-            "/rates",
-            r#"{"number":1,"rates":[{"from":"2010-11","rate":3.5}]}"#,
-            "65 rate",
-        ),
-        // A row's other field stands before later rows, and before other fields of the body.
-        (
-            "/rates",
-            r#"{"number":1,"rates":[{"from":"2010-11","rate":"3.50","x":0},{}],"y":1}"#,
-            "65 other",
-        ),
-        (
-            "/rates",
-            r#"{"number":1,"rates":[{"from":"2010-11","rate":"3.50"},{}],"y":1}"#,
-            "65 from",
-        ),
-        ("/bonds", r#"{"number":1,"bonds":[{}]}"#, "65 serial"),
-        ("/bonds", r#"{"number":1,"bonds":[7]}"#, "65 bonds"),
-        (
-            "/bonds",
-            r#"{"number":1,"bonds":[{"serial":"L1EE","denom":25}]}"#,
-            "65 denom",
-        ),
-        (
-            "/bonds",
-            r#"{"number":1,"bonds":[{"serial":"L1EE","denom":"50"}]}"#,
-            "65 denom",
-        ),
-        (
-            "/bonds",
-            r#"{"number":1,"bonds":[{"serial":"L1EE","denom":50,"issued":"2010"}]}"#,
-            "65 issued",
-        ),
-        (
-            "/bonds",
-            r#"{"number":1,"bonds":[{"serial":"L1EE","denom":50,"issued":"2010-11","owner":0}]}"#,
-            "65 owner",
-        ),
-        (
-            "/bonds",
-            r#"{"number":1,"bonds":[{"serial":"L1EE","denom":50,"issued":"2010-11","owner":7,"coowner":"8"}]}"#,
-            "65 coowner",
-        ),
-        (
-            "/bonds",
-            r#"{"number":1,"bonds":[{"serial":"L1EE","denom":50,"issued":"2010-11","owner":7,"x":null}]}"#,
-            "65 other",
-        ),
-    ];
-    for (path, body, want) in table {
-        assert_eq!(rt;
-            told(&rt, path, "POST", body)?.as_str(),
-            want,
-            "{path} {body}"
-        );
+/// Compares what the messages of a table ask for: rows `METHOD PATH BODY => ANSWER`.
+fn are_read(rt: &impl Abort, alloc: Global, table: &str) -> Result<(), Fail> {
+    for row in table.lines() {
+        let (message, want) = row.split_once(" => ").ok_or("row")?;
+        let (method, rest) = message.split_once(' ').ok_or("method")?;
+        let (path, body) = rest.split_once(' ').ok_or("path")?;
+        same(rt, told(alloc, path, method, body)?.as_str(), want, row);
     }
     Ok(())
 }
 
+/// What bodies ask for, or their first fault: bodies that are read, the last of a repeated key, no JSON, no
+/// object, the number before all other fields, then the fields in the order of the table, and then any other;
+/// a row's other field stands before later rows, and before other fields of the body.
+const BODIES: &str =
+    r#"POST /rates {"number":1,"rates":[{"from":"2010-11","rate":"3.50"}]} => 1 rates 2010-11 3.50%
+POST /rates {"rates":[{"rate":"2%","from":"05/2010"}],"number":1} => 1 rates 2010-05 2.00%
+POST /rates {"number":1,"rates":[]} => 1 rates
+POST /bonds {"number":2,"bonds":[{"serial":"L1EE","denom":50,"issued":"2010-11","owner":7},{"coowner":8,"serial":"K-2-EE","denom":75,"issued":"2010-10","owner":7},{"coowner":null,"serial":"M3EE","denom":10000,"issued":"2011-02","owner":7}]} => 2 bonds L1EE 50 2010-11 7 K2EE 75 2010-10 7 and 8 M3EE 10000 2011-02 7
+POST /day/open {"number":3,"day":"2012-02-06"} => 3 open 2012-02-06
+POST /redeem {"number":4,"day":"2012-02-06","payee":7,"serials":["L1EE","K2EE"]} => 4 redeem 2012-02-06 7 L1EE K2EE
+POST /day/close  {"number" : 9223372036854775807, "day":"2012-02-06"}  => 9223372036854775807 close 2012-02-06
+POST /day/open {"number":1,"number":2,"day":"x","day":"2012-02-06"} => 2 open 2012-02-06
+POST /day/open  => 64 BadJson
+POST /day/open { => 64 BadJson
+POST /day/open {} {} => 64 BadJson
+POST /day/open {'number':1} => 64 BadJson
+POST /day/open [] => 65 body
+POST /day/open null => 65 body
+POST /day/open "number" => 65 body
+POST /day/open {} => 65 number
+POST /day/open {"number":0,"day":"x","y":1} => 65 number
+POST /day/open {"number":9223372036854775808,"day":"2012-02-06"} => 65 number
+POST /day/open {"number":1.0,"day":"2012-02-06"} => 65 number
+POST /day/open {"number":1e0,"day":"2012-02-06"} => 65 number
+POST /day/open {"number":-1,"day":"2012-02-06"} => 65 number
+POST /day/open {"number":-0,"day":"2012-02-06"} => 65 number
+POST /day/open {"number":"1","day":"2012-02-06"} => 65 number
+POST /day/open {"number":{"number":1},"day":"2012-02-06"} => 65 number
+POST /day/open {"number":1} => 65 day
+POST /day/open {"number":1,"day":"2012-02-30","y":1} => 65 day
+POST /day/close {"number":1,"day":"2005-04-30"} => 65 day
+POST /day/open {"number":1,"day":"2012-02-06","y":1} => 65 other
+POST /redeem {"number":1,"day":"2012-02-06","serials":[]} => 65 payee
+POST /redeem {"number":1,"day":"2012-02-06","payee":1000000000,"serials":[]} => 65 payee
+POST /redeem {"number":1,"day":"2012-02-06","payee":7} => 65 serials
+POST /redeem {"number":1,"day":"2012-02-06","payee":7,"serials":["L1EE",7]} => 65 serials
+POST /redeem {"number":1,"day":"2012-02-06","payee":7,"serials":["L1"]} => 65 serials
+POST /rates {"number":1,"rates":{}} => 65 rates
+POST /rates {"number":1,"rates":[[]]} => 65 rates
+POST /rates {"number":1,"rates":[{"rate":"3.50"}]} => 65 from
+POST /rates {"number":1,"rates":[{"from":"2100-01","rate":"3.50"}]} => 65 from
+POST /rates {"number":1,"rates":[{"from":"2010-11","rate":"20.01"}]} => 65 rate
+POST /rates {"number":1,"rates":[{"from":"2010-11","rate":3.5}]} => 65 rate
+POST /rates {"number":1,"rates":[{"from":"2010-11","rate":"3.50","x":0},{}],"y":1} => 65 other
+POST /rates {"number":1,"rates":[{"from":"2010-11","rate":"3.50"},{}],"y":1} => 65 from
+POST /bonds {"number":1,"bonds":[{}]} => 65 serial
+POST /bonds {"number":1,"bonds":[7]} => 65 bonds
+POST /bonds {"number":1,"bonds":[{"serial":"L1EE","denom":25}]} => 65 denom
+POST /bonds {"number":1,"bonds":[{"serial":"L1EE","denom":"50"}]} => 65 denom
+POST /bonds {"number":1,"bonds":[{"serial":"L1EE","denom":50,"issued":"2010"}]} => 65 issued
+POST /bonds {"number":1,"bonds":[{"serial":"L1EE","denom":50,"issued":"2010-11","owner":0}]} => 65 owner
+POST /bonds {"number":1,"bonds":[{"serial":"L1EE","denom":50,"issued":"2010-11","owner":7,"coowner":"8"}]} => 65 coowner
+POST /bonds {"number":1,"bonds":[{"serial":"L1EE","denom":50,"issued":"2010-11","owner":7,"x":null}]} => 65 other
+"#;
+
+#[test]
+fn bodies_are_read(rt: HostRuntime) -> Result<(), Fail> {
+    are_read(&rt, rt.alloc(), BODIES)
+}
+
+/// What paths ask for, or the leftmost part at fault. The route is tested before the method, and the method
+/// before the body.
+const PATHS: &str = "\
+GET /inventory/7/2012-02 { => inventory 7 2012-02
+GET /ticket/1 { => ticket 1
+GET /ticket/9223372036854775807 { => ticket 9223372036854775807
+GET /batch/2012-02-06 { => batch 2012-02-06
+GET /value/50/2010-11/2012-02 { => value 50 2010-11 2012-02
+GET /inventory/0/x { => 65 customer
+GET /inventory/7/2012-13 { => 65 month
+GET /ticket/0 { => 65 ticket
+GET /ticket/9223372036854775808 { => 65 ticket
+GET /ticket/00000000000000000001 { => 65 ticket
+GET /ticket/+1 { => 65 ticket
+GET /batch/2012-02-30 { => 65 day
+GET /value/51/x/y { => 65 denom
+GET /value/50/2100-01/y { => 65 issued
+GET /value/50/2010-11/2200-01 { => 65 month
+GET / { => 66 NoRoute
+PUT /rate { => 66 NoRoute
+POST /rates/ { => 66 NoRoute
+GET /ticket/ { => 66 NoRoute
+GET /ticket/1/2 { => 66 NoRoute
+GET /inventory/7/02/2012 { => 66 NoRoute
+GET /ticket/1?x { => 65 ticket
+GET http://x/ticket/1 { => 66 NoRoute
+GET /rates { => 67 BadMethod
+get /ticket/0 { => 67 BadMethod
+POST /ticket/0 { => 67 BadMethod
+HEAD /ticket/1 { => 67 BadMethod
+";
+
 #[test]
 fn paths_are_read(rt: HostRuntime) -> Result<(), Fail> {
-    let table = [
-        ("GET", "/inventory/7/2012-02", "inventory 7 2012-02"),
-        ("GET", "/ticket/1", "ticket 1"),
-        (
-            "GET",
-            "/ticket/9223372036854775807",
-            "ticket 9223372036854775807",
-        ),
-        ("GET", "/batch/2012-02-06", "batch 2012-02-06"),
-        (
-            "GET",
-            "/value/50/2010-11/2012-02",
-            "value 50 2010-11 2012-02",
-        ),
-        // The leftmost part at fault.
-        ("GET", "/inventory/0/x", "65 customer"),
-        ("GET", "/inventory/7/2012-13", "65 month"),
-        ("GET", "/ticket/0", "65 ticket"),
-        ("GET", "/ticket/9223372036854775808", "65 ticket"),
-        ("GET", "/ticket/00000000000000000001", "65 ticket"),
-        ("GET", "/ticket/+1", "65 ticket"),
-        ("GET", "/batch/2012-02-30", "65 day"),
-        ("GET", "/value/51/x/y", "65 denom"),
-        ("GET", "/value/50/2100-01/y", "65 issued"),
-        ("GET", "/value/50/2010-11/2200-01", "65 month"),
-        // The route is tested before the method, and the method before the body.
-        ("GET", "/", "66 NoRoute"),
-        ("PUT", "/rate", "66 NoRoute"),
-        ("POST", "/rates/", "66 NoRoute"),
-        ("GET", "/ticket/", "66 NoRoute"),
-        ("GET", "/ticket/1/2", "66 NoRoute"),
-        ("GET", "/inventory/7/02/2012", "66 NoRoute"),
-        ("GET", "/ticket/1?x", "65 ticket"),
-        ("GET", "http://x/ticket/1", "66 NoRoute"),
-        ("GET", "/rates", "67 BadMethod"),
-        ("get", "/ticket/0", "67 BadMethod"),
-        ("POST", "/ticket/0", "67 BadMethod"),
-        ("HEAD", "/ticket/1", "67 BadMethod"),
-    ];
-    for (method, path, want) in table {
-        assert_eq!(rt;
-            told(&rt, path, method, "{")?.as_str(),
-            want,
-            "{method} {path}"
-        );
-    }
+    are_read(&rt, rt.alloc(), PATHS)?;
     let no_text = decode(rt.alloc(), b"/\xff", b"GET", b"");
-    assert_eq!(rt; no_text, Err(WireFault::NoRoute));
+    assert!(rt; matches!(&no_text, Err(WireFault::NoRoute)));
     Ok(())
 }
 
@@ -362,56 +215,37 @@ fn deep_bodies(rt: HostRuntime) -> Result<(), Fail> {
         let Err(fault) = decode(rt.alloc(), b"/day/open", b"POST", bytes) else {
             return Err("no fault".into());
         };
-        assert_eq!(rt; fault.name(), want, "{name}");
+        same(&rt, fault.name(), want, name);
     }
     body.push(b'[')?;
-    assert_eq!(rt;
-        decode(rt.alloc(), b"/day/open", b"POST", &body),
-        Err(WireFault::BadJson),
-        "128 brackets"
-    );
+    let deeper = decode(rt.alloc(), b"/day/open", b"POST", &body);
+    assert!(rt; matches!(&deeper, Err(WireFault::BadJson)), "128 brackets");
     Ok(())
 }
+
+/// Bodies, and what they ask for.
+const SHORT: &str =
+    r#"/rates {"number":1,"rates":[{"from":"2010-11","rate":"3.50"}]} => 1 rates 2010-11 3.50%
+/bonds {"number":2,"bonds":[{"serial":"L1EE","denom":50,"issued":"2010-11","owner":7},{"serial":"K2EE","denom":75,"issued":"2010-10","owner":7},{"serial":"M3EE","denom":10000,"issued":"2011-02","owner":7}]} => 2 bonds L1EE 50 2010-11 7 K2EE 75 2010-10 7 M3EE 10000 2011-02 7
+/day/open {"number":3,"day":"2012-02-06"} => 3 open 2012-02-06
+/redeem {"number":4,"day":"2012-02-06","payee":7,"serials":["L1EE","K2EE"]} => 4 redeem 2012-02-06 7 L1EE K2EE
+/day/close {"number":6,"day":"2012-02-06"} => 6 close 2012-02-06
+/day/open {"number":"\u0033","day":1} => 65 number
+"#;
 
 /// With each allocation refused in turn: what a body asks for, or want of memory.
 #[test]
 fn refused_memory(rt: HostRuntime) -> Result<(), Fail> {
-    let table = [
-        (
-            "/rates",
-            r#"{"number":1,"rates":[{"from":"2010-11","rate":"3.50"}]}"#,
-            "1 rates 2010-11 3.50%",
-        ),
-        (
-            "/bonds",
-            r#"{"number":2,"bonds":[{"serial":"L1EE","denom":50,"issued":"2010-11","owner":7},{"serial":"K2EE","denom":75,"issued":"2010-10","owner":7},{"serial":"M3EE","denom":10000,"issued":"2011-02","owner":7}]}"#,
-            "2 bonds L1EE 50 2010-11 7 K2EE 75 2010-10 7 M3EE 10000 2011-02 7",
-        ),
-        (
-            "/day/open",
-            r#"{"number":3,"day":"2012-02-06"}"#,
-            "3 open 2012-02-06",
-        ),
-        (
-            "/redeem",
-            r#"{"number":4,"day":"2012-02-06","payee":7,"serials":["L1EE","K2EE"]}"#,
-            "4 redeem 2012-02-06 7 L1EE K2EE",
-        ),
-        (
-            "/day/close",
-            r#"{"number":6,"day":"2012-02-06"}"#,
-            "6 close 2012-02-06",
-        ),
-        ("/day/open", r#"{"number":"\u0033","day":1}"#, "65 number"),
-    ];
-    for (path, body, want) in table {
+    for row in SHORT.lines() {
+        let (message, want) = row.split_once(" => ").ok_or("row")?;
+        let (path, body) = message.split_once(' ').ok_or("path")?;
         match decode(rt.alloc(), path.as_bytes(), b"POST", body.as_bytes()) {
             Ok(Call::Request(request)) => {
-                assert_eq!(rt; request_told(&rt, &request)?.as_str(), want);
+                same(&rt, request_told(rt.alloc(), &request)?.as_str(), want, row);
             }
             Ok(Call::Query(_)) => return Err("a query".into()),
             Err(WireFault::NoMemory) => println!(rt; "refused: {body}")?,
-            Err(fault) => assert_eq!(rt; fault_told(&rt, fault)?.as_str(), want),
+            Err(fault) => same(&rt, fault_told(rt.alloc(), fault)?.as_str(), want, row),
         }
     }
     Ok(())

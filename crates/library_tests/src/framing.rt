@@ -1,3 +1,4 @@
+use crate::comparing::same;
 use ee_framing::{Buffer, Next, WireEnd, next_message};
 use std::io::{self, ErrorKind, Read};
 use std::test::Fail;
@@ -92,11 +93,11 @@ fn cuts_change_nothing(rt: HostRuntime) -> Result<(), Fail> {
     stream.extend_from_slice(&RATES[..RATES.len() - 1])?;
     for first in 1..=stream.len() {
         let mut reader = Pieces::of(&stream, first, 4_096);
-        assert_eq!(rt; told(&rt, &mut reader)?.as_str(), TOLD, "cut after {first}");
+        same(&rt, told(&rt, &mut reader)?.as_str(), TOLD, "cut");
     }
     for step in [1, 2, 3, 7, 4_096] {
         let mut reader = Pieces::of(&stream, step, step);
-        assert_eq!(rt; told(&rt, &mut reader)?.as_str(), TOLD, "pieces of {step}");
+        same(&rt, told(&rt, &mut reader)?.as_str(), TOLD, "in pieces");
     }
     Ok(())
 }
@@ -108,101 +109,59 @@ fn refused_memory(rt: HostRuntime) -> Result<(), Fail> {
         b"POST /rates HTTP/1.1\r\nContent-Length: 55\r\n\r\n{\"number\":1,\"rates\":[{\"from\":\"2010-11\",\"rate\":\"3.50\"}]}GET /value/50/2010-11/2012-02 HTTP/1.1\r\n\r\nPOST";
     for step in [1, 64, 4_096] {
         let mut reader = Pieces::of(stream, step, step);
-        assert_eq!(rt; told(&rt, &mut reader)?.as_str(), TOLD, "pieces of {step}");
+        same(&rt, told(&rt, &mut reader)?.as_str(), TOLD, "in pieces");
     }
     Ok(())
 }
 
+/// Streams, and what they tell; each row ends with a percent sign. Without a line feed nothing is decided.
+const HEADS: &str = " => End%\
+GET / HTTP/1.1\n\n => GET /  ; End%\
+\r\n\r\nGET / HTTP/1.1\r\nHost: a\r\n\r\n => GET /  ; End%\
+GET / HTTP/1.0\r\n\r\n => GET /  and closes; End%\
+GET / HTTP/1.1\r\ncoNNection: CLOSE\r\n\r\n => GET /  and closes; End%\
+GET / HTTP/1.1\r\nConnection: keep-alive, close\r\n\r\n => GET /  ; End%\
+GET / HTTP/1.1\r\nConnection: a\r\nConnection: close\r\n\r\n => GET /  and closes; End%\
+GET / HTTP/2.0\r\n\r\n => BadHead%\
+GET /\r\n => BadHead%\
+GET / HTTP/1.1\r\na b: c\r\n => BadHead%\
+GET / HTTP/1.1\r\na: b\r\n c\r\n => BadHead%\
+\r\n\n\r\n\nGET / HTTP/1.1\na:\n\n\n => GET /  ; Truncated%\
+\r\r\n => BadHead%\
+\n\n \n => BadHead%\
+\n\nGET / HTTP/1.1\n:\n => BadHead%\
+\n\n => Truncated%\
+GET /\u{ff} HTTP/1.1\r\n\r\n => GET /\u{ff}  ; End%\
+GET / HTTP/2.0 => Truncated%\
+\r => Truncated%\
+GET / HTTP/1.1\r\n\r => Truncated%\
+A / HTTP/1.1\r\nContent-Length: 0\r\n\r\nB / HTTP/1.1\n\nC => A /  ; B /  ; Truncated%\
+A / HTTP/1.1\r\nContent-Length: 3\r\n\r\nabc => A / abc ; End%\
+A / HTTP/1.1\r\nContent-Length: 3\r\n\r\nab => Truncated%\
+A / HTTP/1.1\r\nContent-Length: 1048576\r\n\r\nab => Truncated%\
+A / HTTP/1.1\r\nContent-Length: 1048577\r\n\r\n => BodyTooLong%\
+A / HTTP/1.1\r\nContent-Length: 999999999999999999999999999999\r\n\r\n => BodyTooLong%\
+A / HTTP/1.1\r\nContent-Length: 000000000000000000000000000003\r\n\r\nabc => A / abc ; End%\
+A / HTTP/1.1\r\nContent-Length: 1x\r\n\r\na => BadLength%\
+A / HTTP/1.1\r\nContent-Length: +1\r\n\r\na => BadLength%\
+A / HTTP/1.1\r\nContent-Length:\r\n\r\n => BadLength%\
+A / HTTP/1.1\r\nContent-Length: 1\r\ncontent-length: 1\r\n\r\na => BadLength%\
+A / HTTP/1.1\r\nContent-Length: 1048577\r\nContent-Length: 1\r\n\r\na => BadLength%\
+A / HTTP/1.1\r\nTransfer-Encoding: chunked\r\n\r\n => BadLength%\
+A / HTTP/1.1\r\nContent-Length: 1048577\r\nTransfer-Encoding: chunked\r\n\r\n => BadLength%\
+";
+
 #[test]
 fn heads_are_judged(rt: HostRuntime) -> Result<(), Fail> {
-    let table = [
-        ("", "End"),
-        ("GET / HTTP/1.1\n\n", "GET /  ; End"),
-        ("\r\n\r\nGET / HTTP/1.1\r\nHost: a\r\n\r\n", "GET /  ; End"),
-        ("GET / HTTP/1.0\r\n\r\n", "GET /  and closes; End"),
-        (
-            "GET / HTTP/1.1\r\ncoNNection: CLOSE\r\n\r\n",
-            "GET /  and closes; End",
-        ),
-        (
-            "GET / HTTP/1.1\r\nConnection: keep-alive, close\r\n\r\n",
-            "GET /  ; End",
-        ),
-        (
-            "GET / HTTP/1.1\r\nConnection: a\r\nConnection: close\r\n\r\n",
-            "GET /  and closes; End",
-        ),
-        ("GET / HTTP/2.0\r\n\r\n", "BadHead"),
-        ("GET /\r\n", "BadHead"),
-        ("GET / HTTP/1.1\r\na b: c\r\n", "BadHead"),
-        ("GET / HTTP/1.1\r\na: b\r\n c\r\n", "BadHead"),
-        ("\r\n\n\r\n\nGET / HTTP/1.1\na:\n\n\n", "GET /  ; Truncated"),
-        ("\r\r\n", "BadHead"),
-        ("\n\n \n", "BadHead"),
-        ("\n\nGET / HTTP/1.1\n:\n", "BadHead"),
-        ("\n\n", "Truncated"),
-        ("GET /\u{ff} HTTP/1.1\r\n\r\n", "GET /\u{ff}  ; End"),
-        // Without a line feed nothing is decided.
-        ("GET / HTTP/2.0", "Truncated"),
-        ("\r", "Truncated"),
-        ("GET / HTTP/1.1\r\n\r", "Truncated"),
-        (
-            "A / HTTP/1.1\r\nContent-Length: 0\r\n\r\nB / HTTP/1.1\n\nC",
-            "A /  ; B /  ; Truncated",
-        ),
-        (
-            "A / HTTP/1.1\r\nContent-Length: 3\r\n\r\nabc",
-            "A / abc ; End",
-        ),
-        ("A / HTTP/1.1\r\nContent-Length: 3\r\n\r\nab", "Truncated"),
-        (
-            "A / HTTP/1.1\r\nContent-Length: 1048576\r\n\r\nab",
-            "Truncated",
-        ),
-        (
-            "A / HTTP/1.1\r\nContent-Length: 1048577\r\n\r\n",
-            "BodyTooLong",
-        ),
-        (
-            "A / HTTP/1.1\r\nContent-Length: 999999999999999999999999999999\r\n\r\n",
-            "BodyTooLong",
-        ),
-        (
-            "A / HTTP/1.1\r\nContent-Length: 000000000000000000000000000003\r\n\r\nabc",
-            "A / abc ; End",
-        ),
-        ("A / HTTP/1.1\r\nContent-Length: 1x\r\n\r\na", "BadLength"),
-        ("A / HTTP/1.1\r\nContent-Length: +1\r\n\r\na", "BadLength"),
-        ("A / HTTP/1.1\r\nContent-Length:\r\n\r\n", "BadLength"),
-        (
-            "A / HTTP/1.1\r\nContent-Length: 1\r\ncontent-length: 1\r\n\r\na",
-            "BadLength",
-        ),
-        (
-            "A / HTTP/1.1\r\nContent-Length: 1048577\r\nContent-Length: 1\r\n\r\na",
-            "BadLength",
-        ),
-        (
-            "A / HTTP/1.1\r\nTransfer-Encoding: chunked\r\n\r\n",
-            "BadLength",
-        ),
-        (
-            "A / HTTP/1.1\r\nContent-Length: 1048577\r\nTransfer-Encoding: chunked\r\n\r\n",
-            "BadLength",
-        ),
-    ];
-    for (stream, want) in table {
-        let mut reader = Pieces::of(stream.as_bytes(), 4_096, 4_096);
-        assert_eq!(rt; told(&rt, &mut reader)?.as_str(), want, "{stream:?}");
-        let mut reader = Pieces::of(stream.as_bytes(), 1, 1);
-        assert_eq!(rt;
-            told(&rt, &mut reader)?.as_str(),
-            want,
-            "{stream:?} by bytes"
-        );
+    for row in HEADS.split_terminator('%') {
+        let (stream, want) = row.split_once(" => ").ok_or("row")?;
+        for step in [4_096, 1] {
+            let mut reader = Pieces::of(stream.as_bytes(), step, step);
+            same(&rt, told(&rt, &mut reader)?.as_str(), want, row);
+        }
     }
     let mut reader = Pieces::of(b"GET /\xff HTTP/1.1\r\n", 4_096, 4_096);
-    assert_eq!(rt; told(&rt, &mut reader)?.as_str(), "BadHead", "no text");
+    same(&rt, told(&rt, &mut reader)?.as_str(), "BadHead", "no text");
     Ok(())
 }
 
@@ -238,7 +197,7 @@ fn limits_of_heads(rt: HostRuntime) -> Result<(), Fail> {
         let head = head_of(&rt, lines, len)?;
         for step in [1, 4_096] {
             let mut reader = Pieces::of(&head, step, step);
-            assert_eq!(rt; told(&rt, &mut reader)?.as_str(), want, "{name} by {step}");
+            same(&rt, told(&rt, &mut reader)?.as_str(), want, name);
         }
     }
     Ok(())

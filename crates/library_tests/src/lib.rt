@@ -7,6 +7,8 @@ mod calculator;
 #[cfg(test)]
 mod calls;
 #[cfg(test)]
+mod comparing;
+#[cfg(test)]
 mod device;
 #[cfg(test)]
 mod files;

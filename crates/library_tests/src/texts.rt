@@ -1,308 +1,130 @@
 //! The text of each act and of each shape of reply, and texts that are none. The expected texts are
 //! written by hand from the rules for texts.
 
-use ee_acts::{Act, Batch, Line, RateRow, Refusal, Reply, Rows, Ticket};
-use ee_calculator::Bond;
+use crate::comparing::{same, shown};
 use ee_texts::{canonical, read_act, read_reply, reply_text};
-use ee_units::{Age, Cents, Day, IssueMonth, Serial};
-use ee_value::Rates;
-use std::alloc::Global;
 use std::test::Fail;
 
-const DAY: &str = "2012-02-06";
-
-fn day(text: &str) -> Result<Day, Fail> {
-    Ok(text.parse().ok().ok_or("day")?)
-}
-
-fn month(text: &str) -> Result<IssueMonth, Fail> {
-    Ok(text.parse().ok().ok_or("month")?)
-}
-
-fn serial(text: &str) -> Result<Serial, Fail> {
-    Ok(text.parse().ok().ok_or("serial")?)
-}
-
-fn rate(from: &str, rate: &str) -> Result<RateRow, Fail> {
-    let fixed = rate.parse().ok().ok_or("rate")?;
-    Ok(RateRow {
-        from: month(from)?,
-        rates: Rates { fixed },
-    })
-}
-
-/// A bond of serial, denomination, issue month, owner and coowner, where that isn't empty.
-fn bond(text: &str, denom: &str, issued: &str, owner: &str, coowner: &str) -> Result<Bond, Fail> {
-    Ok(Bond {
-        serial: serial(text)?,
-        denom: denom.parse().ok().ok_or("denom")?,
-        issued: month(issued)?,
-        owner: owner.parse().ok().ok_or("owner")?,
-        coowner: coowner.parse().ok(),
-    })
-}
-
-fn line(text: &str, cents: u64) -> Result<Line, Fail> {
-    Ok(Line {
-        serial: serial(text)?,
-        cents: Cents(cents),
-    })
-}
-
-fn batch(text: &str, tickets: u64, bonds: u64, total: u64) -> Result<Reply, Fail> {
-    Ok(Reply::Batch(Batch {
-        day: day(text)?,
-        tickets,
-        bonds,
-        total: Cents(total),
-    }))
-}
-
-/// Each act, and its canonical text.
-fn acts(alloc: Global) -> Result<Vec<(Act, &'static str)>, Fail> {
-    let rates = vec![in alloc; rate("2010-05", "2.00")?, rate("11/2010", "3.5%")?]?;
-    let bonds = vec![in alloc;
-        bond("L1EE", "50", "2010-11", "7", "")?,
-        bond("K-0002-EE", "75", "10/2010", "7", "8")?,
-        bond("M3EE", "10000", "2011-02", "7", "")?,
-    ]?;
-    let serials = vec![in alloc; serial("L-1-EE")?, serial("K2EE")?, serial("M0003EE")?]?;
-    Ok(vec![in alloc;
-        (
-            Act::AddRates(Rows::new(rates)),
-            r#"{"act":"rates","rates":[{"from":"2010-05","rate":"2.00%"},{"from":"2010-11","rate":"3.50%"}]}"#
-        ),
-        (
-            Act::AddBonds(Rows::new(bonds)),
-            r#"{"act":"bonds","bonds":[{"denom":50,"issued":"2010-11","owner":7,"serial":"L1EE"},{"coowner":8,"denom":75,"issued":"2010-10","owner":7,"serial":"K2EE"},{"denom":10000,"issued":"2011-02","owner":7,"serial":"M3EE"}]}"#
-        ),
-        (
-            Act::OpenDay(day(DAY)?),
-            r#"{"act":"open","day":"2012-02-06"}"#
-        ),
-        (
-            Act::Redeem {
-                day: day(DAY)?,
-                payee: "7".parse().ok().ok_or("payee")?,
-                serials: Rows::new(serials),
-            },
-            r#"{"act":"redeem","day":"2012-02-06","payee":7,"serials":["L1EE","K2EE","M3EE"]}"#
-        ),
-        (
-            Act::Redeem {
-                day: day(DAY)?,
-                payee: "999999999".parse().ok().ok_or("payee")?,
-                serials: Rows::new(Vec::new(alloc)),
-            },
-            r#"{"act":"redeem","day":"2012-02-06","payee":999999999,"serials":[]}"#
-        ),
-        (
-            Act::CloseDay(day(DAY)?),
-            r#"{"act":"close","day":"2012-02-06"}"#
-        ),
-    ]?)
-}
+/// The canonical text of each act, and the act as `Debug` shows it.
+const ACTS: &str =
+    r#"{"act":"rates","rates":[{"from":"2010-05","rate":"2.00%"},{"from":"2010-11","rate":"3.50%"}]} => AddRates(Rows { items: [RateRow { from: IssueMonth { count: 60 }, rates: Rates { fixed: Rate { hundredths: 200 } } }, RateRow { from: IssueMonth { count: 66 }, rates: Rates { fixed: Rate { hundredths: 350 } } }] })
+{"act":"bonds","bonds":[{"denom":50,"issued":"2010-11","owner":7,"serial":"L1EE"},{"coowner":8,"denom":75,"issued":"2010-10","owner":7,"serial":"K2EE"},{"denom":10000,"issued":"2011-02","owner":7,"serial":"M3EE"}]} => AddBonds(Rows { items: [Bond { serial: Serial { letter: 12, number: 1 }, denom: Fifty, issued: IssueMonth { count: 66 }, owner: Customer { number: 7 }, coowner: None }, Bond { serial: Serial { letter: 11, number: 2 }, denom: SeventyFive, issued: IssueMonth { count: 65 }, owner: Customer { number: 7 }, coowner: Some(Customer { number: 8 }) }, Bond { serial: Serial { letter: 13, number: 3 }, denom: TenThousand, issued: IssueMonth { count: 69 }, owner: Customer { number: 7 }, coowner: None }] })
+{"act":"open","day":"2012-02-06"} => OpenDay(Day { count: 15376 })
+{"act":"redeem","day":"2012-02-06","payee":7,"serials":["L1EE","K2EE","M3EE"]} => Redeem { day: Day { count: 15376 }, payee: Customer { number: 7 }, serials: Rows { items: [Serial { letter: 12, number: 1 }, Serial { letter: 11, number: 2 }, Serial { letter: 13, number: 3 }] } }
+{"act":"redeem","day":"2012-02-06","payee":999999999,"serials":[]} => Redeem { day: Day { count: 15376 }, payee: Customer { number: 999999999 }, serials: Rows { items: [] } }
+{"act":"close","day":"2012-02-06"} => CloseDay(Day { count: 15376 })
+"#;
 
 #[test]
 fn texts_of_acts(rt: HostRuntime) -> Result<(), Fail> {
     let alloc = rt.alloc();
-    for (act, text) in acts(alloc)? {
-        assert_eq!(rt; canonical(alloc, &act)?.as_str(), text);
-        assert_eq!(rt; read_act(alloc, text)?, Some(act), "{text}");
+    for row in ACTS.lines() {
+        let (text, wanted) = row.split_once(" => ").ok_or("row")?;
+        let act = read_act(alloc, text)?.ok_or("act")?;
+        same(&rt, shown(alloc, &act)?.as_str(), wanted, text);
+        same(&rt, canonical(alloc, &act)?.as_str(), text, wanted);
     }
     Ok(())
 }
 
-/// Each shape of reply, and its text.
-fn replies(alloc: Global) -> Result<Vec<(Reply, &'static str)>, Fail> {
-    let lines = vec![in alloc;
-        line("L1EE", 2588)?,
-        line("K2EE", 3834)?,
-        line("M3EE", 513_200)?,
-    ]?;
-    let ticket = Ticket {
-        ticket: 1,
-        day: day(DAY)?,
-        payee: "7".parse().ok().ok_or("payee")?,
-        lines: Rows::new(lines),
-        total: Cents(519_622),
-    };
-    Ok(vec![in alloc;
-        (Reply::Added { new: 2, same: 0 }, r#"{"new":2,"same":0}"#),
-        (Reply::Opened(day(DAY)?), r#"{"opened":"2012-02-06"}"#),
-        (
-            Reply::Ticket(ticket),
-            r#"{"day":"2012-02-06","lines":[{"paid":"25.88","serial":"L1EE"},{"paid":"38.34","serial":"K2EE"},{"paid":"5132.00","serial":"M3EE"}],"payee":7,"ticket":1,"total":"5196.22"}"#
-        ),
-        (
-            batch(DAY, 1, 3, 519_622)?,
-            r#"{"bonds":3,"day":"2012-02-06","tickets":1,"total":"5196.22"}"#
-        ),
-        (
-            batch("2012-02-07", 0, 0, 0)?,
-            r#"{"bonds":0,"day":"2012-02-07","tickets":0,"total":"0.00"}"#
-        ),
-        (
-            batch(DAY, 1000, 100_000, 18_446_744_073_709_551_615)?,
-            r#"{"bonds":100000,"day":"2012-02-06","tickets":1000,"total":"184467440737095516.15"}"#
-        ),
-    ]?)
-}
-
-/// Each refusal, and its text.
-fn refusals(alloc: Global) -> Result<Vec<(Reply, &'static str)>, Fail> {
-    let l1 = serial("L1EE")?;
-    let k2 = serial("K2EE")?;
-    Ok(vec![in alloc;
-        (
-            Reply::Refused(Refusal::NumberReused),
-            r#"{"code":10,"refused":"NumberReused"}"#
-        ),
-        (
-            Reply::Refused(Refusal::Empty),
-            r#"{"code":11,"refused":"Empty"}"#
-        ),
-        (
-            Reply::Refused(Refusal::TooMany),
-            r#"{"code":12,"refused":"TooMany"}"#
-        ),
-        (
-            Reply::Refused(Refusal::Repeated(serial("C0012EE")?)),
-            r#"{"code":13,"refused":"Repeated","serial":"C12EE"}"#
-        ),
-        (
-            Reply::Refused(Refusal::SameCoowner(l1)),
-            r#"{"code":14,"refused":"SameCoowner","serial":"L1EE"}"#
-        ),
-        (
-            Reply::Refused(Refusal::NotAnnouncementMonth(month("2010-06")?)),
-            r#"{"code":20,"month":"2010-06","refused":"NotAnnouncementMonth"}"#
-        ),
-        (
-            Reply::Refused(Refusal::RateConflict(month("2010-05")?)),
-            r#"{"code":21,"month":"2010-05","refused":"RateConflict"}"#
-        ),
-        (
-            Reply::Refused(Refusal::RateUnsettled(Age::new(7).ok_or("age")?)),
-            r#"{"code":22,"month":7,"refused":"RateUnsettled"}"#
-        ),
-        (
-            Reply::Refused(Refusal::NoRate(l1)),
-            r#"{"code":30,"refused":"NoRate","serial":"L1EE"}"#
-        ),
-        (
-            Reply::Refused(Refusal::SerialConflict(k2)),
-            r#"{"code":31,"refused":"SerialConflict","serial":"K2EE"}"#
-        ),
-        (
-            Reply::Refused(Refusal::DayOpen),
-            r#"{"code":40,"refused":"DayOpen"}"#
-        ),
-        (
-            Reply::Refused(Refusal::DayNotLater),
-            r#"{"code":41,"refused":"DayNotLater"}"#
-        ),
-        (
-            Reply::Refused(Refusal::NoOpenDay),
-            r#"{"code":42,"refused":"NoOpenDay"}"#
-        ),
-        (
-            Reply::Refused(Refusal::DayIsOther),
-            r#"{"code":43,"refused":"DayIsOther"}"#
-        ),
-        (
-            Reply::Refused(Refusal::DayFull),
-            r#"{"code":44,"refused":"DayFull"}"#
-        ),
-        (
-            Reply::Refused(Refusal::UnknownSerial(l1)),
-            r#"{"code":50,"refused":"UnknownSerial","serial":"L1EE"}"#
-        ),
-        (
-            Reply::Refused(Refusal::NotPayee(serial("N4EE")?)),
-            r#"{"code":51,"refused":"NotPayee","serial":"N4EE"}"#
-        ),
-        (
-            Reply::Refused(Refusal::AlreadyPaid(l1, 1)),
-            r#"{"code":52,"refused":"AlreadyPaid","serial":"L1EE","ticket":1}"#
-        ),
-        (
-            Reply::Refused(Refusal::NotIssued(l1)),
-            r#"{"code":53,"refused":"NotIssued","serial":"L1EE"}"#
-        ),
-        (
-            Reply::Refused(Refusal::NotEligible(l1)),
-            r#"{"code":54,"refused":"NotEligible","serial":"L1EE"}"#
-        ),
-    ]?)
-}
+/// The text of each shape of reply and of each refusal, and the reply as `Debug` shows it.
+const REPLIES: &str = r#"{"new":2,"same":0} => Added { new: 2, same: 0 }
+{"opened":"2012-02-06"} => Opened(Day { count: 15376 })
+{"day":"2012-02-06","lines":[{"paid":"25.88","serial":"L1EE"},{"paid":"38.34","serial":"K2EE"},{"paid":"5132.00","serial":"M3EE"}],"payee":7,"ticket":1,"total":"5196.22"} => Ticket(Ticket { ticket: 1, day: Day { count: 15376 }, payee: Customer { number: 7 }, lines: Rows { items: [Line { serial: Serial { letter: 12, number: 1 }, cents: Cents(2588) }, Line { serial: Serial { letter: 11, number: 2 }, cents: Cents(3834) }, Line { serial: Serial { letter: 13, number: 3 }, cents: Cents(513200) }] }, total: Cents(519622) })
+{"bonds":3,"day":"2012-02-06","tickets":1,"total":"5196.22"} => Batch(Batch { day: Day { count: 15376 }, tickets: 1, bonds: 3, total: Cents(519622) })
+{"bonds":0,"day":"2012-02-07","tickets":0,"total":"0.00"} => Batch(Batch { day: Day { count: 15377 }, tickets: 0, bonds: 0, total: Cents(0) })
+{"bonds":100000,"day":"2012-02-06","tickets":1000,"total":"184467440737095516.15"} => Batch(Batch { day: Day { count: 15376 }, tickets: 1000, bonds: 100000, total: Cents(18446744073709551615) })
+{"code":10,"refused":"NumberReused"} => Refused(NumberReused)
+{"code":11,"refused":"Empty"} => Refused(Empty)
+{"code":12,"refused":"TooMany"} => Refused(TooMany)
+{"code":13,"refused":"Repeated","serial":"C12EE"} => Refused(Repeated(Serial { letter: 3, number: 12 }))
+{"code":14,"refused":"SameCoowner","serial":"L1EE"} => Refused(SameCoowner(Serial { letter: 12, number: 1 }))
+{"code":20,"month":"2010-06","refused":"NotAnnouncementMonth"} => Refused(NotAnnouncementMonth(IssueMonth { count: 61 }))
+{"code":21,"month":"2010-05","refused":"RateConflict"} => Refused(RateConflict(IssueMonth { count: 60 }))
+{"code":22,"month":7,"refused":"RateUnsettled"} => Refused(RateUnsettled(Age { months: 7 }))
+{"code":30,"refused":"NoRate","serial":"L1EE"} => Refused(NoRate(Serial { letter: 12, number: 1 }))
+{"code":31,"refused":"SerialConflict","serial":"K2EE"} => Refused(SerialConflict(Serial { letter: 11, number: 2 }))
+{"code":40,"refused":"DayOpen"} => Refused(DayOpen)
+{"code":41,"refused":"DayNotLater"} => Refused(DayNotLater)
+{"code":42,"refused":"NoOpenDay"} => Refused(NoOpenDay)
+{"code":43,"refused":"DayIsOther"} => Refused(DayIsOther)
+{"code":44,"refused":"DayFull"} => Refused(DayFull)
+{"code":50,"refused":"UnknownSerial","serial":"L1EE"} => Refused(UnknownSerial(Serial { letter: 12, number: 1 }))
+{"code":51,"refused":"NotPayee","serial":"N4EE"} => Refused(NotPayee(Serial { letter: 14, number: 4 }))
+{"code":52,"refused":"AlreadyPaid","serial":"L1EE","ticket":1} => Refused(AlreadyPaid(Serial { letter: 12, number: 1 }, 1))
+{"code":53,"refused":"NotIssued","serial":"L1EE"} => Refused(NotIssued(Serial { letter: 12, number: 1 }))
+{"code":54,"refused":"NotEligible","serial":"L1EE"} => Refused(NotEligible(Serial { letter: 12, number: 1 }))
+"#;
 
 #[test]
 fn texts_of_replies(rt: HostRuntime) -> Result<(), Fail> {
     let alloc = rt.alloc();
-    for (reply, text) in replies(alloc)? {
-        assert_eq!(rt; reply_text(alloc, &reply)?.as_str(), text);
-        assert_eq!(rt; read_reply(alloc, text)?, Some(reply), "{text}");
-    }
-    for (reply, text) in refusals(alloc)? {
-        assert_eq!(rt; reply_text(alloc, &reply)?.as_str(), text);
-        assert_eq!(rt; read_reply(alloc, text)?, Some(reply), "{text}");
+    for row in REPLIES.lines() {
+        let (text, wanted) = row.split_once(" => ").ok_or("row")?;
+        let reply = read_reply(alloc, text)?.ok_or("reply")?;
+        same(&rt, shown(alloc, &reply)?.as_str(), wanted, text);
+        same(&rt, reply_text(alloc, &reply)?.as_str(), text, wanted);
     }
     Ok(())
 }
+
+/// Texts of no act, each on a line; the first is empty.
+const NO_ACTS: &str = r#"
+null
+[]
+{"day":"2012-02-06"}
+{"act":"pay","day":"2012-02-06"}
+{"act": "open","day":"2012-02-06"}
+{"day":"2012-02-06","act":"open"}
+{"act":"open","act":"open","day":"2012-02-06"}
+{"act":"open","day":"2012-02-06","x":0}
+{"act":"open","day":"2012-02-30"}
+{"act":"open","day":"\u0032012-02-06"}
+{"act":"redeem","day":"2012-02-06","payee":7,"serials":["L01EE"]}
+{"act":"redeem","day":"2012-02-06","payee":7,"serials":["L-1-EE"]}
+{"act":"redeem","day":"2012-02-06","payee":"7","serials":["L1EE"]}
+{"act":"redeem","day":"2012-02-06","payee":7.0,"serials":["L1EE"]}
+{"act":"redeem","day":"2012-02-06","payee":4294967303,"serials":["L1EE"]}
+{"act":"rates","rates":[{"from":"2010-05","rate":"2.00"}]}
+{"act":"rates","rates":[{"from":"05/2010","rate":"2.00%"}]}
+{"act":"rates","rates":[{"from":"2010-05","rate":"2.00%","x":0}]}
+{"act":"bonds","bonds":[{"denom":51,"issued":"2010-11","owner":7,"serial":"L1EE"}]}
+{"act":"bonds","bonds":[{"coowner":null,"denom":50,"issued":"2010-11","owner":7,"serial":"L1EE"}]}
+"#;
 
 #[test]
 fn other_texts_are_of_no_act(rt: HostRuntime) -> Result<(), Fail> {
     let alloc = rt.alloc();
-    for text in [
-        "",
-        "null",
-        "[]",
-        r#"{"day":"2012-02-06"}"#,
-        r#"{"act":"pay","day":"2012-02-06"}"#,
-        r#"{"act": "open","day":"2012-02-06"}"#,
-        "{\"act\":\"open\",\"day\":\"2012-02-06\"}\n",
-        r#"{"day":"2012-02-06","act":"open"}"#,
-        r#"{"act":"open","act":"open","day":"2012-02-06"}"#,
-        r#"{"act":"open","day":"2012-02-06","x":0}"#,
-        r#"{"act":"open","day":"2012-02-30"}"#,
-        r#"{"act":"open","day":"\u0032012-02-06"}"#,
-        r#"{"act":"redeem","day":"2012-02-06","payee":7,"serials":["L01EE"]}"#,
-        r#"{"act":"redeem","day":"2012-02-06","payee":7,"serials":["L-1-EE"]}"#,
-        r#"{"act":"redeem","day":"2012-02-06","payee":"7","serials":["L1EE"]}"#,
-        r#"{"act":"redeem","day":"2012-02-06","payee":7.0,"serials":["L1EE"]}"#,
-        r#"{"act":"redeem","day":"2012-02-06","payee":4294967303,"serials":["L1EE"]}"#,
-        r#"{"act":"rates","rates":[{"from":"2010-05","rate":"2.00"}]}"#,
-        r#"{"act":"rates","rates":[{"from":"05/2010","rate":"2.00%"}]}"#,
-        r#"{"act":"rates","rates":[{"from":"2010-05","rate":"2.00%","x":0}]}"#,
-        r#"{"act":"bonds","bonds":[{"denom":51,"issued":"2010-11","owner":7,"serial":"L1EE"}]}"#,
-        r#"{"act":"bonds","bonds":[{"coowner":null,"denom":50,"issued":"2010-11","owner":7,"serial":"L1EE"}]}"#,
-    ] {
-        assert_eq!(rt; read_act(alloc, text)?, None, "{text}");
+    for text in NO_ACTS.lines() {
+        assert!(rt; read_act(alloc, text)?.is_none(), "{text}");
     }
+    let ended = read_act(alloc, "{\"act\":\"open\",\"day\":\"2012-02-06\"}\n")?;
+    assert!(rt; ended.is_none());
     Ok(())
 }
+
+/// Texts of no reply, each on a line; the first is empty.
+const NO_REPLIES: &str = r#"
+{}
+{"new":2, "same":0}
+{"same":0,"new":2}
+{"new":2,"same":0,"x":0}
+{"new":"2","same":0}
+{"bonds":0,"day":"2012-02-07","tickets":0,"total":"00.00"}
+{"bonds":0,"day":"2012-02-07","tickets":0,"total":"0.0"}
+{"bonds":0,"day":"2012-02-07","tickets":0,"total":"184467440737095516.16"}
+{"code":11,"refused":"TooMany"}
+{"code":30,"refused":"NoRate"}
+{"code":51,"refused":"NotPayee","serial":"N04EE"}
+{"code":52,"refused":"AlreadyPaid","serial":"L1EE"}
+{"code":69,"fault":"NotFound"}
+"#;
 
 #[test]
 fn other_texts_are_of_no_reply(rt: HostRuntime) -> Result<(), Fail> {
     let alloc = rt.alloc();
-    for text in [
-        "",
-        "{}",
-        r#"{"new":2, "same":0}"#,
-        r#"{"same":0,"new":2}"#,
-        r#"{"new":2,"same":0,"x":0}"#,
-        r#"{"new":"2","same":0}"#,
-        r#"{"bonds":0,"day":"2012-02-07","tickets":0,"total":"00.00"}"#,
-        r#"{"bonds":0,"day":"2012-02-07","tickets":0,"total":"0.0"}"#,
-        r#"{"bonds":0,"day":"2012-02-07","tickets":0,"total":"184467440737095516.16"}"#,
-        r#"{"code":11,"refused":"TooMany"}"#,
-        r#"{"code":30,"refused":"NoRate"}"#,
-        r#"{"code":51,"refused":"NotPayee","serial":"N04EE"}"#,
-        r#"{"code":52,"refused":"AlreadyPaid","serial":"L1EE"}"#,
-        r#"{"code":69,"fault":"NotFound"}"#,
-    ] {
-        assert_eq!(rt; read_reply(alloc, text)?, None, "{text}");
+    for text in NO_REPLIES.lines() {
+        assert!(rt; read_reply(alloc, text)?.is_none(), "{text}");
     }
     Ok(())
 }
