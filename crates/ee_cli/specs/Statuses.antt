@@ -1,5 +1,5 @@
 -- What an exit status says of the words of a line, and of what was carried out.
-use Rattle.std.specs.Prelude.{◌≡◌, ◌≤◌, ◌⊎◌, ℕ, List, Option, Result, Ok, Err, IfOk, ⊤}
+use Rattle.std.specs.Prelude.{◌≡◌, ◌≢◌, ◌≤◌, ◌⊎◌, ℕ, List, Option, Result, Ok, Err, IfOk, ⊤}
 use Rattle.clap.specs.Words.{Text}
 use Rattle.ee_actions.specs.Values.{PrintsValue}
 use Rattle.ee_actions.specs.declared.faults.Outcome.{Outcome}
@@ -23,11 +23,20 @@ IsStatusFor outcome.Done status = status ≡ 0
 IsStatusFor outcome.Refused status = status ≡ 1
 IsStatusFor (outcome.Unsettled age) status = (status ≡ 1) ⊎ (status ≡ 3)
 
+-- how a command ended, by the status: 0 done, 1 refused or unsettled, never 2; 3 says nothing
+pub record Ends (Carried : Result Outcome RunFault → Type 0) (status : ℕ) : Type 0 where
+  pub done : status ≡ 0 → Carried (Ok outcome.Done)
+  pub refused : status ≡ 1 → Carried (Ok outcome.Refused) ⊎ ((age : ℕ) × Carried (Ok (outcome.Unsettled age)))
+  pub is_good_line : status ≢ 2
+
 -- 0: the words ask for a command, which was done, or for help; 1: for a command that was refused; 2: one of them spells
--- no value, or clap refuses them; 3: anything. `Carried` says what is known of a command that ended so.
+-- no value, or clap refuses them; 3: anything. `Carried` says what is known of a command that ended so: whichever command
+-- the words ask for ended as the status says.
 pub record IsRun (words : List Text) (Carried : Asked → Result Outcome RunFault → Type 0) (status : ℕ) : Type 0 where
   pub range : status ≤ 3
-  pub done : status ≡ 0 → ((asked : Asked) × IsAsked words (Ok asked) × Carried asked (Ok outcome.Done)) ⊎ AsksForHelp words
+  pub ends : (asked : Asked) → IsAsked words (Ok asked) → Ends (Carried asked) status
+  pub shows_help : AsksForHelp words → (status ≡ 0) ⊎ (status ≡ 3)
+  pub refuses_line : ((name : Text) × IsAsked words (Err name)) ⊎ IsRefused words → (status ≡ 2) ⊎ (status ≡ 3)
+  pub done : status ≡ 0 → ((asked : Asked) × IsAsked words (Ok asked)) ⊎ AsksForHelp words
   pub refused : status ≡ 1 → (asked : Asked) × IsAsked words (Ok asked)
-      × (Carried asked (Ok outcome.Refused) ⊎ ((age : ℕ) × Carried asked (Ok (outcome.Unsettled age))))
   pub bad_line : status ≡ 2 → ((name : Text) × IsAsked words (Err name)) ⊎ IsRefused words

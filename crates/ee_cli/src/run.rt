@@ -1,9 +1,13 @@
 //! Running one command line.
 
-ghost use Rattle.std.specs.Prelude.{◌≡◌, ◌⊎◌, map, string_bytes};
+ghost use Rattle.std.specs.Prelude.{◌≡◌, ◌⊎◌, ℕ, Ok, map, string_bytes};
 ghost use Rattle.std.specs.Io.KnownBytes.{Appends};
 ghost use Rattle.clap.specs.Words.{Text};
 ghost use Rattle.ee_acts.specs.Repeats.{Content};
+ghost use Rattle.ee_actions.specs.Printed.{value_line};
+ghost use Rattle.ee_commands.specs.Answer.{IsAsked};
+ghost use Rattle.ee_commands.specs.CommandLine.{value};
+ghost use Rattle.ee_units.specs.declared.denoms.Denom.{Denom};
 ghost use Rattle.ee_cli.specs.Statuses.{Carries, IsRun, IsStatusFor};
 ghost use Rattle.ee_cli.specs.Stores.{AreClean, CarriesOver};
 
@@ -28,7 +32,9 @@ pub const FAILED: u8 = 3;
 /// Runs the line of those words, the first of which is the program's name, over these stores: the exit
 /// status. What is told of faults goes to `faults`, all else to `output`.
 ///
-/// - `status`: what the words were, and of a value what was printed.
+/// - `status`: what the words were, and how the command ended that they ask for. They ask for one thing at
+///   most (`ee_commands::one_meaning`).
+/// - `printed`: where they ask for a value and the status is 0, the output gained just that value's line.
 /// - `over`: what a command over a store did and printed, by what the store held (`contents`).
 pub fn run_words<O: Stores, R: Read, W: Write, E: Write>(
     rt: &HostRuntime,
@@ -39,6 +45,9 @@ pub fn run_words<O: Stores, R: Read, W: Write, E: Write>(
     faults: &mut E,
 ) -> u8
     ensures status { IsRun (map (λ w. string_bytes w) words.now) (Carries (W.contents output.old) (W.contents output.new)) result }
+    ensures printed { (denom : Denom) (issued month rate : ℕ)
+        → IsAsked (map (λ w. string_bytes w) words.now) (Ok (value denom issued month rate)) → result ≡ 0
+        → Appends (W.contents output.old) (W.contents output.new) (value_line denom issued month rate) }
     ensures over { AreClean O.Store.is_clean → (contents : Text → Content) → ((path : Text) → O.holds stores.now path (contents path))
         → IsRun (map (λ w. string_bytes w) words.now) (CarriesOver O.Store.has contents (R.remaining input.old) (W.contents output.old) (W.contents output.new)) result }
 {
