@@ -1,6 +1,8 @@
 ghost use Rattle.std.specs.Prelude.{◌≡◌, IfSome};
 
+use crate::comparing::same;
 use ee_calculator::{Bond, Row, Sheet, WriteFailed, plain_row, row, sheet, write_sheet};
+use ee_files::read_inventory;
 use ee_units::{Bits, Total};
 use ee_value::{Rates, UnitTable, unit_table};
 use std::io::{self, ErrorKind, Write};
@@ -27,39 +29,49 @@ fn plain(rt: &HostRuntime, denom: &str, issued: &str, rate: &str, month: &str) -
     ))
 }
 
+/// Denominations, issue months, rates and months, and the value and note: some values, the last month before
+/// issue and the borders of each note, the adjustment at 20 years, and the highest and the lowest rate to final
+/// maturity and after it.
+const ROWS: &str = "\
+50 2010-05 3.50 2011-08 => 25.88 [P5]
+50 2010-05 2.00 2011-08 => 25.52 [P5]
+75 2010-05 2.00 2011-08 => 38.28 [P5]
+50 2010-05 3.50 2010-04 => 0.00 [NI]
+50 2010-05 3.50 2010-05 => 25.00 [NE]
+50 2010-05 3.50 2011-04 => 25.00 [NE]
+50 2010-05 3.50 2011-05 => 25.66 [P5]
+50 2010-05 20.00 2011-05 => 28.84 [P5]
+50 2010-05 3.50 2015-04 => 29.38 [P5]
+50 2010-05 3.50 2015-05 => 29.74 []
+50 2010-05 3.40 2030-04 => 48.90 []
+50 2010-05 3.40 2030-05 => 50.00 []
+50 2010-05 3.40 2030-06 => 50.14 []
+50 2010-05 3.50 2030-05 => 50.00 []
+50 2010-05 3.60 2030-05 => 51.04 []
+10000 2005-05 20.00 2035-04 => 1498472.00 []
+10000 2005-05 20.00 2035-05 => 1522468.00 [MA]
+10000 2005-05 20.00 2035-06 => 1522468.00 [MA]
+10000 2005-05 20.00 2199-12 => 1522468.00 [MA]
+10000 2005-05 0.00 2010-05 => 5000.00 []
+10000 2005-05 0.00 2025-04 => 5000.00 []
+10000 2005-05 0.00 2025-05 => 10000.00 []
+";
+
+/// The row that a line `DENOM ISSUED RATE MONTH` asks for.
+fn row_of(rt: &HostRuntime, line: &str) -> Option<Row> {
+    let (denom, line) = line.split_once(' ')?;
+    let (issued, line) = line.split_once(' ')?;
+    let (rate, month) = line.split_once(' ')?;
+    plain(rt, denom, issued, rate, month)
+}
+
 #[test]
 fn rows_show_value_and_note(rt: HostRuntime) -> Result<(), Fail> {
-    let rows = [
-        ("50", "2010-05", "3.50", "2011-08", "25.88 P5"),
-        ("50", "2010-05", "2.00", "2011-08", "25.52 P5"),
-        ("75", "2010-05", "2.00", "2011-08", "38.28 P5"),
-        // The last month before issue, and the borders of each note.
-        ("50", "2010-05", "3.50", "2010-04", "0.00 NI"),
-        ("50", "2010-05", "3.50", "2010-05", "25.00 NE"),
-        ("50", "2010-05", "3.50", "2011-04", "25.00 NE"),
-        ("50", "2010-05", "3.50", "2011-05", "25.66 P5"),
-        ("50", "2010-05", "20.00", "2011-05", "28.84 P5"),
-        ("50", "2010-05", "3.50", "2015-04", "29.38 P5"),
-        ("50", "2010-05", "3.50", "2015-05", "29.74 "),
-        // The adjustment at 20 years.
-        ("50", "2010-05", "3.40", "2030-04", "48.90 "),
-        ("50", "2010-05", "3.40", "2030-05", "50.00 "),
-        ("50", "2010-05", "3.40", "2030-06", "50.14 "),
-        ("50", "2010-05", "3.50", "2030-05", "50.00 "),
-        ("50", "2010-05", "3.60", "2030-05", "51.04 "),
-        // The highest and the lowest rate, to final maturity and after it.
-        ("10000", "2005-05", "20.00", "2035-04", "1498472.00 "),
-        ("10000", "2005-05", "20.00", "2035-05", "1522468.00 MA"),
-        ("10000", "2005-05", "20.00", "2035-06", "1522468.00 MA"),
-        ("10000", "2005-05", "20.00", "2199-12", "1522468.00 MA"),
-        ("10000", "2005-05", "0.00", "2010-05", "5000.00 "),
-        ("10000", "2005-05", "0.00", "2025-04", "5000.00 "),
-        ("10000", "2005-05", "0.00", "2025-05", "10000.00 "),
-    ];
-    for (denom, issued, rate, month, want) in rows {
-        let row = plain(&rt, denom, issued, rate, month).ok_or("no row")?;
-        let text = format!(in rt.alloc(); "{} {}", row.value, row.note)?;
-        assert_eq!(rt; text.as_str(), want, "{denom} {issued} {rate} {month}");
+    for line in ROWS.lines() {
+        let (asked, want) = line.split_once(" => ").ok_or("row")?;
+        let row = row_of(&rt, asked).ok_or("no row")?;
+        let text = format!(in rt.alloc(); "{} [{}]", row.value, row.note)?;
+        same(&rt, text.as_str(), want, asked);
     }
     Ok(())
 }
@@ -86,29 +98,22 @@ impl Write for Device {
     }
 }
 
+const INVENTORY: &str =
+    "serial,denom,issued,owner,coowner\nK2EE,75,2010-10,7,8\nL1EE,50,2010-11,7,\nM3EE,10000,2011-02,7,\n";
+
+fn dated(rt: &HostRuntime, bond: &Bond, rate: &str) -> Option<Row> {
+    let rates = Rates {
+        fixed: rate.parse().ok()?,
+    };
+    let table = table_of(rt, rates)?;
+    Some(row(bond, rates, &table, "2012-02".parse().ok()?))
+}
+
 fn three_bonds(rt: &HostRuntime) -> Result<Sheet, Fail> {
-    let bonds = [
-        ("K2EE", "75", "2010-10", "7", Some("8"), "2.00"),
-        ("L1EE", "50", "2010-11", "7", None, "3.50"),
-        ("M3EE", "10000", "2011-02", "7", None, "3.50"),
-    ];
+    let bonds = read_inventory(rt.alloc(), &mut INVENTORY.as_bytes())?;
     let mut rows = Vec::new(rt.alloc());
-    for (serial, denom, issued, owner, coowner, rate) in bonds {
-        let bond = Bond {
-            serial: serial.parse()?,
-            denom: denom.parse()?,
-            issued: issued.parse()?,
-            owner: owner.parse()?,
-            coowner: match coowner {
-                Some(coowner) => Some(coowner.parse()?),
-                None => None,
-            },
-        };
-        let rates = Rates {
-            fixed: rate.parse()?,
-        };
-        let table = table_of(rt, rates).ok_or("no table")?;
-        rows.push(row(&bond, rates, &table, "2012-02".parse()?))?;
+    for (bond, rate) in bonds.iter().zip(["2.00", "3.50", "3.50"]) {
+        rows.push(dated(rt, bond, rate).ok_or("no row")?)?;
     }
     Ok(sheet(rows))
 }
@@ -125,8 +130,8 @@ Total                                                    5062.50         133.72 
 fn writes_the_sheet_or_a_front_of_it(rt: HostRuntime) -> Result<(), Fail> {
     let sheet = three_bonds(&rt)?;
     let mut text = Vec::new(rt.alloc());
-    assert_eq!(rt; write_sheet(&sheet, &mut text), Ok(()));
-    assert_eq!(rt; &text[..], THREE_BONDS.as_bytes());
+    assert!(rt; write_sheet(&sheet, &mut text) == Ok(()));
+    assert!(rt; &text[..] == THREE_BONDS.as_bytes());
     for room in 0..=text.len() {
         let bytes = Vec::new(rt.alloc());
         let mut device = Device { bytes, room };
@@ -135,8 +140,8 @@ fn writes_the_sheet_or_a_front_of_it(rt: HostRuntime) -> Result<(), Fail> {
         } else {
             Ok(())
         };
-        assert_eq!(rt; write_sheet(&sheet, &mut device), want, "{room} bytes");
-        assert_eq!(rt; &device.bytes[..], &text[..room], "{room} bytes");
+        assert!(rt; write_sheet(&sheet, &mut device) == want, "{room} bytes");
+        assert!(rt; &device.bytes[..] == &text[..room], "{room} bytes");
     }
     Ok(())
 }
@@ -154,16 +159,16 @@ Serial        Series  Denom Issued  Next    Final          Price       Interest 
 Total                                                    5000.00     1517468.00            1522468.00
 ";
 
-fn rows_of(rt: &HostRuntime, bonds: &[(&str, &str, &str, &str)]) -> Result<Vec<Row>, Fail> {
+fn rows_of(rt: &HostRuntime, lines: &[&str]) -> Result<Vec<Row>, Fail> {
     let mut rows = Vec::new(rt.alloc());
-    for (denom, issued, rate, month) in bonds {
-        rows.push(plain(rt, denom, issued, rate, month).ok_or("no row")?)?;
+    for line in lines {
+        rows.push(row_of(rt, line).ok_or("no row")?)?;
     }
     Ok(rows)
 }
 
-fn text_of(rt: &HostRuntime, bonds: &[(&str, &str, &str, &str)]) -> Result<Vec<u8>, Fail> {
-    let sheet = sheet(rows_of(rt, bonds)?);
+fn text_of(rt: &HostRuntime, lines: &[&str]) -> Result<Vec<u8>, Fail> {
+    let sheet = sheet(rows_of(rt, lines)?);
     let mut text = Vec::new(rt.alloc());
     write_sheet(&sheet, &mut text)?;
     Ok(text)
@@ -172,23 +177,20 @@ fn text_of(rt: &HostRuntime, bonds: &[(&str, &str, &str, &str)]) -> Result<Vec<u
 #[test]
 fn writes_empty_columns(rt: HostRuntime) -> Result<(), Fail> {
     let text = text_of(&rt, &[])?;
-    assert_eq!(rt; &text[..], EMPTY.as_bytes());
-    let bonds = [
-        ("50", "2010-05", "3.50", "2010-04"),
-        ("10000", "2005-05", "20.00", "2035-05"),
-    ];
-    let text = text_of(&rt, &bonds)?;
-    assert_eq!(rt; &text[..], BEFORE_AND_AFTER.as_bytes());
+    assert!(rt; &text[..] == EMPTY.as_bytes());
+    let lines = ["50 2010-05 3.50 2010-04", "10000 2005-05 20.00 2035-05"];
+    let text = text_of(&rt, &lines)?;
+    assert!(rt; &text[..] == BEFORE_AND_AFTER.as_bytes());
     Ok(())
 }
 
 #[test]
 fn sums_the_largest_values(rt: HostRuntime) -> Result<(), Fail> {
-    let bonds = [("10000", "2005-05", "20.00", "2035-05"); 500];
-    let sheet = sheet(rows_of(&rt, &bonds)?);
-    assert_eq!(rt; sheet.rows.len(), 500);
-    assert_eq!(rt; sheet.price, Total(250_000_000));
-    assert_eq!(rt; sheet.value, Total(76_123_400_000));
-    assert_eq!(rt; sheet.interest, Total(75_873_400_000));
+    let lines = ["10000 2005-05 20.00 2035-05"; 500];
+    let sheet = sheet(rows_of(&rt, &lines)?);
+    assert!(rt; sheet.rows.len() == 500);
+    assert!(rt; sheet.price == Total(250_000_000));
+    assert!(rt; sheet.value == Total(76_123_400_000));
+    assert!(rt; sheet.interest == Total(75_873_400_000));
     Ok(())
 }

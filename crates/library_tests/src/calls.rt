@@ -1,89 +1,23 @@
-use crate::comparing::same;
-use ee_acts::{Act, Request};
-use ee_calls::{Call, Query, WireFault, decode};
+use crate::comparing::{same, shown};
+use ee_calls::{WireFault, decode};
 use std::alloc::Global;
 use std::process::Abort;
 use std::test::Fail;
 
-/// What a message asks for, by its parts: a request as its number and what its act holds, a query as
-/// what it names, a fault as its code and its field or name.
+/// What a message asks for, as `Debug` shows it; of a fault its code and its field or name.
 fn told(alloc: Global, path: &str, method: &str, body: &str) -> Result<String, Fail> {
     match decode(alloc, path.as_bytes(), method.as_bytes(), body.as_bytes()) {
-        Ok(Call::Request(request)) => request_told(alloc, &request),
-        Ok(Call::Query(query)) => query_told(alloc, query),
+        Ok(call) => shown(alloc, &call),
         Err(fault) => fault_told(alloc, fault),
     }
 }
 
-fn request_told(alloc: Global, request: &Request) -> Result<String, Fail> {
-    let number = request.number.value();
-    let act = act_told(alloc, &request.act)?;
-    Ok(format!(in alloc; "{number} {act}")?)
-}
-
-fn query_told(alloc: Global, query: Query) -> Result<String, Fail> {
-    Ok(match query {
-        Query::Inventory { customer, month } => {
-            format!(in alloc; "inventory {customer} {month}")?
-        }
-        Query::Ticket(n) => format!(in alloc; "ticket {n}")?,
-        Query::Batch(day) => format!(in alloc; "batch {day}")?,
-        Query::Value {
-            denom,
-            issued,
-            month,
-        } => format!(in alloc; "value {denom} {issued} {month}")?,
-    })
-}
-
 fn fault_told(alloc: Global, fault: WireFault) -> Result<String, Fail> {
-    let code = fault.code();
     let name = match fault {
         WireFault::BadField(field) => field.name(),
         _ => fault.name(),
     };
-    Ok(format!(in alloc; "{code} {name}")?)
-}
-
-fn act_told(alloc: Global, act: &Act) -> Result<String, Fail> {
-    Ok(match act {
-        Act::AddRates(rows) => {
-            let mut text = format!(in alloc; "rates")?;
-            for row in rows.as_slice() {
-                let from = row.from;
-                let rate = row.rates.fixed;
-                text.push_str(format!(in alloc; " {from} {rate}")?.as_str())?;
-            }
-            text
-        }
-        Act::AddBonds(rows) => {
-            let mut text = format!(in alloc; "bonds")?;
-            for bond in rows.as_slice() {
-                let serial = bond.serial;
-                let denom = bond.denom;
-                let issued = bond.issued;
-                let owner = bond.owner;
-                text.push_str(format!(in alloc; " {serial} {denom} {issued} {owner}")?.as_str())?;
-                if let Some(coowner) = bond.coowner {
-                    text.push_str(format!(in alloc; " and {coowner}")?.as_str())?;
-                }
-            }
-            text
-        }
-        Act::OpenDay(day) => format!(in alloc; "open {day}")?,
-        Act::Redeem {
-            day,
-            payee,
-            serials,
-        } => {
-            let mut text = format!(in alloc; "redeem {day} {payee}")?;
-            for serial in serials.as_slice() {
-                text.push_str(format!(in alloc; " {serial}")?.as_str())?;
-            }
-            text
-        }
-        Act::CloseDay(day) => format!(in alloc; "close {day}")?,
-    })
+    Ok(format!(in alloc; "{} {name}", fault.code())?)
 }
 
 /// Compares what the messages of a table ask for: rows `METHOD PATH BODY => ANSWER`.
@@ -101,14 +35,14 @@ fn are_read(rt: &impl Abort, alloc: Global, table: &str) -> Result<(), Fail> {
 /// object, the number before all other fields, then the fields in the order of the table, and then any other;
 /// a row's other field stands before later rows, and before other fields of the body.
 const BODIES: &str =
-    r#"POST /rates {"number":1,"rates":[{"from":"2010-11","rate":"3.50"}]} => 1 rates 2010-11 3.50%
-POST /rates {"rates":[{"rate":"2%","from":"05/2010"}],"number":1} => 1 rates 2010-05 2.00%
-POST /rates {"number":1,"rates":[]} => 1 rates
-POST /bonds {"number":2,"bonds":[{"serial":"L1EE","denom":50,"issued":"2010-11","owner":7},{"coowner":8,"serial":"K-2-EE","denom":75,"issued":"2010-10","owner":7},{"coowner":null,"serial":"M3EE","denom":10000,"issued":"2011-02","owner":7}]} => 2 bonds L1EE 50 2010-11 7 K2EE 75 2010-10 7 and 8 M3EE 10000 2011-02 7
-POST /day/open {"number":3,"day":"2012-02-06"} => 3 open 2012-02-06
-POST /redeem {"number":4,"day":"2012-02-06","payee":7,"serials":["L1EE","K2EE"]} => 4 redeem 2012-02-06 7 L1EE K2EE
-POST /day/close  {"number" : 9223372036854775807, "day":"2012-02-06"}  => 9223372036854775807 close 2012-02-06
-POST /day/open {"number":1,"number":2,"day":"x","day":"2012-02-06"} => 2 open 2012-02-06
+    r#"POST /rates {"number":1,"rates":[{"from":"2010-11","rate":"3.50"}]} => Request(Request { number: Number { value: 1 }, act: AddRates(Rows { items: [RateRow { from: IssueMonth { count: 66 }, rates: Rates { fixed: Rate { hundredths: 350 } } }] }) })
+POST /rates {"rates":[{"rate":"2%","from":"05/2010"}],"number":1} => Request(Request { number: Number { value: 1 }, act: AddRates(Rows { items: [RateRow { from: IssueMonth { count: 60 }, rates: Rates { fixed: Rate { hundredths: 200 } } }] }) })
+POST /rates {"number":1,"rates":[]} => Request(Request { number: Number { value: 1 }, act: AddRates(Rows { items: [] }) })
+POST /bonds {"number":2,"bonds":[{"serial":"L1EE","denom":50,"issued":"2010-11","owner":7},{"coowner":8,"serial":"K-2-EE","denom":75,"issued":"2010-10","owner":7},{"coowner":null,"serial":"M3EE","denom":10000,"issued":"2011-02","owner":7}]} => Request(Request { number: Number { value: 2 }, act: AddBonds(Rows { items: [Bond { serial: Serial { letter: 12, number: 1 }, denom: Fifty, issued: IssueMonth { count: 66 }, owner: Customer { number: 7 }, coowner: None }, Bond { serial: Serial { letter: 11, number: 2 }, denom: SeventyFive, issued: IssueMonth { count: 65 }, owner: Customer { number: 7 }, coowner: Some(Customer { number: 8 }) }, Bond { serial: Serial { letter: 13, number: 3 }, denom: TenThousand, issued: IssueMonth { count: 69 }, owner: Customer { number: 7 }, coowner: None }] }) })
+POST /day/open {"number":3,"day":"2012-02-06"} => Request(Request { number: Number { value: 3 }, act: OpenDay(Day { count: 15376 }) })
+POST /redeem {"number":4,"day":"2012-02-06","payee":7,"serials":["L1EE","K2EE"]} => Request(Request { number: Number { value: 4 }, act: Redeem { day: Day { count: 15376 }, payee: Customer { number: 7 }, serials: Rows { items: [Serial { letter: 12, number: 1 }, Serial { letter: 11, number: 2 }] } } })
+POST /day/close  {"number" : 9223372036854775807, "day":"2012-02-06"}  => Request(Request { number: Number { value: 9223372036854775807 }, act: CloseDay(Day { count: 15376 }) })
+POST /day/open {"number":1,"number":2,"day":"x","day":"2012-02-06"} => Request(Request { number: Number { value: 2 }, act: OpenDay(Day { count: 15376 }) })
 POST /day/open  => 64 BadJson
 POST /day/open { => 64 BadJson
 POST /day/open {} {} => 64 BadJson
@@ -160,11 +94,11 @@ fn bodies_are_read(rt: HostRuntime) -> Result<(), Fail> {
 /// What paths ask for, or the leftmost part at fault. The route is tested before the method, and the method
 /// before the body.
 const PATHS: &str = "\
-GET /inventory/7/2012-02 { => inventory 7 2012-02
-GET /ticket/1 { => ticket 1
-GET /ticket/9223372036854775807 { => ticket 9223372036854775807
-GET /batch/2012-02-06 { => batch 2012-02-06
-GET /value/50/2010-11/2012-02 { => value 50 2010-11 2012-02
+GET /inventory/7/2012-02 { => Query(Inventory { customer: Customer { number: 7 }, month: Month { count: 81 } })
+GET /ticket/1 { => Query(Ticket(1))
+GET /ticket/9223372036854775807 { => Query(Ticket(9223372036854775807))
+GET /batch/2012-02-06 { => Query(Batch(Day { count: 15376 }))
+GET /value/50/2010-11/2012-02 { => Query(Value { denom: Fifty, issued: IssueMonth { count: 66 }, month: Month { count: 81 } })
 GET /inventory/0/x { => 65 customer
 GET /inventory/7/2012-13 { => 65 month
 GET /ticket/0 { => 65 ticket
@@ -225,11 +159,11 @@ fn deep_bodies(rt: HostRuntime) -> Result<(), Fail> {
 
 /// Bodies, and what they ask for.
 const SHORT: &str =
-    r#"/rates {"number":1,"rates":[{"from":"2010-11","rate":"3.50"}]} => 1 rates 2010-11 3.50%
-/bonds {"number":2,"bonds":[{"serial":"L1EE","denom":50,"issued":"2010-11","owner":7},{"serial":"K2EE","denom":75,"issued":"2010-10","owner":7},{"serial":"M3EE","denom":10000,"issued":"2011-02","owner":7}]} => 2 bonds L1EE 50 2010-11 7 K2EE 75 2010-10 7 M3EE 10000 2011-02 7
-/day/open {"number":3,"day":"2012-02-06"} => 3 open 2012-02-06
-/redeem {"number":4,"day":"2012-02-06","payee":7,"serials":["L1EE","K2EE"]} => 4 redeem 2012-02-06 7 L1EE K2EE
-/day/close {"number":6,"day":"2012-02-06"} => 6 close 2012-02-06
+    r#"/rates {"number":1,"rates":[{"from":"2010-11","rate":"3.50"}]} => Request(Request { number: Number { value: 1 }, act: AddRates(Rows { items: [RateRow { from: IssueMonth { count: 66 }, rates: Rates { fixed: Rate { hundredths: 350 } } }] }) })
+/bonds {"number":2,"bonds":[{"serial":"L1EE","denom":50,"issued":"2010-11","owner":7},{"serial":"K2EE","denom":75,"issued":"2010-10","owner":7},{"serial":"M3EE","denom":10000,"issued":"2011-02","owner":7}]} => Request(Request { number: Number { value: 2 }, act: AddBonds(Rows { items: [Bond { serial: Serial { letter: 12, number: 1 }, denom: Fifty, issued: IssueMonth { count: 66 }, owner: Customer { number: 7 }, coowner: None }, Bond { serial: Serial { letter: 11, number: 2 }, denom: SeventyFive, issued: IssueMonth { count: 65 }, owner: Customer { number: 7 }, coowner: None }, Bond { serial: Serial { letter: 13, number: 3 }, denom: TenThousand, issued: IssueMonth { count: 69 }, owner: Customer { number: 7 }, coowner: None }] }) })
+/day/open {"number":3,"day":"2012-02-06"} => Request(Request { number: Number { value: 3 }, act: OpenDay(Day { count: 15376 }) })
+/redeem {"number":4,"day":"2012-02-06","payee":7,"serials":["L1EE","K2EE"]} => Request(Request { number: Number { value: 4 }, act: Redeem { day: Day { count: 15376 }, payee: Customer { number: 7 }, serials: Rows { items: [Serial { letter: 12, number: 1 }, Serial { letter: 11, number: 2 }] } } })
+/day/close {"number":6,"day":"2012-02-06"} => Request(Request { number: Number { value: 6 }, act: CloseDay(Day { count: 15376 }) })
 /day/open {"number":"\u0033","day":1} => 65 number
 "#;
 
@@ -239,13 +173,11 @@ fn refused_memory(rt: HostRuntime) -> Result<(), Fail> {
     for row in SHORT.lines() {
         let (message, want) = row.split_once(" => ").ok_or("row")?;
         let (path, body) = message.split_once(' ').ok_or("path")?;
-        match decode(rt.alloc(), path.as_bytes(), b"POST", body.as_bytes()) {
-            Ok(Call::Request(request)) => {
-                same(&rt, request_told(rt.alloc(), &request)?.as_str(), want, row);
-            }
-            Ok(Call::Query(_)) => return Err("a query".into()),
-            Err(WireFault::NoMemory) => println!(rt; "refused: {body}")?,
-            Err(fault) => same(&rt, fault_told(rt.alloc(), fault)?.as_str(), want, row),
+        let told = told(rt.alloc(), path, "POST", body)?;
+        if told.as_str() == "1 NoMemory" {
+            println!(rt; "refused: {body}")?;
+        } else {
+            same(&rt, told.as_str(), want, row);
         }
     }
     Ok(())

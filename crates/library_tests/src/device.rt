@@ -1,9 +1,11 @@
+use crate::comparing::same;
 use ee_device::{ReadFault, read_whole, write_whole};
+use std::alloc::Global;
 use std::io::{self, ErrorKind, Read, Write};
 use std::test::Fail;
 
 /// What becomes of a write in trouble.
-#[derive(Clone, Copy, Debug, PartialEq, Eq)]
+#[derive(Clone, Copy)]
 enum Trouble {
     Fails,
     Interrupted,
@@ -41,35 +43,54 @@ impl Write for Device {
     }
 }
 
-// Only the one call is in trouble: a second try would write on.
+/// The call that is in trouble, and how; none where the text is empty.
+fn trouble_of(text: &str) -> Option<(usize, Trouble)> {
+    let (call, kind) = text.split_once(' ')?;
+    let trouble = match kind {
+        "fails" => Trouble::Fails,
+        "interrupted" => Trouble::Interrupted,
+        _ => Trouble::TakesNone,
+    };
+    Some((call.parse().ok()?, trouble))
+}
+
+/// Whether the text was written to a device, what the device has, and how often it was called.
+fn written(alloc: Global, step: usize, trouble: Option<(usize, Trouble)>) -> Result<String, Fail> {
+    let mut device = Device {
+        bytes: Vec::new(alloc),
+        step,
+        calls: 0,
+        trouble,
+    };
+    let done = write_whole(&mut device, b"abcdef");
+    let front = str::from_utf8(&device.bytes)?;
+    Ok(format!(in alloc; "{done}|{front}|{}", device.calls)?)
+}
+
+/// Steps, troubles, and what is then written. Only the one call is in trouble: a second try would write on.
+const WRITES: &str = "\
+100|=>true|abcdef|1
+1|=>true|abcdef|6
+4|=>true|abcdef|2
+100|1 fails=>false||1
+2|2 fails=>false|ab|2
+1|6 fails=>false|abcde|6
+2|1 interrupted=>false||1
+2|3 interrupted=>false|abcd|3
+1|4 takes none=>false|abc|4
+1|7 fails=>true|abcdef|6
+0|=>false||1
+";
+
 #[test]
-fn writes_all_or_the_bytes_before_the_trouble(rt: HostRuntime) {
-    let table = [
-        (100, None, true, "abcdef", 1),
-        (1, None, true, "abcdef", 6),
-        (4, None, true, "abcdef", 2),
-        (100, Some((1, Trouble::Fails)), false, "", 1),
-        (2, Some((2, Trouble::Fails)), false, "ab", 2),
-        (1, Some((6, Trouble::Fails)), false, "abcde", 6),
-        (2, Some((1, Trouble::Interrupted)), false, "", 1),
-        (2, Some((3, Trouble::Interrupted)), false, "abcd", 3),
-        (1, Some((4, Trouble::TakesNone)), false, "abc", 4),
-        (1, Some((7, Trouble::Fails)), true, "abcdef", 6),
-        (0, None, false, "", 1),
-    ];
-    for (step, trouble, done, front, calls) in table {
-        let bytes = Vec::new(rt.alloc());
-        let mut device = Device {
-            bytes,
-            step,
-            calls: 0,
-            trouble,
-        };
-        let case = (step, trouble);
-        assert_eq!(rt; write_whole(&mut device, b"abcdef"), done, "{case:?}");
-        assert_eq!(rt; &device.bytes[..], front.as_bytes(), "{case:?}");
-        assert_eq!(rt; device.calls, calls, "{case:?}");
+fn writes_all_or_the_bytes_before_the_trouble(rt: HostRuntime) -> Result<(), Fail> {
+    for row in WRITES.lines() {
+        let (case, wanted) = row.split_once("=>").ok_or("row")?;
+        let (step, trouble) = case.split_once('|').ok_or("trouble")?;
+        let told = written(rt.alloc(), step.parse()?, trouble_of(trouble))?;
+        same(&rt, told.as_str(), wanted, case);
     }
+    Ok(())
 }
 
 #[test]
@@ -110,63 +131,77 @@ impl Read for Source<'_> {
     }
 }
 
-// `left` is what the source still has.
+/// The read that is in trouble, and its kind; none where the text is empty.
+fn failure_of(text: &str) -> Option<(usize, ErrorKind)> {
+    let (call, kind) = text.split_once(' ')?;
+    let kind = match kind {
+        "other" => ErrorKind::Other,
+        _ => ErrorKind::Interrupted,
+    };
+    Some((call.parse().ok()?, kind))
+}
+
+/// What was read of a source, or why not, and what the source still has.
+fn read_of(alloc: Global, mut source: Source, most: usize) -> Result<String, Fail> {
+    let read = match read_whole(alloc, &mut source, most) {
+        Ok(bytes) => format!(in alloc; "all {}", str::from_utf8(&bytes)?)?,
+        Err(fault) => fault.to_string(alloc)?,
+    };
+    Ok(format!(in alloc; "{read}|{}", str::from_utf8(source.bytes)?)?)
+}
+
+/// Texts, the most bytes, steps and troubles; and what is read, and what is left.
+const READS: &str = "\
+|0|9|=>all |
+|6|9|=>all |
+abcdef|6|9|=>all abcdef|
+abcdef|6|1|=>all abcdef|
+abcdef|18446744073709551615|4|=>all abcdef|
+abcdef|5|9|=>too many bytes|
+abcdef|5|1|=>too many bytes|
+abcdef|3|9|=>too many bytes|ef
+abcdef|0|9|=>too many bytes|bcdef
+abcdef|6|9|1 other=>the reader failed|abcdef
+abcdef|6|9|2 other=>the reader failed|
+abcdef|6|1|1 interrupted=>the reader failed|abcdef
+abcdef|6|2|2 interrupted=>the reader failed|cdef
+abcdef|6|1|3 other=>the reader failed|cdef
+abcdef|6|1|4 other=>the reader failed|def
+abcdef|6|1|5 other=>the reader failed|ef
+abcdef|6|1|6 other=>the reader failed|f
+abcdef|6|1|7 other=>the reader failed|
+abcdef|6|1|8 other=>all abcdef|
+";
+
 #[test]
-fn reads_all_or_says_why_not(rt: HostRuntime) {
-    let other = ErrorKind::Other;
-    let interrupted = ErrorKind::Interrupted;
-    let long = Err(ReadFault::TooLong);
-    let failed = Err(ReadFault::ReadFailed);
-    for (text, most, step, trouble, wanted, left) in [
-        ("", 0, 9, None, Ok(""), ""),
-        ("", 6, 9, None, Ok(""), ""),
-        ("abcdef", 6, 9, None, Ok("abcdef"), ""),
-        ("abcdef", 6, 1, None, Ok("abcdef"), ""),
-        ("abcdef", usize::MAX, 4, None, Ok("abcdef"), ""),
-        ("abcdef", 5, 9, None, long, ""),
-        ("abcdef", 5, 1, None, long, ""),
-        ("abcdef", 3, 9, None, long, "ef"),
-        ("abcdef", 0, 9, None, long, "bcdef"),
-        ("abcdef", 6, 9, Some((1, other)), failed, "abcdef"),
-        ("abcdef", 6, 9, Some((2, other)), failed, ""),
-        ("abcdef", 6, 1, Some((1, interrupted)), failed, "abcdef"),
-        ("abcdef", 6, 2, Some((2, interrupted)), failed, "cdef"),
-        ("abcdef", 6, 1, Some((3, other)), failed, "cdef"),
-        ("abcdef", 6, 1, Some((4, other)), failed, "def"),
-        ("abcdef", 6, 1, Some((5, other)), failed, "ef"),
-        ("abcdef", 6, 1, Some((6, other)), failed, "f"),
-        ("abcdef", 6, 1, Some((7, other)), failed, ""),
-        ("abcdef", 6, 1, Some((8, other)), Ok("abcdef"), ""),
-    ] {
-        let mut source = Source {
+fn reads_all_or_says_why_not(rt: HostRuntime) -> Result<(), Fail> {
+    for row in READS.lines() {
+        let (case, wanted) = row.split_once("=>").ok_or("row")?;
+        let (text, rest) = case.split_once('|').ok_or("text")?;
+        let (most, rest) = rest.split_once('|').ok_or("most")?;
+        let (step, trouble) = rest.split_once('|').ok_or("step")?;
+        let source = Source {
             bytes: text.as_bytes(),
-            step,
+            step: step.parse()?,
             calls: 0,
-            trouble,
+            trouble: failure_of(trouble),
         };
-        let case = (text, most, step, trouble);
-        let read = read_whole(rt.alloc(), &mut source, most);
-        let bytes = read.as_ref().map(|bytes| &bytes[..]);
-        assert_eq!(rt;
-            bytes.map_err(|fault| *fault),
-            wanted.map(str::as_bytes),
-            "{case:?}"
-        );
-        assert_eq!(rt; source.bytes, left.as_bytes(), "{case:?}");
+        let told = read_of(rt.alloc(), source, most.parse()?)?;
+        same(&rt, told.as_str(), wanted, case);
     }
+    Ok(())
 }
 
 #[test]
 fn reads_more_than_a_chunk(rt: HostRuntime) -> Result<(), Fail> {
     let text = vec![in rt.alloc(); b'a'; 10_000]?;
     let mut source = &text[..];
-    assert_eq!(rt; read_whole(rt.alloc(), &mut source, 10_000)?, text);
+    let read = read_whole(rt.alloc(), &mut source, 10_000)?;
+    assert!(rt; &read[..] == &text[..]);
     let mut source = &text[..];
-    assert_eq!(rt;
-        read_whole(rt.alloc(), &mut source, 9_998),
-        Err(ReadFault::TooLong)
-    );
-    assert_eq!(rt; source.len(), 1);
+    let read = read_whole(rt.alloc(), &mut source, 9_998);
+    assert!(rt; matches!(&read, Err(ReadFault::TooLong)));
+    assert!(rt; source.len() == 1);
     Ok(())
 }
 
@@ -177,7 +212,7 @@ fn texts_of_faults(rt: HostRuntime) -> Result<(), Fail> {
         (ReadFault::ReadFailed, "the reader failed"),
         (ReadFault::NoMemory, "out of memory"),
     ] {
-        assert_eq!(rt; fault.to_string(rt.alloc())?.as_str(), text);
+        same(&rt, fault.to_string(rt.alloc())?.as_str(), text, "fault");
     }
     Ok(())
 }

@@ -1,11 +1,12 @@
+use crate::comparing::{same, shown};
 use ee_tables::{
-    Batch, Bond, Desk, Entry, Failure, Line, PlacedLine, Rate, Serial, Ticket, TicketSum,
-    UnpaidBond, add_batch, add_bonds, add_rates, add_reply, add_ticket, bonds_of_owner,
-    day_tickets, find_batch, find_bond, find_desk, find_rate, find_reply, find_ticket, last_ticket,
-    pay_lines, set_day, ticket_lines,
+    Batch, Entry, Failure, Line, Rate, Serial, Ticket, UnpaidBond, add_batch, add_bonds, add_rates,
+    add_reply, add_ticket, bonds_of_owner, day_tickets, find_batch, find_bond, find_desk,
+    find_rate, find_reply, find_ticket, last_ticket, pay_lines, set_day, ticket_lines,
 };
 use sqlite::{Alter, Connection, Error, Transaction};
 use std::alloc::Global;
+use std::fmt::Debug;
 use std::process::Abort;
 use std::rt::HostRuntime;
 use std::test::Fail;
@@ -16,11 +17,6 @@ const DAY: u64 = 16_559;
 const A1: Serial = Serial {
     letter: 1,
     number: 1,
-};
-
-const LARGE: Serial = Serial {
-    letter: 26,
-    number: 9_999_999_999,
 };
 
 fn make_tables<S: Alter>(conn: &mut Connection<S>) -> Result<(), Error> {
@@ -105,17 +101,22 @@ fn redeem<S: Alter>(tx: &mut Transaction<'_, S>, entry: &Entry) -> Result<(), Fa
     add_reply(tx, 9_223_372_036_854_775_807, entry)
 }
 
-/// What is registered.
-fn shows_register<S: Alter>(rt: &impl Abort, tx: &mut Transaction<'_, S>) -> Result<(), Fail> {
-    let desk = Desk {
-        version: 1,
-        day: Some(DAY),
-        last_day: Some(DAY - 1),
-    };
-    assert_eq!(rt; find_desk(tx), Ok(Some(desk)));
-    assert_eq!(rt; find_rate(tx, 60), Ok(Some(350)));
-    assert_eq!(rt; find_rate(tx, 66), Ok(None));
+/// Compares a value with the text in which `Debug` shows it.
+fn shows<T: Debug>(rt: &impl Abort, alloc: Global, value: &T, wanted: &str) -> Result<(), Fail> {
+    same(rt, shown(alloc, value)?.as_str(), wanted, "found");
     Ok(())
+}
+
+/// What is registered.
+fn shows_register<S: Alter>(
+    rt: &impl Abort,
+    alloc: Global,
+    tx: &mut Transaction<'_, S>,
+) -> Result<(), Fail> {
+    let desk = "Ok(Some(Desk { version: 1, day: Some(16559), last_day: Some(16558) }))";
+    shows(rt, alloc, &find_desk(tx), desk)?;
+    shows(rt, alloc, &find_rate(tx, 60), "Ok(Some(350))")?;
+    shows(rt, alloc, &find_rate(tx, 66), "Ok(None)")
 }
 
 /// The bonds, the one on its ticket and the other unpaid.
@@ -124,31 +125,12 @@ fn shows_bonds<S: Alter>(
     alloc: Global,
     tx: &mut Transaction<'_, S>,
 ) -> Result<(), Fail> {
-    let paid = Bond {
-        denom: 50,
-        issued: 60,
-        owner: 7,
-        coowner: None,
-        ticket: Some(1),
-    };
-    assert_eq!(rt; find_bond(tx, A1), Ok(Some(paid)));
-    let unpaid = [UnpaidBond {
-        letter: LARGE.letter,
-        number: LARGE.number,
-        denom: 10_000,
-        issued: 60,
-        owner: 7,
-        coowner: Some(8),
-    }];
-    match bonds_of_owner(tx, alloc, 7) {
-        Ok(bonds) => assert_eq!(rt; bonds.as_slice(), unpaid.as_slice()),
-        Err(_) => assert!(rt; false, "the owner's bonds were not found"),
-    }
-    match bonds_of_owner(tx, alloc, 8) {
-        Ok(bonds) => assert!(rt; bonds.is_empty()),
-        Err(_) => assert!(rt; false, "the co-owner's bonds were not found"),
-    }
-    Ok(())
+    let paid = "Ok(Some(Bond { denom: 50, issued: 60, owner: 7, coowner: None, ticket: Some(1) }))";
+    shows(rt, alloc, &find_bond(tx, A1), paid)?;
+    let unpaid =
+        "Ok([UnpaidBond { letter: 26, number: 9999999999, denom: 10000, issued: 60, owner: 7, coowner: Some(8) }])";
+    shows(rt, alloc, &bonds_of_owner(tx, alloc, 7), unpaid)?;
+    shows(rt, alloc, &bonds_of_owner(tx, alloc, 8), "Ok([])")
 }
 
 /// The ticket, alone and among those of its day.
@@ -157,24 +139,11 @@ fn shows_tickets<S: Alter>(
     alloc: Global,
     tx: &mut Transaction<'_, S>,
 ) -> Result<(), Fail> {
-    let ticket = Ticket {
-        day: DAY,
-        payee: 7,
-        bonds: 1,
-        total: 2974,
-    };
-    assert_eq!(rt; find_ticket(tx, 1), Ok(Some(ticket)));
-    assert_eq!(rt; last_ticket(tx), Ok(Some(1)));
-    let sums = [TicketSum {
-        ticket: 1,
-        bonds: 1,
-        total: 2974,
-    }];
-    match day_tickets(tx, alloc, DAY) {
-        Ok(tickets) => assert_eq!(rt; tickets.as_slice(), sums.as_slice()),
-        Err(_) => assert!(rt; false, "the day's tickets were not found"),
-    }
-    Ok(())
+    let ticket = "Ok(Some(Ticket { day: 16559, payee: 7, bonds: 1, total: 2974 }))";
+    shows(rt, alloc, &find_ticket(tx, 1), ticket)?;
+    shows(rt, alloc, &last_ticket(tx), "Ok(Some(1))")?;
+    let sums = "Ok([TicketSum { ticket: 1, bonds: 1, total: 2974 }])";
+    shows(rt, alloc, &day_tickets(tx, alloc, DAY), sums)
 }
 
 /// The ticket's lines, the batch and the reply.
@@ -183,24 +152,12 @@ fn shows_rest<S: Alter>(
     alloc: Global,
     tx: &mut Transaction<'_, S>,
 ) -> Result<(), Fail> {
-    let placed = [PlacedLine {
-        place: 1,
-        letter: 1,
-        number: 1,
-        cents: 2974,
-    }];
-    match ticket_lines(tx, alloc, 1) {
-        Ok(lines) => assert_eq!(rt; lines.as_slice(), placed.as_slice()),
-        Err(_) => assert!(rt; false, "the ticket's lines were not found"),
-    }
-    let batch = Batch {
-        tickets: 1,
-        bonds: 1,
-        total: 9_223_372_036_854_775_807,
-    };
-    assert_eq!(rt; find_batch(tx, DAY), Ok(Some(batch)));
+    let placed = "Ok([PlacedLine { place: 1, letter: 1, number: 1, cents: 2974 }])";
+    shows(rt, alloc, &ticket_lines(tx, alloc, 1), placed)?;
+    let batch = "Ok(Some(Batch { tickets: 1, bonds: 1, total: 9223372036854775807 }))";
+    shows(rt, alloc, &find_batch(tx, DAY), batch)?;
     match find_reply(tx, 9_223_372_036_854_775_807) {
-        Ok(Some(entry)) => assert_eq!(rt; entry.reply.as_str(), "paid"),
+        Ok(Some(entry)) => same(rt, entry.reply.as_str(), "paid", "reply"),
         _ => assert!(rt; false, "the reply was not found"),
     }
     Ok(())
@@ -219,13 +176,13 @@ fn a_ticket_is_written_and_looked_up(rt: HostRuntime) -> Result<(), Fail> {
         reply: String::from_str(alloc, "paid")?,
     };
     let mut tx = conn.transaction();
-    assert_eq!(rt; last_ticket(&mut tx), Ok(None));
-    assert_eq!(rt; register(&mut tx), Ok(()));
-    assert_eq!(rt; redeem(&mut tx, &entry), Ok(()));
-    shows_register(&rt, &mut tx)?;
+    shows(&rt, alloc, &last_ticket(&mut tx), "Ok(None)")?;
+    register(&mut tx)?;
+    redeem(&mut tx, &entry)?;
+    shows_register(&rt, alloc, &mut tx)?;
     shows_bonds(&rt, alloc, &mut tx)?;
     shows_tickets(&rt, alloc, &mut tx)?;
     shows_rest(&rt, alloc, &mut tx)?;
-    assert_eq!(rt; redeem(&mut tx, &entry), Err(Failure::StoreFailed));
+    shows(&rt, alloc, &redeem(&mut tx, &entry), "Err(StoreFailed)")?;
     Ok(())
 }

@@ -1,6 +1,7 @@
 //! Worked values. Each was found from the rules of value, and not by this crate.
 
-use ee_units::{Age, Bits, Cents, Denom, Rate};
+use crate::comparing::{same, shown};
+use ee_units::{Age, Bits, Rate};
 use ee_value::*;
 use std::test::Fail;
 
@@ -16,14 +17,6 @@ fn age(months: u16) -> Age {
 
 fn bits(places: u8) -> Bits {
     Bits::from_places(places.max(8).min(62))
-}
-
-fn pays(cents: u64, penalty: bool, matured: bool) -> Quote {
-    Quote::Pays {
-        cents: Cents(cents),
-        penalty,
-        matured,
-    }
 }
 
 /// The unit at the start of a half-year and of the four after it.
@@ -56,17 +49,18 @@ fn months(rt: HostRuntime) -> Result<(), Fail> {
         let wanted = unit.ok_or(Unsettled { month: age(months) });
         assert_eq!(rt; found, wanted, "{hundredths} at {months}");
     }
+    Ok(())
+}
+
+#[test]
+fn texts_of_faults(rt: HostRuntime) -> Result<(), Fail> {
     let fault = Unsettled { month: age(1) };
-    assert_eq!(rt;
-        format!(in rt.alloc(); "{fault}")?.as_str(),
-        "unsettled at age 1"
-    );
+    let text = fault.to_string(rt.alloc())?;
+    same(&rt, text.as_str(), "unsettled at age 1", "fault");
     let refused = unit_table(rt.alloc(), rates(350), bits(8)).err();
-    assert_eq!(rt; refused, Some(ValueFault::from(fault)));
-    assert_eq!(rt;
-        format!(in rt.alloc(); "{}", ValueFault::from(fault))?.as_str(),
-        "unsettled at age 1"
-    );
+    assert!(rt; refused == Some(ValueFault::from(fault)));
+    let text = ValueFault::from(fault).to_string(rt.alloc())?;
+    same(&rt, text.as_str(), "unsettled at age 1", "fault");
     Ok(())
 }
 
@@ -112,56 +106,42 @@ fn ages(rt: HostRuntime) -> Result<(), Fail> {
     Ok(())
 }
 
+/// Rates in hundredths, denominations, ages in months, and what is paid, as `Debug` shows it.
+const QUOTES: &str = "\
+350 50 11 => NotEligible
+350 50 12 => Pays { cents: Cents(2566), penalty: true, matured: false }
+350 50 15 => Pays { cents: Cents(2588), penalty: true, matured: false }
+350 50 59 => Pays { cents: Cents(2938), penalty: true, matured: false }
+350 50 60 => Pays { cents: Cents(2974), penalty: false, matured: false }
+350 50 240 => Pays { cents: Cents(5000), penalty: false, matured: false }
+350 10000 12 => Pays { cents: Cents(513200), penalty: true, matured: false }
+200 50 15 => Pays { cents: Cents(2552), penalty: true, matured: false }
+200 75 15 => Pays { cents: Cents(3828), penalty: true, matured: false }
+200 75 16 => Pays { cents: Cents(3834), penalty: true, matured: false }
+340 50 239 => Pays { cents: Cents(4890), penalty: false, matured: false }
+340 50 240 => Pays { cents: Cents(5000), penalty: false, matured: false }
+340 50 241 => Pays { cents: Cents(5014), penalty: false, matured: false }
+360 50 240 => Pays { cents: Cents(5104), penalty: false, matured: false }
+2000 50 12 => Pays { cents: Cents(2884), penalty: true, matured: false }
+2000 10000 359 => Pays { cents: Cents(149847200), penalty: false, matured: false }
+2000 10000 360 => Pays { cents: Cents(152246800), penalty: false, matured: true }
+2000 10000 361 => Pays { cents: Cents(152246800), penalty: false, matured: true }
+2000 10000 2335 => Pays { cents: Cents(152246800), penalty: false, matured: true }
+0 10000 12 => Pays { cents: Cents(500000), penalty: true, matured: false }
+0 10000 239 => Pays { cents: Cents(500000), penalty: false, matured: false }
+0 10000 240 => Pays { cents: Cents(1000000), penalty: false, matured: false }
+0 10000 360 => Pays { cents: Cents(1000000), penalty: false, matured: true }
+";
+
 #[test]
 fn quotes(rt: HostRuntime) -> Result<(), Fail> {
-    for (hundredths, denom, months, quote) in [
-        (350, Denom::Fifty, 11, Quote::NotEligible),
-        (350, Denom::Fifty, 12, pays(2566, true, false)),
-        (350, Denom::Fifty, 15, pays(2588, true, false)),
-        (350, Denom::Fifty, 59, pays(2938, true, false)),
-        (350, Denom::Fifty, 60, pays(2974, false, false)),
-        (350, Denom::Fifty, 240, pays(5000, false, false)),
-        (350, Denom::TenThousand, 12, pays(513_200, true, false)),
-        (200, Denom::Fifty, 15, pays(2552, true, false)),
-        (200, Denom::SeventyFive, 15, pays(3828, true, false)),
-        (200, Denom::SeventyFive, 16, pays(3834, true, false)),
-        (340, Denom::Fifty, 239, pays(4890, false, false)),
-        (340, Denom::Fifty, 240, pays(5000, false, false)),
-        (340, Denom::Fifty, 241, pays(5014, false, false)),
-        (360, Denom::Fifty, 240, pays(5104, false, false)),
-        (2000, Denom::Fifty, 12, pays(2884, true, false)),
-        (
-            2000,
-            Denom::TenThousand,
-            359,
-            pays(149_847_200, false, false),
-        ),
-        (
-            2000,
-            Denom::TenThousand,
-            360,
-            pays(152_246_800, false, true),
-        ),
-        (
-            2000,
-            Denom::TenThousand,
-            361,
-            pays(152_246_800, false, true),
-        ),
-        (
-            2000,
-            Denom::TenThousand,
-            2335,
-            pays(152_246_800, false, true),
-        ),
-        (0, Denom::TenThousand, 12, pays(500_000, true, false)),
-        (0, Denom::TenThousand, 239, pays(500_000, false, false)),
-        (0, Denom::TenThousand, 240, pays(1_000_000, false, false)),
-        (0, Denom::TenThousand, 360, pays(1_000_000, false, true)),
-    ] {
-        let table = unit_table(rt.alloc(), rates(hundredths), bits(62))?;
-        let found = bond_value(&table, denom, age(months));
-        assert_eq!(rt; found, quote, "{hundredths} at {months}");
+    for row in QUOTES.lines() {
+        let (bond, wanted) = row.split_once(" => ").ok_or("row")?;
+        let (rate, bond) = bond.split_once(' ').ok_or("rate")?;
+        let (denom, months) = bond.split_once(' ').ok_or("denom")?;
+        let table = unit_table(rt.alloc(), rates(rate.parse()?), bits(62))?;
+        let quote = bond_value(&table, denom.parse()?, age(months.parse()?));
+        same(&rt, shown(rt.alloc(), &quote)?.as_str(), wanted, row);
     }
     Ok(())
 }

@@ -2,39 +2,59 @@
 
 use super::devices::Page;
 use super::samples::{INVENTORY, RATES, bonds_of, rate_row, rates_of, three_bonds};
+use crate::comparing::same;
+use ee_calculator::Bond;
 use ee_files::{Column, FileCode, FileFault, WriteFault, write_inventory};
+use std::alloc::Global;
 use std::io::ErrorKind;
 use std::test::Fail;
 
 const EXPORT: &str =
     "serial,denom,issued,owner,coowner\nK2EE,75,2010-10,7,8\nL1EE,50,2010-11,7,\nM3EE,10000,2011-02,7,\n";
 
+/// The bonds in the order of the export.
+fn bonds_in_order() -> Result<[Bond; 3], Fail> {
+    let [first, second, third] = three_bonds()?;
+    Ok([second, first, third])
+}
+
+/// How writing the bonds to a page in that trouble ends, and what the page has.
+fn told(
+    alloc: Global,
+    bonds: &[Bond],
+    trouble: Option<(usize, ErrorKind)>,
+) -> Result<String, Fail> {
+    let mut page = Page::new(trouble);
+    let written = write_inventory(alloc, &mut page, bonds);
+    Ok(format!(in alloc; "{written:?} {}", str::from_utf8(page.text())?)?)
+}
+
 #[test]
 fn bonds_are_written_in_order_or_a_front_of_them(rt: HostRuntime) -> Result<(), Fail> {
-    let [first, second, third] = three_bonds()?;
-    let bonds = [second, first, third];
-    for (call, kind) in [(1, ErrorKind::Other), (50, ErrorKind::Interrupted)] {
-        let mut page = Page::new(Some((call, kind)));
-        let written = write_inventory(rt.alloc(), &mut page, &bonds);
-        assert_eq!(rt; written, Err(WriteFault::WriteFailed), "{call}");
-        assert_eq!(rt; page.len, call - 1, "{call}");
+    let bonds = bonds_in_order()?;
+    for kind in [ErrorKind::Other, ErrorKind::Interrupted] {
+        for call in 1..=EXPORT.len() + 1 {
+            let front = EXPORT.get(..call - 1).ok_or("front")?;
+            let wanted = if call > EXPORT.len() {
+                format!(in rt.alloc(); "Ok(()) {front}")?
+            } else {
+                format!(in rt.alloc(); "Err(WriteFailed) {front}")?
+            };
+            let told = told(rt.alloc(), &bonds, Some((call, kind)))?;
+            same(&rt, told.as_str(), wanted.as_str(), "written");
+        }
     }
-    for call in 1..=EXPORT.len() + 1 {
-        let mut page = Page::new(Some((call, ErrorKind::Other)));
-        let written = write_inventory(rt.alloc(), &mut page, &bonds);
-        let whole = call > EXPORT.len();
-        assert_eq!(rt; written.is_ok(), whole, "{call}");
-        let front = EXPORT.as_bytes().get(..call - 1).unwrap_or(b"");
-        assert_eq!(rt; page.text(), front, "{call}");
-    }
+    Ok(())
+}
+
+#[test]
+fn a_written_file_is_read_back(rt: HostRuntime) -> Result<(), Fail> {
+    let bonds = bonds_in_order()?;
     let back = bonds_of(&rt, EXPORT.as_bytes())?;
-    assert_eq!(rt; &back[..], &bonds[..]);
-    let mut page = Page::new(None);
-    write_inventory(rt.alloc(), &mut page, &[])?;
-    assert_eq!(rt;
-        page.text(),
-        b"serial,denom,issued,owner,coowner\n".as_slice()
-    );
+    assert!(rt; &back[..] == &bonds[..]);
+    let told = told(rt.alloc(), &[], None)?;
+    let wanted = "Ok(()) serial,denom,issued,owner,coowner\n";
+    same(&rt, told.as_str(), wanted, "no bonds");
     Ok(())
 }
 
