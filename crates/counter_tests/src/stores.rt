@@ -312,7 +312,7 @@ fn in_file(rt: &HostRuntime, path: &str, talk: &str) -> Result<String, Fail> {
             let _closed = keeper.close();
             text
         }
-        Err(fault) => fault_told(rt.alloc(), fault),
+        Err(not) => fault_told(rt.alloc(), not.fault),
     }
 }
 
