@@ -1,6 +1,6 @@
-pub mod LineLemmas
-pub mod Numbers
-pub mod Altered
-pub mod Helps
-pub mod Determined
-pub mod Laws
+mod LineLemmas
+mod Numbers
+mod Altered
+mod Helps
+mod Determined
+pub mod Lemmas

@@ -1,6 +1,6 @@
 use Rattle.std.proofs.Common.{inl, inr}
 use Rattle.ee_commands.specs.Answer.{view_of}
-use Rattle.ee_commands.proofs.Laws.{asks_unrefused}
+use Rattle.ee_commands.proofs.Lemmas.{asks_unrefused}
 use Rattle.ee_cli.specs.Statuses.{Carries}
 use Rattle.ee_cli.proofs.Ended.{concluded, helped, refused_line, value_printed}
 use Rattle.ee_cli.proofs.run.run_words.Goals as goal

@@ -1,4 +1,4 @@
--- Laws of the definitions, for the proofs of crates above.
+-- Lemmas that the proofs of crates above use: what the words of a line ask for.
 use Rattle.std.proofs.Common.{◌≡◌, List, Result}
 use Rattle.clap.specs.Words.{Text}
 use Rattle.clap.specs.declared.error.ErrorKind.{ErrorKind}
