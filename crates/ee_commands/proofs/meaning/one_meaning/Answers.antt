@@ -1,4 +1,4 @@
-use Rattle.ee_commands.proofs.Laws.{asks_for_help_alone, asks_for_one, asks_unrefused}
+use Rattle.ee_commands.proofs.Determined.{asks_for_help_alone, asks_for_one, asks_unrefused}
 use Rattle.ee_commands.proofs.meaning.one_meaning.Goals as goal
 
 pub returns-clause-one : goal.returns-clause-one
