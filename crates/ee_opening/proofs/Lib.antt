@@ -4,6 +4,7 @@ mod TextLemmas
 mod FirstLemmas
 mod BeginLemmas
 mod ScanLemmas
+mod AskLemmas
 mod FoundLemmas
 mod RowLemmas
 mod TableLemmas

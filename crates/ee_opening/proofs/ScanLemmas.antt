@@ -1,6 +1,6 @@
 -- What a query of a whole table shows.
-use Rattle.std.proofs.Common.{◌≡◌, ℕ, List, [], ◌∷◌, map, refl, sym, ap, subst, ◌∙◌, true, false, Ok, Err, Result, inl}
-use Rattle.std.specs.Prelude.{Bool, IsTrue, Some, None, Option, unwrap_or, slice_get, nat_le, ◌^◌, ◌-◌, if◌then◌else◌, flat_map, IsPermutation}
+use Rattle.std.proofs.Common.{◌≡◌, ℕ, List, [], ◌∷◌, ◌++◌, map, refl, sym, ap, subst, ◌∙◌, true, false, Ok, Err, Result}
+use Rattle.std.specs.Prelude.{Bool, All, IsTrue, None, unwrap_or, slice_get, nat_le, ◌^◌, ◌-◌, if◌then◌else◌, flat_map, IsPermutation}
 use Rattle.sqlite.specs.Tree.{Trees}
 use Rattle.std.proofs.lemmas.List.Sorted.{IsPermutation-map}
 use Rattle.sqlite.specs.declared.types.Value.TheVariants.{Null}
@@ -14,12 +14,12 @@ use Rattle.sqlite.specs.Command.TheVariants.{Select}
 use Rattle.sqlite_resolve.specs.declared.compiled.Compiled.{Compiled}
 use Rattle.sqlite_resolve.specs.declared.error.CompileError.{CompileError}
 use Rattle.sqlite.specs.Listing.{understood}
-use Rattle.sqlite_schema.specs.declared.command.Returning.{Returning}
-use Rattle.sqlite.specs.State.{State, Shown, ShowsRows, KeepsCommit}
-use Rattle.sqlite.proofs.InsideLemmas.{unchanged_keeps}
-use Rattle.ee_tables.proofs.Lemmas.Transactions.{write_keeps, shown_open}
-use Rattle.sqlite.proofs.Callers.{IsPlain, command_of, reads_as}
-use Rattle.ee_opening.specs.Reading.{whole_table, IsQuery, AsksForAll, ShowsAll, shown_by, IsBegun}
+use Rattle.sqlite.specs.State.{State, IsUnchanged, Shown}
+use Rattle.sqlite.proofs.Callers.{IsPlain, command_of, reads_as, EndsIn, begins_shown}
+use Rattle.sqlite.specs.Effect.{Database}
+use Rattle.sqlite_schema.specs.declared.command.Command.{Command}
+use Rattle.ee_opening.proofs.AskLemmas.{front_of}
+use Rattle.ee_opening.specs.Reading.{whole_table, IsQuery, AsksForAll, ShowsAll, ShowsUnreadable, shown_by}
 
 abbrev named : (query : Query) (r : Result Compiled CompileError) → IsQuery query r → List (List ℕ)
 named query (Ok c) h = h.0
@@ -63,22 +63,20 @@ shows_all old new schema text tree terms rows asks has shown =
     let same = IsPermutation-map (λ (o : Output). o.1) a.kept a.ordered a.same in
     subst (λ rs. IsPermutation rs rows) (ap (map (λ (o : Output). o.1)) kept ∙ each tree terms asks.order (old.now.trees tree)) (subst (IsPermutation (map (λ (o : Output). o.1) a.kept)) (sym a.shown) same)
 
--- ---- what is shown in a transaction commits nothing
+-- ---- a row that can't be read
 
-keeps_by : (old new : State) (sql : List ℕ) (c : Compiled) (params : Row) (rows : List Row) (what : Option Returning) → ShowsRows old new sql c params rows what → IsTrue old.in_transaction → KeepsCommit old new
-keeps_by old new sql c params rows None h inside = unchanged_keeps old new (inl h.3)
-keeps_by old new sql c params rows (Some what) h inside = write_keeps old new h.1.shown inside
+still : (s : State) → IsTrue s.is_open → IsUnchanged s s
+still s is_open = (record { was_open = is_open; is_open = is_open; now_is = refl; committed_is = refl; mode = refl }, record { changes = refl; last_rowid = refl }, refl)
 
-pub shown_keeps : (old new : State) (sql : List ℕ) (params : Row) (rows : List Row) → Shown sql params old new rows → IsTrue old.in_transaction → KeepsCommit old new
-unfolding Shown
-shown_keeps old new sql params rows h inside = keeps_by old new sql h.0 _ rows h.0.returning h.2 inside
+ends_alone : (body : Query) (names : List (List ℕ)) (command : Command) (db : Database) (params : Row) → command ≡ Select (record { lets = []; body = body }) names → EndsIn command db params
+ends_alone body names command db params is = subst (λ k. EndsIn k db params) (sym is) tt
 
--- and the transaction goes on
-
-mode_by : (old new : State) (sql : List ℕ) (c : Compiled) (params : Row) (rows : List Row) (what : Option Returning) → ShowsRows old new sql c params rows what → new.in_transaction ≡ old.in_transaction
-mode_by old new sql c params rows None h = h.3.0.mode
-mode_by old new sql c params rows (Some what) h = h.1.shown.mode
-
-pub shown_begun : (old new : State) (sql : List ℕ) (params : Row) (rows : List Row) → Shown sql params old new rows → IsBegun old → IsBegun new
-unfolding Shown
-shown_begun old new sql params rows h begun is_open = mode_by old new sql h.0 _ rows h.0.returning h.2 ∙ begun (shown_open old new sql params rows h)
+-- where an answer begins with rows of which some can't be read, no whole answer can be
+pub unreadable : (IsReadable : Row → Type 0) (s : State) (schema : Schema) (text : List ℕ) (tree : ℕ) (terms : List Term) (asks : AsksForAll schema text tree terms) → s.now.schema ≡ schema → IsTrue s.is_open
+    → ShowsUnreadable IsReadable text s → ¬ ((rows : List Row) → IsAnswer (whole_table tree terms asks.order) (overlay s.now.trees []) [] rows → All IsReadable rows)
+unreadable IsReadable s schema text tree terms asks has is_open begins can =
+    let query = whole_table tree terms asks.order in
+    let is = asked query (understood schema text) asks.query in
+    let whole = begins_shown text [] s s begins.0 begins.1 (still s is_open) (λ c db it source.
+    ends_alone query (named query (understood schema text) asks.query) c.command db _ (ap command_of (sym it.is ∙ ap (λ t. understood t text) has) ∙ is.0)) in
+    begins.2 (front_of IsReadable begins.0 whole.0 (can (begins.0 ++ whole.0) (answers s s schema text tree terms (begins.0 ++ whole.0) asks has whole.1)))

@@ -1,61 +1,38 @@
--- A transaction that only reads, on a store with the tables of version 1.
-use Rattle.std.proofs.Common.{◌≡◌, inr, refl, IsTrue, T, sym, ap, subst, ◌∙◌, nat_cmp}
+-- A store that is only read, and has the tables of version 1.
+use Rattle.std.proofs.Common.{◌≡◌, IsTrue, T, sym, ap, subst, ◌∙◌, nat_cmp}
 use Rattle.std.specs.FinMap.{entries_sorted, is_sorted}
 use Rattle.sqlite.specs.Effect.{Database}
-use Rattle.sqlite.specs.State.{State, IsLive, IsRolledBack, KeepsCommit, Survives}
-use Rattle.sqlite.proofs.StateLemmas.{survives_then}
-use Rattle.sqlite.proofs.InsideLemmas.{unchanged_keeps, keeps_then}
+use Rattle.sqlite.specs.State.{State, IsLive, IsUnchanged}
 use Rattle.ee_tables.specs.Keyed.{pair_cmp}
-use Rattle.ee_tables.specs.Rows.{Rows, Holds, Has, IsInside}
-use Rattle.ee_tables.proofs.Lemmas.Transactions.{begun}
-use Rattle.ee_opening.specs.Reading.{IsSoundNow, IsBegun}
+use Rattle.ee_tables.specs.Rows.{Rows, Holds, Has, Sees}
+use Rattle.ee_opening.specs.Reading.{IsSoundNow, HasOurTables}
 use Rattle.ee_opening.specs.declared.whole.AllRows.{AllRows}
 use Rattle.ee_opening.specs.Shown.{desk_map, rate_map, bond_map, ticket_map, line_map, batch_map, reply_map}
 use Rattle.ee_opening.specs.Whole.{IsOurs, ListsAll, AreInOrder}
 use Rattle.ee_opening.proofs.OneLemmas.{one_rows}
 
-module _ (old start : State) (is : start ≡ begun old) (settled : IsTrue old.is_open → old.now ≡ old.committed) where
-  inside_begun : IsOurs old → IsInside (begun old)
-  inside_begun ours is_open = (refl, ap (λ (d : Database). d.schema) (settled is_open) ∙ ours is_open)
+module _ (old : State) (settled : IsTrue old.is_open → old.now ≡ old.committed) where
+  pub has_ours : IsOurs old → HasOurTables old
+  has_ours ours is_open = ap (λ (d : Database). d.schema) (settled is_open) ∙ ours is_open
 
-  pub starts_inside : IsOurs old → IsInside start
-  starts_inside ours = subst IsInside (sym is) (inside_begun ours)
-
-  pub starts_begun : IsBegun start
-  starts_begun = subst IsBegun (sym is) (λ is_open. refl)
-
-  sound_begun : IsLive old → IsSoundNow (begun old)
-  sound_begun live is_open = (live is_open).0
-
-  pub starts_sound : IsLive old → IsSoundNow start
-  starts_sound live = subst IsSoundNow (sym is) (sound_begun live)
+  pub sound_now : IsLive old → IsSoundNow old
+  sound_now live is_open = (live is_open).0
 
   pub is_ours : (rows : Rows) → Has old rows → IsOurs old
   is_ours rows has is_open = (has is_open).0
 
+  pub sees_what_it_has : (rows : Rows) → Has old rows → Sees old rows
+  sees_what_it_has rows has is_open = (has_ours (is_ours rows has) is_open, subst (λ (d : Database). Holds d.trees rows) (sym (settled is_open)) (has is_open).1)
+
   -- the rows that were read are those that the store has
-  pub are_those : (all rows : Rows) → Holds start.now.trees all → Has old rows → IsTrue old.is_open → all ≡ rows
-  are_those all rows holds has is_open =
-      one_rows old.now.trees all rows (subst (λ (s : State). Holds s.now.trees all) is holds) (subst (λ (d : Database). Holds d.trees rows) (sym (settled is_open)) (has is_open).1)
+  pub are_those : (all rows : Rows) → Holds old.now.trees all → Has old rows → IsTrue old.is_open → all ≡ rows
+  are_those all rows holds has is_open = one_rows old.now.trees all rows holds (sees_what_it_has rows has is_open).1
 
-  module _ (middle new : State) (keeps : KeepsCommit start middle) (undone : IsRolledBack middle new) where
-    both_keep : KeepsCommit (begun old) new
-    both_keep = keeps_then (begun old) middle new (subst (λ s. KeepsCommit s middle) is keeps) (unchanged_keeps middle new (inr undone))
-
-    pub still_committed : KeepsCommit old new
-    still_committed = record { was_open = both_keep.was_open; committed = both_keep.committed }
-
-    pub has_read : (rows : Rows) → IsOurs old → Holds start.now.trees rows → Has new rows
-    has_read rows ours holds is_open =
-        let was = both_keep.was_open is_open in
-        let same = both_keep.committed is_open in
-        (ap (λ (d : Database). d.schema) same ∙ ours was, subst (λ (d : Database). Holds d.trees rows) (settled was ∙ sym same) (subst (λ (s : State). Holds s.now.trees rows) is holds))
-
-  pub leaves_no_more : (middle new : State) → Survives start middle (λ _. ⊥) → Survives middle new (λ _. ⊥) → Survives old new (λ _. ⊥)
-  leaves_no_more middle new one two = whole (survives_then (begun old) middle new (λ _. ⊥) (λ _. ⊥) (λ _. ⊥) (λ _ db h. h) (λ _ db h. h) (subst (λ s. Survives s middle (λ _. ⊥)) is one) two)
-    where
-      whole : Survives (begun old) new (λ _. ⊥) → Survives old new (λ _. ⊥)
-      whole s = record { clean = s.clean; shield = s.shield; counts = s.counts; limit = s.limit; closes = s.closes; crash = s.crash }
+  pub has_read : (new : State) → IsUnchanged old new → (rows : Rows) → IsOurs old → Holds old.now.trees rows → Has new rows
+  has_read new same rows ours holds is_open = (
+    ap (λ (d : Database). d.schema) same.0.committed_is ∙ ours same.0.was_open,
+    subst (λ (d : Database). Holds d.trees rows) (settled same.0.was_open ∙ sym same.0.committed_is) holds,
+  )
 
 -- entries of maps are in order
 pub are_in_order : (all : AllRows) → ListsAll all → AreInOrder all

@@ -14,7 +14,8 @@ use Rattle.sqlite_resolve.specs.declared.error.CompileError.{CompileError}
 use Rattle.sqlite.specs.Command.TheVariants.{Select}
 use Rattle.sqlite.specs.Effect.{IsDatabase}
 use Rattle.sqlite.specs.Listing.{understood, reads_listing}
-use Rattle.sqlite.specs.State.{State}
+use Rattle.sqlite.specs.State.{State, Begins}
+use Rattle.ee_tables.specs.Tables.{counter_schema}
 
 -- each element comes before the next
 abbrev pub rises : {X : Type 0} → (X → X → Bool) → List X → Bool
@@ -58,9 +59,17 @@ ShowsAll db tree terms rows = IsPermutation (map (shown_by terms) (db tree)) row
 abbrev pub IsSoundNow : State → Type 0
 IsSoundNow s = IsTrue s.is_open → IsDatabase s.now
 
--- a transaction is begun, over whatever tables
-abbrev pub IsBegun : State → Type 0
-IsBegun s = IsTrue s.is_open → IsTrue s.in_transaction
+-- the tables that are seen are the counter's
+abbrev pub HasOurTables : State → Type 0
+HasOurTables s = IsTrue s.is_open → s.now.schema ≡ counter_schema
+
+-- the text writes nothing, whatever tables there are
+abbrev pub OnlyAsks : List ℕ → Type 0
+OnlyAsks text = (schema : Schema) (c : Compiled) → understood schema text ≡ Ok c → c.returning ≡ None
+
+-- an answer begins with rows of which some can't be read
+abbrev pub ShowsUnreadable : (Row → Type 0) → List ℕ → State → Type 0
+ShowsUnreadable IsReadable text s = (rows : List Row) × Begins text [] s rows × ¬ All IsReadable rows
 
 -- What the query shows can be read, each row, and their keys rise.
 abbrev pub CanBeRead : {A : Type 0} → (Row → Type 0) → (A → Row) → (A → A → Bool) → Trees → Query → Type 0

@@ -1,18 +1,17 @@
 //! Reading the rows of a table, and testing that their keys rise.
 
-ghost use Rattle.std.specs.Prelude.{◌≡◌, ◌≢◌, List, Bool, true, IsTrue, IfOk, IfErr, OnOk, OnErr, map, ℕ, [], All};
-ghost use Rattle.sqlite.specs.State.{HasCleanDisk, IsUnchanged, KeepsCommit, Survives};
+ghost use Rattle.std.specs.Prelude.{◌≡◌, ◌≢◌, List, Bool, true, IsTrue, IfOk, IfErr, OnOk, map, ℕ, []};
+ghost use Rattle.sqlite.specs.State.{HasCleanDisk, IsUnchanged, KeepsCommit, Survives, Shown};
+ghost use Rattle.sqlite.specs.Given.{IsPlain};
 ghost use Rattle.sqlite.specs.Held.{state};
+ghost use Rattle.sqlite.specs.Listing.{understood};
 ghost use Rattle.sqlite.specs.Term.{Term};
-ghost use Rattle.sqlite.specs.Query.{IsAnswer};
-ghost use Rattle.sqlite.specs.Program.{overlay};
 ghost use Rattle.sqlite.specs.Order.{Row as Columns};
-ghost use Rattle.ee_tables.specs.Rows.{IsInside};
 ghost use Rattle.ee_tables.specs.Tables.{counter_schema};
-ghost use Rattle.ee_opening.specs.Reading.{rises, whole_table, AsksForAll, ShowsAll, CanBeRead, IsBegun};
+ghost use Rattle.ee_opening.specs.Reading.{rises, whole_table, AsksForAll, ShowsAll, ShowsUnreadable, CanBeRead, HasOurTables, OnlyAsks};
 
 use crate::making::OpenFault;
-use sqlite::{Alter, Row, Transaction};
+use sqlite::{Alter, Connection, Row};
 use std::alloc::Global;
 
 /// A row of a table, as a query of the whole table shows it.
@@ -37,22 +36,6 @@ pub trait Record: Sized {
         ensures { result ≡ stands_before self.now next.now };
 }
 
-/// Reads the rows that a query showed, each of them.
-fn read_each<T: Record + Drop>(alloc: Global, rows: &[Row]) -> Result<Vec<T>, OpenFault>
-    ensures exact { IfOk result (λ found. rows.now ≡ map T.shown found.items) }
-    ensures usable { IfErr result (λ e. e ≡ OpenFault.Unusable → ¬ All T.is_readable rows.now) }
-    ensures other { IfErr result (λ e. e ≢ OpenFault.WrongVersion) }
-{
-    let mut found = Vec::new(alloc);
-    for row in rows {
-        let next = T::read(row)?;
-        if found.push(next).is_err() {
-            return Err(OpenFault::NoMemory);
-        }
-    }
-    Ok(found)
-}
-
 /// Whether each key is below the next.
 fn keys_rise<T: Record>(found: &[T]) -> bool
     ensures { result ≡ rises T.stands_before found.now }
@@ -69,50 +52,55 @@ fn keys_rise<T: Record>(found: &[T]) -> bool
     true
 }
 
-/// All rows of a table.
-fn all_rows<S: Alter>(tx: &mut Transaction<'_, S>, sql: &str) -> Result<Vec<Row>, OpenFault>
-    ensures same_reference { tx.new.conn.ghost_name ≡ tx.old.conn.ghost_name }
-    ensures open { HasCleanDisk (state S.Store tx.new.conn.now) → OnOk result (IsTrue (state S.Store tx.new.conn.now).is_open) }
-    ensures found { HasCleanDisk (state S.Store tx.new.conn.now) → IfOk result (λ found. (tree : ℕ) (terms : List Term) → AsksForAll counter_schema sql.now tree terms
-        → IsInside (state S.Store tx.old.conn.now) → IsTrue (state S.Store tx.old.conn.now).is_open × ShowsAll (state S.Store tx.old.conn.now).now.trees tree terms found.items) }
-    ensures answer { HasCleanDisk (state S.Store tx.new.conn.now) → IfOk result (λ found. (tree : ℕ) (terms : List Term) (asks : AsksForAll counter_schema sql.now tree terms)
-        → IsInside (state S.Store tx.old.conn.now) → IsAnswer (whole_table tree terms asks.order) (overlay (state S.Store tx.old.conn.now).now.trees []) [] found.items) }
-    ensures usable { HasCleanDisk (state S.Store tx.new.conn.now) → IfErr result (λ e. (tree : ℕ) (terms : List Term) → AsksForAll counter_schema sql.now tree terms
-        → IsInside (state S.Store tx.old.conn.now) → IsTrue (state S.Store tx.old.conn.now).is_open → e ≢ OpenFault.Unusable) }
-    ensures same { HasCleanDisk (state S.Store tx.new.conn.now) → OnOk result ((tree : ℕ) (terms : List Term) → AsksForAll counter_schema sql.now tree terms
-        → IsInside (state S.Store tx.old.conn.now) → IsUnchanged (state S.Store tx.old.conn.now) (state S.Store tx.new.conn.now)) }
-    ensures begun { HasCleanDisk (state S.Store tx.new.conn.now) → IsBegun (state S.Store tx.old.conn.now) → OnOk result (IsBegun (state S.Store tx.new.conn.now)) }
-    ensures commit { HasCleanDisk (state S.Store tx.new.conn.now) → IsBegun (state S.Store tx.old.conn.now) → KeepsCommit (state S.Store tx.old.conn.now) (state S.Store tx.new.conn.now) }
+/// The rows that a query shows, read one after the other, so that nobody holds its answer as a whole.
+fn read_rows<S: Alter, T: Record + Drop>(
+    conn: &mut Connection<S>,
+    alloc: Global,
+    sql: &str,
+) -> Result<Vec<T>, OpenFault>
+    requires { OnlyAsks sql.now }
+    ensures shown { HasCleanDisk (state S.Store conn.new) → IfOk result (λ found. Shown sql.now [] (state S.Store conn.old) (state S.Store conn.new) (map T.shown found.items)) }
+    ensures usable { HasCleanDisk (state S.Store conn.new) → IfErr result (λ e. e ≡ OpenFault.Unusable → IsPlain (understood (state S.Store conn.old).now.schema sql.now)
+        → ShowsUnreadable T.is_readable sql.now (state S.Store conn.old)) }
+    ensures same { HasCleanDisk (state S.Store conn.new) → OnOk result (IsUnchanged (state S.Store conn.old) (state S.Store conn.new)) }
+    ensures kept { HasCleanDisk (state S.Store conn.new) → KeepsCommit (state S.Store conn.old) (state S.Store conn.new) }
     ensures other { IfErr result (λ e. e ≢ OpenFault.WrongVersion) }
-    ensures crash { Survives (state S.Store tx.old.conn.now) (state S.Store tx.new.conn.now) (λ _. ⊥) }
+    ensures crash { Survives (state S.Store conn.old) (state S.Store conn.new) (λ _. ⊥) }
 {
-    let rows = tx.query_all(sql, &[])?;
-    Ok(rows)
+    let mut found = Vec::new(alloc);
+    let mut rows = conn.query(sql, &[])?;
+    'rows: for _ in 0..usize::MAX {
+        let Some(row) = rows.next()? else {
+            return Ok(found);
+        };
+        let next = T::read(row)?;
+        if found.push(next).is_err() {
+            return Err(OpenFault::NoMemory);
+        }
+    }
+    // No store has so many rows.
+    Err(OpenFault::StoreFailed)
 }
 
 /// The rows of a table, in order of their keys.
 pub(crate) fn read_table<S: Alter, T: Record + Drop>(
-    tx: &mut Transaction<'_, S>,
+    conn: &mut Connection<S>,
     alloc: Global,
     sql: &str,
 ) -> Result<Vec<T>, OpenFault>
-    ensures same_reference { tx.new.conn.ghost_name ≡ tx.old.conn.ghost_name }
-    ensures open { HasCleanDisk (state S.Store tx.new.conn.now) → OnOk result (IsTrue (state S.Store tx.new.conn.now).is_open) }
-    ensures found { HasCleanDisk (state S.Store tx.new.conn.now) → IfOk result (λ found. (tree : ℕ) (terms : List Term) → AsksForAll counter_schema sql.now tree terms
-        → IsInside (state S.Store tx.old.conn.now) → IsTrue (state S.Store tx.old.conn.now).is_open × ShowsAll (state S.Store tx.old.conn.now).now.trees tree terms (map T.shown found.items)) }
+    requires { OnlyAsks sql.now }
+    ensures found { HasCleanDisk (state S.Store conn.new) → IfOk result (λ found. (tree : ℕ) (terms : List Term) → AsksForAll counter_schema sql.now tree terms
+        → HasOurTables (state S.Store conn.old) → IsTrue (state S.Store conn.old).is_open × ShowsAll (state S.Store conn.old).now.trees tree terms (map T.shown found.items)) }
     ensures rises { IfOk result (λ found. rises T.stands_before found.items ≡ true) }
-    ensures usable { HasCleanDisk (state S.Store tx.new.conn.now) → IfErr result (λ e. e ≡ OpenFault.Unusable → (tree : ℕ) (terms : List Term) (asks : AsksForAll counter_schema sql.now tree terms)
-        → IsInside (state S.Store tx.old.conn.now) → IsTrue (state S.Store tx.old.conn.now).is_open
-        → ¬ CanBeRead T.is_readable T.shown T.stands_before (state S.Store tx.old.conn.now).now.trees (whole_table tree terms asks.order)) }
-    ensures same { HasCleanDisk (state S.Store tx.new.conn.now) → OnOk result ((tree : ℕ) (terms : List Term) → AsksForAll counter_schema sql.now tree terms
-        → IsInside (state S.Store tx.old.conn.now) → IsUnchanged (state S.Store tx.old.conn.now) (state S.Store tx.new.conn.now)) }
-    ensures begun { HasCleanDisk (state S.Store tx.new.conn.now) → IsBegun (state S.Store tx.old.conn.now) → OnOk result (IsBegun (state S.Store tx.new.conn.now)) }
-    ensures commit { HasCleanDisk (state S.Store tx.new.conn.now) → IsBegun (state S.Store tx.old.conn.now) → KeepsCommit (state S.Store tx.old.conn.now) (state S.Store tx.new.conn.now) }
+    ensures usable { HasCleanDisk (state S.Store conn.new) → IfErr result (λ e. e ≡ OpenFault.Unusable → (tree : ℕ) (terms : List Term) (asks : AsksForAll counter_schema sql.now tree terms)
+        → HasOurTables (state S.Store conn.old) → IsTrue (state S.Store conn.old).is_open
+        → ¬ CanBeRead T.is_readable T.shown T.stands_before (state S.Store conn.old).now.trees (whole_table tree terms asks.order)) }
+    ensures same { HasCleanDisk (state S.Store conn.new) → OnOk result (IsUnchanged (state S.Store conn.old) (state S.Store conn.new)) }
+    ensures kept { HasCleanDisk (state S.Store conn.new) → KeepsCommit (state S.Store conn.old) (state S.Store conn.new) }
     ensures other { IfErr result (λ e. e ≢ OpenFault.WrongVersion) }
-    ensures crash { Survives (state S.Store tx.old.conn.now) (state S.Store tx.new.conn.now) (λ _. ⊥) }
+    ensures crash { Survives (state S.Store conn.old) (state S.Store conn.new) (λ _. ⊥) }
 {
-    let rows = all_rows(tx, sql)?;
-    let found: Vec<T> = read_each(alloc, &rows)?;
+    let found: Vec<T> = read_rows(conn, alloc, sql)?;
     if !keys_rise(&found) {
         return Err(OpenFault::Unusable);
     }

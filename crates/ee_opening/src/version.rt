@@ -4,29 +4,26 @@ ghost use Rattle.std.specs.Prelude.{◌≡◌, ◌≢◌, Some, pos, IfOk, IfErr
 ghost use Rattle.std.specs.Option.{option_to_list};
 ghost use Rattle.std.specs.FinMap.{get};
 ghost use Rattle.sqlite.specs.Held.{state};
-ghost use Rattle.sqlite.specs.State.{HasCleanDisk, KeepsCommit};
-ghost use Rattle.ee_tables.specs.Rows.{Rows, DeskRow, IsInside, Sees};
-ghost use Rattle.ee_tables.specs.Statements.{LeavesOpen, Finds, ChangesNothing, LeavesNoMore};
-ghost use Rattle.ee_opening.specs.Reading.{IsBegun};
+ghost use Rattle.sqlite.specs.State.{HasCleanDisk, IsUnchanged, KeepsCommit};
+ghost use Rattle.ee_tables.specs.Rows.{Rows, DeskRow, Sees};
+ghost use Rattle.ee_tables.specs.Statements.{Finds, LeavesNoMore};
+ghost use Rattle.ee_opening.specs.Reading.{HasOurTables};
 ghost use Rattle.ee_opening.specs.Opening.{version_shown, versions_in, IsFirstVersion, IsOtherVersion};
 
 use crate::making::OpenFault;
 use sqlite::types::ValueRef;
-use sqlite::{Alter, Row, Transaction};
+use sqlite::{Alter, Connection, Row};
 
 /// The version in the desk's row, if that is there.
-fn version_rows<S: Alter>(tx: &mut Transaction<'_, S>) -> Result<Vec<Row>, OpenFault>
-    ensures same_reference { tx.new.conn.ghost_name ≡ tx.old.conn.ghost_name }
-    ensures open { LeavesOpen (state S.Store tx.new.conn.now) result }
-    ensures found { Finds (state S.Store tx.old.conn.now) (state S.Store tx.new.conn.now) result (λ rows found. found.items ≡ versions_in rows) }
-    ensures same { ChangesNothing (state S.Store tx.old.conn.now) (state S.Store tx.new.conn.now) result }
-    ensures begun { HasCleanDisk (state S.Store tx.new.conn.now) → IsBegun (state S.Store tx.old.conn.now) → OnOk result (IsBegun (state S.Store tx.new.conn.now)) }
-    ensures commit { HasCleanDisk (state S.Store tx.new.conn.now) → IsBegun (state S.Store tx.old.conn.now) → KeepsCommit (state S.Store tx.old.conn.now) (state S.Store tx.new.conn.now) }
-    ensures usable { HasCleanDisk (state S.Store tx.new.conn.now) → IfErr result (λ e. IsInside (state S.Store tx.old.conn.now) → IsTrue (state S.Store tx.old.conn.now).is_open → e ≢ OpenFault.Unusable) }
+fn version_rows<S: Alter>(conn: &mut Connection<S>) -> Result<Vec<Row>, OpenFault>
+    ensures found { Finds (state S.Store conn.old) (state S.Store conn.new) result (λ rows found. found.items ≡ versions_in rows) }
+    ensures same { HasCleanDisk (state S.Store conn.new) → OnOk result (IsUnchanged (state S.Store conn.old) (state S.Store conn.new)) }
+    ensures kept { HasCleanDisk (state S.Store conn.new) → KeepsCommit (state S.Store conn.old) (state S.Store conn.new) }
+    ensures usable { HasCleanDisk (state S.Store conn.new) → IfErr result (λ e. HasOurTables (state S.Store conn.old) → IsTrue (state S.Store conn.old).is_open → e ≢ OpenFault.Unusable) }
     ensures other { IfErr result (λ e. e ≢ OpenFault.WrongVersion) }
-    ensures crash { LeavesNoMore (state S.Store tx.old.conn.now) (state S.Store tx.new.conn.now) }
+    ensures crash { LeavesNoMore (state S.Store conn.old) (state S.Store conn.new) }
 {
-    let rows = tx.query_all(
+    let rows = conn.query_all(
         "SELECT version FROM desk WHERE id = ?1",
         &[ValueRef::Int(1)],
     )?;
@@ -46,18 +43,15 @@ fn read_version(rows: &[Row]) -> Result<i64, OpenFault>
 }
 
 /// Tests that the tables are of version 1.
-pub(crate) fn check_version<S: Alter>(tx: &mut Transaction<'_, S>) -> Result<(), OpenFault>
-    ensures same_reference { tx.new.conn.ghost_name ≡ tx.old.conn.ghost_name }
-    ensures open { LeavesOpen (state S.Store tx.new.conn.now) result }
-    ensures first { HasCleanDisk (state S.Store tx.new.conn.now) → OnOk result ((rows : Rows) → Sees (state S.Store tx.old.conn.now) rows → IsFirstVersion rows) }
-    ensures other { HasCleanDisk (state S.Store tx.new.conn.now) → IfErr result (λ e. e ≡ OpenFault.WrongVersion → (rows : Rows) → Sees (state S.Store tx.old.conn.now) rows → IsOtherVersion rows) }
-    ensures usable { HasCleanDisk (state S.Store tx.new.conn.now) → IfErr result (λ e. e ≡ OpenFault.Unusable → (rows : Rows) → IsInside (state S.Store tx.old.conn.now) → Sees (state S.Store tx.old.conn.now) rows → IsTrue (state S.Store tx.old.conn.now).is_open → get rows.desk 1 ≡ None) }
-    ensures same { ChangesNothing (state S.Store tx.old.conn.now) (state S.Store tx.new.conn.now) result }
-    ensures begun { HasCleanDisk (state S.Store tx.new.conn.now) → IsBegun (state S.Store tx.old.conn.now) → OnOk result (IsBegun (state S.Store tx.new.conn.now)) }
-    ensures commit { HasCleanDisk (state S.Store tx.new.conn.now) → IsBegun (state S.Store tx.old.conn.now) → KeepsCommit (state S.Store tx.old.conn.now) (state S.Store tx.new.conn.now) }
-    ensures crash { LeavesNoMore (state S.Store tx.old.conn.now) (state S.Store tx.new.conn.now) }
+pub(crate) fn check_version<S: Alter>(conn: &mut Connection<S>) -> Result<(), OpenFault>
+    ensures first { HasCleanDisk (state S.Store conn.new) → OnOk result ((rows : Rows) → Sees (state S.Store conn.old) rows → IsFirstVersion rows) }
+    ensures other { HasCleanDisk (state S.Store conn.new) → IfErr result (λ e. e ≡ OpenFault.WrongVersion → (rows : Rows) → Sees (state S.Store conn.old) rows → IsOtherVersion rows) }
+    ensures usable { HasCleanDisk (state S.Store conn.new) → IfErr result (λ e. e ≡ OpenFault.Unusable → (rows : Rows) → HasOurTables (state S.Store conn.old) → Sees (state S.Store conn.old) rows → IsTrue (state S.Store conn.old).is_open → get rows.desk 1 ≡ None) }
+    ensures same { HasCleanDisk (state S.Store conn.new) → OnOk result (IsUnchanged (state S.Store conn.old) (state S.Store conn.new)) }
+    ensures kept { HasCleanDisk (state S.Store conn.new) → KeepsCommit (state S.Store conn.old) (state S.Store conn.new) }
+    ensures crash { LeavesNoMore (state S.Store conn.old) (state S.Store conn.new) }
 {
-    let rows = version_rows(tx)?;
+    let rows = version_rows(conn)?;
     let version = read_version(&rows)?;
     if version == 1 {
         Ok(())

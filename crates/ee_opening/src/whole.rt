@@ -3,10 +3,10 @@
 ghost use Rattle.std.specs.Prelude.{◌≡◌, ◌≢◌, IsTrue, IfOk, IfErr, OnOk};
 ghost use Rattle.sqlite.specs.State.{HasCleanDisk, IsUnchanged, KeepsCommit, Survives};
 ghost use Rattle.sqlite.specs.Held.{state};
-ghost use Rattle.ee_tables.specs.Rows.{Rows, IsInside, Sees, Has, Holds};
+ghost use Rattle.ee_tables.specs.Rows.{Rows, Sees, Has, Holds};
 ghost use Rattle.ee_opening.specs.Opening.{IsFirstVersion, IsOtherVersion, AreReadable};
 ghost use Rattle.ee_opening.specs.Shown.{AreWritten};
-ghost use Rattle.ee_opening.specs.Reading.{IsSoundNow, IsBegun};
+ghost use Rattle.ee_opening.specs.Reading.{IsSoundNow, HasOurTables};
 ghost use Rattle.ee_opening.specs.Whole.{rows_of, HoldsRegister, HoldsPayments, HoldsRecords, IsOurs, AreInOrder, ListsAll, ListsRegister, ListsPayments, ListsRecords};
 
 use crate::entries::{
@@ -17,7 +17,7 @@ use crate::tables::{
     read_batches, read_bonds, read_desk, read_lines, read_rates, read_replies, read_tickets,
 };
 use crate::version::check_version;
-use sqlite::{Alter, Connection, Transaction};
+use sqlite::{Alter, Connection};
 use std::alloc::Global;
 
 /// All rows of a store, each table in order of its keys.
@@ -62,81 +62,64 @@ pub(crate) struct Records {
 }
 
 /// Reads the desk, the rates and the bonds.
-fn read_register<S: Alter>(
-    tx: &mut Transaction<'_, S>,
-    alloc: Global,
-) -> Result<Register, OpenFault>
-    ensures same_reference { tx.new.conn.ghost_name ≡ tx.old.conn.ghost_name }
-    ensures open { HasCleanDisk (state S.Store tx.new.conn.now) → OnOk result (IsTrue (state S.Store tx.new.conn.now).is_open) }
-    ensures found { HasCleanDisk (state S.Store tx.new.conn.now) → IsInside (state S.Store tx.old.conn.now) → IsSoundNow (state S.Store tx.old.conn.now) → IfOk result (λ found. HoldsRegister (state S.Store tx.old.conn.now).now.trees found) }
+fn read_register<S: Alter>(conn: &mut Connection<S>, alloc: Global) -> Result<Register, OpenFault>
+    ensures found { HasCleanDisk (state S.Store conn.new) → HasOurTables (state S.Store conn.old) → IsSoundNow (state S.Store conn.old) → IfOk result (λ found. HoldsRegister (state S.Store conn.old).now.trees found) }
     ensures listed { IfOk result ListsRegister }
-    ensures usable { HasCleanDisk (state S.Store tx.new.conn.now) → IfErr result (λ e. e ≡ OpenFault.Unusable → IsInside (state S.Store tx.old.conn.now) → IsTrue (state S.Store tx.old.conn.now).is_open → (rows : Rows) → ¬ Holds (state S.Store tx.old.conn.now).now.trees rows) }
-    ensures same { HasCleanDisk (state S.Store tx.new.conn.now) → IsInside (state S.Store tx.old.conn.now) → OnOk result (IsUnchanged (state S.Store tx.old.conn.now) (state S.Store tx.new.conn.now)) }
-    ensures begun { HasCleanDisk (state S.Store tx.new.conn.now) → IsBegun (state S.Store tx.old.conn.now) → OnOk result (IsBegun (state S.Store tx.new.conn.now)) }
-    ensures commit { HasCleanDisk (state S.Store tx.new.conn.now) → IsBegun (state S.Store tx.old.conn.now) → KeepsCommit (state S.Store tx.old.conn.now) (state S.Store tx.new.conn.now) }
+    ensures usable { HasCleanDisk (state S.Store conn.new) → IfErr result (λ e. e ≡ OpenFault.Unusable → HasOurTables (state S.Store conn.old) → IsTrue (state S.Store conn.old).is_open → (rows : Rows) → ¬ Holds (state S.Store conn.old).now.trees rows) }
+    ensures same { HasCleanDisk (state S.Store conn.new) → OnOk result (IsUnchanged (state S.Store conn.old) (state S.Store conn.new)) }
+    ensures kept { HasCleanDisk (state S.Store conn.new) → KeepsCommit (state S.Store conn.old) (state S.Store conn.new) }
     ensures other { IfErr result (λ e. e ≢ OpenFault.WrongVersion) }
-    ensures crash { Survives (state S.Store tx.old.conn.now) (state S.Store tx.new.conn.now) (λ _. ⊥) }
+    ensures crash { Survives (state S.Store conn.old) (state S.Store conn.new) (λ _. ⊥) }
 {
-    let desk = read_desk(tx, alloc)?;
-    let rates = read_rates(tx, alloc)?;
-    let bonds = read_bonds(tx, alloc)?;
+    let desk = read_desk(conn, alloc)?;
+    let rates = read_rates(conn, alloc)?;
+    let bonds = read_bonds(conn, alloc)?;
     Ok(Register { desk, rates, bonds })
 }
 
 /// Reads the tickets and their lines.
-fn read_payments<S: Alter>(
-    tx: &mut Transaction<'_, S>,
-    alloc: Global,
-) -> Result<Payments, OpenFault>
-    ensures same_reference { tx.new.conn.ghost_name ≡ tx.old.conn.ghost_name }
-    ensures open { HasCleanDisk (state S.Store tx.new.conn.now) → OnOk result (IsTrue (state S.Store tx.new.conn.now).is_open) }
-    ensures found { HasCleanDisk (state S.Store tx.new.conn.now) → IsInside (state S.Store tx.old.conn.now) → IsSoundNow (state S.Store tx.old.conn.now) → IfOk result (λ found. HoldsPayments (state S.Store tx.old.conn.now).now.trees found) }
+fn read_payments<S: Alter>(conn: &mut Connection<S>, alloc: Global) -> Result<Payments, OpenFault>
+    ensures found { HasCleanDisk (state S.Store conn.new) → HasOurTables (state S.Store conn.old) → IsSoundNow (state S.Store conn.old) → IfOk result (λ found. HoldsPayments (state S.Store conn.old).now.trees found) }
     ensures listed { IfOk result ListsPayments }
-    ensures usable { HasCleanDisk (state S.Store tx.new.conn.now) → IfErr result (λ e. e ≡ OpenFault.Unusable → IsInside (state S.Store tx.old.conn.now) → IsTrue (state S.Store tx.old.conn.now).is_open → (rows : Rows) → ¬ Holds (state S.Store tx.old.conn.now).now.trees rows) }
-    ensures same { HasCleanDisk (state S.Store tx.new.conn.now) → IsInside (state S.Store tx.old.conn.now) → OnOk result (IsUnchanged (state S.Store tx.old.conn.now) (state S.Store tx.new.conn.now)) }
-    ensures begun { HasCleanDisk (state S.Store tx.new.conn.now) → IsBegun (state S.Store tx.old.conn.now) → OnOk result (IsBegun (state S.Store tx.new.conn.now)) }
-    ensures commit { HasCleanDisk (state S.Store tx.new.conn.now) → IsBegun (state S.Store tx.old.conn.now) → KeepsCommit (state S.Store tx.old.conn.now) (state S.Store tx.new.conn.now) }
+    ensures usable { HasCleanDisk (state S.Store conn.new) → IfErr result (λ e. e ≡ OpenFault.Unusable → HasOurTables (state S.Store conn.old) → IsTrue (state S.Store conn.old).is_open → (rows : Rows) → ¬ Holds (state S.Store conn.old).now.trees rows) }
+    ensures same { HasCleanDisk (state S.Store conn.new) → OnOk result (IsUnchanged (state S.Store conn.old) (state S.Store conn.new)) }
+    ensures kept { HasCleanDisk (state S.Store conn.new) → KeepsCommit (state S.Store conn.old) (state S.Store conn.new) }
     ensures other { IfErr result (λ e. e ≢ OpenFault.WrongVersion) }
-    ensures crash { Survives (state S.Store tx.old.conn.now) (state S.Store tx.new.conn.now) (λ _. ⊥) }
+    ensures crash { Survives (state S.Store conn.old) (state S.Store conn.new) (λ _. ⊥) }
 {
-    let tickets = read_tickets(tx, alloc)?;
-    let lines = read_lines(tx, alloc)?;
+    let tickets = read_tickets(conn, alloc)?;
+    let lines = read_lines(conn, alloc)?;
     Ok(Payments { tickets, lines })
 }
 
 /// Reads the batches and the replies.
-fn read_records<S: Alter>(tx: &mut Transaction<'_, S>, alloc: Global) -> Result<Records, OpenFault>
-    ensures same_reference { tx.new.conn.ghost_name ≡ tx.old.conn.ghost_name }
-    ensures open { HasCleanDisk (state S.Store tx.new.conn.now) → OnOk result (IsTrue (state S.Store tx.new.conn.now).is_open) }
-    ensures found { HasCleanDisk (state S.Store tx.new.conn.now) → IsInside (state S.Store tx.old.conn.now) → IsSoundNow (state S.Store tx.old.conn.now) → IfOk result (λ found. HoldsRecords (state S.Store tx.old.conn.now).now.trees found) }
+fn read_records<S: Alter>(conn: &mut Connection<S>, alloc: Global) -> Result<Records, OpenFault>
+    ensures found { HasCleanDisk (state S.Store conn.new) → HasOurTables (state S.Store conn.old) → IsSoundNow (state S.Store conn.old) → IfOk result (λ found. HoldsRecords (state S.Store conn.old).now.trees found) }
     ensures listed { IfOk result ListsRecords }
-    ensures usable { HasCleanDisk (state S.Store tx.new.conn.now) → IfErr result (λ e. e ≡ OpenFault.Unusable → IsInside (state S.Store tx.old.conn.now) → IsTrue (state S.Store tx.old.conn.now).is_open → (rows : Rows) → AreWritten rows.replies → ¬ Holds (state S.Store tx.old.conn.now).now.trees rows) }
-    ensures same { HasCleanDisk (state S.Store tx.new.conn.now) → IsInside (state S.Store tx.old.conn.now) → OnOk result (IsUnchanged (state S.Store tx.old.conn.now) (state S.Store tx.new.conn.now)) }
-    ensures begun { HasCleanDisk (state S.Store tx.new.conn.now) → IsBegun (state S.Store tx.old.conn.now) → OnOk result (IsBegun (state S.Store tx.new.conn.now)) }
-    ensures commit { HasCleanDisk (state S.Store tx.new.conn.now) → IsBegun (state S.Store tx.old.conn.now) → KeepsCommit (state S.Store tx.old.conn.now) (state S.Store tx.new.conn.now) }
+    ensures usable { HasCleanDisk (state S.Store conn.new) → IfErr result (λ e. e ≡ OpenFault.Unusable → HasOurTables (state S.Store conn.old) → IsTrue (state S.Store conn.old).is_open → (rows : Rows) → AreWritten rows.replies → ¬ Holds (state S.Store conn.old).now.trees rows) }
+    ensures same { HasCleanDisk (state S.Store conn.new) → OnOk result (IsUnchanged (state S.Store conn.old) (state S.Store conn.new)) }
+    ensures kept { HasCleanDisk (state S.Store conn.new) → KeepsCommit (state S.Store conn.old) (state S.Store conn.new) }
     ensures other { IfErr result (λ e. e ≢ OpenFault.WrongVersion) }
-    ensures crash { Survives (state S.Store tx.old.conn.now) (state S.Store tx.new.conn.now) (λ _. ⊥) }
+    ensures crash { Survives (state S.Store conn.old) (state S.Store conn.new) (λ _. ⊥) }
 {
-    let batches = read_batches(tx, alloc)?;
-    let replies = read_replies(tx, alloc)?;
+    let batches = read_batches(conn, alloc)?;
+    let replies = read_replies(conn, alloc)?;
     Ok(Records { batches, replies })
 }
 
 /// Reads all tables.
-fn read_in<S: Alter>(tx: &mut Transaction<'_, S>, alloc: Global) -> Result<AllRows, OpenFault>
-    ensures same_reference { tx.new.conn.ghost_name ≡ tx.old.conn.ghost_name }
-    ensures open { HasCleanDisk (state S.Store tx.new.conn.now) → OnOk result (IsTrue (state S.Store tx.new.conn.now).is_open) }
-    ensures found { HasCleanDisk (state S.Store tx.new.conn.now) → IsInside (state S.Store tx.old.conn.now) → IsSoundNow (state S.Store tx.old.conn.now) → IfOk result (λ found. Holds (state S.Store tx.old.conn.now).now.trees (rows_of found)) }
+fn read_in<S: Alter>(conn: &mut Connection<S>, alloc: Global) -> Result<AllRows, OpenFault>
+    ensures found { HasCleanDisk (state S.Store conn.new) → HasOurTables (state S.Store conn.old) → IsSoundNow (state S.Store conn.old) → IfOk result (λ found. Holds (state S.Store conn.old).now.trees (rows_of found)) }
     ensures listed { IfOk result ListsAll }
-    ensures usable { HasCleanDisk (state S.Store tx.new.conn.now) → IfErr result (λ e. e ≡ OpenFault.Unusable → IsInside (state S.Store tx.old.conn.now) → IsTrue (state S.Store tx.old.conn.now).is_open → (rows : Rows) → AreWritten rows.replies → ¬ Holds (state S.Store tx.old.conn.now).now.trees rows) }
-    ensures same { HasCleanDisk (state S.Store tx.new.conn.now) → IsInside (state S.Store tx.old.conn.now) → OnOk result (IsUnchanged (state S.Store tx.old.conn.now) (state S.Store tx.new.conn.now)) }
-    ensures commit { HasCleanDisk (state S.Store tx.new.conn.now) → IsBegun (state S.Store tx.old.conn.now) → KeepsCommit (state S.Store tx.old.conn.now) (state S.Store tx.new.conn.now) }
+    ensures usable { HasCleanDisk (state S.Store conn.new) → IfErr result (λ e. e ≡ OpenFault.Unusable → HasOurTables (state S.Store conn.old) → IsTrue (state S.Store conn.old).is_open → (rows : Rows) → AreWritten rows.replies → ¬ Holds (state S.Store conn.old).now.trees rows) }
+    ensures same { HasCleanDisk (state S.Store conn.new) → OnOk result (IsUnchanged (state S.Store conn.old) (state S.Store conn.new)) }
+    ensures kept { HasCleanDisk (state S.Store conn.new) → KeepsCommit (state S.Store conn.old) (state S.Store conn.new) }
     ensures other { IfErr result (λ e. e ≢ OpenFault.WrongVersion) }
-    ensures crash { Survives (state S.Store tx.old.conn.now) (state S.Store tx.new.conn.now) (λ _. ⊥) }
+    ensures crash { Survives (state S.Store conn.old) (state S.Store conn.new) (λ _. ⊥) }
 {
-    let register = read_register(tx, alloc)?;
-    let payments = read_payments(tx, alloc)?;
-    let records = read_records(tx, alloc)?;
+    let register = read_register(conn, alloc)?;
+    let payments = read_payments(conn, alloc)?;
+    let records = read_records(conn, alloc)?;
     Ok(AllRows {
         desk: register.desk,
         rates: register.rates,
@@ -149,20 +132,19 @@ fn read_in<S: Alter>(tx: &mut Transaction<'_, S>, alloc: Global) -> Result<AllRo
 }
 
 /// Tests the version, and then reads all tables.
-fn read_current<S: Alter>(tx: &mut Transaction<'_, S>, alloc: Global) -> Result<AllRows, OpenFault>
-    ensures same_reference { tx.new.conn.ghost_name ≡ tx.old.conn.ghost_name }
-    ensures found { HasCleanDisk (state S.Store tx.new.conn.now) → IsInside (state S.Store tx.old.conn.now) → IsSoundNow (state S.Store tx.old.conn.now) → IfOk result (λ found. Holds (state S.Store tx.old.conn.now).now.trees (rows_of found)) }
+fn read_current<S: Alter>(conn: &mut Connection<S>, alloc: Global) -> Result<AllRows, OpenFault>
+    ensures found { HasCleanDisk (state S.Store conn.new) → HasOurTables (state S.Store conn.old) → IsSoundNow (state S.Store conn.old) → IfOk result (λ found. Holds (state S.Store conn.old).now.trees (rows_of found)) }
     ensures listed { IfOk result ListsAll }
-    ensures first { HasCleanDisk (state S.Store tx.new.conn.now) → OnOk result ((rows : Rows) → Sees (state S.Store tx.old.conn.now) rows → IsFirstVersion rows) }
-    ensures other { HasCleanDisk (state S.Store tx.new.conn.now) → IfErr result (λ e. e ≡ OpenFault.WrongVersion → (rows : Rows) → Sees (state S.Store tx.old.conn.now) rows → IsOtherVersion rows) }
-    ensures usable { HasCleanDisk (state S.Store tx.new.conn.now) → IfErr result (λ e. e ≡ OpenFault.Unusable → IsInside (state S.Store tx.old.conn.now) → IsTrue (state S.Store tx.old.conn.now).is_open → (rows : Rows) → Sees (state S.Store tx.old.conn.now) rows → ¬ AreReadable rows) }
-    ensures tested { HasCleanDisk (state S.Store tx.new.conn.now) → IfErr result (λ e. e ≡ OpenFault.Unusable → IsInside (state S.Store tx.old.conn.now) → IsTrue (state S.Store tx.old.conn.now).is_open → (rows : Rows) → Sees (state S.Store tx.old.conn.now) rows → ¬ IsOtherVersion rows) }
-    ensures same { HasCleanDisk (state S.Store tx.new.conn.now) → IsInside (state S.Store tx.old.conn.now) → OnOk result (IsUnchanged (state S.Store tx.old.conn.now) (state S.Store tx.new.conn.now)) }
-    ensures commit { HasCleanDisk (state S.Store tx.new.conn.now) → IsBegun (state S.Store tx.old.conn.now) → KeepsCommit (state S.Store tx.old.conn.now) (state S.Store tx.new.conn.now) }
-    ensures crash { Survives (state S.Store tx.old.conn.now) (state S.Store tx.new.conn.now) (λ _. ⊥) }
+    ensures first { HasCleanDisk (state S.Store conn.new) → OnOk result ((rows : Rows) → Sees (state S.Store conn.old) rows → IsFirstVersion rows) }
+    ensures other { HasCleanDisk (state S.Store conn.new) → IfErr result (λ e. e ≡ OpenFault.WrongVersion → (rows : Rows) → Sees (state S.Store conn.old) rows → IsOtherVersion rows) }
+    ensures usable { HasCleanDisk (state S.Store conn.new) → IfErr result (λ e. e ≡ OpenFault.Unusable → HasOurTables (state S.Store conn.old) → IsTrue (state S.Store conn.old).is_open → (rows : Rows) → Sees (state S.Store conn.old) rows → ¬ AreReadable rows) }
+    ensures tested { HasCleanDisk (state S.Store conn.new) → IfErr result (λ e. e ≡ OpenFault.Unusable → HasOurTables (state S.Store conn.old) → IsTrue (state S.Store conn.old).is_open → (rows : Rows) → Sees (state S.Store conn.old) rows → ¬ IsOtherVersion rows) }
+    ensures same { HasCleanDisk (state S.Store conn.new) → OnOk result (IsUnchanged (state S.Store conn.old) (state S.Store conn.new)) }
+    ensures kept { HasCleanDisk (state S.Store conn.new) → KeepsCommit (state S.Store conn.old) (state S.Store conn.new) }
+    ensures crash { Survives (state S.Store conn.old) (state S.Store conn.new) (λ _. ⊥) }
 {
-    check_version(tx)?;
-    read_in(tx, alloc)
+    check_version(conn)?;
+    read_in(conn, alloc)
 }
 
 /// Reads all rows of a store that has the tables of version 1.
@@ -193,7 +175,5 @@ pub(crate) fn read_all<S: Alter>(
         return Err(OpenFault::StoreFailed);
     }
     let _schema = conn.schema();
-    let mut tx = conn.transaction();
-    let all = read_current(&mut tx, alloc)?;
-    Ok(all)
+    read_current(conn, alloc)
 }

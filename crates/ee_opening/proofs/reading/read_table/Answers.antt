@@ -1,22 +1,33 @@
-use Rattle.std.proofs.Common.{All, sym, subst, ◌∙◌}
+use Rattle.std.proofs.Common.{refl, sym, subst}
+use Rattle.sqlite.specs.Held.{state}
+use Rattle.sqlite.specs.Given.{IsPlain}
+use Rattle.sqlite.specs.Listing.{understood}
+use Rattle.ee_tables.specs.Tables.{counter_schema}
 use Rattle.ee_opening.proofs.FaultLemmas.{handed_on}
+use Rattle.ee_opening.proofs.ScanLemmas.{is_plain, answers, shows_all, unreadable}
 use Rattle.ee_opening.proofs.reading.read_table.Goals as goal
 
-pub returns-in_err-rows-clause-usable : goal.returns-in_err-rows-clause-usable
-returns-in_err-rows-clause-usable g c clean =
-    handed_on _ c.from_residual.result c.in_err-rows.field-0.0 c.from_residual.ensures.1 (λ unusable tree terms asks inside is_open can. c.in_err-rows.ensures.usable clean tree terms asks inside is_open unusable)
+pub returns-clause-found : goal.returns-clause-found
+returns-clause-found g c clean tree terms asks ours =
+    let old = state g.S.Store c.args.conn.now in
+    let new = state g.S.Store c.read_rows.new.conn in
+    let is_open = (c.in_ok-found.ensures.same clean).0.was_open in
+    (is_open, shows_all old new counter_schema c.args.sql.now tree terms _ asks (ours is_open) (c.in_ok-found.ensures.shown clean))
 
 pub returns-in_err-found-clause-usable : goal.returns-in_err-found-clause-usable
 returns-in_err-found-clause-usable g c clean =
-    handed_on _ c.from_residual-in_err-found.result c.in_err-found.field-0.0 c.from_residual-in_err-found.ensures.1 (λ unusable tree terms asks inside is_open can.
-    let it = can c.in_ok-rows.rows.items (c.in_ok-rows.ensures.answer clean tree terms asks inside) in
-    c.in_err-found.ensures.usable unusable (subst (All g.T.Record.is_readable) (sym c.deref.ensures.value) it.0))
+    let old = state g.S.Store c.args.conn.now in
+    handed_on _ c.from_residual.result c.in_err-found.field-0.0 c.from_residual.ensures.1 (λ unusable tree terms asks ours is_open can.
+    let plain = subst (λ s. IsPlain (understood s c.args.sql.now)) (sym (ours is_open)) (is_plain counter_schema c.args.sql.now tree terms asks) in
+    unreadable g.T.Record.is_readable old counter_schema c.args.sql.now tree terms asks (ours is_open) is_open (c.in_err-found.ensures.usable clean unusable plain) (λ rows a. (can rows a).0))
 
 pub returns-then-not-keys_rise-clause-usable : goal.returns-then-not-keys_rise-clause-usable
-returns-then-not-keys_rise-clause-usable g c clean unusable tree terms asks inside is_open can =
-    let it = can c.in_ok-rows.rows.items (c.in_ok-rows.ensures.answer clean tree terms asks inside) in
-    let up = it.1 c.in_ok-found.found.items (sym c.deref.ensures.value ∙ c.in_ok-found.ensures.exact) in
+returns-then-not-keys_rise-clause-usable g c clean unusable tree terms asks ours is_open can =
+    let old = state g.S.Store c.args.conn.now in
+    let new = state g.S.Store c.read_rows.new.conn in
+    let it = can _ (answers old new counter_schema c.args.sql.now tree terms _ asks (ours is_open) (c.in_ok-found.ensures.shown clean)) in
+    let up = it.1 c.in_ok-found.found.items refl in
     let is = c.keys_rise.ensures in
-    let read = c.deref-2.ensures.value in
+    let read = c.deref.ensures.value in
     let falls = c.if-not-keys_rise.true in
     cc

@@ -1,23 +1,23 @@
 use Rattle.sqlite.specs.Held.{state}
-use Rattle.std.proofs.lemmas.Result.{on_ok_weaker}
+use Rattle.ee_opening.proofs.AskLemmas.{only_tickets}
 use Rattle.ee_opening.proofs.QuestionLemmas.{ticket_terms, asks_tickets}
 use Rattle.ee_opening.proofs.ReadLemmas.{both_ok, each_ok, each_fault}
 use Rattle.ee_opening.proofs.CanRead.{can_read_tickets}
 use Rattle.ee_opening.proofs.EachTable.{holds_tickets, listed_tickets}
 use Rattle.ee_opening.proofs.tables.read_tickets.Goals as goal
 
-pub returns-clause-found : goal.returns-clause-found
-returns-clause-found g c clean inside sound =
-    let old = state g.S.Store c.args.tx.now.conn.now in
-    both_ok c.read_table.result (λ found shows up. holds_tickets old.now (sound (shows 5 ticket_terms asks_tickets inside).0) (inside (shows 5 ticket_terms asks_tickets inside).0).1 found.items (shows 5 ticket_terms asks_tickets inside).1 up) (c.read_table.ensures.found clean) c.read_table.ensures.rises
+pub read_table-requires : goal.read_table-requires
+read_table-requires g c = only_tickets
 
-pub returns-clause-same : goal.returns-clause-same
-returns-clause-same g c clean inside = on_ok_weaker c.read_table.result (λ same. same 5 ticket_terms asks_tickets inside) (c.read_table.ensures.same clean)
+pub returns-clause-found : goal.returns-clause-found
+returns-clause-found g c clean ours sound =
+    let old = state g.S.Store c.args.conn.now in
+    both_ok c.read_table.result (λ found shows up. holds_tickets old.now (sound (shows 5 ticket_terms asks_tickets ours).0) (ours (shows 5 ticket_terms asks_tickets ours).0) found.items (shows 5 ticket_terms asks_tickets ours).1 up) (c.read_table.ensures.found clean) c.read_table.ensures.rises
 
 pub returns-clause-listed : goal.returns-clause-listed
 returns-clause-listed g c = each_ok c.read_table.result (λ found up. listed_tickets found.items up) c.read_table.ensures.rises
 
 pub returns-clause-usable : goal.returns-clause-usable
 returns-clause-usable g c clean =
-    let old = state g.S.Store c.args.tx.now.conn.now in
-    each_fault c.read_table.result (λ e usable unusable inside is_open m holds. usable unusable 5 ticket_terms asks_tickets inside is_open (can_read_tickets old.now.trees m holds)) (c.read_table.ensures.usable clean)
+    let old = state g.S.Store c.args.conn.now in
+    each_fault c.read_table.result (λ e usable unusable ours is_open m holds. usable unusable 5 ticket_terms asks_tickets ours is_open (can_read_tickets old.now.trees m holds)) (c.read_table.ensures.usable clean)
