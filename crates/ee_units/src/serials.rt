@@ -16,8 +16,10 @@ use std::hash::{Hash, Hasher};
 use std::marker::Model;
 use std::str::FromStr;
 
-// What each letter counts in a packed serial: more than any number.
+// What a letter counts in a packed serial: more than any number.
 const ONE_LETTER: u64 = 1 << 34;
+
+const _: () = prove!(size_of::<Serial>() == 8);
 
 /// A bond's serial number: a letter, and a number 1 to 9,999,999,999. Serials are ordered by letter,
 /// then by number. Leading zeros and hyphens belong to a spelling, and not to the serial.
