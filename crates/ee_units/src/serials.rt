@@ -1,33 +1,46 @@
-ghost use Rattle.std.specs.Prelude.{◌≡◌, ◌≤◌, option_map, codes};
+ghost use Rattle.std.specs.Prelude.{◌≡◌, ◌≤◌, ◌==◌, ◌&&◌, ◌++◌, Some, option_map, codes};
+ghost use Rattle.std.proofs.Common.{rules};
+ghost use Rattle.std.specs.Cmp.{then_po};
+ghost use Rattle.std.specs.Cmp.Rules.{comparing, hashing};
+ghost use Rattle.std.specs.Ordering.{nat_cmp, ordering_then, partial_ordering_then};
+ghost use Rattle.std.specs.Hash as fed;
 ghost use Rattle.std.specs.Option.{ok_or};
 ghost use Rattle.std.specs.Io.BufRead.{strip_last};
 ghost use Rattle.ee_units.specs.Spelling.{strip_first, before_end, serial_at, serial_from, serial_of};
 
 use crate::faults::UnitFault;
 use crate::pieces::number;
+use std::cmp::Ordering;
 use std::fmt;
+use std::hash::{Hash, Hasher};
 use std::marker::Model;
 use std::str::FromStr;
 
+// What a letter counts in a packed serial: more than any number.
+const ONE_LETTER: u64 = 1 << 34;
+
+const _: () = prove!(size_of::<Serial>() == 8);
+
 /// A bond's serial number: a letter, and a number 1 to 9,999,999,999. Serials are ordered by letter,
 /// then by number. Leading zeros and hyphens belong to a spelling, and not to the serial.
-#[derive(Clone, Copy, Debug, PartialEq, Eq, PartialOrd, Ord, Hash)]
+#[derive(Clone, Copy)]
 pub struct Serial {
-    letter: u8,
-    number: u64,
+    // The letter times 2^34 and the number: eight bytes, so that a register of many bonds takes less memory.
+    packed: u64,
 }
 
 impl Model for Serial {
-    ghost use Rattle.std.specs.Prelude.{◌≤◌};
+    ghost use Rattle.std.specs.Prelude.{◌+◌, ◌*◌, ◌/◌, ◌%◌, ◌^◌, ◌≤◌};
     ghost use Rattle.ee_units.specs.Spelling.{SerialNumber};
 
     ghost Value = { SerialNumber };
 
-    ghost view = { λ s. record { letter = s.letter; number = s.number } };
+    ghost view = { λ s. record { letter = s.packed / 2 ^ 34; number = s.packed % 2 ^ 34 } };
 
-    ghost invariant = { λ s. (1 ≤ s.letter) × (s.letter ≤ 26) × (1 ≤ s.number) × (s.number ≤ 9999999999) };
+    ghost invariant = { λ s. (1 ≤ s.packed / 2 ^ 34) × (s.packed / 2 ^ 34 ≤ 26)
+        × (1 ≤ s.packed % 2 ^ 34) × (s.packed % 2 ^ 34 ≤ 9999999999) };
 
-    ghost inverse = { λ v. record { letter = v.letter; number = v.number } };
+    ghost inverse = { λ v. record { packed = v.letter * 2 ^ 34 + v.number } };
 }
 
 impl Serial {
@@ -37,7 +50,7 @@ impl Serial {
         ensures { result ≡ serial_at letter number }
     {
         if 1 <= letter && letter <= 26 && 1 <= number && number <= 9_999_999_999 {
-            Some(Serial { letter, number })
+            Some(Serial::pack(letter, number))
         } else {
             None
         }
@@ -49,7 +62,7 @@ impl Serial {
         ensures low { 1 ≤ self.letter }
         ensures high { self.letter ≤ 26 }
     {
-        self.letter
+        (self.packed / ONE_LETTER) as u8
     }
 
     /// The number, 1 to 9,999,999,999.
@@ -58,7 +71,79 @@ impl Serial {
         ensures low { 1 ≤ self.number }
         ensures high { self.number ≤ 9999999999 }
     {
-        self.number
+        self.packed % ONE_LETTER
+    }
+
+    // The serial of a letter and a number that are in range.
+    const fn pack(letter: u8, number: u64) -> Serial
+        requires first_letter { 1 ≤ letter }
+        requires last_letter { letter ≤ 26 }
+        requires first_number { 1 ≤ number }
+        requires last_number { number ≤ 9999999999 }
+        ensures letter { result.letter ≡ letter }
+        ensures number { result.number ≡ number }
+    {
+        Serial {
+            packed: letter as u64 * ONE_LETTER + number,
+        }
+    }
+}
+
+impl PartialEq for Serial {
+    ghost eq = { λ a b. (a.letter == b.letter) && (a.number == b.number) };
+
+    ghost laws = { Prim.search (comparing, rules) };
+
+    fn eq(&self, other: &Serial) -> bool {
+        self.packed == other.packed
+    }
+}
+
+impl Eq for Serial {
+    ghost laws = { Prim.search (comparing, rules) };
+}
+
+impl PartialOrd for Serial {
+    ghost partial_cmp = { λ a b. partial_ordering_then (Some (nat_cmp a.letter b.letter)) (Some (nat_cmp a.number b.number)) };
+
+    ghost laws = { Prim.search (then_po, comparing, rules) };
+
+    fn partial_cmp(&self, other: &Serial) -> Option<Ordering> {
+        Some(self.cmp(other))
+    }
+}
+
+impl Ord for Serial {
+    ghost cmp = { λ a b. ordering_then (nat_cmp a.letter b.letter) (nat_cmp a.number b.number) };
+
+    ghost total = { Prim.search (comparing, rules) };
+
+    ghost matches_partial_cmp = { Prim.search (comparing, rules) };
+
+    ghost matches_eq = { Prim.search (comparing, rules) };
+
+    fn cmp(&self, other: &Serial) -> Ordering {
+        self.packed.cmp(&other.packed)
+    }
+}
+
+impl Hash for Serial {
+    ghost hash_input = { λ s. fed.u8 s.letter ++ fed.u64 s.number };
+
+    ghost respects_eq = { Prim.search (hashing, rules) };
+
+    fn hash<H: Hasher>(&self, state: &mut H) {
+        self.letter().hash(state);
+        self.number().hash(state);
+    }
+}
+
+impl fmt::Debug for Serial {
+    fn fmt<W: fmt::Write>(&self, f: &mut fmt::Formatter<W>) -> fmt::Result {
+        f.debug_struct("Serial")
+            .field("letter", &self.letter())
+            .field("number", &self.number())
+            .finish()
     }
 }
 
@@ -70,8 +155,8 @@ impl fmt::Display for Serial {
     ghost output = { λ v. Some (serial_text v) };
 
     fn fmt<W: fmt::Write>(&self, f: &mut fmt::Formatter<W>) -> fmt::Result {
-        let letter = char::from(64 + self.letter);
-        let number = self.number;
+        let letter = char::from(64 + self.letter());
+        let number = self.number();
         write!(f, "{letter}{number}EE")
     }
 }
@@ -116,10 +201,7 @@ fn serial_from(letter: u8, rest: &str) -> Option<Serial>
     let body = before_series(rest)?;
     let number = number(without_first_hyphen(without_last_hyphen(body)), 10)?;
     if (1..=9_999_999_999).contains(&number) {
-        Some(Serial {
-            letter: letter - 64,
-            number,
-        })
+        Some(Serial::pack(letter - 64, number))
     } else {
         None
     }
