@@ -1,6 +1,6 @@
 -- Rows that are added and taken out again.
-use Rattle.std.proofs.Common.{◌≡◌, ℕ, suc, ◌+◌, ◌<◌, zero, Bool, true, false, cond, ◌||◌, List, [], ◌∷◌, ◌++◌, length, take, get_or, Option, Some, None, true≢false, refl, sym, ap, ◌∙◌}
-use Rattle.std.specs.Option.{IfSome, option_map_or}
+use Rattle.std.proofs.Common.{◌≡◌, ℕ, suc, ◌+◌, ◌<◌, zero, Bool, true, false, cond, ◌||◌, List, [], ◌∷◌, ◌++◌, length, take, drop, get_or, Option, Some, None, true≢false, refl, sym, ap, ◌∙◌}
+use Rattle.std.specs.Option.{IfSome}
 use Rattle.std.specs.Map.{lookup}
 use Rattle.std.specs.BTreeMap.{is_at}
 use Rattle.std.specs.FinMap as finite
@@ -14,7 +14,7 @@ use Rattle.std.proofs.lemmas.Map.Lookups.{CmpEqualImpliesEq}
 use Rattle.ee_acts.specs.declared.changes.Change.{Change}
 use Rattle.ee_acts.proofs.Lemmas.Maps.{get_lookup}
 use Rattle.std.proofs.lemmas.Map.Views.{tells_apart}
-use Rattle.ee_desk.specs.Added.{with_row, without_row, with_changes, without_changes, AreNew}
+use Rattle.ee_desk.specs.Added.{with_row, without_row, with_changes, without_changes, AreNew, every_second, is_row, adds_at, AgreeBeside}
 
 pub taken_out : {K V : Type 0} {R : K → K → Ordering} (o : IsTotalOrder R) (exact : CmpEqualImpliesEq R) (es fs : List (K × V)) (k : K)
     → ((q : K) → lookup (is_at (R q)) fs ≡ cond (is_at (R k) q) None (lookup (is_at (R q)) es)) → finite.from_entries {R = R} fs ≡ finite.remove (finite.from_entries es) k
@@ -23,35 +23,31 @@ taken_out {R = R} o exact es fs k h = same_map o exact _ _ (λ q.
     ∙ sym (get-remove o (finite.from_entries es) k q ∙ ap (cond (eq_by_cmp R q k) None) (get_lookup o es q)))
 
 module _ {K V : Type 0} {R : K → K → Ordering} (o : IsTotalOrder R) (exact : CmpEqualImpliesEq R) (row : Change → Option (K × V)) where
-  abbrev is_row : K → Option (K × V) → Bool
-  is_row q added = option_map_or (λ r. eq_by_cmp R q r.0) added false
-
   abbrev has : K → List Change → Bool
-  has q [] = false
-  has q (c ∷ cs) = is_row q (row c) || has q cs
+  has q cs = adds_at R row q cs
 
   none_if : (a b : Bool) (v : Option V) → cond b None (cond a None v) ≡ cond (a || b) None v
   none_if true true v = refl
   none_if true false v = refl
   none_if false b v = refl
 
-  out_of : (m : FinMap R V) (added : Option (K × V)) (q : K) → finite.get (without_row m added) q ≡ cond (is_row q added) None (finite.get m q)
+  out_of : (m : FinMap R V) (added : Option (K × V)) (q : K) → finite.get (without_row m added) q ≡ cond (is_row R q added) None (finite.get m q)
   out_of m None q = refl
   out_of m (Some r) q = get-remove o m r.0 q
 
   get_without : (m : FinMap R V) (cs : List Change) (q : K) → finite.get (without_changes row m cs) q ≡ cond (has q cs) None (finite.get m q)
   get_without m [] q = refl
   get_without m (c ∷ cs) q =
-      get_without (without_row m (row c)) cs q ∙ ap (cond (has q cs) None) (out_of m (row c) q) ∙ none_if (is_row q (row c)) (has q cs) (finite.get m q)
+      get_without (without_row m (row c)) cs q ∙ ap (cond (has q cs) None) (out_of m (row c) q) ∙ none_if (is_row R q (row c)) (has q cs) (finite.get m q)
 
-  into : (m : FinMap R V) (added : Option (K × V)) (q : K) → is_row q added ≡ false → finite.get (with_row m added) q ≡ finite.get m q
+  into : (m : FinMap R V) (added : Option (K × V)) (q : K) → is_row R q added ≡ false → finite.get (with_row m added) q ≡ finite.get m q
   into m None q e = refl
   into m (Some r) q e = get-insert o m r.0 r.1 q ∙ ap (λ b. cond b (Some r.1) (finite.get m q)) e
 
   get_with : (m : FinMap R V) (cs : List Change) (q : K) → has q cs ≡ false → finite.get (with_changes row m cs) q ≡ finite.get m q
   get_with m [] q e = refl
   get_with m (c ∷ cs) q e =
-      let p = or_parts (is_row q (row c)) (has q cs) e in
+      let p = or_parts (is_row R q (row c)) (has q cs) e in
       get_with (with_row m (row c)) cs q p.1 ∙ into m (row c) q p.0
 
   before_none : (m : FinMap R V) (added : Option (K × V)) (q : K) → IfSome added (λ r. finite.get m r.0 ≡ None) → finite.get (with_row m added) q ≡ None → finite.get m q ≡ None
@@ -71,13 +67,110 @@ module _ {K V : Type 0} {R : K → K → Ordering} (o : IsTotalOrder R) (exact :
       here k true same none any rest = ap (finite.get m) (tells_apart exact q k same) ∙ none
       here k false apart none any rest = rest any
 
-      by_case : (added : Option (K × V)) → IfSome added (λ r. finite.get m r.0 ≡ None) → (is_row q added || has q cs) ≡ true → (has q cs ≡ true → finite.get m q ≡ None) → finite.get m q ≡ None
+      by_case : (added : Option (K × V)) → IfSome added (λ r. finite.get m r.0 ≡ None) → (is_row R q added || has q cs) ≡ true → (has q cs ≡ true → finite.get m q ≡ None) → finite.get m q ≡ None
       by_case None none any rest = rest any
       by_case (Some r) none any rest = here r.0 (eq_by_cmp R q r.0) refl none any rest
 
   undone_at : (m : FinMap R V) (cs : List Change) (q : K) (b : Bool) → has q cs ≡ b → AreNew row m cs → cond b None (finite.get (with_changes row m cs) q) ≡ finite.get m q
   undone_at m cs q true e new = sym (new_none m cs q new e)
   undone_at m cs q false e new = get_with m cs q e
+
+  -- ---- all that some changes may have added is taken out
+
+  back_at : (m n : FinMap R V) (cs : List Change) (q : K) (b : Bool) → has q cs ≡ b → AreNew row m cs → AgreeBeside row cs n m → cond b None (finite.get n q) ≡ finite.get m q
+  back_at m n cs q true e new agree = sym (new_none m cs q new e)
+  back_at m n cs q false e new agree = agree q e
+
+  pub taken_back : (m n : FinMap R V) (cs : List Change) → AreNew row m cs → AgreeBeside row cs n m → without_changes row n cs ≡ m
+  taken_back m n cs new agree = same_map o exact _ _ (λ q. get_without n cs q ∙ back_at m n cs q (has q cs) refl new agree)
+
+  pub fewer_beside : (cs : List Change) (q : K) → adds_at R row q cs ≡ false → adds_at R row q (drop 1 cs) ≡ false
+  fewer_beside [] q e = e
+  fewer_beside (c ∷ cs) q e = (or_parts (is_row R q (row c)) (has q cs) e).1
+
+  pub one_beside : (m : FinMap R V) (c : Change) (q : K) → is_row R q (row c) ≡ false → finite.get (with_row m (row c)) q ≡ finite.get m q
+  one_beside m c q e = into m (row c) q e
+
+  -- ---- every second change, and then the others
+
+  swapped_at : (a b : Bool) (v w : Option V) (u : Option V) → (a ≡ true → b ≡ true → ⊥) → cond b w (cond a v u) ≡ cond a v (cond b w u)
+  swapped_at true true v w u apart = absurd (apart refl refl)
+  swapped_at true false v w u apart = refl
+  swapped_at false true v w u apart = refl
+  swapped_at false false v w u apart = refl
+
+  abbrev Apart : Option (K × V) → Option (K × V) → Type 0
+  Apart None b = Unit {0}
+  Apart (Some a) None = Unit {0}
+  Apart (Some a) (Some b) = eq_by_cmp R b.0 a.0 ≡ false
+
+  swapped : (m : FinMap R V) (a b : Option (K × V)) → Apart a b → with_row (with_row m a) b ≡ with_row (with_row m b) a
+  swapped m None b apart = refl
+  swapped m (Some a) None apart = refl
+  swapped m (Some a) (Some b) apart = same_map o exact _ _ (λ q.
+      get-insert o (finite.insert m a.0 a.1) b.0 b.1 q ∙ ap (cond (eq_by_cmp R q b.0) (Some b.1)) (get-insert o m a.0 a.1 q)
+      ∙ swapped_at (eq_by_cmp R q a.0) (eq_by_cmp R q b.0) (Some a.1) (Some b.1) (finite.get m q) (λ one two. true≢false (sym (ap (λ k. eq_by_cmp R k a.0) (sym (tells_apart exact q b.0 two)) ∙ one) ∙ apart))
+      ∙ sym (get-insert o (finite.insert m b.0 b.1) a.0 a.1 q ∙ ap (cond (eq_by_cmp R q a.0) (Some a.1)) (get-insert o m b.0 b.1 q)))
+
+  abbrev AllApart : Option (K × V) → List Change → Type 0
+  AllApart b [] = Unit {0}
+  AllApart b (c ∷ cs) = Apart (row c) b × AllApart b cs
+
+  -- a row may be added before others
+  moved : (m : FinMap R V) (xs : List Change) (b : Option (K × V)) → AllApart b xs → with_row (with_changes row m xs) b ≡ with_changes row (with_row m b) xs
+  moved m [] b apart = refl
+  moved m (x ∷ xs) b apart = moved (with_row m (row x)) xs b apart.1 ∙ ap (λ n. with_changes row n xs) (swapped m (row x) b apart.0)
+
+  some_of : (m : FinMap R V) (a : Option (K × V)) (k : K) (v : V) → IfSome a (λ r. finite.get m r.0 ≡ None) → finite.get m k ≡ Some v → finite.get (with_row m a) k ≡ Some v
+  some_of m None k v new there = there
+  some_of m (Some r) k v new there = get-insert o m r.0 r.1 k ∙ by_case (eq_by_cmp R k r.0) refl
+    where
+      by_case : (b : Bool) → eq_by_cmp R k r.0 ≡ b → cond b (Some r.1) (finite.get m k) ≡ Some v
+      by_case true same = absurd (let e = sym there ∙ ap (finite.get m) (tells_apart exact k r.0 same) ∙ new in cc)
+      by_case false apart = there
+
+  new_apart : (m : FinMap R V) (a : Option (K × V)) (b : K × V) (v : V) → IfSome a (λ r. finite.get m r.0 ≡ None) → finite.get m b.0 ≡ Some v → Apart a (Some b)
+  new_apart m None b v new there = tt
+  new_apart m (Some r) b v new there = by_case (eq_by_cmp R b.0 r.0) refl
+    where
+      by_case : (t : Bool) → eq_by_cmp R b.0 r.0 ≡ t → eq_by_cmp R b.0 r.0 ≡ false
+      by_case true same = absurd (let e = sym there ∙ ap (finite.get m) (tells_apart exact b.0 r.0 same) ∙ new in cc)
+      by_case false apart = apart
+
+  later_apart : (m : FinMap R V) (cs : List Change) (b : K × V) (v : V) → AreNew row m cs → finite.get m b.0 ≡ Some v → AllApart (Some b) (every_second cs)
+  later_apart m [] b v new there = tt
+  later_apart m (c ∷ []) b v new there = (new_apart m (row c) b v new.0 there, tt)
+  later_apart m (c ∷ d ∷ cs) b v new there =
+      let next = some_of m (row c) b.0 v new.0 there in
+      (new_apart m (row c) b v new.0 there, later_apart (with_row (with_row m (row c)) (row d)) cs b v new.1.1 (some_of (with_row m (row c)) (row d) b.0 v new.1.0 next))
+
+  none_apart : (cs : List Change) → AllApart None cs
+  none_apart [] = tt
+  none_apart (c ∷ cs) = (alone (row c), none_apart cs)
+    where
+      alone : (a : Option (K × V)) → Apart a None
+      alone None = tt
+      alone (Some a) = tt
+
+  row_apart : (m : FinMap R V) (cs : List Change) (b : Option (K × V)) → AreNew row (with_row m b) cs → AllApart b (every_second cs)
+  row_apart m cs None new = none_apart (every_second cs)
+  row_apart m cs (Some b) new = later_apart (with_row m (Some b)) cs b b.1 new (get-insert o m b.0 b.1 b.0 ∙ ap (λ t. cond t (Some b.1) (finite.get m b.0)) (itself b.0))
+    where
+      itself : (k : K) → eq_by_cmp R k k ≡ true
+      itself k = (eq_by_cmp_equiv o).refl k
+
+  pub next_turn : (n : FinMap R V) (d : Change) (cs : List Change) → with_changes row n (every_second (d ∷ cs)) ≡ with_changes row (with_row n (row d)) (every_second (drop 1 cs))
+  next_turn n d [] = refl
+  next_turn n d (e ∷ cs) = refl
+
+  pub woven : (m : FinMap R V) (cs : List Change) → AreNew row m cs → with_changes row (with_changes row m (every_second cs)) (every_second (drop 1 cs)) ≡ with_changes row m cs
+  woven m [] new = refl
+  woven m (c ∷ []) new = refl
+  woven m (c ∷ d ∷ cs) new =
+      let first = with_row m (row c) in
+      next_turn (with_changes row first (every_second cs)) d cs
+      ∙ ap (λ n. with_changes row n (every_second (drop 1 cs))) (moved first (every_second cs) (row d) (row_apart first cs (row d) new.1.1))
+      ∙ woven (with_row first (row d)) cs new.1.1
 
   pub undone : (m : FinMap R V) (cs : List Change) → AreNew row m cs → without_changes row (with_changes row m cs) cs ≡ m
   undone m cs new = same_map o exact _ _ (λ q. get_without (with_changes row m cs) cs q ∙ undone_at m cs q (has q cs) refl new)

@@ -1,5 +1,7 @@
 -- Rows that changes add to a map, and take out again.
-use Rattle.std.specs.Prelude.{◌≡◌, ℕ, List, [], ◌∷◌, Option, Some, None, IfSome, ⊤}
+use Rattle.std.specs.Prelude.{◌≡◌, ◌||◌, ℕ, Bool, false, List, [], ◌∷◌, Option, Some, None, IfSome, ⊤}
+use Rattle.std.specs.Option.{option_map_or}
+use Rattle.std.specs.Ordering.{eq_by_cmp}
 use Rattle.std.specs.declared.cmp.Ordering.{Ordering}
 use Rattle.std.specs.FinMap as finite
 use Rattle.std.specs.FinMap.{FinMap}
@@ -54,3 +56,24 @@ without_changes row found (c ∷ cs) = without_changes row (without_row found (r
 abbrev pub AreNew : {K V : Type 0} {R : K → K → Ordering} → (Change → Option (K × V)) → FinMap R V → List Change → Type 0
 AreNew row found [] = ⊤
 AreNew row found (c ∷ cs) = IfSome (row c) (λ r. finite.get found r.0 ≡ None) × AreNew row (with_row found (row c)) cs
+
+-- ---- in two turns
+
+-- the first, the third, and so on
+abbrev pub every_second : {X : Type 0} → List X → List X
+every_second [] = []
+every_second (x ∷ []) = x ∷ []
+every_second (x ∷ y ∷ rest) = x ∷ every_second rest
+
+-- a row has the key
+abbrev pub is_row : {K V : Type 0} (R : K → K → Ordering) → K → Option (K × V) → Bool
+is_row R q added = option_map_or (λ r. eq_by_cmp R q r.0) added false
+
+-- one of the changes adds a row under the key
+abbrev pub adds_at : {K V : Type 0} (R : K → K → Ordering) → (Change → Option (K × V)) → K → List Change → Bool
+adds_at R row q [] = false
+adds_at R row q (c ∷ cs) = is_row R q (row c) || adds_at R row q cs
+
+-- two maps have the same under each key that none of the changes adds
+abbrev pub AgreeBeside : {K V : Type 0} {R : K → K → Ordering} → (Change → Option (K × V)) → List Change → FinMap R V → FinMap R V → Type 0
+AgreeBeside {K} {R = R} row cs m n = (q : K) → adds_at R row q cs ≡ false → finite.get m q ≡ finite.get n q

@@ -1,8 +1,8 @@
 //! Rows that are added to a map whole or not at all.
 
-ghost use Rattle.std.specs.Prelude.{◌≡◌, OnOk, OnErr};
+ghost use Rattle.std.specs.Prelude.{◌≡◌, drop, OnOk, OnErr};
 ghost use Rattle.ee_desk.specs.Kept.{rates_in, held_in};
-ghost use Rattle.ee_desk.specs.Added.{rate_row, held_row, with_row, without_row, with_changes, without_changes, AreNew};
+ghost use Rattle.ee_desk.specs.Added.{rate_row, held_row, with_row, without_row, with_changes, without_changes, every_second, AgreeBeside, AreNew};
 
 use ee_acts::{Change, Held, Tables, Terms};
 use ee_units::{IssueMonth, Serial};
@@ -64,20 +64,52 @@ fn take_rates(rates: &mut BTreeMap<IssueMonth, Terms>, changes: &[Change])
     }
 }
 
-/// Registers bonds whose serials are new: all of them, or none.
+/// Registers bonds whose serials are new: all of them, or none. Every second one goes first, and the
+/// others between them, so that rows in order of serial fill the leaves of the map.
 pub fn add_bonds(bonds: &mut BTreeMap<Serial, Held>, changes: &[Change]) -> Result<(), AllocError>
     requires { AreNew held_row (held_in bonds.old.entries) changes.now }
     ensures ok { OnOk result (held_in bonds.new.entries ≡ with_changes held_row (held_in bonds.old.entries) changes.now) }
     ensures err { OnErr result (held_in bonds.new.entries ≡ held_in bonds.old.entries) }
 {
-    for (i, change) in changes.iter().enumerate() {
-        match add_bond(bonds, change) {
-            Ok(_) => {}
-            Err(_) => {
-                take_bonds(bonds, &changes[..i]);
-                return Err(AllocError);
-            }
+    match add_in_turns(bonds, changes) {
+        Ok(_) => Ok(()),
+        Err(_) => {
+            take_bonds(bonds, changes);
+            Err(AllocError)
         }
+    }
+}
+
+/// Registers every second bond, from the first on, and then the others.
+fn add_in_turns(bonds: &mut BTreeMap<Serial, Held>, changes: &[Change]) -> Result<(), AllocError>
+    ensures ok { OnOk result (held_in bonds.new.entries ≡ with_changes held_row (with_changes held_row (held_in bonds.old.entries) (every_second changes.now)) (every_second (drop 1 changes.now))) }
+    ensures err { OnErr result (AgreeBeside held_row changes.now (held_in bonds.new.entries) (held_in bonds.old.entries)) }
+{
+    add_every_second(bonds, changes)?;
+    add_every_second(bonds, after_first(changes))
+}
+
+fn after_first(changes: &[Change]) -> &[Change]
+    ensures { result.now ≡ drop 1 changes.now }
+{
+    match changes.split_first() {
+        Some((_, rest)) => rest,
+        None => changes,
+    }
+}
+
+/// Registers every second bond, from the first on.
+fn add_every_second(
+    bonds: &mut BTreeMap<Serial, Held>,
+    changes: &[Change],
+) -> Result<(), AllocError>
+    ensures ok { OnOk result (held_in bonds.new.entries ≡ with_changes held_row (held_in bonds.old.entries) (every_second changes.now)) }
+    ensures beside { AgreeBeside held_row changes.now (held_in bonds.new.entries) (held_in bonds.old.entries) }
+{
+    let mut rest = changes;
+    while let Some((change, others)) = rest.split_first() {
+        add_bond(bonds, change)?;
+        rest = after_first(others);
     }
     Ok(())
 }
