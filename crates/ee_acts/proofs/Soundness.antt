@@ -56,6 +56,14 @@ empty_is_sound = record {
   batches = tt;
 }
 
+-- each bond stands under its own serial number
+pub bonds_keyed : (books : PlainBooks) → IsSound books → (serial : SerialNumber) → IfSome (finite.get books.bonds serial) (λ bond. bond.serial ≡ serial)
+bonds_keyed books sound serial = by_case (finite.get books.bonds serial) (sound.bonds serial)
+  where
+    by_case : (o : Option Bond) → IfSome o (IsRightBond books.rates serial) → IfSome o (λ bond. bond.serial ≡ serial)
+    by_case None right = tt
+    by_case (Some bond) right = right.keyed
+
 -- ---- no test refuses
 pub or_none : {A : Type 0} (x y : Option A) → option_or x y ≡ None → (x ≡ None) × (y ≡ None)
 or_none None y e = (refl, e)

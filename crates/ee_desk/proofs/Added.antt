@@ -23,9 +23,6 @@ taken_out {R = R} o exact es fs k h = same_map o exact _ _ (λ q.
     ∙ sym (get-remove o (finite.from_entries es) k q ∙ ap (cond (eq_by_cmp R q k) None) (get_lookup o es q)))
 
 module _ {K V : Type 0} {R : K → K → Ordering} (o : IsTotalOrder R) (exact : CmpEqualImpliesEq R) (row : Change → Option (K × V)) where
-  abbrev has : K → List Change → Bool
-  has q cs = adds_at R row q cs
-
   none_if : (a b : Bool) (v : Option V) → cond b None (cond a None v) ≡ cond (a || b) None v
   none_if true true v = refl
   none_if true false v = refl
@@ -35,20 +32,20 @@ module _ {K V : Type 0} {R : K → K → Ordering} (o : IsTotalOrder R) (exact :
   out_of m None q = refl
   out_of m (Some r) q = get-remove o m r.0 q
 
-  get_without : (m : FinMap R V) (cs : List Change) (q : K) → finite.get (without_changes row m cs) q ≡ cond (has q cs) None (finite.get m q)
+  get_without : (m : FinMap R V) (cs : List Change) (q : K) → finite.get (without_changes row m cs) q ≡ cond (adds_at R row q cs) None (finite.get m q)
   get_without m [] q = refl
   get_without m (c ∷ cs) q =
-      get_without (without_row m (row c)) cs q ∙ ap (cond (has q cs) None) (out_of m (row c) q) ∙ none_if (is_row R q (row c)) (has q cs) (finite.get m q)
+      get_without (without_row m (row c)) cs q ∙ ap (cond (adds_at R row q cs) None) (out_of m (row c) q) ∙ none_if (is_row R q (row c)) (adds_at R row q cs) (finite.get m q)
 
-  into : (m : FinMap R V) (added : Option (K × V)) (q : K) → is_row R q added ≡ false → finite.get (with_row m added) q ≡ finite.get m q
-  into m None q e = refl
-  into m (Some r) q e = get-insert o m r.0 r.1 q ∙ ap (λ b. cond b (Some r.1) (finite.get m q)) e
+  pub get_beside : (m : FinMap R V) (added : Option (K × V)) (q : K) → is_row R q added ≡ false → finite.get (with_row m added) q ≡ finite.get m q
+  get_beside m None q e = refl
+  get_beside m (Some r) q e = get-insert o m r.0 r.1 q ∙ ap (λ b. cond b (Some r.1) (finite.get m q)) e
 
-  get_with : (m : FinMap R V) (cs : List Change) (q : K) → has q cs ≡ false → finite.get (with_changes row m cs) q ≡ finite.get m q
+  get_with : (m : FinMap R V) (cs : List Change) (q : K) → adds_at R row q cs ≡ false → finite.get (with_changes row m cs) q ≡ finite.get m q
   get_with m [] q e = refl
   get_with m (c ∷ cs) q e =
-      let p = or_parts (is_row R q (row c)) (has q cs) e in
-      get_with (with_row m (row c)) cs q p.1 ∙ into m (row c) q p.0
+      let p = or_parts (is_row R q (row c)) (adds_at R row q cs) e in
+      get_with (with_row m (row c)) cs q p.1 ∙ get_beside m (row c) q p.0
 
   before_none : (m : FinMap R V) (added : Option (K × V)) (q : K) → IfSome added (λ r. finite.get m r.0 ≡ None) → finite.get (with_row m added) q ≡ None → finite.get m q ≡ None
   before_none m None q new e = e
@@ -58,38 +55,35 @@ module _ {K V : Type 0} {R : K → K → Ordering} (o : IsTotalOrder R) (exact :
       by_case true same = ap (finite.get m) (tells_apart exact q r.0 same) ∙ new
       by_case false apart = sym (get-insert o m r.0 r.1 q ∙ ap (λ b. cond b (Some r.1) (finite.get m q)) apart) ∙ e
 
-  new_none : (m : FinMap R V) (cs : List Change) (q : K) → AreNew row m cs → has q cs ≡ true → finite.get m q ≡ None
+  new_none : (m : FinMap R V) (cs : List Change) (q : K) → AreNew row m cs → adds_at R row q cs ≡ true → finite.get m q ≡ None
   new_none m [] q new e = absurd (true≢false (sym e))
   new_none m (c ∷ cs) q new e =
       by_case (row c) new.0 e (λ later. before_none m (row c) q new.0 (new_none (with_row m (row c)) cs q new.1 later))
     where
-      here : (k : K) (b : Bool) → eq_by_cmp R q k ≡ b → finite.get m k ≡ None → (b || has q cs) ≡ true → (has q cs ≡ true → finite.get m q ≡ None) → finite.get m q ≡ None
+      here : (k : K) (b : Bool) → eq_by_cmp R q k ≡ b → finite.get m k ≡ None → (b || adds_at R row q cs) ≡ true → (adds_at R row q cs ≡ true → finite.get m q ≡ None) → finite.get m q ≡ None
       here k true same none any rest = ap (finite.get m) (tells_apart exact q k same) ∙ none
       here k false apart none any rest = rest any
 
-      by_case : (added : Option (K × V)) → IfSome added (λ r. finite.get m r.0 ≡ None) → (is_row R q added || has q cs) ≡ true → (has q cs ≡ true → finite.get m q ≡ None) → finite.get m q ≡ None
+      by_case : (added : Option (K × V)) → IfSome added (λ r. finite.get m r.0 ≡ None) → (is_row R q added || adds_at R row q cs) ≡ true → (adds_at R row q cs ≡ true → finite.get m q ≡ None) → finite.get m q ≡ None
       by_case None none any rest = rest any
       by_case (Some r) none any rest = here r.0 (eq_by_cmp R q r.0) refl none any rest
 
-  undone_at : (m : FinMap R V) (cs : List Change) (q : K) (b : Bool) → has q cs ≡ b → AreNew row m cs → cond b None (finite.get (with_changes row m cs) q) ≡ finite.get m q
+  undone_at : (m : FinMap R V) (cs : List Change) (q : K) (b : Bool) → adds_at R row q cs ≡ b → AreNew row m cs → cond b None (finite.get (with_changes row m cs) q) ≡ finite.get m q
   undone_at m cs q true e new = sym (new_none m cs q new e)
   undone_at m cs q false e new = get_with m cs q e
 
   -- ---- all that some changes may have added is taken out
 
-  back_at : (m n : FinMap R V) (cs : List Change) (q : K) (b : Bool) → has q cs ≡ b → AreNew row m cs → AgreeBeside row cs n m → cond b None (finite.get n q) ≡ finite.get m q
+  back_at : (m n : FinMap R V) (cs : List Change) (q : K) (b : Bool) → adds_at R row q cs ≡ b → AreNew row m cs → AgreeBeside row cs n m → cond b None (finite.get n q) ≡ finite.get m q
   back_at m n cs q true e new agree = sym (new_none m cs q new e)
   back_at m n cs q false e new agree = agree q e
 
   pub taken_back : (m n : FinMap R V) (cs : List Change) → AreNew row m cs → AgreeBeside row cs n m → without_changes row n cs ≡ m
-  taken_back m n cs new agree = same_map o exact _ _ (λ q. get_without n cs q ∙ back_at m n cs q (has q cs) refl new agree)
+  taken_back m n cs new agree = same_map o exact _ _ (λ q. get_without n cs q ∙ back_at m n cs q (adds_at R row q cs) refl new agree)
 
   pub fewer_beside : (cs : List Change) (q : K) → adds_at R row q cs ≡ false → adds_at R row q (drop 1 cs) ≡ false
   fewer_beside [] q e = e
-  fewer_beside (c ∷ cs) q e = (or_parts (is_row R q (row c)) (has q cs) e).1
-
-  pub one_beside : (m : FinMap R V) (c : Change) (q : K) → is_row R q (row c) ≡ false → finite.get (with_row m (row c)) q ≡ finite.get m q
-  one_beside m c q e = into m (row c) q e
+  fewer_beside (c ∷ cs) q e = (or_parts (is_row R q (row c)) (adds_at R row q cs) e).1
 
   -- ---- every second change, and then the others
 
@@ -173,7 +167,7 @@ module _ {K V : Type 0} {R : K → K → Ordering} (o : IsTotalOrder R) (exact :
       ∙ woven (with_row first (row d)) cs new.1.1
 
   pub undone : (m : FinMap R V) (cs : List Change) → AreNew row m cs → without_changes row (with_changes row m cs) cs ≡ m
-  undone m cs new = same_map o exact _ _ (λ q. get_without (with_changes row m cs) cs q ∙ undone_at m cs q (has q cs) refl new)
+  undone m cs new = same_map o exact _ _ (λ q. get_without (with_changes row m cs) cs q ∙ undone_at m cs q (adds_at R row q cs) refl new)
 
 pub new_take : {K V : Type 0} {R : K → K → Ordering} (row : Change → Option (K × V)) (m : FinMap R V) (n : ℕ) (cs : List Change) → AreNew row m cs → AreNew row m (take n cs)
 new_take row m zero cs new = tt

@@ -27,7 +27,7 @@ use Rattle.ee_acts.specs.Paid.{paid_lines}
 use Rattle.ee_acts.specs.PlainBooks.{PlainBooks, batch_of, batch_so_far, cents_of}
 use Rattle.ee_acts.specs.Sound.{IsSound, IsDay, IsRightRate, IsRightBond, IsRightLine, IsRightTicket, day_of, day_of_batch, days}
 use Rattle.ee_acts.proofs.Lemmas.Maps.{serials_total, serials_exact, get_lookup, all_weaker, all_append}
-use Rattle.ee_acts.proofs.Lemmas.Books.{value_le}
+use Rattle.ee_acts.proofs.Lemmas.Books.{value_le, sound_keyed}
 use Rattle.ee_decide.specs.declared.views.DayCounts.{DayCounts}
 use Rattle.ee_parts.specs.declared.parts.Parts.{Parts}
 use Rattle.ee_parts.specs.Parts.{parts_of, row_of_entry, AreUnsound}
@@ -95,13 +95,9 @@ parts_kept parts months serials = λ i. record {
   batches = parts.batches;
 }
 
-keyed_if : (rates : FinMap nat_cmp Rates) (serial : SerialNumber) (o : Option Bond) → IfSome o (IsRightBond rates serial) → IfSome o (λ bond. bond.serial ≡ serial)
-keyed_if rates serial None h = tt
-keyed_if rates serial (Some bond) h = h.keyed
-
 module _ (books : PlainBooks) (sound : IsSound books) where
   keyed : AreKeyedEntries (finite.entries books.bonds)
-  keyed = all_entries serials_total serials_exact (λ serial bond. bond.serial ≡ serial) books.bonds (λ q. keyed_if books.rates q (finite.get books.bonds q) (sound.bonds q))
+  keyed = all_entries serials_total serials_exact (λ serial bond. bond.serial ≡ serial) books.bonds (sound_keyed books sound)
 
   -- sound books are those that their parts stand for
   pub books_kept : books ≡ books_of (parts_of books)

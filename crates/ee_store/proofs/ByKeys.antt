@@ -11,7 +11,7 @@ use Rattle.ee_acts.specs.declared.changes.Held.{Held}
 use Rattle.ee_acts.specs.declared.replies.Ticket.{Ticket}
 use Rattle.ee_acts.specs.Seen.{held_as, held_of}
 use Rattle.ee_acts.specs.Views.{picked, entry_of}
-use Rattle.ee_acts.specs.Sound.{IsRightBond}
+use Rattle.ee_acts.proofs.Lemmas.Books.{sound_keyed}
 use Rattle.ee_acts.specs.Repeats.{Content}
 use Rattle.ee_contents.specs.Standing.{rows_of, bond_row, key_of, IsRight}
 use Rattle.ee_store.specs.Found.{with_found}
@@ -42,11 +42,7 @@ held_by ts s (Some x) None h k e = absurd (cc)
 held_by ts s (Some x) (Some b) h k e = ap Some (same_held x (held_as ts s b) (h ∙ sym k) (ap (λ o. unwrap_or o (bond_row x)) e))
 
 pub held_found : (S : Content) (s : SerialNumber) (o : Option Held) → IsRight S → IfSome o (λ h. h.bond.serial ≡ s) → option_map bond_row o ≡ finite.get (rows_of S).bonds (key_of s) → o ≡ held_of S.books s
-held_found S s o right own e = held_by S.books.tickets s o (finite.get S.books.bonds s) own (keyed (finite.get S.books.bonds s) (right.sound.bonds s)) (e ∙ get_bond_row S.books.bonds S.books.tickets s)
-  where
-    keyed : (p : Option Bond) → IfSome p (IsRightBond S.books.rates s) → IfSome p (λ b. b.serial ≡ s)
-    keyed None h = tt
-    keyed (Some b) h = h.keyed
+held_found S s o right own e = held_by S.books.tickets s o (finite.get S.books.bonds s) own (sound_keyed S.books right.sound s) (e ∙ get_bond_row S.books.bonds S.books.tickets s)
 
 pub always : {X E Q : Type 0} (r : Result X E) → Q → OnOk r Q
 always (Ok x) q = q

@@ -1,7 +1,7 @@
 -- Sound books, refusals, and what an act sees.
 use Rattle.std.proofs.Common.{Bool, List, None, Option, Some, [], cond, false, length, true, ℕ, ◌≡◌, ◌≤◌}
 use Rattle.std.specs.List.{AllByRecursion, sum_by}
-use Rattle.std.specs.Option.{is_none, option_map, option_or}
+use Rattle.std.specs.Option.{IfSome, is_none, option_map, option_or}
 use Rattle.ee_acts.specs.Acts.{applied, books_after, done}
 use Rattle.ee_acts.specs.Conserved.{IsConserved}
 use Rattle.ee_acts.specs.Effects.{accepted, effects_of}
@@ -52,6 +52,10 @@ pub small_total_on : (books : PlainBooks) (sound : IsSound books) (day : ℕ) �
 small_total_on = Bounds.total_small
 
 -- ---- what sound books have
+-- each bond stands under its own serial number
+pub sound_keyed : (books : PlainBooks) → IsSound books → (serial : SerialNumber) → IfSome (finite.get books.bonds serial) (λ bond. bond.serial ≡ serial)
+sound_keyed = Soundness.bonds_keyed
+
 -- what the batches and the open day of sound books have is what was paid
 pub sound_conserves : (books : PlainBooks) → IsSound books → IsConserved books
 sound_conserves = Conservation.conserved

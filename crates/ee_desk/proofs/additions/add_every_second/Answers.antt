@@ -5,7 +5,7 @@ use Rattle.ee_acts.specs.Serials.{serial_cmp}
 use Rattle.ee_acts.proofs.Lemmas.Maps.{serials_exact, serials_total}
 use Rattle.ee_desk.specs.Kept.{held_in}
 use Rattle.ee_desk.specs.Added.{held_row, with_row, with_changes, every_second, is_row, adds_at}
-use Rattle.ee_desk.proofs.Added.{next_turn, fewer_beside, one_beside}
+use Rattle.ee_desk.proofs.Added.{next_turn, fewer_beside, get_beside}
 use Rattle.ee_desk.proofs.additions.add_every_second.Goals as goal
 
 pub loop-change-preserved : goal.loop-change-preserved
@@ -21,6 +21,6 @@ loop-change-preserved c =
       λ q beside.
           let two = or_parts (is_row serial_cmp q (held_row c.in-Some.change.now)) (adds_at serial_cmp held_row q c.in-Some.others.now) (was.1 q beside).0 in (
             ap (adds_at serial_cmp held_row q) later ∙ fewer_beside serials_total serials_exact held_row c.in-Some.others.now q two.1,
-            ap (λ m. finite.get m q) added ∙ one_beside serials_total serials_exact held_row before c.in-Some.change.now q two.0 ∙ (was.1 q beside).1,
+            ap (λ m. finite.get m q) added ∙ get_beside serials_total serials_exact held_row before (held_row c.in-Some.change.now) q two.0 ∙ (was.1 q beside).1,
           ),
     )
