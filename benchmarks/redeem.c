@@ -73,7 +73,7 @@ int main(int count, char **words) {
     sqlite3_stmt *find_bond = prepare("SELECT denom, issued, owner, coowner, ticket FROM bonds WHERE letter = ?1 AND number = ?2");
     sqlite3_stmt *find_rate = prepare("SELECT rate FROM rates WHERE period = ?1");
     sqlite3_stmt *last = prepare("SELECT ticket FROM tickets ORDER BY ticket DESC LIMIT 1");
-    sqlite3_stmt *day_tickets = prepare("SELECT ticket, bonds, total FROM tickets WHERE day = ?1 ORDER BY ticket");
+    sqlite3_stmt *first = prepare("SELECT ticket FROM tickets WHERE day = ?1 ORDER BY ticket LIMIT 1");
     sqlite3_stmt *add_ticket = prepare("INSERT INTO tickets (ticket, day, payee, bonds, total) VALUES (?1, ?2, ?3, ?4, ?5)");
     sqlite3_stmt *add_paid = prepare("INSERT INTO paid (ticket, place, letter, number, cents) VALUES (?1, ?2, ?3, ?4, ?5)");
     sqlite3_stmt *mark = prepare("UPDATE bonds SET ticket = ?3 WHERE letter = ?1 AND number = ?2 RETURNING denom, issued, owner, coowner");
@@ -90,7 +90,7 @@ int main(int count, char **words) {
         WITH(find_bond, 1, serial);
         WITH(find_rate, 60);
         with(last, 0, 0);
-        WITH(day_tickets, day);
+        WITH(first, day);
         WITH(add_ticket, i, day, 7, 1, 2974);
         WITH(add_paid, i, 1, 1, serial, 2974);
         WITH(mark, 1, serial, i);

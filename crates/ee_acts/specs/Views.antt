@@ -65,9 +65,9 @@ periods_of books (Redeem day payee serials) = filter_map (λ serial. option_map 
 periods_of books (OpenDay day) = []
 periods_of books (CloseDay day) = []
 
--- the open day's tickets, for the acts that count them
+-- the open day's tickets, for the acts that count them: a redemption asks how many there are, a closing also what they pay
 abbrev pub counted : PlainBooks → Act → Batch
-counted books (Redeem day payee serials) = open_batch books
+counted books (Redeem day payee serials) = record no_batch { tickets = (open_batch books).tickets }
 counted books (CloseDay day) = open_batch books
 counted books (AddRates rows) = no_batch
 counted books (AddBonds bonds) = no_batch

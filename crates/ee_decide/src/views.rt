@@ -25,6 +25,21 @@ pub struct DayCounts {
     pub total: Cents,
 }
 
+impl DayCounts {
+    /// So many tickets, without what they paid.
+    pub const fn of_tickets(tickets: u64) -> DayCounts
+        ensures tickets { result.tickets ≡ tickets }
+        ensures bonds { result.bonds ≡ 0 }
+        ensures total { result.total.0 ≡ 0 }
+    {
+        DayCounts {
+            tickets,
+            bonds: 0,
+            total: Cents(0),
+        }
+    }
+}
+
 /// The parts of a view, as a store has them: for each act the rates and bonds that it names, the
 /// days, and the counts of tickets.
 #[derive(Drop)]
@@ -40,11 +55,11 @@ pub struct ViewParts {
     pub last_day: Option<Day>,
     /// How many tickets there are over all days.
     pub tickets: u64,
-    /// How many tickets the open day has, for the acts that count them; else 0.
+    /// How many tickets the open day has, for a redemption and for the day's closing; else 0.
     pub day_tickets: u64,
-    /// How many bonds these paid.
+    /// How many bonds these paid, for the day's closing; else 0.
     pub day_bonds: u64,
-    /// Their sum.
+    /// Their sum, for the day's closing; else 0.
     pub day_total: Cents,
 }
 

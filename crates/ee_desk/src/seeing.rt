@@ -15,7 +15,7 @@ use ee_acts::{Act, Held, RateRow, Terms};
 use ee_calculator::Bond;
 use ee_decide::{DayCounts, View, ViewParts};
 use ee_units::calendar::period_of;
-use ee_units::{Cents, IssueMonth, Serial};
+use ee_units::{IssueMonth, Serial};
 use std::alloc::{AllocError, Global};
 use std::collections::BTreeMap;
 
@@ -186,17 +186,15 @@ fn bonds_of(alloc: Global, ledger: &Ledger, act: &Act) -> Result<BTreeMap<Serial
     }
 }
 
-/// The open day's tickets, for the acts that count them.
+/// The open day's tickets, for the acts that count them: a redemption asks how many there are, a closing
+/// also what they pay.
 fn counted(ledger: &Ledger, act: &Act) -> DayCounts
     ensures { AreCounts (is.counted ledger.now act.now) result }
 {
     match act {
-        Act::Redeem { .. } | Act::CloseDay(_) => ledger.counts(),
-        Act::AddRates(_) | Act::AddBonds(_) | Act::OpenDay(_) => DayCounts {
-            tickets: 0,
-            bonds: 0,
-            total: Cents(0),
-        },
+        Act::CloseDay(_) => ledger.counts(),
+        Act::Redeem { .. } => DayCounts::of_tickets(ledger.counts().tickets),
+        Act::AddRates(_) | Act::AddBonds(_) | Act::OpenDay(_) => DayCounts::of_tickets(0),
     }
 }
 

@@ -1,15 +1,18 @@
 -- The tickets of a day, and the number of the last, by their rows.
-use Rattle.std.proofs.Common.{◌≡◌, ◌==◌, ℕ, suc, ◌+◌, eqb, Bool, true, false, cond, List, [], ◌∷◌, map, filter, length, Some, arith, refl, ap, ◌∙◌}
-use Rattle.std.specs.Option.{unwrap_or}
-use Rattle.std.specs.List.{fold, sum_by}
+use Rattle.std.proofs.Common.{◌≡◌, ◌==◌, ℕ, suc, ◌+◌, ◌-◌, ◌≤◌, eqb, Bool, true, false, cond, List, [], ◌∷◌, map, filter, length, Some, arith, refl, sym, ap, subst, ◌∙◌}
+use Rattle.std.specs.Option.{option_map_or, unwrap_or}
+use Rattle.std.specs.List.{AllByRecursion, fold, sum_by}
 use Rattle.std.specs.FinMap.{entries}
+use Rattle.std.proofs.lemmas.Bool.{eqb-true, eq-eqb}
 use Rattle.ee_acts.specs.declared.replies.Ticket.{Ticket}
 use Rattle.ee_acts.specs.PlainBooks.{of_day, bonds_on, total_of}
-use Rattle.ee_acts.specs.Sound.{NumberedFrom}
+use Rattle.ee_acts.specs.Lists.{NeverFalling}
+use Rattle.ee_acts.specs.Sound.{NumberedFrom, day_of}
 use Rattle.ee_acts.specs.Repeats.{Content}
+use Rattle.ee_acts.proofs.Lemmas.Books.{none_later}
 use Rattle.ee_tables.specs.declared.records.TicketSum.{TicketSum}
 use Rattle.ee_tables.specs.AsRows.{sum_of}
-use Rattle.ee_tables.specs.Rows.{TicketRow, last_number, tickets_on}
+use Rattle.ee_tables.specs.Rows.{TicketRow, first_number, last_number, tickets_on}
 use Rattle.ee_contents.specs.Standing.{rows_of, IsRight}
 use Rattle.ee_contents.proofs.Lemmas.{ticket_entry, ticket_entries}
 
@@ -32,8 +35,12 @@ day_entries day (t ∷ ts) = keep (eqb t.day day) (day_entries day ts)
     keep true is = ap (λ l. ticket_entry t ∷ l) is
     keep false is = is
 
+-- the rows of a day's tickets
+pub entries_on : (S : Content) (day : ℕ) → IsRight S → tickets_on (rows_of S) day ≡ map ticket_entry (of_day day S.books.tickets)
+entries_on S day right = ap (filter (λ (e : ℕ × TicketRow). e.1.day == day)) (ticket_entries S.books.tickets right.sound.numbered) ∙ day_entries day S.books.tickets
+
 pub sums_on : (S : Content) (day : ℕ) → IsRight S → map sum_of (tickets_on (rows_of S) day) ≡ map sum_of (map ticket_entry (of_day day S.books.tickets))
-sums_on S day right = ap (λ es. map sum_of (filter (λ (e : ℕ × TicketRow). e.1.day == day) es)) (ticket_entries S.books.tickets right.sound.numbered) ∙ ap (map sum_of) (day_entries day S.books.tickets)
+sums_on S day right = ap (map sum_of) (entries_on S day right)
 
 pub sums_length : (ts : List Ticket) → length (map sum_of (map ticket_entry ts)) ≡ length ts
 sums_length [] = refl
@@ -52,3 +59,33 @@ total_from n (t ∷ ts) = total_from (n + total_of t) ts
 
 pub sums_total : (ts : List Ticket) → sum_by (λ (s : TicketSum). s.total) (map sum_of (map ticket_entry ts)) ≡ sum_by total_of ts
 sums_total ts = total_from 0 ts
+
+-- ---- the open day's tickets are the last ones
+all_on : (day : ℕ) (ts : List Ticket) → AllByRecursion (λ d. day ≤ d) (map day_of ts) → AllByRecursion (λ t. t.day ≤ day) ts → length (of_day day ts) ≡ length ts
+all_on day [] low high = refl
+all_on day (t ∷ ts) low high =
+    let above = low.0 in
+    let below = high.0 in
+    let same = eq-eqb t.day day (omega (arith, above, below)) in
+    ap (λ b. length (cond b (t ∷ of_day day ts) (of_day day ts))) same ∙ ap suc (all_on day ts low.1 high.1)
+
+from_first_to : (day last n : ℕ) (ts : List Ticket) → 1 ≤ n → n + length ts ≡ suc last → NumberedFrom n ts → NeverFalling (map day_of ts) → AllByRecursion (λ t. t.day ≤ day) ts
+    → option_map_or (λ m. last - (m - 1)) (first_number (map ticket_entry (of_day day ts))) 0 ≡ length (of_day day ts)
+from_first_to day last n [] some ends numbered order high = refl
+from_first_to day last n (t ∷ ts) some ends numbered order high =
+    by_case (eqb t.day day) refl (from_first_to day last (suc n) ts (omega arith) (omega (arith, ends)) numbered.1 order.1 high.1)
+  where
+    by_case : (b : Bool) → eqb t.day day ≡ b → option_map_or (λ m. last - (m - 1)) (first_number (map ticket_entry (of_day day ts))) 0 ≡ length (of_day day ts)
+        → option_map_or (λ m. last - (m - 1)) (first_number (map ticket_entry (cond b (t ∷ of_day day ts) (of_day day ts)))) 0 ≡ length (cond b (t ∷ of_day day ts) (of_day day ts))
+    by_case true is rest =
+        let own = eqb-true t.day day is in
+        let number = numbered.0 in
+        let all = all_on day ts (subst (λ d. AllByRecursion (λ e. d ≤ e) (map day_of ts)) own order.0) high.1 in
+        omega (arith, some, ends, number, all)
+    by_case false is rest = rest
+
+pub from_first_on : (S : Content) (day count : ℕ) → IsRight S → Some day ≡ S.books.day → count ≡ length S.books.tickets
+    → option_map_or (λ m. count - (m - 1)) (first_number (tickets_on (rows_of S) day)) 0 ≡ length (of_day day S.books.tickets)
+from_first_on S day count right opened is =
+    ap (λ es. option_map_or (λ m. count - (m - 1)) (first_number es) 0) (entries_on S day right)
+    ∙ from_first_to day count 1 S.books.tickets (omega arith) (omega (arith, is)) right.sound.numbered right.sound.in_order (none_later S.books right.sound day (sym opened))

@@ -3,3 +3,4 @@ pub mod Found
 pub mod Serving
 pub mod Asking
 pub mod Adopted
+pub mod Failures

@@ -1,7 +1,7 @@
 //! How many tickets there are, read in a transaction.
 
-ghost use Rattle.std.specs.Prelude.{◌≡◌, IfOk, length, sum_by};
-ghost use Rattle.std.specs.Option.{unwrap_or};
+ghost use Rattle.std.specs.Prelude.{◌≡◌, ◌-◌, IfOk, Some, length, sum_by};
+ghost use Rattle.std.specs.Option.{option_map_or, unwrap_or};
 ghost use Rattle.sqlite.specs.Held.{state};
 ghost use Rattle.ee_acts.specs.PlainBooks.{batch_of, batch_so_far};
 ghost use Rattle.ee_acts.specs.Views as is;
@@ -11,7 +11,7 @@ ghost use Rattle.ee_store.specs.Serving.{FindsIn, LeavesRows};
 use crate::failures::Unfinished;
 use ee_acts::Act;
 use ee_decide::DayCounts;
-use ee_tables::{TicketSum, day_tickets, last_ticket};
+use ee_tables::{TicketSum, day_tickets, first_ticket, last_ticket};
 use ee_units::{Cents, Day};
 use sqlite::{Alter, Transaction};
 use std::alloc::Global;
@@ -83,16 +83,6 @@ fn day_in<S: Alter>(
     counts_of(all)
 }
 
-fn no_tickets() -> DayCounts
-    ensures { (result.tickets ≡ 0) × (result.bonds ≡ 0) × (result.total.0 ≡ 0) }
-{
-    DayCounts {
-        tickets: 0,
-        bonds: 0,
-        total: Cents(0),
-    }
-}
-
 /// The tickets of the open day, if one is open.
 fn open_day_in<S: Alter>(
     tx: &mut Transaction<'_, S>,
@@ -110,28 +100,85 @@ fn open_day_in<S: Alter>(
 {
     match day {
         Some(day) => day_in(tx, alloc, day),
-        None => Ok(no_tickets()),
+        None => Ok(DayCounts::of_tickets(0)),
     }
 }
 
-/// The tickets of the open day, for the acts that count them.
+/// How many tickets there are from the first one of a day to the last one of all.
+fn from_first(first: Option<u64>, last: u64) -> u64
+    ensures { result ≡ option_map_or (λ n. last - (n - 1)) first 0 }
+{
+    match first {
+        None => 0,
+        Some(first) => last.saturating_sub(first.saturating_sub(1)),
+    }
+}
+
+/// How many tickets the open day has. Of all tickets, of which there are so many, they are the last ones.
+fn length_of_day_in<S: Alter>(
+    tx: &mut Transaction<'_, S>,
+    day: Day,
+    tickets: u64,
+) -> Result<u64, Unfinished>
+    ensures same_reference { tx.new.conn.ghost_name ≡ tx.old.conn.ghost_name }
+    ensures open { StaysOpen (state S.Store tx.old.conn.now) (state S.Store tx.new.conn.now) result }
+    ensures inside { StaysInside (state S.Store tx.old.conn.now) (state S.Store tx.new.conn.now) result }
+    ensures found { FindsIn (state S.Store tx.old.conn.now) (state S.Store tx.new.conn.now) result (λ content count. Some day ≡ content.books.day → tickets ≡ length content.books.tickets
+        → count ≡ (batch_of day content.books.tickets).tickets) }
+    ensures rows { LeavesRows (state S.Store tx.old.conn.now) (state S.Store tx.new.conn.now) result }
+    ensures commit { CommitsNothing (state S.Store tx.old.conn.now) (state S.Store tx.new.conn.now) }
+    ensures crash { LeavesNoMore (state S.Store tx.old.conn.now) (state S.Store tx.new.conn.now) }
+{
+    let first = first_ticket(tx, day.count() as u64)?;
+    Ok(from_first(first, tickets))
+}
+
+/// How many tickets the open day has, if one is open.
+fn length_of_open_day_in<S: Alter>(
+    tx: &mut Transaction<'_, S>,
+    day: Option<Day>,
+    tickets: u64,
+) -> Result<u64, Unfinished>
+    ensures same_reference { tx.new.conn.ghost_name ≡ tx.old.conn.ghost_name }
+    ensures open { StaysOpen (state S.Store tx.old.conn.now) (state S.Store tx.new.conn.now) result }
+    ensures inside { StaysInside (state S.Store tx.old.conn.now) (state S.Store tx.new.conn.now) result }
+    ensures found { FindsIn (state S.Store tx.old.conn.now) (state S.Store tx.new.conn.now) result (λ content count. day ≡ content.books.day → tickets ≡ length content.books.tickets
+        → count ≡ (batch_so_far day content.books.tickets).tickets) }
+    ensures rows { LeavesRows (state S.Store tx.old.conn.now) (state S.Store tx.new.conn.now) result }
+    ensures commit { CommitsNothing (state S.Store tx.old.conn.now) (state S.Store tx.new.conn.now) }
+    ensures crash { LeavesNoMore (state S.Store tx.old.conn.now) (state S.Store tx.new.conn.now) }
+{
+    match day {
+        Some(day) => length_of_day_in(tx, day, tickets),
+        None => Ok(0),
+    }
+}
+
+/// The tickets of the open day, for the acts that count them, where there are so many tickets over all
+/// days: a redemption asks how many they are, a closing also what they paid.
 pub fn counted_in<S: Alter>(
     tx: &mut Transaction<'_, S>,
     alloc: Global,
     act: &Act,
     day: Option<Day>,
+    tickets: u64,
 ) -> Result<DayCounts, Unfinished>
     ensures same_reference { tx.new.conn.ghost_name ≡ tx.old.conn.ghost_name }
     ensures open { StaysOpen (state S.Store tx.old.conn.now) (state S.Store tx.new.conn.now) result }
     ensures inside { StaysInside (state S.Store tx.old.conn.now) (state S.Store tx.new.conn.now) result }
-    ensures found { FindsIn (state S.Store tx.old.conn.now) (state S.Store tx.new.conn.now) result (λ content counts. day ≡ content.books.day → (counts.tickets ≡ (is.counted content.books act.now).tickets)
+    ensures found { FindsIn (state S.Store tx.old.conn.now) (state S.Store tx.new.conn.now) result (λ content counts. day ≡ content.books.day → tickets ≡ length content.books.tickets
+        → (counts.tickets ≡ (is.counted content.books act.now).tickets)
         × (counts.bonds ≡ (is.counted content.books act.now).bonds) × (counts.total.0 ≡ (is.counted content.books act.now).total.0)) }
     ensures rows { LeavesRows (state S.Store tx.old.conn.now) (state S.Store tx.new.conn.now) result }
     ensures commit { CommitsNothing (state S.Store tx.old.conn.now) (state S.Store tx.new.conn.now) }
     ensures crash { LeavesNoMore (state S.Store tx.old.conn.now) (state S.Store tx.new.conn.now) }
 {
     match act {
-        Act::Redeem { .. } | Act::CloseDay(_) => open_day_in(tx, alloc, day),
-        Act::AddRates(_) | Act::AddBonds(_) | Act::OpenDay(_) => Ok(no_tickets()),
+        Act::Redeem { .. } => {
+            let count = length_of_open_day_in(tx, day, tickets)?;
+            Ok(DayCounts::of_tickets(count))
+        }
+        Act::CloseDay(_) => open_day_in(tx, alloc, day),
+        Act::AddRates(_) | Act::AddBonds(_) | Act::OpenDay(_) => Ok(DayCounts::of_tickets(0)),
     }
 }

@@ -2,7 +2,7 @@
 
 use ee_acts::Unserved;
 use ee_tables::Failure;
-use sqlite::{Error, ErrorCode};
+use sqlite::Error;
 use std::alloc::AllocError;
 
 /// Why a call was not finished.
@@ -15,6 +15,11 @@ pub enum Unfinished {
 }
 
 impl From<Failure> for Unfinished {
+    ghost use Rattle.std.specs.Prelude.{◌≡◌};
+    ghost use Rattle.ee_store.specs.Failures.{told_of_failure};
+
+    ghost from_gives = { λ failure unfinished. unfinished ≡ told_of_failure failure };
+
     fn from(failure: Failure) -> Unfinished {
         match failure {
             Failure::NoMemory => Unfinished::NoMemory,
@@ -24,21 +29,34 @@ impl From<Failure> for Unfinished {
 }
 
 impl From<Error> for Unfinished {
+    ghost use Rattle.std.specs.Prelude.{◌≡◌};
+    ghost use Rattle.ee_tables.specs.Failures.{failure_of};
+    ghost use Rattle.ee_store.specs.Failures.{told_of_failure};
+
+    ghost from_gives = { λ error unfinished. unfinished ≡ told_of_failure (failure_of error) };
+
     fn from(error: Error) -> Unfinished {
-        match error {
-            Error::SqliteFailure(ErrorCode::OutOfMemory) => Unfinished::NoMemory,
-            _ => Unfinished::StoreFailed,
-        }
+        Unfinished::from(Failure::from(error))
     }
 }
 
 impl From<AllocError> for Unfinished {
+    ghost use Rattle.std.specs.Prelude.{◌≡◌};
+    ghost use Rattle.ee_store.specs.declared.failures.Unfinished.TheVariants.{NoMemory};
+
+    ghost from_gives = { λ _ unfinished. unfinished ≡ NoMemory };
+
     fn from(_: AllocError) -> Unfinished {
         Unfinished::NoMemory
     }
 }
 
 impl From<Unfinished> for Unserved {
+    ghost use Rattle.std.specs.Prelude.{◌≡◌};
+    ghost use Rattle.ee_store.specs.Failures.{unserved_as};
+
+    ghost from_gives = { λ unfinished unserved. unserved ≡ unserved_as unfinished };
+
     fn from(unfinished: Unfinished) -> Unserved {
         match unfinished {
             Unfinished::NoMemory => Unserved::NoMemory,

@@ -137,8 +137,8 @@ fn counts_in<S: Alter>(
     ensures commit { CommitsNothing (state S.Store tx.old.conn.now) (state S.Store tx.new.conn.now) }
     ensures crash { LeavesNoMore (state S.Store tx.old.conn.now) (state S.Store tx.new.conn.now) }
 {
-    let counts = counted_in(tx, alloc, act, day)?;
     let tickets = tickets_in(tx)?;
+    let counts = counted_in(tx, alloc, act, day, tickets)?;
     Ok(Counts {
         tickets,
         day: counts,

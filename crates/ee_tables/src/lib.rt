@@ -23,4 +23,4 @@ pub use records::{
     Batch, Bond, Desk, Entry, Line, PlacedLine, Rate, Serial, Ticket, TicketSum, UnpaidBond,
 };
 pub use replies::{add_reply, find_reply};
-pub use tickets::{add_ticket, day_tickets, find_ticket, last_ticket};
+pub use tickets::{add_ticket, day_tickets, find_ticket, first_ticket, last_ticket};

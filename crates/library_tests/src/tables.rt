@@ -2,7 +2,8 @@ use crate::comparing::{same, shown};
 use ee_tables::{
     Batch, Entry, Failure, Line, Rate, Serial, Ticket, UnpaidBond, add_batch, add_bonds, add_rates,
     add_reply, add_ticket, bonds_of_owner, day_tickets, find_batch, find_bond, find_desk,
-    find_rate, find_reply, find_ticket, last_ticket, pay_lines, set_day, ticket_lines,
+    find_rate, find_reply, find_ticket, first_ticket, last_ticket, pay_lines, set_day,
+    ticket_lines,
 };
 use sqlite::{Alter, Connection, Error, Transaction};
 use std::alloc::Global;
@@ -141,6 +142,8 @@ fn shows_tickets<S: Alter>(
 ) -> Result<(), Fail> {
     let ticket = "Ok(Some(Ticket { day: 16559, payee: 7, bonds: 1, total: 2974 }))";
     shows(rt, alloc, &find_ticket(tx, 1), ticket)?;
+    shows(rt, alloc, &first_ticket(tx, DAY), "Ok(Some(1))")?;
+    shows(rt, alloc, &first_ticket(tx, DAY + 1), "Ok(None)")?;
     shows(rt, alloc, &last_ticket(tx), "Ok(Some(1))")?;
     let sums = "Ok([TicketSum { ticket: 1, bonds: 1, total: 2974 }])";
     shows(rt, alloc, &day_tickets(tx, alloc, DAY), sums)

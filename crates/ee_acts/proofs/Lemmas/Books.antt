@@ -56,6 +56,10 @@ small_total_on = Bounds.total_small
 pub sound_keyed : (books : PlainBooks) → IsSound books → (serial : SerialNumber) → IfSome (finite.get books.bonds serial) (λ bond. bond.serial ≡ serial)
 sound_keyed = Soundness.bonds_keyed
 
+-- no ticket is of a day after the open one
+pub none_later : (books : PlainBooks) → IsSound books → (day : ℕ) → books.day ≡ Some day → AllByRecursion (λ t. t.day ≤ day) books.tickets
+none_later = Soundness.none_later
+
 -- what the batches and the open day of sound books have is what was paid
 pub sound_conserves : (books : PlainBooks) → IsSound books → IsConserved books
 sound_conserves = Conservation.conserved

@@ -6,16 +6,17 @@ use Rattle.ee_store.proofs.seeing.counts_in.Goals as goal
 
 pub returns-clause-found : goal.returns-clause-found
 returns-clause-found g c clean inside S sees day =
-    let middle = state g.S.Store c.counted_in.new.tx.conn.now in
-    let new = state g.S.Store c.tickets_in.new.tx.conn.now in
-    let before = clean_before middle new c.tickets_in.ensures.crash clean in
-    let still : SeesContent middle S = record { right = sees.right; rows = c.in_ok-counts.ensures.rows before inside (rows_of S) sees.rows } in
-    let counts = c.in_ok-counts.ensures.found before inside S sees day in
-    (c.in_ok-tickets.ensures.found clean (c.in_ok-counts.ensures.inside before inside) S still, counts.0, counts.1, counts.2)
+    let middle = state g.S.Store c.tickets_in.new.tx.conn.now in
+    let new = state g.S.Store c.counted_in.new.tx.conn.now in
+    let before = clean_before middle new c.counted_in.ensures.crash clean in
+    let still : SeesContent middle S = record { right = sees.right; rows = c.in_ok-tickets.ensures.rows before inside (rows_of S) sees.rows } in
+    let tickets = c.in_ok-tickets.ensures.found before inside S sees in
+    let counts = c.in_ok-counts.ensures.found clean (c.in_ok-tickets.ensures.inside before inside) S still day tickets in
+    (tickets, counts.0, counts.1, counts.2)
 
 pub returns-clause-rows : goal.returns-clause-rows
 returns-clause-rows g c clean inside rows sees =
-    let middle = state g.S.Store c.counted_in.new.tx.conn.now in
-    let new = state g.S.Store c.tickets_in.new.tx.conn.now in
-    let before = clean_before middle new c.tickets_in.ensures.crash clean in
-    c.in_ok-tickets.ensures.rows clean (c.in_ok-counts.ensures.inside before inside) rows (c.in_ok-counts.ensures.rows before inside rows sees)
+    let middle = state g.S.Store c.tickets_in.new.tx.conn.now in
+    let new = state g.S.Store c.counted_in.new.tx.conn.now in
+    let before = clean_before middle new c.counted_in.ensures.crash clean in
+    c.in_ok-counts.ensures.rows clean (c.in_ok-tickets.ensures.inside before inside) rows (c.in_ok-tickets.ensures.rows before inside rows sees)

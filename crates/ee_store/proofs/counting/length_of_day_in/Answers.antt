@@ -1,0 +1,17 @@
+use Rattle.std.proofs.Common.{◌-◌, ap, ◌∙◌}
+use Rattle.std.specs.Option.{option_map_or}
+use Rattle.sqlite.specs.Held.{state}
+use Rattle.ee_tables.specs.Rows.{first_number, tickets_on}
+use Rattle.ee_tables.proofs.Lemmas.Transactions.{unchanged_sees}
+use Rattle.ee_contents.specs.Standing.{rows_of}
+use Rattle.ee_store.proofs.DaySums.{from_first_on}
+use Rattle.ee_store.proofs.counting.length_of_day_in.Goals as goal
+
+pub returns-clause-found : goal.returns-clause-found
+returns-clause-found g c clean inside S sees opened count =
+    let found = c.in_ok-first.ensures.found clean (rows_of S) sees.rows ∙ ap (λ day. first_number (tickets_on (rows_of S) day)) c.count.ensures.value in
+    c.from_first.ensures ∙ ap (λ o. option_map_or (λ m. c.args.tickets - (m - 1)) o 0) found ∙ from_first_on S c.args.day c.args.tickets sees.right opened count
+
+pub returns-clause-rows : goal.returns-clause-rows
+returns-clause-rows g c clean inside rows sees =
+    unchanged_sees (state g.S.Store c.args.tx.now.conn.now) (state g.S.Store c.first_ticket.new.tx.conn.now) rows (c.in_ok-first.ensures.same clean inside) sees
