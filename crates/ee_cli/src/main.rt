@@ -1,18 +1,9 @@
 //! The counter of a paying agent for paper Series EE savings bonds: the program.
 #![tactic(auto)]
 
-mod carrying;
-mod opening;
-mod run;
-mod store;
-mod stores;
-#[cfg(test)]
-mod tests;
-
-use run::run_words;
+use ee_program::{StoreFiles, run_words};
 use std::io;
 use std::process::ExitCode;
-use store::StoreFiles;
 
 fn main(rt: HostRuntime) -> io::Result<ExitCode> {
     let words: Vec<String> = std::env::args(&rt)?.collect(rt.alloc())?;

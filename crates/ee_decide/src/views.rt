@@ -5,7 +5,7 @@ ghost use Rattle.ee_acts.specs.declared.acts.Act.{Act};
 ghost use Rattle.ee_acts.specs.PlainBooks.{PlainBooks};
 ghost use Rattle.ee_acts.specs.Sound.{IsSound};
 ghost use Rattle.ee_acts.specs.Values.{unsettled};
-ghost use Rattle.ee_acts.specs.Views.{view_of};
+ghost use Rattle.ee_acts.specs.Views.{view_of, needed_of};
 ghost use Rattle.ee_decide.specs.Parts.{plain_parts};
 
 use ee_acts::{Held, Terms};
@@ -55,11 +55,11 @@ pub struct ViewParts {
     pub last_day: Option<Day>,
     /// How many tickets there are over all days.
     pub tickets: u64,
-    /// How many tickets the open day has, for a redemption and for the day's closing; else 0.
+    /// How many tickets the open day has, for the acts that count them; else 0.
     pub day_tickets: u64,
-    /// How many bonds these paid, for the day's closing; else 0.
+    /// How many bonds these paid. A redemption isn't decided by it.
     pub day_bonds: u64,
-    /// Their sum, for the day's closing; else 0.
+    /// Their sum. A redemption isn't decided by it.
     pub day_total: Cents,
 }
 
@@ -101,6 +101,7 @@ impl View {
     pub fn from_parts(parts: ViewParts) -> Option<View>
         ensures some { IfSome result (λ v. v ≡ plain_parts parts) }
         ensures fits { (books : PlainBooks) (asked : Act) → IsSound books → plain_parts parts ≡ view_of books asked → IsSome result }
+        ensures needed { (books : PlainBooks) (asked : Act) → IsSound books → plain_parts parts ≡ needed_of books asked → IsSome result }
     {
         if parts.tickets <= MOST_TICKETS {
             Some(View { parts })

@@ -186,14 +186,12 @@ fn bonds_of(alloc: Global, ledger: &Ledger, act: &Act) -> Result<BTreeMap<Serial
     }
 }
 
-/// The open day's tickets, for the acts that count them: a redemption asks how many there are, a closing
-/// also what they pay.
+/// The open day's tickets, for the acts that count them.
 fn counted(ledger: &Ledger, act: &Act) -> DayCounts
     ensures { AreCounts (is.counted ledger.now act.now) result }
 {
     match act {
-        Act::CloseDay(_) => ledger.counts(),
-        Act::Redeem { .. } => DayCounts::of_tickets(ledger.counts().tickets),
+        Act::Redeem { .. } | Act::CloseDay(_) => ledger.counts(),
         Act::AddRates(_) | Act::AddBonds(_) | Act::OpenDay(_) => DayCounts::of_tickets(0),
     }
 }

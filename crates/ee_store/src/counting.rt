@@ -167,8 +167,8 @@ pub fn counted_in<S: Alter>(
     ensures open { StaysOpen (state S.Store tx.old.conn.now) (state S.Store tx.new.conn.now) result }
     ensures inside { StaysInside (state S.Store tx.old.conn.now) (state S.Store tx.new.conn.now) result }
     ensures found { FindsIn (state S.Store tx.old.conn.now) (state S.Store tx.new.conn.now) result (λ content counts. day ≡ content.books.day → tickets ≡ length content.books.tickets
-        → (counts.tickets ≡ (is.counted content.books act.now).tickets)
-        × (counts.bonds ≡ (is.counted content.books act.now).bonds) × (counts.total.0 ≡ (is.counted content.books act.now).total.0)) }
+        → (counts.tickets ≡ (is.needed_counts content.books act.now).tickets)
+        × (counts.bonds ≡ (is.needed_counts content.books act.now).bonds) × (counts.total.0 ≡ (is.needed_counts content.books act.now).total.0)) }
     ensures rows { LeavesRows (state S.Store tx.old.conn.now) (state S.Store tx.new.conn.now) result }
     ensures commit { CommitsNothing (state S.Store tx.old.conn.now) (state S.Store tx.new.conn.now) }
     ensures crash { LeavesNoMore (state S.Store tx.old.conn.now) (state S.Store tx.new.conn.now) }

@@ -131,8 +131,8 @@ fn counts_in<S: Alter>(
     ensures open { StaysOpen (state S.Store tx.old.conn.now) (state S.Store tx.new.conn.now) result }
     ensures inside { StaysInside (state S.Store tx.old.conn.now) (state S.Store tx.new.conn.now) result }
     ensures found { FindsIn (state S.Store tx.old.conn.now) (state S.Store tx.new.conn.now) result (λ content counts. day ≡ content.books.day
-        → (counts.tickets ≡ length content.books.tickets) × (counts.day.tickets ≡ (is.counted content.books act.now).tickets)
-        × (counts.day.bonds ≡ (is.counted content.books act.now).bonds) × (counts.day.total.0 ≡ (is.counted content.books act.now).total.0)) }
+        → (counts.tickets ≡ length content.books.tickets) × (counts.day.tickets ≡ (is.needed_counts content.books act.now).tickets)
+        × (counts.day.bonds ≡ (is.needed_counts content.books act.now).bonds) × (counts.day.total.0 ≡ (is.needed_counts content.books act.now).total.0)) }
     ensures rows { LeavesRows (state S.Store tx.old.conn.now) (state S.Store tx.new.conn.now) result }
     ensures commit { CommitsNothing (state S.Store tx.old.conn.now) (state S.Store tx.new.conn.now) }
     ensures crash { LeavesNoMore (state S.Store tx.old.conn.now) (state S.Store tx.new.conn.now) }
@@ -165,7 +165,7 @@ fn view_from(keys: Keys, days: Days, counts: Counts) -> Result<View, Unfinished>
     }
 }
 
-/// What an act sees of the books.
+/// What an act is decided by.
 fn view_in<S: Alter>(
     tx: &mut Transaction<'_, S>,
     alloc: Global,
@@ -175,7 +175,7 @@ fn view_in<S: Alter>(
     ensures same_reference { tx.new.conn.ghost_name ≡ tx.old.conn.ghost_name }
     ensures open { StaysOpen (state S.Store tx.old.conn.now) (state S.Store tx.new.conn.now) result }
     ensures inside { StaysInside (state S.Store tx.old.conn.now) (state S.Store tx.new.conn.now) result }
-    ensures found { FindsIn (state S.Store tx.old.conn.now) (state S.Store tx.new.conn.now) result (λ content view. view ≡ is.view_of content.books act.now) }
+    ensures found { FindsIn (state S.Store tx.old.conn.now) (state S.Store tx.new.conn.now) result (λ content view. view ≡ is.needed_of content.books act.now) }
     ensures rows { LeavesRows (state S.Store tx.old.conn.now) (state S.Store tx.new.conn.now) result }
     ensures commit { CommitsNothing (state S.Store tx.old.conn.now) (state S.Store tx.new.conn.now) }
     ensures crash { LeavesNoMore (state S.Store tx.old.conn.now) (state S.Store tx.new.conn.now) }

@@ -9,3 +9,10 @@ returns-else-parts-le-MOST_TICKETS-clause-fits c = λ books asked sound is.
     let same : c.args.parts.tickets ≡ length books.tickets = ap (λ (v : PlainView). v.tickets) is in
     let many = c.if-parts-le-MOST_TICKETS.false in
     absurd (omega (arith, few, same, many))
+
+pub returns-else-parts-le-MOST_TICKETS-clause-needed : goal.returns-else-parts-le-MOST_TICKETS-clause-needed
+returns-else-parts-le-MOST_TICKETS-clause-needed c = λ books asked sound is.
+    let few = few_tickets books sound in
+    let same : c.args.parts.tickets ≡ length books.tickets = ap (λ (v : PlainView). v.tickets) is in
+    let many = c.if-parts-le-MOST_TICKETS.false in
+    absurd (omega (arith, few, same, many))

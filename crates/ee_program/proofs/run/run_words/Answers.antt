@@ -1,9 +1,9 @@
 use Rattle.std.proofs.Common.{inl, inr}
 use Rattle.ee_commands.specs.Answer.{view_of}
 use Rattle.ee_commands.proofs.Lemmas.{asks_unrefused}
-use Rattle.ee_cli.specs.Statuses.{Carries}
-use Rattle.ee_cli.proofs.Ended.{concluded, helped, refused_line, value_printed}
-use Rattle.ee_cli.proofs.run.run_words.Goals as goal
+use Rattle.ee_program.specs.Statuses.{Carries}
+use Rattle.ee_program.proofs.Ended.{concluded, helped, refused_line, value_printed}
+use Rattle.ee_program.proofs.run.run_words.Goals as goal
 
 pub returns-in-Ok-carry_out-clause-status : goal.returns-in-Ok-carry_out-clause-status
 returns-in-Ok-carry_out-clause-status g c =

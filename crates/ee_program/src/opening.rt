@@ -4,7 +4,7 @@ ghost use Rattle.std.specs.Prelude.{◌≡◌, IfOk, None};
 ghost use Rattle.ee_acts.specs.Repeats.{Content};
 ghost use Rattle.ee_actions.specs.Actions.{ImportsInto};
 ghost use Rattle.ee_actions.specs.Connections.{ServesAll};
-ghost use Rattle.ee_cli.specs.Stores.{Over};
+ghost use Rattle.ee_program.specs.Stores.{Over};
 
 use ee_actions::{Outcome, RunFault, import_into, serve_on};
 use ee_acts::Number;

@@ -1,7 +1,7 @@
 //! Stores in files.
 
 ghost use Rattle.std.specs.Prelude.{◌≡◌};
-ghost use Rattle.ee_cli.specs.Faults.{fault_of_opening};
+ghost use Rattle.ee_program.specs.Faults.{fault_of_opening};
 
 use crate::stores::Stores;
 use ee_actions::{RunFault, StoreFault};

@@ -10,7 +10,7 @@ use Rattle.ee_actions.specs.declared.faults.RunFault.{RunFault}
 use Rattle.ee_commands.specs.CommandLine.{Asked, value}
 use Rattle.ee_commands.specs.Answer.{IsAsked, IsRefused, AsksForHelp}
 use Rattle.ee_commands.proofs.Lemmas.{asks_for_help_alone, asks_for_one, asks_unrefused}
-use Rattle.ee_cli.specs.Statuses.{Carries, Ends, IsRun, IsStatusFor}
+use Rattle.ee_program.specs.Statuses.{Carries, Ends, IsRun, IsStatusFor}
 
 -- ---- the words determine what they ask for
 

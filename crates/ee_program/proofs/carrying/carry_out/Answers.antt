@@ -1,4 +1,4 @@
-use Rattle.ee_cli.proofs.carrying.carry_out.Goals as goal
+use Rattle.ee_program.proofs.carrying.carry_out.Goals as goal
 
 pub returns-in-Apply-clause-over : goal.returns-in-Apply-clause-over
 returns-in-Apply-clause-over g c = λ clean contents holds. rw c.in-Apply.is (c.apply.ensures clean (contents c.in-Apply.db.now) (holds c.in-Apply.db.now))

@@ -8,8 +8,8 @@ ghost use Rattle.ee_actions.specs.Printed.{value_line};
 ghost use Rattle.ee_commands.specs.Answer.{IsAsked};
 ghost use Rattle.ee_commands.specs.CommandLine.{value};
 ghost use Rattle.ee_units.specs.declared.denoms.Denom.{Denom};
-ghost use Rattle.ee_cli.specs.Statuses.{Carries, IsRun, IsStatusFor};
-ghost use Rattle.ee_cli.specs.Stores.{AreClean, CarriesOver};
+ghost use Rattle.ee_program.specs.Statuses.{Carries, IsRun, IsStatusFor};
+ghost use Rattle.ee_program.specs.Stores.{AreClean, CarriesOver};
 
 use crate::carrying::carry_out;
 use crate::stores::Stores;

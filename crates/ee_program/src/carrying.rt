@@ -6,8 +6,8 @@ ghost use Rattle.ee_acts.specs.Repeats.{Content};
 ghost use Rattle.ee_actions.specs.Actions.{Applies, ExportsFrom, ImportsInto, ShowsSheet};
 ghost use Rattle.ee_actions.specs.Connections.{ServesAll};
 ghost use Rattle.ee_commands.specs.Answer.{view_of};
-ghost use Rattle.ee_cli.specs.Statuses.{Carries};
-ghost use Rattle.ee_cli.specs.Stores.{AreClean, CarriesOver, Over};
+ghost use Rattle.ee_program.specs.Statuses.{Carries};
+ghost use Rattle.ee_program.specs.Stores.{AreClean, CarriesOver, Over};
 
 use crate::opening::{import_path, serve_port};
 use crate::stores::Stores;

@@ -1,0 +1,15 @@
+//! Running one command line of the counter's program: over stores that its words name, to an exit status.
+#![tactic(auto)]
+
+mod carrying;
+mod opening;
+mod run;
+mod store;
+mod stores;
+#[cfg(test)]
+mod tests;
+
+pub use carrying::carry_out;
+pub use run::{BAD_LINE, DONE, FAILED, REFUSED, run_words};
+pub use store::StoreFiles;
+pub use stores::Stores;
