@@ -1,4 +1,4 @@
-use Rattle.std.proofs.Common.{inl}
+use Rattle.std.proofs.Common.{rules, inl}
 use Rattle.sqlite.specs.Held.{state}
 use Rattle.std.proofs.lemmas.Result.{IfOk-weaker}
 use Rattle.ee_tables.proofs.Lemmas.Transactions.{on_err_from}
@@ -97,3 +97,6 @@ returns-then-has_tables-clause-blank g c clean =
     let old = state g.S.Store c.args.conn.now in
     let settled = c.is_autocommit.ensures.settled c.if-not-is_autocommit.false in
     each_err c.read_all.result (λ e blank is_open. absurd (not_blank old settled c.has_tables.result c.has_tables.ensures c.if-has_tables.true blank is_open))
+
+pub returns-then-not-is_autocommit-clause-blank : goal.returns-then-not-is_autocommit-clause-blank
+returns-then-not-is_autocommit-clause-blank g c = search rules

@@ -92,3 +92,6 @@ rows-preserved g c =
           let more : map g.T.Record.shown c.rows.found.items ++ c.in-Some.row.now ∷ [] ≡ map g.T.Record.shown c.push.new.self.items = rw c.in_ok-next.ensures.exact (one_more g.T.Record.shown c.push.result (sym c.if-is_err.false ∙ c.is_err.ensures.value) c.push.new.self.items c.rows.found.items c.in_ok-next.next c.push.ensures.items) in
           (subst (HasGiven g.S.Store c.args.sql.now [] now) more step, unchanged_then old middle (state g.S.Store now) was.1 same),
     )
+
+pub returns-clause-shown : goal.returns-clause-shown
+returns-clause-shown g c = search rules
