@@ -17,6 +17,8 @@ mod files;
 #[cfg(test)]
 mod lines;
 #[cfg(test)]
+mod lists;
+#[cfg(test)]
 mod noise;
 #[cfg(test)]
 mod refusals;

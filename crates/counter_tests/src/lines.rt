@@ -13,9 +13,13 @@ import --number 1 --db a.db inventory i.csv => import of inventory i.csv to a.db
 export 7 --db a.db => export of 7 from a.db
 sheet 007 2012-02 --db=a.db => sheet of 7 in 2012-02 from a.db
 serve --db a.db --port 65535 --connections 1000 => serve a.db on 65535, 1000 times
+serve --db a.db --port 65535 => serve a.db on 65535, 18446744073709551615 times
  => a bad line
 --help => help
 import --help => help
+--version => version
+-V => version
+value --version => a bad line
 help => a bad line
 value 51 2010 2015 x => bad denom
 value 50 2010 2015 x => bad issued
@@ -31,6 +35,7 @@ sheet 0 x --db a.db => bad customer
 sheet 7 x --db a.db => bad month
 serve --db a.db --port 0 --connections 1 => a bad line
 serve --db a.db --port 65536 --connections 1 => a bad line
+serve --db a.db --port 1 --connections 0 => a bad line
 serve --db a.db --port 1 --connections 1001 => a bad line
 ";
 
@@ -70,6 +75,7 @@ fn told(alloc: Global, line: &str) -> Result<String, Fail> {
     match read_command(alloc, words.as_slice()) {
         Ok(command) => command_told(alloc, command),
         Err(CommandFault::Help(_)) => Ok(String::from_str(alloc, "help")?),
+        Err(CommandFault::Version) => Ok(String::from_str(alloc, "version")?),
         Err(CommandFault::Line(_)) => Ok(String::from_str(alloc, "a bad line")?),
         Err(CommandFault::Argument(name)) => Ok(format!(in alloc; "bad {name}")?),
         Err(CommandFault::NoMemory) => Err("no memory".into()),

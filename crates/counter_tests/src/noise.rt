@@ -2,7 +2,7 @@
 //! status and a body that the formats name.
 
 use crate::days::{BEGUN, DAY};
-use crate::talk::{applied, compare, message};
+use crate::talk::{applied, compare, stream};
 use ee_keeper::{Keeper, ListKeeper};
 use ee_texts::read_reply;
 use std::alloc::Global;
@@ -109,17 +109,6 @@ impl Dice {
     }
 }
 
-/// All messages of the day, one after another.
-fn day_stream(alloc: Global) -> Result<String, Fail> {
-    let mut text = String::new(alloc);
-    for line in DAY.lines() {
-        if let Some(line) = line.strip_prefix("> ") {
-            text.push_str(message(alloc, line)?.as_str())?;
-        }
-    }
-    Ok(text)
-}
-
 /// The stream with up to three bytes changed, and its end cut off at times; at times with all changed.
 fn damaged(alloc: Global, dice: &mut Dice, stream: &[u8]) -> Result<Vec<u8>, Fail> {
     let mut bytes = Vec::from_slice(alloc, stream)?;
@@ -145,7 +134,7 @@ fn damaged(alloc: Global, dice: &mut Dice, stream: &[u8]) -> Result<Vec<u8>, Fai
 /// A day that has begun, and then the streams, each on a connection of its own.
 pub fn noise<K: Keeper>(rt: &impl Abort, alloc: Global, keeper: &mut K) -> Result<(), Fail> {
     compare(rt, alloc, keeper, BEGUN)?;
-    let day = day_stream(alloc)?;
+    let day = stream(alloc, DAY)?;
     let mut dice = Dice { state: 1 };
     for _ in 0..STREAMS {
         let stream = damaged(alloc, &mut dice, day.as_bytes())?;

@@ -4,6 +4,7 @@ use crate::calls::{runs, shown};
 use crate::days::{BEGUN, DAY, LAST, MERGES, ORDERS, TICKETS, in_order};
 use crate::faults::{ended, ends, faults, heads};
 use crate::files::{exports, imports, long_files};
+use crate::lists::LISTS;
 use crate::noise::noise;
 use crate::refusals::{DAYS, IMPORTS, full_day, long_ticket};
 use crate::streams::lost_reply;
@@ -29,7 +30,7 @@ fn adopt(alloc: Global, conn: Connection<MemStore>) -> Result<SqlKeeper<MemStore
 }
 
 /// Days that are told as transcripts.
-const TALKS: [&str; 4] = [DAY, IMPORTS, DAYS, LAST];
+const TALKS: [&str; 5] = [DAY, IMPORTS, DAYS, LAST, LISTS];
 
 /// The same over a keeper in memory and one over tables.
 #[test]

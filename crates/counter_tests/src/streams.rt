@@ -215,7 +215,8 @@ fn a_message_may_ask_to_close(rt: HostRuntime) -> Result<(), Fail> {
     Ok(())
 }
 
-/// The thousandth answer says that the connection ends, and what comes after isn't answered.
+/// The thousandth answer says that the connection ends, also where the input ends there; what comes after isn't
+/// answered.
 #[test]
 fn a_connection_has_a_thousand_messages(rt: HostRuntime) -> Result<(), Fail> {
     let alloc = rt.alloc();
@@ -226,9 +227,11 @@ fn a_connection_has_a_thousand_messages(rt: HostRuntime) -> Result<(), Fail> {
         stream.push_str("GET /a HTTP/1.1\r\n\r\n")?;
         wanted.push_str(answer(alloc, "404 Not Found", "", fault)?.as_str())?;
     }
-    stream.push_str("GET /a HTTP/1.1\r\n\r\nGET /a HTTP/1.1\r\n\r\n")?;
     wanted.push_str(answer(alloc, "404 Not Found", "Connection: close\r\n", fault)?.as_str())?;
-    assert_eq!(rt; alone(alloc, stream.as_str())?.as_str(), wanted.as_str());
+    for _ in 0..2 {
+        stream.push_str("GET /a HTTP/1.1\r\n\r\n")?;
+        assert_eq!(rt; alone(alloc, stream.as_str())?.as_str(), wanted.as_str());
+    }
     Ok(())
 }
 

@@ -2,7 +2,7 @@
 //! status and the body of its answer. `[*COUNT ITEM*]` is a list of so many items, and `#` in
 //! the item is its place, from 1 on.
 
-use ee_actions::{Outcome, apply_to};
+use ee_actions::{Outcome, RunFault, StoreFault, apply_to};
 use ee_keeper::Keeper;
 use std::alloc::Global;
 use std::fmt::Write;
@@ -51,6 +51,17 @@ pub fn message(alloc: Global, line: &str) -> Result<String, Fail> {
     Ok(format!(in alloc; "{method} {path} HTTP/1.1\r\nContent-Length: {length}\r\n\r\n{body}")?)
 }
 
+/// All messages of a transcript, one after another.
+pub fn stream(alloc: Global, transcript: &str) -> Result<String, Fail> {
+    let mut text = String::new(alloc);
+    for line in transcript.lines() {
+        if let Some(line) = line.strip_prefix("> ") {
+            text.push_str(message(alloc, line)?.as_str())?;
+        }
+    }
+    Ok(text)
+}
+
 /// Status and body of an answer.
 fn told(alloc: Global, answer: &str) -> Result<String, Fail> {
     let (head, body) = answer.split_once("\r\n\r\n").ok_or("head")?;
@@ -65,17 +76,23 @@ pub fn applied<K: Keeper>(alloc: Global, keeper: &mut K, stream: &[u8]) -> Resul
     let end = match apply_to(alloc, keeper, &mut reader, &mut text) {
         Ok(Outcome::Done) => "Done",
         Ok(Outcome::Refused) => "Refused",
+        Err(RunFault::Store(StoreFault::StoreFailed)) => "StoreFailed",
         _ => "Failed",
     };
     let text = String::from_utf8(text).ok().ok_or("text")?;
     Ok(format!(in alloc; "{end}\n{text}")?)
 }
 
-/// The answer to one message, on which `apply` is done.
+/// The answer to one message; after how `apply` ends on it, where it isn't done.
 pub fn ask<K: Keeper>(alloc: Global, keeper: &mut K, line: &str) -> Result<String, Fail> {
     let message = message(alloc, line)?;
     let text = applied(alloc, keeper, message.as_bytes())?;
-    told(alloc, text.as_str().strip_prefix("Done\n").ok_or("end")?)
+    let (end, answer) = text.split_once('\n').ok_or("end")?;
+    let answer = told(alloc, answer)?;
+    match end {
+        "Done" => Ok(answer),
+        _ => Ok(format!(in alloc; "{end} {answer}")?),
+    }
 }
 
 /// What `apply` does on each message of a transcript, in all bytes.

@@ -14,22 +14,50 @@ use Rattle.ee_actions.specs.declared.faults.RunFault.{RunFault}
 use Rattle.ee_actions.specs.Printed.{connection_line, connection_lines}
 
 -- a connection leaves one content
-ends_at : (why : Why) (before after old new : Option (List ℕ)) (c : Content) (n count : ℕ) (Has : Content → Type 0)
-    → EndsBy why before after old new c n count Has → (d : Content) × EndsBy why before after old new c n count (λ left. left ≡ d) × Has d
-ends_at Closed before after old new c n count Has e = (c, (e.0, e.1, e.2, refl), e.3)
-ends_at Asked before after old new c n count Has e = (left_by c e.0, (e.0, (e.1.0, e.1.1, refl), e.2, e.3, e.4), e.1.2)
-ends_at Limit before after old new c n count Has e = (c, (e.0, e.1, e.2, refl), e.3)
-ends_at (Fault f) before after old new c n count Has e = (c, (e.0, e.1, e.2, refl), e.3)
-ends_at ReadFailed before after old new c n count Has e = (c, (e.0, e.1, e.2, refl), e.3)
-ends_at NoMemory before after old new c n count Has (x, y, inl has) = (c, (x, y, inl refl), has)
-ends_at NoMemory before after old new c n count Has (x, y, inr (t, tells)) = (left_by c t, (x, y, inr (t, (tells.0, tells.1, refl))), tells.2)
-ends_at WriteFailed before after old new c n count Has (x, inl (t, tells, cuts)) = (left_by c t, (x, inl (t, (tells.0, tells.1, refl), cuts)), tells.2)
-ends_at WriteFailed before after old new c n count Has (x, inr (f, fault, cuts, has)) = (c, (x, inr (f, fault, cuts, refl)), has)
+ends_at : (why : Why) (bytes : List ℕ) (left old new : Option (List ℕ)) (c : Content) (n count : ℕ) (Has : Content → Type 0)
+    → EndsBy why bytes left old new c n count Has → (d : Content) × EndsBy why bytes left old new c n count (λ now. now ≡ d) × Has d
+ends_at Closed bytes left old new c n count Has e = (c, (e.0, e.1, e.2, e.3, refl), e.4)
+ends_at Asked bytes left old new c n count Has e = (left_by c e.0, (e.0, (e.1.0, e.1.1, refl), e.2, e.3, e.4), e.1.2)
+ends_at Limit bytes left old new c n count Has e = (c, (e.0, e.1, e.2, refl), e.3)
+ends_at (Fault f) bytes left old new c n count Has e = (c, (e.0, e.1, e.2, refl), e.3)
+ends_at ReadFailed bytes left old new c n count Has e = (c, (e.0, e.1, e.2, refl), e.3)
+ends_at NoMemory bytes left old new c n count Has (x, y, inl (needs, has)) = (c, (x, y, inl (needs, refl)), has)
+ends_at NoMemory bytes left old new c n count Has (x, y, inr (inl (f, shows, has))) = (c, (x, y, inr (inl (f, shows, refl))), has)
+ends_at NoMemory bytes left old new c n count Has (x, y, inr (inr (t, tells))) = (left_by c t, (x, y, inr (inr (t, (tells.0, tells.1, refl)))), tells.2)
+ends_at WriteFailed bytes left old new c n count Has (x, inl (t, tells, cuts)) = (left_by c t, (x, inl (t, (tells.0, tells.1, refl), cuts)), tells.2)
+ends_at WriteFailed bytes left old new c n count Has (x, inr (f, shows, cuts, has)) = (c, (x, inr (f, shows, cuts, refl)), has)
 
 serves_at : (c : Content) (e : Ended) (Has : Content → Type 0) → ServesSocket c e Has → (d : Content) × ServesSocket c e (λ left. left ≡ d) × Has d
 serves_at c e Has s =
-    let x = ends_at e.why s.rest s.at_end s.wrote None (left_by_all c s.told) (length s.told) e.messages Has s.ends in
-    (x.0, record { told = s.told; few = s.few; rest = s.rest; at_end = s.at_end; wrote = s.wrote; so_far = s.so_far; ends = x.1 }, x.2)
+    let x = ends_at e.why s.rest None s.wrote None (left_by_all c s.told) (length s.told) e.messages Has s.ends in
+    (x.0, record { bytes = s.bytes; read = s.read; told = s.told; few = s.few; rest = s.rest; wrote = s.wrote; so_far = s.so_far; ends = x.1 }, x.2)
+
+-- what keeps the content keeps what was served
+ends_yet : (why : Why) (bytes : List ℕ) (left old new : Option (List ℕ)) (c : Content) (n count : ℕ) (Has After : Content → Type 0)
+    → EndsBy why bytes left old new c n count Has → ((d : Content) → Has d → After d) → EndsBy why bytes left old new c n count After
+ends_yet Closed bytes left old new c n count Has After e stays = (e.0, e.1, e.2, e.3, stays c e.4)
+ends_yet Asked bytes left old new c n count Has After e stays = (e.0, (e.1.0, e.1.1, stays (left_by c e.0) e.1.2), e.2, e.3, e.4)
+ends_yet Limit bytes left old new c n count Has After e stays = (e.0, e.1, e.2, stays c e.3)
+ends_yet (Fault f) bytes left old new c n count Has After e stays = (e.0, e.1, e.2, stays c e.3)
+ends_yet ReadFailed bytes left old new c n count Has After e stays = (e.0, e.1, e.2, stays c e.3)
+ends_yet NoMemory bytes left old new c n count Has After (x, y, inl (needs, has)) stays = (x, y, inl (needs, stays c has))
+ends_yet NoMemory bytes left old new c n count Has After (x, y, inr (inl (f, shows, has))) stays = (x, y, inr (inl (f, shows, stays c has)))
+ends_yet NoMemory bytes left old new c n count Has After (x, y, inr (inr (t, tells))) stays = (x, y, inr (inr (t, (tells.0, tells.1, stays (left_by c t) tells.2))))
+ends_yet WriteFailed bytes left old new c n count Has After (x, inl (t, tells, cuts)) stays = (x, inl (t, (tells.0, tells.1, stays (left_by c t) tells.2), cuts))
+ends_yet WriteFailed bytes left old new c n count Has After (x, inr (f, shows, cuts, has)) stays = (x, inr (f, shows, cuts, stays c has))
+
+pub serves_yet : (before left old new : Option (List ℕ)) (c : Content) (e : Ended) (Has After : Content → Type 0)
+    → Serves before left old new c e Has → ((d : Content) → Has d → After d) → Serves before left old new c e After
+serves_yet before left old new c e Has After s stays = record {
+  bytes = s.bytes;
+  read = s.read;
+  told = s.told;
+  few = s.few;
+  rest = s.rest;
+  wrote = s.wrote;
+  so_far = s.so_far;
+  ends = ends_yet e.why s.rest left s.wrote new (left_by_all c s.told) (length s.told) e.messages Has After s.ends stays;
+}
 
 pub each_more : (c : Content) (es : List Ended) (e : Ended) (Has After : Content → Type 0)
     → ServesEach c es Has → ((d : Content) → Has d → ServesSocket d e After) → ServesEach c (es ++ e ∷ []) After

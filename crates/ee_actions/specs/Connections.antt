@@ -13,7 +13,7 @@ use Rattle.ee_actions.specs.declared.faults.RunFault.TheVariants.{Device}
 -- a connection is served over a socket, whose bytes nobody knows: its messages are answered rightly, each at the content
 -- left by those before it, and it ends so
 abbrev pub ServesSocket : Content → Ended → (Content → Type 0) → Type 0
-ServesSocket c e Has = Serves None None None c e Has
+ServesSocket c e Has = Serves None None None None c e Has
 
 -- the next connection is served, or none came
 abbrev pub ServesNext : Content → Result Ended RunFault → (Content → Type 0) → Type 0

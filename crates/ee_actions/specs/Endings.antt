@@ -1,5 +1,6 @@
 -- How a command ends, by what it met.
-use Rattle.std.specs.Prelude.{Result, Ok, Err}
+use Rattle.std.specs.Prelude.{◌≡◌, ◌⊎◌, Result, Ok, Err}
+use Rattle.std.specs.Result.{IsOk}
 use Rattle.ee_value.specs.declared.faults.ValueFault.{ValueFault}
 use Rattle.ee_value.specs.declared.faults.ValueFault.TheVariants as value
 use Rattle.ee_acts.specs.declared.refusals.Unserved.{Unserved}
@@ -46,3 +47,11 @@ ending_of (why.Fault cause) = Ok Refused
 ending_of why.ReadFailed = Err fault.Device
 ending_of why.WriteFailed = Err fault.Device
 ending_of why.NoMemory = Err fault.NoMemory
+
+-- so it ends the command; or, where it did not fail, the store answers nothing any more
+abbrev pub EndsAsServed : Why → Result Outcome RunFault → Type 0
+EndsAsServed cause result = (result ≡ ending_of cause) ⊎ (IsOk (ending_of cause) × (result ≡ Err (fault.Store StoreFailed)))
+
+-- it is told that the store failed only where that may be
+abbrev pub TellsFailureOnlyIf : Type 0 → Result Outcome RunFault → Type 0
+TellsFailureOnlyIf may_fail result = result ≡ Err (fault.Store StoreFailed) → may_fail

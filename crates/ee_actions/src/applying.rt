@@ -3,8 +3,9 @@
 ghost use Rattle.std.specs.Prelude.{◌≡◌};
 ghost use Rattle.ee_acts.specs.Repeats.{Content};
 ghost use Rattle.ee_actions.specs.Actions.{Applies};
-ghost use Rattle.ee_actions.specs.Endings.{ending_of};
+ghost use Rattle.ee_actions.specs.Endings.{TellsFailureOnlyIf, ending_of};
 
+use crate::asking::store_answers;
 use crate::faults::{Outcome, RunFault};
 use ee_counter::{Why, serve};
 use ee_keeper::Keeper;
@@ -14,7 +15,8 @@ use std::io::{Read, Write};
 /// Serves the input as one connection, and writes the answers to the output. It is done where the input
 /// ends between two messages, where a message asks to close, and after 1,000 messages; it is refused where
 /// the bytes are no message, which is answered. Where a device failed it is `Device`, where memory was
-/// refused `NoMemory`: the last message may then have been decided without a whole answer.
+/// refused `NoMemory`: the last message may then have been decided without a whole answer. Else it is
+/// `StoreFailed` where the store answers nothing any more, as one that a fault has shut.
 pub fn apply_to<K: Keeper, R: Read, W: Write>(
     alloc: Global,
     keeper: &mut K,
@@ -23,10 +25,13 @@ pub fn apply_to<K: Keeper, R: Read, W: Write>(
 ) -> Result<Outcome, RunFault>
     ensures clean { K.is_clean keeper.new → K.is_clean keeper.old }
     ensures applies { K.is_clean keeper.new → (c : Content) → K.has keeper.old c
-        → Applies (R.remaining input.old) (W.contents output.old) (W.contents output.new) c result (K.has keeper.new) }
+        → Applies (R.remaining input.old) (R.remaining input.new) (W.contents output.old) (W.contents output.new) c result (K.has keeper.new) }
+    ensures failed { TellsFailureOnlyIf K.may_fail result }
 {
     let ended = serve(alloc, keeper, input, output);
-    ending(ended.why)
+    let outcome = ending(ended.why)?;
+    store_answers(keeper)?;
+    Ok(outcome)
 }
 
 fn ending(why: Why) -> Result<Outcome, RunFault>

@@ -32,6 +32,9 @@ pub enum StoreFault {
     /// Its rows stand for no books.
     #[error("Unusable")]
     Unusable,
+    /// Its log was not written back. What was decided stands, in the file and the log together.
+    #[error("NotWrittenBack")]
+    NotWrittenBack,
 }
 
 /// Why a command was not carried out.
@@ -40,7 +43,7 @@ pub enum RunFault {
     /// The file has a fault, or wasn't read. Nothing was delivered.
     #[error("file: {0}")]
     File(FileFault),
-    /// The store didn't serve. Nothing has changed.
+    /// The store didn't serve, and nothing has changed; or it was not written back.
     #[error("store: {0}")]
     Store(StoreFault),
     /// Reading or writing failed, or a file or a socket wasn't opened.

@@ -2,8 +2,10 @@
 #![tactic(auto)]
 
 mod applying;
+mod asking;
 mod faults;
 mod filing;
+mod patience;
 mod printing;
 mod reasons;
 mod serving;

@@ -1,20 +1,28 @@
 //! The counter of a paying agent for paper Series EE savings bonds: the program.
 #![tactic(auto)]
 
-use ee_program::{StoreFiles, run_words};
+use ee_program::{StoreFiles, refuse_words, run_words};
 use std::io;
 use std::process::ExitCode;
 
-fn main(rt: HostRuntime) -> io::Result<ExitCode> {
-    let words: Vec<String> = std::env::args(&rt)?.collect(rt.alloc())?;
-    let stores = StoreFiles { rt: &rt };
-    let status = run_words(
-        &rt,
-        &stores,
-        words.as_slice(),
-        &mut rt.stdin(),
-        &mut rt.stdout(),
-        &mut rt.stderr(),
-    );
-    Ok(ExitCode::from(status))
+fn main(rt: HostRuntime) -> ExitCode {
+    let status = match words(&rt) {
+        Ok(words) => {
+            let stores = StoreFiles { rt: &rt };
+            run_words(
+                &rt,
+                &stores,
+                words.as_slice(),
+                &mut rt.stdin(),
+                &mut rt.stdout(),
+                &mut rt.stderr(),
+            )
+        }
+        Err(error) => refuse_words(&error, &mut rt.stderr()),
+    };
+    ExitCode::from(status)
+}
+
+fn words(rt: &HostRuntime) -> io::Result<Vec<String>> {
+    Ok(std::env::args(rt)?.collect(rt.alloc())?)
 }

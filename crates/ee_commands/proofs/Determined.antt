@@ -1,6 +1,6 @@
 -- The words determine what they ask for. Of the references that stand for the kinds of files clap looks at the texts alone:
 -- so all lists of references to the same words, wherever they are, make the same program.
-use Rattle.std.proofs.Common.{◌≡◌, ◌≢◌, ◌∙◌, Bool, List, [], ◌∷◌, map, drop, Option, Some, Result, refl, sym, ap, subst, inl, inr, Bor, if◌then◌else◌, option_map}
+use Rattle.std.proofs.Common.{◌≡◌, ◌∙◌, Bool, List, [], ◌∷◌, map, drop, Option, Some, Result, refl, sym, ap, subst, inl, inr, Bor, if◌then◌else◌, option_map}
 use Rattle.std.specs.List.{list_any}
 use Rattle.clap.specs.Words.{App, Row, Text, fault_of, subcommand_of, same_text, IsAmong, Kinds}
 use Rattle.clap.specs.Facts.{parser_of_value}
@@ -10,13 +10,13 @@ use Rattle.clap.specs.Walk.{nothing_held, texts, stop_after}
 use Rattle.clap.specs.Simple.{built, entered, names_of}
 use Rattle.clap.specs.Faults.{built_fault}
 use Rattle.clap.specs.declared.error.kind.ErrorKind.{ErrorKind}
-use Rattle.clap.specs.declared.error.kind.ErrorKind.TheVariants.{DisplayHelp, InvalidValue}
+use Rattle.clap.specs.declared.error.kind.ErrorKind.TheVariants.{DisplayHelp, DisplayVersion, InvalidValue}
 use Rattle.clap.specs.declared.builder.value_parser.ValueParser.{ValueParser}
 use Rattle.clap.specs.declared.builder.value_parser.ValueParser.TheVariants as parser
 use Rattle.clap.proofs.WalkLemmas.{list_any-map}
 use Rattle.ee_commands.specs.CommandLine.{Asked, asked, program, kind_words}
-use Rattle.ee_commands.specs.Answer.{IsAsked, IsRefusedBy, IsRefused, AsksForHelp}
-use Rattle.ee_commands.proofs.Helps.{IsAlone, help_alone}
+use Rattle.ee_commands.specs.Answer.{IsAsked, IsRefusedBy, IsRefused, AsksForHelp, AsksForVersion}
+use Rattle.ee_commands.proofs.Requests.{IsAlone, IsRequest, requests_alone}
 use Rattle.ee_commands.proofs.Altered.{alter_app, faults_same, entered_same, stop_same}
 
 -- a reference to this text, and one to these, at no place
@@ -92,15 +92,25 @@ asks_unrefused words r kind p q =
     none_among kind (fault_of (program p.kinds) words) (fault_of (program q.kinds) words)
     (faults_bare p.kinds words p.kind_words_are ∙ sym (faults_bare q.kinds words q.kind_words_are)) p.read q.refused
 
-only_help : (k : ErrorKind) → IsAmong k (DisplayHelp ∷ []) → k ≡ DisplayHelp
-only_help k (inl e) = e
-only_help k (inr h) = absurd h
+only_this : (request k : ErrorKind) → IsAmong k (request ∷ []) → k ≡ request
+only_this request k (inl e) = e
+only_this request k (inr h) = absurd h
 
-two_causes : (x y : Kinds) (k : ErrorKind) → IsAlone x → x ≡ y → IsAmong DisplayHelp x → IsAmong k y → k ≢ DisplayHelp → ⊥
-two_causes x y k alone e help among other = other (only_help k (subst (IsAmong k) (sym e ∙ alone help) among))
+one_cause : (x y : Kinds) (request k : ErrorKind) → IsAlone x → IsRequest request → x ≡ y → IsAmong request x → IsAmong k y → k ≡ request
+one_cause x y request k alone is e asks among = only_this request k (subst (IsAmong k) (sym e ∙ alone request is asks) among)
+
+-- words that call for help or for the version are refused by no other kind
+asks_alone : (words : List Text) (request k : ErrorKind) → IsRequest request → IsRefusedBy request words → IsRefusedBy k words → k ≡ request
+asks_alone words request k is p q =
+    one_cause (fault_of (program p.kinds) words) (fault_of (program q.kinds) words) request k
+    (requests_alone (built (program p.kinds)) nothing_held (drop 1 words) refl) is
+    (faults_bare p.kinds words p.kind_words_are ∙ sym (faults_bare q.kinds words q.kind_words_are)) p.refused q.refused
 
 pub asks_for_help_alone : (words : List Text) → AsksForHelp words → IsRefused words → ⊥
-asks_for_help_alone words p q =
-    two_causes (fault_of (program p.kinds) words) (fault_of (program q.by.kinds) words) q.kind
-    (help_alone (built (program p.kinds)) nothing_held (drop 1 words) refl)
-    (faults_bare p.kinds words p.kind_words_are ∙ sym (faults_bare q.by.kinds words q.by.kind_words_are)) p.refused q.by.refused q.no_help
+asks_for_help_alone words p q = q.no_help (asks_alone words DisplayHelp q.kind (inl refl) p q.by)
+
+pub asks_for_version_alone : (words : List Text) → AsksForVersion words → IsRefused words → ⊥
+asks_for_version_alone words p q = q.no_version (asks_alone words DisplayVersion q.kind (inr refl) p q.by)
+
+pub never_asks_for_both : (words : List Text) → AsksForHelp words → AsksForVersion words → ⊥
+never_asks_for_both words p q = let same = asks_alone words DisplayHelp DisplayVersion (inl refl) p q in cc

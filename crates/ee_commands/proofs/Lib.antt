@@ -1,6 +1,6 @@
 mod LineLemmas
 mod Numbers
 mod Altered
-mod Helps
+mod Requests
 mod Determined
 pub mod Lemmas

@@ -63,6 +63,7 @@ answered : (k : Bor (List (Bor Text))) (words : List Text) (r : Result Command C
 answered k words (Ok c) row known none is h = record { kinds = k; kind_words_are = known; read = none; asks = ap (option_map asked) is ∙ ap Some h }
 answered k words (Err (fault.Argument name)) row known none is h = record { kinds = k; kind_words_are = known; read = none; asks = ap (option_map asked) is ∙ ap Some h }
 answered k words (Err (fault.Help text)) row known none is h = absurd h
+answered k words (Err fault.Version) row known none is h = absurd h
 answered k words (Err (fault.Line text)) row known none is h = absurd h
 answered k words (Err fault.NoMemory) row known none is h = tt
 
@@ -78,7 +79,9 @@ answers k words r found known none is h =
 pub refuses : (k : Bor (List (Bor Text))) (words : List Text) (e : Error) (f : CommandFault) → map (λ s. s.now) k.now ≡ kind_words → HasKind (fault_of (program k) words) e → Refuses (kind_of e) f → IsAnswer words (Err f)
 refuses k words e (fault.Help text) known (inl memory) h = cc
 refuses k words e (fault.Help text) known (inr among) h = record { kinds = k; kind_words_are = known; refused = subst (λ (kind : ErrorKind). IsAmong kind (fault_of (program k) words)) h among }
+refuses k words e fault.Version known (inl memory) h = cc
+refuses k words e fault.Version known (inr among) h = record { kinds = k; kind_words_are = known; refused = subst (λ (kind : ErrorKind). IsAmong kind (fault_of (program k) words)) h among }
 refuses k words e (fault.Line text) known (inl memory) h = absurd (h.0 memory)
-refuses k words e (fault.Line text) known (inr among) h = record { kind = kind_of e; by = record { kinds = k; kind_words_are = known; refused = among }; no_help = h.1 }
+refuses k words e (fault.Line text) known (inr among) h = record { kind = kind_of e; by = record { kinds = k; kind_words_are = known; refused = among }; no_help = h.1; no_version = h.2 }
 refuses k words e (fault.Argument name) known kind h = absurd h
 refuses k words e fault.NoMemory known kind h = tt

@@ -3,7 +3,7 @@ use Rattle.std.specs.Prelude.{◌≡◌, ◌≢◌, List, [], Some, Result, Ok, 
 use Rattle.std.specs.Borrow.{Bor}
 use Rattle.clap.specs.Words.{IsAmong, Text, fault_of}
 use Rattle.clap.specs.declared.error.ErrorKind.{ErrorKind}
-use Rattle.clap.specs.declared.error.ErrorKind.TheVariants.{DisplayHelp, OutOfMemory}
+use Rattle.clap.specs.declared.error.ErrorKind.TheVariants.{DisplayHelp, DisplayVersion, OutOfMemory}
 use Rattle.ee_commands.specs.CommandLine.{Asked, value, apply, imports, export, sheet, serve, asked_by, program, kind_words}
 use Rattle.ee_commands.specs.declared.commands.Command.{Command}
 use Rattle.ee_commands.specs.declared.commands.Command.TheVariants as command
@@ -37,17 +37,22 @@ pub record IsRefusedBy (kind : ErrorKind) (words : List Text) : Type 0 where
 abbrev pub AsksForHelp : List Text → Type 0
 AsksForHelp words = IsRefusedBy DisplayHelp words
 
--- clap refuses the words for another cause than memory, which is not that they ask for help
+-- the words ask for the version
+abbrev pub AsksForVersion : List Text → Type 0
+AsksForVersion words = IsRefusedBy DisplayVersion words
+
+-- clap refuses the words for another cause than memory, which is neither that they ask for help nor for the version
 pub record IsRefused (words : List Text) : Type 0 where
   pub kind : ErrorKind
   pub by : IsRefusedBy kind words
   pub no_help : kind ≢ DisplayHelp
+  pub no_version : kind ≢ DisplayVersion
 
 -- words ask for one thing at most
 abbrev pub AsksForOne : Type 0
 AsksForOne = (words : List Text) (r s : Result Asked Text) → IsAsked words r → IsAsked words s → r ≡ s
 
--- words that ask for something are not refused, nor do they ask for help
+-- words that ask for something are not refused, nor do they ask for help or the version
 abbrev pub AsksUnrefused : Type 0
 AsksUnrefused = (words : List Text) (r : Result Asked Text) (kind : ErrorKind) → IsAsked words r → IsRefusedBy kind words → ⊥
 
@@ -55,11 +60,20 @@ AsksUnrefused = (words : List Text) (r : Result Asked Text) (kind : ErrorKind) �
 abbrev pub AsksForHelpAlone : Type 0
 AsksForHelpAlone = (words : List Text) → AsksForHelp words → IsRefused words → ⊥
 
+-- words that ask for the version are not refused for another cause
+abbrev pub AsksForVersionAlone : Type 0
+AsksForVersionAlone = (words : List Text) → AsksForVersion words → IsRefused words → ⊥
+
+-- no words ask for help and for the version
+abbrev pub NeverAsksForBoth : Type 0
+NeverAsksForBoth = (words : List Text) → AsksForHelp words → AsksForVersion words → ⊥
+
 -- what an answer says of the words
 abbrev pub IsAnswer : List Text → Result Command CommandFault → Type 0
 IsAnswer words (Ok c) = IsAsked words (Ok (view_of c))
 IsAnswer words (Err (fault.Argument name)) = IsAsked words (Err name.now)
 IsAnswer words (Err (fault.Help text)) = AsksForHelp words
+IsAnswer words (Err fault.Version) = AsksForVersion words
 IsAnswer words (Err (fault.Line text)) = IsRefused words
 IsAnswer words (Err fault.NoMemory) = ⊤
 
@@ -68,12 +82,14 @@ abbrev pub Gives : {X Y : Type 0} → (X → Y) → Result X CommandFault → Re
 Gives view (Ok x) read = read ≡ Ok (view x)
 Gives view (Err (fault.Argument name)) read = read ≡ Err name.now
 Gives view (Err (fault.Help text)) read = ⊥
+Gives view (Err fault.Version) read = ⊥
 Gives view (Err (fault.Line text)) read = ⊥
 Gives view (Err fault.NoMemory) read = ⊥
 
 -- what an error of clap's comes to
 abbrev pub Refuses : ErrorKind → CommandFault → Type 0
 Refuses kind (fault.Help text) = kind ≡ DisplayHelp
-Refuses kind (fault.Line text) = (kind ≢ OutOfMemory) × (kind ≢ DisplayHelp)
+Refuses kind fault.Version = kind ≡ DisplayVersion
+Refuses kind (fault.Line text) = (kind ≢ OutOfMemory) × (kind ≢ DisplayHelp) × (kind ≢ DisplayVersion)
 Refuses kind (fault.Argument name) = ⊥
-Refuses kind fault.NoMemory = ⊤
+Refuses kind fault.NoMemory = kind ≡ OutOfMemory

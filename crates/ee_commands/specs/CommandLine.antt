@@ -1,6 +1,6 @@
 -- The command line: the rows that clap is asked to match, and what the words that it matched ask for.
-use Rattle.std.specs.Prelude.{ℕ, List, [], ◌∷◌, Option, Some, None, Result, Ok, Err, true, codes, option_and_then, option_map, if◌then◌else◌}
-use Rattle.std.specs.Option.{ok_or}
+use Rattle.std.specs.Prelude.{ℕ, List, [], ◌∷◌, Option, Some, None, Result, Ok, Err, true, false, codes, option_and_then, option_map, if◌then◌else◌}
+use Rattle.std.specs.Option.{ok_or, option_map_or}
 use Rattle.std.specs.Borrow.{Bor}
 use Rattle.std.specs.Str.{bytes_eq}
 use Rattle.std.specs.Str.Parse.{digits_value, without_leading_plus}
@@ -25,6 +25,10 @@ option id = record (new_rule id) { long = Some id; required = true }
 abbrev pub number_option : Text → ℕ → Rule
 number_option id most = record (option id) { parser = Some (parser.Unsigned 1 most) }
 
+-- the same, which may be left out
+abbrev pub optional_number : Text → ℕ → Rule
+optional_number id most = record (number_option id most) { required = false }
+
 -- the words that stand for a kind of file
 abbrev pub kind_words : List Text
 kind_words = codes "rates" ∷ codes "inventory" ∷ []
@@ -37,6 +41,10 @@ most_port = 65535
 
 abbrev pub most_connections : ℕ
 most_connections = 1000
+
+-- how many connections where the line doesn't say: as many as come
+abbrev pub unlimited : ℕ
+unlimited = 18446744073709551615
 
 -- value DENOM ISSUED MONTH RATE
 abbrev pub value_row : App
@@ -62,14 +70,14 @@ abbrev pub sheet_row : App
 sheet_row = with_rule (with_rule (with_rule (new_app (codes "sheet")) (positional (codes "customer")))
     (positional (codes "month"))) (option (codes "db"))
 
--- serve --db DB --port P --connections N
+-- serve --db DB --port P [--connections N]
 abbrev pub serve_row : App
 serve_row = with_rule (with_rule (with_rule (new_app (codes "serve")) (option (codes "db")))
-    (number_option (codes "port") most_port)) (number_option (codes "connections") most_connections)
+    (number_option (codes "port") most_port)) (optional_number (codes "connections") most_connections)
 
--- the program, with no row: a line has to name one, and help is asked for by --help alone
+-- the program, with no row: a line has to name one, help is asked for by --help alone, and --version stands before any row
 abbrev pub no_row : App
-no_row = record (new_app (codes "ee_cli")) { top = record (new_app (codes "ee_cli")).top { subcommand_required = true; disable_help_subcommand = true } }
+no_row = record (new_app (codes "ee_cli")) { top = record (new_app (codes "ee_cli")).top { has_version = true; subcommand_required = true; disable_help_subcommand = true } }
 
 abbrev pub first_rows : App
 first_rows = with_subcommand (with_subcommand no_row value_row.top) apply_row.top
@@ -110,6 +118,10 @@ number_word most word = if is_unsigned_in 1 most word then Some (digits_value 10
 abbrev pub numbered : Text → ℕ → List Row → Result ℕ Text
 numbered name most rows = ok_or (option_and_then (number_word most) (one_of name rows)) name
 
+-- the same, or this number where there is no such word
+abbrev pub numbered_or : ℕ → Text → ℕ → List Row → Result ℕ Text
+numbered_or otherwise name most rows = option_map_or (λ word. numbered name most rows) (first_of name rows) (Ok otherwise)
+
 unfoldable pub value_asked : List Row → Result Asked Text
 value_asked rows = do
   denom ← spelled (codes "denom") denom_of rows
@@ -148,7 +160,7 @@ unfoldable pub serve_asked : List Row → Result Asked Text
 serve_asked rows = do
   db ← spelled (codes "db") text_of rows
   port ← numbered (codes "port") most_port rows
-  connections ← numbered (codes "connections") most_connections rows
+  connections ← numbered_or unlimited (codes "connections") most_connections rows
   Ok (serve db port connections)
 
 -- what a row of this name asks for, or the name of its first word that spells no value

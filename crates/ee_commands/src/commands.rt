@@ -1,6 +1,6 @@
 //! The words of a command line, read by clap.
 
-ghost use Rattle.std.specs.Prelude.{◌≡◌, Some, List, map, true};
+ghost use Rattle.std.specs.Prelude.{◌≡◌, IfOk, Some, List, map, true};
 ghost use Rattle.clap.specs.Words.{Row, Text, has_subcommand, kind_of, subcommand_rows_of};
 ghost use Rattle.ee_commands.specs.CommandLine.{asked};
 ghost use Rattle.ee_commands.specs.Answer.{Gives, IsAnswer, Refuses, view_of};
@@ -36,7 +36,8 @@ pub enum Command<'a> {
     Export(Customer, &'a str),
     /// The sheet of a customer's bonds in a month, from the store of that path.
     Sheet(Customer, Month, &'a str),
-    /// To serve over the store of that path, on that port, that many connections.
+    /// To serve over the store of that path, on that port, that many connections: from 1 to 1,000, or
+    /// `u64::MAX`, as many as come, where the line doesn't say how many.
     Serve(&'a str, u16, u64),
 }
 
@@ -45,6 +46,8 @@ pub enum Command<'a> {
 pub enum CommandFault {
     /// The words ask for help: the text of clap.
     Help(String),
+    /// The words ask for the version.
+    Version,
     /// The words fit no row: the text of clap.
     Line(String),
     /// The word of that name spells no value; the first such in the row's order.
@@ -65,7 +68,9 @@ impl From<AllocError> for CommandFault {
 }
 
 /// What the words ask for, the first of which is the program's name. A request number is at least 1
-/// and below 2^63, a port from 1 to 65535, a count of connections from 1 to 1,000.
+/// and below 2^63, a port from 1 to 65535, a count of connections from 1 to 1,000. That count may be left
+/// out: the command then serves `u64::MAX` connections, as many as come, until it is stopped. Help and the
+/// version are asked for by `--help` or `-h`, after a command's name too, and by `--version` or `-V`.
 pub fn read_command<'a, S: AsStr>(
     alloc: Global,
     words: &'a [S],
@@ -75,7 +80,7 @@ pub fn read_command<'a, S: AsStr>(
     let rows = program(alloc)?;
     match rows.try_get_matches_from(words) {
         Ok(matches) => line(&matches),
-        Err(error) => Err(refusal(alloc, &error)),
+        Err(error) => Err(refusal(alloc, &error)?),
     }
 }
 
@@ -96,16 +101,14 @@ fn line<'a>(matches: &ArgMatches<'a>) -> Result<Command<'a>, CommandFault>
     }
 }
 
-fn refusal(alloc: Global, error: &Error) -> CommandFault
-    ensures { Refuses (kind_of error.now) result }
+// What an error of clap's comes to.
+fn refusal(alloc: Global, error: &Error) -> Result<CommandFault, AllocError>
+    ensures { IfOk result (λ fault. Refuses (kind_of error.now) fault) }
 {
-    let kind = error.kind();
-    if kind == ErrorKind::OutOfMemory {
-        return CommandFault::NoMemory;
-    }
-    match error.to_string(alloc) {
-        Ok(text) if kind == ErrorKind::DisplayHelp => CommandFault::Help(text),
-        Ok(text) => CommandFault::Line(text),
-        Err(_) => CommandFault::NoMemory,
+    match error.kind() {
+        ErrorKind::DisplayHelp => Ok(CommandFault::Help(error.to_string(alloc)?)),
+        ErrorKind::DisplayVersion => Ok(CommandFault::Version),
+        ErrorKind::OutOfMemory => Ok(CommandFault::NoMemory),
+        _ => Ok(CommandFault::Line(error.to_string(alloc)?)),
     }
 }

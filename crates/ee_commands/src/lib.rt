@@ -9,3 +9,4 @@ mod words;
 
 pub use commands::{Command, CommandFault, FileKind, read_command};
 pub use meaning::one_meaning;
+pub use rows::VERSION;

@@ -5,10 +5,14 @@ ghost use Rattle.ee_commands.specs.CommandLine.{apply_asked, export_asked, impor
 ghost use Rattle.ee_commands.specs.Answer.{Gives, view_of};
 
 use crate::commands::{Command, CommandFault};
-use crate::words::{customer, denom, issue, kind, month, number, port, rate, request_number, text};
+use crate::words::{
+    customer, denom, issue, kind, month, number_or, port, rate, request_number, text,
+};
 use clap::ArgMatches;
 
 const MOST_CONNECTIONS: u64 = 1_000;
+
+const UNLIMITED: u64 = u64::MAX;
 
 /// The command of the row `value`.
 #[tactic(auto, unfolding(crate::specs::CommandLine::value_asked))]
@@ -72,6 +76,6 @@ pub fn serve_line<'a>(matches: &ArgMatches<'a>) -> Result<Command<'a>, CommandFa
     Ok(Command::Serve(
         text(matches, "db")?,
         port(matches, "port")?,
-        number(matches, "connections", MOST_CONNECTIONS)?,
+        number_or(matches, "connections", MOST_CONNECTIONS, UNLIMITED)?,
     ))
 }

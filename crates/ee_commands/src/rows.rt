@@ -1,14 +1,37 @@
 //! The rows of the program.
 
-ghost use Rattle.std.specs.Prelude.{◌≡◌, IfOk, Some, List, false, map, codes, ℕ};
+ghost use Rattle.std.specs.Prelude.{◌≡◌, IfOk, Some, List, false, map, codes};
 ghost use Rattle.std.specs.Borrow.{Bor};
 ghost use Rattle.clap.specs.Words.{Text, app_of, new_app, rule_of, with_rule, with_subcommand};
 ghost use Rattle.clap.specs.declared.builder.command.Command.TheViews.{out-Command as fields_of};
-ghost use Rattle.clap.specs.declared.builder.ValueParser.TheVariants.{Names, Unsigned};
+ghost use Rattle.clap.specs.declared.builder.ValueParser.TheVariants.{Names};
 ghost use Rattle.ee_commands.specs.CommandLine as is;
 
 use clap::{Arg, Command, value_parser};
 use std::alloc::{AllocError, Global};
+
+/// The version of the program.
+pub const VERSION: &str = "1.0.0";
+
+// What stands below the commands in the help of the program.
+const NOTES: &str = "\
+ee_cli COMMAND --help tells the words of a command, with an example.
+
+Exit status:
+  0  done
+  1  refused, or a value that is unsettled
+  2  a bad command line
+  3  a file, a socket, memory or a store failed
+
+Limits:
+  500 rows a request, 100 serial numbers a redemption, 1,000 messages a connection
+
+One process at a time uses a store.";
+
+const IMPORT_EXAMPLES: &str = "\
+Examples:
+  ee_cli import rates samples/rates.csv --db day.db --number 1
+  ee_cli import inventory samples/inventory.csv --db day.db --number 2";
 
 static KINDS: [&str; 2] = ["rates", "inventory"];
 
@@ -26,7 +49,8 @@ fn first_rows<'a>(alloc: Global) -> Result<Command<'a>, AllocError>
     ensures { IfOk result (λ c. app_of c ≡ is.first_rows) }
 {
     let about = "The counter of a paying agent for paper Series EE savings bonds";
-    let rows = named(alloc, "ee_cli", about)
+    let rows = named(alloc, "ee_cli", about, NOTES)
+        .version(VERSION)
         .subcommand_required(true)
         .disable_help_subcommand(true);
     let rows = with_row(rows, value_command(alloc)?)?;
@@ -44,7 +68,12 @@ fn value_command<'a>(alloc: Global) -> Result<Command<'a>, AllocError>
     ensures shape { IfOk result (λ c. app_of c ≡ is.value_row) }
     ensures local { IfOk result (λ c. (fields_of c).has_globals ≡ false) }
 {
-    let row = named(alloc, "value", "Print the value of a bond in a month");
+    let row = named(
+        alloc,
+        "value",
+        "Print the value of a bond in a month",
+        "Example:\n  ee_cli value 50 2010-05 2015-05 3.50",
+    );
     let row = with(
         row,
         positional(alloc, "denom", "Denomination in dollars, as 50"),
@@ -67,7 +96,12 @@ fn apply_command<'a>(alloc: Global) -> Result<Command<'a>, AllocError>
     ensures shape { IfOk result (λ c. app_of c ≡ is.apply_row) }
     ensures local { IfOk result (λ c. (fields_of c).has_globals ≡ false) }
 {
-    let row = named(alloc, "apply", "Answer the messages of standard input");
+    let row = named(
+        alloc,
+        "apply",
+        "Answer the messages of standard input",
+        "Example:\n  ee_cli apply --db day.db < requests.http",
+    );
     with(row, store(alloc))
 }
 
@@ -79,6 +113,7 @@ fn import_command<'a>(alloc: Global) -> Result<Command<'a>, AllocError>
         alloc,
         "import",
         "Import a CSV file of rates or bonds as one request",
+        IMPORT_EXAMPLES,
     );
     let row = with(row, kind(alloc))?;
     let row = with(row, positional(alloc, "file", "The CSV file"))?;
@@ -90,7 +125,12 @@ fn export_command<'a>(alloc: Global) -> Result<Command<'a>, AllocError>
     ensures shape { IfOk result (λ c. app_of c ≡ is.export_row) }
     ensures local { IfOk result (λ c. (fields_of c).has_globals ≡ false) }
 {
-    let row = named(alloc, "export", "Print a customer's unpaid bonds as CSV");
+    let row = named(
+        alloc,
+        "export",
+        "Print a customer's unpaid bonds as CSV",
+        "Example:\n  ee_cli export 7 --db day.db",
+    );
     let row = with(row, customer(alloc))?;
     with(row, store(alloc))
 }
@@ -103,6 +143,7 @@ fn sheet_command<'a>(alloc: Global) -> Result<Command<'a>, AllocError>
         alloc,
         "sheet",
         "Print the sheet of a customer's unpaid bonds",
+        "Example:\n  ee_cli sheet 7 2012-02 --db day.db",
     );
     let row = with(row, customer(alloc))?;
     let row = with(
@@ -119,18 +160,20 @@ fn serve_command<'a>(alloc: Global) -> Result<Command<'a>, AllocError>
     let row = named(
         alloc,
         "serve",
-        "Answer connections on 127.0.0.1, one after the other",
+        "Answer connections on 127.0.0.1, one after the other, until it is stopped",
+        "Example:\n  ee_cli serve --db day.db --port 8377",
     );
     let row = with(row, store(alloc))?;
     let row = with(row, port(alloc))?;
     with(row, connections(alloc))
 }
 
-fn named<'a>(alloc: Global, name: &'a str, about: &'a str) -> Command<'a>
+// The row of that name, with a text above its words in its help, and one below them.
+fn named<'a>(alloc: Global, name: &'a str, about: &'a str, below: &'a str) -> Command<'a>
     ensures shape { app_of result ≡ new_app name.entry.now }
     ensures local { (fields_of result).has_globals ≡ false }
 {
-    Command::new(alloc, name).about(about)
+    Command::new(alloc, name).about(about).after_help(below)
 }
 
 fn with<'a>(row: Command<'a>, arg: Arg<'a>) -> Result<Command<'a>, AllocError>
@@ -202,13 +245,14 @@ fn port<'a>(alloc: Global) -> Arg<'a>
 }
 
 fn connections<'a>(alloc: Global) -> Arg<'a>
-    ensures rule { rule_of result ≡ is.number_option (codes "connections") is.most_connections }
+    ensures rule { rule_of result ≡ is.optional_number (codes "connections") is.most_connections }
     ensures local { result.global ≡ false }
 {
     option(
         alloc,
         "connections",
-        "How many connections to serve, from 1 to 1000",
+        "End after that many connections, from 1 to 1000",
     )
+    .required(false)
     .value_parser(value_parser!(u64).range(1..=1_000))
 }

@@ -1,10 +1,10 @@
 //! The values that the words of a row spell.
 
-ghost use Rattle.std.specs.Prelude.{◌≡◌, ◌≤◌, ◌<◌, ◌^◌, IfOk, ℕ, option_and_then, option_map};
+ghost use Rattle.std.specs.Prelude.{◌≡◌, ◌≤◌, IfOk, option_and_then, option_map};
 ghost use Rattle.clap.specs.Words.{first_of, found_of, one_of, rows_of};
 ghost use Rattle.ee_units.specs.Denoms.{denom_of};
 ghost use Rattle.ee_units.specs.Spelling.{customer_of, in_range, issue_of, month_of, rate_of};
-ghost use Rattle.ee_commands.specs.CommandLine.{kind_of_file, most_number, most_port, number_word, numbered, spelled, text_of};
+ghost use Rattle.ee_commands.specs.CommandLine.{kind_of_file, most_number, most_port, number_word, numbered, numbered_or, spelled, text_of};
 ghost use Rattle.ee_commands.specs.Answer.{Gives};
 
 use crate::commands::{CommandFault, FileKind};
@@ -109,6 +109,21 @@ pub fn number(matches: &ArgMatches, name: &'static str, most: u64) -> Result<u64
     match whole_number(matches, name, most) {
         Some(number) if number >= 1 && number <= most => Ok(number),
         _ => Err(CommandFault::Argument(name)),
+    }
+}
+
+/// A whole number from 1 to that one, or `otherwise` where there is no such word.
+pub fn number_or(
+    matches: &ArgMatches,
+    name: &'static str,
+    most: u64,
+    otherwise: u64,
+) -> Result<u64, CommandFault>
+    ensures { Gives (λ v. v) result (numbered_or otherwise name.now most (rows_of (found_of matches.now))) }
+{
+    match word(matches, name) {
+        Some(_) => number(matches, name, most),
+        None => Ok(otherwise),
     }
 }
 

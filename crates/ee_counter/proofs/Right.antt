@@ -1,5 +1,5 @@
 -- Answers to a message.
-use Rattle.std.proofs.Common.{◌≡◌, Bool, List, ℕ, ap, subst, Result, Ok, Err, refl}
+use Rattle.std.proofs.Common.{◌≡◌, List, ℕ, subst, Result, Ok, Err}
 use Rattle.ee_acts.specs.Repeats.{Content}
 use Rattle.ee_framing.specs.Framing.{Message}
 use Rattle.ee_calls.specs.Calls.{decoded}
@@ -10,8 +10,7 @@ use Rattle.ee_calls.specs.declared.faults.WireFault.{WireFault}
 use Rattle.ee_acts.specs.declared.refusals.Unserved.{Unserved}
 use Rattle.ee_wire.specs.declared.answers.Answer.{Answer}
 use Rattle.ee_wire.specs.declared.answers.Answer.TheVariants as told
-use Rattle.ee_wire.specs.Answers.{answer_text}
-use Rattle.ee_counter.specs.Answering.{call_of, IsAnswer, IsRight, after_call, left_after, Answers}
+use Rattle.ee_counter.specs.Answering.{call_of, IsAnswer, after_call, Answers}
 
 never_unserved : (c : Content) (asked : Result Call WireFault) (cause : Unserved) → IsAnswer c asked (told.Unserved cause) → ⊥
 never_unserved c (Ok (call.Request request)) cause is = is

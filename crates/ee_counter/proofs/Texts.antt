@@ -21,7 +21,6 @@ use Rattle.ee_acts.specs.Queries.{PlainRow, PlainSheet, shown_in_row, shown_in_s
 use Rattle.ee_acts.specs.declared.acts.Request.{Request}
 use Rattle.ee_calls.specs.declared.calls.Call.{Call}
 use Rattle.ee_calls.specs.declared.calls.Call.TheVariants as call
-use Rattle.ee_calls.specs.declared.calls.Query.{Query}
 use Rattle.ee_calls.specs.declared.calls.Query.TheVariants as ask
 use Rattle.ee_calls.specs.declared.faults.WireFault.{WireFault}
 use Rattle.ee_wire.specs.Answers.{answer_text, whole_text, row_data, number_data, text_or_none}

@@ -1,20 +1,25 @@
 -- One turn of a connection after another.
-use Rattle.std.proofs.Common.{◌≡◌, ℕ, ◌+◌, Bool, true, false, List, [], ◌∷◌, ◌++◌, length, map, Option, Some, None, refl, sym, ap, subst, ◌∙◌, arith, append_assoc, append-nil, length-append, inl, inr}
+use Rattle.std.proofs.Common.{◌≡◌, ℕ, ◌+◌, ◌<◌, Bool, true, false, List, [], ◌∷◌, ◌++◌, length, Option, Some, None, Ok, Err, refl, sym, ap, subst, ◌∙◌, arith, append_assoc, append-nil, length-append, inl, inr}
 use Rattle.std.specs.List.{AllByRecursion}
-use Rattle.std.specs.Io.KnownBytes.{Appends}
-use Rattle.std.proofs.KnownBytes.{Appends-trans}
+use Rattle.std.specs.Io.KnownBytes.{Appends, Consumes}
+use Rattle.std.proofs.KnownBytes.{Appends-nil, Appends-trans, Consumes-nil, Consumes-trans}
 use Rattle.ee_device.specs.Written.{WritesFront}
 use Rattle.ee_acts.specs.Repeats.{Content}
-use Rattle.ee_framing.specs.Framing.{Message, BeginsMessage, BeginsMessages}
-use Rattle.ee_framing.specs.Reading.{Gives}
+use Rattle.ee_framing.specs.Stream.{Stream}
+use Rattle.ee_framing.specs.Framing.{Message, BeginsMessage, BeginsMessages, EndsWith, end}
+use Rattle.ee_framing.specs.Reading.{message_in, NeedsMore, Settles, ShowsFault, Takes}
+use Rattle.ee_framing.specs.declared.buffer.Message as parts
+use Rattle.ee_framing.specs.declared.buffer.Next.TheVariants as next
+use Rattle.ee_framing.specs.declared.buffer.WireEnd.TheVariants as wire
+use Rattle.ee_framing.proofs.Lemmas.{BeginsMessages-append, begins_more}
 use Rattle.ee_wire.specs.declared.answers.Answer.{Answer}
 use Rattle.ee_wire.specs.Answers.{answer_text}
-use Rattle.ee_counter.specs.Answering.{call_of, IsRight, Answers}
+use Rattle.ee_counter.specs.Answering.{call_of, IsRight}
 use Rattle.ee_framing.specs.declared.FramingFault.{FramingFault}
 use Rattle.ee_counter.specs.declared.connections.Ended.{Ended}
 use Rattle.ee_counter.specs.declared.connections.Why.{Why}
 use Rattle.ee_counter.specs.declared.connections.Why.TheVariants.{Closed, Asked, Limit, Fault, ReadFailed, WriteFailed, NoMemory}
-use Rattle.ee_counter.specs.Serving.{Told, left_by, is_last, text_of, texts, left_by_all, AreRight, AnswersOne, Turns, HasFault, fault_text, RefusesBy, EndsBy, GivesAll, messages, SoFar}
+use Rattle.ee_counter.specs.Serving.{Told, left_by, is_last, text_of, texts, left_by_all, AreRight, AnswersOne, Turns, fault_text, RefusesBy, EndsBy, messages, SoFar, Serves}
 
 -- a text that was written whole
 pub whole : (text : List ℕ) (old new : Option (List ℕ)) → WritesFront old new text true → Appends old new text
@@ -25,35 +30,57 @@ pub text_is : (n : ℕ) (m : Message) (answer : Answer) (closing : Bool)
     → closing ≡ is_last n m → answer_text answer closing ≡ text_of n (record { message = m; answer = answer })
 text_is n m answer closing x = ap (answer_text answer) x
 
-pub turn_of : (m : Message) (before after old new : Option (List ℕ)) (c : Content) (n : ℕ) (r : Option Ended) (Has : Content → Type 0)
-    → Gives m before after → AnswersOne m old new c n r Has → Turns before after old new c n r Has
-turn_of m before after old new c n None Has gives p = (record { message = m; answer = p.0 }, (gives, p.1.0, p.1.1), p.2, p.3)
-turn_of m before after old new c n (Some e) Has gives p = p before after gives
+-- what is held now is what was held, and what was read
+held_is : (was is : Stream) (got : List ℕ) → is.shown ≡ [] → is.shown ++ is.held ≡ was.held ++ got → is.held ≡ was.held ++ got
+held_is was is got none all = sym (ap (λ l. l ++ is.held) none) ∙ all
+
+-- ---- what a call of `next_message` leads to
+
+pub turn_told : (was is : Stream) (before after old new : Option (List ℕ)) (m : parts.Message) (c : Content) (n : ℕ) (r : Option Ended) (Has : Content → Type 0)
+    → Takes was before is after → Settles (Ok (next.Message m)) is after → AnswersOne (message_in is.shown m) old new c n r Has
+    → Turns was.held is.held before after old new c n r Has
+turn_told was is before after old new m c n None Has (got, took, all) at p =
+    (got, took, (record { message = message_in is.shown m; answer = p.0 }, subst (λ l. BeginsMessage l (message_in is.shown m) is.held) all at, p.1.0, p.1.1, p.2, p.3))
+turn_told was is before after old new m c n (Some e) Has (got, took, all) at p =
+    (got, took, p (was.held ++ got) is.held after (subst (λ l. BeginsMessage l (message_in is.shown m) is.held) all at))
+
+pub turn_closed : (was is : Stream) (before after wrote : Option (List ℕ)) (c : Content) (n : ℕ) (Has : Content → Type 0)
+    → Takes was before is after → Settles (Ok next.End) is after → Has c
+    → Turns was.held is.held before after wrote wrote c n (Some (record { messages = n; why = Closed })) Has
+turn_closed was is before after wrote c n Has (got, took, all) s has =
+    (got, took, (subst (λ l. EndsWith l end) (held_is was is got s.0 all) s.1, s.2, Appends-nil wrote, refl, has))
+
+pub turn_failed : (was is : Stream) (before after wrote : Option (List ℕ)) (c : Content) (n : ℕ) (Has : Content → Type 0)
+    → Takes was before is after → Settles (Err wire.ReadFailed) is after → Has c
+    → Turns was.held is.held before after wrote wrote c n (Some (record { messages = n; why = ReadFailed })) Has
+turn_failed was is before after wrote c n Has (got, took, all) s has =
+    (got, took, (subst NeedsMore (held_is was is got s.0 all) s.1, Appends-nil wrote, refl, has))
+
+pub turn_starved : (was is : Stream) (before after wrote : Option (List ℕ)) (c : Content) (n : ℕ) (Has : Content → Type 0)
+    → Takes was before is after → Settles (Err wire.NoMemory) is after → Has c
+    → Turns was.held is.held before after wrote wrote c n (Some (record { messages = n; why = NoMemory })) Has
+turn_starved was is before after wrote c n Has (got, took, all) s has =
+    (got, took, (Appends-nil wrote, refl, inl (subst NeedsMore (held_is was is got s.0 all) s.1, has)))
 
 -- a fault that was answered, or not
-pub refused : (why : Why) (f : FramingFault) (before after old new : Option (List ℕ)) (c : Content) (n count : ℕ) (Has : Content → Type 0)
-    → HasFault before f → RefusesBy why f old new n count → Has c → EndsBy why before after old new c n count Has
-refused (Fault g) f before after old new c n count Has fault r has =
-    (subst (HasFault before) (sym r.0) fault, subst (λ x. Appends old new (fault_text x)) (sym r.0) r.1, r.2, has)
-refused WriteFailed f before after old new c n count Has fault r has = (r.1, inr (f, fault, r.0, has))
-refused NoMemory f before after old new c n count Has fault r has = (r.0, r.1, inl has)
-refused Closed f before after old new c n count Has fault r has = absurd r
-refused Asked f before after old new c n count Has fault r has = absurd r
-refused Limit f before after old new c n count Has fault r has = absurd r
-refused ReadFailed f before after old new c n count Has fault r has = absurd r
+refused : (why : Why) (f : FramingFault) (bytes : List ℕ) (remaining old new : Option (List ℕ)) (c : Content) (n count : ℕ) (Has : Content → Type 0)
+    → ShowsFault bytes remaining f → RefusesBy why f old new n count → Has c → EndsBy why bytes remaining old new c n count Has
+refused (Fault g) f bytes remaining old new c n count Has fault r has =
+    (subst (ShowsFault bytes remaining) (sym r.0) fault, subst (λ x. Appends old new (fault_text x)) (sym r.0) r.1, r.2, has)
+refused WriteFailed f bytes remaining old new c n count Has fault r has = (r.1, inr (f, fault, r.0, has))
+refused NoMemory f bytes remaining old new c n count Has fault r has = (r.0, r.1, inr (inl (f, fault, has)))
+refused Closed f bytes remaining old new c n count Has fault r has = absurd r
+refused Asked f bytes remaining old new c n count Has fault r has = absurd r
+refused Limit f bytes remaining old new c n count Has fault r has = absurd r
+refused ReadFailed f bytes remaining old new c n count Has fault r has = absurd r
+
+pub turn_refused : (was is : Stream) (before after old new : Option (List ℕ)) (f : FramingFault) (c : Content) (n : ℕ) (e : Ended) (Has : Content → Type 0)
+    → Takes was before is after → Settles (Err (wire.Fault f)) is after → RefusesBy e.why f old new n e.messages → Has c
+    → Turns was.held is.held before after old new c n (Some e) Has
+turn_refused was is before after old new f c n e Has (got, took, all) s r has =
+    (got, took, refused e.why f (was.held ++ got) after old new c n e.messages Has (subst (λ l. ShowsFault l after f) (held_is was is got s.0 all) s.1) r has)
 
 -- ---- one more at the end
-
-begins_more : (bytes : List ℕ) (ms : List Message) (rest : List ℕ) (m : Message) (after : List ℕ)
-    → BeginsMessages bytes ms rest → BeginsMessage rest m after → BeginsMessages bytes (ms ++ m ∷ []) after
-begins_more bytes [] rest m after b h = (after, subst (λ (xs : List ℕ). BeginsMessage xs m after) (sym b) h, refl)
-begins_more bytes (x ∷ ms) rest m after b h = (b.0, b.1, begins_more b.0 ms rest m after b.2 h)
-
-gives_more : (ms : List Message) (m : Message) (a b d : Option (List ℕ)) → GivesAll ms a b → Gives m b d → GivesAll (ms ++ m ∷ []) a d
-gives_more ms m None b d x y = tt
-gives_more ms m (Some bytes) None d x y = absurd x
-gives_more ms m (Some bytes) (Some rest) None x y = absurd y
-gives_more ms m (Some bytes) (Some rest) (Some after) x y = begins_more bytes ms rest m after x y
 
 messages_more : (ts : List Told) (t : Told) → messages (ts ++ t ∷ []) ≡ messages ts ++ t.message ∷ []
 messages_more [] t = refl
@@ -92,25 +119,82 @@ none_more (x ∷ ts) t all quiet = (all.0, none_more ts t all.1 quiet)
 length_more : (ts : List Told) (t : Told) (n : ℕ) → length ts ≡ n → length (ts ++ t ∷ []) ≡ n + 1
 length_more ts t n is = omega (arith, length-append ts (t ∷ []), is)
 
-so_far_more : (before rest after old mid new : Option (List ℕ)) (c : Content) (ts : List Told) (t : Told)
-    → SoFar before rest old mid c ts → Gives t.message rest after → IsRight (left_by_all c ts) (call_of t.message) t.answer
-    → t.message.closes ≡ false → Appends mid new (text_of (length ts) t) → SoFar before after old new c (ts ++ t ∷ [])
-so_far_more before rest after old mid new c ts t s gives right quiet wrote = record {
-  begins = subst (λ (ms : List Message). GivesAll ms before after) (sym (messages_more ts t)) (gives_more (messages ts) t.message before rest after s.begins gives);
+-- more bytes were read
+so_far_read : (bytes held got : List ℕ) (old new : Option (List ℕ)) (c : Content) (ts : List Told) → SoFar bytes held old new c ts → SoFar (bytes ++ got) (held ++ got) old new c ts
+so_far_read bytes held got old new c ts s = record {
+  begins = BeginsMessages-append bytes got (messages ts) held s.begins;
+  right = s.right;
+  none_asks = s.none_asks;
+  wrote = s.wrote;
+}
+
+so_far_more : (bytes rest others : List ℕ) (old mid new : Option (List ℕ)) (c : Content) (ts : List Told) (t : Told)
+    → SoFar bytes rest old mid c ts → BeginsMessage rest t.message others → IsRight (left_by_all c ts) (call_of t.message) t.answer
+    → t.message.closes ≡ false → Appends mid new (text_of (length ts) t) → SoFar bytes others old new c (ts ++ t ∷ [])
+so_far_more bytes rest others old mid new c ts t s at right quiet wrote = record {
+  begins = subst (λ (ms : List Message). BeginsMessages bytes ms others) (sym (messages_more ts t)) (begins_more bytes (messages ts) rest t.message others s.begins at);
   right = right_more c ts t s.right right;
   none_asks = none_more ts t s.none_asks quiet;
   wrote = subst (Appends old new) (sym (texts_at_end ts t)) (Appends-trans old mid new _ _ s.wrote wrote);
 }
 
+-- so many messages were read and answered, and these bytes are held
+abbrev pub HasTold : Option (List ℕ) → Option (List ℕ) → List ℕ → Option (List ℕ) → Option (List ℕ) → Content → ℕ → (Content → Type 0) → Type 0
+HasTold before after held old new c n Has =
+    (bytes : List ℕ) × Consumes before after bytes
+    × ((told : List Told) × (length told ≡ n) × SoFar bytes held old new c told × Has (left_by_all c told))
+
+pub none_told : (before wrote : Option (List ℕ)) (held : List ℕ) (c : Content) (Has : Content → Type 0) → held ≡ [] → Has c → HasTold before before held wrote wrote c 0 Has
+none_told before wrote held c Has none has =
+    ([], Consumes-nil before, ([], refl, record { begins = sym none; right = tt; none_asks = tt; wrote = Appends-nil wrote }, has))
+
 -- one turn more
-pub turn_more : (before rest after old mid new : Option (List ℕ)) (c : Content) (n : ℕ) (Has After : Content → Type 0)
-    → (told : List Told) × (length told ≡ n) × SoFar before rest old mid c told × Has (left_by_all c told)
-    → ((d : Content) → Has d → Turns rest after mid new d n None After)
-    → (told : List Told) × (length told ≡ n + 1) × SoFar before after old new c told × After (left_by_all c told)
-turn_more before rest after old mid new c n Has After s turn =
-    let t = turn (left_by_all c s.0) s.3 in (
-      s.0 ++ t.0 ∷ [],
-      length_more s.0 t.0 n s.1,
-      so_far_more before rest after old mid new c s.0 t.0 s.2 t.1.0 t.1.1 t.2 (subst (λ k. Appends mid new (text_of k t.0)) (sym s.1) t.3),
-      subst After (sym (left_more c s.0 t.0)) t.1.2,
+pub turn_more : (before mid after old now new : Option (List ℕ)) (held others : List ℕ) (c : Content) (n : ℕ) (Has After : Content → Type 0)
+    → HasTold before mid held old now c n Has → ((d : Content) → Has d → Turns held others mid after now new d n None After)
+    → HasTold before after others old new c (n + 1) After
+turn_more before mid after old now new held others c n Has After (bytes, read, s) turn =
+    let told = s.0 in
+    let x = turn (left_by_all c told) s.3 in
+    let t = x.2 in
+    let wrote = subst (λ k. Appends now new (text_of k t.0)) (sym s.1) t.5 in (
+      bytes ++ x.0,
+      Consumes-trans before mid after bytes x.0 read x.1,
+      (
+        told ++ t.0 ∷ [],
+        length_more told t.0 n s.1,
+        so_far_more (bytes ++ x.0) (held ++ x.0) others old now new c told t.0 (so_far_read bytes held x.0 old now c told s.2) t.1 t.2 t.4 wrote,
+        subst After (sym (left_more c told t.0)) t.3,
+      ),
     )
+
+-- the last turn
+pub serves_ended : (before mid after old now new : Option (List ℕ)) (held others : List ℕ) (c : Content) (n : ℕ) (e : Ended) (Has After : Content → Type 0)
+    → HasTold before mid held old now c n Has → n < 1000 → ((d : Content) → Has d → Turns held others mid after now new d n (Some e) After)
+    → Serves before after old new c e After
+serves_ended before mid after old now new held others c n e Has After (bytes, read, s) few turn =
+    let told = s.0 in
+    let x = turn (left_by_all c told) s.3 in
+    record {
+      bytes = bytes ++ x.0;
+      read = Consumes-trans before mid after bytes x.0 read x.1;
+      told = told;
+      few = inl (subst (λ k. k < 1000) (sym s.1) few);
+      rest = held ++ x.0;
+      wrote = now;
+      so_far = so_far_read bytes held x.0 old now c told s.2;
+      ends = subst (λ k. EndsBy e.why (held ++ x.0) after now new (left_by_all c told) k e.messages After) (sym s.1) x.2;
+    }
+
+-- no turn more
+pub serves_limit : (before after old new : Option (List ℕ)) (held : List ℕ) (c : Content) (n : ℕ) (Has : Content → Type 0)
+    → n ≡ 1000 → HasTold before after held old new c n Has → Serves before after old new c (record { messages = 1000; why = Limit }) Has
+serves_limit before after old new held c n Has limit (bytes, read, s) = record {
+  bytes = bytes;
+  read = read;
+  told = s.0;
+  few = inr (refl, s.1 ∙ limit);
+  rest = held;
+  wrote = new;
+  so_far = s.2;
+  ends = (s.1 ∙ limit, Appends-nil new, sym (s.1 ∙ limit), s.3);
+}

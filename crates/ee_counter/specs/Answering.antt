@@ -1,5 +1,5 @@
 -- The answer to a message, at a content of books and kept replies.
-use Rattle.std.specs.Prelude.{◌≡◌, List, [], ◌∷◌, Result, Ok, Err, ⊤}
+use Rattle.std.specs.Prelude.{◌≡◌, [], ◌∷◌, Result, Ok, Err, ⊤}
 use Rattle.ee_acts.specs.PlainBooks.{PlainBooks}
 use Rattle.ee_acts.specs.Repeats.{Content}
 use Rattle.ee_acts.specs.Contents.{content_after}

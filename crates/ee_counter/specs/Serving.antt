@@ -1,12 +1,12 @@
 -- What serving a connection writes, and what it leaves (this project's rule).
-use Rattle.std.specs.Prelude.{◌≡◌, ℕ, ◌+◌, ◌≤◌, ◌⊎◌, ◌==◌, ◌||◌, Bool, true, false, List, [], ◌∷◌, ◌++◌, length, map, Option, Some, None, Result, Ok, Err, IfSome, ⊤}
+use Rattle.std.specs.Prelude.{◌≡◌, ℕ, ◌+◌, ◌<◌, ◌⊎◌, ◌==◌, ◌||◌, Bool, true, false, List, [], ◌∷◌, ◌++◌, length, map, Option, Some, None, Result, Ok, Err, ⊤}
 use Rattle.std.specs.List.{AllByRecursion}
-use Rattle.std.specs.Io.KnownBytes.{Appends, Keeps, prepend_known}
+use Rattle.std.specs.Io.KnownBytes.{Appends, Consumes, IsAtEnd}
 use Rattle.ee_acts.specs.declared.acts.Request.{Request}
 use Rattle.ee_acts.specs.Repeats.{Content}
 use Rattle.ee_framing.specs.declared.FramingFault.{FramingFault}
-use Rattle.ee_framing.specs.Framing.{Message, BeginsMessages, EndsWith, end, fault}
-use Rattle.ee_framing.specs.Reading.{Gives, NeedsMore}
+use Rattle.ee_framing.specs.Framing.{Message, BeginsMessage, BeginsMessages, EndsWith, end}
+use Rattle.ee_framing.specs.Reading.{NeedsMore, ShowsFault}
 use Rattle.ee_calls.specs.declared.calls.Call.{Call}
 use Rattle.ee_calls.specs.declared.calls.Call.TheVariants as call
 use Rattle.ee_calls.specs.declared.faults.WireFault.{WireFault}
@@ -80,36 +80,31 @@ fault_text f = answer_text (told.Fault (Framing f)) true
 abbrev pub CutsShort : List ℕ → Option (List ℕ) → Option (List ℕ) → Type 0
 CutsShort text old new = WritesFront old new text false
 
--- the next message, with its answer. `Has` says which contents the keeper then has.
-abbrev pub Tells : Told → Option (List ℕ) → Option (List ℕ) → Content → (Content → Type 0) → Type 0
-Tells t before after c Has = Gives t.message before after × IsRight c (call_of t.message) t.answer × Has (left_by c t)
+-- the next message, with its answer: the bytes begin with it. `Has` says which contents the keeper then has.
+abbrev pub Tells : Told → List ℕ → Content → (Content → Type 0) → Type 0
+Tells t bytes c Has =
+    ((after : List ℕ) × BeginsMessage bytes t.message after) × IsRight c (call_of t.message) t.answer × Has (left_by c t)
 
-abbrev pub NoMore : Option (List ℕ) → Type 0
-NoMore before = IfSome before (λ bytes. EndsWith bytes end)
-
-abbrev pub HasFault : Option (List ℕ) → FramingFault → Type 0
-HasFault before f = IfSome before (λ bytes. EndsWith bytes (fault f))
-
--- how the connection ends, by its cause: the bytes that are left before and after, what was written before and
--- after, the content and the count of answers before, and the count after
-abbrev pub EndsBy : Why → Option (List ℕ) → Option (List ℕ) → Option (List ℕ) → Option (List ℕ) → Content → ℕ → ℕ → (Content → Type 0) → Type 0
-EndsBy Closed before after old new c n count Has = NoMore before × Appends old new [] × (count ≡ n) × Has c
-EndsBy Asked before after old new c n count Has =
-    (t : Told) × Tells t before after c Has × (t.message.closes ≡ true) × Appends old new (text_of n t) × (count ≡ n + 1)
-EndsBy Limit before after old new c n count Has = (n ≡ 1000) × Appends old new [] × (count ≡ n) × Has c
-EndsBy (Fault f) before after old new c n count Has =
-    HasFault before f × Appends old new (fault_text f) × (count ≡ n + 1) × Has c
--- no whole message stands in the bytes that were read
-EndsBy ReadFailed before after old new c n count Has =
-    ((held : List ℕ) × (more : Option (List ℕ)) × Keeps before (prepend_known held more) × NeedsMore held)
-    × Appends old new [] × (count ≡ n) × Has c
--- one more message may have been answered, with no byte of that answer written
-EndsBy NoMemory before after old new c n count Has =
-    Appends old new [] × (count ≡ n) × (Has c ⊎ ((t : Told) × Tells t before after c Has))
+-- how the connection ends, by its cause: the bytes that were read and not answered, those that the reader has left, what
+-- was written before and after, the content and the count of answers before, and the count after
+abbrev pub EndsBy : Why → List ℕ → Option (List ℕ) → Option (List ℕ) → Option (List ℕ) → Content → ℕ → ℕ → (Content → Type 0) → Type 0
+-- every byte was answered, and none is left
+EndsBy Closed bytes remaining old new c n count Has = EndsWith bytes end × IsAtEnd remaining × Appends old new [] × (count ≡ n) × Has c
+EndsBy Asked bytes remaining old new c n count Has =
+    (t : Told) × Tells t bytes c Has × (t.message.closes ≡ true) × Appends old new (text_of n t) × (count ≡ n + 1)
+EndsBy Limit bytes remaining old new c n count Has = (n ≡ 1000) × Appends old new [] × (count ≡ n) × Has c
+EndsBy (Fault f) bytes remaining old new c n count Has =
+    ShowsFault bytes remaining f × Appends old new (fault_text f) × (count ≡ n + 1) × Has c
+-- no whole message, and no fault, stands in the bytes that were read
+EndsBy ReadFailed bytes remaining old new c n count Has = NeedsMore bytes × Appends old new [] × (count ≡ n) × Has c
+-- memory was refused to more bytes, to the answer to a fault, or to that to a message, which was answered: no byte of it was written
+EndsBy NoMemory bytes remaining old new c n count Has =
+    Appends old new [] × (count ≡ n)
+    × ((NeedsMore bytes × Has c) ⊎ ((f : FramingFault) × ShowsFault bytes remaining f × Has c) ⊎ ((t : Told) × Tells t bytes c Has))
 -- the message whose answer was cut was answered
-EndsBy WriteFailed before after old new c n count Has =
-    (count ≡ n) × (((t : Told) × Tells t before after c Has × CutsShort (text_of n t) old new)
-    ⊎ ((f : FramingFault) × HasFault before f × CutsShort (fault_text f) old new × Has c))
+EndsBy WriteFailed bytes remaining old new c n count Has =
+    (count ≡ n) × (((t : Told) × Tells t bytes c Has × CutsShort (text_of n t) old new)
+    ⊎ ((f : FramingFault) × ShowsFault bytes remaining f × CutsShort (fault_text f) old new × Has c))
 
 -- ---- one turn
 
@@ -124,7 +119,7 @@ AnswersOne m old new c n None Has =
     (answer : Answer) × Answers c (call_of m) answer Has × (m.closes ≡ false)
     × Appends old new (text_of n (record { message = m; answer = answer }))
 AnswersOne m old new c n (Some e) Has =
-    (before after : Option (List ℕ)) → Gives m before after → EndsBy e.why before after old new c n e.messages Has
+    (bytes after : List ℕ) (remaining : Option (List ℕ)) → BeginsMessage bytes m after → EndsBy e.why bytes remaining old new c n e.messages Has
 
 -- the answer to the fault is written whole, or not
 abbrev pub RefusesBy : Why → FramingFault → Option (List ℕ) → Option (List ℕ) → ℕ → ℕ → Type 0
@@ -139,38 +134,41 @@ RefusesBy ReadFailed f old new n count = ⊥
 abbrev pub Refuses : FramingFault → Option (List ℕ) → Option (List ℕ) → ℕ → Ended → Type 0
 Refuses f old new n e = RefusesBy e.why f old new n e.messages
 
--- a message is read and answered, or the connection ends
-abbrev pub Turns : Option (List ℕ) → Option (List ℕ) → Option (List ℕ) → Option (List ℕ) → Content → ℕ → Option Ended → (Content → Type 0) → Type 0
-Turns before after old new c n None Has =
-    (t : Told) × Tells t before after c Has × (t.message.closes ≡ false) × Appends old new (text_of n t)
-Turns before after old new c n (Some e) Has = EndsBy e.why before after old new c n e.messages Has
+-- after these bytes some more may be read; then a message is answered, and others are left, or the connection ends
+abbrev pub Turns : List ℕ → List ℕ → Option (List ℕ) → Option (List ℕ) → Option (List ℕ) → Option (List ℕ) → Content → ℕ → Option Ended → (Content → Type 0) → Type 0
+Turns bytes others before after old new c n None Has =
+    (got : List ℕ) × Consumes before after got
+    × ((t : Told) × BeginsMessage (bytes ++ got) t.message others × IsRight c (call_of t.message) t.answer × Has (left_by c t)
+    × (t.message.closes ≡ false) × Appends old new (text_of n t))
+Turns bytes others before after old new c n (Some e) Has =
+    (got : List ℕ) × Consumes before after got × EndsBy e.why (bytes ++ got) after old new c n e.messages Has
 
 -- ---- whole connections
-
--- known bytes begin with these messages, and lose them
-abbrev pub GivesAll : List Message → Option (List ℕ) → Option (List ℕ) → Type 0
-GivesAll ms None new = ⊤
-GivesAll ms (Some bytes) None = ⊥
-GivesAll ms (Some bytes) (Some rest) = BeginsMessages bytes ms rest
 
 abbrev pub messages : List Told → List Message
 messages ts = map (λ t. t.message) ts
 
--- these messages were answered whole and in order, each at the content left by those before it, and none of them
--- asks to close
-pub record SoFar (before : Option (List ℕ)) (rest : Option (List ℕ)) (old : Option (List ℕ)) (new : Option (List ℕ)) (c : Content) (told : List Told) : Type 0 where
-  pub begins : GivesAll (messages told) before rest
+-- the bytes begin with these messages, and rest follows; they were answered whole and in order, each at the content left
+-- by those before it, and none of them asks to close
+pub record SoFar (bytes rest : List ℕ) (old : Option (List ℕ)) (new : Option (List ℕ)) (c : Content) (told : List Told) : Type 0 where
+  pub begins : BeginsMessages bytes (messages told) rest
   pub right : AreRight c told
   pub none_asks : AllByRecursion (λ t. t.message.closes ≡ false) told
   pub wrote : Appends old new (texts 0 told)
 
--- the connection gave these messages, which were answered, and then it ended: the bytes that it gave, what was
--- written before and after, the content before, how it ended, and which contents the keeper then has
-pub record Serves (before : Option (List ℕ)) (old : Option (List ℕ)) (new : Option (List ℕ)) (c : Content) (e : Ended) (Has : Content → Type 0) : Type 0 where
+-- after the 1,000th message none is read and none answered
+abbrev pub AreFew : Why → ℕ → Type 0
+AreFew why n = (n < 1000) ⊎ ((why ≡ Limit) × (n ≡ 1000))
+
+-- the connection gave bytes that begin with these messages, which were answered, and then it ended: what the reader has
+-- left before and after, what was written before and after, the content before, how it ended, and which contents the
+-- keeper then has
+pub record Serves (before : Option (List ℕ)) (remaining : Option (List ℕ)) (old : Option (List ℕ)) (new : Option (List ℕ)) (c : Content) (e : Ended) (Has : Content → Type 0) : Type 0 where
+  pub bytes : List ℕ
+  pub read : Consumes before remaining bytes
   pub told : List Told
-  pub few : length told ≤ 1000
-  pub rest : Option (List ℕ)
-  pub at_end : Option (List ℕ)
+  pub few : AreFew e.why (length told)
+  pub rest : List ℕ
   pub wrote : Option (List ℕ)
-  pub so_far : SoFar before rest old wrote c told
-  pub ends : EndsBy e.why rest at_end wrote new (left_by_all c told) (length told) e.messages Has
+  pub so_far : SoFar bytes rest old wrote c told
+  pub ends : EndsBy e.why rest remaining wrote new (left_by_all c told) (length told) e.messages Has

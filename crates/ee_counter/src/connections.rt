@@ -2,7 +2,7 @@
 
 ghost use Rattle.std.specs.Prelude.{◌≡◌, ◌<◌, ◌≤◌, ◌+◌, ◌||◌, ◌==◌, None, IfSome};
 ghost use Rattle.ee_acts.specs.Repeats.{Content};
-ghost use Rattle.ee_framing.specs.Reading.{left, message_in};
+ghost use Rattle.ee_framing.specs.Reading.{message_in};
 ghost use Rattle.ee_counter.specs.Serving.{Serves, Turns, AnswersOne, TellsOne, Refuses};
 
 use crate::answering::answer_message;
@@ -142,7 +142,7 @@ fn turn<K: Keeper, R: Read, W: Write>(
     requires open { buffer.old.ended ≡ None }
     ensures clean { K.is_clean keeper.new → K.is_clean keeper.old }
     ensures turns { K.is_clean keeper.new → (c : Content) → K.has keeper.old c
-        → Turns (left buffer.old (R.remaining reader.old)) (left buffer.new (R.remaining reader.new))
+        → Turns buffer.old.held buffer.new.held (R.remaining reader.old) (R.remaining reader.new)
         (W.contents writer.old) (W.contents writer.new) c messages result (K.has keeper.new) }
     ensures open { result ≡ None → buffer.new.ended ≡ None }
     ensures few { IfSome result (λ ended. ended.messages ≤ 1000) }
@@ -172,8 +172,9 @@ fn turn<K: Keeper, R: Read, W: Write>(
 /// messages were answered, or a device or memory fails.
 ///
 /// What is written is the answers in order and whole; only the last may be cut, where the writer failed. A
-/// message that is answered 503 changed nothing. The claims are of any content `c` that the keeper had, and
-/// hold where its store is clean at the end.
+/// message that is answered 503 changed nothing. After the 1,000th message none is decided. Where the reader
+/// fails, no whole message is left among the bytes that were read. The claims are of any content `c` that
+/// the keeper had, and hold where its store is clean at the end.
 pub fn serve<K: Keeper, R: Read, W: Write>(
     alloc: Global,
     keeper: &mut K,
@@ -182,7 +183,7 @@ pub fn serve<K: Keeper, R: Read, W: Write>(
 ) -> Ended
     ensures clean { K.is_clean keeper.new → K.is_clean keeper.old }
     ensures serves { K.is_clean keeper.new → (c : Content) → K.has keeper.old c
-        → Serves (R.remaining reader.old) (W.contents writer.old) (W.contents writer.new) c result (K.has keeper.new) }
+        → Serves (R.remaining reader.old) (R.remaining reader.new) (W.contents writer.old) (W.contents writer.new) c result (K.has keeper.new) }
     ensures few { result.messages ≤ 1000 }
 {
     let mut buffer = Buffer::new(alloc);

@@ -23,6 +23,31 @@ const MOST_SERIALS: usize = 100;
 
 const MOST_TICKETS: u64 = 1000;
 
+/// How the length of a list refuses it.
+fn refusal_of_length(most: usize, count: usize) -> Option<Refusal>
+    ensures { result ≡ is.refusal_of_length most count }
+{
+    if count == 0 {
+        return Some(Refusal::Empty);
+    }
+    if count > most {
+        return Some(Refusal::TooMany);
+    }
+    None
+}
+
+/// How the length of its list refuses an act: then nothing of the books has to be looked at.
+pub fn length_refusal(act: &Act) -> Option<Refusal>
+    ensures { result ≡ is.length_refusal act.now }
+{
+    match act {
+        Act::AddRates(rows) => refusal_of_length(MOST_ROWS, rows.as_slice().len()),
+        Act::AddBonds(bonds) => refusal_of_length(MOST_ROWS, bonds.as_slice().len()),
+        Act::Redeem { serials, .. } => refusal_of_length(MOST_SERIALS, serials.as_slice().len()),
+        Act::OpenDay(_) | Act::CloseDay(_) => None,
+    }
+}
+
 /// Whether a month is a May or November.
 pub fn is_announcement(month: IssueMonth) -> bool
     ensures { result ≡ is_announcement month }

@@ -5,12 +5,13 @@ ghost use Rattle.ee_acts.specs.declared.acts.Act.{Act};
 ghost use Rattle.ee_acts.specs.PlainBooks.{PlainBooks};
 ghost use Rattle.ee_acts.specs.Sound.{IsSound};
 ghost use Rattle.ee_acts.specs.Values.{unsettled};
-ghost use Rattle.ee_acts.specs.Views.{view_of, needed_of};
+ghost use Rattle.ee_acts.specs.Views.{view_of, needed_of, no_view};
 ghost use Rattle.ee_decide.specs.Parts.{plain_parts};
 
 use ee_acts::{Held, Terms};
 use ee_units::{Cents, Day, IssueMonth, Serial};
 use ee_value::Rates;
+use std::alloc::Global;
 use std::collections::BTreeMap;
 use std::marker::Model;
 
@@ -94,6 +95,24 @@ impl View {
         ensures { result ≡ plain_parts parts }
     {
         View { parts }
+    }
+
+    /// A view of nothing. It takes no memory.
+    pub fn of_nothing(alloc: Global) -> View
+        ensures { result ≡ no_view }
+    {
+        View {
+            parts: ViewParts {
+                rates: BTreeMap::new(alloc),
+                bonds: BTreeMap::new(alloc),
+                day: None,
+                last_day: None,
+                tickets: 0,
+                day_tickets: 0,
+                day_bonds: 0,
+                day_total: Cents(0),
+            },
+        }
     }
 
     /// The view of parts that a store has; None where they count more than 71,200,000 tickets, as no

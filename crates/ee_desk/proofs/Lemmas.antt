@@ -1,5 +1,5 @@
 -- Lemmas that the proofs of crates above use.
-use Rattle.std.proofs.Common.{List, None, cond, map, ◌≡◌}
+use Rattle.std.proofs.Common.{List, None, Option, cond, get_or, length, map, take, ℕ, ◌+◌, ◌<◌, ◌≡◌}
 use Rattle.std.specs.BTreeMap.{is_at}
 use Rattle.std.specs.Cmp.{IsTotalOrder}
 use Rattle.std.specs.List.{AllByRecursion, sum_by}
@@ -10,13 +10,16 @@ use Rattle.ee_acts.specs.PlainBooks.{PlainBooks}
 use Rattle.ee_acts.specs.Queries.{sheet_of, shown_in_row, shown_in_sheet}
 use Rattle.ee_acts.specs.Ranges.{IsInRange}
 use Rattle.ee_acts.specs.Sound.{IsSound}
+use Rattle.ee_acts.specs.Views.{picked}
 use Rattle.ee_acts.specs.declared.changes.Effects.{Effects}
 use Rattle.ee_calculator.specs.declared.rows.Row.{Row}
 use Rattle.ee_calculator.specs.declared.sheets.Sheet.{Sheet}
 use Rattle.ee_desk.specs.Applicable.{AreApplicable}
+use Rattle.ee_desk.specs.Kept.{noted}
 use Rattle.std.specs.FinMap as finite
 use Rattle.ee_desk.proofs.Added
 use Rattle.ee_desk.proofs.Deciding
+use Rattle.ee_desk.proofs.Picked
 use Rattle.ee_desk.proofs.SheetRows
 pub use Rattle.ee_desk.proofs.Deciding.{AreDecided}
 
@@ -39,3 +42,8 @@ pub map_with_one_less : {K V : Type 0} {R : K → K → Ordering} (o : IsTotalOr
     → ((q : K) → lookup (is_at (R q)) fs ≡ cond (is_at (R k) q) None (lookup (is_at (R q)) es))
     → finite.from_entries {R = R} fs ≡ finite.remove (finite.from_entries es) k
 map_with_one_less = Added.taken_out
+
+-- what is found for one more key of a list
+pub found_for_next : {K V : Type 0} {R : K → K → Ordering} (o : IsTotalOrder R) (exact : CmpEqualImpliesEq R) (look : K → Option V) (ks : List K) (i : ℕ) (d : K)
+    → i < length ks → picked {R = R} look (take (i + 1) ks) ≡ noted look (picked look (take i ks)) (get_or ks i d)
+found_for_next = Picked.picked_next

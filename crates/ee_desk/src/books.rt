@@ -94,11 +94,12 @@ impl Books {
         seeing::view_of(self.alloc, &self.ledger, act)
     }
 
-    /// What an act changes, and its reply: decided by what it sees of the books, and not yet made.
+    /// What an act changes, and its reply: decided by what it sees of the books, and not yet made. Of the
+    /// books it reads only what decides the act: nothing where the length of its list refuses it.
     pub fn effects_of(&self, act: &Act) -> Result<Effects, AllocError>
         ensures { IfOk result (λ e. e ≡ effects_of (shown_by (view_of self.now act.now)) act.now) }
     {
-        let view = self.view_of(act)?;
+        let view = seeing::needed_of(self.alloc, &self.ledger, act)?;
         let effects = decide(self.alloc, &view, act)?;
         Ok(effects)
     }

@@ -13,7 +13,7 @@ ghost use Rattle.ee_desk.specs.Kept.{rates_in, held_in, noted, noted_at, AreCoun
 use crate::ledger::Ledger;
 use ee_acts::{Act, Held, RateRow, Terms};
 use ee_calculator::Bond;
-use ee_decide::{DayCounts, View, ViewParts};
+use ee_decide::{DayCounts, View, ViewParts, length_refusal};
 use ee_units::calendar::period_of;
 use ee_units::{IssueMonth, Serial};
 use std::alloc::{AllocError, Global};
@@ -196,14 +196,29 @@ fn counted(ledger: &Ledger, act: &Act) -> DayCounts
     }
 }
 
-/// What an act names of a ledger.
-pub fn view_of(alloc: Global, ledger: &Ledger, act: &Act) -> Result<View, AllocError>
+/// What of the open day's tickets an act is decided by: a redemption by how many they are.
+fn needed_counts(ledger: &Ledger, act: &Act) -> DayCounts
+    ensures { AreCounts (is.needed_counts ledger.now act.now) result }
+{
+    match act {
+        Act::Redeem { .. } => DayCounts::of_tickets(ledger.counts().tickets),
+        Act::CloseDay(_) => ledger.counts(),
+        Act::AddRates(_) | Act::AddBonds(_) | Act::OpenDay(_) => DayCounts::of_tickets(0),
+    }
+}
+
+/// What an act names of a ledger, with these counts of the open day's tickets.
+fn view_with(
+    alloc: Global,
+    ledger: &Ledger,
+    act: &Act,
+    counts: DayCounts,
+) -> Result<View, AllocError>
     requires { length ledger.now.tickets ≤ 71200000 }
-    ensures { IfOk result (λ v. v ≡ is.view_of ledger.now act.now) }
+    ensures { IfOk result (λ v. v ≡ record (is.view_of ledger.now act.now) { day_tickets = counts.tickets; day_bonds = counts.bonds; day_total = counts.total.0 }) }
 {
     let rates = rates_of(alloc, ledger, act)?;
     let bonds = bonds_of(alloc, ledger, act)?;
-    let counts = counted(ledger, act);
     let tickets = ledger.tickets().len() as u64;
     Ok(View::new(ViewParts {
         rates,
@@ -215,4 +230,33 @@ pub fn view_of(alloc: Global, ledger: &Ledger, act: &Act) -> Result<View, AllocE
         day_bonds: counts.bonds,
         day_total: counts.total,
     }))
+}
+
+/// What an act names of a ledger.
+pub fn view_of(alloc: Global, ledger: &Ledger, act: &Act) -> Result<View, AllocError>
+    requires { length ledger.now.tickets ≤ 71200000 }
+    ensures { IfOk result (λ v. v ≡ is.view_of ledger.now act.now) }
+{
+    let counts = counted(ledger, act);
+    view_with(alloc, ledger, act, counts)
+}
+
+/// What an act is decided by that the length of its list doesn't refuse.
+fn needed_within(alloc: Global, ledger: &Ledger, act: &Act) -> Result<View, AllocError>
+    requires { length ledger.now.tickets ≤ 71200000 }
+    ensures { IfOk result (λ v. v ≡ is.needed_within ledger.now act.now) }
+{
+    let counts = needed_counts(ledger, act);
+    view_with(alloc, ledger, act, counts)
+}
+
+/// What an act is decided by: nothing of the ledger where the length of its list refuses it.
+pub fn needed_of(alloc: Global, ledger: &Ledger, act: &Act) -> Result<View, AllocError>
+    requires { length ledger.now.tickets ≤ 71200000 }
+    ensures { IfOk result (λ v. v ≡ is.needed_of ledger.now act.now) }
+{
+    match length_refusal(act) {
+        Some(_) => Ok(View::of_nothing(alloc)),
+        None => needed_within(alloc, ledger, act),
+    }
 }

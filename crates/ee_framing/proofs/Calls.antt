@@ -1,14 +1,14 @@
 -- From what is held to all that is left.
-use Rattle.std.proofs.Common.{◌≡◌, ℕ, List, [], ◌∷◌, ◌++◌, length, take, drop, Option, Some, None, Ok, Err, IfSome, refl, sym, ap, subst, ◌∙◌, inl, inr, arith, append_assoc, append-nil}
+use Rattle.std.proofs.Common.{◌≡◌, ℕ, List, [], ◌∷◌, ◌++◌, length, take, drop, Option, Some, None, Ok, Err, IfSome, sym, ap, subst, ◌∙◌, inr, arith, append_assoc, append-nil, take-append-drop}
 use Rattle.std.specs.Io.KnownBytes.{Keeps, Consumes, IsAtEnd, prepend_known}
-use Rattle.ee_framing.specs.declared.front.Front.TheVariants as front
+use Rattle.std.proofs.KnownBytes.{Consumes-kept, Consumes-trans}
 use Rattle.ee_framing.specs.declared.buffer.Message as parts
 use Rattle.ee_framing.specs.declared.buffer.WireEnd.TheVariants as wire
 use Rattle.ee_framing.specs.declared.buffer.Next.TheVariants as next
 use Rattle.ee_framing.specs.Stream.{Stream}
-use Rattle.ee_framing.specs.Framing.{BeginsHead, BeginsMessage, Message, EndsWith, end, fault}
-use Rattle.ee_framing.specs.Reading.{message_in, left, Gives, NeedsMore, IsFront, EndsAt, Answer, Answers}
-use Rattle.ee_framing.proofs.More.{BeginsHead-append}
+use Rattle.ee_framing.specs.Framing.{BeginsMessage, Message, EndsWith, end, fault}
+use Rattle.ee_framing.specs.Reading.{message_in, left, Gives, NeedsMore, EndsAt, Answer, Answers, Takes, Settles}
+use Rattle.ee_framing.proofs.Messages.{BeginsMessage-append}
 
 -- what holds of what is held, whatever follows, holds of all that was left
 pub kept_fact : (P : List ℕ → Type 0) (known after : Option (List ℕ)) (held : List ℕ) → Keeps known (prepend_known held after)
@@ -32,16 +32,11 @@ moved (Some xs) None after held got kept took = absurd kept
 moved (Some xs) (Some ys) None held got kept took = absurd took
 moved (Some xs) (Some ys) (Some zs) held got kept took = append_assoc held got zs ∙ ap (λ l. held ++ l) (sym took) ∙ kept
 
-pub more_needed : (bytes : List ℕ) → IsFront bytes front.More → NeedsMore bytes
-more_needed [] f = inl refl
-more_needed (b ∷ bytes) (inl (open_at, short)) = inr (inl (open_at, omega arith, short))
-more_needed (b ∷ bytes) (inr cut) = inr (inr (inr (refl, cut)))
-
 pub answers_at : (old new : Stream) (before after : Option (List ℕ)) (bytes : List ℕ) (r : Answer)
     → Keeps (left old before) (prepend_known bytes after) → IsAtEnd after → EndsAt bytes r → Answers old before r new after
 answers_at old new before after bytes (Ok (next.Message m)) kept none ends = absurd ends
 answers_at old new before after bytes (Ok next.End) kept none ends = end_fact (λ b. EndsWith b end) (left old before) after bytes kept none ends
-answers_at old new before after bytes (Err (wire.Fault f)) kept none ends = end_fact (λ b. EndsWith b (fault f)) (left old before) after bytes kept none ends
+answers_at old new before after bytes (Err (wire.Fault f)) kept none ends = end_fact (λ b. EndsWith b (fault f)) (left old before) after bytes kept none ends.1
 answers_at old new before after bytes (Err wire.ReadFailed) kept none ends = absurd ends
 answers_at old new before after bytes (Err wire.NoMemory) kept none ends = absurd ends
 
@@ -53,15 +48,6 @@ same_left (Some xs) (Some ys) None held kept same = absurd same
 same_left (Some xs) (Some ys) (Some zs) held kept same = ap (λ l. held ++ l) same ∙ kept
 
 -- a message that is held, in all that was left
-pub BeginsMessage-append : (bytes more : List ℕ) (m : Message) (rest : List ℕ) → BeginsMessage bytes m rest → BeginsMessage (bytes ++ more) m (rest ++ more)
-BeginsMessage-append bytes more m rest at = record {
-  head = at.head;
-  body = at.body;
-  reads = subst (BeginsHead (bytes ++ more) at.head) (append_assoc at.body rest more) (BeginsHead-append bytes more at.head (at.body ++ rest) at.reads);
-  framed = at.framed;
-  is = at.is;
-}
-
 pub given : (m : Message) (known after : Option (List ℕ)) (held rest : List ℕ) → Keeps known (prepend_known held after) → BeginsMessage held m rest
     → Gives m known (prepend_known rest after)
 given m None after held rest kept at = tt
@@ -78,6 +64,37 @@ given_shown m len known after seen held new same shown rest kept at =
     (subst (λ r. Gives (message_in (take len held) m) known (prepend_known r after)) (sym rest)
     (given (message_in (take len held) m) known after held (drop len held) kept
     (subst (λ l. BeginsMessage l (message_in (take len l) m) (drop len l)) same at)))
+
+-- ---- what was read
+
+-- bytes that were read since, with which the bytes held begin no longer than they were
+abbrev pub HasRead : List ℕ → Option (List ℕ) → List ℕ → Option (List ℕ) → Type 0
+HasRead old before held after = (got : List ℕ) × Consumes before after got × (held ≡ old ++ got)
+
+pub read_more : (old held new more : List ℕ) (before mid after : Option (List ℕ)) → HasRead old before held mid → Consumes mid after more → new ≡ held ++ more
+    → HasRead old before new after
+read_more old held new more before mid after (got, took, is) again grown =
+    (got ++ more, Consumes-trans before mid after got more took again, grown ∙ ap (λ l. l ++ more) is ∙ append_assoc old got more)
+
+pub read_kept : (old held : List ℕ) (before mid after : Option (List ℕ)) → HasRead old before held mid → Keeps mid after → HasRead old before held after
+read_kept old held before mid after (got, took, is) kept = (got, Consumes-kept before mid after got took kept, is)
+
+-- nothing is shown
+pub takes_held : (old new : Stream) (held : List ℕ) (before after : Option (List ℕ)) → HasRead old.held before held after → new.shown ≡ [] → new.held ≡ held
+    → Takes old before new after
+takes_held old new held before after (got, took, is) none same = (got, took, ap (λ l. l ++ new.held) none ∙ same ∙ is)
+
+-- a front of it is shown
+pub takes_shown : (old new : Stream) (held : List ℕ) (before after : Option (List ℕ)) (len : ℕ) → HasRead old.held before held after
+    → new.shown ≡ take len held → new.held ≡ drop len held → Takes old before new after
+takes_shown old new held before after len (got, took, is) shown rest = (got, took, (λ i. shown i ++ rest i) ∙ take-append-drop len held ∙ is)
+
+pub settles_at : (new : Stream) (after : Option (List ℕ)) (r : Answer) → new.shown ≡ [] → IsAtEnd after → EndsAt new.held r → Settles r new after
+settles_at new after (Ok (next.Message m)) shown none ends = absurd ends
+settles_at new after (Ok next.End) shown none ends = (shown, ends, none)
+settles_at new after (Err (wire.Fault f)) shown none ends = (shown, inr (ends.0, ends.1, none))
+settles_at new after (Err wire.ReadFailed) shown none ends = absurd ends
+settles_at new after (Err wire.NoMemory) shown none ends = absurd ends
 
 -- a read that brought nothing
 pub none_read : (held got new : List ℕ) → length got ≡ 0 → new ≡ held ++ got → NeedsMore held → NeedsMore new

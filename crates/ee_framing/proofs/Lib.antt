@@ -3,6 +3,7 @@ mod Cuts
 mod WholeLines
 mod Tested
 mod More
+mod Messages
 mod Calls
 mod OneSplit
 mod FieldSteps

@@ -1,5 +1,5 @@
 -- How a stream of bytes is split into requests: a head of the grammar of HTTP/1.x, and a body whose length the head states.
-use Rattle.std.specs.Prelude.{◌≡◌, ℕ, ◌<◌, ◌≤◌, ◌⊎◌, Bool, ◌&&◌, ◌||◌, ◌==◌, nat_lt, not, if◌then◌else◌, List, [], ◌∷◌, ◌++◌, length, map, codes, bytes_eq, Result, Ok, Err}
+use Rattle.std.specs.Prelude.{◌≡◌, ℕ, ◌<◌, ◌≤◌, ◌⊎◌, Bool, ◌&&◌, ◌||◌, ◌==◌, nat_lt, not, if◌then◌else◌, List, [], ◌∷◌, ◌++◌, length, map, codes, bytes_eq, Option, Some, None, Result, Ok, Err}
 use Rattle.std.specs.List.{list_all, list_any}
 use Rattle.std.specs.Char.{is_ascii_digit, to_ascii_lowercase}
 use Rattle.std.specs.Str.Parse.{digits_value}
@@ -8,19 +8,36 @@ use Rattle.httparse.specs.Grammar.{RequestHead, ReadsRequest, NeverHasRequest, p
 use Rattle.httparse.specs.Spans.{name_and_value}
 use Rattle.ee_framing.specs.declared.FramingFault.{FramingFault}
 use Rattle.ee_framing.specs.declared.FramingFault.TheVariants.{BadHead, HeadTooLong, BodyTooLong, BadLength, Truncated}
-use Rattle.ee_framing.specs.declared.TheConstants.{HEAD_LIMIT, HEADER_LIMIT, BODY_LIMIT}
+
+-- ---- the limits
+
+-- the most bytes of a head
+abbrev pub most_head : ℕ
+most_head = 16384
+
+-- the most fields of a head
+abbrev pub most_fields : ℕ
+most_fields = 32
+
+-- the most bytes of a body
+abbrev pub most_body : ℕ
+most_body = 1048576
+
+-- the most bytes that are held: a head, a body, and one read
+abbrev pub most_held : ℕ
+most_held = 1069056
 
 -- ---- the head
 
 -- the bytes are the head h, of at most 16,384 bytes, and then rest
 abbrev pub BeginsHead : List ℕ → RequestHead → List ℕ → Type 0
-BeginsHead bytes h rest = ReadsRequest bytes h rest × (length (print_request h) ≤ HEAD_LIMIT)
+BeginsHead bytes h rest = ReadsRequest bytes h rest × (length (print_request h) ≤ most_head)
 
 -- the lines so far, up to a line feed in the first 16,384 bytes, begin no head, whatever follows
 abbrev pub HasBadHead : List ℕ → Type 0
 HasBadHead bytes =
     (lines : List ℕ) × (rest : List ℕ) × (bytes ≡ lines ++ line_feed ∷ rest)
-    × (length lines < HEAD_LIMIT) × NeverHasRequest (lines ++ line_feed ∷ [])
+    × (length lines < most_head) × NeverHasRequest (lines ++ line_feed ∷ [])
 
 -- neither is so: no head stands there yet, and one may come
 pub record IsUndecided (bytes : List ℕ) : Type 0 where
@@ -49,7 +66,7 @@ is_digits text = nat_lt 0 (length text) && list_all is_ascii_digit text
 abbrev pub checked_length : List ℕ → Result ℕ FramingFault
 checked_length text =
     if not (is_digits text) then Err BadLength
-    else (if nat_lt BODY_LIMIT (digits_value 10 text) then Err BodyTooLong else Ok (digits_value 10 text))
+    else (if nat_lt most_body (digits_value 10 text) then Err BodyTooLong else Ok (digits_value 10 text))
 
 abbrev pub stated_length : List (List ℕ) → Result ℕ FramingFault
 stated_length [] = Ok 0
@@ -63,7 +80,7 @@ unless_coded (coding ∷ codings) length = Err BadLength
 -- the length of the body, or what is wrong with the fields that state it
 abbrev pub body_length : List Pair → Result ℕ FramingFault
 body_length fields =
-    if nat_lt HEADER_LIMIT (length fields) then Err BadHead
+    if nat_lt most_fields (length fields) then Err BadHead
     else unless_coded (values_of (codes "transfer-encoding") fields) (stated_length (values_of (codes "content-length") fields))
 
 abbrev pub body_length_of : RequestHead → Result ℕ FramingFault
@@ -100,8 +117,8 @@ pub record BeginsMessage (bytes : List ℕ) (m : Message) (rest : List ℕ) : Ty
 -- no head within the limit stands there, for this cause
 abbrev pub LacksHead : List ℕ → FramingFault → Type 0
 LacksHead bytes BadHead = HasBadHead bytes
-LacksHead bytes HeadTooLong = IsUndecided bytes × (HEAD_LIMIT ≤ length bytes)
-LacksHead bytes Truncated = IsUndecided bytes × (0 < length bytes) × (length bytes < HEAD_LIMIT)
+LacksHead bytes HeadTooLong = IsUndecided bytes × (most_head ≤ length bytes)
+LacksHead bytes Truncated = IsUndecided bytes × (0 < length bytes) × (length bytes < most_head)
 LacksHead bytes BodyTooLong = ⊥
 LacksHead bytes BadLength = ⊥
 
@@ -125,6 +142,11 @@ BeginsFault bytes fault =
 pub data Ending : Type 0 where
   end : Ending
   fault : FramingFault → Ending
+
+-- this fault, or none
+abbrev pub ending_of : Option FramingFault → Ending
+ending_of None = end
+ending_of (Some f) = fault f
 
 abbrev pub EndsWith : List ℕ → Ending → Type 0
 EndsWith bytes end = bytes ≡ []

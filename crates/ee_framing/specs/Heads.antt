@@ -13,8 +13,7 @@ use Rattle.ee_framing.specs.declared.head.Verdict.{Verdict}
 use Rattle.ee_framing.specs.declared.head.Verdict.TheVariants.{Found, Bad, Partial}
 use Rattle.ee_framing.specs.declared.front.Progress.{Progress}
 use Rattle.ee_framing.specs.declared.front.Progress.TheVariants as progress
-use Rattle.ee_framing.specs.declared.TheConstants.{HEAD_LIMIT}
-use Rattle.ee_framing.specs.Framing.{HasBadHead, IsUndecided, body_length_of, asks_to_close}
+use Rattle.ee_framing.specs.Framing.{most_head, HasBadHead, IsUndecided, body_length_of, asks_to_close}
 
 -- the bytes end with a line feed
 abbrev pub IsLines : List ℕ → Type 0
@@ -69,7 +68,7 @@ pub record AreLinesUpTo (bytes : List ℕ) (tested : Lines) (n : ℕ) : Type 0 w
   pub begins : BeginsLines bytes tested
   pub ordered : length_of tested ≤ n
   pub in_bytes : n ≤ length bytes
-  pub limit : n ≤ HEAD_LIMIT
+  pub limit : n ≤ most_head
   pub none : IsLastLineFeed bytes (length_of tested) n None
 
 -- `httparse` calls the lines a head, bad, or partial
@@ -80,14 +79,14 @@ Judges lines (Partial tested) = (length_of tested ≡ length lines) × BeginsLin
 
 -- what stands at the front of the bytes
 abbrev pub Finds : List ℕ → Verdict → Type 0
-Finds bytes (Found found) = (h : RequestHead) × IsHeadAt bytes found h × (found.len ≤ HEAD_LIMIT)
+Finds bytes (Found found) = (h : RequestHead) × IsHeadAt bytes found h × (found.len ≤ most_head)
 Finds bytes Bad = HasBadHead bytes
-Finds bytes (Partial tested) = IsUndecided bytes × AreLinesUpTo bytes tested (min (length bytes) HEAD_LIMIT)
+Finds bytes (Partial tested) = IsUndecided bytes × AreLinesUpTo bytes tested (min (length bytes) most_head)
 
 -- what earlier tests said of the bytes: the lines among so many of them, or a head
 abbrev pub Knows : List ℕ → Progress → Type 0
 Knows bytes (progress.Tested tested n) = AreLinesUpTo bytes tested n
-Knows bytes (progress.Found found) = (h : RequestHead) × IsHeadAt bytes found h × (found.len ≤ HEAD_LIMIT)
+Knows bytes (progress.Found found) = (h : RequestHead) × IsHeadAt bytes found h × (found.len ≤ most_head)
 
 -- what was found of the values of a name
 abbrev pub AreValues : List ℕ → List (List ℕ) → Values → Type 0

@@ -1,6 +1,7 @@
 -- What a call of `next_message` says of the bytes.
-use Rattle.std.specs.Prelude.{◌≡◌, ℕ, ◌<◌, ◌≤◌, ◌⊎◌, List, ◌++◌, length, take, drop, slice_range, Option, Some, None, Result, Ok, Err, IfSome, ⊤}
+use Rattle.std.specs.Prelude.{◌≡◌, ℕ, ◌<◌, ◌≤◌, ◌⊎◌, List, [], ◌++◌, length, take, drop, slice_range, Option, Some, None, Result, Ok, Err, IfSome, ⊤}
 use Rattle.std.specs.Io.KnownBytes.{Keeps, Consumes, IsAtEnd, prepend_known}
+use Rattle.ee_framing.specs.declared.FramingFault.{FramingFault}
 use Rattle.ee_framing.specs.declared.FramingFault.TheVariants.{Truncated}
 use Rattle.ee_framing.specs.declared.buffer.Stop.{Stop}
 use Rattle.ee_framing.specs.declared.buffer.Stop.TheVariants as stop
@@ -14,8 +15,7 @@ use Rattle.ee_framing.specs.declared.front.Front.{Front}
 use Rattle.ee_framing.specs.declared.front.Front.TheVariants as front
 use Rattle.ee_framing.specs.Stream.{Stream}
 use Rattle.ee_framing.specs.Framing as framing
-use Rattle.ee_framing.specs.Framing.{BeginsMessage, BeginsFault, IsUndecided, HasCutBody, EndsWith, end, fault}
-use Rattle.ee_framing.specs.declared.TheConstants.{HEAD_LIMIT}
+use Rattle.ee_framing.specs.Framing.{most_head, BeginsMessage, BeginsFault, IsUndecided, HasCutBody, EndsWith, end, fault}
 
 abbrev pub Answer : Type 0
 Answer = Result Next WireEnd
@@ -49,7 +49,26 @@ Answers old before (Ok (next.Message m)) new after = Gives (message_in new.shown
 Answers old before (Ok next.End) new after = IfSome (left old before) (λ bytes. EndsWith bytes end)
 Answers old before (Err (wire.Fault f)) new after = IfSome (left old before) (λ bytes. EndsWith bytes (fault f))
 Answers old before (Err wire.ReadFailed) new after = Keeps (left old before) (left new after) × NeedsMore new.held
-Answers old before (Err wire.NoMemory) new after = Keeps (left old before) (left new after)
+Answers old before (Err wire.NoMemory) new after = Keeps (left old before) (left new after) × NeedsMore new.held
+
+-- ---- the same by what is held, which says as much where nobody knows what the reader will give
+
+-- some bytes were read, and what was held, and they after it, is shown or held
+abbrev pub Takes : Stream → Option (List ℕ) → Stream → Option (List ℕ) → Type 0
+Takes old before new after = (got : List ℕ) × Consumes before after got × (new.shown ++ new.held ≡ old.held ++ got)
+
+-- the bytes begin the fault, whatever follows; or they are cut, and no more come
+abbrev pub ShowsFault : List ℕ → Option (List ℕ) → FramingFault → Type 0
+ShowsFault bytes after f =
+    ((more : List ℕ) → BeginsFault (bytes ++ more) f) ⊎ ((f ≡ Truncated) × BeginsFault bytes f × IsAtEnd after)
+
+-- what stands in the bytes held that settles the answer, or that settles none; only those of a message are shown
+abbrev pub Settles : Answer → Stream → Option (List ℕ) → Type 0
+Settles (Ok (next.Message m)) new after = BeginsMessage (new.shown ++ new.held) (message_in new.shown m) new.held
+Settles (Ok next.End) new after = (new.shown ≡ []) × EndsWith new.held end × IsAtEnd after
+Settles (Err (wire.Fault f)) new after = (new.shown ≡ []) × ShowsFault new.held after f
+Settles (Err wire.ReadFailed) new after = (new.shown ≡ []) × NeedsMore new.held
+Settles (Err wire.NoMemory) new after = (new.shown ≡ []) × NeedsMore new.held
 
 -- what later calls answer, if that is settled
 abbrev pub stop_of : Answer → Option Stop
@@ -70,14 +89,14 @@ abbrev pub IsFront : List ℕ → Front → Type 0
 IsFront bytes (front.Message m len) =
     (len ≤ length bytes) × BeginsMessage bytes (message_in (take len bytes) m) (drop len bytes)
 IsFront bytes (front.Fault f) = (more : List ℕ) → BeginsFault (bytes ++ more) f
-IsFront bytes front.More = (IsUndecided bytes × (length bytes < HEAD_LIMIT)) ⊎ HasCutBody bytes
+IsFront bytes front.More = (IsUndecided bytes × (length bytes < most_head)) ⊎ HasCutBody bytes
 
 -- ---- the end of the bytes
 
 abbrev pub EndsAt : List ℕ → Answer → Type 0
 EndsAt bytes (Ok (next.Message m)) = ⊥
 EndsAt bytes (Ok next.End) = EndsWith bytes end
-EndsAt bytes (Err (wire.Fault f)) = EndsWith bytes (fault f)
+EndsAt bytes (Err (wire.Fault f)) = (f ≡ Truncated) × EndsWith bytes (fault f)
 EndsAt bytes (Err wire.ReadFailed) = ⊥
 EndsAt bytes (Err wire.NoMemory) = ⊥
 

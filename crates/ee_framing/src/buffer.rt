@@ -1,11 +1,12 @@
 //! Messages out of a reader, however it cuts the bytes.
 ghost use Rattle.std.specs.Prelude.{◌≡◌, ◌≤◌, ◌<◌, ◌++◌, ◌+◌, ℕ, List, [], length, take, drop, slice_range, IfOk, IfErr, IfSome, OnErr, Some, None};
 ghost use Rattle.std.specs.Io.KnownBytes.{Consumes, Keeps, IsAtEnd};
-ghost use Rattle.ee_framing.specs.Reading.{Answers, IsFront, ReadsMore, NeedsMore, EndsAt, stop_of, answer_of};
+ghost use Rattle.ee_framing.specs.Framing.{most_head, most_body, most_held};
+ghost use Rattle.ee_framing.specs.Reading.{Answers, Takes, Settles, IsFront, ReadsMore, NeedsMore, EndsAt, stop_of, answer_of};
 
 use crate::front::{Front, Progress, judge_front, learn, read_front};
 use crate::head::Lines;
-use crate::{BODY_LIMIT, BUFFER_LIMIT, CHUNK, FramingFault, HEAD_LIMIT, HEADER_ROOM};
+use crate::{CHUNK, FramingFault, HEADER_ROOM};
 use httparse::spans::{EMPTY_HEADER_SPAN, HeaderSpan, Span};
 use std::alloc::Global;
 use std::io::Read;
@@ -55,7 +56,7 @@ pub enum ReadFault {
 }
 
 /// Bytes that were read: those of the message that was answered last, and those that come after
-/// it, at most `BUFFER_LIMIT` in all.
+/// it, at most `BUFFER_LIMIT` in all (1,069,056).
 #[derive(Drop)]
 pub struct Buffer {
     bytes: Vec<u8>,
@@ -68,13 +69,13 @@ impl Model for Buffer {
     ghost use Rattle.std.specs.Prelude.{◌≤◌, length, take, drop};
     ghost use Rattle.ee_framing.specs.Stream.{Stream};
     ghost use Rattle.ee_framing.specs.Heads.{Knows};
-    ghost use Rattle.ee_framing.specs.declared.TheConstants.{BUFFER_LIMIT};
+    ghost use Rattle.ee_framing.specs.Framing.{most_held};
 
     ghost Value = { Stream };
 
     ghost view = { λ a. record { shown = take a.at a.bytes.items; held = drop a.at a.bytes.items; ended = a.ended } };
 
-    ghost invariant = { λ a. (a.at ≤ length a.bytes.items) × (length a.bytes.items ≤ BUFFER_LIMIT) × Knows (drop a.at a.bytes.items) a.progress };
+    ghost invariant = { λ a. (a.at ≤ length a.bytes.items) × (length a.bytes.items ≤ most_held) × Knows (drop a.at a.bytes.items) a.progress };
 }
 
 impl Buffer {
@@ -100,7 +101,7 @@ impl Buffer {
     /// A part of the message that was answered last: what of the range lies in it.
     pub fn part(&self, span: Span) -> &[u8]
         ensures bytes { result.now ≡ slice_range self.now.shown span.start span.end }
-        ensures room { length self.now.shown + length self.now.held ≤ BUFFER_LIMIT }
+        ensures room { length self.now.shown + length self.now.held ≤ most_held }
     {
         let start = span.start.min(self.at);
         let end = span.end.min(self.at).max(start);
@@ -168,7 +169,7 @@ impl Buffer {
     /// One read.
     fn read_more<R: Read>(&mut self, reader: &mut R) -> Result<usize, ReadFault>
         requires none { self.old.shown ≡ [] }
-        requires room { length self.old.held < HEAD_LIMIT + BODY_LIMIT }
+        requires room { length self.old.held < most_head + most_body }
         ensures { ReadsMore self.old (R.remaining reader.old) result self.new (R.remaining reader.new) }
     {
         let mut chunk = [0u8; CHUNK];
@@ -192,6 +193,9 @@ impl Buffer {
 pub fn next_message<R: Read>(reader: &mut R, buffer: &mut Buffer) -> Result<Next, WireEnd>
     ensures answers { buffer.old.ended ≡ None
         → Answers buffer.old (R.remaining reader.old) result buffer.new (R.remaining reader.new) }
+    ensures takes { buffer.old.ended ≡ None
+        → Takes buffer.old (R.remaining reader.old) buffer.new (R.remaining reader.new) }
+    ensures settles { buffer.old.ended ≡ None → Settles result buffer.new (R.remaining reader.new) }
     ensures ended { buffer.old.ended ≡ None → buffer.new.ended ≡ stop_of result }
     ensures unread { buffer.old.ended ≡ None → ¬ (NeedsMore buffer.old.held) → reader.new ≡ reader.old }
     ensures again { IfSome buffer.old.ended (λ stop. (result ≡ answer_of stop)

@@ -2,7 +2,7 @@
 ghost use Rattle.std.specs.Prelude.{◌≡◌, ◌+◌, length, map, take, All, if◌then◌else◌, true, nat_le, ◌≤◌, ◌*◌};
 ghost use Rattle.std.specs.Char.{is_ascii_digit, digit_value};
 ghost use Rattle.httparse.specs.Spans.{IsHeaderWithin, header_bytes};
-ghost use Rattle.ee_framing.specs.Framing.{same_word, values_of, checked_length, body_length, has_close};
+ghost use Rattle.ee_framing.specs.Framing.{most_body, same_word, values_of, checked_length, body_length, has_close};
 ghost use Rattle.ee_framing.specs.Heads.{AreValues, next};
 
 use crate::{BODY_LIMIT, FramingFault, HEADER_LIMIT};
@@ -48,7 +48,7 @@ fn values_of(lines: &[u8], fields: &[HeaderSpan], name: &[u8]) -> Values
 fn with_digit(value: usize, byte: u8) -> usize
     requires digit { is_ascii_digit byte ≡ true }
     requires small { value ≤ 10485769 }
-    ensures { result ≡ (if nat_le value BODY_LIMIT then value * 10 + digit_value byte else value) }
+    ensures { result ≡ (if nat_le value most_body then value * 10 + digit_value byte else value) }
 {
     if value <= BODY_LIMIT {
         value * 10 + (byte - b'0') as usize

@@ -1,6 +1,7 @@
 //! What stands at the front of some bytes.
 ghost use Rattle.std.specs.Prelude.{◌≡◌, ◌≤◌, length};
 ghost use Rattle.httparse.specs.Grammar.{RequestHead};
+ghost use Rattle.ee_framing.specs.Framing.{most_head};
 ghost use Rattle.ee_framing.specs.Heads.{IsHeadAt, Finds, Knows};
 ghost use Rattle.ee_framing.specs.Reading.{IsFront};
 
@@ -65,7 +66,7 @@ pub fn read_front(bytes: &[u8], verdict: Verdict) -> Front
 }
 
 fn with_body(bytes: &[u8], head: Head) -> Front
-    requires limit { head.len ≤ HEAD_LIMIT }
+    requires limit { head.len ≤ most_head }
     requires head { (h : RequestHead) × IsHeadAt bytes.now head h }
     ensures { IsFront bytes.now result }
 {

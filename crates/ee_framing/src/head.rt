@@ -4,6 +4,7 @@ ghost use Rattle.std.specs.List.{list_all};
 ghost use Rattle.httparse.specs.Grammar.{RequestHead};
 ghost use Rattle.httparse.specs.Pieces.{is_newline};
 ghost use Rattle.httparse.specs.Spans.{IsRequestWithin, IsRequestAt};
+ghost use Rattle.ee_framing.specs.Framing.{most_head};
 ghost use Rattle.ee_framing.specs.Heads.{IsLines, IsHeadAt, AreEmptyLines, AreFieldLines, BeginsLines, length_of, AreLinesUpTo, Judges, Finds, IsLastLineFeed};
 
 use crate::fields::{body_length, has_close};
@@ -43,7 +44,7 @@ pub enum Verdict {
 fn judge(lines: &[u8], headers: &mut [HeaderSpan]) -> Verdict
     requires lines { IsLines lines.now }
     requires started { list_all is_newline lines.now ≡ false }
-    requires limit { length lines.now ≤ HEAD_LIMIT }
+    requires limit { length lines.now ≤ most_head }
     requires room { length headers.old ≡ HEADER_ROOM }
     ensures { Judges lines.now result }
 {
@@ -60,7 +61,7 @@ fn judge_empty(lines: &[u8], tested: usize, headers: &mut [HeaderSpan]) -> Verdi
     requires tested { AreEmptyLines (take tested lines.now) }
     requires more { tested < length lines.now }
     requires empty { list_all is_newline (drop tested lines.now) ≡ true }
-    requires limit { length lines.now ≤ HEAD_LIMIT }
+    requires limit { length lines.now ≤ most_head }
     requires room { length headers.old ≡ HEADER_ROOM }
     ensures { Judges lines.now result }
 {
@@ -76,7 +77,7 @@ fn judge_fields(lines: &[u8], tested: usize, headers: &mut [HeaderSpan]) -> Verd
     requires lines { IsLines lines.now }
     requires tested { AreFieldLines (take tested lines.now) }
     requires more { tested < length lines.now }
-    requires limit { length lines.now ≤ HEAD_LIMIT }
+    requires limit { length lines.now ≤ most_head }
     requires room { length headers.old ≡ HEADER_ROOM }
     ensures { Judges lines.now result }
 {
@@ -99,7 +100,7 @@ fn judge_after(tested: Lines, lines: &[u8], headers: &mut [HeaderSpan]) -> Verdi
     requires lines { IsLines lines.now }
     requires tested { BeginsLines lines.now tested }
     requires more { length_of tested < length lines.now }
-    requires limit { length lines.now ≤ HEAD_LIMIT }
+    requires limit { length lines.now ≤ most_head }
     requires room { length headers.old ≡ HEADER_ROOM }
     ensures { Judges lines.now result }
 {

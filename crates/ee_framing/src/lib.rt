@@ -10,7 +10,7 @@ mod laws;
 
 pub use buffer::{Buffer, Message, Next, Stop, WireEnd, next_message};
 pub use httparse::spans::Span;
-pub use laws::one_split;
+pub use laws::{every_split, limits, one_split};
 use thiserror::Error;
 
 /// The most bytes of a head.

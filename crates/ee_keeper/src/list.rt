@@ -171,6 +171,8 @@ impl Keeper for ListKeeper {
 
     ghost is_clean = { λ _. Unit {0} };
 
+    ghost may_fail = { ⊥ };
+
     ghost sound = { λ _ _ has. has.1 };
 
     fn deliver(&mut self, request: &Request) -> Result<Reply, Unserved> {

@@ -16,7 +16,7 @@ use Rattle.sqlite.specs.Rowids.TheVariants.{Chosen}
 use Rattle.sqlite.specs.Does.{Tally, Does}
 use Rattle.sqlite.specs.Rows.{Written}
 use Rattle.sqlite.specs.Tree.{Trees}
-use Rattle.sqlite.specs.Effect.{Database}
+use Rattle.sqlite.specs.Effect.{Database, IsDatabase}
 use Rattle.sqlite.specs.Listing.{understood}
 use Rattle.sqlite.specs.State.{State, mode_of, Executes}
 use Rattle.sqlite_tied.specs.Compute.{everything}
@@ -96,3 +96,7 @@ adds_first old new count has none h =
         replies = no_map _ (new.now.trees 11) (at 11 ∙ applied.tables.1.1.1.1.1.1.0 (λ e. omega (arith, e)) ∙ none.1.1.1.1.1.1.0);
       },
     )
+
+-- what it leaves obeys the tables
+pub first_sound : (old new : State) (count : ℕ) → old.now.schema ≡ counter_schema → Executes desk_row_text [] old new (Ok count) → IsDatabase new.now
+first_sound old new count has h = (runs_as desk_row_text [] old new counter_schema has (Insert 0 (Values terms 5)) desk_row_is desk_row_plain count h).sound

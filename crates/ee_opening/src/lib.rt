@@ -14,4 +14,5 @@ pub use entries::{
 };
 pub use making::OpenFault;
 pub use opening::open_rows;
+pub use version::STORE_VERSION;
 pub use whole::AllRows;

@@ -14,6 +14,9 @@ use crate::making::OpenFault;
 use sqlite::types::ValueRef;
 use sqlite::{Alter, Connection, Row};
 
+/// The version of the tables that this program makes and reads.
+pub const STORE_VERSION: i64 = 1;
+
 /// The version in the desk's row, if that is there.
 fn version_rows<S: Alter>(conn: &mut Connection<S>) -> Result<Vec<Row>, OpenFault>
     ensures found { Finds (state S.Store conn.old) (state S.Store conn.new) result (λ rows found. found.items ≡ versions_in rows) }
@@ -53,7 +56,7 @@ pub(crate) fn check_version<S: Alter>(conn: &mut Connection<S>) -> Result<(), Op
 {
     let rows = version_rows(conn)?;
     let version = read_version(&rows)?;
-    if version == 1 {
+    if version == STORE_VERSION {
         Ok(())
     } else {
         Err(OpenFault::WrongVersion)

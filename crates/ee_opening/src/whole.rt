@@ -168,6 +168,7 @@ pub(crate) fn read_all<S: Alter>(
     ensures version { HasCleanDisk (state S.Store conn.new) → IfErr result (λ e. e ≡ OpenFault.WrongVersion → (rows : Rows) → Has (state S.Store conn.old) rows → IsOtherVersion rows) }
     ensures tested { HasCleanDisk (state S.Store conn.new) → IfErr result (λ e. e ≡ OpenFault.Unusable → (rows : Rows) → Has (state S.Store conn.old) rows → IsTrue (state S.Store conn.old).is_open → ¬ IsOtherVersion rows) }
     ensures usable { HasCleanDisk (state S.Store conn.new) → IfErr result (λ e. e ≡ OpenFault.Unusable → (rows : Rows) → Has (state S.Store conn.old) rows → IsTrue (state S.Store conn.old).is_open → ¬ AreReadable rows) }
+    ensures open { HasCleanDisk (state S.Store conn.new) → OnOk result (IsTrue (state S.Store conn.old).is_open × IsTrue (state S.Store conn.new).is_open) }
     ensures kept { HasCleanDisk (state S.Store conn.new) → KeepsCommit (state S.Store conn.old) (state S.Store conn.new) }
     ensures crash { Survives (state S.Store conn.old) (state S.Store conn.new) (λ _. ⊥) }
 {

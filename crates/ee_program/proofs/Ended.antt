@@ -8,9 +8,9 @@ use Rattle.ee_actions.specs.declared.faults.Outcome.{Outcome}
 use Rattle.ee_actions.specs.declared.faults.Outcome.TheVariants as outcome
 use Rattle.ee_actions.specs.declared.faults.RunFault.{RunFault}
 use Rattle.ee_commands.specs.CommandLine.{Asked, value}
-use Rattle.ee_commands.specs.Answer.{IsAsked, IsRefused, AsksForHelp}
-use Rattle.ee_commands.proofs.Lemmas.{asks_for_help_alone, asks_for_one, asks_unrefused}
-use Rattle.ee_program.specs.Statuses.{Carries, Ends, IsRun, IsStatusFor}
+use Rattle.ee_commands.specs.Answer.{IsAsked, IsRefused, AsksForHelp, AsksForVersion}
+use Rattle.ee_commands.proofs.Lemmas.{asks_for_help_alone, asks_for_version_alone, asks_for_one, asks_unrefused}
+use Rattle.ee_program.specs.Statuses.{AsksToShow, Carries, Ends, IsRun, IsStatusFor}
 
 -- ---- the words determine what they ask for
 
@@ -30,9 +30,15 @@ nothing_asked : (words : List Text) (asked : Asked) → IsBad words → IsAsked 
 nothing_asked words asked (inl bad) is = no_name words asked bad.0 is bad.1
 nothing_asked words asked (inr refused) is = asks_unrefused words (Ok asked) refused.kind is refused.by
 
-help_is_good : (words : List Text) → AsksForHelp words → IsBad words → ⊥
-help_is_good words help (inl bad) = asks_unrefused words _ _ bad.1 help
-help_is_good words help (inr refused) = asks_for_help_alone words help refused
+no_command : (words : List Text) (asked : Asked) → AsksToShow words → IsAsked words (Ok asked) → ⊥
+no_command words asked (inl help) is = asks_unrefused words (Ok asked) _ is help
+no_command words asked (inr version) is = asks_unrefused words (Ok asked) _ is version
+
+nothing_bad : (words : List Text) → AsksToShow words → IsBad words → ⊥
+nothing_bad words (inl help) (inl bad) = asks_unrefused words _ _ bad.1 help
+nothing_bad words (inr version) (inl bad) = asks_unrefused words _ _ bad.1 version
+nothing_bad words (inl help) (inr refused) = asks_for_help_alone words help refused
+nothing_bad words (inr version) (inr refused) = asks_for_version_alone words version refused
 
 -- ---- the statuses
 
@@ -47,7 +53,7 @@ pub is_failed : (words : List Text) (Carried : Asked → Result Outcome RunFault
 is_failed words Carried status three = record {
   range = omega (arith, three);
   ends = λ asked is. at_three (Carried asked) status three;
-  shows_help = λ help. inr three;
+  shows = λ _. inr three;
   refuses_line = λ bad. inr three;
   done = λ zero. absurd (omega (arith, three, zero));
   refused = λ one. absurd (omega (arith, three, one));
@@ -63,7 +69,7 @@ is_done words Carried asked status is w zero = record {
     refused = λ one. absurd (omega (arith, zero, one));
     is_good_line = λ two. absurd (omega (arith, zero, two));
   };
-  shows_help = λ help. inl zero;
+  shows = λ _. inl zero;
   refuses_line = λ bad. absurd (nothing_asked words asked bad is);
   done = λ _. inl (asked, is);
   refused = λ one. absurd (omega (arith, zero, one));
@@ -83,7 +89,7 @@ is_refused words Carried asked status is w one = record {
     refused = λ _. subst (λ (a : Asked). Refuses (Carried a)) (one_command words asked other is also) w;
     is_good_line = λ two. absurd (omega (arith, one, two));
   };
-  shows_help = λ help. absurd (asks_unrefused words _ _ is help);
+  shows = λ show. absurd (no_command words asked show is);
   refuses_line = λ bad. absurd (nothing_asked words asked bad is);
   done = λ zero. absurd (omega (arith, one, zero));
   refused = λ _. (asked, is);
@@ -98,27 +104,27 @@ concluded words Carried asked outcome.Refused status is w h = is_refused words C
 concluded words Carried asked (outcome.Unsettled age) status is w (inl one) = is_refused words Carried asked status is (inr (age, w)) one
 concluded words Carried asked (outcome.Unsettled age) status is w (inr three) = is_failed words Carried status three
 
--- help was asked for
-helped_at_zero : (words : List Text) (Carried : Asked → Result Outcome RunFault → Type 0) (status : ℕ) → AsksForHelp words → status ≡ 0 → IsRun words Carried status
-helped_at_zero words Carried status help zero = record {
+-- help or the version was asked for
+shown_at_zero : (words : List Text) (Carried : Asked → Result Outcome RunFault → Type 0) (status : ℕ) → AsksToShow words → status ≡ 0 → IsRun words Carried status
+shown_at_zero words Carried status show zero = record {
   range = omega (arith, zero);
-  ends = λ asked is. absurd (asks_unrefused words _ _ is help);
-  shows_help = λ _. inl zero;
-  refuses_line = λ bad. absurd (help_is_good words help bad);
-  done = λ _. inr help;
+  ends = λ asked is. absurd (no_command words asked show is);
+  shows = λ _. inl zero;
+  refuses_line = λ bad. absurd (nothing_bad words show bad);
+  done = λ _. inr show;
   refused = λ one. absurd (omega (arith, zero, one));
   bad_line = λ two. absurd (omega (arith, zero, two));
 }
 
-pub helped : (words : List Text) (Carried : Asked → Result Outcome RunFault → Type 0) (status : ℕ) → AsksForHelp words → (status ≡ 0) ⊎ (status ≡ 3) → IsRun words Carried status
-helped words Carried status help (inl zero) = helped_at_zero words Carried status help zero
-helped words Carried status help (inr three) = is_failed words Carried status three
+pub shown : (words : List Text) (Carried : Asked → Result Outcome RunFault → Type 0) (status : ℕ) → AsksToShow words → (status ≡ 0) ⊎ (status ≡ 3) → IsRun words Carried status
+shown words Carried status show (inl zero) = shown_at_zero words Carried status show zero
+shown words Carried status show (inr three) = is_failed words Carried status three
 
 bad_at_two : (words : List Text) (Carried : Asked → Result Outcome RunFault → Type 0) (status : ℕ) → IsBad words → status ≡ 2 → IsRun words Carried status
 bad_at_two words Carried status bad two = record {
   range = omega (arith, two);
   ends = λ asked is. absurd (nothing_asked words asked bad is);
-  shows_help = λ help. absurd (help_is_good words help bad);
+  shows = λ show. absurd (nothing_bad words show bad);
   refuses_line = λ _. inl two;
   done = λ zero. absurd (omega (arith, two, zero));
   refused = λ one. absurd (omega (arith, two, one));

@@ -1,13 +1,13 @@
 //! Carrying out a command.
 
-ghost use Rattle.std.specs.Prelude.{◌≡◌, IfOk, None};
+ghost use Rattle.std.specs.Prelude.{◌≡◌, IfOk, OnOk, None};
 ghost use Rattle.clap.specs.Words.{Text};
 ghost use Rattle.ee_acts.specs.Repeats.{Content};
 ghost use Rattle.ee_actions.specs.Actions.{Applies, ExportsFrom, ImportsInto, ShowsSheet};
 ghost use Rattle.ee_actions.specs.Connections.{ServesAll};
 ghost use Rattle.ee_commands.specs.Answer.{view_of};
 ghost use Rattle.ee_program.specs.Statuses.{Carries};
-ghost use Rattle.ee_program.specs.Stores.{AreClean, CarriesOver, Over};
+ghost use Rattle.ee_program.specs.Stores.{AreClean, CarriesOver, EndsAs, Over};
 
 use crate::opening::{import_path, serve_port};
 use crate::stores::Stores;
@@ -27,7 +27,7 @@ pub fn carry_out<O: Stores, R: Read, W: Write>(
 ) -> Result<Outcome, RunFault>
     ensures carries { Carries (W.contents output.old) (W.contents output.new) (view_of command.entry) result }
     ensures over { AreClean O.Store.is_clean → (contents : Text → Content) → ((path : Text) → O.holds stores.now path (contents path))
-        → CarriesOver O.Store.has contents (R.remaining input.old) (W.contents output.old) (W.contents output.new) (view_of command.entry) result }
+        → CarriesOver O.Store.has O.rests contents (R.remaining input.old) (R.remaining input.new) (W.contents output.old) (W.contents output.new) (view_of command.entry) result }
 {
     match command {
         Command::Value(denom, issued, month, rate) => {
@@ -51,14 +51,13 @@ fn apply<O: Stores, R: Read, W: Write>(
     output: &mut W,
 ) -> Result<Outcome, RunFault>
     ensures { AreClean O.Store.is_clean → (c : Content) → O.holds stores.now db.now c
-        → Over (W.contents output.old) (W.contents output.new) result
-        (λ (left : O.Store). Applies (R.remaining input.old) (W.contents output.old) (W.contents output.new) c result (O.Store.has left)) }
+        → Over O.rests (W.contents output.old) (W.contents output.new) result
+        (λ left ended. Applies (R.remaining input.old) (R.remaining input.new) (W.contents output.old) (W.contents output.new) c ended (O.Store.has left)) }
 {
     match stores.open(db) {
         Ok(mut store) => {
             let ended = apply_to(rt.alloc(), &mut store, input, output);
-            stores.close(store);
-            ended
+            end(stores, store, ended)
         }
         Err(fault) => Err(fault),
     }
@@ -74,14 +73,13 @@ fn import<O: Stores, W: Write>(
     output: &mut W,
 ) -> Result<Outcome, RunFault>
     ensures { AreClean O.Store.is_clean → (c : Content) → O.holds stores.now db.now c
-        → Over (W.contents output.old) (W.contents output.new) result
-        (λ (left : O.Store). ImportsInto kind None (W.contents output.old) (W.contents output.new) number c result (O.Store.has left)) }
+        → Over O.rests (W.contents output.old) (W.contents output.new) result
+        (λ left ended. ImportsInto kind None (W.contents output.old) (W.contents output.new) number c ended (O.Store.has left)) }
 {
     match stores.open(db) {
         Ok(mut store) => {
             let ended = import_path(rt, &mut store, kind, file, number, output);
-            stores.close(store);
-            ended
+            end(stores, store, ended)
         }
         Err(fault) => Err(fault),
     }
@@ -95,15 +93,14 @@ fn export<O: Stores, W: Write>(
     output: &mut W,
 ) -> Result<Outcome, RunFault>
     ensures over { AreClean O.Store.is_clean → (c : Content) → O.holds stores.now db.now c
-        → Over (W.contents output.old) (W.contents output.new) result
-        (λ (left : O.Store). ExportsFrom (W.contents output.old) (W.contents output.new) customer c result (O.Store.has left)) }
+        → Over O.rests (W.contents output.old) (W.contents output.new) result
+        (λ left ended. ExportsFrom (W.contents output.old) (W.contents output.new) customer c ended (O.Store.has left)) }
     ensures done { IfOk result (λ outcome. outcome ≡ Outcome.Done) }
 {
     match stores.open(db) {
         Ok(mut store) => {
             let ended = export_from(rt.alloc(), &mut store, customer, output);
-            stores.close(store);
-            ended
+            end(stores, store, ended)
         }
         Err(fault) => Err(fault),
     }
@@ -117,15 +114,14 @@ fn sheet<O: Stores, W: Write>(
     output: &mut W,
 ) -> Result<Outcome, RunFault>
     ensures over { AreClean O.Store.is_clean → (c : Content) → O.holds stores.now db.now c
-        → Over (W.contents output.old) (W.contents output.new) result
-        (λ (left : O.Store). ShowsSheet (W.contents output.old) (W.contents output.new) customer month c result (O.Store.has left c)) }
+        → Over O.rests (W.contents output.old) (W.contents output.new) result
+        (λ left ended. ShowsSheet (W.contents output.old) (W.contents output.new) customer month c ended (O.Store.has left c)) }
     ensures done { IfOk result (λ outcome. outcome ≡ Outcome.Done) }
 {
     match stores.open(db) {
         Ok(mut store) => {
             let ended = sheet_of(&mut store, customer, month, output);
-            stores.close(store);
-            ended
+            end(stores, store, ended)
         }
         Err(fault) => Err(fault),
     }
@@ -140,16 +136,33 @@ fn serve<O: Stores, W: Write>(
     output: &mut W,
 ) -> Result<Outcome, RunFault>
     ensures over { AreClean O.Store.is_clean → (c : Content) → O.holds stores.now db.now c
-        → Over (W.contents output.old) (W.contents output.new) result
-        (λ (left : O.Store). ServesAll connections (W.contents output.old) (W.contents output.new) c result (O.Store.has left)) }
+        → Over O.rests (W.contents output.old) (W.contents output.new) result
+        (λ left ended. ServesAll connections (W.contents output.old) (W.contents output.new) c ended (O.Store.has left)) }
     ensures done { IfOk result (λ outcome. outcome ≡ Outcome.Done) }
 {
     match stores.open(db) {
         Ok(mut store) => {
             let ended = serve_port(rt, &mut store, port, connections, output);
-            stores.close(store);
-            ended
+            end(stores, store, ended)
         }
         Err(fault) => Err(fault),
+    }
+}
+
+// Closes the store of a command whose work ended so.
+fn end<O: Stores>(
+    stores: &O,
+    store: O::Store,
+    ended: Result<Outcome, RunFault>,
+) -> Result<Outcome, RunFault>
+    ensures ends { EndsAs ended result }
+    ensures rests { OnOk result ((rest : O.Rest) × O.rests store rest) }
+{
+    match stores.close(store) {
+        Ok(_rest) => ended,
+        Err(fault) => match ended {
+            Ok(_) => Err(fault),
+            Err(first) => Err(first),
+        },
     }
 }

@@ -10,6 +10,6 @@ mod stores;
 mod tests;
 
 pub use carrying::carry_out;
-pub use run::{BAD_LINE, DONE, FAILED, REFUSED, run_words};
+pub use run::{BAD_LINE, DONE, FAILED, REFUSED, refuse_words, run_words};
 pub use store::StoreFiles;
 pub use stores::Stores;

@@ -1,21 +1,24 @@
 //! Running one command line.
 
-ghost use Rattle.std.specs.Prelude.{◌≡◌, ◌⊎◌, ℕ, Ok, map, string_bytes};
+ghost use Rattle.std.specs.Prelude.{◌≡◌, ◌≢◌, ◌⊎◌, ℕ, Ok, IfOk, map, string_bytes};
 ghost use Rattle.std.specs.Io.KnownBytes.{Appends};
+ghost use Rattle.std.specs.IoError.{error_kind};
 ghost use Rattle.clap.specs.Words.{Text};
 ghost use Rattle.ee_acts.specs.Repeats.{Content};
 ghost use Rattle.ee_actions.specs.Printed.{value_line};
-ghost use Rattle.ee_commands.specs.Answer.{IsAsked};
+ghost use Rattle.ee_commands.specs.Answer.{AsksForVersion, IsAsked};
 ghost use Rattle.ee_commands.specs.CommandLine.{value};
 ghost use Rattle.ee_units.specs.declared.denoms.Denom.{Denom};
-ghost use Rattle.ee_program.specs.Statuses.{Carries, IsRun, IsStatusFor};
+ghost use Rattle.ee_program.specs.Statuses.{Carries, IsRun, IsStatusFor, version_line};
 ghost use Rattle.ee_program.specs.Stores.{AreClean, CarriesOver};
 
 use crate::carrying::carry_out;
 use crate::stores::Stores;
 use ee_actions::{Outcome, RunFault, print};
-use ee_commands::{CommandFault, read_command};
-use std::io::{Read, Write};
+use ee_commands::{CommandFault, VERSION, read_command};
+use ee_opening::STORE_VERSION;
+use std::alloc::{AllocError, Global};
+use std::io::{self, ErrorKind, Read, Write};
 
 /// The line was carried out.
 pub const DONE: u8 = 0;
@@ -35,6 +38,7 @@ pub const FAILED: u8 = 3;
 /// - `status`: what the words were, and how the command ended that they ask for. They ask for one thing at
 ///   most (`ee_commands::one_meaning`).
 /// - `printed`: where they ask for a value and the status is 0, the output gained just that value's line.
+/// - `version`: where they ask for the version and the status is 0, it gained just the line of the versions.
 /// - `over`: what a command over a store did and printed, by what the store held (`contents`).
 pub fn run_words<O: Stores, R: Read, W: Write, E: Write>(
     rt: &HostRuntime,
@@ -48,18 +52,39 @@ pub fn run_words<O: Stores, R: Read, W: Write, E: Write>(
     ensures printed { (denom : Denom) (issued month rate : ℕ)
         → IsAsked (map (λ w. string_bytes w) words.now) (Ok (value denom issued month rate)) → result ≡ 0
         → Appends (W.contents output.old) (W.contents output.new) (value_line denom issued month rate) }
+    ensures version { AsksForVersion (map (λ w. string_bytes w) words.now) → result ≡ 0
+        → Appends (W.contents output.old) (W.contents output.new) version_line }
     ensures over { AreClean O.Store.is_clean → (contents : Text → Content) → ((path : Text) → O.holds stores.now path (contents path))
-        → IsRun (map (λ w. string_bytes w) words.now) (CarriesOver O.Store.has contents (R.remaining input.old) (W.contents output.old) (W.contents output.new)) result }
+        → IsRun (map (λ w. string_bytes w) words.now) (CarriesOver O.Store.has O.rests contents (R.remaining input.old) (R.remaining input.new) (W.contents output.old) (W.contents output.new)) result }
 {
     match read_command(rt.alloc(), words) {
         Ok(command) => match carry_out(rt, stores, command, input, output) {
             Ok(outcome) => conclude(outcome, faults),
             Err(fault) => report(fault, faults),
         },
-        Err(CommandFault::Help(text)) => help(&text, output, faults),
+        Err(CommandFault::Help(text)) => show(&text, output, faults),
+        Err(CommandFault::Version) => show_version(rt.alloc(), output, faults),
         Err(CommandFault::Line(text)) => refuse_line(&text, faults),
         Err(CommandFault::Argument(name)) => refuse_argument(name, faults),
         Err(CommandFault::NoMemory) => report(RunFault::NoMemory, faults),
+    }
+}
+
+/// Tells that the words of a line were not read, and why: the exit status. One that isn't UTF-8 makes a bad line; else
+/// memory was refused.
+pub fn refuse_words<E: Write>(error: &io::Error, faults: &mut E) -> u8
+    ensures not_text { error_kind error.now ≡ ErrorKind.InvalidData → (result ≡ 2) ⊎ (result ≡ 3) }
+    ensures memory { error_kind error.now ≢ ErrorKind.InvalidData → result ≡ 3 }
+{
+    match error.kind() {
+        ErrorKind::InvalidData => {
+            if writeln!(faults, "bad argument: a word isn't UTF-8").is_ok() {
+                BAD_LINE
+            } else {
+                FAILED
+            }
+        }
+        _ => report(RunFault::NoMemory, faults),
     }
 }
 
@@ -89,7 +114,8 @@ fn report<E: Write>(fault: RunFault, faults: &mut E) -> u8
     FAILED
 }
 
-fn help<W: Write, E: Write>(text: &str, output: &mut W, faults: &mut E) -> u8
+// Prints what a line asks for that names no command.
+fn show<W: Write, E: Write>(text: &str, output: &mut W, faults: &mut E) -> u8
     ensures status { (result ≡ 0) ⊎ (result ≡ 3) }
     ensures printed { result ≡ 0 → Appends (W.contents output.old) (W.contents output.new) text.now }
 {
@@ -97,6 +123,23 @@ fn help<W: Write, E: Write>(text: &str, output: &mut W, faults: &mut E) -> u8
         Ok(()) => DONE,
         Err(fault) => report(fault, faults),
     }
+}
+
+// Prints the versions of the program and of the stores that it makes.
+fn show_version<W: Write, E: Write>(alloc: Global, output: &mut W, faults: &mut E) -> u8
+    ensures status { (result ≡ 0) ⊎ (result ≡ 3) }
+    ensures printed { result ≡ 0 → Appends (W.contents output.old) (W.contents output.new) version_line }
+{
+    match version(alloc) {
+        Ok(line) => show(&line, output, faults),
+        Err(_) => report(RunFault::NoMemory, faults),
+    }
+}
+
+fn version(alloc: Global) -> Result<String, AllocError>
+    ensures { IfOk result (λ line. string_bytes line ≡ version_line) }
+{
+    format!(in alloc; "ee_cli {VERSION}, store version {STORE_VERSION}\n")
 }
 
 // Tells that the words fit no row.

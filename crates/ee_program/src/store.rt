@@ -1,12 +1,13 @@
 //! Stores in files.
 
 ghost use Rattle.std.specs.Prelude.{◌≡◌};
+ghost use Rattle.ee_store.specs.Ended.{RestsIn};
 ghost use Rattle.ee_program.specs.Faults.{fault_of_opening};
 
 use crate::stores::Stores;
 use ee_actions::{RunFault, StoreFault};
 use ee_store::{OpenFault, SqlKeeper};
-use sqlite::{File, FileStore};
+use sqlite::{File, FileStore, Files};
 
 /// The stores in the files of this system.
 #[derive(Clone, Copy)]
@@ -17,8 +18,12 @@ pub struct StoreFiles<'a> {
 impl Stores for StoreFiles<'_> {
     type Store = SqlKeeper<FileStore<File>>;
 
+    type Rest = Files<File>;
+
     // What a file holds no clause can say.
     ghost holds = { λ _ _ _. ⊥ };
+
+    ghost rests = { λ store files. RestsIn store.conn files };
 
     fn open(&self, path: &str) -> Result<SqlKeeper<FileStore<File>>, RunFault> {
         match SqlKeeper::open(self.rt, path) {
@@ -27,8 +32,11 @@ impl Stores for StoreFiles<'_> {
         }
     }
 
-    fn close(&self, store: SqlKeeper<FileStore<File>>) {
-        let _closed = store.close();
+    fn close(&self, store: SqlKeeper<FileStore<File>>) -> Result<Files<File>, RunFault> {
+        match store.close_files() {
+            Ok(files) => Ok(files),
+            Err(_store) => Err(RunFault::Store(StoreFault::NotWrittenBack)),
+        }
     }
 }
 

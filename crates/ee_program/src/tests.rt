@@ -1,7 +1,7 @@
 //! Whole command lines: what is printed, what is told of faults, and the exit status. The values are
 //! worked by hand from the rules of 31 CFR Part 351.
 
-use crate::run::run_words;
+use crate::run::{refuse_words, run_words};
 use crate::store::StoreFiles;
 use ee_actions::{Outcome, serve_on};
 use ee_keeper::ListKeeper;
@@ -10,6 +10,7 @@ use std::io::{self, ErrorKind, Write};
 use std::net::{Shutdown, TcpListener, TcpStream};
 use std::process::Abort;
 use std::test::Fail;
+use std::time::Duration;
 
 /// What a line printed, what it told of faults, and its exit status.
 #[derive(Drop)]
@@ -120,10 +121,26 @@ fn bad_lines(rt: HostRuntime) -> Result<(), Fail> {
 
 #[test]
 fn help_is_no_fault(rt: HostRuntime) -> Result<(), Fail> {
-    let ran = run(&rt, "--help", "")?;
-    assert!(rt; ran.printed.contains("Usage: ee_cli <COMMAND>"));
-    assert!(rt; ran.told.is_empty());
-    assert_eq!(rt; ran.status, 0);
+    for (line, part) in [
+        ("--help", "Usage: ee_cli <COMMAND>"),
+        ("-h", "500 rows a request, 100 serial numbers a redemption"),
+        ("--help", "One process at a time uses a store."),
+        ("value --help", "ee_cli value 50 2010-05 2015-05 3.50"),
+        ("serve --help", "ee_cli serve --db day.db --port 8377"),
+    ] {
+        let ran = run(&rt, line, "")?;
+        assert!(rt; ran.printed.contains(part), "{line}");
+        assert!(rt; ran.told.is_empty(), "{line}");
+        assert_eq!(rt; ran.status, 0, "{line}");
+    }
+    Ok(())
+}
+
+#[test]
+fn versions(rt: HostRuntime) -> Result<(), Fail> {
+    for line in ["--version", "-V"] {
+        assert_prints(&rt, &run(&rt, line, "")?, "ee_cli 1.0.0, store version 1\n");
+    }
     Ok(())
 }
 
@@ -307,7 +324,16 @@ fn exchange(rt: &HostRuntime, sent: &str, closes: bool) -> Result<(String, Strin
     }
     let mut keeper = ListKeeper::empty(rt.alloc());
     let mut lines = Vec::new(rt.alloc());
-    let ended = serve_on(rt.alloc(), &mut keeper, &listener, 1, &mut lines);
+    let patience = Duration::from_millis(100);
+    let ended = serve_on(
+        rt,
+        rt.alloc(),
+        &mut keeper,
+        &listener,
+        1,
+        patience,
+        &mut lines,
+    );
     if ended != Ok(Outcome::Done) {
         return Err("not served".into());
     }
@@ -332,5 +358,65 @@ fn a_client_that_asks_to_close(rt: HostRuntime) -> Result<(), Fail> {
         answer.as_str(),
         "HTTP/1.1 404 Not Found\r\nContent-Type: application/json\r\nContent-Length: 30\r\nConnection: close\r\n\r\n{\"code\":69,\"fault\":\"NotFound\"}"
     );
+    Ok(())
+}
+
+/// More messages than a connection has come in one go: each answer of a whole connection arrives.
+#[test]
+fn answers_arrive(rt: HostRuntime) -> Result<(), Fail> {
+    let mut sent = String::new(rt.alloc());
+    for _ in 0..1_500 {
+        sent.push_str("GET /ticket/1 HTTP/1.1\r\n\r\n")?;
+    }
+    let (line, answers) = exchange(&rt, &sent, false)?;
+    assert_eq!(rt; line.as_str(), "connection 1: 1000 messages, Limit\n");
+    assert_eq!(rt; answers.split("HTTP/1.1 404 Not Found").count(), 1_001);
+    Ok(())
+}
+
+#[test]
+fn a_silent_client(rt: HostRuntime) -> Result<(), Fail> {
+    let (line, answer) = exchange(&rt, "", false)?;
+    assert_eq!(rt; line.as_str(), "connection 1: 0 messages, ReadFailed\n");
+    assert!(rt; answer.is_empty());
+    Ok(())
+}
+
+/// After a command the file is the whole store, without the log beside it.
+#[test]
+fn a_store_at_rest_is_one_file(rt: HostRuntime) -> Result<(), Fail> {
+    let db = fresh(&rt, "rest.db")?;
+    let log = format!(in rt.alloc(); "{db}-wal")?;
+    let file = fresh(&rt, "rest.csv")?;
+    let rates = format!(in rt.alloc(); "import rates {file} --db {db} --number 1")?;
+    let bonds = format!(in rt.alloc(); "import inventory {file} --db {db} --number 2")?;
+    let export = format!(in rt.alloc(); "export 7 --db {db}")?;
+    fs::write(&rt, file.as_str(), RATES)?;
+    assert_prints(&rt, &run(&rt, &rates, "")?, "{\"new\":2,\"same\":0}\n");
+    fs::remove_file(&rt, log.as_str())?;
+    fs::write(&rt, file.as_str(), BONDS)?;
+    assert_prints(&rt, &run(&rt, &bonds, "")?, "{\"new\":3,\"same\":0}\n");
+    fs::remove_file(&rt, log.as_str())?;
+    assert_prints(&rt, &run(&rt, &export, "")?, EXPORTED);
+    forget(&rt, &db)?;
+    forget(&rt, &file)
+}
+
+/// A word that isn't UTF-8 is a bad line, and want of memory is told as such.
+#[test]
+fn words_that_are_not_read(rt: HostRuntime) -> Result<(), Fail> {
+    for (kind, wanted, status) in [
+        (
+            ErrorKind::InvalidData,
+            b"bad argument: a word isn't UTF-8\n".as_slice(),
+            2u8,
+        ),
+        (ErrorKind::OutOfMemory, b"no memory\n".as_slice(), 3),
+    ] {
+        let mut told = Vec::new(rt.alloc());
+        let error = io::Error::from(kind);
+        assert_eq!(rt; refuse_words(&error, &mut told), status);
+        assert_eq!(rt; &told[..], wanted);
+    }
     Ok(())
 }

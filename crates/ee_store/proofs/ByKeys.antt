@@ -1,17 +1,20 @@
 -- What is found by keys is what an act sees of the books.
-use Rattle.std.proofs.Common.{◌≡◌, ℕ, List, ◌∷◌, Option, Some, None, refl, sym, ap, ◌∙◌}
+use Rattle.std.proofs.Common.{◌≡◌, ℕ, ◌+◌, ◌<◌, List, length, take, get_or, Option, Some, None, refl, sym, ap, ◌∙◌}
 use Rattle.std.specs.Prelude.{IfSome, Result, Ok, Err, OnOk}
-use Rattle.std.specs.Option.{option_map, unwrap_or}
-use Rattle.std.specs.List.{filter_map, cons_option}
+use Rattle.std.specs.Option.{option_map, option_map_or, unwrap_or}
 use Rattle.std.specs.declared.cmp.Ordering.{Ordering}
+use Rattle.std.specs.Cmp.{IsTotalOrder}
 use Rattle.std.specs.FinMap as finite
+use Rattle.std.specs.FinMap.{FinMap}
+use Rattle.std.proofs.lemmas.Map.Lookups.{CmpEqualImpliesEq}
 use Rattle.ee_units.specs.Spelling.{SerialNumber}
 use Rattle.ee_calculator.specs.declared.bonds.Bond.{Bond}
 use Rattle.ee_acts.specs.declared.changes.Held.{Held}
 use Rattle.ee_acts.specs.declared.replies.Ticket.{Ticket}
 use Rattle.ee_acts.specs.Seen.{held_as, held_of}
-use Rattle.ee_acts.specs.Views.{picked, entry_of}
+use Rattle.ee_acts.specs.Views.{picked}
 use Rattle.ee_acts.proofs.Lemmas.Books.{sound_keyed}
+use Rattle.ee_desk.proofs.Lemmas.{found_for_next}
 use Rattle.ee_acts.specs.Repeats.{Content}
 use Rattle.ee_contents.specs.Standing.{rows_of, bond_row, key_of, IsRight}
 use Rattle.ee_store.specs.Found.{with_found}
@@ -19,13 +22,13 @@ use Rattle.ee_value.specs.declared.rates.Rates.{Rates}
 use Rattle.ee_contents.proofs.Lemmas.{get_bond_row, get_rate_row, same_denom}
 
 -- one more key of those picked
-found_case : {K V : Type 0} {R : K → K → Ordering} (k : K) (v : Option V) (es : List (K × V))
-    → finite.from_entries {R = R} (cons_option (option_map (λ value. (k, value)) v) es) ≡ with_found (finite.from_entries es) k v
-found_case k None es = refl
-found_case k (Some x) es = refl
+found_case : {K V : Type 0} {R : K → K → Ordering} (found : FinMap R V) (k : K) (v : Option V) → option_map_or (λ value. finite.insert found k value) v found ≡ with_found found k v
+found_case found k None = refl
+found_case found k (Some x) = refl
 
-pub picked_cons : {K V : Type 0} (R : K → K → Ordering) (look : K → Option V) (k : K) (ks : List K) → picked {R = R} look (k ∷ ks) ≡ with_found (picked look ks) k (look k)
-picked_cons R look k ks = found_case {R = R} k (look k) (filter_map (entry_of look) ks)
+pub found_next : {K V : Type 0} {R : K → K → Ordering} (o : IsTotalOrder R) (exact : CmpEqualImpliesEq R) (look : K → Option V) (ks : List K) (i : ℕ) (d : K) → i < length ks
+    → picked {R = R} look (take (i + 1) ks) ≡ with_found (picked look (take i ks)) (get_or ks i d) (look (get_or ks i d))
+found_next {R = R} o exact look ks i d h = found_for_next o exact look ks i d h ∙ found_case {R = R} (picked look (take i ks)) (get_or ks i d) (look (get_or ks i d))
 
 -- a bond that its row shows
 same_held : (a b : Held) → a.bond.serial ≡ b.bond.serial → bond_row a ≡ bond_row b → a ≡ b

@@ -1,15 +1,13 @@
 -- A store follows what happens to requests.
-use Rattle.std.proofs.Common.{◌≡◌, ◌⊎◌, inl, inr, Bool, true, false, List, [], ◌∷◌, refl}
+use Rattle.std.proofs.Common.{◌≡◌, Bool, true, false, List, refl}
 use Rattle.std.specs.FinMap as finite
 use Rattle.sqlite.specs.Tree.{Trees}
 use Rattle.sqlite.specs.State.{State}
 use Rattle.ee_acts.specs.declared.acts.Request.{Request}
 use Rattle.ee_acts.specs.Numbers.{number_of}
-use Rattle.ee_acts.specs.Repeats.{Content}
-use Rattle.ee_acts.specs.Contents.{content_after}
-use Rattle.ee_laws.specs.Events.{World, Told, one, decided, unserved}
+use Rattle.ee_laws.specs.Events.{World, Told, one, decided}
 use Rattle.ee_laws.specs.Ties.{Leaves}
-use Rattle.ee_laws.proofs.Lemmas.{leaves_new, leaves_kept, leaves_unserved}
+use Rattle.ee_laws.proofs.Lemmas.{leaves_new, leaves_kept}
 use Rattle.ee_store.specs.Serving.{StandsFor, HasContent, FollowsWorld}
 
 module _ (old new : State) (q : Request) (w : World) (follows : FollowsWorld old w) where
@@ -24,11 +22,3 @@ module _ (old new : State) (q : Request) (w : World) (follows : FollowsWorld old
       → (finite.contains_key w.now.kept (number_of q) ≡ true → (db : Trees) → new.may_leave db → old.may_leave db)
       → FollowsWorld new (decided w q told)
   follows_decided told has durable again = (has, leaves_decided told durable again (finite.contains_key w.now.kept (number_of q)) refl)
-
-  pub follows_unserved : HasContent new w.now → ((db : Trees) → new.may_leave db → old.may_leave db ⊎ ((S : Content) → HasContent old S → StandsFor db (content_after S (q ∷ []))))
-      → FollowsWorld new (unserved w q)
-  follows_unserved has crash = (has, leaves_unserved StandsFor old.may_leave new.may_leave w q (λ db may. at_now db (crash db may)) follows.1)
-    where
-      at_now : (db : Trees) → old.may_leave db ⊎ ((S : Content) → HasContent old S → StandsFor db (content_after S (q ∷ []))) → old.may_leave db ⊎ StandsFor db (one w.now q)
-      at_now db (inl before) = inl before
-      at_now db (inr after) = inr (after w.now follows.0)

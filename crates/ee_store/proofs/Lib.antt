@@ -7,6 +7,8 @@ mod ByKeys
 mod Served
 mod Transactions
 mod Named
+mod NeededDays
+mod InTurn
 mod Following
 mod DaySums
 mod ReadValues
@@ -15,3 +17,6 @@ mod FoundBonds
 mod FoundRows
 mod Readable
 mod Opened
+mod AtRest
+mod Meeting
+mod NextRun

@@ -23,7 +23,7 @@ use Rattle.ee_contents.proofs.Lemmas.{get_desk_row}
 use Rattle.ee_laws.proofs.Lemmas.{leaves_as_before}
 use Rattle.ee_texts.specs.Ranges.{BondFits}
 use Rattle.ee_tables.specs.Keyed.{pair_cmp}
-use Rattle.ee_tables.specs.Rows.{Rows, DeskRow, Has, Holds}
+use Rattle.ee_tables.specs.Rows.{Rows, DeskRow, Has, Holds, Stores}
 use Rattle.ee_opening.specs.Making.{IsBlank, first_rows}
 use Rattle.ee_opening.specs.Whole.{IsOurs}
 use Rattle.ee_opening.specs.Opening.{HasTables, IsOtherVersion}
@@ -76,14 +76,14 @@ was_open old new kept is_open = by_case old.is_open refl
 pub begins : (old new : State) (rows : Rows) → (HasTables old → KeepsCommit old new) → (IsTrue old.is_open → rows ≡ first_rows) → Has new rows → HasContent new nothing
 begins old new rows kept is has = record { right = nothing_right; rows = λ is_open. subst (λ r. Has new r) (is (was_open old new kept is_open) ∙ sym nothing_rows) has is_open }
 
-pub begun_survives : (old new : State) → Survives old new (λ db. IsBlank old → Holds db first_rows) → Survives old new (λ db. IsBlank old → StandsFor db nothing)
+pub begun_survives : (old new : State) → Survives old new (λ db. IsBlank old → Stores db first_rows) → Survives old new (λ db. IsBlank old → StandsFor db nothing)
 begun_survives old new one =
-    survives_weaker old new (λ db. IsBlank old → Holds db first_rows) (λ db. IsBlank old → StandsFor db nothing)
-    (λ clean db holds blank. record { right = nothing_right; holds = subst (Holds db) (sym nothing_rows) (holds blank) }) one
+    survives_weaker old new (λ db. IsBlank old → Stores db first_rows) (λ db. IsBlank old → StandsFor db nothing)
+    (λ clean db stores blank. record { right = nothing_right; stores = subst (Stores db) (sym nothing_rows) (stores blank) }) one
 
 -- ---- rows of a content
 
-has_tables : (old : State) (rows : Rows) → Has old rows → HasTables old
+pub has_tables : (old : State) (rows : Rows) → Has old rows → HasTables old
 has_tables old rows has = ours_tables old (λ is_open. (has is_open).0)
 
 pub keeps_content : (old new : State) → (HasTables old → KeepsCommit old new) → (content : Content) → HasContent old content → HasContent new content
@@ -100,7 +100,7 @@ stood_for_none old rows those made none is_open = (
   λ blank. none nothing (record { are = made blank is_open ∙ sym nothing_rows; right = nothing_right }),
 )
 
-same_some : (a b : DeskRow) → Some a ≡ Some b → a ≡ b
+pub same_some : (a b : DeskRow) → Some a ≡ Some b → a ≡ b
 same_some a b e = ap (λ o. unwrap_or o a) e
 
 -- the rows of a content are of version 1

@@ -1,5 +1,5 @@
 -- What a request leaves in a transaction.
-use Rattle.std.proofs.Common.{◌≡◌, ℕ, ◌≤◌, true, false, not, List, Option, Some, None, refl, sym, ap, ◌∙◌, subst}
+use Rattle.std.proofs.Common.{◌≡◌, ◌≢◌, ℕ, ◌≤◌, true, false, not, List, [], ◌∷◌, Option, Some, None, refl, sym, ap, ◌∙◌, subst}
 use Rattle.std.specs.Prelude.{IfSome, is_some}
 use Rattle.std.specs.Option.{option_map, unwrap_or}
 use Rattle.std.specs.FinMap as finite
@@ -18,17 +18,22 @@ use Rattle.ee_tables.proofs.Lemmas.Transactions.{unchanged_sees}
 use Rattle.ee_contents.proofs.Lemmas.{get_reply_row}
 use Rattle.ee_texts.specs.Ranges.{ActFits, ReplyFits}
 use Rattle.ee_texts.specs.Texts.{act_text, reply_text}
-use Rattle.ee_tables.specs.Rows.{ReplyRow, Sees, with_reply}
+use Rattle.ee_tables.specs.Rows.{Rows, ReplyRow, Sees, with_reply}
 use Rattle.ee_contents.specs.Standing.{rows_of, reply_row, IsRight, IsKept}
 use Rattle.ee_store.specs.Written.{applied_rows}
 use Rattle.ee_store.specs.Serving.{SeesContent, IsDecided, IsServed}
 use Rattle.ee_store.proofs.Again.{IsAgain}
 use Rattle.ee_store.proofs.Delivered.{rows_after, right_after}
 
+-- the day that was closed last matters only where something is changed
+same_rows : (last day : Option ℕ) (rows : Rows) (changes : List Change) → (changes ≢ [] → last ≡ day) → applied_rows last rows changes ≡ applied_rows day rows changes
+same_rows last day rows [] is = refl
+same_rows last day rows (c ∷ cs) is = ap (λ d. applied_rows d rows (c ∷ cs)) (is (λ none. absurd (cc)))
+
 -- a number that isn't kept: its changes and its reply are written
 pub is_decided : (new : State) (q : Request) (S : Content) (changes : List Change) (reply : Reply) (last : Option ℕ) (row : ReplyRow)
     → IsRight S → finite.get S.kept (number_of q) ≡ None → ActFits q.act → (1 ≤ number_of q) × (number_of q ≤ 9223372036854775807) → ReplyFits reply
-    → record { changes = changes; reply = reply } ≡ effects_of (shown S.books) q.act → last ≡ S.books.last_day
+    → record { changes = changes; reply = reply } ≡ effects_of (shown S.books) q.act → (changes ≢ [] → last ≡ S.books.last_day)
     → row ≡ record { act = act_text q.act; reply = reply_text reply }
     → Sees new (with_reply (applied_rows last (rows_of S) changes) (number_of q) row) → IsDecided new q S reply
 is_decided new q S changes reply last row right none fits numbered told effects day words sees =
@@ -40,7 +45,9 @@ is_decided new q S changes reply last row right none fits numbered told effects 
       told = says;
       seen = record {
         right = right_after S q right none fits numbered range;
-        rows = subst (Sees new) ((λ i. with_reply (applied_rows (day i) (rows_of S) (effects i).changes) (number_of q) (own i)) ∙ sym rows) sees;
+        rows = subst (Sees new)
+            (ap (λ made. with_reply made (number_of q) row) (same_rows last S.books.last_day (rows_of S) changes day)
+            ∙ (λ i. with_reply (applied_rows S.books.last_day (rows_of S) (effects i).changes) (number_of q) (own i)) ∙ sym rows) sees;
       };
     }
 

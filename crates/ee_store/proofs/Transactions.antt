@@ -1,6 +1,7 @@
 -- A delivery: a transaction that is begun, served and ended.
 use Rattle.std.proofs.Common.{◌≡◌, ◌⊎◌, inl, inr, Bool, true, false, not, true≢false, IsTrue, [], ◌∷◌, refl, sym, ◌∙◌, subst}
 use Rattle.std.specs.FinMap as finite
+use Rattle.sqlite.specs.Effect.{IsDatabase}
 use Rattle.sqlite.specs.Tree.{Trees}
 use Rattle.sqlite.specs.State.{State, HasCleanDisk, Survives, IsRolledBack, KeepsCommit, Shows}
 use Rattle.ee_acts.specs.declared.acts.Request.{Request}
@@ -9,7 +10,8 @@ use Rattle.ee_acts.specs.Repeats.{Content}
 use Rattle.ee_acts.specs.Contents.{content_after}
 use Rattle.ee_acts.proofs.Lemmas.Requests.{content_after-known}
 use Rattle.ee_tables.proofs.Lemmas.Transactions.{clean_before, begun, begun_inside, begun_sees, still_has, committed_has, rolled_keeps}
-use Rattle.ee_tables.specs.Rows.{IsInside, Holds}
+use Rattle.ee_tables.specs.Rows.{IsInside, Stores}
+use Rattle.ee_tables.proofs.Lemmas.Meeting.{stored_has, stored_sees}
 use Rattle.ee_tables.specs.Statements.{CommitsNothing}
 use Rattle.ee_contents.specs.Standing.{rows_of}
 use Rattle.ee_store.specs.Serving.{StandsFor, HasContent, SeesContent}
@@ -67,9 +69,9 @@ read_keeps old start is settled middle new commit survives undone clean S has =
     still_content old start is middle new S has (commit (clean_before middle new survives clean) (inside_content old start is settled S has)) (rolled_keeps old start is middle new (undone clean))
 
 -- what a commit makes stands for the content
-pub stands_when_open : (s : State) (S : Content) → SeesContent s S → IsTrue s.is_open → StandsFor s.now.trees S
-stands_when_open s S sees is_open = record { right = sees.right; holds = (sees.rows is_open).1 }
+pub stands_when_open : (s : State) (S : Content) → SeesContent s S → IsTrue s.is_open → IsDatabase s.now → StandsFor s.now.trees S
+stands_when_open s S sees is_open sound = record { right = sees.right; stores = stored_sees s (rows_of S) is_open sound sees.rows }
 
 -- what the last commit left stands for the content
-pub stands_committed : (s : State) (S : Content) → HasContent s S → IsTrue s.is_open → (db : Trees) → db ≡ s.committed.trees → StandsFor db S
-stands_committed s S has is_open db is = record { right = has.right; holds = subst (λ d. Holds d (rows_of S)) (sym is) (has.rows is_open).1 }
+pub stands_committed : (s : State) (S : Content) → HasContent s S → IsTrue s.is_open → IsDatabase s.committed → (db : Trees) → db ≡ s.committed.trees → StandsFor db S
+stands_committed s S has is_open sound db is = record { right = has.right; stores = subst (λ d. Stores d (rows_of S)) (sym is) (stored_has s (rows_of S) is_open sound has.rows) }

@@ -1,6 +1,6 @@
 -- What a store that is opened has, and what it had.
 -- Of a store that a failing disk has shut nothing is said.
-use Rattle.std.specs.Prelude.{◌≡◌, ◌⊎◌, List, Option, map, IsTrue, ⊤}
+use Rattle.std.specs.Prelude.{◌≡◌, ◌⊎◌, List, [], ◌∷◌, Contains, Option, map, IsTrue, ⊤}
 use Rattle.std.specs.FinMap as finite
 use Rattle.std.specs.FinMap.{FinMap}
 use Rattle.sqlite_disk.specs.declared.Disk.{Ghosts}
@@ -14,20 +14,28 @@ use Rattle.sqlite.specs.State.{State, KeepsCommit, Survives}
 use Rattle.ee_value.specs.declared.rates.Rates.{Rates}
 use Rattle.ee_acts.specs.Tables.{rates_cmp}
 use Rattle.ee_acts.specs.Repeats.{Content, nothing}
-use Rattle.ee_laws.specs.Events.{World}
+use Rattle.ee_laws.specs.Events.{World, Happens, begun}
+use Rattle.ee_laws.specs.Events.Event.{Stop_between, Reopen}
+use Rattle.ee_laws.specs.Ties.{Leaves}
 use Rattle.ee_opening.specs.declared.entries.StoredRate.{StoredRate}
 use Rattle.ee_opening.specs.Making.{IsBlank}
-use Rattle.ee_opening.specs.Opening.{HasTables}
+use Rattle.ee_tables.specs.Rows.{Rows, Has}
+use Rattle.ee_opening.specs.Opening.{HasTables, IsOtherVersion}
 use Rattle.ee_opening.specs.Whole.{IsOurs}
 use Rattle.ee_opening.specs.declared.making.OpenFault.{OpenFault}
 use Rattle.ee_opening.specs.declared.making.OpenFault.TheVariants.{WrongVersion, Unusable}
 use Rattle.ee_store.specs.declared.opening.Rest.{Rest}
 use Rattle.ee_store.specs.declared.opening.Rest.TheVariants.{Connection, Files}
 use Rattle.ee_store.specs.Serving.{StandsFor, HasContent, FollowsWorld}
+use Rattle.ee_store.specs.Ended.{StandsAlone}
 
 -- a store without tables has come to have the empty content
 abbrev pub BeginsEmpty : State → State → Type 0
 BeginsEmpty old new = IsBlank old → HasContent new nothing
+
+-- it is open, and a crash leaves the empty content alone: the events begin there
+abbrev pub BeginsWorld : State → State → Type 0
+BeginsWorld old new = IsTrue new.is_open × (IsBlank old → FollowsWorld new (begun nothing))
 
 -- whichever content the store had, it has
 abbrev pub KeepsContent : State → State → Type 0
@@ -41,6 +49,17 @@ HasSome old new = IsOurs old ⊎ IsBlank old → (content : Content) × HasConte
 abbrev pub KeepsWorld : State → State → Type 0
 KeepsWorld old new = (w : World) → FollowsWorld old w → FollowsWorld new w
 
+-- The store was opened over trees that stand for a content which a crash may leave of a world: it has just that content, and the
+-- world stops and goes on from there.
+abbrev pub GoesOn : State → State → Type 0
+GoesOn old new = (w : World) (left : Content) → Contains w.may left → StandsFor old.committed.trees left
+    → (v : World) × Happens w (Stop_between ∷ Reopen ∷ []) v × (v.now ≡ left) × FollowsWorld new v
+
+-- The store over such trees isn't served from: a crash leaves what stands for the same, so a later open goes on from there.
+abbrev pub StaysStopped : State → State → Type 0
+StaysStopped old new = IsTrue old.is_open → (w : World) (left : Content) → Contains w.may left → StandsFor old.committed.trees left
+    → (v : World) × Happens w (Stop_between ∷ []) v × (v.now ≡ left) × Leaves StandsFor new.may_leave v
+
 -- Nothing was committed in a store that had any of the tables, whatever their definitions were; a store without tables may
 -- have got the first rows.
 abbrev pub KeepsRows : State → State → Type 0
@@ -49,6 +68,14 @@ KeepsRows old new = (HasTables old → KeepsCommit old new) × (IsBlank old → 
 -- a store that was open had no content, and it had tables
 abbrev pub HadNone : State → Type 0
 HadNone old = IsTrue old.is_open → ((content : Content) → HasContent old content → ⊥) × (IsBlank old → ⊥)
+
+-- the rows of a store that was open are of another version
+abbrev pub HadOtherVersion : State → Type 0
+HadOtherVersion old = IsTrue old.is_open → (rows : Rows) → Has old rows → IsOtherVersion rows
+
+-- the rows of a store that was open are of no other version
+abbrev pub HadNoOtherVersion : State → Type 0
+HadNoOtherVersion old = IsTrue old.is_open → (rows : Rows) → Has old rows → ¬ IsOtherVersion rows
 
 -- a crash of a store with any of the tables leaves what it could leave before
 abbrev pub LeavesAsBefore : State → State → Type 0
@@ -59,10 +86,14 @@ pub record IsOpenedFrom {D : Type 0} {g : Ghosts D} (start : Image) (now : Held 
   pub was : Held (FileStore D g)
   pub opened : IsOpened was
   pub found : FindsIn start (file_state was)
+  -- a file that stands for a content alone gives the keeper that content
+  pub alone : (content : Content) → StandsAlone start content → HasContent (file_state now) content
   pub begins : BeginsEmpty (file_state was) (file_state now)
+  pub begun : BeginsWorld (file_state was) (file_state now)
   pub keeps : KeepsContent (file_state was) (file_state now)
   pub some : HasSome (file_state was) (file_state now)
   pub follows : KeepsWorld (file_state was) (file_state now)
+  pub goes_on : GoesOn (file_state was) (file_state now)
   pub crash : Survives (file_state was) (file_state now) (λ db. IsBlank (file_state was) → StandsFor db nothing)
   pub left : LeavesAsBefore (file_state was) (file_state now)
 
@@ -73,7 +104,10 @@ pub record IsRefusedFrom {D : Type 0} {g : Ghosts D} (start : Image) (fault : Op
   pub found : FindsIn start (file_state was)
   pub kept : KeepsRows (file_state was) (file_state now)
   pub version : fault ≡ WrongVersion → HadNone (file_state was)
+  pub other : fault ≡ WrongVersion → HadOtherVersion (file_state was)
   pub unusable : fault ≡ Unusable → HadNone (file_state was)
+  pub tested : fault ≡ Unusable → HadNoOtherVersion (file_state was)
+  pub waits : StaysStopped (file_state was) (file_state now)
   pub crash : Survives (file_state was) (file_state now) (λ db. IsBlank (file_state was) → StandsFor db nothing)
   pub left : LeavesAsBefore (file_state was) (file_state now)
 

@@ -4,3 +4,5 @@ pub mod Serving
 pub mod Asking
 pub mod Adopted
 pub mod Failures
+pub mod Ended
+pub mod NextRun

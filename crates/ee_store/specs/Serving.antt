@@ -1,6 +1,6 @@
 -- What a call finds of the content that a store has, and what a request leaves there.
 -- Of a store that a failing disk has shut nothing is said.
-use Rattle.std.specs.Prelude.{◌≡◌, ℕ, Option, None, Bool, not, [], ◌∷◌, Result, IfOk, OnOk}
+use Rattle.std.specs.Prelude.{◌≡◌, ◌≢◌, ℕ, Option, None, Bool, not, [], ◌∷◌, Result, IfOk, OnOk}
 use Rattle.std.specs.FinMap as finite
 use Rattle.sqlite.specs.Tree.{Trees}
 use Rattle.sqlite.specs.State.{State, HasCleanDisk}
@@ -17,13 +17,13 @@ use Rattle.ee_acts.specs.Contents.{content_after}
 use Rattle.ee_acts.specs.Answers.{answer}
 use Rattle.ee_laws.specs.Events.{World}
 use Rattle.ee_laws.specs.Ties.{Leaves}
-use Rattle.ee_tables.specs.Rows.{Rows, Holds, Sees, Has, IsInside}
+use Rattle.ee_tables.specs.Rows.{Rows, Stores, Sees, Has, IsInside}
 use Rattle.ee_contents.specs.Standing.{rows_of, IsRight}
 
--- what the trees of a store stand for
+-- What the trees of a store stand for. They list the counter's tables, so that an open reads just these.
 pub record StandsFor (db : Trees) (content : Content) : Type 0 where
   pub right : IsRight content
-  pub holds : Holds db (rows_of content)
+  pub stores : Stores db (rows_of content)
 
 -- the last commit left rows that stand for the content
 pub record HasContent (s : State) (content : Content) : Type 0 where
@@ -43,9 +43,9 @@ FindsIn old new result Shows = HasCleanDisk new → IsInside old → IfOk result
 abbrev pub LeavesRows : {X E : Type 0} → State → State → Result X E → Type 0
 LeavesRows old new result = HasCleanDisk new → IsInside old → OnOk result ((rows : Rows) → Sees old rows → Sees new rows)
 
--- the effects of an act on the books that are seen, and the day that these closed last
+-- the effects of an act on the books that are seen, and, where it changes something, the day that these closed last
 abbrev pub AreEffects : Act → Content → Effects × Option ℕ → Type 0
-AreEffects asked content found = (found.0 ≡ effects_of (shown content.books) asked) × (found.1 ≡ content.books.last_day)
+AreEffects asked content found = (found.0 ≡ effects_of (shown content.books) asked) × (found.0.changes ≢ [] → found.1 ≡ content.books.last_day)
 
 -- the reply to a number that isn't kept, and what is seen then
 pub record IsDecided (new : State) (request : Request) (content : Content) (reply : Reply) : Type 0 where

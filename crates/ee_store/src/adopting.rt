@@ -10,7 +10,7 @@ ghost use Rattle.ee_opening.specs.Making.{IsBlank};
 ghost use Rattle.ee_opening.specs.Whole.{IsOurs, rows_of, AreInOrder};
 ghost use Rattle.ee_contents.specs.Standing.{StandFor};
 ghost use Rattle.ee_store.specs.Serving.{StandsFor};
-ghost use Rattle.ee_store.specs.Adopted.{BeginsEmpty, KeepsContent, HasSome, HadNone, KeepsRows, KeepsWorld, LeavesAsBefore, tables_for};
+ghost use Rattle.ee_store.specs.Adopted.{BeginsEmpty, KeepsContent, HasSome, HadNone, KeepsRows, KeepsWorld, BeginsWorld, GoesOn, StaysStopped, HadOtherVersion, HadNoOtherVersion, LeavesAsBefore, tables_for};
 
 use crate::keeper::SqlKeeper;
 use crate::values::rate_of;
@@ -95,15 +95,21 @@ fn prepared(alloc: Global, all: &AllRows) -> Result<Tables, OpenFault>
 /// replies. It answers the tables of unit values for their rates.
 fn ready<S: Alter>(conn: &mut Connection<S>, alloc: Global) -> Result<Tables, OpenFault>
     ensures begins { HasCleanDisk (state S.Store conn.new) → OnOk result (BeginsEmpty (state S.Store conn.old) (state S.Store conn.new)) }
+    ensures begun { HasCleanDisk (state S.Store conn.new) → OnOk result (BeginsWorld (state S.Store conn.old) (state S.Store conn.new)) }
     ensures found { HasCleanDisk (state S.Store conn.new) → OnOk result (KeepsContent (state S.Store conn.old) (state S.Store conn.new)) }
     ensures stands { HasCleanDisk (state S.Store conn.new) → OnOk result (HasSome (state S.Store conn.old) (state S.Store conn.new)) }
     ensures follows { HasCleanDisk (state S.Store conn.new) → OnOk result (KeepsWorld (state S.Store conn.old) (state S.Store conn.new)) }
+    ensures goes_on { HasCleanDisk (state S.Store conn.new) → OnOk result (GoesOn (state S.Store conn.old) (state S.Store conn.new)) }
     ensures kept { HasCleanDisk (state S.Store conn.new) → OnErr result (KeepsRows (state S.Store conn.old) (state S.Store conn.new)) }
     ensures version { HasCleanDisk (state S.Store conn.new) → IfErr result (λ fault. fault ≡ OpenFault.WrongVersion → HadNone (state S.Store conn.old)) }
+    ensures other { HasCleanDisk (state S.Store conn.new) → IfErr result (λ fault. fault ≡ OpenFault.WrongVersion → HadOtherVersion (state S.Store conn.old)) }
     ensures unusable { HasCleanDisk (state S.Store conn.new) → IfErr result (λ fault. fault ≡ OpenFault.Unusable → HadNone (state S.Store conn.old)) }
+    ensures tested { HasCleanDisk (state S.Store conn.new) → IfErr result (λ fault. fault ≡ OpenFault.Unusable → HadNoOtherVersion (state S.Store conn.old)) }
     ensures crash { Survives (state S.Store conn.old) (state S.Store conn.new) (λ db. IsBlank (state S.Store conn.old) → StandsFor db nothing) }
     ensures left { HasCleanDisk (state S.Store conn.new) → LeavesAsBefore (state S.Store conn.old) (state S.Store conn.new) }
+    ensures waits { HasCleanDisk (state S.Store conn.new) → StaysStopped (state S.Store conn.old) (state S.Store conn.new) }
 {
+    let _schema = conn.schema();
     let all = open_rows(conn, alloc)?;
     prepared(alloc, &all)
 }
@@ -113,12 +119,20 @@ impl<S: Alter> SqlKeeper<S> {
     /// makes them, in one transaction, and begins with nothing; else it reads all rows and tests them.
     ///
     /// - `begins`: a store without tables gets the empty content.
+    /// - `begun`: the connection is open, and of a store that had no tables a crash leaves the empty content
+    ///   alone, so the events of the law of stops and retries begin there.
     /// - `found`: a store that has a content keeps it.
     /// - `stands`: so the keeper serves from a content, and never from rows that stand for none.
     /// - `follows`: the store follows the events of the law of stops and retries as it did.
+    /// - `goes_on`: a store over trees that a crash left, which stand for a content, is opened with just that
+    ///   content, and the events of the law go on from there.
     /// - `version`, `unusable`: a store that has a content, or no tables, is refused for neither.
+    /// - `other`, `tested`: `WrongVersion` is told only where the rows have another version, and `Unusable`
+    ///   never there.
     /// - `kept`: after a refusal a store that had any of the tables, whatever their definitions, is as
     ///   it was. A store without tables may have got the first ones.
+    /// - `waits`: of a store over trees that a crash left, which stand for a content, a refusal leaves what
+    ///   stands for the same, so a later call goes on from there.
     /// - `crash`, `left`: whenever the call stops, a crash leaves what it could leave before. Of a
     ///   store without tables it may also leave the empty content.
     ///
@@ -132,12 +146,17 @@ impl<S: Alter> SqlKeeper<S> {
     /// - `Unusable` where the rows stand for no books and kept replies.
     pub fn adopt(conn: Connection<S>, alloc: Global) -> Result<SqlKeeper<S>, NotAdopted<S>>
         ensures begins { IfOk result (λ keeper. HasCleanDisk (state S.Store keeper.conn) → BeginsEmpty (state S.Store conn) (state S.Store keeper.conn)) }
+        ensures begun { IfOk result (λ keeper. HasCleanDisk (state S.Store keeper.conn) → BeginsWorld (state S.Store conn) (state S.Store keeper.conn)) }
         ensures found { IfOk result (λ keeper. HasCleanDisk (state S.Store keeper.conn) → KeepsContent (state S.Store conn) (state S.Store keeper.conn)) }
         ensures stands { IfOk result (λ keeper. HasCleanDisk (state S.Store keeper.conn) → HasSome (state S.Store conn) (state S.Store keeper.conn)) }
         ensures follows { IfOk result (λ keeper. HasCleanDisk (state S.Store keeper.conn) → KeepsWorld (state S.Store conn) (state S.Store keeper.conn)) }
+        ensures goes_on { IfOk result (λ keeper. HasCleanDisk (state S.Store keeper.conn) → GoesOn (state S.Store conn) (state S.Store keeper.conn)) }
         ensures kept { IfErr result (λ not. HasCleanDisk (state S.Store not.conn) → KeepsRows (state S.Store conn) (state S.Store not.conn)) }
         ensures version { IfErr result (λ not. HasCleanDisk (state S.Store not.conn) → not.fault ≡ OpenFault.WrongVersion → HadNone (state S.Store conn)) }
+        ensures other { IfErr result (λ not. HasCleanDisk (state S.Store not.conn) → not.fault ≡ OpenFault.WrongVersion → HadOtherVersion (state S.Store conn)) }
         ensures unusable { IfErr result (λ not. HasCleanDisk (state S.Store not.conn) → not.fault ≡ OpenFault.Unusable → HadNone (state S.Store conn)) }
+        ensures tested { IfErr result (λ not. HasCleanDisk (state S.Store not.conn) → not.fault ≡ OpenFault.Unusable → HadNoOtherVersion (state S.Store conn)) }
+        ensures waits { IfErr result (λ not. HasCleanDisk (state S.Store not.conn) → StaysStopped (state S.Store conn) (state S.Store not.conn)) }
         ensures crash { MatchResult result (λ keeper. Survives (state S.Store conn) (state S.Store keeper.conn) (λ db. IsBlank (state S.Store conn) → StandsFor db nothing))
             (λ not. Survives (state S.Store conn) (state S.Store not.conn) (λ db. IsBlank (state S.Store conn) → StandsFor db nothing)) }
         ensures left { MatchResult result (λ keeper. HasCleanDisk (state S.Store keeper.conn) → LeavesAsBefore (state S.Store conn) (state S.Store keeper.conn))

@@ -14,6 +14,7 @@ ghost use Rattle.ee_store.specs.Serving.{StandsFor, HasContent, FollowsWorld};
 
 use crate::delivering::deliver_on;
 use ee_acts::{Reply, Request, Tables, Unserved};
+use ee_laws::{StoreOfContents, ties_to_stores};
 use sqlite::{Alter, Connection};
 use std::alloc::Global;
 
@@ -47,9 +48,25 @@ impl<S: Alter> SqlKeeper<S> {
         ensures decided { HasCleanDisk (state S.Store self.new.conn) → OnOk result ((w : World) (told : List Told) → FollowsWorld (state S.Store self.old.conn) w → FollowsWorld (state S.Store self.new.conn) (decided w request.now told)) }
         ensures unserved { HasCleanDisk (state S.Store self.new.conn) → OnErr result ((w : World) → FollowsWorld (state S.Store self.old.conn) w → FollowsWorld (state S.Store self.new.conn) (unserved w request.now)) }
     {
+        ties_to_stores::<SqlKeeper<S>>();
         match deliver_on(&mut self.conn, self.alloc, &mut self.tables, request) {
-            Ok(reply) => Ok(reply),
+            Ok(reply) => {
+                let _schema = self.conn.schema();
+                Ok(reply)
+            }
             Err(unfinished) => Err(Unserved::from(unfinished)),
         }
     }
+}
+
+impl<S: Alter> StoreOfContents for SqlKeeper<S> {
+    ghost use Rattle.sqlite.specs.Held.{state};
+    ghost use Rattle.sqlite.specs.Tree.{Trees};
+    ghost use Rattle.ee_store.specs.Serving.{StandsFor};
+
+    ghost Disk = { Trees };
+
+    ghost stands = { StandsFor };
+
+    ghost may_leave = { λ keeper. (state S.Store keeper.conn).may_leave };
 }

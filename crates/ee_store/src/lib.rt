@@ -6,6 +6,7 @@ mod adopting;
 mod asking;
 mod counting;
 mod delivering;
+mod ending;
 mod failures;
 mod finding;
 mod keeper;

@@ -131,13 +131,10 @@ pub fn held_in<S: Alter>(
     ensures commit { CommitsNothing (state S.Store tx.old.conn.now) (state S.Store tx.new.conn.now) }
     ensures crash { LeavesNoMore (state S.Store tx.old.conn.now) (state S.Store tx.new.conn.now) }
 {
-    match serials.split_first() {
-        None => Ok(no_bonds(alloc)),
-        Some((serial, rest)) => {
-            let mut found = held_in(tx, alloc, rest)?;
-            let held = find_held(tx, *serial)?;
-            note_held(&mut found, *serial, held)?;
-            Ok(found)
-        }
+    let mut found = no_bonds(alloc);
+    for serial in serials {
+        let held = find_held(tx, *serial)?;
+        note_held(&mut found, *serial, held)?;
     }
+    Ok(found)
 }

@@ -6,11 +6,15 @@ ghost use Rattle.sqlite.specs.Files.{file_state, IsCleanLeft, LeavesFiles};
 ghost use Rattle.sqlite.specs.Recovery.{Image};
 ghost use Rattle.sqlite.specs.WalFiles.{image_at};
 ghost use Rattle.sqlite_std_file.specs.File.{IsFresh};
+ghost use Rattle.sqlite.specs.FileStore.{view};
+ghost use Rattle.sqlite.specs.View.{IsClean};
 ghost use Rattle.ee_store.specs.Adopted.{IsOpenedFrom, IsRefusedFrom, IfConnection, IfFiles};
+ghost use Rattle.ee_store.specs.NextRun.{IsNumbered, LeavesStanding, FollowsOn};
 
 use crate::keeper::SqlKeeper;
 use ee_opening::OpenFault;
 use sqlite::{Alter, Connection, File, FileFrom, FileStore, Leftover, Start, Unknown};
+use sqlite_disk::Disk;
 
 /// What is left where a store in a file isn't opened: a connection, or what `sqlite` leaves of files
 /// that it doesn't open (`L`).
@@ -36,6 +40,9 @@ pub struct NotOpened<S: Alter, L> {
 ///
 /// - `opened`: the keeper has what was found: the empty content where there was no store, and else the
 ///   content that the store had, as `SqlKeeper::adopt` tells it.
+/// - `follows`: where the file held a database that stands for a content which a crash might leave, by the
+///   law of stops and retries, the keeper has it and goes on from there. The law `next_run` puts both
+///   runs together.
 /// - `refused`: of a connection that is refused it tells the same: why, and what the call left.
 /// - `fault`: a file that `sqlite` doesn't open is told neither as of another version nor as unusable.
 /// - `left`: what is left of that file recovers to what was there, or, where no database was, to none or
@@ -53,6 +60,7 @@ pub fn open_as<F: Start>(
     NotOpened<FileStore<FileFrom<F>>, Leftover<FileFrom<F>>>,
 >
     ensures opened { IfOk result (λ keeper. HasCleanDisk (file_state keeper.conn) → IsOpenedFrom (image_at F.Start) keeper.conn) }
+    ensures follows { IfOk result (λ keeper. HasCleanDisk (file_state keeper.conn) → FollowsOn (image_at F.Start) keeper.conn) }
     ensures refused { IfErr result (λ not. IfConnection not.rest (λ conn. HasCleanDisk (file_state conn) → IsRefusedFrom (image_at F.Start) not.fault conn)) }
     ensures fault { IfErr result (λ not. IfFiles not.rest (λ _. (not.fault ≡ OpenFault.NoMemory) ⊎ (not.fault ≡ OpenFault.StoreFailed))) }
     ensures left { IfErr result (λ not. IfFiles not.rest (λ rest. IfSome rest (λ left. (files : _) × IsFresh true files.log × IsFresh false files.db
@@ -94,5 +102,19 @@ impl SqlKeeper<FileStore<File>> {
             × (IsCleanLeft left → LeavesFiles files left)))) }
     {
         open_as(rt, path, Unknown)
+    }
+}
+
+impl<D: Disk + Drop> SqlKeeper<FileStore<D>> {
+    /// Hands the store in two files back, without what isn't committed.
+    ///
+    /// - `leaves`: whatever two files a crash might have left of the keeper, they hold a database that stands
+    ///   for a content which the crash might leave by the law of stops and retries.
+    /// - `numbered`: its trees had the numbers that `sqlite` lists them under, as the law `next_run` asks.
+    pub fn stop(self) -> FileStore<D>
+        ensures numbered { IsClean (view result) → IsNumbered self.conn }
+        ensures leaves { IsClean (view result) → LeavesStanding self.conn }
+    {
+        self.close().into_store()
     }
 }

@@ -125,6 +125,8 @@ impl<S: Alter> Keeper for SqlKeeper<S> {
 
     ghost is_clean = { λ k. HasCleanDisk (state S.Store k.conn) };
 
+    ghost may_fail = { Unit {0} };
+
     ghost sound = { λ _ _ has. has.right.sound };
 
     fn deliver(&mut self, request: &Request) -> Result<Reply, Unserved> {

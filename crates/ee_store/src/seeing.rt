@@ -20,7 +20,7 @@ use crate::looking::held_in;
 use crate::terms::terms_in;
 use crate::values::day_of;
 use ee_acts::{Act, Effects, Held, Tables, Terms};
-use ee_decide::{DayCounts, View, ViewParts, decide};
+use ee_decide::{DayCounts, View, ViewParts, decide, length_refusal};
 use ee_tables as tables;
 use ee_tables::find_desk;
 use ee_units::{Day, IssueMonth, Serial};
@@ -165,7 +165,28 @@ fn view_from(keys: Keys, days: Days, counts: Counts) -> Result<View, Unfinished>
     }
 }
 
-/// What an act is decided by.
+/// What an act is decided by that the length of its list doesn't refuse.
+fn view_within<S: Alter>(
+    tx: &mut Transaction<'_, S>,
+    alloc: Global,
+    tables: &mut Tables,
+    act: &Act,
+) -> Result<View, Unfinished>
+    ensures same_reference { tx.new.conn.ghost_name ≡ tx.old.conn.ghost_name }
+    ensures open { StaysOpen (state S.Store tx.old.conn.now) (state S.Store tx.new.conn.now) result }
+    ensures inside { StaysInside (state S.Store tx.old.conn.now) (state S.Store tx.new.conn.now) result }
+    ensures found { FindsIn (state S.Store tx.old.conn.now) (state S.Store tx.new.conn.now) result (λ content view. view ≡ is.needed_within content.books act.now) }
+    ensures rows { LeavesRows (state S.Store tx.old.conn.now) (state S.Store tx.new.conn.now) result }
+    ensures commit { CommitsNothing (state S.Store tx.old.conn.now) (state S.Store tx.new.conn.now) }
+    ensures crash { LeavesNoMore (state S.Store tx.old.conn.now) (state S.Store tx.new.conn.now) }
+{
+    let days = days_in(tx)?;
+    let keys = keys_in(tx, alloc, tables, act)?;
+    let counts = counts_in(tx, alloc, act, days.day)?;
+    view_from(keys, days, counts)
+}
+
+/// What an act is decided by. Where the length of its list refuses it nothing is read.
 fn view_in<S: Alter>(
     tx: &mut Transaction<'_, S>,
     alloc: Global,
@@ -180,10 +201,10 @@ fn view_in<S: Alter>(
     ensures commit { CommitsNothing (state S.Store tx.old.conn.now) (state S.Store tx.new.conn.now) }
     ensures crash { LeavesNoMore (state S.Store tx.old.conn.now) (state S.Store tx.new.conn.now) }
 {
-    let days = days_in(tx)?;
-    let keys = keys_in(tx, alloc, tables, act)?;
-    let counts = counts_in(tx, alloc, act, days.day)?;
-    view_from(keys, days, counts)
+    match length_refusal(act) {
+        Some(_) => Ok(View::of_nothing(alloc)),
+        None => view_within(tx, alloc, tables, act),
+    }
 }
 
 fn count_of(day: Option<Day>) -> Option<u64>
@@ -195,7 +216,8 @@ fn count_of(day: Option<Day>) -> Option<u64>
     }
 }
 
-/// The effects of an act on the books that the transaction sees, and the day that was closed last.
+/// The effects of an act on the books that the transaction sees, and, where it changes something, the day
+/// that was closed last.
 pub fn effects_in<S: Alter>(
     tx: &mut Transaction<'_, S>,
     alloc: Global,

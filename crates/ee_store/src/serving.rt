@@ -1,11 +1,14 @@
 //! A request in a transaction.
 
-ghost use Rattle.std.specs.Prelude.{◌≡◌, string_bytes};
+ghost use Rattle.std.specs.Prelude.{◌≡◌, IsTrue, IfOk, string_bytes};
+ghost use Rattle.sqlite.specs.Effect.{IsDatabase};
+ghost use Rattle.sqlite.specs.State.{HasCleanDisk};
+ghost use Rattle.ee_tables.specs.Rows.{IsInside};
 ghost use Rattle.sqlite.specs.Held.{state};
 ghost use Rattle.ee_acts.specs.Numbers.{number_of};
 ghost use Rattle.ee_texts.specs.Ranges.{ActFits};
 ghost use Rattle.ee_texts.specs.Texts.{act_text};
-ghost use Rattle.ee_tables.specs.Statements.{LeavesOpen, StaysOpen, StaysInside, CommitsNothing, LeavesNoMore};
+ghost use Rattle.ee_tables.specs.Statements.{LeavesOpen, StaysOpen, StaysInside, LeavesSound, CommitsNothing, LeavesNoMore};
 ghost use Rattle.ee_store.specs.Serving.{Decides, Serves};
 
 use crate::failures::Unfinished;
@@ -32,6 +35,7 @@ fn decide_in<S: Alter>(
     ensures open { StaysOpen (state S.Store tx.old.conn.now) (state S.Store tx.new.conn.now) result }
     ensures inside { StaysInside (state S.Store tx.old.conn.now) (state S.Store tx.new.conn.now) result }
     ensures decides { Decides (state S.Store tx.old.conn.now) (state S.Store tx.new.conn.now) request.now result }
+    ensures sound { LeavesSound (state S.Store tx.old.conn.now) (state S.Store tx.new.conn.now) result }
     ensures commit { CommitsNothing (state S.Store tx.old.conn.now) (state S.Store tx.new.conn.now) }
     ensures crash { LeavesNoMore (state S.Store tx.old.conn.now) (state S.Store tx.new.conn.now) }
 {
@@ -55,6 +59,7 @@ pub fn serve_in<S: Alter>(
     ensures open { LeavesOpen (state S.Store tx.new.conn.now) result }
     ensures inside { StaysInside (state S.Store tx.old.conn.now) (state S.Store tx.new.conn.now) result }
     ensures serves { Serves (state S.Store tx.old.conn.now) (state S.Store tx.new.conn.now) request.now result }
+    ensures sound { HasCleanDisk (state S.Store tx.new.conn.now) → IsInside (state S.Store tx.old.conn.now) → IfOk result (λ r. IsTrue r.0 → IsTrue (state S.Store tx.new.conn.now).is_open → IsDatabase (state S.Store tx.new.conn.now).now) }
     ensures commit { CommitsNothing (state S.Store tx.old.conn.now) (state S.Store tx.new.conn.now) }
     ensures crash { LeavesNoMore (state S.Store tx.old.conn.now) (state S.Store tx.new.conn.now) }
 {

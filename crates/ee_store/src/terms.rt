@@ -113,13 +113,10 @@ pub fn terms_in<S: Alter>(
     ensures commit { CommitsNothing (state S.Store tx.old.conn.now) (state S.Store tx.new.conn.now) }
     ensures crash { LeavesNoMore (state S.Store tx.old.conn.now) (state S.Store tx.new.conn.now) }
 {
-    match periods.split_first() {
-        None => Ok(no_terms(alloc)),
-        Some((period, rest)) => {
-            let mut found = terms_in(tx, alloc, tables, rest)?;
-            let terms = find_terms(tx, alloc, tables, *period)?;
-            note_terms(&mut found, *period, terms)?;
-            Ok(found)
-        }
+    let mut found = no_terms(alloc);
+    for period in periods {
+        let terms = find_terms(tx, alloc, tables, *period)?;
+        note_terms(&mut found, *period, terms)?;
     }
+    Ok(found)
 }

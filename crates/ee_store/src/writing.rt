@@ -246,11 +246,8 @@ pub fn write_changes<S: Alter>(
     ensures commit { CommitsNothing (state S.Store tx.old.conn.now) (state S.Store tx.new.conn.now) }
     ensures crash { LeavesNoMore (state S.Store tx.old.conn.now) (state S.Store tx.new.conn.now) }
 {
-    match changes.split_first() {
-        None => Ok(()),
-        Some((change, rest)) => {
-            write_change(tx, alloc, last_day, change)?;
-            write_changes(tx, alloc, last_day, rest)
-        }
+    for change in changes {
+        write_change(tx, alloc, last_day, change)?;
     }
+    Ok(())
 }

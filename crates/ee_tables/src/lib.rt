@@ -14,11 +14,11 @@ mod tickets;
 mod values;
 
 pub use batches::{add_batch, find_batch};
-pub use bonds::{add_bond, add_bonds, bonds_of_owner, find_bond, mark_bond};
+pub use bonds::{add_bond, bonds_of_owner, find_bond, mark_bond};
 pub use desk::{find_desk, set_day};
 pub use failures::Failure;
 pub use lines::{add_paid, pay_line, pay_lines, ticket_lines};
-pub use rates::{add_rate, add_rates, find_rate};
+pub use rates::{add_rate, find_rate};
 pub use records::{
     Batch, Bond, Desk, Entry, Line, PlacedLine, Rate, Serial, Ticket, TicketSum, UnpaidBond,
 };

@@ -2,3 +2,4 @@ pub mod Data
 pub mod Texts
 pub mod Ranges
 pub mod Reading
+pub mod Writing

@@ -1,131 +1,138 @@
 //! Acts as JSON, and its text.
 
-ghost use Rattle.std.specs.Prelude.{◌≡◌, IfOk, string_bytes, map};
-ghost use Rattle.serde_json.specs.View.{view};
+ghost use Rattle.std.specs.Prelude.{◌≡◌, IfOk, codes, string_bytes, [], ◌∷◌};
+ghost use Rattle.json.specs.Print.{print};
+ghost use Rattle.json.specs.Token as token;
+ghost use Rattle.serde_json.specs.Data.{string, object, member, no_members};
 ghost use Rattle.ee_acts.specs.declared.acts.Act.TheVariants as act;
-ghost use Rattle.ee_texts.specs.Data.{serial_data, rate_row_data, bond_data, act_data};
+ghost use Rattle.ee_texts.specs.Data.{day_data, list_data, act_data};
 ghost use Rattle.ee_texts.specs.Texts.{act_text};
 ghost use Rattle.ee_texts.specs.Ranges.{ActFits};
+ghost use Rattle.ee_texts.specs.Writing.{Adds, AddsData};
 
 use crate::ranges::act_fits;
-use crate::values::{day_value, month_value, rate_value, serial_value};
+use crate::writing::{
+    Row, write_list_member, write_number_member, write_string, write_string_member,
+};
 use ee_acts::{Act, RateRow};
 use ee_calculator::Bond;
 use ee_units::{Customer, Day, Serial};
-use serde_json::{Value, json};
+use json::Writer;
 use std::alloc::{AllocError, Global};
 
-fn rate_row_value(alloc: Global, row: &RateRow) -> Result<Value, AllocError>
-    ensures { IfOk result (λ v. view v ≡ rate_row_data row.now) }
-{
-    let from = month_value(alloc, row.from)?;
-    let rate = rate_value(alloc, row.rates.fixed)?;
-    json!(in alloc; {"from": from, "rate": rate})
-}
+impl Row for RateRow {
+    ghost use Rattle.ee_texts.specs.Data.{rate_row_data};
 
-fn rate_row_values(alloc: Global, rows: &[RateRow]) -> Result<Vec<Value>, AllocError>
-    ensures { IfOk result (λ v. map view v.items ≡ map rate_row_data rows.now) }
-{
-    let mut values = Vec::new(alloc);
-    for row in rows {
-        values.push(rate_row_value(alloc, row)?)?;
+    ghost row_data = { rate_row_data };
+
+    fn write(&self, alloc: Global, out: &mut Writer) -> Result<(), AllocError> {
+        out.begin_object()?;
+        write_string_member(alloc, out, "from", &self.from)?;
+        write_string_member(alloc, out, "rate", &self.rates.fixed)?;
+        out.end_object()
     }
-    Ok(values)
 }
 
-fn bond_value(alloc: Global, bond: &Bond) -> Result<Value, AllocError>
-    ensures { IfOk result (λ v. view v ≡ bond_data bond.now) }
-{
-    let denom = bond.denom.dollars();
-    let issued = month_value(alloc, bond.issued)?;
-    let owner = bond.owner.number();
-    let serial = serial_value(alloc, bond.serial)?;
-    match bond.coowner {
-        None => {
-            json!(in alloc; {"denom": denom, "issued": issued, "owner": owner, "serial": serial})
+impl Row for Bond {
+    ghost use Rattle.ee_texts.specs.Data.{bond_data};
+
+    ghost row_data = { bond_data };
+
+    fn write(&self, alloc: Global, out: &mut Writer) -> Result<(), AllocError> {
+        out.begin_object()?;
+        if let Some(coowner) = self.coowner {
+            write_number_member(out, "coowner", u64::from(coowner.number()))?;
         }
-        Some(coowner) => {
-            let coowner = coowner.number();
-            json!(in alloc; {"coowner": coowner, "denom": denom, "issued": issued, "owner": owner, "serial": serial})
-        }
+        write_number_member(out, "denom", self.denom.dollars())?;
+        write_string_member(alloc, out, "issued", &self.issued)?;
+        write_number_member(out, "owner", u64::from(self.owner.number()))?;
+        write_string_member(alloc, out, "serial", &self.serial)?;
+        out.end_object()
     }
 }
 
-fn bond_values(alloc: Global, bonds: &[Bond]) -> Result<Vec<Value>, AllocError>
-    ensures { IfOk result (λ v. map view v.items ≡ map bond_data bonds.now) }
-{
-    let mut values = Vec::new(alloc);
-    for bond in bonds {
-        values.push(bond_value(alloc, bond)?)?;
+impl Row for Serial {
+    ghost use Rattle.ee_texts.specs.Data.{serial_data};
+
+    ghost row_data = { serial_data };
+
+    fn write(&self, alloc: Global, out: &mut Writer) -> Result<(), AllocError> {
+        write_string(alloc, out, self)
     }
-    Ok(values)
 }
 
-fn serial_values(alloc: Global, serials: &[Serial]) -> Result<Vec<Value>, AllocError>
-    ensures { IfOk result (λ v. map view v.items ≡ map serial_data serials.now) }
+fn begin_act(out: &mut Writer, name: &str) -> Result<(), AllocError>
+    ensures { Adds result out.old out.new (token.begin_object ∷ token.key (codes "act") ∷ token.string name.now ∷ []) }
 {
-    let mut values = Vec::new(alloc);
-    for serial in serials {
-        values.push(serial_value(alloc, *serial)?)?;
-    }
-    Ok(values)
+    out.begin_object()?;
+    out.key("act")?;
+    out.string(name)
 }
 
-fn add_rates_value(alloc: Global, rows: &[RateRow]) -> Result<Value, AllocError>
-    ensures { IfOk result (λ v. view v ≡ act_data (act.AddRates rows.now)) }
-{
-    let rows = Value::Array(rate_row_values(alloc, rows)?);
-    json!(in alloc; {"act": "rates", "rates": rows})
-}
-
-fn add_bonds_value(alloc: Global, bonds: &[Bond]) -> Result<Value, AllocError>
-    ensures { IfOk result (λ v. view v ≡ act_data (act.AddBonds bonds.now)) }
-{
-    let bonds = Value::Array(bond_values(alloc, bonds)?);
-    json!(in alloc; {"act": "bonds", "bonds": bonds})
-}
-
-fn open_value(alloc: Global, day: Day) -> Result<Value, AllocError>
-    ensures { IfOk result (λ v. view v ≡ act_data (act.OpenDay day)) }
-{
-    let day = day_value(alloc, day)?;
-    json!(in alloc; {"act": "open", "day": day})
-}
-
-fn redeem_value(
+// An act that has a list alone, under its own name.
+fn write_list_act<R: Row>(
     alloc: Global,
+    out: &mut Writer,
+    name: &str,
+    rows: &[R],
+) -> Result<(), AllocError>
+    ensures { AddsData result out.old out.new
+        (object (member (codes "act") (string name.now) (member name.now (list_data R.row_data rows.now) no_members))) }
+{
+    begin_act(out, name)?;
+    write_list_member(alloc, out, name, rows)?;
+    out.end_object()
+}
+
+// An act that has a day alone.
+fn write_day_act(alloc: Global, out: &mut Writer, name: &str, day: Day) -> Result<(), AllocError>
+    ensures { AddsData result out.old out.new
+        (object (member (codes "act") (string name.now) (member (codes "day") (day_data day) no_members))) }
+{
+    begin_act(out, name)?;
+    write_string_member(alloc, out, "day", &day)?;
+    out.end_object()
+}
+
+fn write_redeem(
+    alloc: Global,
+    out: &mut Writer,
     day: Day,
     payee: Customer,
     serials: &[Serial],
-) -> Result<Value, AllocError>
-    ensures { IfOk result (λ v. view v ≡ act_data (act.Redeem day payee serials.now)) }
+) -> Result<(), AllocError>
+    ensures { AddsData result out.old out.new (act_data (act.Redeem day payee serials.now)) }
 {
-    let day = day_value(alloc, day)?;
-    let payee = payee.number();
-    let serials = Value::Array(serial_values(alloc, serials)?);
-    json!(in alloc; {"act": "redeem", "day": day, "payee": payee, "serials": serials})
+    begin_act(out, "redeem")?;
+    write_string_member(alloc, out, "day", &day)?;
+    write_number_member(out, "payee", u64::from(payee.number()))?;
+    write_list_member(alloc, out, "serials", serials)?;
+    out.end_object()
 }
 
-fn close_value(alloc: Global, day: Day) -> Result<Value, AllocError>
-    ensures { IfOk result (λ v. view v ≡ act_data (act.CloseDay day)) }
-{
-    let day = day_value(alloc, day)?;
-    json!(in alloc; {"act": "close", "day": day})
-}
-
-fn act_value(alloc: Global, act: &Act) -> Result<Value, AllocError>
-    ensures { IfOk result (λ v. view v ≡ act_data act.now) }
+fn write_act(alloc: Global, out: &mut Writer, act: &Act) -> Result<(), AllocError>
+    ensures { AddsData result out.old out.new (act_data act.now) }
 {
     match act {
-        Act::AddRates(rows) => add_rates_value(alloc, rows.as_slice()),
-        Act::AddBonds(bonds) => add_bonds_value(alloc, bonds.as_slice()),
-        Act::OpenDay(day) => open_value(alloc, *day),
+        Act::AddRates(rows) => write_list_act(alloc, out, "rates", rows.as_slice()),
+        Act::AddBonds(bonds) => write_list_act(alloc, out, "bonds", bonds.as_slice()),
+        Act::OpenDay(day) => write_day_act(alloc, out, "open", *day),
         Act::Redeem {
             day,
             payee,
             serials,
-        } => redeem_value(alloc, *day, *payee, serials.as_slice()),
-        Act::CloseDay(day) => close_value(alloc, *day),
+        } => write_redeem(alloc, out, *day, *payee, serials.as_slice()),
+        Act::CloseDay(day) => write_day_act(alloc, out, "close", *day),
+    }
+}
+
+fn text_of(out: Writer) -> String
+    requires { out.before ≡ [] }
+    ensures { string_bytes result ≡ print out.tokens }
+{
+    match String::from_utf8(out.into_inner()) {
+        Ok(text) => text,
+        Err(_) => unreachable!(),
     }
 }
 
@@ -136,5 +143,7 @@ pub fn canonical(alloc: Global, act: &Act) -> Result<String, AllocError>
     ensures fits { ActFits act.now }
 {
     act_fits(act);
-    act_value(alloc, act)?.to_string(alloc)
+    let mut out = Writer::new(Vec::new(alloc));
+    write_act(alloc, &mut out, act)?;
+    Ok(text_of(out))
 }

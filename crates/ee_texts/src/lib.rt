@@ -13,6 +13,7 @@ mod refusals;
 mod replies;
 mod reply_reading;
 mod values;
+mod writing;
 
 pub use act_reading::read_act;
 pub use acts::canonical;

@@ -1,10 +1,10 @@
-//! JSON of single values: money, rates, months, days and serials are strings.
+//! JSON of single values: money, months, days and serials are strings.
 
 ghost use Rattle.std.specs.Prelude.{◌≡◌, IfOk};
 ghost use Rattle.serde_json.specs.View.{view};
-ghost use Rattle.ee_texts.specs.Data.{month_data, day_data, rate_data, serial_data, cents_data};
+ghost use Rattle.ee_texts.specs.Data.{month_data, day_data, serial_data, cents_data};
 
-use ee_units::{Cents, Day, IssueMonth, Rate, Serial};
+use ee_units::{Cents, Day, IssueMonth, Serial};
 use serde_json::Value;
 use std::alloc::{AllocError, Global};
 
@@ -18,12 +18,6 @@ pub fn day_value(alloc: Global, day: Day) -> Result<Value, AllocError>
     ensures { IfOk result (λ v. view v ≡ day_data day) }
 {
     Ok(Value::String(format!(in alloc; "{day}")?))
-}
-
-pub fn rate_value(alloc: Global, rate: Rate) -> Result<Value, AllocError>
-    ensures { IfOk result (λ v. view v ≡ rate_data rate) }
-{
-    Ok(Value::String(format!(in alloc; "{rate}")?))
 }
 
 pub fn serial_value(alloc: Global, serial: Serial) -> Result<Value, AllocError>

@@ -1,6 +1,6 @@
 use crate::comparing::{same, shown};
 use ee_tables::{
-    Batch, Entry, Failure, Line, Rate, Serial, Ticket, UnpaidBond, add_batch, add_bonds, add_rates,
+    Batch, Entry, Failure, Line, Rate, Serial, Ticket, UnpaidBond, add_batch, add_bond, add_rate,
     add_reply, add_ticket, bonds_of_owner, day_tickets, find_batch, find_bond, find_desk,
     find_rate, find_reply, find_ticket, first_ticket, last_ticket, pay_lines, set_day,
     ticket_lines,
@@ -47,7 +47,9 @@ fn register<S: Alter>(tx: &mut Transaction<'_, S>) -> Result<(), Failure> {
             rate: 200,
         },
     ];
-    add_rates(tx, &rates)?;
+    for rate in rates {
+        add_rate(tx, rate)?;
+    }
     let bonds = [
         UnpaidBond {
             letter: 26,
@@ -74,7 +76,9 @@ fn register<S: Alter>(tx: &mut Transaction<'_, S>) -> Result<(), Failure> {
             coowner: None,
         },
     ];
-    add_bonds(tx, &bonds)?;
+    for bond in bonds {
+        add_bond(tx, bond)?;
+    }
     set_day(tx, Some(DAY), Some(DAY - 1))
 }
 

@@ -12,9 +12,9 @@ returns-in-Ok g c =
     let found : subcommand_rows_of c.in-Ok.matches ≡ subcommand_of (program k) words = (c.in-Ok.ensures.matches (ap is_simple shape ∙ is_plain k)).1 ∙ ap (λ (a : App). subcommand_of a words) shape in
     answers k words c.line.result (subcommand_rows_of c.in-Ok.matches) known none found c.line.ensures
 
-pub returns-in-Err : goal.returns-in-Err
-returns-in-Err g c =
+pub returns-in_ok-refusal-in-Err : goal.returns-in_ok-refusal-in-Err
+returns-in_ok-refusal-in-Err g c =
     let (k, known, shape) = c.in_ok-rows.ensures in
     let words = map g.S.AsStr.text c.args.words.now in
     let kind = c.in-Err.ensures.kinds (ap is_simple_and_free shape ∙ is_free k) in
-    refuses k words c.in-Err.error c.refusal.result known (subst (λ (a : App). HasKind (fault_of a words) c.in-Err.error) shape kind) c.refusal.ensures
+    refuses k words c.in-Err.error c.in_ok-refusal-in-Err.field-0 known (subst (λ (a : App). HasKind (fault_of a words) c.in-Err.error) shape kind) c.in_ok-refusal-in-Err.ensures

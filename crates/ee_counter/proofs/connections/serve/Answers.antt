@@ -1,13 +1,37 @@
-use Rattle.ee_framing.specs.Reading.{left}
-use Rattle.ee_counter.proofs.Turns.{turn_more}
+use Rattle.ee_counter.proofs.Turns.{none_told, serves_ended, serves_limit, turn_more}
+use Rattle.std.proofs.Common.{ap, arith, rules}
+use Rattle.ee_framing.specs.Stream.{Stream}
 use Rattle.ee_counter.proofs.connections.serve.Goals as goal
+
+pub loop-messages-init : goal.loop-messages-init
+loop-messages-init g c = record {
+  open_yet = search rules;
+  clean = λ clean. clean;
+  so_far = λ clean d has. none_told (g.R.Read.remaining c.args.reader.now) (g.W.Write.contents c.args.writer.now) c.new-buffer.result.held d (g.K.Keeper.has c.args.keeper.now)
+      (ap (λ (s : Stream). s.held) c.new-buffer.ensures) has;
+}
 
 pub loop-messages-preserved : goal.loop-messages-preserved
 loop-messages-preserved g c = record {
   open_yet = c.turn.ensures.open c.in_default.is;
   clean = λ clean. c.loop-messages.invariant.clean (c.turn.ensures.clean clean);
-  so_far = λ clean d has. turn_more (g.R.Read.remaining c.args.reader.now) (left c.loop-messages.buffer (g.R.Read.remaining c.loop-messages.reader)) (left c.turn.new.buffer (g.R.Read.remaining c.turn.new.reader))
-      (g.W.Write.contents c.args.writer.now) (g.W.Write.contents c.loop-messages.writer) (g.W.Write.contents c.turn.new.writer) d c.loop-messages.messages
+  so_far = λ clean d has. turn_more (g.R.Read.remaining c.args.reader.now) (g.R.Read.remaining c.loop-messages.reader) (g.R.Read.remaining c.turn.new.reader)
+      (g.W.Write.contents c.args.writer.now) (g.W.Write.contents c.loop-messages.writer) (g.W.Write.contents c.turn.new.writer)
+      c.loop-messages.buffer.held c.turn.new.buffer.held d c.loop-messages.messages
       (g.K.Keeper.has c.loop-messages.keeper) (g.K.Keeper.has c.turn.new.keeper)
       (c.loop-messages.invariant.so_far (c.turn.ensures.clean clean) d has) (c.in_default.ensures.turns clean);
 }
+
+pub returns-in-Some-clause-serves : goal.returns-in-Some-clause-serves
+returns-in-Some-clause-serves g c = λ clean d has.
+    serves_ended (g.R.Read.remaining c.args.reader.now) (g.R.Read.remaining c.loop-messages.reader) (g.R.Read.remaining c.turn.new.reader)
+    (g.W.Write.contents c.args.writer.now) (g.W.Write.contents c.loop-messages.writer) (g.W.Write.contents c.turn.new.writer)
+    c.loop-messages.buffer.held c.turn.new.buffer.held d c.loop-messages.messages c.in-Some.ended
+    (g.K.Keeper.has c.loop-messages.keeper) (g.K.Keeper.has c.turn.new.keeper)
+    (c.loop-messages.invariant.so_far (c.turn.ensures.clean clean) d has) (omega arith) (c.in-Some.ensures.turns clean)
+
+pub returns-clause-serves : goal.returns-clause-serves
+returns-clause-serves g c = λ clean d has.
+    serves_limit (g.R.Read.remaining c.args.reader.now) (g.R.Read.remaining c.loop-messages.reader)
+    (g.W.Write.contents c.args.writer.now) (g.W.Write.contents c.loop-messages.writer) c.loop-messages.buffer.held d c.loop-messages.messages (g.K.Keeper.has c.loop-messages.keeper)
+    (omega arith) (c.loop-messages.invariant.so_far clean d has)

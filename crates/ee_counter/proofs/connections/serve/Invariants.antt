@@ -1,7 +1,6 @@
-use Rattle.std.proofs.Common.{◌≡◌, length, None, List}
+use Rattle.std.proofs.Common.{◌≡◌, None}
 use Rattle.ee_acts.specs.Repeats.{Content}
-use Rattle.ee_framing.specs.Reading.{left}
-use Rattle.ee_counter.specs.Serving.{Told, SoFar, left_by_all}
+use Rattle.ee_counter.proofs.Turns.{HasTold}
 use Rattle.ee_counter.proofs.connections.serve.Given as goal
 
 abbrev pub invariant-loop-messages : goal.invariant-loop-messages
@@ -10,7 +9,6 @@ invariant-loop-messages g l =
       open_yet : l.buffer.ended ≡ None;
       clean : g.K.Keeper.is_clean l.keeper → g.K.Keeper.is_clean l.fn.keeper;
       so_far : g.K.Keeper.is_clean l.keeper → (c : Content) → g.K.Keeper.has l.fn.keeper c
-          → (told : List Told) × (length told ≡ l.messages)
-          × SoFar (g.R.Read.remaining l.fn.reader) (left l.buffer (g.R.Read.remaining l.reader)) (g.W.Write.contents l.fn.writer) (g.W.Write.contents l.writer) c told
-          × g.K.Keeper.has l.keeper (left_by_all c told);
+          → HasTold (g.R.Read.remaining l.fn.reader) (g.R.Read.remaining l.reader) l.buffer.held (g.W.Write.contents l.fn.writer) (g.W.Write.contents l.writer) c l.messages
+          (g.K.Keeper.has l.keeper);
     }

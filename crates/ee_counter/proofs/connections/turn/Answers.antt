@@ -1,22 +1,48 @@
 use Rattle.std.proofs.Common.{subst, Ok, Err}
 use Rattle.ee_framing.specs.declared.buffer.Next.{Next}
 use Rattle.ee_framing.specs.declared.buffer.WireEnd.{WireEnd}
-use Rattle.ee_framing.specs.Reading.{left, message_in, Answers}
-use Rattle.ee_counter.proofs.Turns.{turn_of, refused}
+use Rattle.ee_framing.specs.Reading.{Settles}
+use Rattle.ee_counter.proofs.Turns.{turn_closed, turn_failed, turn_refused, turn_starved, turn_told}
 use Rattle.ee_counter.proofs.connections.turn.Goals as goal
 
 pub returns-in-Ok-Message-clause-turns : goal.returns-in-Ok-Message-clause-turns
 returns-in-Ok-Message-clause-turns g c = λ clean d has.
-    turn_of (message_in c.next_message.new.buffer.shown c.in-Ok-Message.message) (left c.args.buffer.now (g.R.Read.remaining c.args.reader.now)) (left c.next_message.new.buffer (g.R.Read.remaining c.next_message.new.reader))
-    (g.W.Write.contents c.args.writer.now) (g.W.Write.contents c.answer_one.new.writer) d c.args.messages c.answer_one.result (g.K.Keeper.has c.answer_one.new.keeper)
-    (subst (λ (x : Next). Answers c.args.buffer.now (g.R.Read.remaining c.args.reader.now) (Ok x) c.next_message.new.buffer (g.R.Read.remaining c.next_message.new.reader))
-    c.in-Ok-Message.field-0-is (c.in-Ok-Message.ensures.answers c.requires.open)) (c.answer_one.ensures.answers clean d has)
+    let before = g.R.Read.remaining c.args.reader.now in
+    let after = g.R.Read.remaining c.next_message.new.reader in
+    turn_told c.args.buffer.now c.next_message.new.buffer before after (g.W.Write.contents c.args.writer.now) (g.W.Write.contents c.answer_one.new.writer)
+    c.in-Ok-Message.message d c.args.messages c.answer_one.result (g.K.Keeper.has c.answer_one.new.keeper) (c.next_message.ensures.takes c.requires.open)
+    (subst (λ (x : Next). Settles (Ok x) c.next_message.new.buffer after) c.in-Ok-Message.field-0-is (c.in-Ok-Message.ensures.settles c.requires.open))
+    (c.answer_one.ensures.answers clean d has)
+
+pub returns-in-Ok-End-clause-turns : goal.returns-in-Ok-End-clause-turns
+returns-in-Ok-End-clause-turns g c = λ clean d has.
+    let before = g.R.Read.remaining c.args.reader.now in
+    let after = g.R.Read.remaining c.next_message.new.reader in
+    turn_closed c.args.buffer.now c.next_message.new.buffer before after (g.W.Write.contents c.args.writer.now) d c.args.messages (g.K.Keeper.has c.args.keeper.now)
+    (c.next_message.ensures.takes c.requires.open)
+    (subst (λ (x : Next). Settles (Ok x) c.next_message.new.buffer after) c.in-Ok-End.field-0-is (c.in-Ok-End.ensures.settles c.requires.open)) has
 
 pub returns-in-Err-Fault-clause-turns : goal.returns-in-Err-Fault-clause-turns
 returns-in-Err-Fault-clause-turns g c = λ clean d has.
     let before = g.R.Read.remaining c.args.reader.now in
     let after = g.R.Read.remaining c.next_message.new.reader in
-    refused c.refuse.result.why c.in-Err-Fault.fault (left c.args.buffer.now before) (left c.next_message.new.buffer after)
-    (g.W.Write.contents c.args.writer.now) (g.W.Write.contents c.refuse.new.writer) d c.args.messages c.refuse.result.messages (g.K.Keeper.has c.args.keeper.now)
-    (subst (λ (x : WireEnd). Answers c.args.buffer.now before (Err x) c.next_message.new.buffer after) c.in-Err-Fault.field-0-is (c.in-Err-Fault.ensures.answers c.requires.open))
+    turn_refused c.args.buffer.now c.next_message.new.buffer before after (g.W.Write.contents c.args.writer.now) (g.W.Write.contents c.refuse.new.writer)
+    c.in-Err-Fault.fault d c.args.messages c.refuse.result (g.K.Keeper.has c.args.keeper.now) (c.next_message.ensures.takes c.requires.open)
+    (subst (λ (x : WireEnd). Settles (Err x) c.next_message.new.buffer after) c.in-Err-Fault.field-0-is (c.in-Err-Fault.ensures.settles c.requires.open))
     c.refuse.ensures.refuses has
+
+pub returns-in-Err-ReadFailed-clause-turns : goal.returns-in-Err-ReadFailed-clause-turns
+returns-in-Err-ReadFailed-clause-turns g c = λ clean d has.
+    let before = g.R.Read.remaining c.args.reader.now in
+    let after = g.R.Read.remaining c.next_message.new.reader in
+    turn_failed c.args.buffer.now c.next_message.new.buffer before after (g.W.Write.contents c.args.writer.now) d c.args.messages (g.K.Keeper.has c.args.keeper.now)
+    (c.next_message.ensures.takes c.requires.open)
+    (subst (λ (x : WireEnd). Settles (Err x) c.next_message.new.buffer after) c.in-Err-ReadFailed.field-0-is (c.in-Err-ReadFailed.ensures.settles c.requires.open)) has
+
+pub returns-in-Err-NoMemory-clause-turns : goal.returns-in-Err-NoMemory-clause-turns
+returns-in-Err-NoMemory-clause-turns g c = λ clean d has.
+    let before = g.R.Read.remaining c.args.reader.now in
+    let after = g.R.Read.remaining c.next_message.new.reader in
+    turn_starved c.args.buffer.now c.next_message.new.buffer before after (g.W.Write.contents c.args.writer.now) d c.args.messages (g.K.Keeper.has c.args.keeper.now)
+    (c.next_message.ensures.takes c.requires.open)
+    (subst (λ (x : WireEnd). Settles (Err x) c.next_message.new.buffer after) c.in-Err-NoMemory.field-0-is (c.in-Err-NoMemory.ensures.settles c.requires.open)) has

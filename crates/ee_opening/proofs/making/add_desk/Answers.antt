@@ -1,6 +1,6 @@
 use Rattle.sqlite.specs.Held.{state}
 use Rattle.ee_tables.proofs.Lemmas.Transactions.{inside_if_ok}
-use Rattle.ee_opening.proofs.FirstLemmas.{adds_first}
+use Rattle.ee_opening.proofs.FirstLemmas.{adds_first, first_sound}
 use Rattle.ee_opening.proofs.FaultLemmas.{told_as}
 use Rattle.ee_opening.proofs.MakeUsable.{within_or_ended, adds_desk_usable}
 use Rattle.ee_opening.proofs.making.add_desk.Goals as goal
@@ -20,3 +20,11 @@ returns-in_err-execute-clause-usable g c clean =
     let new = state g.S.Store c.execute.new.self.conn.now in
     told_as _ c.from_residual.result c.in_err-execute.field-0.0 c.from_residual.ensures.1 (λ sees is_open.
     within_or_ended old.in_transaction c.in_err-execute.field-0.0 (λ inside. adds_desk_usable old new c.in_err-execute.field-0.0 (sees is_open).0 (c.in_err-execute.ensures.runs clean inside)) (λ outside. (c.in_err-execute.ensures.ended outside).0))
+
+pub returns-clause-sound : goal.returns-clause-sound
+returns-clause-sound g c clean sees =
+    let old = state g.S.Store c.args.tx.now.conn.now in
+    let new = state g.S.Store c.execute.new.self.conn.now in
+    let inside = inside_if_ok old.in_transaction c.execute.result c.in_ok-execute.field-0 c.in_ok-execute.was c.execute.ensures.ended in
+    let it = c.in_ok-execute.ensures.runs clean inside in
+    λ _. first_sound old new c.in_ok-execute.field-0 (sees it.1.was_open).0 it.0

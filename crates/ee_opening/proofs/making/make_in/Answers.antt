@@ -14,6 +14,15 @@ returns-clause-added g c clean =
     let clean_1 = clean_before first second c.make_payments.ensures.crash clean_2 in
     on_ok_weaker c.make_records.result (λ added none. added (c.in_ok-make_payments.ensures.added clean_2 (c.in_ok-make_register.ensures.added clean_1 none))) (c.make_records.ensures.added clean)
 
+pub returns-clause-sound : goal.returns-clause-sound
+returns-clause-sound g c clean =
+    let first = state g.S.Store c.make_register.new.tx.conn.now in
+    let second = state g.S.Store c.make_payments.new.tx.conn.now in
+    let new = state g.S.Store c.make_records.new.tx.conn.now in
+    let clean_2 = clean_before second new c.make_records.ensures.crash clean in
+    let clean_1 = clean_before first second c.make_payments.ensures.crash clean_2 in
+    on_ok_weaker c.make_records.result (λ sound none. sound (c.in_ok-make_payments.ensures.added clean_2 (c.in_ok-make_register.ensures.added clean_1 none))) (c.make_records.ensures.sound clean)
+
 pub returns-in_err-make_register-clause-usable : goal.returns-in_err-make_register-clause-usable
 returns-in_err-make_register-clause-usable g c clean =
     let at_0 = state g.S.Store c.args.tx.now.conn.now in

@@ -18,6 +18,16 @@ returns-clause-added g c clean =
     on_ok_weaker c.add_desk.result (λ added before. added (c.in_ok-define_table-2.ensures.added clean_2 with_batches counter_schema adds_replies
     (c.in_ok-define_table.ensures.added clean_1 payment_tables with_batches adds_batches before))) (c.add_desk.ensures.added clean)
 
+pub returns-clause-sound : goal.returns-clause-sound
+returns-clause-sound g c clean =
+    let first = state g.S.Store c.define_table.new.tx.conn.now in
+    let second = state g.S.Store c.define_table-2.new.tx.conn.now in
+    let new = state g.S.Store c.add_desk.new.tx.conn.now in
+    let clean_2 = clean_before second new c.add_desk.ensures.crash clean in
+    let clean_1 = clean_before first second c.define_table-2.ensures.crash clean_2 in
+    on_ok_weaker c.add_desk.result (λ sound before. sound (c.in_ok-define_table-2.ensures.added clean_2 with_batches counter_schema adds_replies
+    (c.in_ok-define_table.ensures.added clean_1 payment_tables with_batches adds_batches before))) (c.add_desk.ensures.sound clean)
+
 pub returns-in_err-define_table-clause-usable : goal.returns-in_err-define_table-clause-usable
 returns-in_err-define_table-clause-usable g c clean =
     let at_0 = state g.S.Store c.args.tx.now.conn.now in

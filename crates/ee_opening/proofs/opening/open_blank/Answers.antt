@@ -1,11 +1,11 @@
-use Rattle.std.proofs.Common.{inr}
+use Rattle.std.proofs.Common.{inr, sym, subst}
 use Rattle.sqlite.specs.Held.{state}
 use Rattle.sqlite.proofs.StateLemmas.{survives_then}
-use Rattle.ee_tables.specs.Rows.{Holds}
+use Rattle.ee_tables.specs.Rows.{Stores}
 use Rattle.ee_tables.proofs.Lemmas.Transactions.{clean_before, on_err_from}
 use Rattle.std.proofs.lemmas.Result.{IfOk-weaker}
 use Rattle.ee_opening.specs.Making.{IsBlank, first_rows}
-use Rattle.ee_opening.proofs.OpenLemmas.{kept_has, two_faults, first_is_first, first_readable}
+use Rattle.ee_opening.proofs.OpenLemmas.{kept_has, still_ok, leaves_less, two_faults, first_is_first, first_readable}
 use Rattle.ee_opening.proofs.FaultLemmas.{handed_on}
 use Rattle.ee_opening.proofs.VersionLemmas.{one_version}
 use Rattle.ee_opening.proofs.opening.open_blank.Goals as goal
@@ -38,7 +38,7 @@ returns-clause-crash g c =
     let old = state g.S.Store c.args.conn.now in
     let middle = state g.S.Store c.make_tables.new.conn in
     let new = state g.S.Store c.read_all.new.conn in
-    survives_then old middle new (λ db. IsBlank old → Holds db first_rows) (λ _. ⊥) (λ db. IsBlank old → Holds db first_rows) (λ _ db h. h) (λ _ db h. absurd h)
+    survives_then old middle new (λ db. IsBlank old → Stores db first_rows) (λ _. ⊥) (λ db. IsBlank old → Stores db first_rows) (λ _ db h. h) (λ _ db h. absurd h)
     c.in_ok-make_tables.ensures.crash c.read_all.ensures.crash
 
 pub returns-in_err-make_tables-clause-blank : goal.returns-in_err-make_tables-clause-blank
@@ -55,3 +55,18 @@ returns-clause-blank g c clean =
       λ unusable. usable unusable first_rows (made blank) (c.in_ok-make_tables.ensures.open before).1 first_readable,
       λ wrong. one_version first_rows first_is_first (version wrong first_rows (made blank)),
     )) (c.read_all.ensures.usable clean) (c.read_all.ensures.version clean)
+
+pub returns-clause-open : goal.returns-clause-open
+returns-clause-open g c clean =
+    let middle = state g.S.Store c.make_tables.new.conn in
+    let new = state g.S.Store c.read_all.new.conn in
+    let made = c.in_ok-make_tables.ensures.open (clean_before middle new c.read_all.ensures.crash clean) in
+    still_ok c.read_all.result (λ read. (made.0, read.1)) (c.read_all.ensures.open clean)
+
+pub returns-clause-begun : goal.returns-clause-begun
+returns-clause-begun g c clean =
+    let middle = state g.S.Store c.make_tables.new.conn in
+    let new = state g.S.Store c.read_all.new.conn in
+    let before = clean_before middle new c.read_all.ensures.crash clean in
+    let it = c.in_ok-make_tables.ensures in
+    still_ok c.read_all.result (λ _ blank db may. subst (λ d. Stores d first_rows) (sym (it.durable before db (leaves_less middle new c.read_all.ensures.crash clean db may))) (it.stored before blank)) (c.read_all.ensures.open clean)

@@ -54,7 +54,7 @@ pub returns-else-has_tables-clause-kept : goal.returns-else-has_tables-clause-ke
 returns-else-has_tables-clause-kept g c clean =
     let old = state g.S.Store c.args.conn.now in
     let settled = c.is_autocommit.ensures.settled c.if-not-is_autocommit.false in
-    still_ok c.open_blank.result (λ is_open tables. absurd (not_tables old settled c.has_tables.result c.has_tables.ensures c.if-has_tables.false tables is_open)) (c.open_blank.ensures.open clean)
+    still_ok c.open_blank.result (λ both tables. absurd (not_tables old settled c.has_tables.result c.has_tables.ensures c.if-has_tables.false tables both.0)) (c.open_blank.ensures.open clean)
 
 pub returns-then-has_tables-clause-stays : goal.returns-then-has_tables-clause-stays
 returns-then-has_tables-clause-stays g c clean =
@@ -66,7 +66,7 @@ pub returns-else-has_tables-clause-stays : goal.returns-else-has_tables-clause-s
 returns-else-has_tables-clause-stays g c clean =
     let old = state g.S.Store c.args.conn.now in
     let settled = c.is_autocommit.ensures.settled c.if-not-is_autocommit.false in
-    still_ok c.open_blank.result (λ is_open tables. absurd (not_tables old settled c.has_tables.result c.has_tables.ensures c.if-has_tables.false tables is_open)) (c.open_blank.ensures.open clean)
+    still_ok c.open_blank.result (λ both tables. absurd (not_tables old settled c.has_tables.result c.has_tables.ensures c.if-has_tables.false tables both.0)) (c.open_blank.ensures.open clean)
 
 pub returns-then-has_tables-clause-left : goal.returns-then-has_tables-clause-left
 returns-then-has_tables-clause-left g c clean is_open tables =
@@ -100,3 +100,9 @@ returns-then-has_tables-clause-blank g c clean =
 
 pub returns-then-not-is_autocommit-clause-blank : goal.returns-then-not-is_autocommit-clause-blank
 returns-then-not-is_autocommit-clause-blank g c = search rules
+
+pub returns-then-has_tables-clause-begun : goal.returns-then-has_tables-clause-begun
+returns-then-has_tables-clause-begun g c clean =
+    let old = state g.S.Store c.args.conn.now in
+    let settled = c.is_autocommit.ensures.settled c.if-not-is_autocommit.false in
+    still_ok c.read_all.result (λ both blank. absurd (not_blank old settled c.has_tables.result c.has_tables.ensures c.if-has_tables.true blank both.0)) (c.read_all.ensures.open clean)

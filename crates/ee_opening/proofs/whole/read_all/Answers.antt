@@ -48,3 +48,6 @@ returns-clause-usable g c clean =
     let old = state g.S.Store c.args.conn.now in
     let settled = c.is_autocommit.ensures.settled c.if-not-is_autocommit.false in
     each_fault c.read_current.result (λ e usable is rows has is_open. usable is (has_ours old settled (is_ours old settled rows has)) is_open rows (sees_what_it_has old settled rows has)) (c.read_current.ensures.usable clean)
+
+pub returns-clause-open : goal.returns-clause-open
+returns-clause-open g c clean = on_ok_weaker c.read_current.result (λ same. (same.0.was_open, same.0.is_open)) (c.read_current.ensures.same clean)

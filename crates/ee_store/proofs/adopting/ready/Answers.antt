@@ -9,6 +9,7 @@ use Rattle.ee_opening.specs.Whole as whole
 use Rattle.ee_opening.specs.Opening.{IsOtherVersion, AreReadable}
 use Rattle.ee_contents.specs.Standing.{rows_of}
 use Rattle.ee_store.proofs.Opened.{begins, begun_or, begun_survives, keeps_content, has_some, stood_for_none, of_version, keeps_world, if_ok, err_then, both_then}
+use Rattle.ee_store.proofs.Meeting.{goes_on, begins_world, of_no_other, stays_stopped}
 use Rattle.ee_store.proofs.Readable.{readable}
 use Rattle.ee_store.proofs.adopting.ready.Goals as goal
 
@@ -48,6 +49,37 @@ returns-clause-begins g c clean =
     let it = c.in_ok-all.ensures in
     if_ok c.prepared.result (λ blank. begins old new (whole.rows_of c.in_ok-all.all) (it.kept clean) (it.made clean blank) (it.found clean (inr blank)))
 
+pub returns-clause-begun : goal.returns-clause-begun
+returns-clause-begun g c clean =
+    let old = state g.S.Store c.args.conn.now in
+    let new = state g.S.Store c.open_rows.new.conn in
+    let it = c.in_ok-all.ensures in
+    let is_open = (it.open clean).1 in
+    if_ok c.prepared.result (
+      is_open,
+      λ blank. begins_world new is_open
+          (begins old new (whole.rows_of c.in_ok-all.all) (it.kept clean) (it.made clean blank) (it.found clean (inr blank))) (it.begun clean blank),
+    )
+
+pub returns-in_err-all-clause-other : goal.returns-in_err-all-clause-other
+returns-in_err-all-clause-other g c clean =
+    let old = state g.S.Store c.args.conn.now in
+    let told : IfErr c.from_residual.result (λ e. e ≡ WrongVersion → (rows : Rows) → Has old rows → IsTrue old.is_open → IsOtherVersion rows) = search rules in
+    err_then c.from_residual.result (λ e other is is_open rows has. other is rows has is_open) told
+
+pub returns-in_err-all-clause-tested : goal.returns-in_err-all-clause-tested
+returns-in_err-all-clause-tested g c clean =
+    let old = state g.S.Store c.args.conn.now in
+    let told : IfErr c.from_residual.result (λ e. e ≡ Unusable → (rows : Rows) → Has old rows → IsTrue old.is_open → ¬ IsOtherVersion rows) = search rules in
+    err_then c.from_residual.result (λ e tested is is_open rows has. tested is rows has is_open) told
+
+pub returns-clause-other : goal.returns-clause-other
+returns-clause-other g c clean = err_then c.prepared.result (λ e other is. absurd (other is)) c.prepared.ensures.version
+
+pub returns-clause-tested : goal.returns-clause-tested
+returns-clause-tested g c clean =
+    err_then c.prepared.result (λ e _ is is_open rows has. of_no_other rows (c.in_ok-all.ensures.first clean rows has is_open)) c.prepared.ensures.unusable
+
 pub returns-clause-found : goal.returns-clause-found
 returns-clause-found g c clean =
     let old = state g.S.Store c.args.conn.now in
@@ -68,6 +100,13 @@ returns-clause-follows g c clean =
     let it = c.in_ok-all.ensures in
     if_ok c.prepared.result (keeps_world old new (keeps_content old new (it.kept clean)) (it.stays clean))
 
+pub returns-clause-goes_on : goal.returns-clause-goes_on
+returns-clause-goes_on g c clean =
+    let old = state g.S.Store c.args.conn.now in
+    let new = state g.S.Store c.open_rows.new.conn in
+    let it = c.in_ok-all.ensures in
+    if_ok c.prepared.result (goes_on old new c.schema-schema.ensures.live (g.met.S.Store.settled c.args.conn.now.store) (keeps_content old new (it.kept clean)) (it.stays clean) (it.open clean).0)
+
 pub returns-clause-kept : goal.returns-clause-kept
 returns-clause-kept g c clean =
     let old = state g.S.Store c.args.conn.now in
@@ -77,3 +116,15 @@ returns-clause-kept g c clean =
 
 pub returns-clause-crash : goal.returns-clause-crash
 returns-clause-crash g c = begun_survives (state g.S.Store c.args.conn.now) (state g.S.Store c.open_rows.new.conn) c.in_ok-all.ensures.crash
+
+pub returns-in_err-all-clause-waits : goal.returns-in_err-all-clause-waits
+returns-in_err-all-clause-waits g c clean =
+    let old = state g.S.Store c.args.conn.now in
+    let new = state g.S.Store c.open_rows.new.conn in
+    stays_stopped old new c.schema-schema.ensures.live (g.met.S.Store.settled c.args.conn.now.store) (c.in_err-all.ensures.left clean)
+
+pub returns-clause-waits : goal.returns-clause-waits
+returns-clause-waits g c clean =
+    let old = state g.S.Store c.args.conn.now in
+    let new = state g.S.Store c.open_rows.new.conn in
+    stays_stopped old new c.schema-schema.ensures.live (g.met.S.Store.settled c.args.conn.now.store) (c.in_ok-all.ensures.left clean)

@@ -81,7 +81,8 @@ returns-in_err-commit-clause-crash g c =
     let same = c.conn-2-1.given.1 (sym (c.in_ok-is_new.ensures.same_reference ∙ c.transaction-tx.ensures.same_reference)) in
     subst (λ h. Survives old (state g.S.Store h) (λ db. (S : Content) → HasContent old S → StandsFor db (content_after S (q ∷ [])))) (sym same)
     (commit_survives old start is middle new (λ db. (S : Content) → HasContent old S → StandsFor db (content_after S (q ∷ [])))
-    (λ before S has. stands_when_open middle (content_after S (q ∷ [])) (c.in_ok-is_new.ensures.serves before (inside_content old start is settled S has) S (sees_content old start is settled S has)).seen (c.in_ok-is_new.ensures.open before))
+    (λ before S has. let inside = inside_content old start is settled S has in let is_open = c.in_ok-is_new.ensures.open before in
+    stands_when_open middle (content_after S (q ∷ [])) (c.in_ok-is_new.ensures.serves before inside S (sees_content old start is settled S has)).seen is_open (c.in_ok-is_new.ensures.sound before inside c.if-not-is_new.false is_open))
     c.in_ok-is_new.ensures.crash c.in_err-commit.ensures.survives)
 
 pub returns-clause-kept : goal.returns-clause-kept
@@ -110,5 +111,6 @@ returns-clause-crash g c =
     let same = c.conn-2-1.given.1 (sym (c.in_ok-is_new.ensures.same_reference ∙ c.transaction-tx.ensures.same_reference)) in
     subst (λ h. Survives old (state g.S.Store h) (λ db. (S : Content) → HasContent old S → StandsFor db (content_after S (q ∷ [])))) (sym same)
     (commit_survives old start is middle new (λ db. (S : Content) → HasContent old S → StandsFor db (content_after S (q ∷ [])))
-    (λ before S has. stands_when_open middle (content_after S (q ∷ [])) (c.in_ok-is_new.ensures.serves before (inside_content old start is settled S has) S (sees_content old start is settled S has)).seen (c.in_ok-is_new.ensures.open before))
+    (λ before S has. let inside = inside_content old start is settled S has in let is_open = c.in_ok-is_new.ensures.open before in
+    stands_when_open middle (content_after S (q ∷ [])) (c.in_ok-is_new.ensures.serves before inside S (sees_content old start is settled S has)).seen is_open (c.in_ok-is_new.ensures.sound before inside c.if-not-is_new.false is_open))
     c.in_ok-is_new.ensures.crash c.in_ok-commit.ensures.survives)

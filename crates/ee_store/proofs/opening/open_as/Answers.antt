@@ -2,6 +2,8 @@ use Rattle.std.proofs.Common.{rules, arith}
 use Rattle.std.proofs.lemmas.Option.{IfSome_then}
 use Rattle.sqlite.specs.State.{HasCleanDisk}
 use Rattle.sqlite.specs.Files.{file_state}
+use Rattle.ee_store.proofs.AtRest.{found_alone}
+use Rattle.ee_store.proofs.NextRun.{follows_on}
 use Rattle.ee_store.proofs.opening.open_as.Goals as goal
 
 pub returns-in-Err-clause-left : goal.returns-in-Err-clause-left
@@ -16,10 +18,13 @@ returns-in-Ok-adopt-clause-opened g c clean =
       was = was;
       opened = c.in-Ok.ensures.opened early;
       found = c.in-Ok.ensures.found early;
+      alone = λ content alone. found_alone _ (file_state was) _ content (c.in-Ok.ensures.found early) (it.goes_on clean) alone;
       begins = it.begins clean;
+      begun = it.begun clean;
       keeps = it.found clean;
       some = it.stands clean;
       follows = it.follows clean;
+      goes_on = it.goes_on clean;
       crash = it.crash;
       left = it.left clean;
     }
@@ -35,10 +40,16 @@ returns-in-Err-adopt-clause-refused g c clean =
       found = c.in-Ok.ensures.found early;
       kept = it.kept clean;
       version = it.version clean;
+      other = it.other clean;
       unusable = it.unusable clean;
+      tested = it.tested clean;
+      waits = it.waits clean;
       crash = it.crash;
       left = it.left clean;
     }
 
 pub returns-in-Err-clause-fault : goal.returns-in-Err-clause-fault
 returns-in-Err-clause-fault g c = search rules
+
+pub returns-in-Ok-adopt-clause-follows : goal.returns-in-Ok-adopt-clause-follows
+returns-in-Ok-adopt-clause-follows g c clean = follows_on _ c.in-Ok-adopt.keeper.conn (returns-in-Ok-adopt-clause-opened g c clean)

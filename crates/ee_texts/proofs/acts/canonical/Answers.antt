@@ -1,9 +1,13 @@
-use Rattle.std.proofs.Common.{ap, ◌∙◌}
-use Rattle.std.proofs.lemmas.Result.{IfOk-weaker}
-use Rattle.serde_json.specs.Written.{has_float, compact_text}
-use Rattle.ee_texts.proofs.Whole.{act_whole}
+use Rattle.std.proofs.Common.{◌++◌, ap, ◌∙◌}
+use Rattle.json.specs.Print.{print}
+use Rattle.json.specs.Tree.{json_tokens}
+use Rattle.serde_json.specs.Written.{outline}
+use Rattle.serde_json.proofs.Texts.{print-outline}
+use Rattle.ee_texts.specs.Data.{act_data}
 use Rattle.ee_texts.proofs.acts.canonical.Goals as goal
 
 pub returns-clause-text : goal.returns-clause-text
 returns-clause-text c =
-    IfOk-weaker c.to_string.result _ _ (λ s text. text (ap has_float c.in_ok-act_value.ensures ∙ act_whole c.args.act.now) ∙ ap compact_text c.in_ok-act_value.ensures) c.to_string.ensures.text
+    let d = act_data c.args.act.now in
+    let tokens = c.in_ok-write_act.ensures.1 ∙ ap (λ before. before ++ json_tokens (outline d)) c.new-out.ensures.tokens in
+    c.text_of.ensures ∙ ap print tokens ∙ print-outline d

@@ -1,14 +1,14 @@
-use Rattle.std.proofs.Common.{[], ◌∷◌}
+use Rattle.std.proofs.Common.{[], ◌∷◌, inl, inr}
 use Rattle.sqlite.specs.Held.{state}
 use Rattle.ee_acts.specs.Contents.{content_after}
 use Rattle.ee_store.proofs.Transactions.{stands_committed}
-use Rattle.ee_store.proofs.Following.{follows_decided, follows_unserved}
+use Rattle.ee_store.proofs.Following.{follows_decided}
 use Rattle.ee_store.proofs.keeper.SqlKeeper.deliver.Goals as goal
 
 pub returns-in-Ok-clause-durable : goal.returns-in-Ok-clause-durable
 returns-in-Ok-clause-durable g c clean S has none db may =
     let new = state g.S.Store c.deliver_on.new.conn in
-    stands_committed new (content_after S (c.args.request.now ∷ [])) (c.in-Ok.ensures.kept clean S has) (c.in-Ok.ensures.opened clean S has none) db (c.in-Ok.ensures.durable clean S has none db may)
+    stands_committed new (content_after S (c.args.request.now ∷ [])) (c.in-Ok.ensures.kept clean S has) (c.in-Ok.ensures.opened clean S has none) (c.schema-schema.ensures.live (c.in-Ok.ensures.opened clean S has none)).1 db (c.in-Ok.ensures.durable clean S has none db may)
 
 pub returns-in-Ok-clause-decided : goal.returns-in-Ok-clause-decided
 returns-in-Ok-clause-decided g c clean w told follows =
@@ -17,11 +17,17 @@ returns-in-Ok-clause-decided g c clean w told follows =
     let q = c.args.request.now in
     let kept = c.in-Ok.ensures.kept clean w.now follows.0 in
     follows_decided old new q w follows told kept
-    (λ first db may. stands_committed new (content_after w.now (q ∷ [])) kept (c.in-Ok.ensures.opened clean w.now follows.0 first) db (c.in-Ok.ensures.durable clean w.now follows.0 first db may))
+    (λ first db may. stands_committed new (content_after w.now (q ∷ [])) kept (c.in-Ok.ensures.opened clean w.now follows.0 first) (c.schema-schema.ensures.live (c.in-Ok.ensures.opened clean w.now follows.0 first)).1 db (c.in-Ok.ensures.durable clean w.now follows.0 first db may))
     (λ known. c.in-Ok.ensures.again clean w.now follows.0 known)
 
 pub returns-in-Err-clause-unserved : goal.returns-in-Err-clause-unserved
 returns-in-Err-clause-unserved g c clean w follows =
-    let old = state g.S.Store c.args.self.now.conn in
     let new = state g.S.Store c.deliver_on.new.conn in
-    follows_unserved old new c.args.request.now w follows (c.in-Err.ensures.failed clean w.now follows.0) (c.in-Err.ensures.crash.crash clean)
+    let later = record c.args.self.now { conn = c.deliver_on.new.conn } in
+    let failed = c.in-Err.ensures.failed clean w.now follows.0 in (
+      failed,
+      c.ties_to_stores.ensures.unserved c.args.self.now later w c.args.request.now (λ db may. elim (c.in-Err.ensures.crash.crash clean db may) [
+        | inl before ↦ inl before
+        | inr after ↦ inr (after w.now follows.0)
+      ]) follows.1,
+    )

@@ -1,0 +1,22 @@
+use Rattle.std.proofs.Common.{subst}
+use Rattle.sqlite.specs.Closing.{IsCopied}
+use Rattle.sqlite.specs.Files.{IsClosed, file_state}
+use Rattle.sqlite.specs.FileStore.{recovers}
+use Rattle.ee_laws.proofs.Lemmas.{leaves_as_before}
+use Rattle.ee_store.specs.Serving.{StandsFor}
+use Rattle.ee_store.proofs.AtRest.{at_rest}
+use Rattle.ee_store.proofs.ending.SqlKeeper+FileStore+D.close_files.Goals as goal
+
+pub returns-in-Ok-clause-at_rest : goal.returns-in-Ok-clause-at_rest
+returns-in-Ok-clause-at_rest g c = λ clean content has.
+    at_rest c.args.self.conn c.in-Ok.files content c.schema-schema.ensures.live (subst (λ conn. IsCopied conn c.in-Ok.files) c.close.ensures (c.in-Ok.ensures.copied clean)) has
+
+pub returns-in-Err-clause-left : goal.returns-in-Err-clause-left
+returns-in-Err-clause-left g c =
+    let closed = subst (λ conn. IsClosed conn c.in-Err.store) c.close.ensures c.in-Err.ensures.err.0 in
+    λ db may. closed.quiet.outcomes db may
+
+pub returns-in-Err-clause-follows : goal.returns-in-Err-clause-follows
+returns-in-Err-clause-follows g c =
+    let closed = subst (λ conn. IsClosed conn c.in-Err.store) c.close.ensures c.in-Err.ensures.err.0 in
+    λ w follows. leaves_as_before StandsFor (file_state c.args.self.conn).may_leave (recovers c.in-Err.store) w closed.quiet.outcomes follows.1

@@ -1,0 +1,23 @@
+use Rattle.std.proofs.Common.{◌≡◌, take}
+use Rattle.sqlite.specs.Held.{state}
+use Rattle.sqlite.specs.State.{HasCleanDisk}
+use Rattle.ee_acts.specs.Seen.{held_of}
+use Rattle.ee_acts.specs.Views.{picked}
+use Rattle.ee_acts.specs.Repeats.{Content}
+use Rattle.ee_tables.specs.Rows.{Rows, IsInside, Sees}
+use Rattle.ee_store.specs.Found.{bonds_found}
+use Rattle.ee_store.specs.Serving.{SeesContent}
+use Rattle.ee_store.proofs.InTurn.{Stays}
+use Rattle.ee_store.proofs.looking.held_in.Given as goal
+
+abbrev pub invariant-loop-serial : goal.invariant-loop-serial
+invariant-loop-serial g l =
+    let old = state g.S.Store l.fn.tx.conn.now in
+    let now = state g.S.Store l.tx.conn.now in
+    record {
+      same_reference : l.tx.conn.ghost_name ≡ l.fn.tx.conn.ghost_name;
+      stays : Stays old now;
+      rows : HasCleanDisk now → IsInside old → (rows : Rows) → Sees old rows → Sees now rows;
+      found : HasCleanDisk now → IsInside old → (content : Content) → SeesContent old content
+          → bonds_found l.found.entries ≡ picked (held_of content.books) (take l.serial-index l.serials);
+    }

@@ -1,0 +1,47 @@
+-- From one run to the next: a crash leaves two files, and the next run opens them.
+use Rattle.std.specs.Prelude.{◌≡◌, [], ◌∷◌, Contains, IsTrue}
+use Rattle.sqlite_disk.specs.declared.Disk.{Ghosts}
+use Rattle.sqlite.specs.declared.FileStore.{FileStore}
+use Rattle.sqlite.specs.FileStore.{state, view}
+use Rattle.sqlite.specs.Held.{Held}
+use Rattle.sqlite.specs.Tree.{Trees}
+use Rattle.sqlite.specs.Files.{file_state, HoldsDatabase}
+use Rattle.sqlite.specs.Recovery.{Image}
+use Rattle.ee_acts.specs.Repeats.{Content}
+use Rattle.ee_laws.specs.Events.{World, Happens}
+use Rattle.ee_laws.specs.Events.Event.{Stop_between, Reopen}
+use Rattle.ee_laws.specs.Ties.{Leaves}
+use Rattle.ee_opening.specs.declared.making.OpenFault.{OpenFault}
+use Rattle.ee_store.specs.Serving.{StandsFor, FollowsWorld}
+use Rattle.ee_store.specs.Adopted.{IsOpenedFrom, IsRefusedFrom}
+
+-- a crash may leave these two files of the connection
+abbrev pub MayLeaveFiles : {D : Type 0} {g : Ghosts D} → Held (FileStore D g) → Image → Type 0
+MayLeaveFiles now left = (state now.store).may_leave left
+
+-- its trees have the numbers that `sqlite` lists them under, as those of every connection
+abbrev pub IsNumbered : {D : Type 0} {g : Ghosts D} → Held (FileStore D g) → Type 0
+IsNumbered now = IsTrue (view now.store).is_numbered
+
+-- Whatever two files a crash leaves of a keeper that follows a world: a keeper that is opened on them follows the world after a
+-- stop and a reopening. So it has a content that a crash might leave of that world.
+abbrev pub FollowsInNextRun : {D E : Type 0} → Ghosts D → Ghosts E → Type 0
+FollowsInNextRun {D} {E} g h = (old : Held (FileStore D g)) (w : World) (left : Image) (now : Held (FileStore E h))
+    → IsNumbered old → FollowsWorld (file_state old) w → MayLeaveFiles old left → IsOpenedFrom left now
+    → ∥ ((v : World) × Happens w (Stop_between ∷ Reopen ∷ []) v × FollowsWorld (file_state now) v) ∥₁
+
+-- Where the open is refused, as for want of memory, the connection that comes back leaves a content of the stopped world.
+abbrev pub WaitsInNextRun : {D E : Type 0} → Ghosts D → Ghosts E → Type 0
+WaitsInNextRun {D} {E} g h = (old : Held (FileStore D g)) (w : World) (left : Image) (fault : OpenFault) (now : Held (FileStore E h))
+    → IsNumbered old → FollowsWorld (file_state old) w → MayLeaveFiles old left → IsRefusedFrom left fault now
+    → ∥ ((v : World) × Happens w (Stop_between ∷ []) v × Leaves StandsFor (file_state now).may_leave v) ∥₁
+
+-- Whatever two files a crash might leave of the keeper hold a database, which stands for a content that it might leave of the world.
+abbrev pub LeavesStanding : {D : Type 0} {g : Ghosts D} → Held (FileStore D g) → Type 0
+LeavesStanding old = (w : World) (left : Image) → FollowsWorld (file_state old) w → MayLeaveFiles old left
+    → ∥ ((db : Trees) × HoldsDatabase left db × ((content : Content) × Contains w.may content × StandsFor db content)) ∥₁
+
+-- The keeper was opened on two files. Where these hold such a database, it follows the world after a stop and a reopening.
+abbrev pub FollowsOn : {E : Type 0} {h : Ghosts E} → Image → Held (FileStore E h) → Type 0
+FollowsOn left now = (w : World) (content : Content) (db : Trees) → Contains w.may content → HoldsDatabase left db → StandsFor db content
+    → (v : World) × Happens w (Stop_between ∷ Reopen ∷ []) v × (v.now ≡ content) × FollowsWorld (file_state now) v

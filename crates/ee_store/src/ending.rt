@@ -1,0 +1,39 @@
+//! Ending with a store in a file: its log is written back, and the files are given back.
+
+ghost use Rattle.std.specs.Prelude.{IfOk, IfErr};
+ghost use Rattle.sqlite.specs.Tree.{Trees};
+ghost use Rattle.sqlite.specs.Files.{file_state};
+ghost use Rattle.sqlite.specs.FileStore.{recovers};
+ghost use Rattle.ee_laws.specs.Events.{World};
+ghost use Rattle.ee_laws.specs.Ties.{Leaves};
+ghost use Rattle.ee_store.specs.Serving.{StandsFor, FollowsWorld};
+ghost use Rattle.ee_store.specs.Ended.{RestsIn};
+
+use crate::keeper::SqlKeeper;
+use sqlite::{FileStore, Files};
+use sqlite_disk::Disk;
+
+impl<D: Disk + Drop> SqlKeeper<FileStore<D>> {
+    /// Writes the log back into the file, as SQLite does where the last connection closes, and gives the
+    /// files back. What is committed stays; the log stays on the disk, and holds nothing more.
+    ///
+    /// - `at_rest`: the file alone, without its log, then is a store of the content: as the files read, and
+    ///   whatever a crash leaves of them.
+    /// - `left`, `follows`: where it fails, a crash leaves what it could leave before, so what the next
+    ///   command finds still follows the events.
+    ///
+    /// # Errors
+    ///
+    /// The store, where it was shut, or where the device fails.
+    pub fn close_files(self) -> Result<Files<D>, FileStore<D>>
+        ensures at_rest { IfOk result (λ files. RestsIn self.conn files) }
+        ensures left { IfErr result (λ store. (db : Trees) → recovers store db → (file_state self.conn).may_leave db) }
+        ensures follows { IfErr result (λ store. (w : World) → FollowsWorld (file_state self.conn) w → Leaves StandsFor (recovers store) w) }
+    {
+        let _schema = self.conn.schema();
+        match self.close().close_files() {
+            Ok(files) => Ok(files),
+            Err((_, store)) => Err(store),
+        }
+    }
+}

@@ -1,0 +1,19 @@
+-- What is added to the tokens of a writer, for private clauses.
+use Rattle.std.specs.Prelude.{◌≡◌, ℕ, List, ◌∷◌, ◌++◌, Result, OnOk}
+use Rattle.json.specs.Token as token
+use Rattle.json.specs.Tree.{json_tokens}
+use Rattle.json.specs.Written.{Written}
+use Rattle.serde_json.specs.Data.{Data}
+use Rattle.serde_json.specs.Written.{outline}
+
+-- these tokens are added, unless there was no memory
+abbrev pub Adds : {E : Type 0} → Result (Unit {0}) E → Written → Written → List token.Token → Type 0
+Adds result old new added = OnOk result ((new.before ≡ old.before) × (new.tokens ≡ old.tokens ++ added))
+
+-- a JSON
+abbrev pub AddsData : {E : Type 0} → Result (Unit {0}) E → Written → Written → Data → Type 0
+AddsData result old new d = Adds result old new (json_tokens (outline d))
+
+-- a member of an object
+abbrev pub AddsMember : {E : Type 0} → Result (Unit {0}) E → Written → Written → List ℕ → Data → Type 0
+AddsMember result old new name d = Adds result old new (token.key name ∷ json_tokens (outline d))
