@@ -366,17 +366,27 @@ fn served_on<D: Disk + Drop>(
     }
 }
 
-/// Each of the two files stops at each of its calls in turn. After a crash the files are opened again and
-/// the five requests are sent again: each has its one reply.
+/// Whether `apply` ended by `StoreFailed` on each message that was answered so, and on no other.
+fn ends_by_failures(talk: &str) -> bool {
+    talk.lines()
+        .all(|line| line.starts_with("StoreFailed 503 ") == line.ends_with("\"StoreFailed\"}"))
+}
+
+/// Each of the two files stops at each of its calls in turn. Where the store fails, `apply` ends by that,
+/// also where the store still answers queries. After a crash the files are opened again and the five requests
+/// are sent again: each has its one reply.
 #[test]
 fn a_stop_at_each_call(rt: HostRuntime) -> Result<(), Fail> {
     let alloc = rt.alloc();
     for on_log in [true, false] {
+        let mut failed = false;
         for k in 0..10_000 {
             let log = Fuse::new(Memory::new(alloc), if on_log { k } else { u64::MAX });
             let db = Fuse::new(Memory::new(alloc), if on_log { u64::MAX } else { k });
             let (first, closed, mut files) = served_on(alloc, Files { log, db });
             let first = first?;
+            assert!(rt; ends_by_failures(&first), "{first}");
+            failed |= first.contains("\nStoreFailed 503 ");
             let whole = closed && first.as_str() == FIVE;
             files.log.crash();
             files.db.crash();
@@ -386,6 +396,7 @@ fn a_stop_at_each_call(rt: HostRuntime) -> Result<(), Fail> {
                 break;
             }
         }
+        assert!(rt; failed, "no failure");
     }
     Ok(())
 }

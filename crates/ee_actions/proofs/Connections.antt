@@ -1,63 +1,53 @@
 -- One connection more.
-use Rattle.std.proofs.Common.{◌≡◌, ℕ, ◌+◌, ◌≤◌, List, [], ◌∷◌, ◌++◌, length, Option, Some, None, Result, Ok, Err, refl, sym, ap, subst, ◌∙◌, arith, append_assoc, append-nil, length-append, inl, inr}
-use Rattle.std.specs.Result.{IsErr}
+use Rattle.std.proofs.Common.{◌≡◌, ◌⊎◌, ◌||◌, Bool, true, false, ℕ, ◌+◌, ◌≤◌, List, [], ◌∷◌, ◌++◌, length, Option, Some, None, Result, Ok, Err, refl, sym, ap, subst, ◌∙◌, arith, append_assoc, append-nil, length-append, inl, inr}
 use Rattle.std.specs.Io.KnownBytes.{Appends}
 use Rattle.std.proofs.KnownBytes.{Appends-trans}
 use Rattle.ee_acts.specs.Repeats.{Content}
 use Rattle.ee_counter.specs.declared.connections.Ended.{Ended}
 use Rattle.ee_counter.specs.declared.connections.Why.{Why}
 use Rattle.ee_counter.specs.declared.connections.Why.TheVariants.{Closed, Asked, Limit, Fault, ReadFailed, WriteFailed, NoMemory}
-use Rattle.ee_counter.specs.Serving.{EndsBy, Serves, left_by, left_by_all}
-use Rattle.ee_actions.specs.Connections.{PrintsLines, ServesEach, ServesSocket, WritesSome}
+use Rattle.ee_counter.specs.Serving.{EndsBy, Told, left_by, left_by_all}
+use Rattle.ee_actions.specs.Connections.{EndsWithFailure, PrintsLines, ServesEach, ServesSocket, WritesSome, any_failed}
 use Rattle.ee_actions.specs.declared.faults.Outcome.{Outcome}
 use Rattle.ee_actions.specs.declared.faults.RunFault.{RunFault}
+use Rattle.ee_actions.specs.declared.faults.RunFault.TheVariants.{Device}
+use Rattle.ee_actions.specs.declared.faults.RunFault.TheVariants as fault
 use Rattle.ee_actions.specs.Printed.{connection_line, connection_lines}
 
 -- a connection leaves one content
-ends_at : (why : Why) (bytes : List ℕ) (left old new : Option (List ℕ)) (c : Content) (n count : ℕ) (Has : Content → Type 0)
-    → EndsBy why bytes left old new c n count Has → (d : Content) × EndsBy why bytes left old new c n count (λ now. now ≡ d) × Has d
-ends_at Closed bytes left old new c n count Has e = (c, (e.0, e.1, e.2, e.3, refl), e.4)
-ends_at Asked bytes left old new c n count Has e = (left_by c e.0, (e.0, (e.1.0, e.1.1, refl), e.2, e.3, e.4), e.1.2)
-ends_at Limit bytes left old new c n count Has e = (c, (e.0, e.1, e.2, refl), e.3)
-ends_at (Fault f) bytes left old new c n count Has e = (c, (e.0, e.1, e.2, refl), e.3)
-ends_at ReadFailed bytes left old new c n count Has e = (c, (e.0, e.1, e.2, refl), e.3)
-ends_at NoMemory bytes left old new c n count Has (x, y, inl (needs, has)) = (c, (x, y, inl (needs, refl)), has)
-ends_at NoMemory bytes left old new c n count Has (x, y, inr (inl (f, shows, has))) = (c, (x, y, inr (inl (f, shows, refl))), has)
-ends_at NoMemory bytes left old new c n count Has (x, y, inr (inr (t, tells))) = (left_by c t, (x, y, inr (inr (t, (tells.0, tells.1, refl)))), tells.2)
-ends_at WriteFailed bytes left old new c n count Has (x, inl (t, tells, cuts)) = (left_by c t, (x, inl (t, (tells.0, tells.1, refl), cuts)), tells.2)
-ends_at WriteFailed bytes left old new c n count Has (x, inr (f, shows, cuts, has)) = (c, (x, inr (f, shows, cuts, refl)), has)
+ends_at : (why : Why) (last : Option Told) (bytes : List ℕ) (left old new : Option (List ℕ)) (c : Content) (n count : ℕ) (Has : Content → Type 0)
+    → EndsBy why last bytes left old new c n count Has → (d : Content) × EndsBy why last bytes left old new c n count (λ now. now ≡ d) × Has d
+ends_at Closed None bytes left old new c n count Has e = (c, (e.0, e.1, e.2, e.3, refl), e.4)
+ends_at Closed (Some t) bytes left old new c n count Has e = absurd e
+ends_at Asked None bytes left old new c n count Has e = absurd e
+ends_at Asked (Some t) bytes left old new c n count Has e = (left_by c t, ((e.0.0, e.0.1, refl), e.1, e.2, e.3), e.0.2)
+ends_at Limit None bytes left old new c n count Has e = (c, (e.0, e.1, e.2, refl), e.3)
+ends_at Limit (Some t) bytes left old new c n count Has e = absurd e
+ends_at (Fault f) None bytes left old new c n count Has e = (c, (e.0, e.1, e.2, refl), e.3)
+ends_at (Fault f) (Some t) bytes left old new c n count Has e = absurd e
+ends_at ReadFailed None bytes left old new c n count Has e = (c, (e.0, e.1, e.2, refl), e.3)
+ends_at ReadFailed (Some t) bytes left old new c n count Has e = absurd e
+ends_at NoMemory None bytes left old new c n count Has e = (c, (e.0, e.1, e.2, refl), e.3)
+ends_at NoMemory (Some t) bytes left old new c n count Has e = (left_by c t, (e.0, e.1, (e.2.0, e.2.1, refl)), e.2.2)
+ends_at WriteFailed None bytes left old new c n count Has e = (c, (e.0, e.1, refl), e.2)
+ends_at WriteFailed (Some t) bytes left old new c n count Has e = (left_by c t, (e.0, (e.1.0, e.1.1, refl), e.2), e.1.2)
 
 serves_at : (c : Content) (e : Ended) (Has : Content → Type 0) → ServesSocket c e Has → (d : Content) × ServesSocket c e (λ left. left ≡ d) × Has d
 serves_at c e Has s =
-    let x = ends_at e.why s.rest None s.wrote None (left_by_all c s.told) (length s.told) e.messages Has s.ends in
-    (x.0, record { bytes = s.bytes; read = s.read; told = s.told; few = s.few; rest = s.rest; wrote = s.wrote; so_far = s.so_far; ends = x.1 }, x.2)
+    let x = ends_at e.why s.ends.0 s.rest None s.wrote None (left_by_all c s.told) (length s.told) e.messages Has s.ends.2 in
+    (x.0, record { bytes = s.bytes; read = s.read; told = s.told; few = s.few; rest = s.rest; wrote = s.wrote; so_far = s.so_far; ends = (s.ends.0, s.ends.1, x.1) }, x.2)
 
--- what keeps the content keeps what was served
-ends_yet : (why : Why) (bytes : List ℕ) (left old new : Option (List ℕ)) (c : Content) (n count : ℕ) (Has After : Content → Type 0)
-    → EndsBy why bytes left old new c n count Has → ((d : Content) → Has d → After d) → EndsBy why bytes left old new c n count After
-ends_yet Closed bytes left old new c n count Has After e stays = (e.0, e.1, e.2, e.3, stays c e.4)
-ends_yet Asked bytes left old new c n count Has After e stays = (e.0, (e.1.0, e.1.1, stays (left_by c e.0) e.1.2), e.2, e.3, e.4)
-ends_yet Limit bytes left old new c n count Has After e stays = (e.0, e.1, e.2, stays c e.3)
-ends_yet (Fault f) bytes left old new c n count Has After e stays = (e.0, e.1, e.2, stays c e.3)
-ends_yet ReadFailed bytes left old new c n count Has After e stays = (e.0, e.1, e.2, stays c e.3)
-ends_yet NoMemory bytes left old new c n count Has After (x, y, inl (needs, has)) stays = (x, y, inl (needs, stays c has))
-ends_yet NoMemory bytes left old new c n count Has After (x, y, inr (inl (f, shows, has))) stays = (x, y, inr (inl (f, shows, stays c has)))
-ends_yet NoMemory bytes left old new c n count Has After (x, y, inr (inr (t, tells))) stays = (x, y, inr (inr (t, (tells.0, tells.1, stays (left_by c t) tells.2))))
-ends_yet WriteFailed bytes left old new c n count Has After (x, inl (t, tells, cuts)) stays = (x, inl (t, (tells.0, tells.1, stays (left_by c t) tells.2), cuts))
-ends_yet WriteFailed bytes left old new c n count Has After (x, inr (f, shows, cuts, has)) stays = (x, inr (f, shows, cuts, stays c has))
+or_false : (b : Bool) → (b || false) ≡ b
+or_false true = refl
+or_false false = refl
 
-pub serves_yet : (before left old new : Option (List ℕ)) (c : Content) (e : Ended) (Has After : Content → Type 0)
-    → Serves before left old new c e Has → ((d : Content) → Has d → After d) → Serves before left old new c e After
-serves_yet before left old new c e Has After s stays = record {
-  bytes = s.bytes;
-  read = s.read;
-  told = s.told;
-  few = s.few;
-  rest = s.rest;
-  wrote = s.wrote;
-  so_far = s.so_far;
-  ends = ends_yet e.why s.rest left s.wrote new (left_by_all c s.told) (length s.told) e.messages Has After s.ends stays;
-}
+first_false : (a b : Bool) → (a || b) ≡ false → a ≡ false
+first_false true b none = none
+first_false false b none = refl
+
+second_false : (a b : Bool) → (a || b) ≡ false → b ≡ false
+second_false true b none = absurd (cc)
+second_false false b none = none
 
 pub each_more : (c : Content) (es : List Ended) (e : Ended) (Has After : Content → Type 0)
     → ServesEach c es Has → ((d : Content) → Has d → ServesSocket d e After) → ServesEach c (es ++ e ∷ []) After
@@ -105,11 +95,32 @@ printed_cut old mid new es e n is a w = record {
 }
 
 -- where a device or memory failed
-pub lines_failed : (most : ℕ) (old new : Option (List ℕ)) (es : List Ended) (r : Result Outcome RunFault) → IsErr r
+pub lines_failed : (most : ℕ) (old new : Option (List ℕ)) (es : List Ended) (r : Result Outcome RunFault) (cause told : RunFault)
+    → r ≡ Err cause → cause ≡ told → (told ≡ Device) ⊎ (told ≡ fault.NoMemory)
     → length es ≤ most → WritesSome old new (connection_lines 0 es) → PrintsLines most old new es r
-lines_failed most old new es (Ok outcome) failed few some = cc
-lines_failed most old new es (Err cause) failed few some = (few, some)
+lines_failed most old new es r cause told is same (inl device) few some = subst (PrintsLines most old new es) (sym (is ∙ ap Err (same ∙ device))) (few, some)
+lines_failed most old new es r cause told is same (inr memory) few some = subst (PrintsLines most old new es) (sym (is ∙ ap Err (same ∙ memory))) (few, some)
 
 -- all of a text is a front of it
 pub some_of : (old new : Option (List ℕ)) (text : List ℕ) → Appends old new text → WritesSome old new text
 some_of old new text a = record { front = text; rest = []; parts = sym (append-nil text); written = a }
+
+-- ---- whether the store failed
+
+pub failed_more : (es : List Ended) (e : Ended) → any_failed es ≡ false → any_failed (es ++ e ∷ []) ≡ e.store_failed
+failed_more [] e none = or_false e.store_failed
+failed_more (x ∷ es) e none =
+    ap (λ b. b || any_failed (es ++ e ∷ [])) (first_false x.store_failed (any_failed es) none) ∙ failed_more es e (second_false x.store_failed (any_failed es) none)
+
+-- no connection is served after one on which it did
+pub until_more : (es : List Ended) (e : Ended) → any_failed es ≡ false → EndsWithFailure (es ++ e ∷ [])
+until_more [] e none = tt
+until_more (x ∷ []) e none = (first_false x.store_failed false none, tt)
+until_more (x ∷ y ∷ es) e none =
+    (first_false x.store_failed (any_failed (y ∷ es)) none, until_more (y ∷ es) e (second_false x.store_failed (any_failed (y ∷ es)) none))
+
+pub until_none : (es : List Ended) → any_failed es ≡ false → EndsWithFailure es
+until_none [] none = tt
+until_none (x ∷ []) none = tt
+until_none (x ∷ y ∷ es) none =
+    (first_false x.store_failed (any_failed (y ∷ es)) none, until_none (y ∷ es) (second_false x.store_failed (any_failed (y ∷ es)) none))

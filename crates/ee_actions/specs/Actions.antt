@@ -19,7 +19,7 @@ use Rattle.ee_counter.specs.declared.files.ExportFault.{ExportFault}
 use Rattle.ee_counter.specs.declared.files.ExportFault.TheVariants as export
 use Rattle.ee_commands.specs.declared.commands.FileKind.{FileKind}
 use Rattle.ee_commands.specs.declared.commands.FileKind.TheVariants as kind
-use Rattle.ee_actions.specs.Endings.{fault_of_import, fault_of_unserved, outcome_of, EndsAsServed}
+use Rattle.ee_actions.specs.Endings.{fault_of_import, fault_of_unserved, outcome_of, ending_of}
 use Rattle.ee_actions.specs.Printed.{reply_line}
 use Rattle.ee_actions.specs.declared.faults.Outcome.{Outcome}
 use Rattle.ee_actions.specs.declared.faults.Outcome.TheVariants.{Done}
@@ -27,9 +27,9 @@ use Rattle.ee_actions.specs.declared.faults.RunFault.{RunFault}
 use Rattle.ee_actions.specs.declared.faults.RunFault.TheVariants as fault
 
 -- the input is served as one connection, and so much of it is left: what is written is the answers to its stream; and the
--- command ends as that ended, or because the store answers nothing any more
+-- command ends as that ended
 abbrev pub Applies : Option (List ℕ) → Option (List ℕ) → Option (List ℕ) → Option (List ℕ) → Content → Result Outcome RunFault → (Content → Type 0) → Type 0
-Applies input left old new c result Has = (ended : Ended) × Serves input left old new c ended Has × EndsAsServed ended.why result
+Applies input left old new c result Has = (ended : Ended) × Serves input left old new c ended Has × (result ≡ ending_of ended)
 
 -- the rows of a file of this kind are one request under the number, or nothing is delivered
 abbrev pub ImportsFile : FileKind → Option (List ℕ) → Number → Content → Result Reply ImportFault → (Content → Type 0) → Type 0

@@ -1,12 +1,12 @@
 -- How a command ends, by what it met.
-use Rattle.std.specs.Prelude.{◌≡◌, ◌⊎◌, Result, Ok, Err}
-use Rattle.std.specs.Result.{IsOk}
+use Rattle.std.specs.Prelude.{◌≡◌, Result, Ok, Err, if◌then◌else◌}
 use Rattle.ee_value.specs.declared.faults.ValueFault.{ValueFault}
 use Rattle.ee_value.specs.declared.faults.ValueFault.TheVariants as value
 use Rattle.ee_acts.specs.declared.refusals.Unserved.{Unserved}
 use Rattle.ee_acts.specs.declared.refusals.Unserved.TheVariants as unserved
 use Rattle.ee_acts.specs.declared.replies.Reply.{Reply}
 use Rattle.ee_acts.specs.declared.replies.Reply.TheVariants as reply
+use Rattle.ee_counter.specs.declared.connections.Ended.{Ended}
 use Rattle.ee_counter.specs.declared.connections.Why.{Why}
 use Rattle.ee_counter.specs.declared.connections.Why.TheVariants as why
 use Rattle.ee_counter.specs.declared.files.ImportFault.{ImportFault}
@@ -38,19 +38,20 @@ outcome_of (reply.Ticket ticket) = Done
 outcome_of (reply.Batch batch) = Done
 outcome_of (reply.Refused refusal) = Refused
 
--- how serving one connection ends a command: a framing fault was answered, and is a refusal
-abbrev pub ending_of : Why → Result Outcome RunFault
-ending_of why.Closed = Ok Done
-ending_of why.Asked = Ok Done
-ending_of why.Limit = Ok Done
-ending_of (why.Fault cause) = Ok Refused
-ending_of why.ReadFailed = Err fault.Device
-ending_of why.WriteFailed = Err fault.Device
-ending_of why.NoMemory = Err fault.NoMemory
+-- how serving one connection ends a command whose answers don't tell that the store failed: a framing fault was answered,
+-- and is a refusal
+abbrev pub ending_by : Why → Result Outcome RunFault
+ending_by why.Closed = Ok Done
+ending_by why.Asked = Ok Done
+ending_by why.Limit = Ok Done
+ending_by (why.Fault cause) = Ok Refused
+ending_by why.ReadFailed = Err fault.Device
+ending_by why.WriteFailed = Err fault.Device
+ending_by why.NoMemory = Err fault.NoMemory
 
--- so it ends the command; or, where it did not fail, the store answers nothing any more
-abbrev pub EndsAsServed : Why → Result Outcome RunFault → Type 0
-EndsAsServed cause result = (result ≡ ending_of cause) ⊎ (IsOk (ending_of cause) × (result ≡ Err (fault.Store StoreFailed)))
+-- where an answer told that the store failed, the command ends by that
+abbrev pub ending_of : Ended → Result Outcome RunFault
+ending_of e = if e.store_failed then Err (fault.Store StoreFailed) else ending_by e.why
 
 -- it is told that the store failed only where that may be
 abbrev pub TellsFailureOnlyIf : Type 0 → Result Outcome RunFault → Type 0

@@ -5,18 +5,17 @@ ghost use Rattle.ee_acts.specs.Repeats.{Content};
 ghost use Rattle.ee_actions.specs.Actions.{Applies};
 ghost use Rattle.ee_actions.specs.Endings.{TellsFailureOnlyIf, ending_of};
 
-use crate::asking::store_answers;
-use crate::faults::{Outcome, RunFault};
-use ee_counter::{Why, serve};
+use crate::faults::{Outcome, RunFault, StoreFault};
+use ee_counter::{Ended, Why, serve};
 use ee_keeper::Keeper;
 use std::alloc::Global;
 use std::io::{Read, Write};
 
 /// Serves the input as one connection, and writes the answers to the output. It is done where the input
 /// ends between two messages, where a message asks to close, and after 1,000 messages; it is refused where
-/// the bytes are no message, which is answered. Where a device failed it is `Device`, where memory was
-/// refused `NoMemory`: the last message may then have been decided without a whole answer. Else it is
-/// `StoreFailed` where the store answers nothing any more, as one that a fault has shut.
+/// the bytes are no message, which is answered. Where an answer told that the store failed it is
+/// `StoreFailed`, however serving ended. Else, where a device failed it is `Device`, and where memory was
+/// refused `NoMemory`: the last message may then have been decided without a whole answer.
 pub fn apply_to<K: Keeper, R: Read, W: Write>(
     alloc: Global,
     keeper: &mut K,
@@ -29,15 +28,16 @@ pub fn apply_to<K: Keeper, R: Read, W: Write>(
     ensures failed { TellsFailureOnlyIf K.may_fail result }
 {
     let ended = serve(alloc, keeper, input, output);
-    let outcome = ending(ended.why)?;
-    store_answers(keeper)?;
-    Ok(outcome)
+    ending(ended)
 }
 
-fn ending(why: Why) -> Result<Outcome, RunFault>
-    ensures { result ≡ ending_of why }
+fn ending(ended: Ended) -> Result<Outcome, RunFault>
+    ensures { result ≡ ending_of ended }
 {
-    match why {
+    if ended.store_failed {
+        return Err(RunFault::Store(StoreFault::StoreFailed));
+    }
+    match ended.why {
         Why::Closed | Why::Asked | Why::Limit => Ok(Outcome::Done),
         Why::Fault(_) => Ok(Outcome::Refused),
         Why::ReadFailed | Why::WriteFailed => Err(RunFault::Device),

@@ -1,10 +1,13 @@
 //! The commands `import` and `export`.
 
-ghost use Rattle.std.specs.Prelude.{◌≡◌, ◌++◌, ◌∷◌, [], Ok, IfOk, string_bytes};
+ghost use Rattle.std.specs.Prelude.{◌≡◌, ◌++◌, ◌∷◌, [], Ok, Err, IfOk, IfErr, string_bytes};
 ghost use Rattle.ee_acts.specs.Repeats.{Content};
+ghost use Rattle.ee_acts.specs.declared.refusals.Unserved.TheVariants.{StoreFailed};
 ghost use Rattle.ee_actions.specs.Actions.{ExportsFrom, ImportsFile, ImportsInto, TellsReply};
-ghost use Rattle.ee_actions.specs.Endings.{outcome_of};
+ghost use Rattle.ee_actions.specs.Endings.{TellsFailureOnlyIf, outcome_of};
 ghost use Rattle.ee_actions.specs.Printed.{reply_line};
+ghost use Rattle.ee_actions.specs.declared.faults.StoreFault.TheVariants as store;
+ghost use Rattle.ee_actions.specs.declared.faults.RunFault.TheVariants.{Store};
 
 use crate::faults::{Outcome, RunFault};
 use crate::printing::print;
@@ -32,6 +35,7 @@ pub fn import_into<K: Keeper, R: Read, W: Write>(
     ensures clean { K.is_clean keeper.new → K.is_clean keeper.old }
     ensures imports { K.is_clean keeper.new → (c : Content) → K.has keeper.old c
         → ImportsInto kind (R.remaining file.old) (W.contents output.old) (W.contents output.new) number c result (K.has keeper.new) }
+    ensures failed { TellsFailureOnlyIf K.may_fail result }
 {
     let answer = import_file(alloc, keeper, kind, number, file);
     tell(alloc, answer, output)
@@ -47,6 +51,7 @@ fn import_file<K: Keeper, R: Read>(
     ensures clean { K.is_clean keeper.new → K.is_clean keeper.old }
     ensures imports { K.is_clean keeper.new → (c : Content) → K.has keeper.old c
         → ImportsFile kind (R.remaining file.old) number c result (K.has keeper.new) }
+    ensures failed { IfErr result (λ fault. fault ≡ ImportFault.Unserved StoreFailed → K.may_fail) }
 {
     match kind {
         FileKind::Rates => import_rates(alloc, keeper, number, file),
@@ -60,7 +65,8 @@ fn tell<W: Write>(
     answer: Result<Reply, ImportFault>,
     output: &mut W,
 ) -> Result<Outcome, RunFault>
-    ensures { TellsReply (W.contents output.old) (W.contents output.new) answer result }
+    ensures told { TellsReply (W.contents output.old) (W.contents output.new) answer result }
+    ensures failed { result ≡ Err (Store store.StoreFailed) → answer ≡ Err (ImportFault.Unserved StoreFailed) }
 {
     match answer {
         Ok(reply) => tell_reply(alloc, &reply, output),
@@ -105,6 +111,7 @@ pub fn export_from<K: Keeper, W: Write>(
     ensures clean { K.is_clean keeper.new → K.is_clean keeper.old }
     ensures exports { K.is_clean keeper.new → (c : Content) → K.has keeper.old c
         → ExportsFrom (W.contents output.old) (W.contents output.new) customer c result (K.has keeper.new) }
+    ensures failed { TellsFailureOnlyIf K.may_fail result }
     ensures done { IfOk result (λ outcome. outcome ≡ Outcome.Done) }
 {
     match export_inventory(alloc, keeper, customer, output) {

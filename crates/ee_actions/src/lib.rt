@@ -2,7 +2,6 @@
 #![tactic(auto)]
 
 mod applying;
-mod asking;
 mod faults;
 mod filing;
 mod patience;

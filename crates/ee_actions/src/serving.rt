@@ -1,13 +1,12 @@
 //! The command `serve`.
 
-ghost use Rattle.std.specs.Prelude.{◌≡◌, ◌⊎◌, IfOk, IfErr, string_bytes};
+ghost use Rattle.std.specs.Prelude.{◌≡◌, ◌⊎◌, true, IfOk, IfErr, string_bytes};
 ghost use Rattle.ee_acts.specs.Repeats.{Content};
 ghost use Rattle.ee_actions.specs.Connections.{PrintsLine, ServesAll, ServesNext, ServesSocket};
 ghost use Rattle.ee_actions.specs.Endings.{TellsFailureOnlyIf};
 ghost use Rattle.ee_actions.specs.Printed.{connection_line};
 
-use crate::asking::store_answers;
-use crate::faults::{Outcome, RunFault};
+use crate::faults::{Outcome, RunFault, StoreFault};
 use crate::patience::Patient;
 use crate::printing::print;
 use crate::reasons::Reason;
@@ -23,8 +22,8 @@ use std::time::{Clock, Duration};
 /// of what ended it. However a connection ends, the next one is served. A message that doesn't come whole
 /// within `patience`, and an answer that isn't taken within it, end the connection by `ReadFailed` and
 /// `WriteFailed`. Serving ends early where no connection could be accepted or a line not be written (`Device`),
-/// where memory was refused to a line (`NoMemory`), or where the store answers nothing any more
-/// (`StoreFailed`), as one that a fault has shut.
+/// where memory was refused to a line (`NoMemory`), or after a connection of which an answer told that the
+/// store failed (`StoreFailed`), whose line is printed.
 pub fn serve_on<C: Clock, K: Keeper, W: Write>(
     clock: &C,
     alloc: Global,
@@ -43,7 +42,9 @@ pub fn serve_on<C: Clock, K: Keeper, W: Write>(
     for connection in 0..connections {
         let ended = serve_next(clock, alloc, keeper, listener, patience)?;
         tell(alloc, connection + 1, ended, output)?;
-        store_answers(keeper)?;
+        if ended.store_failed {
+            return Err(RunFault::Store(StoreFault::StoreFailed));
+        }
     }
     Ok(Outcome::Done)
 }
@@ -58,6 +59,7 @@ fn serve_next<C: Clock, K: Keeper>(
 ) -> Result<Ended, RunFault>
     ensures clean { K.is_clean keeper.new → K.is_clean keeper.old }
     ensures serves { K.is_clean keeper.new → (c : Content) → K.has keeper.old c → ServesNext c result (K.has keeper.new) }
+    ensures failed { IfOk result (λ ended. ended.store_failed ≡ true → K.may_fail) }
     ensures device { IfErr result (λ fault. fault ≡ RunFault.Device) }
 {
     match listener.accept() {
@@ -75,6 +77,7 @@ fn serve_stream<C: Clock, K: Keeper>(
 ) -> Ended
     ensures clean { K.is_clean keeper.new → K.is_clean keeper.old }
     ensures serves { K.is_clean keeper.new → (c : Content) → K.has keeper.old c → ServesSocket c result (K.has keeper.new) }
+    ensures failed { result.store_failed ≡ true → K.may_fail }
 {
     let patient = Patient::new(clock, stream, patience);
     let ended = serve_patient(alloc, keeper, &patient);
@@ -91,6 +94,7 @@ fn serve_patient<'c, 's, C: Clock, K: Keeper>(
 ) -> Ended
     ensures clean { K.is_clean keeper.new → K.is_clean keeper.old }
     ensures serves { K.is_clean keeper.new → (c : Content) → K.has keeper.old c → ServesSocket c result (K.has keeper.new) }
+    ensures failed { result.store_failed ≡ true → K.may_fail }
 {
     let mut reader = patient;
     let mut writer = patient;

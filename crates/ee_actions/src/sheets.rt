@@ -1,8 +1,12 @@
 //! The command `sheet`.
 
-ghost use Rattle.std.specs.Prelude.{◌≡◌, IfOk};
+ghost use Rattle.std.specs.Prelude.{◌≡◌, Err, IfOk};
 ghost use Rattle.ee_acts.specs.Repeats.{Content};
+ghost use Rattle.ee_acts.specs.declared.refusals.Unserved.TheVariants.{StoreFailed};
 ghost use Rattle.ee_actions.specs.Actions.{ShowsSheet, TellsSheet};
+ghost use Rattle.ee_actions.specs.Endings.{TellsFailureOnlyIf};
+ghost use Rattle.ee_actions.specs.declared.faults.StoreFault.TheVariants as store;
+ghost use Rattle.ee_actions.specs.declared.faults.RunFault.TheVariants.{Store};
 
 use crate::faults::{Outcome, RunFault};
 use ee_acts::Unserved;
@@ -23,6 +27,7 @@ pub fn sheet_of<K: Keeper, W: Write>(
     ensures shows { K.is_clean keeper.new → (c : Content) → K.has keeper.old c
         → ShowsSheet (W.contents output.old) (W.contents output.new) customer month c result (K.has keeper.new c) }
     ensures done { IfOk result (λ outcome. outcome ≡ Outcome.Done) }
+    ensures failed { TellsFailureOnlyIf K.may_fail result }
 {
     let shown = keeper.inventory(customer, month);
     tell(shown, output)
@@ -31,6 +36,7 @@ pub fn sheet_of<K: Keeper, W: Write>(
 fn tell<W: Write>(shown: Result<Sheet, Unserved>, output: &mut W) -> Result<Outcome, RunFault>
     ensures told { TellsSheet (W.contents output.old) (W.contents output.new) shown result }
     ensures done { IfOk result (λ outcome. outcome ≡ Outcome.Done) }
+    ensures failed { result ≡ Err (Store store.StoreFailed) → shown ≡ Err StoreFailed }
 {
     match shown {
         Ok(sheet) => match write_sheet(&sheet, output) {

@@ -16,7 +16,7 @@ mod terms;
 pub use acts::{Act, Request};
 pub use changes::{Change, Effects, Held, Kept};
 pub use ee_value::RateRow;
-pub use laws::{acts_keep_sound, one_view, same_acts, shows_own_bonds_alone};
+pub use laws::{acts_keep_sound, one_view, same_acts, shows_own_bonds_alone, view_decides};
 pub use numbers::Number;
 pub use ranges::in_range;
 pub use refusals::{Refusal, Unserved};

@@ -2,16 +2,20 @@
 #![tactic(auto)]
 
 use ee_program::{StoreFiles, refuse_words, run_words};
+use sqlite::Unknown;
 use std::io;
 use std::process::ExitCode;
 
 fn main(rt: HostRuntime) -> ExitCode {
     let status = match words(&rt) {
         Ok(words) => {
-            let stores = StoreFiles { rt: &rt };
+            let stores = StoreFiles {
+                rt: &rt,
+                start: Unknown,
+            };
             run_words(
                 &rt,
-                &stores,
+                stores,
                 words.as_slice(),
                 &mut rt.stdin(),
                 &mut rt.stdout(),

@@ -1,5 +1,5 @@
 -- Answers to a message.
-use Rattle.std.proofs.Common.{◌≡◌, List, ℕ, subst, Result, Ok, Err}
+use Rattle.std.proofs.Common.{◌≡◌, ◌||◌, Bool, true, false, List, ℕ, refl, subst, Result, Ok, Err}
 use Rattle.ee_acts.specs.Repeats.{Content}
 use Rattle.ee_framing.specs.Framing.{Message}
 use Rattle.ee_calls.specs.Calls.{decoded}
@@ -37,3 +37,8 @@ pub of_parts : (m : Message) (target method body : List ℕ) (c : Content) (answ
     → Answers c (decoded target method body) answer Has → Answers c (call_of m) answer Has
 of_parts m target method body c answer Has x y z =
     subst (λ (asked : Result Call WireFault). Answers c asked answer Has) (λ i. decoded (x i) (y i) (z i))
+
+-- of one of two or the other the same follows
+pub either : (a b : Bool) (P : Type 0) → (a ≡ true → P) → (b ≡ true → P) → (a || b) ≡ true → P
+either true b P x y is = x refl
+either false b P x y is = y is

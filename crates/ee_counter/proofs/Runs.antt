@@ -1,5 +1,6 @@
 -- A run over any keeper, one request more.
 use Rattle.std.proofs.Common.{◌≡◌, ℕ, ◌+◌, ◌<◌, List, [], ◌∷◌, ◌++◌, length, take, get_or, Result, Ok, Err, refl, subst}
+use Rattle.std.specs.List.{AllByRecursion}
 use Rattle.ee_acts.specs.declared.acts.Request.{Request}
 use Rattle.ee_acts.specs.declared.replies.Reply.{Reply}
 use Rattle.ee_acts.specs.declared.refusals.Unserved.{Unserved}
@@ -21,3 +22,8 @@ one_more S all i q told more (Err e) Has h at push answers d =
     let T = content_after S (served (take i all) told) in
     let t = run_turn S all i q told more (Err e) T T h at push answers refl tt tt refl in
     (t.0, subst Has t.1 d)
+
+-- what holds of all and of one more holds of all with it
+pub all_more : {A : Type 0} (P : A → Type 0) (xs : List A) (x : A) → AllByRecursion P xs → P x → AllByRecursion P (xs ++ x ∷ [])
+all_more P [] x all one = (one, tt)
+all_more P (y ∷ xs) x all one = (all.0, all_more P xs x all.1 one)

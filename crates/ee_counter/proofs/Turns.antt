@@ -1,5 +1,5 @@
 -- One turn of a connection after another.
-use Rattle.std.proofs.Common.{◌≡◌, ℕ, ◌+◌, ◌<◌, Bool, true, false, List, [], ◌∷◌, ◌++◌, length, Option, Some, None, Ok, Err, refl, sym, ap, subst, ◌∙◌, arith, append_assoc, append-nil, length-append, inl, inr}
+use Rattle.std.proofs.Common.{◌≡◌, ℕ, ◌+◌, ◌<◌, ◌||◌, Bool, true, false, ControlFlow, Continue, Break, List, [], ◌∷◌, ◌++◌, length, Option, Some, None, Ok, Err, refl, sym, ap, subst, ◌∙◌, arith, append_assoc, append-nil, length-append, inl, inr}
 use Rattle.std.specs.List.{AllByRecursion}
 use Rattle.std.specs.Io.KnownBytes.{Appends, Consumes}
 use Rattle.std.proofs.KnownBytes.{Appends-nil, Appends-trans, Consumes-nil, Consumes-trans}
@@ -19,7 +19,7 @@ use Rattle.ee_framing.specs.declared.FramingFault.{FramingFault}
 use Rattle.ee_counter.specs.declared.connections.Ended.{Ended}
 use Rattle.ee_counter.specs.declared.connections.Why.{Why}
 use Rattle.ee_counter.specs.declared.connections.Why.TheVariants.{Closed, Asked, Limit, Fault, ReadFailed, WriteFailed, NoMemory}
-use Rattle.ee_counter.specs.Serving.{Told, left_by, is_last, text_of, texts, left_by_all, AreRight, AnswersOne, Turns, fault_text, RefusesBy, EndsBy, messages, SoFar, Serves}
+use Rattle.ee_counter.specs.Serving.{Told, left_by, is_last, text_of, texts, left_by_all, AreRight, AnswersOne, Turns, fault_text, RefusesBy, EndsBy, Ends, messages, SoFar, Serves, told_failure, any_told_failure}
 
 -- a text that was written whole
 pub whole : (text : List ℕ) (old new : Option (List ℕ)) → WritesFront old new text true → Appends old new text
@@ -36,49 +36,52 @@ held_is was is got none all = sym (ap (λ l. l ++ is.held) none) ∙ all
 
 -- ---- what a call of `next_message` leads to
 
-pub turn_told : (was is : Stream) (before after old new : Option (List ℕ)) (m : parts.Message) (c : Content) (n : ℕ) (r : Option Ended) (Has : Content → Type 0)
-    → Takes was before is after → Settles (Ok (next.Message m)) is after → AnswersOne (message_in is.shown m) old new c n r Has
-    → Turns was.held is.held before after old new c n r Has
-turn_told was is before after old new m c n None Has (got, took, all) at p =
-    (got, took, (record { message = message_in is.shown m; answer = p.0 }, subst (λ l. BeginsMessage l (message_in is.shown m) is.held) all at, p.1.0, p.1.1, p.2, p.3))
-turn_told was is before after old new m c n (Some e) Has (got, took, all) at p =
+pub turn_told : (was is : Stream) (before after old new : Option (List ℕ)) (m : parts.Message) (c : Content) (n : ℕ) (failed : Bool) (r : ControlFlow Ended Bool) (Has : Content → Type 0)
+    → Takes was before is after → Settles (Ok (next.Message m)) is after → AnswersOne (message_in is.shown m) old new c n failed r Has
+    → Turns was.held is.held before after old new c n failed r Has
+turn_told was is before after old new m c n failed (Continue now) Has (got, took, all) at p = (
+  got,
+  took,
+  (record { message = message_in is.shown m; answer = p.0 }, subst (λ l. BeginsMessage l (message_in is.shown m) is.held) all at, p.1.0, p.1.1, p.2, p.3, p.4),
+)
+turn_told was is before after old new m c n failed (Break e) Has (got, took, all) at p =
     (got, took, p (was.held ++ got) is.held after (subst (λ l. BeginsMessage l (message_in is.shown m) is.held) all at))
 
-pub turn_closed : (was is : Stream) (before after wrote : Option (List ℕ)) (c : Content) (n : ℕ) (Has : Content → Type 0)
+pub turn_closed : (was is : Stream) (before after wrote : Option (List ℕ)) (c : Content) (n : ℕ) (failed : Bool) (Has : Content → Type 0)
     → Takes was before is after → Settles (Ok next.End) is after → Has c
-    → Turns was.held is.held before after wrote wrote c n (Some (record { messages = n; why = Closed })) Has
-turn_closed was is before after wrote c n Has (got, took, all) s has =
-    (got, took, (subst (λ l. EndsWith l end) (held_is was is got s.0 all) s.1, s.2, Appends-nil wrote, refl, has))
+    → Turns was.held is.held before after wrote wrote c n failed (Break (record { messages = n; store_failed = failed; why = Closed })) Has
+turn_closed was is before after wrote c n failed Has (got, took, all) s has =
+    (got, took, (None, refl, (subst (λ l. EndsWith l end) (held_is was is got s.0 all) s.1, s.2, Appends-nil wrote, refl, has)))
 
-pub turn_failed : (was is : Stream) (before after wrote : Option (List ℕ)) (c : Content) (n : ℕ) (Has : Content → Type 0)
+pub turn_failed : (was is : Stream) (before after wrote : Option (List ℕ)) (c : Content) (n : ℕ) (failed : Bool) (Has : Content → Type 0)
     → Takes was before is after → Settles (Err wire.ReadFailed) is after → Has c
-    → Turns was.held is.held before after wrote wrote c n (Some (record { messages = n; why = ReadFailed })) Has
-turn_failed was is before after wrote c n Has (got, took, all) s has =
-    (got, took, (subst NeedsMore (held_is was is got s.0 all) s.1, Appends-nil wrote, refl, has))
+    → Turns was.held is.held before after wrote wrote c n failed (Break (record { messages = n; store_failed = failed; why = ReadFailed })) Has
+turn_failed was is before after wrote c n failed Has (got, took, all) s has =
+    (got, took, (None, refl, (subst NeedsMore (held_is was is got s.0 all) s.1, Appends-nil wrote, refl, has)))
 
-pub turn_starved : (was is : Stream) (before after wrote : Option (List ℕ)) (c : Content) (n : ℕ) (Has : Content → Type 0)
+pub turn_starved : (was is : Stream) (before after wrote : Option (List ℕ)) (c : Content) (n : ℕ) (failed : Bool) (Has : Content → Type 0)
     → Takes was before is after → Settles (Err wire.NoMemory) is after → Has c
-    → Turns was.held is.held before after wrote wrote c n (Some (record { messages = n; why = NoMemory })) Has
-turn_starved was is before after wrote c n Has (got, took, all) s has =
-    (got, took, (Appends-nil wrote, refl, inl (subst NeedsMore (held_is was is got s.0 all) s.1, has)))
+    → Turns was.held is.held before after wrote wrote c n failed (Break (record { messages = n; store_failed = failed; why = NoMemory })) Has
+turn_starved was is before after wrote c n failed Has (got, took, all) s has =
+    (got, took, (None, refl, (Appends-nil wrote, refl, inl (subst NeedsMore (held_is was is got s.0 all) s.1), has)))
 
 -- a fault that was answered, or not
 refused : (why : Why) (f : FramingFault) (bytes : List ℕ) (remaining old new : Option (List ℕ)) (c : Content) (n count : ℕ) (Has : Content → Type 0)
-    → ShowsFault bytes remaining f → RefusesBy why f old new n count → Has c → EndsBy why bytes remaining old new c n count Has
+    → ShowsFault bytes remaining f → RefusesBy why f old new n count → Has c → EndsBy why None bytes remaining old new c n count Has
 refused (Fault g) f bytes remaining old new c n count Has fault r has =
     (subst (ShowsFault bytes remaining) (sym r.0) fault, subst (λ x. Appends old new (fault_text x)) (sym r.0) r.1, r.2, has)
-refused WriteFailed f bytes remaining old new c n count Has fault r has = (r.1, inr (f, fault, r.0, has))
-refused NoMemory f bytes remaining old new c n count Has fault r has = (r.0, r.1, inr (inl (f, fault, has)))
+refused WriteFailed f bytes remaining old new c n count Has fault r has = (r.1, (f, fault, r.0), has)
+refused NoMemory f bytes remaining old new c n count Has fault r has = (r.0, r.1, inr (f, fault), has)
 refused Closed f bytes remaining old new c n count Has fault r has = absurd r
 refused Asked f bytes remaining old new c n count Has fault r has = absurd r
 refused Limit f bytes remaining old new c n count Has fault r has = absurd r
 refused ReadFailed f bytes remaining old new c n count Has fault r has = absurd r
 
-pub turn_refused : (was is : Stream) (before after old new : Option (List ℕ)) (f : FramingFault) (c : Content) (n : ℕ) (e : Ended) (Has : Content → Type 0)
-    → Takes was before is after → Settles (Err (wire.Fault f)) is after → RefusesBy e.why f old new n e.messages → Has c
-    → Turns was.held is.held before after old new c n (Some e) Has
-turn_refused was is before after old new f c n e Has (got, took, all) s r has =
-    (got, took, refused e.why f (was.held ++ got) after old new c n e.messages Has (subst (λ l. ShowsFault l after f) (held_is was is got s.0 all) s.1) r has)
+pub turn_refused : (was is : Stream) (before after old new : Option (List ℕ)) (f : FramingFault) (c : Content) (n : ℕ) (failed : Bool) (e : Ended) (Has : Content → Type 0)
+    → Takes was before is after → Settles (Err (wire.Fault f)) is after → RefusesBy e.why f old new n e.messages → e.store_failed ≡ failed → Has c
+    → Turns was.held is.held before after old new c n failed (Break e) Has
+turn_refused was is before after old new f c n failed e Has (got, took, all) s r as_before has =
+    (got, took, (None, as_before, refused e.why f (was.held ++ got) after old new c n e.messages Has (subst (λ l. ShowsFault l after f) (held_is was is got s.0 all) s.1) r has))
 
 -- ---- one more at the end
 
@@ -119,6 +122,17 @@ none_more (x ∷ ts) t all quiet = (all.0, none_more ts t all.1 quiet)
 length_more : (ts : List Told) (t : Told) (n : ℕ) → length ts ≡ n → length (ts ++ t ∷ []) ≡ n + 1
 length_more ts t n is = omega (arith, length-append ts (t ∷ []), is)
 
+-- whether one of them told that the store failed
+failed_more : (ts : List Told) (t : Told) → any_told_failure (ts ++ t ∷ []) ≡ (told_failure t || any_told_failure ts)
+failed_more [] t = refl
+failed_more (x ∷ ts) t = ap (λ b. told_failure x || b) (failed_more ts t) ∙ swap (told_failure x) (told_failure t) (any_told_failure ts)
+  where
+    swap : (a b c : Bool) → (a || (b || c)) ≡ (b || (a || c))
+    swap true true c = refl
+    swap true false c = refl
+    swap false true c = refl
+    swap false false c = refl
+
 -- more bytes were read
 so_far_read : (bytes held got : List ℕ) (old new : Option (List ℕ)) (c : Content) (ts : List Told) → SoFar bytes held old new c ts → SoFar (bytes ++ got) (held ++ got) old new c ts
 so_far_read bytes held got old new c ts s = record {
@@ -138,23 +152,23 @@ so_far_more bytes rest others old mid new c ts t s at right quiet wrote = record
   wrote = subst (Appends old new) (sym (texts_at_end ts t)) (Appends-trans old mid new _ _ s.wrote wrote);
 }
 
--- so many messages were read and answered, and these bytes are held
-abbrev pub HasTold : Option (List ℕ) → Option (List ℕ) → List ℕ → Option (List ℕ) → Option (List ℕ) → Content → ℕ → (Content → Type 0) → Type 0
-HasTold before after held old new c n Has =
+-- so many messages were read and answered, and these bytes are held; and whether an answer told that the store failed
+abbrev pub HasTold : Option (List ℕ) → Option (List ℕ) → List ℕ → Option (List ℕ) → Option (List ℕ) → Content → ℕ → Bool → (Content → Type 0) → Type 0
+HasTold before after held old new c n failed Has =
     (bytes : List ℕ) × Consumes before after bytes
-    × ((told : List Told) × (length told ≡ n) × SoFar bytes held old new c told × Has (left_by_all c told))
+    × ((told : List Told) × (length told ≡ n) × (failed ≡ any_told_failure told) × SoFar bytes held old new c told × Has (left_by_all c told))
 
-pub none_told : (before wrote : Option (List ℕ)) (held : List ℕ) (c : Content) (Has : Content → Type 0) → held ≡ [] → Has c → HasTold before before held wrote wrote c 0 Has
+pub none_told : (before wrote : Option (List ℕ)) (held : List ℕ) (c : Content) (Has : Content → Type 0) → held ≡ [] → Has c → HasTold before before held wrote wrote c 0 false Has
 none_told before wrote held c Has none has =
-    ([], Consumes-nil before, ([], refl, record { begins = sym none; right = tt; none_asks = tt; wrote = Appends-nil wrote }, has))
+    ([], Consumes-nil before, ([], refl, refl, record { begins = sym none; right = tt; none_asks = tt; wrote = Appends-nil wrote }, has))
 
 -- one turn more
-pub turn_more : (before mid after old now new : Option (List ℕ)) (held others : List ℕ) (c : Content) (n : ℕ) (Has After : Content → Type 0)
-    → HasTold before mid held old now c n Has → ((d : Content) → Has d → Turns held others mid after now new d n None After)
-    → HasTold before after others old new c (n + 1) After
-turn_more before mid after old now new held others c n Has After (bytes, read, s) turn =
+pub turn_more : (before mid after old now new : Option (List ℕ)) (held others : List ℕ) (c : Content) (n : ℕ) (was failed : Bool) (Has After : Content → Type 0)
+    → HasTold before mid held old now c n was Has → ((d : Content) → Has d → Turns held others mid after now new d n was (Continue failed) After)
+    → HasTold before after others old new c (n + 1) failed After
+turn_more before mid after old now new held others c n was failed Has After (bytes, read, s) turn =
     let told = s.0 in
-    let x = turn (left_by_all c told) s.3 in
+    let x = turn (left_by_all c told) s.4 in
     let t = x.2 in
     let wrote = subst (λ k. Appends now new (text_of k t.0)) (sym s.1) t.5 in (
       bytes ++ x.0,
@@ -162,18 +176,20 @@ turn_more before mid after old now new held others c n Has After (bytes, read, s
       (
         told ++ t.0 ∷ [],
         length_more told t.0 n s.1,
-        so_far_more (bytes ++ x.0) (held ++ x.0) others old now new c told t.0 (so_far_read bytes held x.0 old now c told s.2) t.1 t.2 t.4 wrote,
+        t.6 ∙ ap (λ b. told_failure t.0 || b) s.2 ∙ sym (failed_more told t.0),
+        so_far_more (bytes ++ x.0) (held ++ x.0) others old now new c told t.0 (so_far_read bytes held x.0 old now c told s.3) t.1 t.2 t.4 wrote,
         subst After (sym (left_more c told t.0)) t.3,
       ),
     )
 
 -- the last turn
-pub serves_ended : (before mid after old now new : Option (List ℕ)) (held others : List ℕ) (c : Content) (n : ℕ) (e : Ended) (Has After : Content → Type 0)
-    → HasTold before mid held old now c n Has → n < 1000 → ((d : Content) → Has d → Turns held others mid after now new d n (Some e) After)
+pub serves_ended : (before mid after old now new : Option (List ℕ)) (held others : List ℕ) (c : Content) (n : ℕ) (was : Bool) (e : Ended) (Has After : Content → Type 0)
+    → HasTold before mid held old now c n was Has → n < 1000 → ((d : Content) → Has d → Turns held others mid after now new d n was (Break e) After)
     → Serves before after old new c e After
-serves_ended before mid after old now new held others c n e Has After (bytes, read, s) few turn =
+serves_ended before mid after old now new held others c n was e Has After (bytes, read, s) few turn =
     let told = s.0 in
-    let x = turn (left_by_all c told) s.3 in
+    let x = turn (left_by_all c told) s.4 in
+    let so = subst (λ b. Ends e b (held ++ x.0) after now new (left_by_all c told) n After) s.2 x.2 in
     record {
       bytes = bytes ++ x.0;
       read = Consumes-trans before mid after bytes x.0 read x.1;
@@ -181,20 +197,21 @@ serves_ended before mid after old now new held others c n e Has After (bytes, re
       few = inl (subst (λ k. k < 1000) (sym s.1) few);
       rest = held ++ x.0;
       wrote = now;
-      so_far = so_far_read bytes held x.0 old now c told s.2;
-      ends = subst (λ k. EndsBy e.why (held ++ x.0) after now new (left_by_all c told) k e.messages After) (sym s.1) x.2;
+      so_far = so_far_read bytes held x.0 old now c told s.3;
+      ends = subst (λ k. Ends e (any_told_failure told) (held ++ x.0) after now new (left_by_all c told) k After) (sym s.1) so;
     }
 
 -- no turn more
-pub serves_limit : (before after old new : Option (List ℕ)) (held : List ℕ) (c : Content) (n : ℕ) (Has : Content → Type 0)
-    → n ≡ 1000 → HasTold before after held old new c n Has → Serves before after old new c (record { messages = 1000; why = Limit }) Has
-serves_limit before after old new held c n Has limit (bytes, read, s) = record {
+pub serves_limit : (before after old new : Option (List ℕ)) (held : List ℕ) (c : Content) (n : ℕ) (failed : Bool) (Has : Content → Type 0)
+    → n ≡ 1000 → HasTold before after held old new c n failed Has
+    → Serves before after old new c (record { messages = 1000; store_failed = failed; why = Limit }) Has
+serves_limit before after old new held c n failed Has limit (bytes, read, s) = record {
   bytes = bytes;
   read = read;
   told = s.0;
   few = inr (refl, s.1 ∙ limit);
   rest = held;
   wrote = new;
-  so_far = s.2;
-  ends = (s.1 ∙ limit, Appends-nil new, sym (s.1 ∙ limit), s.3);
+  so_far = s.3;
+  ends = (None, s.2, (s.1 ∙ limit, Appends-nil new, sym (s.1 ∙ limit), s.4));
 }

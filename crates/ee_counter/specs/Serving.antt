@@ -1,8 +1,12 @@
 -- What serving a connection writes, and what it leaves (this project's rule).
 use Rattle.std.specs.Prelude.{◌≡◌, ℕ, ◌+◌, ◌<◌, ◌⊎◌, ◌==◌, ◌||◌, Bool, true, false, List, [], ◌∷◌, ◌++◌, length, map, Option, Some, None, Result, Ok, Err, ⊤}
-use Rattle.std.specs.List.{AllByRecursion}
+use Rattle.std.specs.List.{AllByRecursion, list_any}
+use Rattle.std.specs.Option.{option_map_or}
+use Rattle.std.specs.declared.ops.ControlFlow.{ControlFlow}
+use Rattle.std.specs.declared.ops.ControlFlow.TheVariants.{Continue, Break}
 use Rattle.std.specs.Io.KnownBytes.{Appends, Consumes, IsAtEnd}
 use Rattle.ee_acts.specs.declared.acts.Request.{Request}
+use Rattle.ee_acts.specs.declared.refusals.Unserved.TheVariants.{StoreFailed}
 use Rattle.ee_acts.specs.Repeats.{Content}
 use Rattle.ee_framing.specs.declared.FramingFault.{FramingFault}
 use Rattle.ee_framing.specs.Framing.{Message, BeginsMessage, BeginsMessages, EndsWith, end}
@@ -70,6 +74,20 @@ abbrev pub requests_in : List Told → List Request
 requests_in [] = []
 requests_in (t ∷ ts) = request_in (call_of t.message) t.answer ++ requests_in ts
 
+-- ---- a store that failed
+
+-- whether an answer tells that the store failed
+abbrev pub tells_failure : Answer → Bool
+tells_failure (told.Unserved StoreFailed) = true
+tells_failure answer = false
+
+abbrev pub told_failure : Told → Bool
+told_failure t = tells_failure t.answer
+
+-- whether one of the answers tells that
+abbrev pub any_told_failure : List Told → Bool
+any_told_failure told = list_any told_failure told
+
 -- ---- the end, at a content c after n answers
 
 -- the answer to a framing fault
@@ -85,41 +103,45 @@ abbrev pub Tells : Told → List ℕ → Content → (Content → Type 0) → Ty
 Tells t bytes c Has =
     ((after : List ℕ) × BeginsMessage bytes t.message after) × IsRight c (call_of t.message) t.answer × Has (left_by c t)
 
--- how the connection ends, by its cause: the bytes that were read and not answered, those that the reader has left, what
--- was written before and after, the content and the count of answers before, and the count after
-abbrev pub EndsBy : Why → List ℕ → Option (List ℕ) → Option (List ℕ) → Option (List ℕ) → Content → ℕ → ℕ → (Content → Type 0) → Type 0
+-- how the connection ends, by its cause: the message whose answer ended it, if one did, the bytes that were read and not
+-- answered, those that the reader has left, what was written before and after, the content and the count of answers before,
+-- and the count after
+abbrev pub EndsBy : Why → Option Told → List ℕ → Option (List ℕ) → Option (List ℕ) → Option (List ℕ) → Content → ℕ → ℕ → (Content → Type 0) → Type 0
 -- every byte was answered, and none is left
-EndsBy Closed bytes remaining old new c n count Has = EndsWith bytes end × IsAtEnd remaining × Appends old new [] × (count ≡ n) × Has c
-EndsBy Asked bytes remaining old new c n count Has =
-    (t : Told) × Tells t bytes c Has × (t.message.closes ≡ true) × Appends old new (text_of n t) × (count ≡ n + 1)
-EndsBy Limit bytes remaining old new c n count Has = (n ≡ 1000) × Appends old new [] × (count ≡ n) × Has c
-EndsBy (Fault f) bytes remaining old new c n count Has =
+EndsBy Closed None bytes remaining old new c n count Has = EndsWith bytes end × IsAtEnd remaining × Appends old new [] × (count ≡ n) × Has c
+EndsBy Asked (Some t) bytes remaining old new c n count Has =
+    Tells t bytes c Has × (t.message.closes ≡ true) × Appends old new (text_of n t) × (count ≡ n + 1)
+EndsBy Limit None bytes remaining old new c n count Has = (n ≡ 1000) × Appends old new [] × (count ≡ n) × Has c
+EndsBy (Fault f) None bytes remaining old new c n count Has =
     ShowsFault bytes remaining f × Appends old new (fault_text f) × (count ≡ n + 1) × Has c
 -- no whole message, and no fault, stands in the bytes that were read
-EndsBy ReadFailed bytes remaining old new c n count Has = NeedsMore bytes × Appends old new [] × (count ≡ n) × Has c
--- memory was refused to more bytes, to the answer to a fault, or to that to a message, which was answered: no byte of it was written
-EndsBy NoMemory bytes remaining old new c n count Has =
-    Appends old new [] × (count ≡ n)
-    × ((NeedsMore bytes × Has c) ⊎ ((f : FramingFault) × ShowsFault bytes remaining f × Has c) ⊎ ((t : Told) × Tells t bytes c Has))
+EndsBy ReadFailed None bytes remaining old new c n count Has = NeedsMore bytes × Appends old new [] × (count ≡ n) × Has c
+-- memory was refused to the answer to a message, which was answered: no byte of it was written
+EndsBy NoMemory (Some t) bytes remaining old new c n count Has = Appends old new [] × (count ≡ n) × Tells t bytes c Has
+-- or to more bytes, or to the answer to a fault
+EndsBy NoMemory None bytes remaining old new c n count Has =
+    Appends old new [] × (count ≡ n) × (NeedsMore bytes ⊎ ((f : FramingFault) × ShowsFault bytes remaining f)) × Has c
 -- the message whose answer was cut was answered
-EndsBy WriteFailed bytes remaining old new c n count Has =
-    (count ≡ n) × (((t : Told) × Tells t bytes c Has × CutsShort (text_of n t) old new)
-    ⊎ ((f : FramingFault) × ShowsFault bytes remaining f × CutsShort (fault_text f) old new × Has c))
+EndsBy WriteFailed (Some t) bytes remaining old new c n count Has = (count ≡ n) × Tells t bytes c Has × CutsShort (text_of n t) old new
+EndsBy WriteFailed None bytes remaining old new c n count Has =
+    (count ≡ n) × ((f : FramingFault) × ShowsFault bytes remaining f × CutsShort (fault_text f) old new) × Has c
+EndsBy _ _ bytes remaining old new c n count Has = ⊥
+
+-- the connection ends so; it says that the store failed where one of the answers before told that (was), or the last one
+abbrev pub Ends : Ended → Bool → List ℕ → Option (List ℕ) → Option (List ℕ) → Option (List ℕ) → Content → ℕ → (Content → Type 0) → Type 0
+Ends e was bytes remaining old new c n Has =
+    (last : Option Told) × (e.store_failed ≡ (option_map_or told_failure last false || was))
+    × EndsBy e.why last bytes remaining old new c n e.messages Has
 
 -- ---- one turn
 
--- the message m is answered, and the answer is written: all of it, a front of it, or nothing
-abbrev pub TellsOne : Message → Bool → Option (List ℕ) → Option (List ℕ) → Content → Result (Unit {0}) WriteEnd → (Content → Type 0) → Type 0
-TellsOne m closing old new c result Has =
-    (answer : Answer) × Answers c (call_of m) answer Has × WritesAnswer (answer_text answer closing) old new result
-
--- the message m is answered, and the connection goes on or ends
-abbrev pub AnswersOne : Message → Option (List ℕ) → Option (List ℕ) → Content → ℕ → Option Ended → (Content → Type 0) → Type 0
-AnswersOne m old new c n None Has =
+-- the message m is answered, and the connection goes on or ends; was says whether an answer before told that the store failed
+abbrev pub AnswersOne : Message → Option (List ℕ) → Option (List ℕ) → Content → ℕ → Bool → ControlFlow Ended Bool → (Content → Type 0) → Type 0
+AnswersOne m old new c n was (Continue failed) Has =
     (answer : Answer) × Answers c (call_of m) answer Has × (m.closes ≡ false)
-    × Appends old new (text_of n (record { message = m; answer = answer }))
-AnswersOne m old new c n (Some e) Has =
-    (bytes after : List ℕ) (remaining : Option (List ℕ)) → BeginsMessage bytes m after → EndsBy e.why bytes remaining old new c n e.messages Has
+    × Appends old new (text_of n (record { message = m; answer = answer })) × (failed ≡ (tells_failure answer || was))
+AnswersOne m old new c n was (Break e) Has =
+    (bytes after : List ℕ) (remaining : Option (List ℕ)) → BeginsMessage bytes m after → Ends e was bytes remaining old new c n Has
 
 -- the answer to the fault is written whole, or not
 abbrev pub RefusesBy : Why → FramingFault → Option (List ℕ) → Option (List ℕ) → ℕ → ℕ → Type 0
@@ -135,13 +157,18 @@ abbrev pub Refuses : FramingFault → Option (List ℕ) → Option (List ℕ) �
 Refuses f old new n e = RefusesBy e.why f old new n e.messages
 
 -- after these bytes some more may be read; then a message is answered, and others are left, or the connection ends
-abbrev pub Turns : List ℕ → List ℕ → Option (List ℕ) → Option (List ℕ) → Option (List ℕ) → Option (List ℕ) → Content → ℕ → Option Ended → (Content → Type 0) → Type 0
-Turns bytes others before after old new c n None Has =
+abbrev pub Turns : List ℕ → List ℕ → Option (List ℕ) → Option (List ℕ) → Option (List ℕ) → Option (List ℕ) → Content → ℕ → Bool → ControlFlow Ended Bool → (Content → Type 0) → Type 0
+Turns bytes others before after old new c n was (Continue failed) Has =
     (got : List ℕ) × Consumes before after got
     × ((t : Told) × BeginsMessage (bytes ++ got) t.message others × IsRight c (call_of t.message) t.answer × Has (left_by c t)
-    × (t.message.closes ≡ false) × Appends old new (text_of n t))
-Turns bytes others before after old new c n (Some e) Has =
-    (got : List ℕ) × Consumes before after got × EndsBy e.why (bytes ++ got) after old new c n e.messages Has
+    × (t.message.closes ≡ false) × Appends old new (text_of n t) × (failed ≡ (told_failure t || was)))
+Turns bytes others before after old new c n was (Break e) Has =
+    (got : List ℕ) × Consumes before after got × Ends e was (bytes ++ got) after old new c n Has
+
+-- it is told that the store failed only where that may be
+abbrev pub FlowFailsOnlyIf : Type 0 → ControlFlow Ended Bool → Type 0
+FlowFailsOnlyIf may_fail (Continue failed) = failed ≡ true → may_fail
+FlowFailsOnlyIf may_fail (Break e) = e.store_failed ≡ true → may_fail
 
 -- ---- whole connections
 
@@ -171,4 +198,4 @@ pub record Serves (before : Option (List ℕ)) (remaining : Option (List ℕ)) (
   pub rest : List ℕ
   pub wrote : Option (List ℕ)
   pub so_far : SoFar bytes rest old wrote c told
-  pub ends : EndsBy e.why rest remaining wrote new (left_by_all c told) (length told) e.messages Has
+  pub ends : Ends e (any_told_failure told) rest remaining wrote new (left_by_all c told) (length told) Has

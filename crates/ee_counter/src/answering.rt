@@ -1,11 +1,12 @@
 //! The answer to a message.
 
-ghost use Rattle.std.specs.Prelude.{◌≡◌, Ok};
+ghost use Rattle.std.specs.Prelude.{◌≡◌, true, false, Ok, IfOk};
 ghost use Rattle.ee_acts.specs.Repeats.{Content};
 ghost use Rattle.ee_calls.specs.Calls.{decoded};
 ghost use Rattle.ee_calls.specs.declared.calls.Call.TheVariants as call;
-ghost use Rattle.ee_keeper.specs.Keeping.{Shows};
+ghost use Rattle.ee_keeper.specs.Keeping.{FailsOnlyIf, Shows};
 ghost use Rattle.ee_counter.specs.Answering.{ShowsQuery, Answers, AnswersUnless};
+ghost use Rattle.ee_counter.specs.Serving.{tells_failure};
 
 use ee_acts::{Request, Unserved};
 use ee_keeper::Keeper;
@@ -16,6 +17,8 @@ fn answer_query<K: Keeper>(keeper: &mut K, query: Query) -> Result<Answer, Unser
     ensures clean { K.is_clean keeper.new → K.is_clean keeper.old }
     ensures shows { K.is_clean keeper.new → (c : Content) → K.has keeper.old c
         → Shows (ShowsQuery c.books query) result (K.has keeper.new c) }
+    ensures told { IfOk result (λ answer. tells_failure answer ≡ false) }
+    ensures failed { FailsOnlyIf K.may_fail result }
 {
     Ok(match query {
         Query::Inventory { customer, month } => Answer::Sheet(keeper.inventory(customer, month)?),
@@ -33,6 +36,8 @@ fn answer_request<K: Keeper>(keeper: &mut K, request: &Request) -> Result<Answer
     ensures clean { K.is_clean keeper.new → K.is_clean keeper.old }
     ensures answers { K.is_clean keeper.new → (c : Content) → K.has keeper.old c
         → AnswersUnless c (Ok (call.Request request.now)) result (K.has keeper.new) }
+    ensures told { IfOk result (λ answer. tells_failure answer ≡ false) }
+    ensures failed { FailsOnlyIf K.may_fail result }
 {
     Ok(Answer::Reply(keeper.deliver(request)?))
 }
@@ -41,6 +46,8 @@ fn answer_call<K: Keeper>(keeper: &mut K, call: &Call) -> Result<Answer, Unserve
     ensures clean { K.is_clean keeper.new → K.is_clean keeper.old }
     ensures answers { K.is_clean keeper.new → (c : Content) → K.has keeper.old c
         → AnswersUnless c (Ok call.now) result (K.has keeper.new) }
+    ensures told { IfOk result (λ answer. tells_failure answer ≡ false) }
+    ensures failed { FailsOnlyIf K.may_fail result }
 {
     match call {
         Call::Request(request) => answer_request(keeper, request),
@@ -50,7 +57,7 @@ fn answer_call<K: Keeper>(keeper: &mut K, call: &Call) -> Result<Answer, Unserve
 
 /// The answer to a message at the content that the keeper has: the reply to a request, which is delivered
 /// once, what the books show to a query, or the message's first fault. Where memory or the store fails it is
-/// `Unserved`, and nothing has changed.
+/// `Unserved`, and nothing has changed; of a store that can't fail it never says `StoreFailed`.
 pub fn answer_message<K: Keeper>(
     alloc: Global,
     keeper: &mut K,
@@ -61,6 +68,7 @@ pub fn answer_message<K: Keeper>(
     ensures clean { K.is_clean keeper.new → K.is_clean keeper.old }
     ensures answers { K.is_clean keeper.new → (c : Content) → K.has keeper.old c
         → Answers c (decoded target.now method.now body.now) result (K.has keeper.new) }
+    ensures failed { tells_failure result ≡ true → K.may_fail }
 {
     match decode(alloc, target, method, body) {
         Ok(call) => match answer_call(keeper, &call) {

@@ -1,11 +1,14 @@
 //! Serving a connection.
 
-ghost use Rattle.std.specs.Prelude.{◌≡◌, ◌<◌, ◌≤◌, ◌+◌, ◌||◌, ◌==◌, None, IfSome};
+ghost use Rattle.std.specs.Prelude.{◌≡◌, ◌<◌, ◌≤◌, ◌+◌, ◌||◌, ◌==◌, true, None, ⊤};
+ghost use Rattle.std.specs.ControlFlow.{MatchControlFlow};
 ghost use Rattle.ee_acts.specs.Repeats.{Content};
 ghost use Rattle.ee_framing.specs.Reading.{message_in};
-ghost use Rattle.ee_counter.specs.Serving.{Serves, Turns, AnswersOne, TellsOne, Refuses};
+ghost use Rattle.ee_counter.specs.Answering.{Answers, call_of};
+ghost use Rattle.ee_counter.specs.Serving.{Serves, Turns, AnswersOne, FlowFailsOnlyIf, Refuses, tells_failure};
 
 use crate::answering::answer_message;
+use ee_acts::Unserved;
 use ee_keeper::Keeper;
 use ee_wire::{
     Answer, Buffer, FramingFault, Message, Next, WireEnd, WireFault, WriteEnd, next_message,
@@ -13,6 +16,7 @@ use ee_wire::{
 };
 use std::alloc::Global;
 use std::io::{Read, Write};
+use std::ops::ControlFlow;
 
 /// The most messages of a connection.
 pub const MOST_MESSAGES: usize = 1_000;
@@ -42,6 +46,8 @@ pub enum Why {
 pub struct Ended {
     /// The answers that were written whole, that to a framing fault too: at most 1,000.
     pub messages: usize,
+    /// Whether an answer told that the store failed.
+    pub store_failed: bool,
     pub why: Why,
 }
 
@@ -53,27 +59,36 @@ fn is_last(closes: bool, messages: usize) -> bool
     closes || messages + 1 == MOST_MESSAGES
 }
 
-/// Answers a message, and writes the answer.
-fn tell<K: Keeper, W: Write>(
+/// Whether this answer tells that the store failed, or one before did.
+fn has_failed(answer: &Answer, before: bool) -> bool
+    ensures { result ≡ (tells_failure answer.now || before) }
+{
+    match answer {
+        Answer::Unserved(Unserved::StoreFailed) => true,
+        _ => before,
+    }
+}
+
+/// The answer to a message of the buffer.
+fn answer_to<K: Keeper>(
     alloc: Global,
     keeper: &mut K,
-    writer: &mut W,
     buffer: &Buffer,
     message: Message,
-    closing: bool,
-) -> Result<(), WriteEnd>
+) -> Answer
     ensures clean { K.is_clean keeper.new → K.is_clean keeper.old }
-    ensures tells { K.is_clean keeper.new → (c : Content) → K.has keeper.old c
-        → TellsOne (message_in buffer.now.shown message) closing (W.contents writer.old) (W.contents writer.new) c result (K.has keeper.new) }
+    ensures answers { K.is_clean keeper.new → (c : Content) → K.has keeper.old c
+        → Answers c (call_of (message_in buffer.now.shown message)) result (K.has keeper.new) }
+    ensures failed { tells_failure result ≡ true → K.may_fail }
 {
     let target = buffer.part(message.target);
     let method = buffer.part(message.method);
     let body = buffer.part(message.body);
-    let answer = answer_message(alloc, keeper, target, method, body);
-    write_reply(alloc, writer, &answer, closing)
+    answer_message(alloc, keeper, target, method, body)
 }
 
-/// Answers a message; None where the connection goes on.
+/// Answers a message, and writes the answer. Where the connection goes on, it says whether an answer told that
+/// the store failed, this one or one before.
 fn answer_one<K: Keeper, W: Write>(
     alloc: Global,
     keeper: &mut K,
@@ -81,55 +96,74 @@ fn answer_one<K: Keeper, W: Write>(
     buffer: &Buffer,
     message: Message,
     messages: usize,
-) -> Option<Ended>
-    requires { messages < 1000 }
+    store_failed: bool,
+) -> ControlFlow<Ended, bool>
+    requires few { messages < 1000 }
+    requires failed { store_failed ≡ true → K.may_fail }
     ensures clean { K.is_clean keeper.new → K.is_clean keeper.old }
     ensures answers { K.is_clean keeper.new → (c : Content) → K.has keeper.old c
-        → AnswersOne (message_in buffer.now.shown message) (W.contents writer.old) (W.contents writer.new) c messages result (K.has keeper.new) }
-    ensures few { IfSome result (λ ended. ended.messages ≤ 1000) }
+        → AnswersOne (message_in buffer.now.shown message) (W.contents writer.old) (W.contents writer.new) c messages store_failed result (K.has keeper.new) }
+    ensures few { MatchControlFlow result (λ failed. ⊤) (λ ended. ended.messages ≤ 1000) }
+    ensures failed { FlowFailsOnlyIf K.may_fail result }
 {
     let closing = is_last(message.closes, messages);
-    match tell(alloc, keeper, writer, buffer, message, closing) {
-        Ok(()) if message.closes => Some(Ended {
+    let answer = answer_to(alloc, keeper, buffer, message);
+    let store_failed = has_failed(&answer, store_failed);
+    match write_reply(alloc, writer, &answer, closing) {
+        Ok(()) if message.closes => ControlFlow::Break(Ended {
             messages: messages + 1,
+            store_failed,
             why: Why::Asked,
         }),
-        Ok(()) => None,
-        Err(WriteEnd::WriteFailed) => Some(Ended {
+        Ok(()) => ControlFlow::Continue(store_failed),
+        Err(WriteEnd::WriteFailed) => ControlFlow::Break(Ended {
             messages,
+            store_failed,
             why: Why::WriteFailed,
         }),
-        Err(WriteEnd::NoMemory) => Some(Ended {
+        Err(WriteEnd::NoMemory) => ControlFlow::Break(Ended {
             messages,
+            store_failed,
             why: Why::NoMemory,
         }),
     }
 }
 
 /// Answers a framing fault.
-fn refuse<W: Write>(alloc: Global, writer: &mut W, fault: FramingFault, messages: usize) -> Ended
+fn refuse<W: Write>(
+    alloc: Global,
+    writer: &mut W,
+    fault: FramingFault,
+    messages: usize,
+    store_failed: bool,
+) -> Ended
     requires { messages < 1000 }
     ensures refuses { Refuses fault (W.contents writer.old) (W.contents writer.new) messages result }
     ensures few { result.messages ≤ 1000 }
+    ensures failed { result.store_failed ≡ store_failed }
 {
     let answer = Answer::Fault(WireFault::Framing(fault));
     match write_reply(alloc, writer, &answer, true) {
         Ok(()) => Ended {
             messages: messages + 1,
+            store_failed,
             why: Why::Fault(fault),
         },
         Err(WriteEnd::WriteFailed) => Ended {
             messages,
+            store_failed,
             why: Why::WriteFailed,
         },
         Err(WriteEnd::NoMemory) => Ended {
             messages,
+            store_failed,
             why: Why::NoMemory,
         },
     }
 }
 
-/// Reads a message and answers it; None where the connection goes on.
+/// Reads a message and answers it. Where the connection goes on, it says whether an answer told that the store
+/// failed, this one or one before.
 fn turn<K: Keeper, R: Read, W: Write>(
     alloc: Global,
     keeper: &mut K,
@@ -137,31 +171,45 @@ fn turn<K: Keeper, R: Read, W: Write>(
     writer: &mut W,
     buffer: &mut Buffer,
     messages: usize,
-) -> Option<Ended>
+    store_failed: bool,
+) -> ControlFlow<Ended, bool>
     requires few { messages < 1000 }
     requires open { buffer.old.ended ≡ None }
+    requires failed { store_failed ≡ true → K.may_fail }
     ensures clean { K.is_clean keeper.new → K.is_clean keeper.old }
     ensures turns { K.is_clean keeper.new → (c : Content) → K.has keeper.old c
         → Turns buffer.old.held buffer.new.held (R.remaining reader.old) (R.remaining reader.new)
-        (W.contents writer.old) (W.contents writer.new) c messages result (K.has keeper.new) }
-    ensures open { result ≡ None → buffer.new.ended ≡ None }
-    ensures few { IfSome result (λ ended. ended.messages ≤ 1000) }
+        (W.contents writer.old) (W.contents writer.new) c messages store_failed result (K.has keeper.new) }
+    ensures open { MatchControlFlow result (λ failed. buffer.new.ended ≡ None) (λ ended. ⊤) }
+    ensures few { MatchControlFlow result (λ failed. ⊤) (λ ended. ended.messages ≤ 1000) }
+    ensures failed { FlowFailsOnlyIf K.may_fail result }
 {
     match next_message(reader, buffer) {
-        Ok(Next::Message(message)) => {
-            answer_one(alloc, keeper, writer, buffer, message, messages)
-        }
-        Ok(Next::End) => Some(Ended {
+        Ok(Next::Message(message)) => answer_one(
+            alloc,
+            keeper,
+            writer,
+            buffer,
+            message,
             messages,
+            store_failed,
+        ),
+        Ok(Next::End) => ControlFlow::Break(Ended {
+            messages,
+            store_failed,
             why: Why::Closed,
         }),
-        Err(WireEnd::Fault(fault)) => Some(refuse(alloc, writer, fault, messages)),
-        Err(WireEnd::ReadFailed) => Some(Ended {
+        Err(WireEnd::Fault(fault)) => {
+            ControlFlow::Break(refuse(alloc, writer, fault, messages, store_failed))
+        }
+        Err(WireEnd::ReadFailed) => ControlFlow::Break(Ended {
             messages,
+            store_failed,
             why: Why::ReadFailed,
         }),
-        Err(WireEnd::NoMemory) => Some(Ended {
+        Err(WireEnd::NoMemory) => ControlFlow::Break(Ended {
             messages,
+            store_failed,
             why: Why::NoMemory,
         }),
     }
@@ -173,8 +221,9 @@ fn turn<K: Keeper, R: Read, W: Write>(
 ///
 /// What is written is the answers in order and whole; only the last may be cut, where the writer failed. A
 /// message that is answered 503 changed nothing. After the 1,000th message none is decided. Where the reader
-/// fails, no whole message is left among the bytes that were read. The claims are of any content `c` that
-/// the keeper had, and hold where its store is clean at the end.
+/// fails, no whole message is left among the bytes that were read. Where an answer told that the store
+/// failed, the end says so, whatever ended the connection; of a store that can't fail it never does. The
+/// claims are of any content `c` that the keeper had, and hold where its store is clean at the end.
 pub fn serve<K: Keeper, R: Read, W: Write>(
     alloc: Global,
     keeper: &mut K,
@@ -185,15 +234,27 @@ pub fn serve<K: Keeper, R: Read, W: Write>(
     ensures serves { K.is_clean keeper.new → (c : Content) → K.has keeper.old c
         → Serves (R.remaining reader.old) (R.remaining reader.new) (W.contents writer.old) (W.contents writer.new) c result (K.has keeper.new) }
     ensures few { result.messages ≤ 1000 }
+    ensures failed { result.store_failed ≡ true → K.may_fail }
 {
     let mut buffer = Buffer::new(alloc);
+    let mut store_failed = false;
     for messages in 0..MOST_MESSAGES {
-        if let Some(ended) = turn(alloc, keeper, reader, writer, &mut buffer, messages) {
-            return ended;
+        match turn(
+            alloc,
+            keeper,
+            reader,
+            writer,
+            &mut buffer,
+            messages,
+            store_failed,
+        ) {
+            ControlFlow::Continue(failed) => store_failed = failed,
+            ControlFlow::Break(ended) => return ended,
         }
     }
     Ended {
         messages: MOST_MESSAGES,
+        store_failed,
         why: Why::Limit,
     }
 }

@@ -1,8 +1,10 @@
 //! Imports and exports of files.
 
-ghost use Rattle.std.specs.Prelude.{◌≡◌};
+ghost use Rattle.std.specs.Prelude.{◌≡◌, ℕ, List, Some, IfErr};
 ghost use Rattle.ee_acts.specs.declared.acts.Act.TheVariants as act;
+ghost use Rattle.ee_acts.specs.declared.refusals.Unserved.TheVariants.{StoreFailed};
 ghost use Rattle.ee_acts.specs.Repeats.{Content};
+ghost use Rattle.ee_device.specs.ReadWhole.{TakesAtMost};
 ghost use Rattle.ee_files.specs.BondFile.{bonds_of_file};
 ghost use Rattle.ee_files.specs.RateFile.{rates_of_file};
 ghost use Rattle.ee_keeper.specs.Keeping.{Delivers};
@@ -39,7 +41,8 @@ pub enum ExportFault {
 }
 
 /// Enters the rates of a file under a request number, as one request: the file's rows, its first 501, or
-/// nothing. A file that was imported under the number before gets its first reply again.
+/// nothing. A file that was imported under the number before gets its first reply again. Of the reader
+/// at most 1,048,577 bytes are taken, one more than a file may have.
 pub fn import_rates<K: Keeper, R: Read>(
     alloc: Global,
     keeper: &mut K,
@@ -49,6 +52,8 @@ pub fn import_rates<K: Keeper, R: Read>(
     ensures clean { K.is_clean keeper.new → K.is_clean keeper.old }
     ensures imports { K.is_clean keeper.new → (c : Content) → K.has keeper.old c
         → Imports rates_of_file act.AddRates (R.remaining reader.old) number c result (K.has keeper.new) }
+    ensures takes { (source : List ℕ) → R.remaining reader.old ≡ Some source → TakesAtMost 1048577 source (R.remaining reader.new) }
+    ensures failed { IfErr result (λ fault. fault ≡ ImportFault.Unserved StoreFailed → K.may_fail) }
 {
     let rows = match read_rates(alloc, reader) {
         Ok(rows) => rows,
@@ -65,7 +70,8 @@ pub fn import_rates<K: Keeper, R: Read>(
 }
 
 /// Registers the bonds of a file under a request number, as one request: the file's rows, its first 501, or
-/// nothing. A file that was imported under the number before gets its first reply again.
+/// nothing. A file that was imported under the number before gets its first reply again. Of the reader
+/// at most 1,048,577 bytes are taken, one more than a file may have.
 pub fn import_inventory<K: Keeper, R: Read>(
     alloc: Global,
     keeper: &mut K,
@@ -75,6 +81,8 @@ pub fn import_inventory<K: Keeper, R: Read>(
     ensures clean { K.is_clean keeper.new → K.is_clean keeper.old }
     ensures imports { K.is_clean keeper.new → (c : Content) → K.has keeper.old c
         → Imports bonds_of_file act.AddBonds (R.remaining reader.old) number c result (K.has keeper.new) }
+    ensures takes { (source : List ℕ) → R.remaining reader.old ≡ Some source → TakesAtMost 1048577 source (R.remaining reader.new) }
+    ensures failed { IfErr result (λ fault. fault ≡ ImportFault.Unserved StoreFailed → K.may_fail) }
 {
     let bonds = match read_inventory(alloc, reader) {
         Ok(bonds) => bonds,
@@ -101,6 +109,7 @@ pub fn export_inventory<K: Keeper, W: Write>(
     ensures clean { K.is_clean keeper.new → K.is_clean keeper.old }
     ensures exports { K.is_clean keeper.new → (c : Content) → K.has keeper.old c
         → Exports (W.contents writer.old) (W.contents writer.new) customer c result (K.has keeper.new) }
+    ensures failed { IfErr result (λ fault. fault ≡ ExportFault.Unserved StoreFailed → K.may_fail) }
 {
     let bonds = match keeper.bonds_of(customer) {
         Ok(bonds) => bonds,

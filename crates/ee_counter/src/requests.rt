@@ -1,10 +1,12 @@
 ghost use Rattle.std.specs.Prelude.{◌≡◌, [], length, IfOk, OnErr};
+ghost use Rattle.std.specs.List.{AllByRecursion};
 ghost use Rattle.ee_acts.specs.Repeats.{Content};
 ghost use Rattle.ee_acts.specs.Paid.{paid_lines, NoneTwice, ArePaidRight};
 ghost use Rattle.ee_acts.specs.Sound.{IsSound};
 ghost use Rattle.ee_acts.specs.Conserved.{IsConserved};
 ghost use Rattle.ee_acts.specs.Contents.{content_after, books_after};
 ghost use Rattle.ee_acts.specs.Answers.{served, AreAnswers};
+ghost use Rattle.ee_keeper.specs.Keeping.{FailsOnlyIf};
 
 use crate::soundness::known;
 use ee_acts::{Reply, Request, Unserved};
@@ -40,6 +42,8 @@ pub fn run<K: Keeper>(
     // The batches and the open day's tickets have what was paid.
     ensures conserved { K.is_clean keeper.new → (c : Content) → K.has keeper.old c
         → IfOk result (λ answers. IsConserved (books_after c (served requests.now answers.items))) }
+    // No answer says that the store failed where it can't.
+    ensures failed { IfOk result (λ answers. AllByRecursion (FailsOnlyIf K.may_fail) answers.items) }
     ensures clean { K.is_clean keeper.new → K.is_clean keeper.old }
     ensures err { OnErr result (keeper.new ≡ keeper.old) }
 {

@@ -1,11 +1,12 @@
 -- A loop that writes a row for each element.
-use Rattle.std.proofs.Common.{◌≡◌, ◌∙◌, ℕ, ◌+◌, ◌<◌, ◌≤◌, List, [], ◌∷◌, ◌++◌, Some, length, get_or, take, sym, ap, append_assoc}
+use Rattle.std.proofs.Common.{◌≡◌, ◌∙◌, ℕ, ◌+◌, ◌<◌, ◌≤◌, List, [], ◌∷◌, ◌++◌, Option, Some, Bool, length, get_or, take, sym, ap, append_assoc, subst}
 use Rattle.std.specs.List.{flat_map}
 use Rattle.std.proofs.lemmas.List.{append-nil, take_more, take_all}
 use Rattle.std.proofs.lemmas.List.Folds.{flat_map-map}
 use Rattle.std.proofs.lemmas.Option.{same_Some}
 use Rattle.std.proofs.lemmas.Grind.{flat_map-append}
 use Rattle.std.specs.Io.KnownBytes.{Appends}
+use Rattle.ee_device.specs.Written.{WritesFront}
 use Rattle.csv.specs.Writing.{row_text, default_writer}
 use Rattle.ee_files.specs.BondFile.{bond_columns, bond_fields, inventory_text}
 use Rattle.ee_files.specs.Rows.{header_of}
@@ -25,3 +26,7 @@ unfolding inventory_text
 whole_text bonds i all =
     ap (λ bs. row_text default_writer (header_of bond_columns) ++ flat_map (λ b. row_text default_writer (bond_fields b)) bs) (take_all i bonds all)
     ∙ ap (λ z. row_text default_writer (header_of bond_columns) ++ z) (sym (flat_map-map (row_text default_writer) bond_fields bonds))
+
+-- the same text, written as far
+pub written_as : (old new : Option (List ℕ)) (text whole : List ℕ) (done is : Bool) → text ≡ whole → done ≡ is → WritesFront old new text done → WritesFront old new whole is
+written_as old new text whole done is same so written = subst (WritesFront old new whole) so (subst (λ t. WritesFront old new t done) same written)

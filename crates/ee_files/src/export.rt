@@ -1,14 +1,15 @@
 //! Inventory files, written.
 
-ghost use Rattle.std.specs.Prelude.{◌≡◌, Some, IfOk, IfErr, OnOk, string_bytes};
+ghost use Rattle.std.specs.Prelude.{◌≡◌, All, Some, IfOk, IfErr, OnOk, string_bytes};
 ghost use Rattle.csv.specs.Writing.{default_writer, row_text, text_written};
 ghost use Rattle.ee_files.specs.Answers.{Writes};
-ghost use Rattle.ee_files.specs.BondFile.{bond_columns, bond_fields, coowner_text, inventory_text};
+ghost use Rattle.ee_files.specs.BondFile.{IsBond, bond_columns, bond_fields, coowner_text, inventory_text};
 ghost use Rattle.ee_files.specs.Rows.{header_of};
 ghost use Rattle.ee_files.specs.WriterState.{AppendsRow, IsBetweenRows};
 
 use crate::columns::Column;
 use crate::faults::WriteFault;
+use crate::ranges::in_range;
 use csv::{Writer, WriterBuilder};
 use ee_calculator::Bond;
 use ee_device::write_whole;
@@ -17,14 +18,17 @@ use std::alloc::{AllocError, Global};
 use std::io::Write;
 
 /// Writes an inventory file: the header, and a line for each bond in the order given. Memory is taken
-/// before the first byte. Where the writer fails, it has taken a front of the file.
+/// before the first byte. Where the writer fails, it has taken a front of the file. Each bond's values are
+/// in range, by their types, so the file of up to 500 bonds reads back as they are: `inventory_law`.
 pub fn write_inventory<W: Write>(
     alloc: Global,
     writer: &mut W,
     bonds: &[Bond],
 ) -> Result<(), WriteFault>
-    ensures { Writes W.contents writer.old writer.new (inventory_text bonds.now) result }
+    ensures writes { Writes W.contents writer.old writer.new (inventory_text bonds.now) result }
+    ensures in_range { All IsBond bonds.now }
 {
+    in_range(bonds);
     let text = inventory_bytes(alloc, bonds)?;
     if write_whole(writer, &text) {
         Ok(())

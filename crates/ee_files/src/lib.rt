@@ -8,6 +8,7 @@ mod fields;
 mod headers;
 mod inventory;
 mod laws;
+mod ranges;
 mod rates;
 mod records;
 

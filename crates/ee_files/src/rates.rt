@@ -2,6 +2,7 @@
 
 ghost use Rattle.std.specs.Prelude.{◌≡◌, ℕ, List, Some};
 ghost use Rattle.csv.specs.Records.{fields_of};
+ghost use Rattle.ee_device.specs.ReadWhole.{TakesAtMost};
 ghost use Rattle.ee_files.specs.Answers.{Gives};
 ghost use Rattle.ee_files.specs.RateFile.{rate_columns, rate_entry, rates_of_file};
 
@@ -17,10 +18,13 @@ use std::io::Read;
 
 /// The first 501 rows of a rate file, or its first fault: the header `from,rate`, and a record for each
 /// row. The file is read whole first; a failed or interrupted read is `ReadFailed`, and want of memory
-/// `NoMemory`.
+/// `NoMemory`. At most 1,048,577 bytes are taken from the reader, one more than a file may have; it keeps
+/// those that follow them.
 pub fn read_rates<R: Read>(alloc: Global, reader: &mut R) -> Result<Vec<RateRow>, FileFault>
-    ensures { (source : List ℕ) → R.remaining reader.old ≡ Some source
+    ensures gives { (source : List ℕ) → R.remaining reader.old ≡ Some source
         → Gives (λ v. v.items) result (rates_of_file source) }
+    ensures takes { (source : List ℕ) → R.remaining reader.old ≡ Some source
+        → TakesAtMost 1048577 source (R.remaining reader.new) }
 {
     read_rows(alloc, reader)
 }

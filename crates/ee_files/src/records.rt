@@ -3,6 +3,7 @@
 ghost use Rattle.std.specs.Prelude.{◌≡◌, ℕ, List, Some, Result, IfOk, IfErr};
 ghost use Rattle.csv.specs.Reading.{default_config, records, strip_bom};
 ghost use Rattle.csv.specs.Records.{fields_of};
+ghost use Rattle.ee_device.specs.ReadWhole.{TakesAtMost};
 ghost use Rattle.ee_files.specs.Answers.{Gives, Unreadable};
 ghost use Rattle.ee_files.specs.Left.{HasLeft, TakesNext};
 ghost use Rattle.ee_files.specs.Rows.{header_of, rows_from, rows_of_file, rows_of_records, same_fields};
@@ -15,7 +16,7 @@ use ee_device::{ReadFault, read_whole};
 use std::alloc::Global;
 use std::io::Read;
 
-/// A file of more bytes isn't read.
+/// A file of more bytes isn't read; at most one byte more is taken of it.
 pub const MOST_BYTES: usize = 1_048_576;
 
 /// What a record of a file is read as.
@@ -101,11 +102,13 @@ fn rows_in<T: FileRow>(alloc: Global, bytes: &[u8]) -> Result<Vec<T>, FileFault>
     rows_under_header(alloc, &mut records)
 }
 
-/// The rows of a file, which is read whole first.
+/// The rows of a file, which is read whole first: one byte more than a file may have is taken at most.
 #[tactic(auto, unfolding(crate::specs::Rows::rows_of_file))]
 pub fn read_rows<T: FileRow, R: Read>(alloc: Global, reader: &mut R) -> Result<Vec<T>, FileFault>
-    ensures { (source : List ℕ) → R.remaining reader.old ≡ Some source
+    ensures gives { (source : List ℕ) → R.remaining reader.old ≡ Some source
         → Gives (λ v. v.items) result (rows_of_file T.columns T.entry source) }
+    ensures takes { (source : List ℕ) → R.remaining reader.old ≡ Some source
+        → TakesAtMost 1048577 source (R.remaining reader.new) }
 {
     match read_whole(alloc, reader, MOST_BYTES) {
         Ok(bytes) => rows_in(alloc, &bytes),

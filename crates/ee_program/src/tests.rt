@@ -3,8 +3,11 @@
 
 use crate::run::{refuse_words, run_words};
 use crate::store::StoreFiles;
-use ee_actions::{Outcome, serve_on};
+use crate::stores::Stores;
+use ee_actions::{Outcome, RunFault, serve_on};
 use ee_keeper::ListKeeper;
+use sqlite::Unknown;
+use std::alloc::Global;
 use std::fs;
 use std::io::{self, ErrorKind, Write};
 use std::net::{Shutdown, TcpListener, TcpStream};
@@ -33,18 +36,53 @@ fn text(rt: &HostRuntime, bytes: &[u8]) -> Result<String, Fail> {
     Ok(std::str::from_utf8(bytes)?.to_string(rt.alloc())?)
 }
 
-fn run(rt: &HostRuntime, line: &str, input: &str) -> Result<Ran, Fail> {
+fn run_over<O: Stores>(
+    rt: &HostRuntime,
+    stores: O,
+    line: &str,
+    input: &str,
+) -> Result<Ran, Fail> {
     let words = words(rt, line)?;
     let mut bytes = input.as_bytes();
     let mut printed = Vec::new(rt.alloc());
     let mut told = Vec::new(rt.alloc());
-    let stores = StoreFiles { rt };
-    let status = run_words(rt, &stores, &words, &mut bytes, &mut printed, &mut told);
+    let status = run_words(rt, stores, &words, &mut bytes, &mut printed, &mut told);
     Ok(Ran {
         printed: text(rt, &printed)?,
         told: text(rt, &told)?,
         status,
     })
+}
+
+fn run(rt: &HostRuntime, line: &str, input: &str) -> Result<Ran, Fail> {
+    run_over(rt, StoreFiles { rt, start: Unknown }, line, input)
+}
+
+/// A store in memory, which is empty as it is opened, whatever its path is.
+#[derive(Drop)]
+struct InMemory {
+    alloc: Global,
+}
+
+impl Stores for InMemory {
+    ghost use Rattle.std.specs.Prelude.{◌≡◌};
+    ghost use Rattle.ee_acts.specs.Repeats.{nothing};
+
+    type Store = ListKeeper;
+
+    type Rest = ListKeeper;
+
+    ghost holds = { λ _ _ c. c ≡ nothing };
+
+    ghost rests = { λ store rest. rest ≡ store };
+
+    fn open(self, _path: &str) -> Result<ListKeeper, RunFault> {
+        Ok(ListKeeper::empty(self.alloc))
+    }
+
+    fn close(store: ListKeeper) -> Result<ListKeeper, RunFault> {
+        Ok(store)
+    }
 }
 
 /// The line printed this, with status 0.
@@ -174,9 +212,9 @@ fn failing_output(rt: HostRuntime) -> Result<(), Fail> {
         let bytes = Vec::new(rt.alloc());
         let mut output = Failing { bytes, room };
         let mut told = Vec::new(rt.alloc());
-        let stores = StoreFiles { rt: &rt };
+        let stores = InMemory { alloc: rt.alloc() };
         let mut input = io::empty();
-        let status = run_words(&rt, &stores, &words, &mut input, &mut output, &mut told);
+        let status = run_words(&rt, stores, &words, &mut input, &mut output, &mut told);
         assert_eq!(rt; &output.bytes[..], &b"29.74\n"[..room]);
         assert_eq!(rt; &told[..], b"input or output failed\n".as_slice());
         assert_eq!(rt; status, 3);
@@ -292,6 +330,24 @@ fn a_stream_is_answered(rt: HostRuntime) -> Result<(), Fail> {
     assert!(rt; ran.told.is_empty());
     assert_eq!(rt; ran.status, 1);
     forget(&rt, &db)
+}
+
+/// The same command lines over stores in memory.
+#[test]
+fn lines_over_memory(rt: HostRuntime) -> Result<(), Fail> {
+    let file = fresh(&rt, "memory.csv")?;
+    fs::write(&rt, file.as_str(), RATES)?;
+    let import = format!(in rt.alloc(); "import rates {file} --db here --number 1")?;
+    for (line, input, wanted) in [
+        ("apply --db here", STREAM, ANSWERS),
+        (import.as_str(), "", "{\"new\":2,\"same\":0}\n"),
+        ("export 7 --db here", "", "serial,denom,issued,owner,coowner\n"),
+        ("value 50 2010-05 2015-05 3.50", "", "29.74\n"),
+    ] {
+        let stores = InMemory { alloc: rt.alloc() };
+        assert_prints(&rt, &run_over(&rt, stores, line, input)?, wanted);
+    }
+    forget(&rt, &file)
 }
 
 #[test]

@@ -20,3 +20,4 @@ mod Opened
 mod AtRest
 mod Meeting
 mod NextRun
+mod History

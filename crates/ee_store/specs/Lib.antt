@@ -6,3 +6,4 @@ pub mod Adopted
 pub mod Failures
 pub mod Ended
 pub mod NextRun
+pub mod History

@@ -8,8 +8,10 @@ ghost use Rattle.ee_laws.specs.Events.{World};
 ghost use Rattle.ee_laws.specs.Ties.{Leaves};
 ghost use Rattle.ee_store.specs.Serving.{StandsFor, FollowsWorld};
 ghost use Rattle.ee_store.specs.Ended.{RestsIn};
+ghost use Rattle.ee_store.specs.History.{RestsAfter};
 
 use crate::keeper::SqlKeeper;
+use crate::laws::whole_history;
 use sqlite::{FileStore, Files};
 use sqlite_disk::Disk;
 
@@ -19,6 +21,8 @@ impl<D: Disk + Drop> SqlKeeper<FileStore<D>> {
     ///
     /// - `at_rest`: the file alone, without its log, then is a store of the content: as the files read, and
     ///   whatever a crash leaves of them.
+    /// - `history`: whatever has happened since the store was new, that content is the one of requests that
+    ///   were sent, each acting once, and each reply that was given is still the answer (`whole_history`).
     /// - `left`, `follows`: where it fails, a crash leaves what it could leave before, so what the next
     ///   command finds still follows the events.
     ///
@@ -27,9 +31,11 @@ impl<D: Disk + Drop> SqlKeeper<FileStore<D>> {
     /// The store, where it was shut, or where the device fails.
     pub fn close_files(self) -> Result<Files<D>, FileStore<D>>
         ensures at_rest { IfOk result (λ files. RestsIn self.conn files) }
+        ensures history { IfOk result (λ files. RestsAfter self.conn files) }
         ensures left { IfErr result (λ store. (db : Trees) → recovers store db → (file_state self.conn).may_leave db) }
         ensures follows { IfErr result (λ store. (w : World) → FollowsWorld (file_state self.conn) w → Leaves StandsFor (recovers store) w) }
     {
+        whole_history::<D, D>();
         let _schema = self.conn.schema();
         match self.close().close_files() {
             Ok(files) => Ok(files),

@@ -1,6 +1,6 @@
 //! A keeper over the tables.
 
-ghost use Rattle.std.specs.Prelude.{◌≡◌, true, false, List, [], ◌∷◌, OnOk, OnErr};
+ghost use Rattle.std.specs.Prelude.{◌≡◌, true, false, List, [], ◌∷◌, OnOk, OnErr, MatchResult};
 ghost use Rattle.std.specs.FinMap as finite;
 ghost use Rattle.sqlite.specs.Held.{state};
 ghost use Rattle.sqlite.specs.Tree.{Trees};
@@ -9,8 +9,10 @@ ghost use Rattle.ee_acts.specs.Numbers.{number_of};
 ghost use Rattle.ee_acts.specs.Repeats.{Content};
 ghost use Rattle.ee_acts.specs.Contents.{content_after};
 ghost use Rattle.ee_laws.specs.Events.{World, Told, decided, unserved};
+ghost use Rattle.ee_laws.specs.Events.Event.{Deliver, Lose, Unserved as NotServed};
 ghost use Rattle.ee_keeper.specs.Keeping.{Delivers};
 ghost use Rattle.ee_store.specs.Serving.{StandsFor, HasContent, FollowsWorld};
+ghost use Rattle.ee_store.specs.History.{Goes};
 
 use crate::delivering::deliver_on;
 use ee_acts::{Reply, Request, Tables, Unserved};
@@ -36,6 +38,7 @@ impl<S: Alter> SqlKeeper<S> {
     /// - `durable`: with the reply to a number that wasn't kept it leaves the new rows alone.
     /// - `again`: with the reply to a kept number it leaves what it could leave before.
     /// - `decided`, `unserved`: so the store follows the events of the law of stops and retries.
+    /// - `goes`: and they are its events in its whole history (`whole_history`).
     pub fn deliver(&mut self, request: &Request) -> Result<Reply, Unserved>
         ensures clean { HasCleanDisk (state S.Store self.new.conn) → HasCleanDisk (state S.Store self.old.conn) }
         ensures delivers { HasCleanDisk (state S.Store self.new.conn) → (content : Content) → HasContent (state S.Store self.old.conn) content
@@ -47,6 +50,9 @@ impl<S: Alter> SqlKeeper<S> {
             → (db : Trees) → (state S.Store self.new.conn).may_leave db → (state S.Store self.old.conn).may_leave db) }
         ensures decided { HasCleanDisk (state S.Store self.new.conn) → OnOk result ((w : World) (told : List Told) → FollowsWorld (state S.Store self.old.conn) w → FollowsWorld (state S.Store self.new.conn) (decided w request.now told)) }
         ensures unserved { HasCleanDisk (state S.Store self.new.conn) → OnErr result ((w : World) → FollowsWorld (state S.Store self.old.conn) w → FollowsWorld (state S.Store self.new.conn) (unserved w request.now)) }
+        ensures goes { HasCleanDisk (state S.Store self.new.conn) → MatchResult result
+            (λ reply. Goes (state S.Store self.old.conn) (Deliver request.now ∷ []) (state S.Store self.new.conn) × Goes (state S.Store self.old.conn) (Lose request.now ∷ []) (state S.Store self.new.conn))
+            (λ cause. Goes (state S.Store self.old.conn) (NotServed request.now ∷ []) (state S.Store self.new.conn)) }
     {
         ties_to_stores::<SqlKeeper<S>>();
         match deliver_on(&mut self.conn, self.alloc, &mut self.tables, request) {

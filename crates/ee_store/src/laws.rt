@@ -1,6 +1,7 @@
 //! What stops, retries and tellers leave of a keeper: laws of the definitions, in whose words the keeper's clauses are.
 
 ghost use Rattle.ee_store.specs.NextRun.{FollowsInNextRun, WaitsInNextRun};
+ghost use Rattle.ee_store.specs.History.{BeginsHistory, GoesByQueries, GoesThroughCrash, GoesThroughRest, HasHistory, SettlesHistory};
 
 pub use ee_laws::{runs_as_events, stops_and_retries, tellers_interleaved, ties_to_stores};
 use sqlite_disk::Disk;
@@ -14,3 +15,26 @@ pub const fn next_run<D: Disk, E: Disk>()
     ensures follows { FollowsInNextRun D.Disk E.Disk }
     ensures waits { WaitsInNextRun D.Disk E.Disk }
 {}
+
+/// The whole history of a store in files, from a new one on: any deliveries, replies lost, faults, stops and
+/// starts. A request that is delivered is one event more, and so is one whose reply is lost or that isn't
+/// served (`SqlKeeper::deliver`, `goes`).
+///
+/// - `begins`: a store that was made has come by no event; `SqlKeeper::adopt` makes it (`begun`).
+/// - `queries`: a query is no event.
+/// - `crash`: a crash leaves two files, and the next run opens them: a stop and a reopening.
+/// - `rest`: so is the end of a command, which leaves its files at rest, and the next one.
+/// - `content`: whatever events it has come by, the store has the content of requests that were sent, each
+///   acting once, and each reply that was given is still the answer (`IsLeftBy`).
+/// - `settled`: and once each sent request is delivered again, each stands once.
+pub const fn whole_history<D: Disk, E: Disk>()
+    ensures begins { BeginsHistory D.Disk }
+    ensures queries { GoesByQueries D.Disk }
+    ensures crash { GoesThroughCrash D.Disk E.Disk }
+    ensures rest { GoesThroughRest D.Disk E.Disk }
+    ensures content { HasHistory D.Disk }
+    ensures settled { SettlesHistory D.Disk }
+{
+    stops_and_retries();
+    next_run::<D, E>();
+}

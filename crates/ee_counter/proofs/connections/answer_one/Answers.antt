@@ -1,43 +1,71 @@
-use Rattle.std.proofs.Common.{refl, subst, List, ℕ, inl, inr, Err}
+use Rattle.std.proofs.Common.{◌∙◌, refl, sym, subst, List, ℕ, Some, Err}
 use Rattle.std.specs.Io.KnownBytes.{Appends}
 use Rattle.ee_framing.specs.Reading.{message_in}
-use Rattle.ee_wire.specs.Answers.{answer_text}
+use Rattle.ee_wire.specs.Answers.{answer_text, WritesAnswer}
 use Rattle.ee_wire.specs.declared.answers.WriteEnd.{WriteEnd}
-use Rattle.ee_counter.specs.Serving.{TellsOne, CutsShort}
+use Rattle.ee_counter.specs.Serving.{CutsShort, tells_failure}
+use Rattle.ee_counter.proofs.Right.{either}
 use Rattle.ee_counter.proofs.Turns.{text_is, whole}
 use Rattle.ee_counter.proofs.connections.answer_one.Goals as goal
 
 pub returns-in-Ok-clause-answers : goal.returns-in-Ok-clause-answers
 returns-in-Ok-clause-answers g c = λ clean d has bytes after remaining at.
     let m = message_in c.args.buffer.now.shown c.args.message in
-    let t = c.in-Ok.ensures.tells clean d has in
+    let a = c.answer_to-answer.result in
+    let right = c.answer_to-answer.ensures.answers clean d has in
     let old = g.W.Write.contents c.args.writer.now in
-    let new = g.W.Write.contents c.tell.new.writer in
-    let text = text_is c.args.messages m t.0 c.is_last-closing.result c.is_last-closing.ensures in
-    (record { message = m; answer = t.0 }, ((after, at), t.1.0, t.1.1), c.if-message.true, subst (Appends old new) text (whole (answer_text t.0 c.is_last-closing.result) old new t.2), refl)
+    let new = g.W.Write.contents c.write_reply.new.writer in
+    let text = text_is c.args.messages m a c.is_last-closing.result c.is_last-closing.ensures in (
+      Some (record { message = m; answer = a }),
+      c.has_failed-store_failed.ensures,
+      (((after, at), right.0, right.1), c.if-message.true, subst (Appends old new) text (whole (answer_text a c.is_last-closing.result) old new c.in-Ok.ensures.written), refl),
+    )
 
 pub returns-in-Ok-2-clause-answers : goal.returns-in-Ok-2-clause-answers
 returns-in-Ok-2-clause-answers g c = λ clean d has.
     let m = message_in c.args.buffer.now.shown c.args.message in
-    let t = c.in-Ok-2.ensures.tells clean d has in
+    let a = c.answer_to-answer.result in
     let old = g.W.Write.contents c.args.writer.now in
-    let new = g.W.Write.contents c.tell.new.writer in
-    let text = text_is c.args.messages m t.0 c.is_last-closing.result c.is_last-closing.ensures in
-    (t.0, t.1, c.if-message.false, subst (Appends old new) text (whole (answer_text t.0 c.is_last-closing.result) old new t.2))
+    let new = g.W.Write.contents c.write_reply.new.writer in
+    let text = text_is c.args.messages m a c.is_last-closing.result c.is_last-closing.ensures in
+    (a, c.answer_to-answer.ensures.answers clean d has, c.if-message.false, subst (Appends old new) text (whole (answer_text a c.is_last-closing.result) old new c.in-Ok-2.ensures.written), c.has_failed-store_failed.ensures)
 
 pub returns-in-Err-WriteFailed-clause-answers : goal.returns-in-Err-WriteFailed-clause-answers
 returns-in-Err-WriteFailed-clause-answers g c = λ clean d has bytes after remaining at.
     let m = message_in c.args.buffer.now.shown c.args.message in
+    let a = c.answer_to-answer.result in
+    let right = c.answer_to-answer.ensures.answers clean d has in
     let old = g.W.Write.contents c.args.writer.now in
-    let new = g.W.Write.contents c.tell.new.writer in
-    let t = subst (λ (e : WriteEnd). TellsOne m c.is_last-closing.result old new d (Err e) (g.K.Keeper.has c.tell.new.keeper)) c.in-Err-WriteFailed.field-0-is (c.in-Err-WriteFailed.ensures.tells clean d has) in
-    let text = text_is c.args.messages m t.0 c.is_last-closing.result c.is_last-closing.ensures in
-    (refl, inl (record { message = m; answer = t.0 }, ((after, at), t.1.0, t.1.1), subst (λ (x : List ℕ). CutsShort x old new) text t.2))
+    let new = g.W.Write.contents c.write_reply.new.writer in
+    let cut = subst (λ (e : WriteEnd). WritesAnswer (answer_text a c.is_last-closing.result) old new (Err e)) c.in-Err-WriteFailed.field-0-is c.in-Err-WriteFailed.ensures.written in
+    let text = text_is c.args.messages m a c.is_last-closing.result c.is_last-closing.ensures in (
+      Some (record { message = m; answer = a }),
+      c.has_failed-store_failed.ensures,
+      (refl, ((after, at), right.0, right.1), subst (λ (x : List ℕ). CutsShort x old new) text cut),
+    )
 
-pub returns-in-Err-NoMemory-clause-answers : goal.returns-in-Err-NoMemory-clause-answers
-returns-in-Err-NoMemory-clause-answers g c = λ clean d has bytes after remaining at.
+pub returns-clause-answers : goal.returns-clause-answers
+returns-clause-answers g c = λ clean d has bytes after remaining at.
     let m = message_in c.args.buffer.now.shown c.args.message in
+    let a = c.answer_to-answer.result in
+    let right = c.answer_to-answer.ensures.answers clean d has in
     let old = g.W.Write.contents c.args.writer.now in
-    let new = g.W.Write.contents c.tell.new.writer in
-    let t = subst (λ (e : WriteEnd). TellsOne m c.is_last-closing.result old new d (Err e) (g.K.Keeper.has c.tell.new.keeper)) c.in-Err-NoMemory.field-0-is (c.in-Err-NoMemory.ensures.tells clean d has) in
-    (t.2, refl, inr (inr (record { message = m; answer = t.0 }, ((after, at), t.1.0, t.1.1))))
+    let new = g.W.Write.contents c.write_reply.new.writer in
+    let none = subst (λ (e : WriteEnd). WritesAnswer (answer_text a c.is_last-closing.result) old new (Err e)) c.in-Err-NoMemory.field-0-is c.in-Err-NoMemory.ensures.written in
+    (Some (record { message = m; answer = a }), c.has_failed-store_failed.ensures, (none, refl, ((after, at), right.0, right.1)))
+
+pub returns-in-Ok-clause-failed : goal.returns-in-Ok-clause-failed
+returns-in-Ok-clause-failed g c = λ yes.
+    either (tells_failure c.answer_to-answer.result) c.args.store_failed g.K.Keeper.may_fail c.answer_to-answer.ensures.failed c.requires.failed (sym c.has_failed-store_failed.ensures ∙ yes)
+
+pub returns-in-Ok-2-clause-failed : goal.returns-in-Ok-2-clause-failed
+returns-in-Ok-2-clause-failed g c = λ yes.
+    either (tells_failure c.answer_to-answer.result) c.args.store_failed g.K.Keeper.may_fail c.answer_to-answer.ensures.failed c.requires.failed (sym c.has_failed-store_failed.ensures ∙ yes)
+
+pub returns-in-Err-WriteFailed-clause-failed : goal.returns-in-Err-WriteFailed-clause-failed
+returns-in-Err-WriteFailed-clause-failed g c = λ yes.
+    either (tells_failure c.answer_to-answer.result) c.args.store_failed g.K.Keeper.may_fail c.answer_to-answer.ensures.failed c.requires.failed (sym c.has_failed-store_failed.ensures ∙ yes)
+
+pub returns-clause-failed : goal.returns-clause-failed
+returns-clause-failed g c = λ yes.
+    either (tells_failure c.answer_to-answer.result) c.args.store_failed g.K.Keeper.may_fail c.answer_to-answer.ensures.failed c.requires.failed (sym c.has_failed-store_failed.ensures ∙ yes)

@@ -1,4 +1,4 @@
-use Rattle.std.proofs.Common.{◌≡◌, None}
+use Rattle.std.proofs.Common.{◌≡◌, true, None}
 use Rattle.ee_acts.specs.Repeats.{Content}
 use Rattle.ee_counter.proofs.Turns.{HasTold}
 use Rattle.ee_counter.proofs.connections.serve.Given as goal
@@ -7,8 +7,9 @@ abbrev pub invariant-loop-messages : goal.invariant-loop-messages
 invariant-loop-messages g l =
     record {
       open_yet : l.buffer.ended ≡ None;
+      failed : l.store_failed ≡ true → g.K.Keeper.may_fail;
       clean : g.K.Keeper.is_clean l.keeper → g.K.Keeper.is_clean l.fn.keeper;
       so_far : g.K.Keeper.is_clean l.keeper → (c : Content) → g.K.Keeper.has l.fn.keeper c
-          → HasTold (g.R.Read.remaining l.fn.reader) (g.R.Read.remaining l.reader) l.buffer.held (g.W.Write.contents l.fn.writer) (g.W.Write.contents l.writer) c l.messages
+          → HasTold (g.R.Read.remaining l.fn.reader) (g.R.Read.remaining l.reader) l.buffer.held (g.W.Write.contents l.fn.writer) (g.W.Write.contents l.writer) c l.messages l.store_failed
           (g.K.Keeper.has l.keeper);
     }

@@ -1,8 +1,12 @@
-use Rattle.std.proofs.Common.{arith, rules}
+use Rattle.std.proofs.Common.{arith, rules, subst, sym, List, Result}
+use Rattle.std.specs.List.{AllByRecursion}
+use Rattle.ee_acts.specs.declared.replies.Reply.{Reply}
+use Rattle.ee_acts.specs.declared.refusals.Unserved.{Unserved}
+use Rattle.ee_keeper.specs.Keeping.{FailsOnlyIf}
 use Rattle.ee_acts.specs.Contents.{content_after}
 use Rattle.ee_acts.specs.Answers.{served}
 use Rattle.std.proofs.Common.{take}
-use Rattle.ee_counter.proofs.Runs.{one_more}
+use Rattle.ee_counter.proofs.Runs.{all_more, one_more}
 use Rattle.ee_counter.proofs.requests.run.Goals as goal
 
 pub loop-request-preserved : goal.loop-request-preserved
@@ -11,6 +15,8 @@ loop-request-preserved g c =
     record {
       count = omega arith;
       room = search rules;
+      failed = subst (AllByRecursion (FailsOnlyIf g.K.Keeper.may_fail)) (sym {A = List (Result Reply Unserved)} c.push_reserved.ensures.items)
+          (all_more (FailsOnlyIf g.K.Keeper.may_fail) c.loop-request.answers.items c.deliver-answer.result i.failed c.deliver-answer.ensures.failed);
       clean = λ clean. i.clean (c.deliver-answer.ensures.clean clean);
       told = λ clean S has.
           let before = i.told (c.deliver-answer.ensures.clean clean) S has in

@@ -1,7 +1,9 @@
 use Rattle.std.proofs.Common.{◌≡◌, [], length, take, vec_len, vec_capacity}
+use Rattle.std.specs.List.{AllByRecursion}
 use Rattle.ee_acts.specs.Repeats.{Content}
 use Rattle.ee_acts.specs.Contents.{content_after}
 use Rattle.ee_acts.specs.Answers.{served, AreAnswers}
+use Rattle.ee_keeper.specs.Keeping.{FailsOnlyIf}
 use Rattle.ee_counter.proofs.requests.run.Given as goal
 
 abbrev pub invariant-loop-request : goal.invariant-loop-request
@@ -9,6 +11,7 @@ invariant-loop-request g l = record {
   count : vec_len l.answers ≡ l.request-index;
   room : vec_capacity l.answers ≡ length l.requests;
   clean : g.K.Keeper.is_clean l.keeper → g.K.Keeper.is_clean l.fn.keeper;
+  failed : AllByRecursion (FailsOnlyIf g.K.Keeper.may_fail) l.answers.items;
   told : g.K.Keeper.is_clean l.keeper → (c : Content) → g.K.Keeper.has l.fn.keeper c
       → AreAnswers c [] (take l.request-index l.requests) l.answers.items
       × g.K.Keeper.has l.keeper (content_after c (served (take l.request-index l.requests) l.answers.items));

@@ -5,11 +5,17 @@ use Rattle.sqlite.specs.FileStore.{recovers}
 use Rattle.ee_laws.proofs.Lemmas.{leaves_as_before}
 use Rattle.ee_store.specs.Serving.{StandsFor}
 use Rattle.ee_store.proofs.AtRest.{at_rest}
+use Rattle.ee_store.proofs.History.{rests_after}
 use Rattle.ee_store.proofs.ending.SqlKeeper+FileStore+D.close_files.Goals as goal
 
 pub returns-in-Ok-clause-at_rest : goal.returns-in-Ok-clause-at_rest
 returns-in-Ok-clause-at_rest g c = λ clean content has.
     at_rest c.args.self.conn c.in-Ok.files content c.schema-schema.ensures.live (subst (λ conn. IsCopied conn c.in-Ok.files) c.close.ensures (c.in-Ok.ensures.copied clean)) has
+
+pub returns-in-Ok-clause-history : goal.returns-in-Ok-clause-history
+returns-in-Ok-clause-history g c =
+    rests_after c.args.self.conn c.in-Ok.files c.whole_history.ensures.content
+    (λ clean content has. at_rest c.args.self.conn c.in-Ok.files content c.schema-schema.ensures.live (subst (λ conn. IsCopied conn c.in-Ok.files) c.close.ensures (c.in-Ok.ensures.copied clean)) has)
 
 pub returns-in-Err-clause-left : goal.returns-in-Err-clause-left
 returns-in-Err-clause-left g c =

@@ -3,6 +3,7 @@ use Rattle.sqlite.specs.Held.{state}
 use Rattle.ee_acts.specs.Contents.{content_after}
 use Rattle.ee_store.proofs.Transactions.{stands_committed}
 use Rattle.ee_store.proofs.Following.{follows_decided}
+use Rattle.ee_store.proofs.History.{goes_decided, goes_lost, goes_unserved}
 use Rattle.ee_store.proofs.keeper.SqlKeeper.deliver.Goals as goal
 
 pub returns-in-Ok-clause-durable : goal.returns-in-Ok-clause-durable
@@ -31,3 +32,15 @@ returns-in-Err-clause-unserved g c clean w follows =
         | inr after ↦ inr (after w.now follows.0)
       ]) follows.1,
     )
+
+pub returns-in-Ok-clause-goes : goal.returns-in-Ok-clause-goes
+returns-in-Ok-clause-goes g c clean =
+    let old = state g.S.Store c.args.self.now.conn in
+    let new = state g.S.Store c.deliver_on.new.conn in
+    let q = c.args.request.now in
+    let follows = returns-in-Ok-clause-decided g c clean in
+    (goes_decided old new q follows, goes_lost old new q follows)
+
+pub returns-in-Err-clause-goes : goal.returns-in-Err-clause-goes
+returns-in-Err-clause-goes g c clean =
+    goes_unserved (state g.S.Store c.args.self.now.conn) (state g.S.Store c.deliver_on.new.conn) c.args.request.now (returns-in-Err-clause-unserved g c clean)

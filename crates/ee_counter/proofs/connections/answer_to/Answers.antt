@@ -1,0 +1,8 @@
+use Rattle.ee_framing.specs.Reading.{message_in}
+use Rattle.ee_counter.proofs.Right.{of_parts}
+use Rattle.ee_counter.proofs.connections.answer_to.Goals as goal
+
+pub returns-clause-answers : goal.returns-clause-answers
+returns-clause-answers g c = λ clean d has.
+    of_parts (message_in c.args.buffer.now.shown c.args.message) c.part-target.result.now c.part-method.result.now c.part-body.result.now d c.answer_message.result (g.K.Keeper.has c.answer_message.new.keeper)
+    c.part-target.ensures.bytes c.part-method.ensures.bytes c.part-body.ensures.bytes (c.answer_message.ensures.answers clean d has)

@@ -1,0 +1,13 @@
+use Rattle.ee_files.proofs.records.read_rows.Goals as goal
+
+pub returns-in-Ok-clause-takes : goal.returns-in-Ok-clause-takes
+returns-in-Ok-clause-takes g c = c.read_whole.ensures.taken
+
+pub returns-in-Err-TooLong-clause-takes : goal.returns-in-Err-TooLong-clause-takes
+returns-in-Err-TooLong-clause-takes g c = c.read_whole.ensures.taken
+
+pub returns-in-Err-ReadFailed-clause-takes : goal.returns-in-Err-ReadFailed-clause-takes
+returns-in-Err-ReadFailed-clause-takes g c = c.read_whole.ensures.taken
+
+pub returns-in-Err-NoMemory-clause-takes : goal.returns-in-Err-NoMemory-clause-takes
+returns-in-Err-NoMemory-clause-takes g c = c.read_whole.ensures.taken

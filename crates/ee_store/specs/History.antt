@@ -1,0 +1,80 @@
+-- The history of a store, from a new one on: deliveries, faults, stops and starts.
+use Rattle.std.specs.Prelude.{◌≡◌, true, List, [], ◌∷◌, ◌++◌, map, Contains}
+use Rattle.std.specs.List.{AllByRecursion}
+use Rattle.sqlite_disk.specs.declared.Disk.{Ghosts}
+use Rattle.sqlite_disk.specs.declared.Files.{Files}
+use Rattle.sqlite.specs.State.{State}
+use Rattle.sqlite.specs.WalReads.{AreClean}
+use Rattle.sqlite.specs.declared.FileStore.{FileStore}
+use Rattle.sqlite.specs.Held.{Held}
+use Rattle.sqlite.specs.Files.{image_of, file_state}
+use Rattle.sqlite.specs.Recovery.{Image}
+use Rattle.ee_acts.specs.declared.acts.Request.{Request}
+use Rattle.ee_acts.specs.Repeats.{Content, nothing}
+use Rattle.ee_laws.specs.Events.{Event, World, begun, Happens}
+use Rattle.ee_laws.specs.Events.Event.{Deliver, Stop_between, Reopen}
+use Rattle.ee_laws.specs.Stops.{Survives, Settles, sent}
+use Rattle.ee_store.specs.Serving.{HasContent, FollowsWorld}
+use Rattle.ee_store.specs.Adopted.{IsOpenedFrom, KeepsWorld}
+use Rattle.ee_store.specs.Ended.{IsAtRest, RestsIn}
+use Rattle.ee_store.specs.NextRun.{IsNumbered, MayLeaveFiles}
+
+-- it takes requests, and a crash may leave its content
+pub record IsUp (w : World) : Type 0 where
+  pub up : w.up ≡ true
+  pub among : Contains w.may w.now
+
+-- a store that was new has come to this by these events: it follows what they have led to
+abbrev pub HasCome : List Event → State → Type 0
+HasCome events now = ∥ ((w : World) × Happens (begun nothing) events w × IsUp w × FollowsWorld now w) ∥₁
+
+-- whatever events a store had come by as it was, it has come by these after them
+abbrev pub Goes : State → List Event → State → Type 0
+Goes old events new = (earlier : List Event) → HasCome earlier old → HasCome (earlier ++ events) new
+
+-- The events have led from nothing to the content: it is that of requests that were sent, each acting once, and each reply
+-- that was given is still the answer.
+pub record IsLeftBy (events : List Event) (content : Content) : Type 0 where
+  pub world : World
+  pub happened : Happens (begun nothing) events world
+  pub is : content ≡ world.now
+  pub survives : Survives nothing events world
+
+-- ---- the law, of stores in files
+
+-- a store that was made has come by no event
+abbrev pub BeginsHistory : {D : Type 0} → Ghosts D → Type 0
+BeginsHistory {D} g = (now : Held (FileStore D g)) → FollowsWorld (file_state now) (begun nothing) → HasCome [] (file_state now)
+
+-- queries are no events
+abbrev pub GoesByQueries : {D : Type 0} → Ghosts D → Type 0
+GoesByQueries {D} g = (old new : Held (FileStore D g)) → KeepsWorld (file_state old) (file_state new) → Goes (file_state old) [] (file_state new)
+
+-- a crash leaves two files, and the next run opens them
+abbrev pub GoesThroughCrash : {D E : Type 0} → Ghosts D → Ghosts E → Type 0
+GoesThroughCrash {D} {E} g h = (old : Held (FileStore D g)) (left : Image) (now : Held (FileStore E h))
+    → IsNumbered old → MayLeaveFiles old left → IsOpenedFrom left now → Goes (file_state old) (Stop_between ∷ Reopen ∷ []) (file_state now)
+
+-- a command ends with its files at rest, and the next one opens them
+abbrev pub GoesThroughRest : {D E : Type 0} → Ghosts D → Ghosts E → Type 0
+GoesThroughRest {D} {E} g h = (old : Held (FileStore D g)) (files : Files D) (now : Held (FileStore E h))
+    → AreClean g files.log files.db → RestsIn old files → IsOpenedFrom (image_of g files) now
+    → Goes (file_state old) (Stop_between ∷ Reopen ∷ []) (file_state now)
+
+-- the store has a content that its events have led to
+abbrev pub HasHistory : {D : Type 0} → Ghosts D → Type 0
+HasHistory {D} g = (events : List Event) (now : Held (FileStore D g)) → HasCome events (file_state now)
+    → ∥ ((content : Content) × HasContent (file_state now) content × IsLeftBy events content) ∥₁
+
+-- once each sent request is delivered again, in any order, each stands once
+abbrev pub SettlesHistory : {D : Type 0} → Ghosts D → Type 0
+SettlesHistory {D} g = (events : List Event) (again : List Request) (now : Held (FileStore D g)) → AllByRecursion (Contains again) (sent events)
+    → HasCome (events ++ map Deliver again) (file_state now)
+    → ∥ ((w : World) × HasContent (file_state now) w.now × ((done : List Request) × Settles nothing events again w done)) ∥₁
+
+-- ---- the end of a run
+
+-- whatever events the store has come by, its two files are at rest with a content that these have led to
+abbrev pub RestsAfter : {D : Type 0} {g : Ghosts D} → Held (FileStore D g) → Files D → Type 0
+RestsAfter {g = g} c files = AreClean g files.log files.db → (events : List Event) → HasCome events (file_state c)
+    → ∥ ((content : Content) × IsAtRest g files content × IsLeftBy events content) ∥₁
