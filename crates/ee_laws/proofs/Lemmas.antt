@@ -1,11 +1,13 @@
--- Lemmas that the proofs of crates above use: what a disk may leave after each turn.
-use Rattle.std.proofs.Common.{List, false, true, ◌≡◌, ◌⊎◌}
+-- Lemmas that the proofs of crates above use: what a disk may leave after each turn, and elements of lists.
+use Rattle.std.proofs.Common.{List, ◌∷◌, false, true, ◌≡◌, ◌⊎◌}
+use Rattle.std.specs.List.{Contains}
 use Rattle.ee_acts.specs.Numbers.{number_of}
 use Rattle.ee_acts.specs.Repeats.{Content}
 use Rattle.ee_acts.specs.declared.acts.Request.{Request}
 use Rattle.ee_laws.specs.Events.{Told, World, decided, one, unserved}
 use Rattle.ee_laws.specs.Ties.{Leaves}
 use Rattle.std.specs.FinMap as finite
+use Rattle.ee_laws.proofs.Elements
 use Rattle.ee_laws.proofs.Leaving
 
 -- ---- what may be left stands for a content of the world
@@ -30,3 +32,8 @@ leaves_kept = Leaving.leaves_kept
 pub leaves_unserved : {Disk : Type 0} (Stands : Disk → Content → Type 0) (old new : Disk → Type 0) (w : World) (q : Request)
     → ((disk : Disk) → new disk → old disk ⊎ Stands disk (one w.now q)) → Leaves Stands old w → Leaves Stands new (unserved w q)
 leaves_unserved = Leaving.leaves_unserved
+
+-- ---- elements
+-- an element of the rest is one of the list
+pub in_tail : {A : Type 0} (y : A) (xs : List A) (x : A) → Contains xs x → Contains (y ∷ xs) x
+in_tail = Elements.in_tail

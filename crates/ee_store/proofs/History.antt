@@ -1,5 +1,5 @@
 -- A store's history: one event after another, from run to run.
-use Rattle.std.proofs.Common.{◌≡◌, ◌∙◌, ◌+◌, Bool, true, false, cond, List, [], ◌∷◌, ◌++◌, arith, refl, sym, ap, subst}
+use Rattle.std.proofs.Common.{◌≡◌, ◌∙◌, Bool, true, false, cond, List, [], ◌∷◌, ◌++◌, arith, refl, sym, ap, subst}
 use Rattle.std.specs.List.{AllByRecursion, Contains}
 use Rattle.std.specs.FinMap as finite
 use Rattle.std.proofs.Math.Logic.{∥∥₁_elim, ∥∥₁_map}
@@ -20,6 +20,7 @@ use Rattle.ee_acts.proofs.Lemmas.Requests.{content_after-known}
 use Rattle.ee_laws.specs.Events.{Event, World, Told, begun, decided, unserved, one, stopped, Leads, Happens}
 use Rattle.ee_laws.specs.Events.Event.{Deliver, Lose, Unserved, Stop_between, Reopen}
 use Rattle.ee_laws.specs.Stops.{SurvivesStops, SettlesByRetries}
+use Rattle.ee_laws.proofs.Lemmas.{in_tail}
 use Rattle.ee_store.specs.Serving.{StandsFor, HasContent, FollowsWorld}
 use Rattle.ee_store.specs.Adopted.{IsOpenedFrom}
 use Rattle.ee_store.specs.Ended.{RestsIn}
@@ -38,9 +39,6 @@ up_decided w q told is = record { up = refl; among = by_case (finite.contains_ke
     by_case true known = subst (λ b. Contains (cond b w.may (one w.now q ∷ [])) (one w.now q)) (sym known)
         (subst (Contains w.may) (sym (content_after-known w.now q known)) is.among)
     by_case false new = subst (λ b. Contains (cond b w.may (one w.now q ∷ [])) (one w.now q)) (sym new) (0, omega arith, refl)
-
-in_tail : (x : Content) (xs : List Content) (y : Content) → Contains xs y → Contains (x ∷ xs) y
-in_tail x xs y (k, less, is) = (k + 1, omega (arith, less), is)
 
 up_unserved : (w : World) (q : Request) → IsUp w → IsUp (unserved w q)
 up_unserved w q is = record { up = is.up; among = in_tail (one w.now q) w.may w.now is.among }
