@@ -173,7 +173,15 @@ UPDATE bonds SET ticket = 2 WHERE letter = 12 => UPDATE bonds SET ticket = 1 => 
 UPDATE replies SET reply = '{"code":10,"refused":"NumberReused"}' WHERE number = 3 => UPDATE replies SET reply = '{"opened":"2012-02-06"}' WHERE number = 3 => Unusable => replies 3 {"act":"open","day":"2012-02-06"} {"code":10,"refused":"NumberReused"}
 UPDATE replies SET reply = 'none' WHERE number = 3 => UPDATE replies SET reply = '{"opened":"2012-02-06"}' WHERE number = 3 => Unusable => replies 3 {"act":"open","day":"2012-02-06"} none
 UPDATE paid SET cents = 2589 WHERE place = 1 => UPDATE paid SET cents = 2588 WHERE place = 1 => Unusable => paid 1 1 12 1 2589
-DROP TABLE batches => CREATE TABLE batches (day INTEGER NOT NULL PRIMARY KEY, tickets INTEGER NOT NULL, bonds INTEGER NOT NULL, total INTEGER NOT NULL) STRICT; INSERT INTO batches VALUES (15376, 1, 3, 519622) => Unusable => batches is missing
+"#;
+
+/// Changes of the tables after that day, each on top of those before, and the answer to the changed store: a
+/// table less, the same tables in another order, a table more, another version beside that, and no version.
+const OTHER_TABLES: &str = r#"DROP TABLE batches => Unusable
+CREATE TABLE batches (day INTEGER NOT NULL PRIMARY KEY, tickets INTEGER NOT NULL, bonds INTEGER NOT NULL, total INTEGER NOT NULL) STRICT; INSERT INTO batches VALUES (15376, 1, 3, 519622) => Unusable
+CREATE TABLE notes (note TEXT) => Unusable
+UPDATE desk SET version = 2 => WrongVersion
+DROP TABLE desk => Unusable
 "#;
 
 /// What shows all rows of each table, in order of key.
@@ -284,6 +292,26 @@ fn changed_stores_are_refused(rt: HostRuntime) -> Result<(), Fail> {
     assert_eq!(rt; text?.as_str(), FIVE);
     for case in CHANGES.lines() {
         conn = is_refused(&rt, alloc, conn, case)?;
+    }
+    Ok(())
+}
+
+/// A store that doesn't have just the tables of this program, in their order, is refused, and stays as it is; its
+/// version is told first.
+#[test]
+fn other_tables_are_refused(rt: HostRuntime) -> Result<(), Fail> {
+    let alloc = rt.alloc();
+    let (text, mut conn) = served(alloc, Connection::open_in_memory(alloc)?);
+    assert_eq!(rt; text?.as_str(), FIVE);
+    for case in OTHER_TABLES.lines() {
+        let (statements, fault) = case.split_once(" => ").ok_or("change")?;
+        change(&mut conn, statements)?;
+        let before = rows_told(alloc, &mut conn)?;
+        let (text, left) = served(alloc, conn);
+        conn = left;
+        assert!(rt; text?.as_str() == fault, "{statements}");
+        let after = rows_told(alloc, &mut conn)?;
+        assert!(rt; before.as_str() == after.as_str(), "{statements}");
     }
     Ok(())
 }

@@ -16,8 +16,7 @@ use Rattle.ee_calls.specs.declared.calls.Call.TheVariants as call
 use Rattle.ee_calls.specs.declared.faults.WireFault.{WireFault}
 use Rattle.ee_calls.specs.declared.faults.WireFault.TheVariants.{Framing}
 use Rattle.ee_device.specs.Written.{WritesFront}
-use Rattle.ee_wire.specs.Answers.{answer_text, WritesAnswer}
-use Rattle.ee_wire.specs.declared.answers.WriteEnd.{WriteEnd}
+use Rattle.ee_wire.specs.Answers.{answer_text}
 use Rattle.ee_wire.specs.declared.answers.Answer.{Answer}
 use Rattle.ee_wire.specs.declared.answers.Answer.TheVariants as told
 use Rattle.ee_counter.specs.Answering.{call_of, IsAnswer, after_call, IsRight, left_after, Answers}

@@ -19,3 +19,4 @@ mod OpenLemmas
 mod UsableLemmas
 mod CanRead
 mod MakeUsable
+mod FiveLemmas

@@ -1,26 +1,16 @@
--- Which tables a store has, their version, and which rows can be read.
-use Rattle.std.specs.Prelude.{◌≡◌, ◌≢◌, ℕ, Bool, IsTrue, List, [], ◌∷◌, Some, is_some, option_map, codes}
+-- Whether a store has tables, their version, and which rows can be read.
+use Rattle.std.specs.Prelude.{◌≡◌, ◌≢◌, IsTrue, List, [], ◌∷◌, Some, option_map}
 use Rattle.std.specs.Option.{option_to_list}
-use Rattle.std.specs.List.{list_any}
 use Rattle.std.specs.FinMap.{get}
 use Rattle.sqlite.specs.Order.{Row}
-use Rattle.sqlite.specs.Schema.{Schema}
 use Rattle.sqlite.specs.State.{State}
-use Rattle.sqlite_schema.specs.Names.{table_named}
 use Rattle.ee_tables.specs.Rows.{Rows, DeskRow, number}
+use Rattle.ee_opening.specs.Making.{no_tables}
 use Rattle.ee_opening.specs.Shown.{AreWritten}
 
--- the names of the tables
-abbrev pub table_names : List (List ℕ)
-table_names = codes "desk" ∷ codes "rates" ∷ codes "bonds" ∷ codes "tickets" ∷ codes "paid" ∷ codes "batches" ∷ codes "replies" ∷ []
-
--- a table has one of the names, but for the case of letters
-abbrev pub has_some_table : Schema → Bool
-has_some_table schema = list_any (λ name. is_some (table_named schema name)) table_names
-
--- the last commit left a table of one of the names
+-- the last commit left some table, index or view
 abbrev pub HasTables : State → Type 0
-HasTables s = IsTrue s.is_open → IsTrue (has_some_table s.committed.schema)
+HasTables s = IsTrue s.is_open → s.committed.schema ≢ no_tables
 
 -- the version, as a query of the desk's row shows it
 abbrev pub version_shown : DeskRow → Row

@@ -4,6 +4,7 @@
 mod entries;
 mod making;
 mod opening;
+mod ours;
 mod reading;
 mod tables;
 mod version;

@@ -1,41 +1,21 @@
 //! Opening a store: its rows are found, and made where it has none.
 
-ghost use Rattle.std.specs.Prelude.{◌≡◌, ◌≢◌, ◌⊎◌, is_some, IsTrue, IfOk, IfErr, OnOk, OnErr};
+ghost use Rattle.std.specs.Prelude.{◌≡◌, ◌≢◌, ◌⊎◌, IsTrue, IfOk, IfErr, OnOk, OnErr};
 ghost use Rattle.sqlite.specs.State.{HasCleanDisk, KeepsCommit, Survives};
 ghost use Rattle.sqlite.specs.Held.{state};
 ghost use Rattle.sqlite.specs.Tree.{Trees};
-ghost use Rattle.sqlite_schema.specs.Names.{table_named};
 ghost use Rattle.ee_tables.specs.Rows.{Rows, Has, Stores};
+ghost use Rattle.ee_tables.specs.Statements.{LeavesNoMore};
 ghost use Rattle.ee_opening.specs.Making.{IsBlank, first_rows};
 ghost use Rattle.ee_opening.specs.Whole.{rows_of, IsOurs, AreInOrder};
-ghost use Rattle.ee_opening.specs.Opening.{has_some_table, HasTables, IsFirstVersion, IsOtherVersion, AreReadable};
+ghost use Rattle.ee_opening.specs.Opening.{HasTables, IsFirstVersion, IsOtherVersion, AreReadable};
 
 use crate::making::{OpenFault, make_tables};
+use crate::ours::{has_no_tables, has_our_tables};
+use crate::version::check_version;
 use crate::whole::{AllRows, read_all};
 use sqlite::{Alter, Connection};
-use sqlite_schema::schema::Schema;
 use std::alloc::Global;
-
-/// Whether a table has the name, but for the case of letters.
-fn has_table(schema: &Schema, name: &str) -> bool
-    ensures { result ≡ is_some (table_named schema.now name.now) }
-{
-    schema.table_named(name.as_bytes()).is_some()
-}
-
-/// Whether the store has a table of one of the names.
-fn has_tables<S: Alter>(conn: &Connection<S>) -> bool
-    ensures { result ≡ has_some_table (state S.Store conn.now).now.schema }
-{
-    let schema = conn.schema();
-    has_table(schema, "desk")
-        | has_table(schema, "rates")
-        | has_table(schema, "bonds")
-        | has_table(schema, "tickets")
-        | has_table(schema, "paid")
-        | has_table(schema, "batches")
-        | has_table(schema, "replies")
-}
 
 /// Makes the tables, and reads their rows.
 fn open_blank<S: Alter>(conn: &mut Connection<S>, alloc: Global) -> Result<AllRows, OpenFault>
@@ -53,22 +33,37 @@ fn open_blank<S: Alter>(conn: &mut Connection<S>, alloc: Global) -> Result<AllRo
     read_all(conn, alloc)
 }
 
-/// The rows of a store; the tables of version 1 are made where it has none of them.
+/// Why a store with other tables isn't opened.
+fn refusal<S: Alter>(conn: &mut Connection<S>) -> OpenFault
+    ensures kept { HasCleanDisk (state S.Store conn.new) → KeepsCommit (state S.Store conn.old) (state S.Store conn.new) }
+    ensures crash { LeavesNoMore (state S.Store conn.old) (state S.Store conn.new) }
+{
+    match check_version(conn) {
+        Ok(()) => OpenFault::Unusable,
+        Err(fault) => fault,
+    }
+}
+
+/// The rows of a store; the tables of version 1 are made where it has none at all.
 ///
-/// The tables are known by their names, whatever the case of their letters; other tables aren't
-/// looked at. Where none is there they are made in one transaction, with the desk's row: version 1,
-/// no open day and no last day. The version is tested before all else is read. Each table's rows come
-/// in order of their keys. It takes time and memory in proportion to the rows.
+/// A store is read where its tables are those of version 1, in the order in which they are made, with
+/// their indexes, and it has nothing else. Where it has no table, index or view they are made in one
+/// transaction, with the desk's row: version 1, no open day and no last day. Any other store is
+/// refused, one with our tables in another order too, and nothing is committed in it. The version is
+/// tested before all else is read. Each table's rows come in order of their keys. It takes time and
+/// memory in proportion to the rows.
 ///
 /// # Errors
 ///
-/// `WrongVersion` where the desk's row is of another version. `Unusable` where the tables refuse a
-/// statement, the desk's row is missing, or a row has a value that no row of this program has.
-/// `NoMemory` where there is not enough memory, and else `StoreFailed`, as where the connection is in
-/// a transaction. What was committed stays, or just the new tables and the desk's row are there. Where
-/// any of the tables is there nothing is committed, whatever their definitions are.
+/// `WrongVersion` where the desk's row is of another version, whatever the tables are besides.
+/// `Unusable` where the tables are others than those of version 1, the desk's row is missing, or a row
+/// has a value that no row of this program has. `NoMemory` where there is not enough memory, and else
+/// `StoreFailed`, as where the connection is in a transaction. What was committed stays, or just the
+/// new tables and the desk's row are there. Where there is a table, an index or a view, nothing is
+/// committed.
 pub fn open_rows<S: Alter>(conn: &mut Connection<S>, alloc: Global) -> Result<AllRows, OpenFault>
-    ensures found { HasCleanDisk (state S.Store conn.new) → IfOk result (λ all. (IsOurs (state S.Store conn.old) ⊎ IsBlank (state S.Store conn.old)) → Has (state S.Store conn.new) (rows_of all)) }
+    ensures found { HasCleanDisk (state S.Store conn.new) → IfOk result (λ all. Has (state S.Store conn.new) (rows_of all)) }
+    ensures ours { HasCleanDisk (state S.Store conn.new) → OnOk result (IsOurs (state S.Store conn.old) ⊎ IsBlank (state S.Store conn.old)) }
     ensures made { HasCleanDisk (state S.Store conn.new) → IfOk result (λ all. IsBlank (state S.Store conn.old) → IsTrue (state S.Store conn.old).is_open → rows_of all ≡ first_rows) }
     ensures those { HasCleanDisk (state S.Store conn.new) → IfOk result (λ all. (rows : Rows) → Has (state S.Store conn.old) rows → IsTrue (state S.Store conn.old).is_open → rows_of all ≡ rows) }
     ensures order { IfOk result AreInOrder }
@@ -90,9 +85,11 @@ pub fn open_rows<S: Alter>(conn: &mut Connection<S>, alloc: Global) -> Result<Al
     if !conn.is_autocommit() {
         return Err(OpenFault::StoreFailed);
     }
-    if has_tables(conn) {
+    if has_no_tables(conn.schema()) {
+        open_blank(conn, alloc)
+    } else if has_our_tables(conn.schema()) {
         read_all(conn, alloc)
     } else {
-        open_blank(conn, alloc)
+        Err(refusal(conn))
     }
 }

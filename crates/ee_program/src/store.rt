@@ -1,6 +1,6 @@
 //! Stores in files.
 
-ghost use Rattle.std.specs.Prelude.{◌≡◌};
+ghost use Rattle.std.specs.Prelude.{◌≡◌, IfOk, IfErr};
 ghost use Rattle.sqlite.specs.WalFiles.{image_at};
 ghost use Rattle.ee_store.specs.Ended.{RestsIn, StandsAlone};
 ghost use Rattle.ee_store.specs.History.{RestsAfter};
@@ -37,7 +37,10 @@ impl<F: Start> Stores for StoreFiles<'_, F> {
         }
     }
 
-    fn close(store: SqlKeeper<FileStore<FileFrom<F>>>) -> Result<Files<FileFrom<F>>, RunFault> {
+    fn close(store: SqlKeeper<FileStore<FileFrom<F>>>) -> Result<Files<FileFrom<F>>, RunFault>
+        ensures rests { IfOk result (λ files. RestsIn store.conn files × RestsAfter store.conn files) }
+        ensures fault { IfErr result (λ fault. fault ≡ RunFault.Store StoreFault.NotWrittenBack) }
+    {
         match store.close_files() {
             Ok(files) => Ok(files),
             Err(_store) => Err(RunFault::Store(StoreFault::NotWrittenBack)),

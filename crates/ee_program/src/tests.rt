@@ -4,7 +4,7 @@
 use crate::run::{refuse_words, run_words};
 use crate::store::StoreFiles;
 use crate::stores::Stores;
-use ee_actions::{Outcome, RunFault, serve_on};
+use ee_actions::{Outcome, RunFault, StoreFault, serve_on};
 use ee_keeper::ListKeeper;
 use sqlite::Unknown;
 use std::alloc::Global;
@@ -65,7 +65,7 @@ struct InMemory {
 }
 
 impl Stores for InMemory {
-    ghost use Rattle.std.specs.Prelude.{◌≡◌};
+    ghost use Rattle.std.specs.Prelude.{◌≡◌, IfOk, IfErr};
     ghost use Rattle.ee_acts.specs.Repeats.{nothing};
 
     type Store = ListKeeper;
@@ -80,7 +80,10 @@ impl Stores for InMemory {
         Ok(ListKeeper::empty(self.alloc))
     }
 
-    fn close(store: ListKeeper) -> Result<ListKeeper, RunFault> {
+    fn close(store: ListKeeper) -> Result<ListKeeper, RunFault>
+        ensures rests { IfOk result (λ rest. rest ≡ store) }
+        ensures fault { IfErr result (λ fault. fault ≡ RunFault.Store StoreFault.NotWrittenBack) }
+    {
         Ok(store)
     }
 }

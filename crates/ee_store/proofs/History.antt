@@ -1,6 +1,6 @@
 -- A store's history: one event after another, from run to run.
 use Rattle.std.proofs.Common.{◌≡◌, ◌∙◌, Bool, true, false, cond, List, [], ◌∷◌, ◌++◌, arith, refl, sym, ap, subst}
-use Rattle.std.specs.List.{AllByRecursion, Contains}
+use Rattle.std.specs.List.{Contains}
 use Rattle.std.specs.FinMap as finite
 use Rattle.std.proofs.Math.Logic.{∥∥₁_elim, ∥∥₁_map}
 use Rattle.sqlite_disk.specs.declared.Disk.{Ghosts}
@@ -9,22 +9,19 @@ use Rattle.sqlite_trees.specs.Props.{Trees-set}
 use Rattle.sqlite.specs.State.{State}
 use Rattle.sqlite.specs.Held.{Held}
 use Rattle.sqlite.specs.declared.FileStore.{FileStore}
-use Rattle.sqlite.specs.WalReads.{AreClean}
-use Rattle.sqlite.specs.Files.{file_state, image_of}
-use Rattle.sqlite.specs.Recovery.{Image}
+use Rattle.sqlite.specs.Files.{file_state}
 use Rattle.ee_acts.specs.declared.acts.Request.{Request}
 use Rattle.ee_acts.specs.Answers.{answer}
 use Rattle.ee_acts.specs.Numbers.{number_of}
 use Rattle.ee_acts.specs.Repeats.{Content, nothing}
 use Rattle.ee_acts.proofs.Lemmas.Requests.{content_after-known}
-use Rattle.ee_laws.specs.Events.{Event, World, Told, begun, decided, unserved, one, stopped, Leads, Happens}
+use Rattle.ee_laws.specs.Events.{Event, World, Told, begun, decided, unserved, one, Happens}
 use Rattle.ee_laws.specs.Events.Event.{Deliver, Lose, Unserved, Stop_between, Reopen}
 use Rattle.ee_laws.specs.Stops.{SurvivesStops, SettlesByRetries}
 use Rattle.ee_laws.proofs.Lemmas.{in_tail}
-use Rattle.ee_store.specs.Serving.{StandsFor, HasContent, FollowsWorld}
-use Rattle.ee_store.specs.Adopted.{IsOpenedFrom}
+use Rattle.ee_store.specs.Serving.{StandsFor, FollowsWorld}
 use Rattle.ee_store.specs.Ended.{RestsIn}
-use Rattle.ee_store.specs.NextRun.{IsNumbered, MayLeaveFiles, FollowsInNextRun}
+use Rattle.ee_store.specs.NextRun.{FollowsInNextRun}
 use Rattle.ee_store.specs.History.{IsUp, Goes, BeginsHistory, GoesByQueries, GoesThroughCrash, GoesThroughRest, HasHistory, SettlesHistory, RestsAfter}
 
 -- ---- worlds that are up

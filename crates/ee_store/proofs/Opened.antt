@@ -89,8 +89,8 @@ has_tables old rows has = ours_tables old (λ is_open. (has is_open).0)
 pub keeps_content : (old new : State) → (HasTables old → KeepsCommit old new) → (content : Content) → HasContent old content → HasContent new content
 keeps_content old new kept content has = record { right = has.right; rows = kept_has old new (rows_of content) (kept (has_tables old (rows_of content) has.rows)) has.rows }
 
-pub has_some : (old new : State) (rows : Rows) → (IsOurs old ⊎ IsBlank old → Has new rows) → (content : Content) × StandFor rows content → IsOurs old ⊎ IsBlank old → (content : Content) × HasContent new content
-has_some old new rows found some is = (some.0, record { right = some.1.right; rows = subst (Has new) some.1.are (found is) })
+pub has_some : (new : State) (rows : Rows) → Has new rows → (content : Content) × StandFor rows content → (content : Content) × HasContent new content
+has_some new rows found some = (some.0, record { right = some.1.right; rows = subst (Has new) some.1.are found })
 
 -- rows that stand for no content are neither those of a content nor the first ones
 pub stood_for_none : (old : State) (rows : Rows) → ((before : Rows) → Has old before → IsTrue old.is_open → rows ≡ before) → (IsBlank old → IsTrue old.is_open → rows ≡ first_rows)

@@ -41,9 +41,9 @@ BeginsWorld old new = IsTrue new.is_open × (IsBlank old → FollowsWorld new (b
 abbrev pub KeepsContent : State → State → Type 0
 KeepsContent old new = (content : Content) → HasContent old content → HasContent new content
 
--- a store with the tables, or with none, has some content
+-- the store had the tables and nothing else, or nothing at all, and has some content
 abbrev pub HasSome : State → State → Type 0
-HasSome old new = IsOurs old ⊎ IsBlank old → (content : Content) × HasContent new content
+HasSome old new = (IsOurs old ⊎ IsBlank old) × ((content : Content) × HasContent new content)
 
 -- the store follows the events of requests, as before
 abbrev pub KeepsWorld : State → State → Type 0
@@ -60,8 +60,8 @@ abbrev pub StaysStopped : State → State → Type 0
 StaysStopped old new = IsTrue old.is_open → (w : World) (left : Content) → Contains w.may left → StandsFor old.committed.trees left
     → (v : World) × Happens w (Stop_between ∷ []) v × (v.now ≡ left) × Leaves StandsFor new.may_leave v
 
--- Nothing was committed in a store that had any of the tables, whatever their definitions were; a store without tables may
--- have got the first rows.
+-- Nothing was committed in a store that had a table, an index or a view, whatever they were; a store without any may have got
+-- the first rows.
 abbrev pub KeepsRows : State → State → Type 0
 KeepsRows old new = (HasTables old → KeepsCommit old new) × (IsBlank old → KeepsCommit old new ⊎ HasContent new nothing)
 
@@ -77,7 +77,7 @@ HadOtherVersion old = IsTrue old.is_open → (rows : Rows) → Has old rows → 
 abbrev pub HadNoOtherVersion : State → Type 0
 HadNoOtherVersion old = IsTrue old.is_open → (rows : Rows) → Has old rows → ¬ IsOtherVersion rows
 
--- a crash of a store with any of the tables leaves what it could leave before
+-- a crash of a store with any table leaves what it could leave before
 abbrev pub LeavesAsBefore : State → State → Type 0
 LeavesAsBefore old new = IsTrue old.is_open → HasTables old → (db : Trees) → new.may_leave db → old.may_leave db
 

@@ -115,22 +115,24 @@ fn ready<S: Alter>(conn: &mut Connection<S>, alloc: Global) -> Result<Tables, Op
 }
 
 impl<S: Alter> SqlKeeper<S> {
-    /// Takes over a connection that is in no transaction. In a store that has none of the tables it
-    /// makes them, in one transaction, and begins with nothing; else it reads all rows and tests them.
+    /// Takes over a connection that is in no transaction. In a store without tables it makes them, in one
+    /// transaction, and begins with nothing; in one that has just the tables of this program, in the order
+    /// in which it makes them, it reads all rows and tests them. Any other store is refused.
     ///
     /// - `begins`: a store without tables gets the empty content.
     /// - `begun`: the connection is open, and of a store that had no tables a crash leaves the empty content
     ///   alone, so the events of the law of stops and retries begin there.
     /// - `found`: a store that has a content keeps it.
-    /// - `stands`: so the keeper serves from a content, and never from rows that stand for none.
+    /// - `stands`: so the keeper serves from a content, and never from rows that stand for none, nor from
+    ///   other tables.
     /// - `follows`: the store follows the events of the law of stops and retries as it did.
     /// - `goes_on`: a store over trees that a crash left, which stand for a content, is opened with just that
     ///   content, and the events of the law go on from there.
     /// - `version`, `unusable`: a store that has a content, or no tables, is refused for neither.
     /// - `other`, `tested`: `WrongVersion` is told only where the rows have another version, and `Unusable`
     ///   never there.
-    /// - `kept`: after a refusal a store that had any of the tables, whatever their definitions, is as
-    ///   it was. A store without tables may have got the first ones.
+    /// - `kept`: after a refusal a store that had any table, index or view is as it was. A store without
+    ///   tables may have got the first ones.
     /// - `waits`: of a store over trees that a crash left, which stand for a content, a refusal leaves what
     ///   stands for the same, so a later call goes on from there.
     /// - `crash`, `left`: whenever the call stops, a crash leaves what it could leave before. Of a
@@ -143,7 +145,8 @@ impl<S: Alter> SqlKeeper<S> {
     /// - `NoMemory` where there is not enough memory.
     /// - `StoreFailed` where the store fails, or the connection is in a transaction.
     /// - `WrongVersion` where the tables are of another version.
-    /// - `Unusable` where the rows stand for no books and kept replies.
+    /// - `Unusable` where the tables are others, or in another order, or the rows stand for no books and
+    ///   kept replies.
     pub fn adopt(conn: Connection<S>, alloc: Global) -> Result<SqlKeeper<S>, NotAdopted<S>>
         ensures begins { IfOk result (λ keeper. HasCleanDisk (state S.Store keeper.conn) → BeginsEmpty (state S.Store conn) (state S.Store keeper.conn)) }
         ensures begun { IfOk result (λ keeper. HasCleanDisk (state S.Store keeper.conn) → BeginsWorld (state S.Store conn) (state S.Store keeper.conn)) }

@@ -1,4 +1,4 @@
-use Rattle.std.proofs.Common.{◌≡◌, ◌∙◌, ◌++◌, ◌∷◌, [], ◌≤◌, length, arith, refl, inl, sym, subst}
+use Rattle.std.proofs.Common.{◌≡◌, ◌∙◌, ◌++◌, ◌∷◌, [], ◌≤◌, length, arith, refl, inl}
 use Rattle.std.proofs.lemmas.Result.{err_from_is_err_and}
 use Rattle.ee_actions.proofs.Connections.{count_more, each_more, each_yet, failed_more, lines_failed, printed_cut, printed_more, some_of, until_more, until_none}
 use Rattle.ee_actions.proofs.serving.serve_on.Goals as goal

@@ -47,7 +47,7 @@ returns-clause-begins g c clean =
     let old = state g.S.Store c.args.conn.now in
     let new = state g.S.Store c.open_rows.new.conn in
     let it = c.in_ok-all.ensures in
-    if_ok c.prepared.result (λ blank. begins old new (whole.rows_of c.in_ok-all.all) (it.kept clean) (it.made clean blank) (it.found clean (inr blank)))
+    if_ok c.prepared.result (λ blank. begins old new (whole.rows_of c.in_ok-all.all) (it.kept clean) (it.made clean blank) (it.found clean))
 
 pub returns-clause-begun : goal.returns-clause-begun
 returns-clause-begun g c clean =
@@ -58,7 +58,7 @@ returns-clause-begun g c clean =
     if_ok c.prepared.result (
       is_open,
       λ blank. begins_world new is_open
-          (begins old new (whole.rows_of c.in_ok-all.all) (it.kept clean) (it.made clean blank) (it.found clean (inr blank))) (it.begun clean blank),
+          (begins old new (whole.rows_of c.in_ok-all.all) (it.kept clean) (it.made clean blank) (it.found clean)) (it.begun clean blank),
     )
 
 pub returns-in_err-all-clause-other : goal.returns-in_err-all-clause-other
@@ -88,10 +88,9 @@ returns-clause-found g c clean =
 
 pub returns-clause-stands : goal.returns-clause-stands
 returns-clause-stands g c clean =
-    let old = state g.S.Store c.args.conn.now in
     let new = state g.S.Store c.open_rows.new.conn in
     let it = c.in_ok-all.ensures in
-    IfOk-weaker c.prepared.result _ _ (λ tables ok. has_some old new (whole.rows_of c.in_ok-all.all) (it.found clean) ok.0) c.prepared.ensures.ok
+    IfOk-weaker c.prepared.result _ _ (λ tables ok. (it.ours clean, has_some new (whole.rows_of c.in_ok-all.all) (it.found clean) ok.0)) c.prepared.ensures.ok
 
 pub returns-clause-follows : goal.returns-clause-follows
 returns-clause-follows g c clean =
@@ -112,7 +111,7 @@ returns-clause-kept g c clean =
     let old = state g.S.Store c.args.conn.now in
     let new = state g.S.Store c.open_rows.new.conn in
     let it = c.in_ok-all.ensures in
-    on_err_from c.prepared.result (it.kept clean, λ blank. inr (begins old new (whole.rows_of c.in_ok-all.all) (it.kept clean) (it.made clean blank) (it.found clean (inr blank))))
+    on_err_from c.prepared.result (it.kept clean, λ blank. inr (begins old new (whole.rows_of c.in_ok-all.all) (it.kept clean) (it.made clean blank) (it.found clean)))
 
 pub returns-clause-crash : goal.returns-clause-crash
 returns-clause-crash g c = begun_survives (state g.S.Store c.args.conn.now) (state g.S.Store c.open_rows.new.conn) c.in_ok-all.ensures.crash
