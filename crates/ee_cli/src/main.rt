@@ -2,20 +2,16 @@
 #![tactic(auto)]
 
 use ee_program::{StoreFiles, refuse_words, run_words};
-use sqlite::Unknown;
 use std::io;
 use std::process::ExitCode;
 
 fn main(rt: HostRuntime) -> ExitCode {
     let status = match words(&rt) {
         Ok(words) => {
-            let stores = StoreFiles {
-                rt: &rt,
-                start: Unknown,
-            };
+            let stores = StoreFiles { rt: &rt };
             run_words(
                 &rt,
-                stores,
+                &stores,
                 words.as_slice(),
                 &mut rt.stdin(),
                 &mut rt.stdout(),

@@ -20,13 +20,13 @@ use std::io::{Read, Write};
 /// Carries out a command. A store is opened before a file or a port is.
 pub fn carry_out<O: Stores, R: Read, W: Write>(
     rt: &HostRuntime,
-    stores: O,
+    stores: &O,
     command: Command,
     input: &mut R,
     output: &mut W,
 ) -> Result<Outcome, RunFault>
     ensures carries { Carries (W.contents output.old) (W.contents output.new) (view_of command.entry) result }
-    ensures over { AreClean O.Store.is_clean → (contents : Text → Content) → ((path : Text) → O.holds stores path (contents path))
+    ensures over { AreClean O.Store.is_clean → (contents : Text → Content) → ((path : Text) → O.holds stores.now path (contents path))
         → CarriesOver O.Store.has O.rests contents (R.remaining input.old) (R.remaining input.new) (W.contents output.old) (W.contents output.new) (view_of command.entry) result }
 {
     match command {
@@ -45,19 +45,19 @@ pub fn carry_out<O: Stores, R: Read, W: Write>(
 
 fn apply<O: Stores, R: Read, W: Write>(
     rt: &HostRuntime,
-    stores: O,
+    stores: &O,
     db: &str,
     input: &mut R,
     output: &mut W,
 ) -> Result<Outcome, RunFault>
-    ensures { AreClean O.Store.is_clean → (c : Content) → O.holds stores db.now c
+    ensures { AreClean O.Store.is_clean → (c : Content) → O.holds stores.now db.now c
         → Over O.rests (W.contents output.old) (W.contents output.new) result
         (λ left ended. Applies (R.remaining input.old) (R.remaining input.new) (W.contents output.old) (W.contents output.new) c ended (O.Store.has left)) }
 {
     match stores.open(db) {
         Ok(mut store) => {
             let ended = apply_to(rt.alloc(), &mut store, input, output);
-            end::<O>(store, ended)
+            end(stores, store, ended)
         }
         Err(fault) => Err(fault),
     }
@@ -65,21 +65,21 @@ fn apply<O: Stores, R: Read, W: Write>(
 
 fn import<O: Stores, W: Write>(
     rt: &HostRuntime,
-    stores: O,
+    stores: &O,
     kind: FileKind,
     file: &str,
     db: &str,
     number: Number,
     output: &mut W,
 ) -> Result<Outcome, RunFault>
-    ensures { AreClean O.Store.is_clean → (c : Content) → O.holds stores db.now c
+    ensures { AreClean O.Store.is_clean → (c : Content) → O.holds stores.now db.now c
         → Over O.rests (W.contents output.old) (W.contents output.new) result
         (λ left ended. ImportsInto kind None (W.contents output.old) (W.contents output.new) number c ended (O.Store.has left)) }
 {
     match stores.open(db) {
         Ok(mut store) => {
             let ended = import_path(rt, &mut store, kind, file, number, output);
-            end::<O>(store, ended)
+            end(stores, store, ended)
         }
         Err(fault) => Err(fault),
     }
@@ -87,12 +87,12 @@ fn import<O: Stores, W: Write>(
 
 fn export<O: Stores, W: Write>(
     rt: &HostRuntime,
-    stores: O,
+    stores: &O,
     customer: Customer,
     db: &str,
     output: &mut W,
 ) -> Result<Outcome, RunFault>
-    ensures over { AreClean O.Store.is_clean → (c : Content) → O.holds stores db.now c
+    ensures over { AreClean O.Store.is_clean → (c : Content) → O.holds stores.now db.now c
         → Over O.rests (W.contents output.old) (W.contents output.new) result
         (λ left ended. ExportsFrom (W.contents output.old) (W.contents output.new) customer c ended (O.Store.has left)) }
     ensures done { IfOk result (λ outcome. outcome ≡ Outcome.Done) }
@@ -100,20 +100,20 @@ fn export<O: Stores, W: Write>(
     match stores.open(db) {
         Ok(mut store) => {
             let ended = export_from(rt.alloc(), &mut store, customer, output);
-            end::<O>(store, ended)
+            end(stores, store, ended)
         }
         Err(fault) => Err(fault),
     }
 }
 
 fn sheet<O: Stores, W: Write>(
-    stores: O,
+    stores: &O,
     customer: Customer,
     month: Month,
     db: &str,
     output: &mut W,
 ) -> Result<Outcome, RunFault>
-    ensures over { AreClean O.Store.is_clean → (c : Content) → O.holds stores db.now c
+    ensures over { AreClean O.Store.is_clean → (c : Content) → O.holds stores.now db.now c
         → Over O.rests (W.contents output.old) (W.contents output.new) result
         (λ left ended. ShowsSheet (W.contents output.old) (W.contents output.new) customer month c ended (O.Store.has left c)) }
     ensures done { IfOk result (λ outcome. outcome ≡ Outcome.Done) }
@@ -121,7 +121,7 @@ fn sheet<O: Stores, W: Write>(
     match stores.open(db) {
         Ok(mut store) => {
             let ended = sheet_of(&mut store, customer, month, output);
-            end::<O>(store, ended)
+            end(stores, store, ended)
         }
         Err(fault) => Err(fault),
     }
@@ -129,13 +129,13 @@ fn sheet<O: Stores, W: Write>(
 
 fn serve<O: Stores, W: Write>(
     rt: &HostRuntime,
-    stores: O,
+    stores: &O,
     db: &str,
     port: u16,
     connections: u64,
     output: &mut W,
 ) -> Result<Outcome, RunFault>
-    ensures over { AreClean O.Store.is_clean → (c : Content) → O.holds stores db.now c
+    ensures over { AreClean O.Store.is_clean → (c : Content) → O.holds stores.now db.now c
         → Over O.rests (W.contents output.old) (W.contents output.new) result
         (λ left ended. ServesAll connections (W.contents output.old) (W.contents output.new) c ended (O.Store.has left)) }
     ensures done { IfOk result (λ outcome. outcome ≡ Outcome.Done) }
@@ -143,7 +143,7 @@ fn serve<O: Stores, W: Write>(
     match stores.open(db) {
         Ok(mut store) => {
             let ended = serve_port(rt, &mut store, port, connections, output);
-            end::<O>(store, ended)
+            end(stores, store, ended)
         }
         Err(fault) => Err(fault),
     }
@@ -151,13 +151,14 @@ fn serve<O: Stores, W: Write>(
 
 // Closes the store of a command whose work ended so.
 fn end<O: Stores>(
+    stores: &O,
     store: O::Store,
     ended: Result<Outcome, RunFault>,
 ) -> Result<Outcome, RunFault>
     ensures ends { EndsAs ended result }
     ensures rests { OnOk result ((rest : O.Rest) × O.rests store rest) }
 {
-    match O::close(store) {
+    match stores.close(store) {
         Ok(_rest) => ended,
         Err(fault) => match ended {
             Ok(_) => Err(fault),

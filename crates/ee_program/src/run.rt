@@ -42,7 +42,7 @@ pub const FAILED: u8 = 3;
 /// - `over`: what a command over a store did and printed, by what the store held (`contents`).
 pub fn run_words<O: Stores, R: Read, W: Write, E: Write>(
     rt: &HostRuntime,
-    stores: O,
+    stores: &O,
     words: &[String],
     input: &mut R,
     output: &mut W,
@@ -54,7 +54,7 @@ pub fn run_words<O: Stores, R: Read, W: Write, E: Write>(
         → Appends (W.contents output.old) (W.contents output.new) (value_line denom issued month rate) }
     ensures version { AsksForVersion (map (λ w. string_bytes w) words.now) → result ≡ 0
         → Appends (W.contents output.old) (W.contents output.new) version_line }
-    ensures over { AreClean O.Store.is_clean → (contents : Text → Content) → ((path : Text) → O.holds stores path (contents path))
+    ensures over { AreClean O.Store.is_clean → (contents : Text → Content) → ((path : Text) → O.holds stores.now path (contents path))
         → IsRun (map (λ w. string_bytes w) words.now) (CarriesOver O.Store.has O.rests contents (R.remaining input.old) (R.remaining input.new) (W.contents output.old) (W.contents output.new)) result }
 {
     match read_command(rt.alloc(), words) {

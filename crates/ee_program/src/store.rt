@@ -1,46 +1,40 @@
 //! Stores in files.
 
-ghost use Rattle.std.specs.Prelude.{◌≡◌, IfOk, IfErr};
-ghost use Rattle.sqlite.specs.WalFiles.{image_at};
-ghost use Rattle.ee_store.specs.Ended.{RestsIn, StandsAlone};
+ghost use Rattle.std.specs.Prelude.{◌≡◌};
+ghost use Rattle.ee_store.specs.Ended.{RestsIn};
 ghost use Rattle.ee_store.specs.History.{RestsAfter};
 ghost use Rattle.ee_program.specs.Faults.{fault_of_opening};
 
 use crate::stores::Stores;
 use ee_actions::{RunFault, StoreFault};
-use ee_store::{OpenFault, SqlKeeper, open_as};
-use sqlite::{FileFrom, FileStore, Files, Start};
+use ee_store::{OpenFault, SqlKeeper};
+use sqlite::{File, FileStore, Files};
 
-/// The stores in the files of this system. `start` stands for what the file held that a command line names: of
-/// a file that isn't empty nothing is told with `Unknown`, which a program passes.
-#[derive(Drop)]
-pub struct StoreFiles<'a, F: Start> {
+/// The stores in the files of this system.
+#[derive(Clone, Copy)]
+pub struct StoreFiles<'a> {
     pub rt: &'a HostRuntime,
-    pub start: F,
 }
 
-impl<F: Start> Stores for StoreFiles<'_, F> {
-    type Store = SqlKeeper<FileStore<FileFrom<F>>>;
+impl Stores for StoreFiles<'_> {
+    type Store = SqlKeeper<FileStore<File>>;
 
-    type Rest = Files<FileFrom<F>>;
+    type Rest = Files<File>;
 
-    // The file held a store at rest.
-    ghost holds = { λ _ _ c. StandsAlone (image_at F.Start) c };
+    // What a file holds no clause can say.
+    ghost holds = { λ _ _ _. ⊥ };
 
     // The files are at rest with what the store had, and that is what its whole history led to.
     ghost rests = { λ store files. RestsIn store.conn files × RestsAfter store.conn files };
 
-    fn open(self, path: &str) -> Result<SqlKeeper<FileStore<FileFrom<F>>>, RunFault> {
-        match open_as(self.rt, path, self.start) {
+    fn open(&self, path: &str) -> Result<SqlKeeper<FileStore<File>>, RunFault> {
+        match SqlKeeper::open(self.rt, path) {
             Ok(keeper) => Ok(keeper),
             Err(not) => Err(told(not.fault)),
         }
     }
 
-    fn close(store: SqlKeeper<FileStore<FileFrom<F>>>) -> Result<Files<FileFrom<F>>, RunFault>
-        ensures rests { IfOk result (λ files. RestsIn store.conn files × RestsAfter store.conn files) }
-        ensures fault { IfErr result (λ fault. fault ≡ RunFault.Store StoreFault.NotWrittenBack) }
-    {
+    fn close(&self, store: SqlKeeper<FileStore<File>>) -> Result<Files<File>, RunFault> {
         match store.close_files() {
             Ok(files) => Ok(files),
             Err(_store) => Err(RunFault::Store(StoreFault::NotWrittenBack)),

@@ -6,8 +6,8 @@ ghost use Rattle.ee_acts.specs.Repeats.{Content};
 use ee_actions::{RunFault, StoreFault};
 use ee_keeper::Keeper;
 
-/// Opens the store that a command line names, and closes it.
-pub trait Stores: Drop {
+/// Opens the stores that command lines name, and closes them.
+pub trait Stores {
     type Store: Keeper;
 
     /// What is left of a store that was closed.
@@ -20,11 +20,11 @@ pub trait Stores: Drop {
     ghost rests: { Self.Store → Self.Rest → Type 0 };
 
     /// The store of a path; its tables are made where it has none.
-    fn open(self, path: &str) -> Result<Self::Store, RunFault>
-        ensures { IfOk result (λ store. Self.Store.is_clean store → (c : Content) → holds self path.now c → Self.Store.has store c) };
+    fn open(&self, path: &str) -> Result<Self::Store, RunFault>
+        ensures { IfOk result (λ store. (c : Content) → holds self.now path.now c → Self.Store.has store c) };
 
     /// Closes a store, which is then at rest. Where that fails, what it committed stays as it was.
-    fn close(store: Self::Store) -> Result<Self::Rest, RunFault>
+    fn close(&self, store: Self::Store) -> Result<Self::Rest, RunFault>
         ensures rests { IfOk result (λ rest. rests store rest) }
         ensures fault { IfErr result (λ fault. fault ≡ RunFault.Store StoreFault.NotWrittenBack) };
 }

@@ -4,9 +4,8 @@
 use crate::run::{refuse_words, run_words};
 use crate::store::StoreFiles;
 use crate::stores::Stores;
-use ee_actions::{Outcome, RunFault, StoreFault, serve_on};
+use ee_actions::{Outcome, RunFault, serve_on};
 use ee_keeper::ListKeeper;
-use sqlite::Unknown;
 use std::alloc::Global;
 use std::fs;
 use std::io::{self, ErrorKind, Write};
@@ -38,7 +37,7 @@ fn text(rt: &HostRuntime, bytes: &[u8]) -> Result<String, Fail> {
 
 fn run_over<O: Stores>(
     rt: &HostRuntime,
-    stores: O,
+    stores: &O,
     line: &str,
     input: &str,
 ) -> Result<Ran, Fail> {
@@ -55,17 +54,17 @@ fn run_over<O: Stores>(
 }
 
 fn run(rt: &HostRuntime, line: &str, input: &str) -> Result<Ran, Fail> {
-    run_over(rt, StoreFiles { rt, start: Unknown }, line, input)
+    run_over(rt, &StoreFiles { rt }, line, input)
 }
 
-/// A store in memory, which is empty as it is opened, whatever its path is.
-#[derive(Drop)]
+/// Stores in memory, each empty as it is opened, whatever its path is.
+#[derive(Clone, Copy)]
 struct InMemory {
     alloc: Global,
 }
 
 impl Stores for InMemory {
-    ghost use Rattle.std.specs.Prelude.{◌≡◌, IfOk, IfErr};
+    ghost use Rattle.std.specs.Prelude.{◌≡◌};
     ghost use Rattle.ee_acts.specs.Repeats.{nothing};
 
     type Store = ListKeeper;
@@ -76,14 +75,11 @@ impl Stores for InMemory {
 
     ghost rests = { λ store rest. rest ≡ store };
 
-    fn open(self, _path: &str) -> Result<ListKeeper, RunFault> {
+    fn open(&self, _path: &str) -> Result<ListKeeper, RunFault> {
         Ok(ListKeeper::empty(self.alloc))
     }
 
-    fn close(store: ListKeeper) -> Result<ListKeeper, RunFault>
-        ensures rests { IfOk result (λ rest. rest ≡ store) }
-        ensures fault { IfErr result (λ fault. fault ≡ RunFault.Store StoreFault.NotWrittenBack) }
-    {
+    fn close(&self, store: ListKeeper) -> Result<ListKeeper, RunFault> {
         Ok(store)
     }
 }
@@ -217,7 +213,7 @@ fn failing_output(rt: HostRuntime) -> Result<(), Fail> {
         let mut told = Vec::new(rt.alloc());
         let stores = InMemory { alloc: rt.alloc() };
         let mut input = io::empty();
-        let status = run_words(&rt, stores, &words, &mut input, &mut output, &mut told);
+        let status = run_words(&rt, &stores, &words, &mut input, &mut output, &mut told);
         assert_eq!(rt; &output.bytes[..], &b"29.74\n"[..room]);
         assert_eq!(rt; &told[..], b"input or output failed\n".as_slice());
         assert_eq!(rt; status, 3);
@@ -348,7 +344,7 @@ fn lines_over_memory(rt: HostRuntime) -> Result<(), Fail> {
         ("value 50 2010-05 2015-05 3.50", "", "29.74\n"),
     ] {
         let stores = InMemory { alloc: rt.alloc() };
-        assert_prints(&rt, &run_over(&rt, stores, line, input)?, wanted);
+        assert_prints(&rt, &run_over(&rt, &stores, line, input)?, wanted);
     }
     forget(&rt, &file)
 }
