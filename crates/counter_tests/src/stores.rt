@@ -396,8 +396,8 @@ fn served_on<D: Disk + Drop>(
 
 /// Whether `apply` ended by `StoreFailed` on each message that was answered so, and on no other.
 fn ends_by_failures(talk: &str) -> bool {
-    talk.lines()
-        .all(|line| line.starts_with("StoreFailed 503 ") == line.ends_with("\"StoreFailed\"}"))
+    talk.lines().all(|line| line.starts_with("StoreFailed 503 ")
+        == line.ends_with("\"StoreFailed\"}"))
 }
 
 /// Each of the two files stops at each of its calls in turn. Where the store fails, `apply` ends by that,

@@ -70,12 +70,7 @@ fn has_failed(answer: &Answer, before: bool) -> bool
 }
 
 /// The answer to a message of the buffer.
-fn answer_to<K: Keeper>(
-    alloc: Global,
-    keeper: &mut K,
-    buffer: &Buffer,
-    message: Message,
-) -> Answer
+fn answer_to<K: Keeper>(alloc: Global, keeper: &mut K, buffer: &Buffer, message: Message) -> Answer
     ensures clean { K.is_clean keeper.new → K.is_clean keeper.old }
     ensures answers { K.is_clean keeper.new → (c : Content) → K.has keeper.old c
         → Answers c (call_of (message_in buffer.now.shown message)) result (K.has keeper.new) }

@@ -35,12 +35,7 @@ fn text(rt: &HostRuntime, bytes: &[u8]) -> Result<String, Fail> {
     Ok(std::str::from_utf8(bytes)?.to_string(rt.alloc())?)
 }
 
-fn run_over<O: Stores>(
-    rt: &HostRuntime,
-    stores: &O,
-    line: &str,
-    input: &str,
-) -> Result<Ran, Fail> {
+fn run_over<O: Stores>(rt: &HostRuntime, stores: &O, line: &str, input: &str) -> Result<Ran, Fail> {
     let words = words(rt, line)?;
     let mut bytes = input.as_bytes();
     let mut printed = Vec::new(rt.alloc());
@@ -340,7 +335,11 @@ fn lines_over_memory(rt: HostRuntime) -> Result<(), Fail> {
     for (line, input, wanted) in [
         ("apply --db here", STREAM, ANSWERS),
         (import.as_str(), "", "{\"new\":2,\"same\":0}\n"),
-        ("export 7 --db here", "", "serial,denom,issued,owner,coowner\n"),
+        (
+            "export 7 --db here",
+            "",
+            "serial,denom,issued,owner,coowner\n",
+        ),
         ("value 50 2010-05 2015-05 3.50", "", "29.74\n"),
     ] {
         let stores = InMemory { alloc: rt.alloc() };
