@@ -1,14 +1,14 @@
 //! The counter of a paying agent for paper Series EE savings bonds: the program.
 #![tactic(auto)]
 
-use ee_program::{StoreFiles, refuse_words, run_words};
+use ee_program::{StoreFiles, Untold, refuse_words, run_words};
 use std::io;
 use std::process::ExitCode;
 
 fn main(rt: HostRuntime) -> ExitCode {
     let status = match words(&rt) {
         Ok(words) => {
-            let stores = StoreFiles { rt: &rt };
+            let stores = StoreFiles { rt: &rt, start: Untold };
             run_words(
                 &rt,
                 &stores,

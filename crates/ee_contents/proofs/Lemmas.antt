@@ -13,7 +13,10 @@ use Rattle.ee_acts.specs.Sound.{IsRightBond, NumberedFrom}
 use Rattle.ee_acts.specs.declared.changes.Kept.{Kept}
 use Rattle.ee_acts.specs.declared.replies.Ticket.{Ticket}
 use Rattle.ee_calculator.specs.declared.bonds.Bond.{Bond}
-use Rattle.ee_contents.specs.Standing.{bond_row, bond_rows, desk_rows, key_of, paid_rows, rate_rows, reply_row, reply_rows, ticket_rows}
+use Rattle.ee_contents.specs.Contents.{PartsFit}
+use Rattle.ee_parts.specs.Parts.{parts_of}
+use Rattle.ee_acts.specs.Repeats.{Content}
+use Rattle.ee_contents.specs.Standing.{bond_row, bond_rows, desk_rows, key_of, paid_rows, rate_rows, reply_row, reply_rows, ticket_rows, IsRight}
 use Rattle.ee_units.specs.Denoms.{dollars}
 use Rattle.ee_units.specs.Spelling.{SerialNumber, ◌>>=◌}
 use Rattle.ee_units.specs.declared.denoms.Denom.{Denom}
@@ -23,6 +26,7 @@ use Rattle.ee_contents.proofs.Images
 use Rattle.ee_contents.proofs.OneContent
 use Rattle.ee_contents.proofs.Orders
 use Rattle.ee_contents.proofs.ReadBack
+use Rattle.ee_contents.proofs.RowsOfBooks
 pub use Rattle.ee_contents.proofs.Orders.{ticket_entry, ticket_lines, batch_entry}
 pub use Rattle.ee_contents.proofs.OneContent.{head_of, tail_of}
 
@@ -60,6 +64,10 @@ pub sorted_entries : {K X : Type 0} {R : K → K → Ordering} → IsTotalOrder 
 sorted_entries = Images.sorted_entries
 
 -- ---- values
+-- the parts of a right content are in range
+pub parts_in_range : (content : Content) → IsRight content → PartsFit (parts_of content.books)
+parts_in_range = RowsOfBooks.parts_in_range
+
 -- a right bond has the serial number that it stands at
 pub right_bond_is_keyed : (rates : FinMap nat_cmp Rates) (s : SerialNumber) (o : Option Bond) → IfSome o (IsRightBond rates s)
     → IfSome o (λ bond. bond.serial ≡ s)

@@ -14,9 +14,14 @@ mod OneLemmas
 mod ReadLemmas
 mod WholeLemmas
 mod FaultLemmas
+mod CauseLemmas
+mod NeverLemmas
 mod VersionLemmas
 mod OpenLemmas
 mod UsableLemmas
 mod CanRead
 mod MakeUsable
+mod MakeCause
+mod TakesLemmas
+mod FirstCause
 mod FiveLemmas

@@ -40,7 +40,7 @@ use Rattle.ee_opening.proofs.DefineLemmas.{said, same_value}
 abbrev AreUsable : {A : Type 0} → Part A → Type 0
 AreUsable P = (e : Error) → P (Err (Some e)) → IsUsable e
 
-same_stop : {A : Type 0} {a b : Option Error} → ◌≡◌ {A = Result A (Option Error)} (Err a) (Err b) → a ≡ b
+pub same_stop : {A : Type 0} {a b : Option Error} → ◌≡◌ {A = Result A (Option Error)} (Err a) (Err b) → a ≡ b
 same_stop e = cc
 
 then_usable : {A B : Type 0} (First : Part A) (Next : A → Part B) → AreUsable First → ((a : A) → First (Ok a) → AreUsable (Next a)) → AreUsable (Then First Next)
@@ -54,7 +54,7 @@ test_fails : (p : Bool) → not p ≡ true → p ≡ true → ⊥
 test_fails true a b = cc
 test_fails false a b = cc
 
-has_free : {X : Type 0} (test : X → Bool) (xs : List X) (x : X) → list_all test xs ≡ true → Has xs x → test x ≡ true
+pub has_free : {X : Type 0} (test : X → Bool) (xs : List X) (x : X) → list_all test xs ≡ true → Has xs x → test x ≡ true
 has_free test [] x all has = absurd has
 has_free test (y ∷ ys) x all (inl same) = ap test same ∙ first (test y) (list_all test ys) all
   where
@@ -72,14 +72,18 @@ never b no_it it = let h = sym no_it ∙ it in cc
 
 -- ---- tables
 
+-- the names are free
+pub name_free : (before after : Schema) (text : List ℕ) → AddsTable before text after → ¬ RefusesTable before text why.NameTaken
+name_free before after text adds (table, defined, inl used) =
+    let same : adds.table ≡ table = same_value (sym adds.defined ∙ defined) in
+    never _ adds.free (ap (λ (t : Table). is_used before t.name) same ∙ used)
+name_free before after text adds (table, defined, inr (index, has, used)) =
+    let same : table ≡ adds.table = same_value (sym defined ∙ adds.defined) in
+    test_fails (is_used before index.name) (has_free (λ (i : Index). not (is_used before i.name)) (automatics adds.table 0 0 adds.table.uniques) index adds.all_free (subst (λ (t : Table). Has (automatics t 0 0 t.uniques) index) same has)) used
+
 table_usable : (before after : Schema) (text : List ℕ) → AddsTable before text after → (reason : Refusal) → RefusesTable before text reason → IsUsable (alter_error reason)
 table_usable before after text adds (why.Invalid e) h = absurd (let it = sym adds.defined ∙ h in cc)
-table_usable before after text adds why.NameTaken (table, defined, inl used) =
-    let same : adds.table ≡ table = same_value (sym adds.defined ∙ defined) in
-    absurd (never _ adds.free (ap (λ (t : Table). is_used before t.name) same ∙ used))
-table_usable before after text adds why.NameTaken (table, defined, inr (index, has, used)) =
-    let same : table ≡ adds.table = same_value (sym defined ∙ adds.defined) in
-    absurd (test_fails (is_used before index.name) (has_free (λ (i : Index). not (is_used before i.name)) (automatics adds.table 0 0 adds.table.uniques) index adds.all_free (subst (λ (t : Table). Has (automatics t 0 0 t.uniques) index) same has)) used)
+table_usable before after text adds why.NameTaken h = absurd (name_free before after text adds h)
 table_usable before after text adds why.BadName h = λ u. cc
 table_usable before after text adds why.TooBig h = λ u. cc
 table_usable before after text adds why.BadKey h = λ u. cc

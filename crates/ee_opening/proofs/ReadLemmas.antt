@@ -1,7 +1,7 @@
 -- What reading several tables in turn gives.
 use Rattle.std.specs.Result.{is_ok, is_err}
 use Rattle.std.specs.Prelude.{if◌then◌else◌}
-use Rattle.std.proofs.Common.{◌≡◌, false, List, [], ◌∷◌, ◌++◌, map, refl, Ok, Err, Result, IfOk, IfErr, OnOk, sym, ap, subst, ◌∙◌}
+use Rattle.std.proofs.Common.{◌≡◌, ◌+◌, false, length, length-append, List, [], ◌∷◌, ◌++◌, map, refl, Ok, Err, Result, IfOk, IfErr, OnOk, sym, ap, subst, ◌∙◌}
 use Rattle.sqlite.specs.Effect.{Database, IsDatabase}
 use Rattle.sqlite.specs.State.{State, IsUnchanged}
 use Rattle.ee_opening.specs.Reading.{IsSoundNow, HasOurTables}
@@ -43,3 +43,7 @@ one_more f (Ok e) done ys xs x is = sym (ap (map f) is ∙ mapped xs)
     mapped [] = refl
     mapped (z ∷ zs) = ap (λ more. f z ∷ more) (mapped zs)
 one_more f (Err e) done ys xs x is = absurd cc
+
+pub one_longer : {A E F : Type 0} (r : Result E F) → false ≡ is_err r → (ys xs : List A) (x : A) → ys ≡ (if is_ok r then xs ++ x ∷ [] else xs) → length ys ≡ length xs + 1
+one_longer (Ok e) done ys xs x is = ap length is ∙ length-append xs (x ∷ [])
+one_longer (Err e) done ys xs x is = absurd cc

@@ -56,38 +56,38 @@ with_batches = record payment_tables { tables = desk ∷ rates ∷ bonds ∷ tic
 
 -- ---- each step
 
-pub adds_desk : AddsTable no_tables desk_text with_desk
+unfoldable pub adds_desk : AddsTable no_tables desk_text with_desk
 unfolding understood everything
 adds_desk = record { command = (refl, refl, refl, refl); table = desk; defined = refl; is = refl; uncounted = refl; free = refl; all_free = refl }
 
-pub adds_rates : AddsTable with_desk rates_text with_rates
+unfoldable pub adds_rates : AddsTable with_desk rates_text with_rates
 unfolding understood everything
 adds_rates = record { command = (refl, refl, refl, refl); table = record rates { tree = 0 }; defined = refl; is = refl; uncounted = refl; free = refl; all_free = refl }
 
-pub adds_bonds : AddsTable with_rates bonds_text with_bonds
+unfoldable pub adds_bonds : AddsTable with_rates bonds_text with_bonds
 unfolding understood everything
 adds_bonds = record { command = (refl, refl, refl, refl); table = record bonds { tree = 0 }; defined = refl; is = refl; uncounted = refl; free = refl; all_free = refl }
 
-pub adds_owner : AddsIndex with_bonds owner_text register_tables
+unfoldable pub adds_owner : AddsIndex with_bonds owner_text register_tables
 unfolding understood everything
 adds_owner = record { place = 2; command = (refl, refl, refl, refl); table = bonds; over = refl; index = index_on (codes "bonds_owner") 0 2 (5 ∷ 1 ∷ 2 ∷ []); defined = refl; is = refl; free = refl }
 
-pub adds_tickets : AddsTable register_tables tickets_text with_tickets
+unfoldable pub adds_tickets : AddsTable register_tables tickets_text with_tickets
 unfolding understood everything
 adds_tickets = record { command = (refl, refl, refl, refl); table = record tickets { tree = 0 }; defined = refl; is = refl; uncounted = refl; free = refl; all_free = refl }
 
-pub adds_day : AddsIndex with_tickets day_text with_days
+unfoldable pub adds_day : AddsIndex with_tickets day_text with_days
 unfolding understood everything
 adds_day = record { place = 3; command = (refl, refl, refl, refl); table = tickets; over = refl; index = index_on (codes "tickets_day") 0 5 (2 ∷ 0 ∷ []); defined = refl; is = refl; free = refl }
 
-pub adds_paid : AddsTable with_days paid_text payment_tables
+unfoldable pub adds_paid : AddsTable with_days paid_text payment_tables
 unfolding understood everything
 adds_paid = record { command = (refl, refl, refl, refl); table = record paid { tree = 0 }; defined = refl; is = refl; uncounted = refl; free = refl; all_free = refl }
 
-pub adds_batches : AddsTable payment_tables batches_text with_batches
+unfoldable pub adds_batches : AddsTable payment_tables batches_text with_batches
 unfolding understood everything
 adds_batches = record { command = (refl, refl, refl, refl); table = record batches { tree = 0 }; defined = refl; is = refl; uncounted = refl; free = refl; all_free = refl }
 
-pub adds_replies : AddsTable with_batches replies_text counter_schema
+unfoldable pub adds_replies : AddsTable with_batches replies_text counter_schema
 unfolding understood everything
 adds_replies = record { command = (refl, refl, refl, refl); table = record replies { tree = 0 }; defined = refl; is = refl; uncounted = refl; free = refl; all_free = refl }

@@ -17,10 +17,10 @@ use Rattle.ee_opening.specs.Opening.{version_shown, versions_in, IsFirstVersion,
 abbrev pub version_text : List ℕ
 version_text = codes "SELECT version FROM desk WHERE id = ?1"
 
-abbrev version_query : Query
+abbrev pub version_query : Query
 version_query = by_number 0 (col 1 2 ∷ [])
 
-version_is : (command_of (understood counter_schema version_text) ≡ Select (record { lets = []; body = version_query }) (codes "version" ∷ [])) × (reads_listing counter_schema version_text ≡ false)
+pub version_is : (command_of (understood counter_schema version_text) ≡ Select (record { lets = []; body = version_query }) (codes "version" ∷ [])) × (reads_listing counter_schema version_text ≡ false)
 unfolding understood everything
 version_is = (refl, refl)
 

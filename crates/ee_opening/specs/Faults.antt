@@ -1,4 +1,7 @@
--- What a failure of `sqlite` says of a store that is opened.
+-- What a failure of `sqlite` says of a store that is opened, and why a store is told to have failed.
+use Rattle.std.specs.Prelude.{◌≡◌, None, Result, IfErr}
+use Rattle.sqlite.specs.State.{State, HasCleanDisk}
+use Rattle.ee_tables.specs.Statements.{HasCause}
 use Rattle.sqlite.specs.declared.error.Error.{Error}
 use Rattle.sqlite.specs.declared.error.Error.TheVariants.{SqliteFailure, SqlInputError, InvalidColumnIndex, InvalidColumnType, IntegralValueOutOfRange, Utf8Error}
 use Rattle.sqlite.specs.declared.error.ErrorCode.TheVariants.{OutOfMemory, NameTaken}
@@ -15,3 +18,11 @@ fault_of (InvalidColumnType at kind) = Unusable
 fault_of (IntegralValueOutOfRange at) = Unusable
 fault_of (Utf8Error at) = Unusable
 fault_of _ = StoreFailed
+
+-- a store that failed has such a cause
+abbrev pub IsExcused : State → State → OpenFault → Type 0
+IsExcused old new fault = fault ≡ StoreFailed → HasCause old new
+
+-- it has, from a state like this on and with no limit on steps
+abbrev pub FailsForCause : {X : Type 0} → (State → Type 0) → State → State → Result X OpenFault → Type 0
+FailsForCause Starts old new result = HasCleanDisk new → Starts old → old.step_limit ≡ None → IfErr result (IsExcused old new)

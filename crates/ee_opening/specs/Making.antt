@@ -12,6 +12,9 @@ use Rattle.sqlite.specs.Command.{Command}
 use Rattle.sqlite.specs.Command.TheVariants.{CreateTable, CreateIndex}
 use Rattle.sqlite.specs.Change.{created, indexed}
 use Rattle.sqlite_catalog.specs.Change.{is_used, automatics}
+use Rattle.sqlite_catalog.specs.Calls.{RefusesTable, IsLongTable, RefusesIndex, IsLongIndex}
+use Rattle.sqlite_catalog.specs.declared.error.Refusal.{Refusal}
+use Rattle.sqlite.specs.Tree.{Trees}
 use Rattle.sqlite.specs.Does.{lacks_sequence}
 use Rattle.sqlite.specs.Listing.{understood}
 use Rattle.sqlite.specs.State.{State, text_of}
@@ -19,6 +22,7 @@ use Rattle.sqlite_catalog.specs.Listing.{automatic}
 use Rattle.std.specs.Prelude.{codes}
 use Rattle.ee_tables.specs.Tables.{desk, rates, bonds, tickets, paid, index_on}
 use Rattle.ee_tables.specs.Rows.{Rows, DeskRow}
+use Rattle.ee_opening.specs.Reading.{IsOneStatement}
 
 abbrev pub no_tables : Schema
 no_tables = record { tables = []; indexes = []; views = [] }
@@ -56,6 +60,10 @@ first_rows = record { desk = insert empty 1 first_desk; rates = empty; bonds = e
 abbrev pub SeesTables : State → Schema → Type 0
 SeesTables s schema = IsTrue s.is_open → (s.now.schema ≡ schema) × AllByRecursion (λ t. s.now.trees t.tree ≡ []) schema.tables
 
+-- a transaction is under way, and sees these tables with no row in them
+abbrev pub IsAmid : Schema → State → Type 0
+IsAmid schema s = IsTrue s.in_transaction × SeesTables s schema
+
 -- the text is this one command, which shows nothing and does not read the time
 abbrev pub IsCommand : List ℕ → Command → Result Compiled CompileError → Type 0
 IsCommand text command (Ok c) = (c.command ≡ command) × (c.returning ≡ None) × (c.formats ≡ []) × (text_of text c ≡ text)
@@ -82,3 +90,15 @@ pub record AddsIndex (before : Schema) (text : List ℕ) (after : Schema) : Type
   pub defined : index_defined_by table text ≡ Ok index
   pub is : indexed before table index ≡ after
   pub free : is_used before index.name ≡ false
+
+-- `sqlite` has no reason to refuse the table that the text makes
+pub record TakesTable (before : Schema) (text : List ℕ) : Type 0 where
+  pub statement : IsOneStatement text 0 (understood before text)
+  pub taken : (reason : Refusal) → ¬ RefusesTable before text reason
+  pub short : ¬ IsLongTable text
+
+-- likewise for an index over the table, where the tables have no rows
+pub record TakesIndex (before : Schema) (text : List ℕ) (table : Table) : Type 0 where
+  pub statement : IsOneStatement text 0 (understood before text)
+  pub taken : (db : Trees) → AllByRecursion (λ t. db t.tree ≡ []) before.tables → (reason : Refusal) → ¬ RefusesIndex before db table text reason
+  pub short : (db : Trees) → AllByRecursion (λ t. db t.tree ≡ []) before.tables → ¬ IsLongIndex db table text

@@ -3,7 +3,7 @@
 //! Months are counted from May 2005, days from 1970-01-01, letters from 1 for A. Rates are in
 //! hundredths of a percent, denominations in dollars, all other money in cents.
 
-ghost use Rattle.std.specs.Prelude.{◌≡◌, [], ◌∷◌, nat_lt, int_lt};
+ghost use Rattle.std.specs.Prelude.{[], ◌∷◌, nat_lt, int_lt};
 ghost use Rattle.sqlite.specs.declared.types.Value.TheVariants.{Int};
 ghost use Rattle.ee_tables.specs.Rows.{desk_columns, rate_columns, bond_columns, ticket_columns, paid_columns, batch_columns};
 ghost use Rattle.ee_opening.specs.Shown as spec;

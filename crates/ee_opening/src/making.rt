@@ -1,6 +1,6 @@
 //! Making the tables of version 1 in an empty store.
 
-ghost use Rattle.std.specs.Prelude.{◌≡◌, ◌≢◌, List, IsTrue, IfErr, OnOk, OnErr};
+ghost use Rattle.std.specs.Prelude.{◌≡◌, ◌≢◌, false, IsTrue, IfErr, OnOk, OnErr};
 ghost use Rattle.sqlite.specs.State.{HasCleanDisk, KeepsCommit, Survives};
 ghost use Rattle.sqlite.specs.Held.{state};
 ghost use Rattle.sqlite.specs.Schema.{Schema};
@@ -8,7 +8,8 @@ ghost use Rattle.sqlite.specs.Tree.{Trees};
 ghost use Rattle.sqlite.specs.Effect.{IsDatabase};
 ghost use Rattle.ee_tables.specs.Rows.{Stores, Sees, Has};
 ghost use Rattle.ee_tables.specs.Tables.{counter_schema};
-ghost use Rattle.ee_opening.specs.Making.{IsBlank, first_rows, SeesTables, AddsTable, AddsIndex, no_tables, register_tables, payment_tables};
+ghost use Rattle.ee_opening.specs.Faults.{FailsForCause};
+ghost use Rattle.ee_opening.specs.Making.{IsBlank, first_rows, SeesTables, IsAmid, AddsTable, AddsIndex, TakesTable, TakesIndex, no_tables, register_tables, payment_tables};
 
 use sqlite::{Alter, Connection, Error, ErrorCode, Transaction};
 use thiserror::Error as Fault;
@@ -56,11 +57,13 @@ impl From<Error> for OpenFault {
 /// Makes a table.
 fn define_table<S: Alter>(tx: &mut Transaction<'_, S>, sql: &str) -> Result<(), OpenFault>
     ensures same_reference { tx.new.conn.ghost_name ≡ tx.old.conn.ghost_name }
+    ensures inside { HasCleanDisk (state S.Store tx.new.conn.now) → OnOk result (IsTrue (state S.Store tx.new.conn.now).in_transaction) }
     ensures open { HasCleanDisk (state S.Store tx.new.conn.now) → OnOk result (IsTrue (state S.Store tx.new.conn.now).is_open) }
     ensures added { HasCleanDisk (state S.Store tx.new.conn.now) → OnOk result ((before after : Schema) → AddsTable before sql.now after
         → SeesTables (state S.Store tx.old.conn.now) before → SeesTables (state S.Store tx.new.conn.now) after) }
     ensures usable { HasCleanDisk (state S.Store tx.new.conn.now) → IfErr result (λ e. (before after : Schema) → AddsTable before sql.now after → SeesTables (state S.Store tx.old.conn.now) before → IsTrue (state S.Store tx.old.conn.now).is_open → e ≢ OpenFault.Unusable) }
     ensures other { IfErr result (λ e. e ≢ OpenFault.WrongVersion) }
+    ensures cause { (before after : Schema) → AddsTable before sql.now after → TakesTable before sql.now → FailsForCause (IsAmid before) (state S.Store tx.old.conn.now) (state S.Store tx.new.conn.now) result }
     ensures commit { HasCleanDisk (state S.Store tx.new.conn.now) → KeepsCommit (state S.Store tx.old.conn.now) (state S.Store tx.new.conn.now) }
     ensures crash { Survives (state S.Store tx.old.conn.now) (state S.Store tx.new.conn.now) (λ _. ⊥) }
 {
@@ -71,11 +74,13 @@ fn define_table<S: Alter>(tx: &mut Transaction<'_, S>, sql: &str) -> Result<(), 
 /// Makes an index.
 fn define_index<S: Alter>(tx: &mut Transaction<'_, S>, sql: &str) -> Result<(), OpenFault>
     ensures same_reference { tx.new.conn.ghost_name ≡ tx.old.conn.ghost_name }
+    ensures inside { HasCleanDisk (state S.Store tx.new.conn.now) → OnOk result (IsTrue (state S.Store tx.new.conn.now).in_transaction) }
     ensures open { HasCleanDisk (state S.Store tx.new.conn.now) → OnOk result (IsTrue (state S.Store tx.new.conn.now).is_open) }
     ensures added { HasCleanDisk (state S.Store tx.new.conn.now) → OnOk result ((before after : Schema) → AddsIndex before sql.now after
         → SeesTables (state S.Store tx.old.conn.now) before → SeesTables (state S.Store tx.new.conn.now) after) }
     ensures usable { HasCleanDisk (state S.Store tx.new.conn.now) → IfErr result (λ e. (before after : Schema) → AddsIndex before sql.now after → SeesTables (state S.Store tx.old.conn.now) before → IsTrue (state S.Store tx.old.conn.now).is_open → e ≢ OpenFault.Unusable) }
     ensures other { IfErr result (λ e. e ≢ OpenFault.WrongVersion) }
+    ensures cause { (before after : Schema) (adds : AddsIndex before sql.now after) → TakesIndex before sql.now adds.table → FailsForCause (IsAmid before) (state S.Store tx.old.conn.now) (state S.Store tx.new.conn.now) result }
     ensures commit { HasCleanDisk (state S.Store tx.new.conn.now) → KeepsCommit (state S.Store tx.old.conn.now) (state S.Store tx.new.conn.now) }
     ensures crash { Survives (state S.Store tx.old.conn.now) (state S.Store tx.new.conn.now) (λ _. ⊥) }
 {
@@ -86,10 +91,12 @@ fn define_index<S: Alter>(tx: &mut Transaction<'_, S>, sql: &str) -> Result<(), 
 /// Makes the tables of the register: the desk, the rates and the bonds.
 fn make_register<S: Alter>(tx: &mut Transaction<'_, S>) -> Result<(), OpenFault>
     ensures same_reference { tx.new.conn.ghost_name ≡ tx.old.conn.ghost_name }
+    ensures inside { HasCleanDisk (state S.Store tx.new.conn.now) → OnOk result (IsTrue (state S.Store tx.new.conn.now).in_transaction) }
     ensures open { HasCleanDisk (state S.Store tx.new.conn.now) → OnOk result (IsTrue (state S.Store tx.new.conn.now).is_open) }
     ensures added { HasCleanDisk (state S.Store tx.new.conn.now) → OnOk result (SeesTables (state S.Store tx.old.conn.now) no_tables → SeesTables (state S.Store tx.new.conn.now) register_tables) }
     ensures usable { HasCleanDisk (state S.Store tx.new.conn.now) → IfErr result (λ e. SeesTables (state S.Store tx.old.conn.now) no_tables → IsTrue (state S.Store tx.old.conn.now).is_open → e ≢ OpenFault.Unusable) }
     ensures other { IfErr result (λ e. e ≢ OpenFault.WrongVersion) }
+    ensures cause { FailsForCause (IsAmid no_tables) (state S.Store tx.old.conn.now) (state S.Store tx.new.conn.now) result }
     ensures commit { HasCleanDisk (state S.Store tx.new.conn.now) → KeepsCommit (state S.Store tx.old.conn.now) (state S.Store tx.new.conn.now) }
     ensures crash { Survives (state S.Store tx.old.conn.now) (state S.Store tx.new.conn.now) (λ _. ⊥) }
 {
@@ -114,10 +121,12 @@ fn make_register<S: Alter>(tx: &mut Transaction<'_, S>) -> Result<(), OpenFault>
 /// Makes the tables of the payments: the tickets and their lines.
 fn make_payments<S: Alter>(tx: &mut Transaction<'_, S>) -> Result<(), OpenFault>
     ensures same_reference { tx.new.conn.ghost_name ≡ tx.old.conn.ghost_name }
+    ensures inside { HasCleanDisk (state S.Store tx.new.conn.now) → OnOk result (IsTrue (state S.Store tx.new.conn.now).in_transaction) }
     ensures open { HasCleanDisk (state S.Store tx.new.conn.now) → OnOk result (IsTrue (state S.Store tx.new.conn.now).is_open) }
     ensures added { HasCleanDisk (state S.Store tx.new.conn.now) → OnOk result (SeesTables (state S.Store tx.old.conn.now) register_tables → SeesTables (state S.Store tx.new.conn.now) payment_tables) }
     ensures usable { HasCleanDisk (state S.Store tx.new.conn.now) → IfErr result (λ e. SeesTables (state S.Store tx.old.conn.now) register_tables → IsTrue (state S.Store tx.old.conn.now).is_open → e ≢ OpenFault.Unusable) }
     ensures other { IfErr result (λ e. e ≢ OpenFault.WrongVersion) }
+    ensures cause { FailsForCause (IsAmid register_tables) (state S.Store tx.old.conn.now) (state S.Store tx.new.conn.now) result }
     ensures commit { HasCleanDisk (state S.Store tx.new.conn.now) → KeepsCommit (state S.Store tx.old.conn.now) (state S.Store tx.new.conn.now) }
     ensures crash { Survives (state S.Store tx.old.conn.now) (state S.Store tx.new.conn.now) (λ _. ⊥) }
 {
@@ -135,11 +144,13 @@ fn make_payments<S: Alter>(tx: &mut Transaction<'_, S>) -> Result<(), OpenFault>
 /// Writes the one row of the desk, of version 1, on which nothing was done.
 fn add_desk<S: Alter>(tx: &mut Transaction<'_, S>) -> Result<(), OpenFault>
     ensures same_reference { tx.new.conn.ghost_name ≡ tx.old.conn.ghost_name }
+    ensures inside { HasCleanDisk (state S.Store tx.new.conn.now) → OnOk result (IsTrue (state S.Store tx.new.conn.now).in_transaction) }
     ensures open { HasCleanDisk (state S.Store tx.new.conn.now) → OnOk result (IsTrue (state S.Store tx.new.conn.now).is_open) }
     ensures added { HasCleanDisk (state S.Store tx.new.conn.now) → OnOk result (SeesTables (state S.Store tx.old.conn.now) counter_schema → Sees (state S.Store tx.new.conn.now) first_rows) }
     ensures sound { HasCleanDisk (state S.Store tx.new.conn.now) → OnOk result (SeesTables (state S.Store tx.old.conn.now) counter_schema → IsTrue (state S.Store tx.new.conn.now).is_open → IsDatabase (state S.Store tx.new.conn.now).now) }
     ensures usable { HasCleanDisk (state S.Store tx.new.conn.now) → IfErr result (λ e. SeesTables (state S.Store tx.old.conn.now) counter_schema → IsTrue (state S.Store tx.old.conn.now).is_open → e ≢ OpenFault.Unusable) }
     ensures other { IfErr result (λ e. e ≢ OpenFault.WrongVersion) }
+    ensures cause { FailsForCause (IsAmid counter_schema) (state S.Store tx.old.conn.now) (state S.Store tx.new.conn.now) result }
     ensures commit { HasCleanDisk (state S.Store tx.new.conn.now) → KeepsCommit (state S.Store tx.old.conn.now) (state S.Store tx.new.conn.now) }
     ensures crash { Survives (state S.Store tx.old.conn.now) (state S.Store tx.new.conn.now) (λ _. ⊥) }
 {
@@ -153,11 +164,13 @@ fn add_desk<S: Alter>(tx: &mut Transaction<'_, S>) -> Result<(), OpenFault>
 /// Makes the tables of what is kept, the batches and the replies, and writes the desk's row.
 fn make_records<S: Alter>(tx: &mut Transaction<'_, S>) -> Result<(), OpenFault>
     ensures same_reference { tx.new.conn.ghost_name ≡ tx.old.conn.ghost_name }
+    ensures inside { HasCleanDisk (state S.Store tx.new.conn.now) → OnOk result (IsTrue (state S.Store tx.new.conn.now).in_transaction) }
     ensures open { HasCleanDisk (state S.Store tx.new.conn.now) → OnOk result (IsTrue (state S.Store tx.new.conn.now).is_open) }
     ensures added { HasCleanDisk (state S.Store tx.new.conn.now) → OnOk result (SeesTables (state S.Store tx.old.conn.now) payment_tables → Sees (state S.Store tx.new.conn.now) first_rows) }
     ensures sound { HasCleanDisk (state S.Store tx.new.conn.now) → OnOk result (SeesTables (state S.Store tx.old.conn.now) payment_tables → IsTrue (state S.Store tx.new.conn.now).is_open → IsDatabase (state S.Store tx.new.conn.now).now) }
     ensures usable { HasCleanDisk (state S.Store tx.new.conn.now) → IfErr result (λ e. SeesTables (state S.Store tx.old.conn.now) payment_tables → IsTrue (state S.Store tx.old.conn.now).is_open → e ≢ OpenFault.Unusable) }
     ensures other { IfErr result (λ e. e ≢ OpenFault.WrongVersion) }
+    ensures cause { FailsForCause (IsAmid payment_tables) (state S.Store tx.old.conn.now) (state S.Store tx.new.conn.now) result }
     ensures commit { HasCleanDisk (state S.Store tx.new.conn.now) → KeepsCommit (state S.Store tx.old.conn.now) (state S.Store tx.new.conn.now) }
     ensures crash { Survives (state S.Store tx.old.conn.now) (state S.Store tx.new.conn.now) (λ _. ⊥) }
 {
@@ -175,11 +188,13 @@ fn make_records<S: Alter>(tx: &mut Transaction<'_, S>) -> Result<(), OpenFault>
 /// Makes the seven tables and writes the desk's row, inside a transaction.
 fn make_in<S: Alter>(tx: &mut Transaction<'_, S>) -> Result<(), OpenFault>
     ensures same_reference { tx.new.conn.ghost_name ≡ tx.old.conn.ghost_name }
+    ensures inside { HasCleanDisk (state S.Store tx.new.conn.now) → OnOk result (IsTrue (state S.Store tx.new.conn.now).in_transaction) }
     ensures open { HasCleanDisk (state S.Store tx.new.conn.now) → OnOk result (IsTrue (state S.Store tx.new.conn.now).is_open) }
     ensures added { HasCleanDisk (state S.Store tx.new.conn.now) → OnOk result (SeesTables (state S.Store tx.old.conn.now) no_tables → Sees (state S.Store tx.new.conn.now) first_rows) }
     ensures sound { HasCleanDisk (state S.Store tx.new.conn.now) → OnOk result (SeesTables (state S.Store tx.old.conn.now) no_tables → IsTrue (state S.Store tx.new.conn.now).is_open → IsDatabase (state S.Store tx.new.conn.now).now) }
     ensures usable { HasCleanDisk (state S.Store tx.new.conn.now) → IfErr result (λ e. SeesTables (state S.Store tx.old.conn.now) no_tables → IsTrue (state S.Store tx.old.conn.now).is_open → e ≢ OpenFault.Unusable) }
     ensures other { IfErr result (λ e. e ≢ OpenFault.WrongVersion) }
+    ensures cause { FailsForCause (IsAmid no_tables) (state S.Store tx.old.conn.now) (state S.Store tx.new.conn.now) result }
     ensures commit { HasCleanDisk (state S.Store tx.new.conn.now) → KeepsCommit (state S.Store tx.old.conn.now) (state S.Store tx.new.conn.now) }
     ensures crash { Survives (state S.Store tx.old.conn.now) (state S.Store tx.new.conn.now) (λ _. ⊥) }
 {
@@ -204,6 +219,8 @@ pub(crate) fn make_tables<S: Alter>(conn: &mut Connection<S>) -> Result<(), Open
     ensures failed { HasCleanDisk (state S.Store conn.new) → OnErr result (KeepsCommit (state S.Store conn.old) (state S.Store conn.new)) }
     ensures usable { HasCleanDisk (state S.Store conn.new) → IfErr result (λ e. IsBlank (state S.Store conn.old) → IsTrue (state S.Store conn.old).is_open → e ≢ OpenFault.Unusable) }
     ensures other { IfErr result (λ e. e ≢ OpenFault.WrongVersion) }
+    ensures cause { FailsForCause (λ s. (s.in_transaction ≡ false) × IsBlank s) (state S.Store conn.old) (state S.Store conn.new) result }
+    ensures ended { OnOk result ((state S.Store conn.new).in_transaction ≡ false) }
     ensures crash { Survives (state S.Store conn.old) (state S.Store conn.new) (λ db. IsBlank (state S.Store conn.old) → Stores db first_rows) }
     ensures open { HasCleanDisk (state S.Store conn.new) → OnOk result (IsTrue (state S.Store conn.old).is_open × IsTrue (state S.Store conn.new).is_open) }
     ensures durable { HasCleanDisk (state S.Store conn.new) → OnOk result ((db : Trees) → (state S.Store conn.new).may_leave db → db ≡ (state S.Store conn.new).committed.trees) }

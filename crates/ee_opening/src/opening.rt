@@ -1,11 +1,12 @@
 //! Opening a store: its rows are found, and made where it has none.
 
-ghost use Rattle.std.specs.Prelude.{◌≡◌, ◌≢◌, ◌⊎◌, IsTrue, IfOk, IfErr, OnOk, OnErr};
+ghost use Rattle.std.specs.Prelude.{◌≡◌, ◌≢◌, ◌⊎◌, false, None, IsTrue, IfOk, IfErr, OnOk, OnErr};
 ghost use Rattle.sqlite.specs.State.{HasCleanDisk, KeepsCommit, Survives};
 ghost use Rattle.sqlite.specs.Held.{state};
 ghost use Rattle.sqlite.specs.Tree.{Trees};
 ghost use Rattle.ee_tables.specs.Rows.{Rows, Has, Stores};
 ghost use Rattle.ee_tables.specs.Statements.{LeavesNoMore};
+ghost use Rattle.ee_opening.specs.Faults.{IsExcused, FailsForCause};
 ghost use Rattle.ee_opening.specs.Making.{IsBlank, first_rows};
 ghost use Rattle.ee_opening.specs.Whole.{rows_of, IsOurs, AreInOrder};
 ghost use Rattle.ee_opening.specs.Opening.{HasTables, IsFirstVersion, IsOtherVersion, AreReadable};
@@ -27,6 +28,8 @@ fn open_blank<S: Alter>(conn: &mut Connection<S>, alloc: Global) -> Result<AllRo
     ensures blank { HasCleanDisk (state S.Store conn.new) → IfErr result (λ e. IsBlank (state S.Store conn.old) → IsTrue (state S.Store conn.old).is_open → (e ≢ OpenFault.Unusable) × (e ≢ OpenFault.WrongVersion)) }
     ensures failed { HasCleanDisk (state S.Store conn.new) → OnErr result (KeepsCommit (state S.Store conn.old) (state S.Store conn.new)
         ⊎ (IsTrue (state S.Store conn.old).is_open × (IsBlank (state S.Store conn.old) → Has (state S.Store conn.new) first_rows))) }
+    ensures cause { FailsForCause (λ s. (s.in_transaction ≡ false) × IsBlank s) (state S.Store conn.old) (state S.Store conn.new) result }
+    ensures ended { HasCleanDisk (state S.Store conn.new) → OnOk result ((state S.Store conn.new).in_transaction ≡ false) }
     ensures crash { Survives (state S.Store conn.old) (state S.Store conn.new) (λ db. IsBlank (state S.Store conn.old) → Stores db first_rows) }
 {
     make_tables(conn)?;
@@ -60,7 +63,8 @@ fn refusal<S: Alter>(conn: &mut Connection<S>) -> OpenFault
 /// has a value that no row of this program has. `NoMemory` where there is not enough memory, and else
 /// `StoreFailed`, as where the connection is in a transaction. What was committed stays, or just the
 /// new tables and the desk's row are there. Where there is a table, an index or a view, nothing is
-/// committed.
+/// committed. Outside a transaction and with no limit on steps, a store with no tables or with those
+/// of version 1 gives `StoreFailed` only where its device fails during the call or it was shut before.
 pub fn open_rows<S: Alter>(conn: &mut Connection<S>, alloc: Global) -> Result<AllRows, OpenFault>
     ensures found { HasCleanDisk (state S.Store conn.new) → IfOk result (λ all. Has (state S.Store conn.new) (rows_of all)) }
     ensures ours { HasCleanDisk (state S.Store conn.new) → OnOk result (IsOurs (state S.Store conn.old) ⊎ IsBlank (state S.Store conn.old)) }
@@ -79,7 +83,9 @@ pub fn open_rows<S: Alter>(conn: &mut Connection<S>, alloc: Global) -> Result<Al
     ensures kept { HasCleanDisk (state S.Store conn.new) → OnOk result (HasTables (state S.Store conn.old) → KeepsCommit (state S.Store conn.old) (state S.Store conn.new)) }
     ensures stays { HasCleanDisk (state S.Store conn.new) → OnOk result (HasTables (state S.Store conn.old) → (db : Trees) → (state S.Store conn.new).may_leave db → (state S.Store conn.old).may_leave db) }
     ensures left { HasCleanDisk (state S.Store conn.new) → IsTrue (state S.Store conn.old).is_open → HasTables (state S.Store conn.old) → (db : Trees) → (state S.Store conn.new).may_leave db → (state S.Store conn.old).may_leave db }
+    ensures ended { HasCleanDisk (state S.Store conn.new) → OnOk result ((state S.Store conn.new).in_transaction ≡ false) }
     ensures clean { HasCleanDisk (state S.Store conn.new) → HasCleanDisk (state S.Store conn.old) }
+    ensures cause { HasCleanDisk (state S.Store conn.new) → (state S.Store conn.old).in_transaction ≡ false → (state S.Store conn.old).step_limit ≡ None → IsBlank (state S.Store conn.old) ⊎ IsOurs (state S.Store conn.old) → IfErr result (IsExcused (state S.Store conn.old) (state S.Store conn.new)) }
     ensures crash { Survives (state S.Store conn.old) (state S.Store conn.new) (λ db. IsBlank (state S.Store conn.old) → Stores db first_rows) }
 {
     if !conn.is_autocommit() {

@@ -8,7 +8,8 @@ ghost use Rattle.sqlite.specs.Listing.{understood};
 ghost use Rattle.sqlite.specs.Term.{Term};
 ghost use Rattle.sqlite.specs.Order.{Row as Columns};
 ghost use Rattle.ee_tables.specs.Tables.{counter_schema};
-ghost use Rattle.ee_opening.specs.Reading.{rises, whole_table, AsksForAll, ShowsAll, ShowsUnreadable, CanBeRead, HasOurTables, OnlyAsks};
+ghost use Rattle.ee_opening.specs.Faults.{FailsForCause};
+ghost use Rattle.ee_opening.specs.Reading.{rises, whole_table, AsksForAll, IsNeverRefused, ShowsAll, ShowsUnreadable, CanBeRead, HasOurTables, OnlyAsks};
 
 use crate::making::OpenFault;
 use sqlite::{Alter, Connection, Row};
@@ -29,7 +30,8 @@ pub trait Record: Sized {
     fn read(row: &Row) -> Result<Self, OpenFault>
         ensures exact { IfOk result (λ found. row.now ≡ shown found) }
         ensures usable { IfErr result (λ e. e ≡ OpenFault.Unusable → ¬ is_readable row.now) }
-        ensures other { IfErr result (λ e. e ≢ OpenFault.WrongVersion) };
+        ensures other { IfErr result (λ e. e ≢ OpenFault.WrongVersion) }
+        ensures cause { IfErr result (λ e. e ≢ OpenFault.StoreFailed) };
 
     /// Whether its key is below the other's.
     fn precedes(&self, next: &Self) -> bool
@@ -65,6 +67,7 @@ fn read_rows<S: Alter, T: Record + Drop>(
     ensures same { HasCleanDisk (state S.Store conn.new) → OnOk result (IsUnchanged (state S.Store conn.old) (state S.Store conn.new)) }
     ensures kept { HasCleanDisk (state S.Store conn.new) → KeepsCommit (state S.Store conn.old) (state S.Store conn.new) }
     ensures other { IfErr result (λ e. e ≢ OpenFault.WrongVersion) }
+    ensures cause { FailsForCause (λ s. IsNeverRefused s.now.schema sql.now []) (state S.Store conn.old) (state S.Store conn.new) result }
     ensures crash { Survives (state S.Store conn.old) (state S.Store conn.new) (λ _. ⊥) }
 {
     let mut found = Vec::new(alloc);
@@ -98,6 +101,7 @@ pub(crate) fn read_table<S: Alter, T: Record + Drop>(
     ensures same { HasCleanDisk (state S.Store conn.new) → OnOk result (IsUnchanged (state S.Store conn.old) (state S.Store conn.new)) }
     ensures kept { HasCleanDisk (state S.Store conn.new) → KeepsCommit (state S.Store conn.old) (state S.Store conn.new) }
     ensures other { IfErr result (λ e. e ≢ OpenFault.WrongVersion) }
+    ensures cause { IsNeverRefused counter_schema sql.now [] → FailsForCause HasOurTables (state S.Store conn.old) (state S.Store conn.new) result }
     ensures crash { Survives (state S.Store conn.old) (state S.Store conn.new) (λ _. ⊥) }
 {
     let found: Vec<T> = read_rows(conn, alloc, sql)?;

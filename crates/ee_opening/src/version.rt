@@ -7,6 +7,7 @@ ghost use Rattle.sqlite.specs.Held.{state};
 ghost use Rattle.sqlite.specs.State.{HasCleanDisk, IsUnchanged, KeepsCommit};
 ghost use Rattle.ee_tables.specs.Rows.{Rows, DeskRow, Sees};
 ghost use Rattle.ee_tables.specs.Statements.{Finds, LeavesNoMore};
+ghost use Rattle.ee_opening.specs.Faults.{FailsForCause};
 ghost use Rattle.ee_opening.specs.Reading.{HasOurTables};
 ghost use Rattle.ee_opening.specs.Opening.{version_shown, versions_in, IsFirstVersion, IsOtherVersion};
 
@@ -24,6 +25,7 @@ fn version_rows<S: Alter>(conn: &mut Connection<S>) -> Result<Vec<Row>, OpenFaul
     ensures kept { HasCleanDisk (state S.Store conn.new) → KeepsCommit (state S.Store conn.old) (state S.Store conn.new) }
     ensures usable { HasCleanDisk (state S.Store conn.new) → IfErr result (λ e. HasOurTables (state S.Store conn.old) → IsTrue (state S.Store conn.old).is_open → e ≢ OpenFault.Unusable) }
     ensures other { IfErr result (λ e. e ≢ OpenFault.WrongVersion) }
+    ensures cause { FailsForCause HasOurTables (state S.Store conn.old) (state S.Store conn.new) result }
     ensures crash { LeavesNoMore (state S.Store conn.old) (state S.Store conn.new) }
 {
     let rows = conn.query_all(
@@ -38,6 +40,7 @@ fn read_version(rows: &[Row]) -> Result<i64, OpenFault>
     ensures found { IfOk result (λ version. (desk : Option DeskRow) → rows.now ≡ option_to_list (option_map version_shown desk) → option_map (λ d. pos d.version) desk ≡ Some version) }
     ensures usable { IfErr result (λ e. e ≡ OpenFault.Unusable → (desk : Option DeskRow) → rows.now ≡ option_to_list (option_map version_shown desk) → desk ≡ None) }
     ensures other { IfErr result (λ e. e ≢ OpenFault.WrongVersion) }
+    ensures cause { IfErr result (λ e. e ≢ OpenFault.StoreFailed) }
 {
     match rows.first() {
         None => Err(OpenFault::Unusable),
@@ -52,6 +55,7 @@ pub(crate) fn check_version<S: Alter>(conn: &mut Connection<S>) -> Result<(), Op
     ensures usable { HasCleanDisk (state S.Store conn.new) → IfErr result (λ e. e ≡ OpenFault.Unusable → (rows : Rows) → HasOurTables (state S.Store conn.old) → Sees (state S.Store conn.old) rows → IsTrue (state S.Store conn.old).is_open → get rows.desk 1 ≡ None) }
     ensures same { HasCleanDisk (state S.Store conn.new) → OnOk result (IsUnchanged (state S.Store conn.old) (state S.Store conn.new)) }
     ensures kept { HasCleanDisk (state S.Store conn.new) → KeepsCommit (state S.Store conn.old) (state S.Store conn.new) }
+    ensures cause { FailsForCause HasOurTables (state S.Store conn.old) (state S.Store conn.new) result }
     ensures crash { LeavesNoMore (state S.Store conn.old) (state S.Store conn.new) }
 {
     let rows = version_rows(conn)?;

@@ -11,5 +11,5 @@ mod tests;
 
 pub use carrying::carry_out;
 pub use run::{BAD_LINE, DONE, FAILED, REFUSED, refuse_words, run_words};
-pub use store::StoreFiles;
+pub use store::{StoreFiles, Untold};
 pub use stores::Stores;

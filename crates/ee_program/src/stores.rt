@@ -21,7 +21,7 @@ pub trait Stores {
 
     /// The store of a path; its tables are made where it has none.
     fn open(&self, path: &str) -> Result<Self::Store, RunFault>
-        ensures { IfOk result (λ store. (c : Content) → holds self.now path.now c → Self.Store.has store c) };
+        ensures { IfOk result (λ store. Self.Store.is_clean store → (c : Content) → holds self.now path.now c → Self.Store.has store c) };
 
     /// Closes a store, which is then at rest. Where that fails, what it committed stays as it was.
     fn close(&self, store: Self::Store) -> Result<Self::Rest, RunFault>

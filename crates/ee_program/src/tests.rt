@@ -2,7 +2,7 @@
 //! worked by hand from the rules of 31 CFR Part 351.
 
 use crate::run::{refuse_words, run_words};
-use crate::store::StoreFiles;
+use crate::store::{StoreFiles, Untold};
 use crate::stores::Stores;
 use ee_actions::{Outcome, RunFault, serve_on};
 use ee_keeper::ListKeeper;
@@ -49,7 +49,7 @@ fn run_over<O: Stores>(rt: &HostRuntime, stores: &O, line: &str, input: &str) ->
 }
 
 fn run(rt: &HostRuntime, line: &str, input: &str) -> Result<Ran, Fail> {
-    run_over(rt, &StoreFiles { rt }, line, input)
+    run_over(rt, &StoreFiles { rt, start: Untold }, line, input)
 }
 
 /// Stores in memory, each empty as it is opened, whatever its path is.

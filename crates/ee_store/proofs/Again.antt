@@ -1,5 +1,5 @@
 -- The kept reply by the texts of acts.
-use Rattle.std.proofs.Common.{◌≡◌, ◌≢◌, ℕ, cond, List, Some, sym, ap, ◌∙◌, subst}
+use Rattle.std.proofs.Common.{◌≡◌, ◌≢◌, ℕ, cond, List, Some, None, sym, ap, ◌∙◌, subst}
 use Rattle.std.specs.Option.{unwrap_or}
 use Rattle.std.proofs.lemmas.Bool.{false_from_ne_true}
 use Rattle.ee_acts.specs.declared.acts.Act.{Act}
@@ -35,3 +35,7 @@ of_same act reply asked told same reads number kept again is fits one two three 
     let is_same = ap (same_act kept.act) (sym acts) ∙ same_act-self kept.act in
     some_is told kept.reply (reply_only kept.reply (Some told) is.reply_in_range (subst (λ t. ReadsReply t (Some told)) two reads))
     ∙ sym (ap (λ b. cond b kept.reply (Refused NumberReused)) is_same)
+
+-- the text of a kept reply is that of a reply
+pub kept_is_read : (reply : List ℕ) (number : Number) (kept : Kept) → IsKept number kept → reply ≡ reply_text kept.reply → ¬ ReadsReply reply None
+kept_is_read reply number kept is own reads = absurd (let e = reply_only kept.reply None is.reply_in_range (subst (λ t. ReadsReply t None) own reads) in cc)

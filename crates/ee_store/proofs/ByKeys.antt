@@ -16,6 +16,7 @@ use Rattle.ee_acts.specs.Views.{picked}
 use Rattle.ee_acts.proofs.Lemmas.Books.{sound_keyed}
 use Rattle.ee_desk.proofs.Lemmas.{found_for_next}
 use Rattle.ee_acts.specs.Repeats.{Content}
+use Rattle.ee_texts.specs.Ranges.{BondFits}
 use Rattle.ee_contents.specs.Standing.{rows_of, bond_row, key_of, IsRight}
 use Rattle.ee_store.specs.Found.{with_found}
 use Rattle.ee_value.specs.declared.rates.Rates.{Rates}
@@ -46,6 +47,22 @@ held_by ts s (Some x) (Some b) h k e = ap Some (same_held x (held_as ts s b) (h 
 
 pub held_found : (S : Content) (s : SerialNumber) (o : Option Held) → IsRight S → IfSome o (λ h. h.bond.serial ≡ s) → option_map bond_row o ≡ finite.get (rows_of S).bonds (key_of s) → o ≡ held_of S.books s
 held_found S s o right own e = held_by S.books.tickets s o (finite.get S.books.bonds s) own (sound_keyed S.books right.sound s) (e ∙ get_bond_row S.books.bonds S.books.tickets s)
+
+-- the row of a serial number is that of what is held of it
+held_row_of : (ts : List Ticket) (s : SerialNumber) (o : Option Bond) → option_map (λ b. bond_row (held_as ts s b)) o ≡ option_map bond_row (option_map (held_as ts s) o)
+held_row_of ts s None = refl
+held_row_of ts s (Some b) = refl
+
+pub held_row : (S : Content) (s : SerialNumber) → finite.get (rows_of S).bonds (key_of s) ≡ option_map bond_row (held_of S.books s)
+held_row S s = get_bond_row S.books.bonds S.books.tickets s ∙ held_row_of S.books.tickets s (finite.get S.books.bonds s)
+
+held_fits_of : (ts : List Ticket) (s : SerialNumber) (o : Option Bond) → IfSome o BondFits → IfSome (option_map (held_as ts s) o) (λ held. BondFits held.bond)
+held_fits_of ts s None fits = tt
+held_fits_of ts s (Some b) fits = fits
+
+-- and it is in range
+pub held_fits : (S : Content) (s : SerialNumber) → IsRight S → IfSome (held_of S.books s) (λ held. BondFits held.bond)
+held_fits S s right = held_fits_of S.books.tickets s (finite.get S.books.bonds s) (right.in_range.bonds s)
 
 pub always : {X E Q : Type 0} (r : Result X E) → Q → OnOk r Q
 always (Ok x) q = q

@@ -73,11 +73,14 @@ same_bonds [] (y ∷ ys) e = absurd (cc)
 same_bonds (x ∷ xs) [] e = absurd (cc)
 same_bonds (x ∷ xs) (y ∷ ys) e = λ i. one_bond x y (ap (head_of (unpaid_row x)) e) i ∷ same_bonds xs ys (ap tail_of e) i
 
+-- the rows of an owner's unpaid bonds are theirs
+pub bonds_rows : (S : Content) (customer : ℕ) → IsRight S → map unpaid_bond_of (unpaid_of (rows_of S) customer) ≡ map unpaid_row (bonds_of S.books customer)
+bonds_rows S customer right =
+    let books = S.books in
+    ap (λ es. map unpaid_bond_of (filter (is_own customer) es)) (bond_entries books.bonds books.tickets)
+    ∙ own_rows books.tickets customer (entries books.bonds)
+    (all_entries serials_total serials_exact (λ s (bond : Bond). bond.serial ≡ s) books.bonds (λ s. right_bond_is_keyed books.rates s _ (right.sound.bonds s)))
+
 pub bonds_found : (S : Content) (customer : ℕ) (bonds : List Bond) (rows : List UnpaidBond) → IsRight S → map unpaid_row bonds ≡ rows
     → rows ≡ map unpaid_bond_of (unpaid_of (rows_of S) customer) → bonds ≡ bonds_of S.books customer
-bonds_found S customer bonds rows right are found =
-    let books = S.books in
-    same_bonds bonds (bonds_of books customer)
-    (are ∙ found ∙ ap (λ es. map unpaid_bond_of (filter (is_own customer) es)) (bond_entries books.bonds books.tickets)
-    ∙ own_rows books.tickets customer (entries books.bonds)
-    (all_entries serials_total serials_exact (λ s (bond : Bond). bond.serial ≡ s) books.bonds (λ s. right_bond_is_keyed books.rates s _ (right.sound.bonds s))))
+bonds_found S customer bonds rows right are found = same_bonds bonds (bonds_of S.books customer) (are ∙ found ∙ bonds_rows S customer right)

@@ -21,3 +21,9 @@ mod AtRest
 mod Meeting
 mod NextRun
 mod History
+mod Causes
+mod SettledRates
+mod ReadCauses
+mod Writable
+mod WriteCauses
+mod RoomAfter

@@ -25,7 +25,6 @@ use Rattle.ee_texts.specs.Ranges.{BondFits}
 use Rattle.ee_tables.specs.Keyed.{pair_cmp}
 use Rattle.ee_tables.specs.Rows.{Rows, DeskRow, Has, Holds, Stores}
 use Rattle.ee_opening.specs.Making.{IsBlank, first_rows}
-use Rattle.ee_opening.specs.Whole.{IsOurs}
 use Rattle.ee_opening.specs.Opening.{HasTables, IsOtherVersion}
 use Rattle.ee_opening.proofs.Lemmas.{ours_tables}
 use Rattle.ee_contents.specs.Standing.{rows_of, bond_row, reply_row, key_of, StandFor, IsRight, IsKept}

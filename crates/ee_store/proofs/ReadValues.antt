@@ -1,7 +1,7 @@
 -- The values that plain numbers of rows are read as have those numbers.
-use Rattle.std.proofs.Common.{◌≡◌, ◌==◌, ℕ, Bool, true, false, cond, refl, sym, ap, ◌∙◌}
-use Rattle.std.specs.Prelude.{Option, Some, None, IfSome}
-use Rattle.std.proofs.lemmas.Bool.{eqb-true}
+use Rattle.std.proofs.Common.{◌≡◌, ◌==◌, ◌≤◌, ℕ, Bool, true, false, cond, refl, sym, ap, ◌∙◌, subst}
+use Rattle.std.specs.Prelude.{Option, Some, None, IfSome, IsSome}
+use Rattle.std.proofs.lemmas.Bool.{eqb-true, le-leb}
 use Rattle.ee_units.specs.Spelling.{SerialNumber, in_range, serial_at}
 use Rattle.ee_units.specs.Denoms.{dollars}
 use Rattle.ee_units.specs.declared.denoms.Denom.{Denom}
@@ -10,6 +10,7 @@ use Rattle.ee_units.proofs.Lemmas.{in_range-is}
 use Rattle.ee_contents.proofs.Lemmas.{some_from_bind}
 use Rattle.std.proofs.lemmas.Option.{same_Some}
 use Rattle.ee_texts.specs.Reading.{denom_with}
+use Rattle.ee_texts.specs.Ranges.{IsSerial}
 
 pub number_read : (low high n : ℕ) (o : Option ℕ) → o ≡ in_range low high n → IfSome o (λ m. m ≡ n)
 number_read low high n None e = tt
@@ -38,3 +39,27 @@ pub denom_read : (n : ℕ) → IfSome (denom_with n) (λ d. dollars d ≡ n)
 denom_read n =
     choice n 50 denom.Fifty _ refl (choice n 75 denom.SeventyFive _ refl (choice n 100 denom.Hundred _ refl (choice n 200 denom.TwoHundred _ refl
     (choice n 500 denom.FiveHundred _ refl (choice n 1000 denom.Thousand _ refl (choice n 5000 denom.FiveThousand _ refl (choice n 10000 denom.TenThousand None refl tt)))))))
+
+-- ---- numbers in range are read
+
+in_range_gives : (low high n : ℕ) → low ≤ n → n ≤ high → in_range low high n ≡ Some n
+in_range_gives low high n above below = rw (le-leb low n above, le-leb n high below) refl
+
+pub number_fits : (low high n : ℕ) (o : Option ℕ) → o ≡ in_range low high n → low ≤ n → n ≤ high → IsSome o
+number_fits low high n o e above below = subst IsSome (sym (e ∙ in_range_gives low high n above below)) refl
+
+pub serial_fits : (letter number : ℕ) (o : Option SerialNumber) → o ≡ serial_at letter number → IsSerial (record { letter = letter; number = number }) → IsSome o
+unfolding serial_at
+serial_fits letter number o e fits =
+    let gives : serial_at letter number ≡ Some (record { letter = letter; number = number }) = rw (in_range_gives 1 26 letter fits.0 fits.1, in_range_gives 1 9999999999 number fits.2 fits.3) refl in
+    subst IsSome (sym (e ∙ gives)) refl
+
+pub denom_fits : (d : Denom) → IsSome (denom_with (dollars d))
+denom_fits denom.Fifty = refl
+denom_fits denom.SeventyFive = refl
+denom_fits denom.Hundred = refl
+denom_fits denom.TwoHundred = refl
+denom_fits denom.FiveHundred = refl
+denom_fits denom.Thousand = refl
+denom_fits denom.FiveThousand = refl
+denom_fits denom.TenThousand = refl

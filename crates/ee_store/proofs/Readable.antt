@@ -41,7 +41,7 @@ use Rattle.ee_texts.specs.declared.refusals.Named.{Named}
 use Rattle.ee_texts.specs.declared.refusals.Named.TheVariants as named
 use Rattle.ee_texts.specs.Data.{number_data, month_data, serial_data, rate_row_data, with_coowner, bond_data, act_data, line_data, ticket_data, batch_data, names, refused_data, reply_data}
 use Rattle.ee_texts.specs.Ranges.{IsCustomer, IsSerial, RateRowFits, BondFits, ActFits, LineFits, TicketFits, BatchFits, NamedFits, ReplyFits}
-use Rattle.ee_tables.specs.Rows.{ReplyRow}
+use Rattle.ee_tables.specs.Rows.{ReplyRow, IsText}
 use Rattle.ee_opening.specs.Opening.{AreReadable}
 use Rattle.ee_contents.specs.Standing.{rows_of, reply_row, IsRight, IsKept}
 
@@ -310,3 +310,11 @@ readable content right = record {
   desk = (record { version = 1; day = content.books.day; last_day = content.books.last_day }, get_desk_row content.books.day content.books.last_day);
   texts = λ n row got. row_readable n (finite.get content.kept n) row (right.kept n) (sym got ∙ get_reply_row content.kept n);
 }
+
+texts_of : (o : Option ReplyRow) → ((row : ReplyRow) → o ≡ Some row → IsText row) → IfSome o IsText
+texts_of None texts = tt
+texts_of (Some row) texts = texts row refl
+
+-- the texts that a content keeps are UTF-8
+pub kept_texts : (content : Content) → IsRight content → (n : Number) → IfSome (finite.get (rows_of content).replies n) IsText
+kept_texts content right n = texts_of (finite.get (rows_of content).replies n) ((readable content right).texts n)

@@ -51,7 +51,7 @@ is_decided new q S changes reply last row right none fits numbered told effects 
       };
     }
 
-kept_by : (row : ReplyRow) (o : Option Kept) → Some row ≡ option_map reply_row o → (kept : Kept) × (o ≡ Some kept) × (row ≡ reply_row kept)
+pub kept_by : (row : ReplyRow) (o : Option Kept) → Some row ≡ option_map reply_row o → (kept : Kept) × (o ≡ Some kept) × (row ≡ reply_row kept)
 kept_by row None is = absurd (cc)
 kept_by row (Some kept) is = (kept, refl, ap (λ o. unwrap_or o row) is)
 

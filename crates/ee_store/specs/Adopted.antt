@@ -1,6 +1,6 @@
 -- What a store that is opened has, and what it had.
 -- Of a store that a failing disk has shut nothing is said.
-use Rattle.std.specs.Prelude.{◌≡◌, ◌⊎◌, List, [], ◌∷◌, Contains, Option, map, IsTrue, ⊤}
+use Rattle.std.specs.Prelude.{◌≡◌, ◌≤◌, ◌⊎◌, None, false, List, [], ◌∷◌, Contains, Option, map, IsTrue, ⊤}
 use Rattle.std.specs.FinMap as finite
 use Rattle.std.specs.FinMap.{FinMap}
 use Rattle.sqlite_disk.specs.declared.Disk.{Ghosts}
@@ -12,6 +12,7 @@ use Rattle.sqlite.specs.Recovery.{Image}
 use Rattle.sqlite.specs.Start.{FindsIn}
 use Rattle.sqlite.specs.State.{State, KeepsCommit, Survives}
 use Rattle.ee_value.specs.declared.rates.Rates.{Rates}
+use Rattle.ee_acts.specs.Values.{unsettled}
 use Rattle.ee_acts.specs.Tables.{rates_cmp}
 use Rattle.ee_acts.specs.Repeats.{Content, nothing}
 use Rattle.ee_laws.specs.Events.{World, Happens, begun}
@@ -20,14 +21,16 @@ use Rattle.ee_laws.specs.Ties.{Leaves}
 use Rattle.ee_opening.specs.declared.entries.StoredRate.{StoredRate}
 use Rattle.ee_opening.specs.Making.{IsBlank}
 use Rattle.ee_tables.specs.Rows.{Rows, Has}
+use Rattle.ee_tables.specs.Statements.{HasCause}
 use Rattle.ee_opening.specs.Opening.{HasTables, IsOtherVersion}
 use Rattle.ee_opening.specs.Whole.{IsOurs}
 use Rattle.ee_opening.specs.declared.making.OpenFault.{OpenFault}
-use Rattle.ee_opening.specs.declared.making.OpenFault.TheVariants.{WrongVersion, Unusable}
+use Rattle.ee_opening.specs.declared.making.OpenFault.TheVariants.{StoreFailed, WrongVersion, Unusable}
 use Rattle.ee_store.specs.declared.opening.Rest.{Rest}
 use Rattle.ee_store.specs.declared.opening.Rest.TheVariants.{Connection, Files}
 use Rattle.ee_store.specs.Serving.{StandsFor, HasContent, FollowsWorld}
 use Rattle.ee_store.specs.Ended.{StandsAlone}
+use Rattle.ee_store.specs.Failures.{IsReady}
 
 -- a store without tables has come to have the empty content
 abbrev pub BeginsEmpty : State → State → Type 0
@@ -81,6 +84,11 @@ HadNoOtherVersion old = IsTrue old.is_open → (rows : Rows) → Has old rows �
 abbrev pub LeavesAsBefore : State → State → Type 0
 LeavesAsBefore old new = IsTrue old.is_open → HasTables old → (db : Trees) → new.may_leave db → old.may_leave db
 
+-- Of a connection in no transaction, with no limit on steps, over a store without tables or with just those of version 1:
+-- this fault has a cause.
+abbrev pub FailsToAdopt : State → State → OpenFault → Type 0
+FailsToAdopt old new fault = old.in_transaction ≡ false → old.step_limit ≡ None → IsBlank old ⊎ IsOurs old → fault ≡ StoreFailed → HasCause old new
+
 -- the keeper has what was found in the files, which held this at first
 pub record IsOpenedFrom {D : Type 0} {g : Ghosts D} (start : Image) (now : Held (FileStore D g)) : Type 0 where
   pub was : Held (FileStore D g)
@@ -96,6 +104,8 @@ pub record IsOpenedFrom {D : Type 0} {g : Ghosts D} (start : Image) (now : Held 
   pub goes_on : GoesOn (file_state was) (file_state now)
   pub crash : Survives (file_state was) (file_state now) (λ db. IsBlank (file_state was) → StandsFor db nothing)
   pub left : LeavesAsBefore (file_state was) (file_state now)
+  -- it takes requests
+  pub ready : IsReady (file_state now)
 
 -- the connection was refused with this fault, and is left as it was found in the files, which held this at first
 pub record IsRefusedFrom {D : Type 0} {g : Ghosts D} (start : Image) (fault : OpenFault) (now : Held (FileStore D g)) : Type 0 where
@@ -107,6 +117,7 @@ pub record IsRefusedFrom {D : Type 0} {g : Ghosts D} (start : Image) (fault : Op
   pub other : fault ≡ WrongVersion → HadOtherVersion (file_state was)
   pub unusable : fault ≡ Unusable → HadNone (file_state was)
   pub tested : fault ≡ Unusable → HadNoOtherVersion (file_state was)
+  pub cause : FailsToAdopt (file_state was) (file_state now) fault
   pub waits : StaysStopped (file_state was) (file_state now)
   pub crash : Survives (file_state was) (file_state now) (λ db. IsBlank (file_state was) → StandsFor db nothing)
   pub left : LeavesAsBefore (file_state was) (file_state now)
@@ -123,6 +134,10 @@ IfFiles (Files left) P = P left
 
 abbrev pub rates_in_row : StoredRate → Rates
 rates_in_row row = record { fixed = row.rate }
+
+-- its rates are in range, and leave no value unsettled
+abbrev pub IsSettledRow : StoredRate → Type 0
+IsSettledRow row = (row.rate ≤ 2000) × (unsettled (rates_in_row row) ≡ None)
 
 -- a table for the rates of each row
 abbrev pub tables_for : List StoredRate → FinMap rates_cmp Rates

@@ -17,7 +17,7 @@ use Rattle.ee_acts.specs.Contents.{content_after}
 use Rattle.ee_acts.specs.Answers.{answer}
 use Rattle.ee_laws.specs.Events.{World}
 use Rattle.ee_laws.specs.Ties.{Leaves}
-use Rattle.ee_tables.specs.Rows.{Rows, Stores, Sees, Has, IsInside}
+use Rattle.ee_tables.specs.Rows.{Rows, Stores, Sees, Has, HasRoom, IsInside}
 use Rattle.ee_contents.specs.Standing.{rows_of, IsRight}
 
 -- What the trees of a store stand for. They list the counter's tables, so that an open reads just these.
@@ -39,9 +39,13 @@ pub record SeesContent (s : State) (content : Content) : Type 0 where
 abbrev pub FindsIn : {X E : Type 0} → State → State → Result X E → (Content → X → Type 0) → Type 0
 FindsIn old new result Shows = HasCleanDisk new → IsInside old → IfOk result (λ found. (content : Content) → SeesContent old content → Shows content found)
 
--- the rows that are seen stay
+-- these rows are seen still, and there is as much room for more
+abbrev pub StaysSeen : State → State → Rows → Type 0
+StaysSeen old new rows = Sees new rows × ((n : ℕ) → HasRoom n old → HasRoom n new)
+
+-- the rows that are seen stay, and so does the room
 abbrev pub LeavesRows : {X E : Type 0} → State → State → Result X E → Type 0
-LeavesRows old new result = HasCleanDisk new → IsInside old → OnOk result ((rows : Rows) → Sees old rows → Sees new rows)
+LeavesRows old new result = HasCleanDisk new → IsInside old → OnOk result ((rows : Rows) → Sees old rows → StaysSeen old new rows)
 
 -- the effects of an act on the books that are seen, and, where it changes something, the day that these closed last
 abbrev pub AreEffects : Act → Content → Effects × Option ℕ → Type 0

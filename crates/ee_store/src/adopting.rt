@@ -1,16 +1,18 @@
 //! Taking over a connection, and handing it back.
 
-ghost use Rattle.std.specs.Prelude.{◌≡◌, ◌≢◌, ◌⊎◌, IsTrue, IfOk, IfErr, OnOk, OnErr, MatchResult};
+ghost use Rattle.std.specs.Prelude.{◌≡◌, ◌≢◌, ◌≤◌, ◌⊎◌, None, IfOk, IfErr, OnOk, OnErr, MatchResult};
+ghost use Rattle.std.specs.List.{AllByRecursion};
 ghost use Rattle.std.specs.FinMap as finite;
 ghost use Rattle.sqlite.specs.Held.{state};
-ghost use Rattle.sqlite.specs.Tree.{Trees};
 ghost use Rattle.sqlite.specs.State.{HasCleanDisk, Survives};
+ghost use Rattle.ee_acts.specs.Values.{unsettled};
 ghost use Rattle.ee_acts.specs.Repeats.{Content, nothing};
 ghost use Rattle.ee_opening.specs.Making.{IsBlank};
-ghost use Rattle.ee_opening.specs.Whole.{IsOurs, rows_of, AreInOrder};
+ghost use Rattle.ee_opening.specs.Whole.{rows_of, AreInOrder};
 ghost use Rattle.ee_contents.specs.Standing.{StandFor};
 ghost use Rattle.ee_store.specs.Serving.{StandsFor};
-ghost use Rattle.ee_store.specs.Adopted.{BeginsEmpty, KeepsContent, HasSome, HadNone, KeepsRows, KeepsWorld, BeginsWorld, GoesOn, StaysStopped, HadOtherVersion, HadNoOtherVersion, LeavesAsBefore, tables_for};
+ghost use Rattle.ee_store.specs.Adopted.{BeginsEmpty, KeepsContent, HasSome, HadNone, KeepsRows, KeepsWorld, BeginsWorld, GoesOn, StaysStopped, HadOtherVersion, HadNoOtherVersion, LeavesAsBefore, FailsToAdopt, IsSettledRow, tables_for};
+ghost use Rattle.ee_store.specs.Failures.{IsReady};
 
 use crate::keeper::SqlKeeper;
 use crate::values::rate_of;
@@ -34,6 +36,7 @@ pub struct NotAdopted<S: Alter> {
 fn add_table(alloc: Global, tables: &mut Tables, hundredths: u64) -> Result<(), OpenFault>
     ensures added { OnOk result (tables.new ≡ finite.insert tables.old (record { fixed = hundredths }) (record { fixed = hundredths })) }
     ensures fault { IfErr result (λ fault. (fault ≡ OpenFault.NoMemory) ⊎ (fault ≡ OpenFault.StoreFailed)) }
+    ensures settled { hundredths ≤ 2000 → unsettled (record { fixed = hundredths }) ≡ None → IfErr result (λ fault. fault ≡ OpenFault.NoMemory) }
 {
     let Some(fixed) = rate_of(hundredths) else {
         return Err(OpenFault::StoreFailed);
@@ -55,6 +58,7 @@ fn no_tables(alloc: Global) -> Tables
 fn tables_of(alloc: Global, rows: &[StoredRate]) -> Result<Tables, OpenFault>
     ensures made { IfOk result (λ tables. tables ≡ tables_for rows.now) }
     ensures fault { IfErr result (λ fault. (fault ≡ OpenFault.NoMemory) ⊎ (fault ≡ OpenFault.StoreFailed)) }
+    ensures settled { AllByRecursion IsSettledRow rows.now → IfErr result (λ fault. fault ≡ OpenFault.NoMemory) }
 {
     match rows.split_first() {
         None => Ok(no_tables(alloc)),
@@ -72,6 +76,7 @@ fn tested(alloc: Global, all: &AllRows) -> Result<(), OpenFault>
     ensures ok { OnOk result ((content : Content) × StandFor (rows_of all.now) content) }
     ensures unusable { IfErr result (λ fault. fault ≡ OpenFault.Unusable → (content : Content) → StandFor (rows_of all.now) content → ⊥) }
     ensures version { IfErr result (λ fault. fault ≢ OpenFault.WrongVersion) }
+    ensures settled { IfErr result (λ fault. fault ≢ OpenFault.StoreFailed) }
 {
     match content_of(alloc, all) {
         Ok(_books) => Ok(()),
@@ -86,6 +91,7 @@ fn prepared(alloc: Global, all: &AllRows) -> Result<Tables, OpenFault>
     ensures ok { IfOk result (λ tables. ((content : Content) × StandFor (rows_of all.now) content) × (tables ≡ tables_for all.now.rates.items)) }
     ensures unusable { IfErr result (λ fault. fault ≡ OpenFault.Unusable → (content : Content) → StandFor (rows_of all.now) content → ⊥) }
     ensures version { IfErr result (λ fault. fault ≢ OpenFault.WrongVersion) }
+    ensures settled { IfErr result (λ fault. fault ≢ OpenFault.StoreFailed) }
 {
     tested(alloc, all)?;
     tables_of(alloc, &all.rates)
@@ -105,6 +111,8 @@ fn ready<S: Alter>(conn: &mut Connection<S>, alloc: Global) -> Result<Tables, Op
     ensures other { HasCleanDisk (state S.Store conn.new) → IfErr result (λ fault. fault ≡ OpenFault.WrongVersion → HadOtherVersion (state S.Store conn.old)) }
     ensures unusable { HasCleanDisk (state S.Store conn.new) → IfErr result (λ fault. fault ≡ OpenFault.Unusable → HadNone (state S.Store conn.old)) }
     ensures tested { HasCleanDisk (state S.Store conn.new) → IfErr result (λ fault. fault ≡ OpenFault.Unusable → HadNoOtherVersion (state S.Store conn.old)) }
+    ensures ready { HasCleanDisk (state S.Store conn.new) → OnOk result (IsReady (state S.Store conn.old) → IsReady (state S.Store conn.new)) }
+    ensures cause { HasCleanDisk (state S.Store conn.new) → IfErr result (FailsToAdopt (state S.Store conn.old) (state S.Store conn.new)) }
     ensures crash { Survives (state S.Store conn.old) (state S.Store conn.new) (λ db. IsBlank (state S.Store conn.old) → StandsFor db nothing) }
     ensures left { HasCleanDisk (state S.Store conn.new) → LeavesAsBefore (state S.Store conn.old) (state S.Store conn.new) }
     ensures waits { HasCleanDisk (state S.Store conn.new) → StaysStopped (state S.Store conn.old) (state S.Store conn.new) }
@@ -131,6 +139,9 @@ impl<S: Alter> SqlKeeper<S> {
     /// - `version`, `unusable`: a store that has a content, or no tables, is refused for neither.
     /// - `other`, `tested`: `WrongVersion` is told only where the rows have another version, and `Unusable`
     ///   never there.
+    /// - `ready`: a connection in no transaction, with no limit on steps, makes a keeper that takes requests.
+    /// - `cause`: of such a connection, over a store without tables or with just those of version 1,
+    ///   `StoreFailed` is told only where the device failed once more, or the store was shut before.
     /// - `kept`: after a refusal a store that had any table, index or view is as it was. A store without
     ///   tables may have got the first ones.
     /// - `waits`: of a store over trees that a crash left, which stand for a content, a refusal leaves what
@@ -159,6 +170,8 @@ impl<S: Alter> SqlKeeper<S> {
         ensures other { IfErr result (λ not. HasCleanDisk (state S.Store not.conn) → not.fault ≡ OpenFault.WrongVersion → HadOtherVersion (state S.Store conn)) }
         ensures unusable { IfErr result (λ not. HasCleanDisk (state S.Store not.conn) → not.fault ≡ OpenFault.Unusable → HadNone (state S.Store conn)) }
         ensures tested { IfErr result (λ not. HasCleanDisk (state S.Store not.conn) → not.fault ≡ OpenFault.Unusable → HadNoOtherVersion (state S.Store conn)) }
+        ensures ready { IfOk result (λ keeper. HasCleanDisk (state S.Store keeper.conn) → IsReady (state S.Store conn) → IsReady (state S.Store keeper.conn)) }
+        ensures cause { IfErr result (λ not. HasCleanDisk (state S.Store not.conn) → FailsToAdopt (state S.Store conn) (state S.Store not.conn) not.fault) }
         ensures waits { IfErr result (λ not. HasCleanDisk (state S.Store not.conn) → StaysStopped (state S.Store conn) (state S.Store not.conn)) }
         ensures crash { MatchResult result (λ keeper. Survives (state S.Store conn) (state S.Store keeper.conn) (λ db. IsBlank (state S.Store conn) → StandsFor db nothing))
             (λ not. Survives (state S.Store conn) (state S.Store not.conn) (λ db. IsBlank (state S.Store conn) → StandsFor db nothing)) }

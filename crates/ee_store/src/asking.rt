@@ -5,6 +5,7 @@ ghost use Rattle.sqlite.specs.Held.{state};
 ghost use Rattle.ee_acts.specs.Queries.{ticket_numbered, batch_on, bonds_of};
 ghost use Rattle.ee_tables.specs.Statements.{LeavesNoMore};
 ghost use Rattle.ee_keeper.specs.Keeping.{IsInventory, IsQuote};
+ghost use Rattle.ee_store.specs.Failures.{IsReady, AnswersOrFails};
 ghost use Rattle.ee_store.specs.Asking.{ShowsContent, KeepsContent};
 
 use crate::failures::Unfinished;
@@ -20,6 +21,8 @@ pub fn ask_batch<S: Alter>(conn: &mut Connection<S>, day: Day) -> Result<Option<
     ensures shown { ShowsContent (state S.Store conn.old) (state S.Store conn.new) result (λ content batch. batch ≡ batch_on content.books day) }
     ensures kept { KeepsContent (state S.Store conn.old) (state S.Store conn.new) }
     ensures crash { LeavesNoMore (state S.Store conn.old) (state S.Store conn.new) }
+    ensures ready { IsReady (state S.Store conn.old) → IsReady (state S.Store conn.new) }
+    ensures cause { AnswersOrFails (state S.Store conn.old) (state S.Store conn.new) result }
 {
     if !conn.is_autocommit() {
         return Err(Unfinished::StoreFailed);
@@ -37,6 +40,8 @@ pub fn ask_ticket<S: Alter>(
     ensures shown { ShowsContent (state S.Store conn.old) (state S.Store conn.new) result (λ content ticket. ticket ≡ ticket_numbered content.books number) }
     ensures kept { KeepsContent (state S.Store conn.old) (state S.Store conn.new) }
     ensures crash { LeavesNoMore (state S.Store conn.old) (state S.Store conn.new) }
+    ensures ready { IsReady (state S.Store conn.old) → IsReady (state S.Store conn.new) }
+    ensures cause { AnswersOrFails (state S.Store conn.old) (state S.Store conn.new) result }
 {
     if !conn.is_autocommit() {
         return Err(Unfinished::StoreFailed);
@@ -57,6 +62,8 @@ pub fn ask_quote<S: Alter>(
     ensures shown { ShowsContent (state S.Store conn.old) (state S.Store conn.new) result (λ content row. IsQuote content.books denom issued month row) }
     ensures kept { KeepsContent (state S.Store conn.old) (state S.Store conn.new) }
     ensures crash { LeavesNoMore (state S.Store conn.old) (state S.Store conn.new) }
+    ensures ready { IsReady (state S.Store conn.old) → IsReady (state S.Store conn.new) }
+    ensures cause { AnswersOrFails (state S.Store conn.old) (state S.Store conn.new) result }
 {
     if !conn.is_autocommit() {
         return Err(Unfinished::StoreFailed);
@@ -74,6 +81,8 @@ pub fn ask_bonds<S: Alter>(
     ensures shown { ShowsContent (state S.Store conn.old) (state S.Store conn.new) result (λ content bonds. bonds.items ≡ bonds_of content.books customer) }
     ensures kept { KeepsContent (state S.Store conn.old) (state S.Store conn.new) }
     ensures crash { LeavesNoMore (state S.Store conn.old) (state S.Store conn.new) }
+    ensures ready { IsReady (state S.Store conn.old) → IsReady (state S.Store conn.new) }
+    ensures cause { AnswersOrFails (state S.Store conn.old) (state S.Store conn.new) result }
 {
     if !conn.is_autocommit() {
         return Err(Unfinished::StoreFailed);
@@ -93,6 +102,8 @@ pub fn ask_inventory<S: Alter>(
     ensures shown { ShowsContent (state S.Store conn.old) (state S.Store conn.new) result (λ content sheet. IsInventory content.books customer month sheet) }
     ensures kept { KeepsContent (state S.Store conn.old) (state S.Store conn.new) }
     ensures crash { LeavesNoMore (state S.Store conn.old) (state S.Store conn.new) }
+    ensures ready { IsReady (state S.Store conn.old) → IsReady (state S.Store conn.new) }
+    ensures cause { AnswersOrFails (state S.Store conn.old) (state S.Store conn.new) result }
 {
     if !conn.is_autocommit() {
         return Err(Unfinished::StoreFailed);

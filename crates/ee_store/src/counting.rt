@@ -1,11 +1,13 @@
 //! How many tickets there are, read in a transaction.
 
-ghost use Rattle.std.specs.Prelude.{◌≡◌, ◌-◌, IfOk, Some, length, sum_by};
+ghost use Rattle.std.specs.Prelude.{◌≡◌, ◌-◌, ◌^◌, ◌<◌, IfOk, Some, length, sum_by, ⊤};
+ghost use Rattle.std.specs.Result.{IsOk};
 ghost use Rattle.std.specs.Option.{option_map_or, unwrap_or};
 ghost use Rattle.sqlite.specs.Held.{state};
 ghost use Rattle.ee_acts.specs.PlainBooks.{batch_of, batch_so_far};
 ghost use Rattle.ee_acts.specs.Views as is;
 ghost use Rattle.ee_tables.specs.Statements.{StaysOpen, StaysInside, CommitsNothing, LeavesNoMore};
+ghost use Rattle.ee_store.specs.Failures.{FailsByCause};
 ghost use Rattle.ee_store.specs.Serving.{FindsIn, LeavesRows};
 
 use crate::failures::Unfinished;
@@ -34,6 +36,7 @@ pub fn tickets_in<S: Alter>(tx: &mut Transaction<'_, S>) -> Result<u64, Unfinish
     ensures rows { LeavesRows (state S.Store tx.old.conn.now) (state S.Store tx.new.conn.now) result }
     ensures commit { CommitsNothing (state S.Store tx.old.conn.now) (state S.Store tx.new.conn.now) }
     ensures crash { LeavesNoMore (state S.Store tx.old.conn.now) (state S.Store tx.new.conn.now) }
+    ensures cause { FailsByCause (state S.Store tx.old.conn.now) (state S.Store tx.new.conn.now) result (λ _. ⊤) }
 {
     let last = last_ticket(tx)?;
     Ok(or_zero(last))
@@ -44,6 +47,7 @@ fn counts_of(sums: &[TicketSum]) -> Result<DayCounts, Unfinished>
     ensures tickets { IfOk result (λ counts. counts.tickets ≡ length sums.now) }
     ensures bonds { IfOk result (λ counts. counts.bonds ≡ sum_by (λ s. s.bonds) sums.now) }
     ensures total { IfOk result (λ counts. counts.total.0 ≡ sum_by (λ s. s.total) sums.now) }
+    ensures fits { sum_by (λ s. s.bonds) sums.now < 2 ^ 64 → sum_by (λ s. s.total) sums.now < 2 ^ 64 → IsOk result }
 {
     let mut bonds: u64 = 0;
     let mut total: u64 = 0;
@@ -77,6 +81,7 @@ fn day_in<S: Alter>(
     ensures rows { LeavesRows (state S.Store tx.old.conn.now) (state S.Store tx.new.conn.now) result }
     ensures commit { CommitsNothing (state S.Store tx.old.conn.now) (state S.Store tx.new.conn.now) }
     ensures crash { LeavesNoMore (state S.Store tx.old.conn.now) (state S.Store tx.new.conn.now) }
+    ensures cause { FailsByCause (state S.Store tx.old.conn.now) (state S.Store tx.new.conn.now) result (λ _. ⊤) }
 {
     let sums = day_tickets(tx, alloc, day.count() as u64)?;
     let all = sums.as_slice();
@@ -97,6 +102,7 @@ fn open_day_in<S: Alter>(
     ensures rows { LeavesRows (state S.Store tx.old.conn.now) (state S.Store tx.new.conn.now) result }
     ensures commit { CommitsNothing (state S.Store tx.old.conn.now) (state S.Store tx.new.conn.now) }
     ensures crash { LeavesNoMore (state S.Store tx.old.conn.now) (state S.Store tx.new.conn.now) }
+    ensures cause { FailsByCause (state S.Store tx.old.conn.now) (state S.Store tx.new.conn.now) result (λ _. ⊤) }
 {
     match day {
         Some(day) => day_in(tx, alloc, day),
@@ -128,6 +134,7 @@ fn length_of_day_in<S: Alter>(
     ensures rows { LeavesRows (state S.Store tx.old.conn.now) (state S.Store tx.new.conn.now) result }
     ensures commit { CommitsNothing (state S.Store tx.old.conn.now) (state S.Store tx.new.conn.now) }
     ensures crash { LeavesNoMore (state S.Store tx.old.conn.now) (state S.Store tx.new.conn.now) }
+    ensures cause { FailsByCause (state S.Store tx.old.conn.now) (state S.Store tx.new.conn.now) result (λ _. ⊤) }
 {
     let first = first_ticket(tx, day.count() as u64)?;
     Ok(from_first(first, tickets))
@@ -147,6 +154,7 @@ fn length_of_open_day_in<S: Alter>(
     ensures rows { LeavesRows (state S.Store tx.old.conn.now) (state S.Store tx.new.conn.now) result }
     ensures commit { CommitsNothing (state S.Store tx.old.conn.now) (state S.Store tx.new.conn.now) }
     ensures crash { LeavesNoMore (state S.Store tx.old.conn.now) (state S.Store tx.new.conn.now) }
+    ensures cause { FailsByCause (state S.Store tx.old.conn.now) (state S.Store tx.new.conn.now) result (λ _. ⊤) }
 {
     match day {
         Some(day) => length_of_day_in(tx, day, tickets),
@@ -172,6 +180,7 @@ pub fn counted_in<S: Alter>(
     ensures rows { LeavesRows (state S.Store tx.old.conn.now) (state S.Store tx.new.conn.now) result }
     ensures commit { CommitsNothing (state S.Store tx.old.conn.now) (state S.Store tx.new.conn.now) }
     ensures crash { LeavesNoMore (state S.Store tx.old.conn.now) (state S.Store tx.new.conn.now) }
+    ensures cause { FailsByCause (state S.Store tx.old.conn.now) (state S.Store tx.new.conn.now) result (λ _. ⊤) }
 {
     match act {
         Act::Redeem { .. } => {

@@ -9,6 +9,7 @@ ghost use Rattle.ee_acts.specs.Numbers.{number_of};
 ghost use Rattle.ee_acts.specs.Repeats.{Content};
 ghost use Rattle.ee_acts.specs.Contents.{content_after};
 ghost use Rattle.ee_acts.specs.Answers.{answer};
+ghost use Rattle.ee_store.specs.Failures.{IsReady, KeepsRoom, DeliversOrFails};
 ghost use Rattle.ee_store.specs.Serving.{StandsFor, HasContent};
 
 use crate::failures::Unfinished;
@@ -34,6 +35,9 @@ pub fn deliver_on<S: Alter>(
         → (db : Trees) → (state S.Store conn.new).may_leave db → db ≡ (state S.Store conn.new).committed.trees) }
     ensures again { HasCleanDisk (state S.Store conn.new) → OnOk result ((content : Content) → HasContent (state S.Store conn.old) content → finite.contains_key content.kept (number_of request.now) ≡ true
         → (db : Trees) → (state S.Store conn.new).may_leave db → (state S.Store conn.old).may_leave db) }
+    ensures ready { IsReady (state S.Store conn.old) → IsReady (state S.Store conn.new) }
+    ensures room { KeepsRoom (state S.Store conn.old) (state S.Store conn.new) }
+    ensures cause { DeliversOrFails (state S.Store conn.old) (state S.Store conn.new) request.now result }
 {
     if !conn.is_autocommit() {
         return Err(Unfinished::StoreFailed);

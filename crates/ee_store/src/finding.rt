@@ -1,12 +1,13 @@
 //! What a query finds in a transaction.
 
-ghost use Rattle.std.specs.Prelude.{◌≡◌, map};
+ghost use Rattle.std.specs.Prelude.{◌≡◌, ◌<◌, map, ⊤};
 ghost use Rattle.std.specs.List.{filter_map};
 ghost use Rattle.sqlite.specs.Held.{state};
 ghost use Rattle.ee_acts.specs.Queries.{ticket_numbered, batch_on, bonds_of, row_of, shown_in_row};
 ghost use Rattle.ee_tables.specs.AsRows.{Fits};
-ghost use Rattle.ee_tables.specs.Statements.{StaysOpen, StaysInside, CommitsNothing, LeavesNoMore};
+ghost use Rattle.ee_tables.specs.Statements.{StaysInside, CommitsNothing, LeavesNoMore};
 ghost use Rattle.ee_keeper.specs.Keeping.{IsInventory, IsQuote};
+ghost use Rattle.ee_store.specs.Failures.{FailsByCause};
 ghost use Rattle.ee_store.specs.Serving.{FindsIn, LeavesRows};
 
 use crate::counting::tickets_in;
@@ -31,6 +32,7 @@ pub fn batch_in<S: Alter>(
     ensures found { FindsIn (state S.Store tx.old.conn.now) (state S.Store tx.new.conn.now) result (λ content batch. batch ≡ batch_on content.books day) }
     ensures commit { CommitsNothing (state S.Store tx.old.conn.now) (state S.Store tx.new.conn.now) }
     ensures crash { LeavesNoMore (state S.Store tx.old.conn.now) (state S.Store tx.new.conn.now) }
+    ensures cause { FailsByCause (state S.Store tx.old.conn.now) (state S.Store tx.new.conn.now) result (λ _. ⊤) }
 {
     let found = find_batch(tx, day.count() as u64)?;
     Ok(batch_shown(day, found))
@@ -47,6 +49,7 @@ fn find_numbered<S: Alter>(
     ensures found { FindsIn (state S.Store tx.old.conn.now) (state S.Store tx.new.conn.now) result (λ content ticket. ticket ≡ ticket_numbered content.books number) }
     ensures commit { CommitsNothing (state S.Store tx.old.conn.now) (state S.Store tx.new.conn.now) }
     ensures crash { LeavesNoMore (state S.Store tx.old.conn.now) (state S.Store tx.new.conn.now) }
+    ensures cause { FailsByCause (state S.Store tx.old.conn.now) (state S.Store tx.new.conn.now) result (λ _. ⊤) }
 {
     let Some(row) = find_ticket(tx, number)? else {
         return Ok(None);
@@ -66,6 +69,7 @@ fn none_beyond<S: Alter>(
     ensures found { FindsIn (state S.Store tx.old.conn.now) (state S.Store tx.new.conn.now) result (λ content ticket. ticket ≡ ticket_numbered content.books number) }
     ensures commit { CommitsNothing (state S.Store tx.old.conn.now) (state S.Store tx.new.conn.now) }
     ensures crash { LeavesNoMore (state S.Store tx.old.conn.now) (state S.Store tx.new.conn.now) }
+    ensures cause { FailsByCause (state S.Store tx.old.conn.now) (state S.Store tx.new.conn.now) result (λ _. 9223372036854775807 < number) }
 {
     let count = tickets_in(tx)?;
     if count < number {
@@ -85,6 +89,7 @@ pub fn ticket_in<S: Alter>(
     ensures found { FindsIn (state S.Store tx.old.conn.now) (state S.Store tx.new.conn.now) result (λ content ticket. ticket ≡ ticket_numbered content.books number) }
     ensures commit { CommitsNothing (state S.Store tx.old.conn.now) (state S.Store tx.new.conn.now) }
     ensures crash { LeavesNoMore (state S.Store tx.old.conn.now) (state S.Store tx.new.conn.now) }
+    ensures cause { FailsByCause (state S.Store tx.old.conn.now) (state S.Store tx.new.conn.now) result (λ _. ⊤) }
 {
     if number <= 9_223_372_036_854_775_807 {
         find_numbered(tx, alloc, number)
@@ -106,6 +111,7 @@ pub fn quote_in<S: Alter>(
     ensures found { FindsIn (state S.Store tx.old.conn.now) (state S.Store tx.new.conn.now) result (λ content row. IsQuote content.books denom issued month row) }
     ensures commit { CommitsNothing (state S.Store tx.old.conn.now) (state S.Store tx.new.conn.now) }
     ensures crash { LeavesNoMore (state S.Store tx.old.conn.now) (state S.Store tx.new.conn.now) }
+    ensures cause { FailsByCause (state S.Store tx.old.conn.now) (state S.Store tx.new.conn.now) result (λ _. ⊤) }
 {
     let terms = find_terms(tx, alloc, tables, period_of(issued))?;
     Ok(quote(terms, denom, issued, month))
@@ -123,6 +129,7 @@ pub fn bonds_in<S: Alter>(
     ensures rows { LeavesRows (state S.Store tx.old.conn.now) (state S.Store tx.new.conn.now) result }
     ensures commit { CommitsNothing (state S.Store tx.old.conn.now) (state S.Store tx.new.conn.now) }
     ensures crash { LeavesNoMore (state S.Store tx.old.conn.now) (state S.Store tx.new.conn.now) }
+    ensures cause { FailsByCause (state S.Store tx.old.conn.now) (state S.Store tx.new.conn.now) result (λ _. ⊤) }
 {
     let rows = bonds_of_owner(tx, alloc, customer.number() as u64)?;
     let own = rows.as_slice();
@@ -141,6 +148,7 @@ fn rows_in<S: Alter>(
     ensures found { FindsIn (state S.Store tx.old.conn.now) (state S.Store tx.new.conn.now) result (λ content rows. map shown_in_row rows.items ≡ filter_map (row_of content.books.rates month) bonds.now) }
     ensures commit { CommitsNothing (state S.Store tx.old.conn.now) (state S.Store tx.new.conn.now) }
     ensures crash { LeavesNoMore (state S.Store tx.old.conn.now) (state S.Store tx.new.conn.now) }
+    ensures cause { FailsByCause (state S.Store tx.old.conn.now) (state S.Store tx.new.conn.now) result (λ _. ⊤) }
 {
     let periods = periods_in(alloc, bonds)?;
     let asked = periods.as_slice();
@@ -161,6 +169,7 @@ pub fn inventory_in<S: Alter>(
     ensures found { FindsIn (state S.Store tx.old.conn.now) (state S.Store tx.new.conn.now) result (λ content sheet. IsInventory content.books customer month sheet) }
     ensures commit { CommitsNothing (state S.Store tx.old.conn.now) (state S.Store tx.new.conn.now) }
     ensures crash { LeavesNoMore (state S.Store tx.old.conn.now) (state S.Store tx.new.conn.now) }
+    ensures cause { FailsByCause (state S.Store tx.old.conn.now) (state S.Store tx.new.conn.now) result (λ _. ⊤) }
 {
     let bonds = bonds_in(tx, alloc, customer)?;
     let own = bonds.as_slice();

@@ -1,6 +1,6 @@
 //! A keeper over the tables.
 
-ghost use Rattle.std.specs.Prelude.{◌≡◌, true, false, List, [], ◌∷◌, OnOk, OnErr, MatchResult};
+ghost use Rattle.std.specs.Prelude.{◌≡◌, true, false, List, [], ◌∷◌, OnOk, OnErr, IfErr, MatchResult};
 ghost use Rattle.std.specs.FinMap as finite;
 ghost use Rattle.sqlite.specs.Held.{state};
 ghost use Rattle.sqlite.specs.Tree.{Trees};
@@ -11,6 +11,8 @@ ghost use Rattle.ee_acts.specs.Contents.{content_after};
 ghost use Rattle.ee_laws.specs.Events.{World, Told, decided, unserved};
 ghost use Rattle.ee_laws.specs.Events.Event.{Deliver, Lose, Unserved as NotServed};
 ghost use Rattle.ee_keeper.specs.Keeping.{Delivers};
+ghost use Rattle.ee_tables.specs.Statements.{HasCause};
+ghost use Rattle.ee_store.specs.Failures.{IsReady, KeepsRoom, CanDeliver};
 ghost use Rattle.ee_store.specs.Serving.{StandsFor, HasContent, FollowsWorld};
 ghost use Rattle.ee_store.specs.History.{Goes};
 
@@ -39,6 +41,9 @@ impl<S: Alter> SqlKeeper<S> {
     /// - `again`: with the reply to a kept number it leaves what it could leave before.
     /// - `decided`, `unserved`: so the store follows the events of the law of stops and retries.
     /// - `goes`: and they are its events in its whole history (`whole_history`).
+    /// - `ready`, `room`, `cause`: it takes requests as before, with room for 500 rows less at most; and where its
+    ///   store was ready, with such room, and the texts fit a row, it answers `StoreFailed` only where the device failed
+    ///   once more, or the store was shut before.
     pub fn deliver(&mut self, request: &Request) -> Result<Reply, Unserved>
         ensures clean { HasCleanDisk (state S.Store self.new.conn) → HasCleanDisk (state S.Store self.old.conn) }
         ensures delivers { HasCleanDisk (state S.Store self.new.conn) → (content : Content) → HasContent (state S.Store self.old.conn) content
@@ -48,6 +53,10 @@ impl<S: Alter> SqlKeeper<S> {
             → (db : Trees) → (state S.Store self.new.conn).may_leave db → StandsFor db (content_after content (request.now ∷ []))) }
         ensures again { HasCleanDisk (state S.Store self.new.conn) → OnOk result ((content : Content) → HasContent (state S.Store self.old.conn) content → finite.contains_key content.kept (number_of request.now) ≡ true
             → (db : Trees) → (state S.Store self.new.conn).may_leave db → (state S.Store self.old.conn).may_leave db) }
+        ensures ready { IsReady (state S.Store self.old.conn) → IsReady (state S.Store self.new.conn) }
+        ensures room { KeepsRoom (state S.Store self.old.conn) (state S.Store self.new.conn) }
+        ensures cause { HasCleanDisk (state S.Store self.new.conn) → (content : Content) → CanDeliver (state S.Store self.old.conn) content request.now
+            → IfErr result (λ e. e ≡ Unserved.StoreFailed → HasCause (state S.Store self.old.conn) (state S.Store self.new.conn)) }
         ensures decided { HasCleanDisk (state S.Store self.new.conn) → OnOk result ((w : World) (told : List Told) → FollowsWorld (state S.Store self.old.conn) w → FollowsWorld (state S.Store self.new.conn) (decided w request.now told)) }
         ensures unserved { HasCleanDisk (state S.Store self.new.conn) → OnErr result ((w : World) → FollowsWorld (state S.Store self.old.conn) w → FollowsWorld (state S.Store self.new.conn) (unserved w request.now)) }
         ensures goes { HasCleanDisk (state S.Store self.new.conn) → MatchResult result

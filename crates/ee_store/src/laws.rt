@@ -1,5 +1,9 @@
 //! What stops, retries and tellers leave of a keeper: laws of the definitions, in whose words the keeper's clauses are.
 
+ghost use Rattle.sqlite.specs.Held.{Held, state};
+ghost use Rattle.sqlite.specs.Steps.{over_memory};
+ghost use Rattle.sqlite_trees.specs.declared.memory.MemStore.{MemStore};
+ghost use Rattle.ee_tables.specs.Statements.{HasCause};
 ghost use Rattle.ee_store.specs.NextRun.{FollowsInNextRun, WaitsInNextRun};
 ghost use Rattle.ee_store.specs.History.{BeginsHistory, GoesByQueries, GoesThroughCrash, GoesThroughRest, HasHistory, SettlesHistory};
 
@@ -38,3 +42,9 @@ pub const fn whole_history<D: Disk, E: Disk>()
     stops_and_retries();
     next_run::<D, E>();
 }
+
+/// A store in memory has no cause to fail, whatever was called: no device has a fault, and nothing shuts it. So over it
+/// no call answers `StoreFailed` whose clause `cause` speaks.
+pub const fn memory_never_fails()
+    ensures { (old new : Held MemStore) → ¬ HasCause (state over_memory old) (state over_memory new) }
+{}

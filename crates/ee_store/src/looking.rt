@@ -1,14 +1,18 @@
 //! What is found by keys in a transaction.
 
-ghost use Rattle.std.specs.Prelude.{◌≡◌, IfSome, IfOk, OnOk};
+ghost use Rattle.std.specs.Prelude.{◌≡◌, Option, IfSome, IsSome, IfOk, OnOk, ⊤};
+ghost use Rattle.std.specs.Result.{IsOk};
 ghost use Rattle.std.specs.Option.{option_map};
 ghost use Rattle.std.specs.FinMap as finite;
 ghost use Rattle.sqlite.specs.Held.{state};
+ghost use Rattle.ee_acts.specs.declared.changes.Held.{Held};
 ghost use Rattle.ee_acts.specs.Seen.{held_of};
 ghost use Rattle.ee_acts.specs.Views.{picked};
+ghost use Rattle.ee_texts.specs.Ranges.{IsCustomer, BondFits};
 ghost use Rattle.ee_tables.specs.AsRows.{row_of_bond};
 ghost use Rattle.ee_tables.specs.Statements.{StaysOpen, StaysInside, CommitsNothing, LeavesNoMore};
 ghost use Rattle.ee_contents.specs.Standing.{bond_row};
+ghost use Rattle.ee_store.specs.Failures.{FailsByCause};
 ghost use Rattle.ee_store.specs.Found.{bonds_found, with_found};
 ghost use Rattle.ee_store.specs.Serving.{FindsIn, LeavesRows};
 
@@ -24,7 +28,8 @@ use std::alloc::{AllocError, Global};
 use std::collections::BTreeMap;
 
 fn coowner_of(number: Option<u64>) -> Option<Option<Customer>>
-    ensures { IfSome result (λ coowner. coowner ≡ number) }
+    ensures value { IfSome result (λ coowner. coowner ≡ number) }
+    ensures read { IfSome number IsCustomer → IsSome result }
 {
     match number {
         None => Some(None),
@@ -34,7 +39,8 @@ fn coowner_of(number: Option<u64>) -> Option<Option<Customer>>
 
 /// The bond that a row shows, and the ticket that paid it.
 pub fn held_from(serial: Serial, row: tables::Bond) -> Option<Held>
-    ensures { IfSome result (λ held. (bond_row held ≡ row_of_bond row) × (held.bond.serial ≡ serial)) }
+    ensures shown { IfSome result (λ held. (bond_row held ≡ row_of_bond row) × (held.bond.serial ≡ serial)) }
+    ensures read { (held : Held) → row_of_bond row ≡ bond_row held → BondFits held.bond → IsSome result }
 {
     let denom = denom_of(row.denom)?;
     let issued = issue_of(row.issued)?;
@@ -55,7 +61,8 @@ pub fn held_from(serial: Serial, row: tables::Bond) -> Option<Held>
 
 /// What a look-up showed of a serial number.
 fn held_shown(serial: Serial, found: Option<tables::Bond>) -> Result<Option<Held>, Unfinished>
-    ensures { IfOk result (λ held. (option_map bond_row held ≡ option_map row_of_bond found) × IfSome held (λ held. held.bond.serial ≡ serial)) }
+    ensures shown { IfOk result (λ held. (option_map bond_row held ≡ option_map row_of_bond found) × IfSome held (λ held. held.bond.serial ≡ serial)) }
+    ensures read { (held : Option Held) → option_map row_of_bond found ≡ option_map bond_row held → IfSome held (λ held. BondFits held.bond) → IsOk result }
 {
     match found {
         None => Ok(None),
@@ -78,6 +85,7 @@ fn find_held<S: Alter>(
     ensures rows { LeavesRows (state S.Store tx.old.conn.now) (state S.Store tx.new.conn.now) result }
     ensures commit { CommitsNothing (state S.Store tx.old.conn.now) (state S.Store tx.new.conn.now) }
     ensures crash { LeavesNoMore (state S.Store tx.old.conn.now) (state S.Store tx.new.conn.now) }
+    ensures cause { FailsByCause (state S.Store tx.old.conn.now) (state S.Store tx.new.conn.now) result (λ _. ⊤) }
 {
     let key = tables::Serial {
         letter: serial.letter() as u64,
@@ -130,6 +138,7 @@ pub fn held_in<S: Alter>(
     ensures rows { LeavesRows (state S.Store tx.old.conn.now) (state S.Store tx.new.conn.now) result }
     ensures commit { CommitsNothing (state S.Store tx.old.conn.now) (state S.Store tx.new.conn.now) }
     ensures crash { LeavesNoMore (state S.Store tx.old.conn.now) (state S.Store tx.new.conn.now) }
+    ensures cause { FailsByCause (state S.Store tx.old.conn.now) (state S.Store tx.new.conn.now) result (λ _. ⊤) }
 {
     let mut found = no_bonds(alloc);
     for serial in serials {

@@ -7,6 +7,7 @@ ghost use Rattle.ee_acts.specs.Repeats.{Content};
 ghost use Rattle.ee_acts.specs.Queries.{ticket_numbered, batch_on, bonds_of};
 ghost use Rattle.ee_laws.specs.Events.{World};
 ghost use Rattle.ee_keeper.specs.Keeping.{Shows, IsInventory, IsQuote};
+ghost use Rattle.ee_store.specs.Failures.{IsReady, ServesOrFails};
 ghost use Rattle.ee_store.specs.Serving.{HasContent, FollowsWorld};
 
 use crate::asking::{ask_batch, ask_bonds, ask_inventory, ask_quote, ask_ticket};
@@ -21,6 +22,8 @@ use sqlite::Alter;
 ///
 /// - `clean`, `shows`: what is shown is right, and the content stays, also where it answers `Unserved`.
 /// - `crash`: whenever the keeper stops, a crash leaves what it could leave before.
+/// - `ready`, `cause`: it is asked as before; and where its store was ready, it answers `StoreFailed` only where the
+///   device failed once more, or the store was shut before.
 /// - `follows`: so a query is no event of the law of stops and retries.
 ///
 /// It answers `NoMemory` where memory was refused, and `StoreFailed` where the store failed, held what no
@@ -32,6 +35,8 @@ impl<S: Alter> SqlKeeper<S> {
         ensures shows { HasCleanDisk (state S.Store self.new.conn) → (content : Content) → HasContent (state S.Store self.old.conn) content
             → Shows (IsInventory content.books customer month) result (HasContent (state S.Store self.new.conn) content) }
         ensures crash { Survives (state S.Store self.old.conn) (state S.Store self.new.conn) (λ _. ⊥) }
+        ensures ready { IsReady (state S.Store self.old.conn) → IsReady (state S.Store self.new.conn) }
+        ensures cause { ServesOrFails (state S.Store self.old.conn) (state S.Store self.new.conn) result }
         ensures follows { HasCleanDisk (state S.Store self.new.conn) → (w : World) → FollowsWorld (state S.Store self.old.conn) w → FollowsWorld (state S.Store self.new.conn) w }
     {
         match ask_inventory(
@@ -52,6 +57,8 @@ impl<S: Alter> SqlKeeper<S> {
         ensures shows { HasCleanDisk (state S.Store self.new.conn) → (content : Content) → HasContent (state S.Store self.old.conn) content
             → Shows (λ bonds. bonds.items ≡ bonds_of content.books customer) result (HasContent (state S.Store self.new.conn) content) }
         ensures crash { Survives (state S.Store self.old.conn) (state S.Store self.new.conn) (λ _. ⊥) }
+        ensures ready { IsReady (state S.Store self.old.conn) → IsReady (state S.Store self.new.conn) }
+        ensures cause { ServesOrFails (state S.Store self.old.conn) (state S.Store self.new.conn) result }
         ensures follows { HasCleanDisk (state S.Store self.new.conn) → (w : World) → FollowsWorld (state S.Store self.old.conn) w → FollowsWorld (state S.Store self.new.conn) w }
     {
         match ask_bonds(&mut self.conn, self.alloc, customer) {
@@ -66,6 +73,8 @@ impl<S: Alter> SqlKeeper<S> {
         ensures shows { HasCleanDisk (state S.Store self.new.conn) → (content : Content) → HasContent (state S.Store self.old.conn) content
             → Shows (λ ticket. ticket ≡ ticket_numbered content.books number) result (HasContent (state S.Store self.new.conn) content) }
         ensures crash { Survives (state S.Store self.old.conn) (state S.Store self.new.conn) (λ _. ⊥) }
+        ensures ready { IsReady (state S.Store self.old.conn) → IsReady (state S.Store self.new.conn) }
+        ensures cause { ServesOrFails (state S.Store self.old.conn) (state S.Store self.new.conn) result }
         ensures follows { HasCleanDisk (state S.Store self.new.conn) → (w : World) → FollowsWorld (state S.Store self.old.conn) w → FollowsWorld (state S.Store self.new.conn) w }
     {
         match ask_ticket(&mut self.conn, self.alloc, number) {
@@ -80,6 +89,8 @@ impl<S: Alter> SqlKeeper<S> {
         ensures shows { HasCleanDisk (state S.Store self.new.conn) → (content : Content) → HasContent (state S.Store self.old.conn) content
             → Shows (λ batch. batch ≡ batch_on content.books day) result (HasContent (state S.Store self.new.conn) content) }
         ensures crash { Survives (state S.Store self.old.conn) (state S.Store self.new.conn) (λ _. ⊥) }
+        ensures ready { IsReady (state S.Store self.old.conn) → IsReady (state S.Store self.new.conn) }
+        ensures cause { ServesOrFails (state S.Store self.old.conn) (state S.Store self.new.conn) result }
         ensures follows { HasCleanDisk (state S.Store self.new.conn) → (w : World) → FollowsWorld (state S.Store self.old.conn) w → FollowsWorld (state S.Store self.new.conn) w }
     {
         match ask_batch(&mut self.conn, day) {
@@ -100,6 +111,8 @@ impl<S: Alter> SqlKeeper<S> {
         ensures shows { HasCleanDisk (state S.Store self.new.conn) → (content : Content) → HasContent (state S.Store self.old.conn) content
             → Shows (IsQuote content.books denom issued month) result (HasContent (state S.Store self.new.conn) content) }
         ensures crash { Survives (state S.Store self.old.conn) (state S.Store self.new.conn) (λ _. ⊥) }
+        ensures ready { IsReady (state S.Store self.old.conn) → IsReady (state S.Store self.new.conn) }
+        ensures cause { ServesOrFails (state S.Store self.old.conn) (state S.Store self.new.conn) result }
         ensures follows { HasCleanDisk (state S.Store self.new.conn) → (w : World) → FollowsWorld (state S.Store self.old.conn) w → FollowsWorld (state S.Store self.new.conn) w }
     {
         match ask_quote(

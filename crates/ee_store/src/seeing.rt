@@ -1,15 +1,21 @@
 //! What an act sees of the books, read by its keys in a transaction.
 
-ghost use Rattle.std.specs.Prelude.{◌≡◌, IfOk, IfSome, Some, length};
+ghost use Rattle.std.specs.Prelude.{◌≡◌, IfOk, IfSome, IsSome, Some, None, length, ⊤};
+ghost use Rattle.std.specs.Result.{IsOk};
 ghost use Rattle.std.specs.Option.{option_map};
 ghost use Rattle.std.specs.FinMap as finite;
 ghost use Rattle.sqlite.specs.Held.{state};
 ghost use Rattle.ee_acts.specs.Seen.{held_of};
+ghost use Rattle.ee_acts.specs.declared.acts.Act.{Act};
+ghost use Rattle.ee_acts.specs.PlainBooks.{PlainBooks};
+ghost use Rattle.ee_acts.specs.Refusals.{length_refusal};
+ghost use Rattle.ee_acts.specs.Sound.{IsDay, IsSound};
 ghost use Rattle.ee_acts.specs.Views as is;
 ghost use Rattle.ee_acts.specs.Views.{picked};
 ghost use Rattle.ee_tables.specs.AsRows.{row_of_desk};
 ghost use Rattle.ee_tables.specs.Rows.{DeskRow};
 ghost use Rattle.ee_tables.specs.Statements.{StaysOpen, StaysInside, CommitsNothing, LeavesNoMore};
+ghost use Rattle.ee_store.specs.Failures.{FailsByCause};
 ghost use Rattle.ee_store.specs.Found.{terms_found, bonds_found};
 ghost use Rattle.ee_store.specs.Serving.{FindsIn, LeavesRows, AreEffects};
 
@@ -29,7 +35,8 @@ use std::alloc::Global;
 use std::collections::BTreeMap;
 
 fn optional_day(count: Option<u64>) -> Option<Option<Day>>
-    ensures { IfSome result (λ day. day ≡ count) }
+    ensures value { IfSome result (λ day. day ≡ count) }
+    ensures read { IfSome count IsDay → IsSome result }
 {
     match count {
         None => Some(None),
@@ -45,7 +52,8 @@ struct Days {
 }
 
 fn days_of(desk: tables::Desk) -> Result<Days, Unfinished>
-    ensures { IfOk result (λ days. (days.day ≡ desk.day) × (days.last_day ≡ desk.last_day)) }
+    ensures value { IfOk result (λ days. (days.day ≡ desk.day) × (days.last_day ≡ desk.last_day)) }
+    ensures read { IfSome desk.day IsDay → IfSome desk.last_day IsDay → IsOk result }
 {
     let Some(day) = optional_day(desk.day) else {
         return Err(Unfinished::StoreFailed);
@@ -58,7 +66,8 @@ fn days_of(desk: tables::Desk) -> Result<Days, Unfinished>
 
 /// The days that a look-up showed.
 fn days_shown(found: Option<tables::Desk>) -> Result<Days, Unfinished>
-    ensures { IfOk result (λ days. (desk : DeskRow) → option_map row_of_desk found ≡ Some desk → (days.day ≡ desk.day) × (days.last_day ≡ desk.last_day)) }
+    ensures value { IfOk result (λ days. (desk : DeskRow) → option_map row_of_desk found ≡ Some desk → (days.day ≡ desk.day) × (days.last_day ≡ desk.last_day)) }
+    ensures read { (desk : DeskRow) → option_map row_of_desk found ≡ Some desk → IfSome desk.day IsDay → IfSome desk.last_day IsDay → IsOk result }
 {
     match found {
         Some(desk) => days_of(desk),
@@ -75,6 +84,7 @@ fn days_in<S: Alter>(tx: &mut Transaction<'_, S>) -> Result<Days, Unfinished>
     ensures rows { LeavesRows (state S.Store tx.old.conn.now) (state S.Store tx.new.conn.now) result }
     ensures commit { CommitsNothing (state S.Store tx.old.conn.now) (state S.Store tx.new.conn.now) }
     ensures crash { LeavesNoMore (state S.Store tx.old.conn.now) (state S.Store tx.new.conn.now) }
+    ensures cause { FailsByCause (state S.Store tx.old.conn.now) (state S.Store tx.new.conn.now) result (λ _. ⊤) }
 {
     let found = find_desk(tx)?;
     days_shown(found)
@@ -103,6 +113,7 @@ fn keys_in<S: Alter>(
     ensures rows { LeavesRows (state S.Store tx.old.conn.now) (state S.Store tx.new.conn.now) result }
     ensures commit { CommitsNothing (state S.Store tx.old.conn.now) (state S.Store tx.new.conn.now) }
     ensures crash { LeavesNoMore (state S.Store tx.old.conn.now) (state S.Store tx.new.conn.now) }
+    ensures cause { FailsByCause (state S.Store tx.old.conn.now) (state S.Store tx.new.conn.now) result (λ _. ⊤) }
 {
     let serials = serials_of(alloc, act)?;
     let named = serials.as_slice();
@@ -136,6 +147,7 @@ fn counts_in<S: Alter>(
     ensures rows { LeavesRows (state S.Store tx.old.conn.now) (state S.Store tx.new.conn.now) result }
     ensures commit { CommitsNothing (state S.Store tx.old.conn.now) (state S.Store tx.new.conn.now) }
     ensures crash { LeavesNoMore (state S.Store tx.old.conn.now) (state S.Store tx.new.conn.now) }
+    ensures cause { FailsByCause (state S.Store tx.old.conn.now) (state S.Store tx.new.conn.now) result (λ _. ⊤) }
 {
     let tickets = tickets_in(tx)?;
     let counts = counted_in(tx, alloc, act, day, tickets)?;
@@ -146,7 +158,8 @@ fn counts_in<S: Alter>(
 }
 
 fn view_from(keys: Keys, days: Days, counts: Counts) -> Result<View, Unfinished>
-    ensures { IfOk result (λ view. view ≡ record { rates = terms_found keys.terms.entries; bonds = bonds_found keys.bonds.entries; day = days.day; last_day = days.last_day; tickets = counts.tickets; day_tickets = counts.day.tickets; day_bonds = counts.day.bonds; day_total = counts.day.total.0 }) }
+    ensures fits { (books : PlainBooks) → IsSound books → (asked : Act) → record { rates = terms_found keys.terms.entries; bonds = bonds_found keys.bonds.entries; day = days.day; last_day = days.last_day; tickets = counts.tickets; day_tickets = counts.day.tickets; day_bonds = counts.day.bonds; day_total = counts.day.total.0 } ≡ is.needed_of books asked → IsOk result }
+    ensures view { IfOk result (λ view. view ≡ record { rates = terms_found keys.terms.entries; bonds = bonds_found keys.bonds.entries; day = days.day; last_day = days.last_day; tickets = counts.tickets; day_tickets = counts.day.tickets; day_bonds = counts.day.bonds; day_total = counts.day.total.0 }) }
 {
     let Keys { terms, bonds } = keys;
     let parts = ViewParts {
@@ -179,6 +192,7 @@ fn view_within<S: Alter>(
     ensures rows { LeavesRows (state S.Store tx.old.conn.now) (state S.Store tx.new.conn.now) result }
     ensures commit { CommitsNothing (state S.Store tx.old.conn.now) (state S.Store tx.new.conn.now) }
     ensures crash { LeavesNoMore (state S.Store tx.old.conn.now) (state S.Store tx.new.conn.now) }
+    ensures cause { FailsByCause (state S.Store tx.old.conn.now) (state S.Store tx.new.conn.now) result (λ _. length_refusal act.now ≡ None) }
 {
     let days = days_in(tx)?;
     let keys = keys_in(tx, alloc, tables, act)?;
@@ -200,6 +214,7 @@ fn view_in<S: Alter>(
     ensures rows { LeavesRows (state S.Store tx.old.conn.now) (state S.Store tx.new.conn.now) result }
     ensures commit { CommitsNothing (state S.Store tx.old.conn.now) (state S.Store tx.new.conn.now) }
     ensures crash { LeavesNoMore (state S.Store tx.old.conn.now) (state S.Store tx.new.conn.now) }
+    ensures cause { FailsByCause (state S.Store tx.old.conn.now) (state S.Store tx.new.conn.now) result (λ _. ⊤) }
 {
     match length_refusal(act) {
         Some(_) => Ok(View::of_nothing(alloc)),
@@ -231,6 +246,7 @@ pub fn effects_in<S: Alter>(
     ensures rows { LeavesRows (state S.Store tx.old.conn.now) (state S.Store tx.new.conn.now) result }
     ensures commit { CommitsNothing (state S.Store tx.old.conn.now) (state S.Store tx.new.conn.now) }
     ensures crash { LeavesNoMore (state S.Store tx.old.conn.now) (state S.Store tx.new.conn.now) }
+    ensures cause { FailsByCause (state S.Store tx.old.conn.now) (state S.Store tx.new.conn.now) result (λ _. ⊤) }
 {
     let view = view_in(tx, alloc, tables, act)?;
     let effects = decide(alloc, &view, act)?;

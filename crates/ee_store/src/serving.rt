@@ -1,14 +1,16 @@
 //! A request in a transaction.
 
-ghost use Rattle.std.specs.Prelude.{◌≡◌, IsTrue, IfOk, string_bytes};
+ghost use Rattle.std.specs.Prelude.{◌≡◌, None, IsTrue, IfOk, string_bytes};
+ghost use Rattle.std.specs.FinMap as finite;
 ghost use Rattle.sqlite.specs.Effect.{IsDatabase};
 ghost use Rattle.sqlite.specs.State.{HasCleanDisk};
-ghost use Rattle.ee_tables.specs.Rows.{IsInside};
+ghost use Rattle.ee_tables.specs.Rows.{IsInside, HasRoom};
 ghost use Rattle.sqlite.specs.Held.{state};
 ghost use Rattle.ee_acts.specs.Numbers.{number_of};
 ghost use Rattle.ee_texts.specs.Ranges.{ActFits};
 ghost use Rattle.ee_texts.specs.Texts.{act_text};
 ghost use Rattle.ee_tables.specs.Statements.{LeavesOpen, StaysOpen, StaysInside, LeavesSound, CommitsNothing, LeavesNoMore};
+ghost use Rattle.ee_store.specs.Failures.{FailsByCause, LeavesRoomAfter, TextsFit};
 ghost use Rattle.ee_store.specs.Serving.{Decides, Serves};
 
 use crate::failures::Unfinished;
@@ -38,6 +40,8 @@ fn decide_in<S: Alter>(
     ensures sound { LeavesSound (state S.Store tx.old.conn.now) (state S.Store tx.new.conn.now) result }
     ensures commit { CommitsNothing (state S.Store tx.old.conn.now) (state S.Store tx.new.conn.now) }
     ensures crash { LeavesNoMore (state S.Store tx.old.conn.now) (state S.Store tx.new.conn.now) }
+    ensures room { LeavesRoomAfter (state S.Store tx.old.conn.now) (state S.Store tx.new.conn.now) result }
+    ensures cause { FailsByCause (state S.Store tx.old.conn.now) (state S.Store tx.new.conn.now) result (λ content. (finite.get content.kept (number_of request.now) ≡ None) × TextsFit content request.now × HasRoom 500 (state S.Store tx.old.conn.now)) }
 {
     let (effects, last_day) = effects_in(tx, alloc, tables, &request.act)?;
     let Effects { changes, reply } = effects;
@@ -62,6 +66,8 @@ pub fn serve_in<S: Alter>(
     ensures sound { HasCleanDisk (state S.Store tx.new.conn.now) → IsInside (state S.Store tx.old.conn.now) → IfOk result (λ r. IsTrue r.0 → IsTrue (state S.Store tx.new.conn.now).is_open → IsDatabase (state S.Store tx.new.conn.now).now) }
     ensures commit { CommitsNothing (state S.Store tx.old.conn.now) (state S.Store tx.new.conn.now) }
     ensures crash { LeavesNoMore (state S.Store tx.old.conn.now) (state S.Store tx.new.conn.now) }
+    ensures room { LeavesRoomAfter (state S.Store tx.old.conn.now) (state S.Store tx.new.conn.now) result }
+    ensures cause { FailsByCause (state S.Store tx.old.conn.now) (state S.Store tx.new.conn.now) result (λ content. TextsFit content request.now × HasRoom 500 (state S.Store tx.old.conn.now)) }
 {
     let act = canonical(alloc, &request.act)?;
     if let Some(entry) = find_reply(tx, request.number.value())? {

@@ -1,7 +1,11 @@
 //! Rows of the tables as what they show: batches, tickets and bonds.
 
-ghost use Rattle.std.specs.Prelude.{◌≡◌, IfOk, IfSome, map};
+ghost use Rattle.std.specs.Prelude.{◌≡◌, List, IfOk, IfErr, IfSome, IsSome, All, map};
+ghost use Rattle.std.specs.List.{AllByRecursion};
 ghost use Rattle.std.specs.Option.{option_map};
+ghost use Rattle.ee_calculator.specs.declared.bonds.Bond.{Bond};
+ghost use Rattle.ee_acts.specs.Sound.{IsDay};
+ghost use Rattle.ee_texts.specs.Ranges.{IsCustomer, IsSerial, BondFits};
 ghost use Rattle.ee_tables.specs.AsRows.{row_of_batch};
 ghost use Rattle.ee_contents.specs.Standing.{batch_row, paid_row};
 ghost use Rattle.ee_store.specs.Asking.{row_of_placed, unpaid_row};
@@ -31,7 +35,8 @@ pub fn batch_shown(day: Day, found: Option<tables::Batch>) -> Option<Batch>
 }
 
 fn line_shown(row: &PlacedLine) -> Option<Line>
-    ensures { IfSome result (λ line. paid_row line ≡ row_of_placed row.now) }
+    ensures shown { IfSome result (λ line. paid_row line ≡ row_of_placed row.now) }
+    ensures read { IsSerial (record { letter = row.now.letter; number = row.now.number }) → IsSome result }
 {
     let serial = serial_of(row.letter, row.number)?;
     Some(Line {
@@ -42,7 +47,8 @@ fn line_shown(row: &PlacedLine) -> Option<Line>
 
 /// The lines of a ticket, in the order of their rows.
 fn lines_shown(alloc: Global, rows: &[PlacedLine]) -> Result<Vec<Line>, Unfinished>
-    ensures { IfOk result (λ lines. map paid_row lines.items ≡ map row_of_placed rows.now) }
+    ensures shown { IfOk result (λ lines. map paid_row lines.items ≡ map row_of_placed rows.now) }
+    ensures read { All (λ row. IsSerial (record { letter = row.letter; number = row.number })) rows.now → IfErr result (λ e. e ≡ Unfinished.NoMemory) }
 {
     let mut lines = Vec::new(alloc);
     for row in rows {
@@ -65,6 +71,7 @@ pub fn ticket_shown(
 ) -> Result<Ticket, Unfinished>
     ensures ticket { IfOk result (λ ticket. (ticket.ticket ≡ number) × (ticket.day ≡ row.day) × (ticket.payee ≡ row.payee) × (ticket.total.0 ≡ row.total)) }
     ensures lines { IfOk result (λ ticket. map paid_row ticket.lines ≡ map row_of_placed lines.now) }
+    ensures read { IsDay row.day → IsCustomer row.payee → All (λ line. IsSerial (record { letter = line.letter; number = line.number })) lines.now → IfErr result (λ e. e ≡ Unfinished.NoMemory) }
 {
     let Some(day) = day_of(row.day) else {
         return Err(Unfinished::StoreFailed);
@@ -83,7 +90,8 @@ pub fn ticket_shown(
 }
 
 fn bond_shown(row: &UnpaidBond) -> Option<Bond>
-    ensures { IfSome result (λ bond. unpaid_row bond ≡ row.now) }
+    ensures shown { IfSome result (λ bond. unpaid_row bond ≡ row.now) }
+    ensures read { (bond : Bond) → row.now ≡ unpaid_row bond → BondFits bond → IsSome result }
 {
     let serial = serial_of(row.letter, row.number)?;
     let unpaid = tables::Bond {
@@ -99,7 +107,8 @@ fn bond_shown(row: &UnpaidBond) -> Option<Bond>
 
 /// Unpaid bonds, in the order of their rows.
 pub fn bonds_shown(alloc: Global, rows: &[UnpaidBond]) -> Result<Vec<Bond>, Unfinished>
-    ensures { IfOk result (λ bonds. map unpaid_row bonds.items ≡ rows.now) }
+    ensures shown { IfOk result (λ bonds. map unpaid_row bonds.items ≡ rows.now) }
+    ensures read { (bonds : List Bond) → rows.now ≡ map unpaid_row bonds → AllByRecursion BondFits bonds → IfErr result (λ e. e ≡ Unfinished.NoMemory) }
 {
     let mut bonds = Vec::new(alloc);
     for row in rows {

@@ -1,12 +1,15 @@
 //! The terms of periods, read in a transaction.
 
-ghost use Rattle.std.specs.Prelude.{◌≡◌, IfOk, OnOk};
+ghost use Rattle.std.specs.Prelude.{◌≡◌, Option, None, IfSome, IfOk, IfErr, OnOk, ⊤};
 ghost use Rattle.std.specs.Option.{option_map};
 ghost use Rattle.std.specs.FinMap as finite;
 ghost use Rattle.sqlite.specs.Held.{state};
 ghost use Rattle.ee_value.specs.declared.rates.Rates.{Rates};
+ghost use Rattle.ee_value.specs.Chain.{InRange};
+ghost use Rattle.ee_acts.specs.Values.{unsettled};
 ghost use Rattle.ee_acts.specs.Views.{picked};
 ghost use Rattle.ee_tables.specs.Statements.{StaysOpen, StaysInside, CommitsNothing, LeavesNoMore};
+ghost use Rattle.ee_store.specs.Failures.{FailsByCause};
 ghost use Rattle.ee_store.specs.Found.{terms_found, with_found};
 ghost use Rattle.ee_store.specs.Serving.{FindsIn, LeavesRows};
 
@@ -22,7 +25,8 @@ use std::collections::BTreeMap;
 
 /// The terms of rates, with the table that is kept of them.
 fn terms_of(alloc: Global, tables: &mut Tables, rates: Rates) -> Result<Terms, Unfinished>
-    ensures { IfOk result (λ terms. terms ≡ rates) }
+    ensures value { IfOk result (λ terms. terms ≡ rates) }
+    ensures read { unsettled rates ≡ None → IfErr result (λ e. e ≡ Unfinished.NoMemory) }
 {
     match tables.add(alloc, rates) {
         Ok(terms) => Ok(terms),
@@ -37,7 +41,8 @@ fn terms_shown(
     tables: &mut Tables,
     found: Option<u64>,
 ) -> Result<Option<Terms>, Unfinished>
-    ensures { IfOk result (λ terms. option_map (λ rates. rates.fixed) terms ≡ found) }
+    ensures value { IfOk result (λ terms. option_map (λ rates. rates.fixed) terms ≡ found) }
+    ensures read { (terms : Option Rates) → found ≡ option_map (λ rates. rates.fixed) terms → IfSome terms (λ rates. InRange rates × (unsettled rates ≡ None)) → IfErr result (λ e. e ≡ Unfinished.NoMemory) }
 {
     match found {
         None => Ok(None),
@@ -62,6 +67,7 @@ pub fn find_terms<S: Alter>(
     ensures rows { LeavesRows (state S.Store tx.old.conn.now) (state S.Store tx.new.conn.now) result }
     ensures commit { CommitsNothing (state S.Store tx.old.conn.now) (state S.Store tx.new.conn.now) }
     ensures crash { LeavesNoMore (state S.Store tx.old.conn.now) (state S.Store tx.new.conn.now) }
+    ensures cause { FailsByCause (state S.Store tx.old.conn.now) (state S.Store tx.new.conn.now) result (λ _. ⊤) }
 {
     let found = find_rate(tx, period.count() as u64)?;
     terms_shown(alloc, tables, found)
@@ -112,6 +118,7 @@ pub fn terms_in<S: Alter>(
     ensures rows { LeavesRows (state S.Store tx.old.conn.now) (state S.Store tx.new.conn.now) result }
     ensures commit { CommitsNothing (state S.Store tx.old.conn.now) (state S.Store tx.new.conn.now) }
     ensures crash { LeavesNoMore (state S.Store tx.old.conn.now) (state S.Store tx.new.conn.now) }
+    ensures cause { FailsByCause (state S.Store tx.old.conn.now) (state S.Store tx.new.conn.now) result (λ _. ⊤) }
 {
     let mut found = no_terms(alloc);
     for period in periods {

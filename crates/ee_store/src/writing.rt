@@ -1,12 +1,15 @@
 //! The changes of the books, written as rows.
 
-ghost use Rattle.std.specs.Prelude.{◌≡◌, ◌≤◌, IfOk, IfSome, All, map, length, Some, None};
+ghost use Rattle.std.specs.Prelude.{◌≡◌, ◌≤◌, IfOk, IfErr, IfSome, All, map, length, Some, None};
+ghost use Rattle.std.specs.List.{AllByRecursion};
+ghost use Rattle.std.specs.Result.{IsOk};
 ghost use Rattle.sqlite.specs.Held.{state};
 ghost use Rattle.ee_tables.specs.AsRows.{Fits, FitsLine, FitsTicket, FitsBatch, FitsUnpaid, row_of_line, row_of_ticket, row_of_batch, key_of_unpaid, row_of_unpaid};
-ghost use Rattle.ee_tables.specs.Rows.{with_ticket, with_lines};
+ghost use Rattle.ee_tables.specs.Rows.{HasRoom};
 ghost use Rattle.ee_tables.specs.Statements.{LeavesOpen, StaysOpen, StaysInside, CommitsNothing, LeavesNoMore, Makes};
 ghost use Rattle.ee_contents.specs.Standing as standing;
-ghost use Rattle.ee_store.specs.Written.{changed_rows, applied_rows};
+ghost use Rattle.ee_store.specs.Failures.{WritesOrFails, LeavesRoom};
+ghost use Rattle.ee_store.specs.Written.{changed_rows, applied_rows, CanPayTicket, CanClose, CanWrite, CanWriteAll, added_rows, all_added_rows};
 
 use crate::failures::Unfinished;
 use ee_acts::{Batch, Change, Line, Terms, Ticket};
@@ -19,7 +22,8 @@ use std::alloc::Global;
 
 /// A number that a column of the store can hold.
 fn whole(number: u64) -> Result<u64, Unfinished>
-    ensures { IfOk result (λ n. (n ≡ number) × Fits n) }
+    ensures value { IfOk result (λ n. (n ≡ number) × Fits n) }
+    ensures fits { Fits number → IsOk result }
 {
     if number <= 9_223_372_036_854_775_807 {
         Ok(number)
@@ -29,7 +33,8 @@ fn whole(number: u64) -> Result<u64, Unfinished>
 }
 
 fn whole_option(number: Option<u64>) -> Result<Option<u64>, Unfinished>
-    ensures { IfOk result (λ n. (n ≡ number) × IfSome n Fits) }
+    ensures value { IfOk result (λ n. (n ≡ number) × IfSome n Fits) }
+    ensures fits { IfSome number Fits → IsOk result }
 {
     match number {
         None => Ok(None),
@@ -38,7 +43,8 @@ fn whole_option(number: Option<u64>) -> Result<Option<u64>, Unfinished>
 }
 
 fn line_row(line: &Line) -> Result<tables::Line, Unfinished>
-    ensures { IfOk result (λ row. (row_of_line row ≡ standing.paid_row line.now) × FitsLine row) }
+    ensures row { IfOk result (λ row. (row_of_line row ≡ standing.paid_row line.now) × FitsLine row) }
+    ensures fits { Fits line.now.cents.0 → IsOk result }
 {
     let cents = whole(line.cents.0)?;
     Ok(tables::Line {
@@ -52,6 +58,7 @@ fn line_row(line: &Line) -> Result<tables::Line, Unfinished>
 fn line_rows(alloc: Global, lines: &[Line]) -> Result<Vec<tables::Line>, Unfinished>
     ensures rows { IfOk result (λ rows. map row_of_line rows.items ≡ map standing.paid_row lines.now) }
     ensures fit { IfOk result (λ rows. All FitsLine rows.items) }
+    ensures served { AllByRecursion (λ line. Fits line.cents.0) lines.now → IfErr result (λ e. e ≡ Unfinished.NoMemory) }
 {
     let mut rows = Vec::new(alloc);
     for line in lines {
@@ -64,7 +71,8 @@ fn line_rows(alloc: Global, lines: &[Line]) -> Result<Vec<tables::Line>, Unfinis
 }
 
 fn ticket_row(ticket: &Ticket) -> Result<tables::Ticket, Unfinished>
-    ensures { IfOk result (λ row. (row_of_ticket row ≡ standing.ticket_row ticket.now) × FitsTicket row) }
+    ensures row { IfOk result (λ row. (row_of_ticket row ≡ standing.ticket_row ticket.now) × FitsTicket row) }
+    ensures fits { length ticket.now.lines ≤ 100 → Fits ticket.now.total.0 → IsOk result }
 {
     let bonds = whole(ticket.lines.as_slice().len() as u64)?;
     let total = whole(ticket.total.0)?;
@@ -77,7 +85,8 @@ fn ticket_row(ticket: &Ticket) -> Result<tables::Ticket, Unfinished>
 }
 
 fn batch_row(batch: &Batch) -> Result<tables::Batch, Unfinished>
-    ensures { IfOk result (λ row. (row_of_batch row ≡ standing.batch_row batch.now) × FitsBatch row) }
+    ensures row { IfOk result (λ row. (row_of_batch row ≡ standing.batch_row batch.now) × FitsBatch row) }
+    ensures fits { Fits batch.now.tickets → Fits batch.now.bonds → Fits batch.now.total.0 → IsOk result }
 {
     let tickets = whole(batch.tickets)?;
     let bonds = whole(batch.bonds)?;
@@ -101,6 +110,8 @@ fn write_terms<S: Alter>(
     ensures written { Makes (state S.Store tx.old.conn.now) (state S.Store tx.new.conn.now) result (λ rows. changed_rows None rows (Change.Rates from terms.now)) }
     ensures commit { CommitsNothing (state S.Store tx.old.conn.now) (state S.Store tx.new.conn.now) }
     ensures crash { LeavesNoMore (state S.Store tx.old.conn.now) (state S.Store tx.new.conn.now) }
+    ensures room { LeavesRoom (state S.Store tx.old.conn.now) (state S.Store tx.new.conn.now) result 0 }
+    ensures cause { WritesOrFails (state S.Store tx.old.conn.now) (state S.Store tx.new.conn.now) result (λ _. HasRoom 0 (state S.Store tx.old.conn.now)) }
 {
     let rates = terms.rates();
     let row = tables::Rate {
@@ -145,6 +156,8 @@ fn write_bond<S: Alter>(tx: &mut Transaction<'_, S>, bond: &Bond) -> Result<(), 
     ensures written { Makes (state S.Store tx.old.conn.now) (state S.Store tx.new.conn.now) result (λ rows. changed_rows None rows (Change.Bond bond.now)) }
     ensures commit { CommitsNothing (state S.Store tx.old.conn.now) (state S.Store tx.new.conn.now) }
     ensures crash { LeavesNoMore (state S.Store tx.old.conn.now) (state S.Store tx.new.conn.now) }
+    ensures room { LeavesRoom (state S.Store tx.old.conn.now) (state S.Store tx.new.conn.now) result 1 }
+    ensures cause { WritesOrFails (state S.Store tx.old.conn.now) (state S.Store tx.new.conn.now) result (λ _. HasRoom 1 (state S.Store tx.old.conn.now)) }
 {
     let row = bond_row(bond);
     add_bond(tx, row)?;
@@ -163,6 +176,8 @@ fn write_ticket<S: Alter>(
     ensures written { Makes (state S.Store tx.old.conn.now) (state S.Store tx.new.conn.now) result (λ rows. changed_rows None rows (Change.Ticket ticket.now)) }
     ensures commit { CommitsNothing (state S.Store tx.old.conn.now) (state S.Store tx.new.conn.now) }
     ensures crash { LeavesNoMore (state S.Store tx.old.conn.now) (state S.Store tx.new.conn.now) }
+    ensures room { LeavesRoom (state S.Store tx.old.conn.now) (state S.Store tx.new.conn.now) result (length ticket.now.lines) }
+    ensures cause { WritesOrFails (state S.Store tx.old.conn.now) (state S.Store tx.new.conn.now) result (λ rows. CanPayTicket rows ticket.now × HasRoom (length ticket.now.lines) (state S.Store tx.old.conn.now)) }
 {
     let number = whole(ticket.ticket)?;
     let row = ticket_row(ticket)?;
@@ -183,6 +198,8 @@ fn write_batch<S: Alter>(tx: &mut Transaction<'_, S>, batch: &Batch) -> Result<(
     ensures written { Makes (state S.Store tx.old.conn.now) (state S.Store tx.new.conn.now) result (λ rows. changed_rows None rows (Change.Batch batch.now)) }
     ensures commit { CommitsNothing (state S.Store tx.old.conn.now) (state S.Store tx.new.conn.now) }
     ensures crash { LeavesNoMore (state S.Store tx.old.conn.now) (state S.Store tx.new.conn.now) }
+    ensures room { LeavesRoom (state S.Store tx.old.conn.now) (state S.Store tx.new.conn.now) result 0 }
+    ensures cause { WritesOrFails (state S.Store tx.old.conn.now) (state S.Store tx.new.conn.now) result (λ rows. CanClose rows batch.now × HasRoom 0 (state S.Store tx.old.conn.now)) }
 {
     let row = batch_row(batch)?;
     let day = batch.day.count() as u64;
@@ -203,6 +220,8 @@ fn write_day<S: Alter>(
     ensures written { Makes (state S.Store tx.old.conn.now) (state S.Store tx.new.conn.now) result (λ rows. changed_rows last_day rows (Change.Day day)) }
     ensures commit { CommitsNothing (state S.Store tx.old.conn.now) (state S.Store tx.new.conn.now) }
     ensures crash { LeavesNoMore (state S.Store tx.old.conn.now) (state S.Store tx.new.conn.now) }
+    ensures room { LeavesRoom (state S.Store tx.old.conn.now) (state S.Store tx.new.conn.now) result 0 }
+    ensures cause { WritesOrFails (state S.Store tx.old.conn.now) (state S.Store tx.new.conn.now) result (λ _. IfSome last_day Fits × HasRoom 0 (state S.Store tx.old.conn.now)) }
 {
     let last = whole_option(last_day)?;
     set_day(tx, Some(day.count() as u64), last)?;
@@ -222,6 +241,8 @@ fn write_change<S: Alter>(
     ensures written { Makes (state S.Store tx.old.conn.now) (state S.Store tx.new.conn.now) result (λ rows. changed_rows last_day rows change.now) }
     ensures commit { CommitsNothing (state S.Store tx.old.conn.now) (state S.Store tx.new.conn.now) }
     ensures crash { LeavesNoMore (state S.Store tx.old.conn.now) (state S.Store tx.new.conn.now) }
+    ensures room { LeavesRoom (state S.Store tx.old.conn.now) (state S.Store tx.new.conn.now) result (added_rows change.now) }
+    ensures cause { WritesOrFails (state S.Store tx.old.conn.now) (state S.Store tx.new.conn.now) result (λ rows. CanWrite last_day rows change.now × HasRoom (added_rows change.now) (state S.Store tx.old.conn.now)) }
 {
     match change {
         Change::Rates(from, terms) => write_terms(tx, *from, terms),
@@ -245,6 +266,8 @@ pub fn write_changes<S: Alter>(
     ensures written { Makes (state S.Store tx.old.conn.now) (state S.Store tx.new.conn.now) result (λ rows. applied_rows last_day rows changes.now) }
     ensures commit { CommitsNothing (state S.Store tx.old.conn.now) (state S.Store tx.new.conn.now) }
     ensures crash { LeavesNoMore (state S.Store tx.old.conn.now) (state S.Store tx.new.conn.now) }
+    ensures room { LeavesRoom (state S.Store tx.old.conn.now) (state S.Store tx.new.conn.now) result (all_added_rows changes.now) }
+    ensures cause { WritesOrFails (state S.Store tx.old.conn.now) (state S.Store tx.new.conn.now) result (λ rows. CanWriteAll last_day rows changes.now × HasRoom (all_added_rows changes.now) (state S.Store tx.old.conn.now)) }
 {
     for change in changes {
         write_change(tx, alloc, last_day, change)?;

@@ -1,8 +1,11 @@
-use Rattle.std.proofs.Common.{refl, sym, subst}
+use Rattle.std.proofs.Common.{[], refl, sym, subst}
 use Rattle.sqlite.specs.Held.{state}
 use Rattle.sqlite.specs.Given.{IsPlain}
 use Rattle.sqlite.specs.Listing.{understood}
 use Rattle.ee_tables.specs.Tables.{counter_schema}
+use Rattle.ee_opening.specs.Faults.{IsExcused}
+use Rattle.ee_opening.specs.Reading.{IsNeverRefused}
+use Rattle.ee_opening.proofs.CauseLemmas.{excused_if_open}
 use Rattle.ee_opening.proofs.FaultLemmas.{handed_on}
 use Rattle.ee_opening.proofs.ScanLemmas.{is_plain, answers, shows_all, unreadable}
 use Rattle.ee_opening.proofs.reading.read_table.Goals as goal
@@ -31,3 +34,10 @@ returns-then-not-keys_rise-clause-usable g c clean unusable tree terms asks ours
     let read = c.deref.ensures.value in
     let falls = c.if-not-keys_rise.true in
     cc
+
+pub returns-in_err-found-clause-cause : goal.returns-in_err-found-clause-cause
+returns-in_err-found-clause-cause g c never clean ours limit =
+    let old = state g.S.Store c.args.conn.now in
+    let new = state g.S.Store c.read_rows.new.conn in
+    handed_on (IsExcused old new) c.from_residual.result c.in_err-found.field-0.0 c.from_residual.ensures.1 (excused_if_open old new _ (λ is_open.
+    c.in_err-found.ensures.cause clean (subst (λ s. IsNeverRefused s c.args.sql.now []) (sym (ours is_open)) never) limit))

@@ -4,6 +4,7 @@ use Rattle.ee_opening.proofs.QuestionLemmas.{batch_terms, asks_batches}
 use Rattle.ee_opening.proofs.ReadLemmas.{both_ok, each_ok, each_fault}
 use Rattle.ee_opening.proofs.CanRead.{can_read_batches}
 use Rattle.ee_opening.proofs.EachTable.{holds_batches, listed_batches}
+use Rattle.ee_opening.proofs.NeverLemmas.{never_batches}
 use Rattle.ee_opening.proofs.tables.read_batches.Goals as goal
 
 pub read_table-requires : goal.read_table-requires
@@ -21,3 +22,6 @@ pub returns-clause-usable : goal.returns-clause-usable
 returns-clause-usable g c clean =
     let old = state g.S.Store c.args.conn.now in
     each_fault c.read_table.result (λ e usable unusable ours is_open m holds. usable unusable 10 batch_terms asks_batches ours is_open (can_read_batches old.now.trees m holds)) (c.read_table.ensures.usable clean)
+
+pub returns-clause-cause : goal.returns-clause-cause
+returns-clause-cause g c = c.read_table.ensures.cause never_batches

@@ -4,6 +4,7 @@ use Rattle.ee_opening.proofs.QuestionLemmas.{desk_terms, asks_desk}
 use Rattle.ee_opening.proofs.ReadLemmas.{both_ok, each_ok, each_fault}
 use Rattle.ee_opening.proofs.CanRead.{can_read_desk}
 use Rattle.ee_opening.proofs.EachTable.{holds_desk, listed_desk}
+use Rattle.ee_opening.proofs.NeverLemmas.{never_desk}
 use Rattle.ee_opening.proofs.tables.read_desk.Goals as goal
 
 pub read_table-requires : goal.read_table-requires
@@ -21,3 +22,6 @@ pub returns-clause-usable : goal.returns-clause-usable
 returns-clause-usable g c clean =
     let old = state g.S.Store c.args.conn.now in
     each_fault c.read_table.result (λ e usable unusable ours is_open m holds. usable unusable 0 desk_terms asks_desk ours is_open (can_read_desk old.now.trees m holds)) (c.read_table.ensures.usable clean)
+
+pub returns-clause-cause : goal.returns-clause-cause
+returns-clause-cause g c = c.read_table.ensures.cause never_desk

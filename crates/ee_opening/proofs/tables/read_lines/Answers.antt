@@ -1,4 +1,4 @@
-use Rattle.std.proofs.Common.{[], ◌∷◌, map, sym, subst}
+use Rattle.std.proofs.Common.{◌∙◌, [], ◌∷◌, map, sym, subst}
 use Rattle.sqlite.specs.declared.types.Value.TheVariants.{Int}
 use Rattle.sqlite.specs.Effect.{Database}
 use Rattle.sqlite.specs.Held.{state}
@@ -15,6 +15,9 @@ use Rattle.ee_opening.proofs.ReadLemmas.{still_ours}
 use Rattle.ee_opening.proofs.FaultLemmas.{handed_on}
 use Rattle.ee_opening.proofs.CanRead.{can_read_lines, can_read_line_rowids}
 use Rattle.ee_opening.proofs.EachTable.{holds_lines, listed_lines}
+use Rattle.ee_opening.specs.Faults.{IsExcused}
+use Rattle.ee_opening.proofs.CauseLemmas.{excused_then}
+use Rattle.ee_opening.proofs.NeverLemmas.{never_lines, never_line_rowids}
 use Rattle.ee_opening.proofs.tables.read_lines.Goals as goal
 
 pub read_table-requires : goal.read_table-requires
@@ -83,3 +86,19 @@ returns-in_err-_rowids-clause-usable g c clean =
     let same = c.in_ok-found.ensures.same before in
     let ours_then = still_ours old middle same ours in
     c.in_err-_rowids.ensures.usable clean unusable 7 rowid_terms asks_line_rowids ours_then same.0.is_open (can_read_line_rowids middle.now.trees m (subst (λ (d : Database). HoldsPairs paid_columns (d.trees 7) m) (sym same.0.now_is) holds)))
+
+pub returns-in_err-found-clause-cause : goal.returns-in_err-found-clause-cause
+returns-in_err-found-clause-cause g c clean ours limit =
+    let old = state g.S.Store c.args.conn.now in
+    let new = state g.S.Store c.read_table.new.conn in
+    handed_on (IsExcused old new) c.from_residual.result c.in_err-found.field-0.0 c.from_residual.ensures.1 (c.in_err-found.ensures.cause never_lines clean ours limit)
+
+pub returns-in_err-_rowids-clause-cause : goal.returns-in_err-_rowids-clause-cause
+returns-in_err-_rowids-clause-cause g c clean ours limit =
+    let old = state g.S.Store c.args.conn.now in
+    let middle = state g.S.Store c.read_table.new.conn in
+    let new = state g.S.Store c.read_table-2.new.conn in
+    let first = c.read_table.ensures.crash in
+    let ours_then = still_ours old middle (c.in_ok-found.ensures.same (clean_before middle new c.read_table-2.ensures.crash clean)) ours in
+    handed_on (IsExcused old new) c.from_residual-in_err-_rowids.result c.in_err-_rowids.field-0.0 c.from_residual-in_err-_rowids.ensures.1
+    (excused_then old middle new first c.read_table-2.ensures.crash clean _ (c.in_err-_rowids.ensures.cause never_line_rowids clean ours_then (first.limit ∙ limit)))

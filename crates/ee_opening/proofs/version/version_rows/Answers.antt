@@ -3,11 +3,14 @@ use Rattle.sqlite.specs.Listing.{understood}
 use Rattle.sqlite.proofs.Callers.{IsPlain}
 use Rattle.sqlite.proofs.InsideLemmas.{unchanged_keeps}
 use Rattle.sqlite.specs.Held.{state}
-use Rattle.ee_opening.specs.Reading.{HasOurTables}
+use Rattle.ee_opening.specs.Reading.{HasOurTables, IsNeverRefused}
 use Rattle.ee_opening.specs.declared.making.OpenFault.TheVariants.{Unusable}
 use Rattle.ee_tables.proofs.Lemmas.Transactions.{query_keeps, shown_open}
 use Rattle.ee_opening.proofs.AskLemmas.{only_version, commits_nothing, shown_same}
+use Rattle.ee_opening.specs.Faults.{IsExcused}
 use Rattle.ee_opening.proofs.FaultLemmas.{query_usable, told_as}
+use Rattle.ee_opening.proofs.CauseLemmas.{excused_if_open, query_excused}
+use Rattle.ee_opening.proofs.NeverLemmas.{never_version}
 use Rattle.ee_opening.proofs.VersionLemmas.{version_text, version_plain, given_id, shows_version}
 use Rattle.ee_opening.proofs.version.version_rows.Goals as goal
 
@@ -49,3 +52,10 @@ returns-clause-kept g c clean =
     let old = state g.S.Store c.args.conn.now in
     let new = state g.S.Store c.query_all.new.self in
     unchanged_keeps old new (inl (shown_same version_text only_version given_id old new c.in_ok-rows.rows.items (c.in_ok-rows.ensures.ok clean)))
+
+pub returns-in_err-rows-clause-cause : goal.returns-in_err-rows-clause-cause
+returns-in_err-rows-clause-cause g c clean ours limit =
+    let old = state g.S.Store c.args.conn.now in
+    let new = state g.S.Store c.query_all.new.self in
+    told_as (IsExcused old new) c.from_residual.result c.in_err-rows.field-0.0 c.from_residual.ensures.1 (excused_if_open old new _ (λ is_open.
+    query_excused old new version_text given_id (subst (λ s. IsNeverRefused s version_text given_id) (sym (ours is_open)) never_version) limit _ (c.in_err-rows.ensures.err clean)))

@@ -1,5 +1,7 @@
+use Rattle.std.proofs.Common.{sym, ◌∙◌}
 use Rattle.sqlite.specs.Held.{state}
 use Rattle.std.proofs.lemmas.Result.{on_ok_weaker}
+use Rattle.std.proofs.lemmas.Bool.{not-true}
 use Rattle.ee_opening.specs.Whole.{rows_of}
 use Rattle.ee_opening.proofs.ReadLemmas.{each_ok, each_fault, under_ok, ok_then}
 use Rattle.ee_opening.proofs.WholeLemmas.{are_in_order, has_ours, sound_now, is_ours, sees_what_it_has, are_those, has_read}
@@ -51,3 +53,13 @@ returns-clause-usable g c clean =
 
 pub returns-clause-open : goal.returns-clause-open
 returns-clause-open g c clean = on_ok_weaker c.read_current.result (λ same. (same.0.was_open, same.0.is_open)) (c.read_current.ensures.same clean)
+
+pub returns-clause-cause : goal.returns-clause-cause
+returns-clause-cause g c clean starts limit =
+    let old = state g.S.Store c.args.conn.now in
+    let settled = c.is_autocommit.ensures.settled c.if-not-is_autocommit.false in
+    c.read_current.ensures.cause clean (has_ours old settled starts.1) limit
+
+pub returns-clause-ended : goal.returns-clause-ended
+returns-clause-ended g c clean =
+    on_ok_weaker c.read_current.result (λ same. same.0.mode ∙ not-true (state g.S.Store c.args.conn.now).in_transaction (sym c.is_autocommit.ensures.value ∙ c.if-not-is_autocommit.false)) (c.read_current.ensures.same clean)

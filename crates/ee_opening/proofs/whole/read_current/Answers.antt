@@ -7,6 +7,8 @@ use Rattle.ee_tables.proofs.Lemmas.Transactions.{clean_before}
 use Rattle.ee_opening.proofs.FaultLemmas.{handed_on}
 use Rattle.ee_opening.proofs.ReadLemmas.{each_fault, still_ours}
 use Rattle.ee_opening.proofs.VersionLemmas.{one_version}
+use Rattle.ee_opening.specs.Faults.{IsExcused}
+use Rattle.ee_opening.proofs.CauseLemmas.{excused_then}
 use Rattle.ee_opening.proofs.whole.read_current.Goals as goal
 
 pub returns-in_err-check_version-clause-usable : goal.returns-in_err-check_version-clause-usable
@@ -45,3 +47,19 @@ returns-clause-kept g c clean =
     let new = state g.S.Store c.read_in.new.conn in
     let before = clean_before middle new c.read_in.ensures.crash clean in
     keeps_then old middle new (c.check_version.ensures.kept before) (c.read_in.ensures.kept clean)
+
+pub returns-in_err-check_version-clause-cause : goal.returns-in_err-check_version-clause-cause
+returns-in_err-check_version-clause-cause g c clean ours limit =
+    let old = state g.S.Store c.args.conn.now in
+    let new = state g.S.Store c.check_version.new.conn in
+    handed_on (IsExcused old new) c.from_residual.result c.in_err-check_version.field-0.0 c.from_residual.ensures.1 (c.in_err-check_version.ensures.cause clean ours limit)
+
+pub returns-clause-cause : goal.returns-clause-cause
+returns-clause-cause g c clean ours limit =
+    let old = state g.S.Store c.args.conn.now in
+    let middle = state g.S.Store c.check_version.new.conn in
+    let new = state g.S.Store c.read_in.new.conn in
+    let first = c.check_version.ensures.crash in
+    let second = c.read_in.ensures.crash in
+    let still = still_ours old middle (c.in_ok-check_version.ensures.same (clean_before middle new second clean)) ours in
+    each_fault c.read_in.result (excused_then old middle new first second clean) (c.read_in.ensures.cause clean still (first.limit ∙ limit))

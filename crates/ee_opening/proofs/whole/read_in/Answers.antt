@@ -8,6 +8,8 @@ use Rattle.ee_tables.proofs.Lemmas.Transactions.{clean_before}
 use Rattle.ee_opening.specs.Whole.{HoldsPayments, HoldsRecords}
 use Rattle.ee_opening.proofs.FaultLemmas.{handed_on}
 use Rattle.ee_opening.proofs.ReadLemmas.{sound_after, still_ours}
+use Rattle.ee_opening.specs.Faults.{IsExcused}
+use Rattle.ee_opening.proofs.CauseLemmas.{excused_then, then_survives}
 use Rattle.ee_opening.proofs.whole.read_in.Goals as goal
 
 pub returns-in_err-payments-clause-kept : goal.returns-in_err-payments-clause-kept
@@ -130,3 +132,37 @@ returns-in_err-records-clause-usable g c clean =
     let open_2 = same_2.0.is_open in
     let holds_2 = subst (λ (d : Database). Holds d.trees rows) (sym same_2.0.now_is) holds_1 in
     c.in_err-records.ensures.usable clean_3 unusable ours_2 open_2 rows written holds_2)
+
+pub returns-in_err-register-clause-cause : goal.returns-in_err-register-clause-cause
+returns-in_err-register-clause-cause g c clean ours_0 limit =
+    let at_0 = state g.S.Store c.args.conn.now in
+    let at_1 = state g.S.Store c.read_register.new.conn in
+    handed_on (IsExcused at_0 at_1) c.from_residual.result c.in_err-register.field-0.0 c.from_residual.ensures.1 (c.in_err-register.ensures.cause clean ours_0 limit)
+
+pub returns-in_err-payments-clause-cause : goal.returns-in_err-payments-clause-cause
+returns-in_err-payments-clause-cause g c clean ours_0 limit =
+    let at_0 = state g.S.Store c.args.conn.now in
+    let at_1 = state g.S.Store c.read_register.new.conn in
+    let at_2 = state g.S.Store c.read_payments.new.conn in
+    let clean_2 = clean in
+    let clean_1 = clean_before at_1 at_2 c.read_payments.ensures.crash clean_2 in
+    let before_1 = c.read_register.ensures.crash in
+    let ours_1 = still_ours at_0 at_1 (c.in_ok-register.ensures.same clean_1) ours_0 in
+    handed_on (IsExcused at_0 at_2) c.from_residual-in_err-payments.result c.in_err-payments.field-0.0 c.from_residual-in_err-payments.ensures.1
+    (excused_then at_0 at_1 at_2 before_1 c.read_payments.ensures.crash clean _ (c.in_err-payments.ensures.cause clean ours_1 (before_1.limit ∙ limit)))
+
+pub returns-in_err-records-clause-cause : goal.returns-in_err-records-clause-cause
+returns-in_err-records-clause-cause g c clean ours_0 limit =
+    let at_0 = state g.S.Store c.args.conn.now in
+    let at_1 = state g.S.Store c.read_register.new.conn in
+    let at_2 = state g.S.Store c.read_payments.new.conn in
+    let at_3 = state g.S.Store c.read_records.new.conn in
+    let clean_3 = clean in
+    let clean_2 = clean_before at_2 at_3 c.read_records.ensures.crash clean_3 in
+    let clean_1 = clean_before at_1 at_2 c.read_payments.ensures.crash clean_2 in
+    let before_1 = c.read_register.ensures.crash in
+    let before_2 = then_survives at_0 at_1 at_2 before_1 c.read_payments.ensures.crash in
+    let ours_1 = still_ours at_0 at_1 (c.in_ok-register.ensures.same clean_1) ours_0 in
+    let ours_2 = still_ours at_1 at_2 (c.in_ok-payments.ensures.same clean_2) ours_1 in
+    handed_on (IsExcused at_0 at_3) c.from_residual-in_err-records.result c.in_err-records.field-0.0 c.from_residual-in_err-records.ensures.1
+    (excused_then at_0 at_2 at_3 before_2 c.read_records.ensures.crash clean _ (c.in_err-records.ensures.cause clean ours_2 (before_2.limit ∙ limit)))

@@ -1,4 +1,4 @@
-use Rattle.std.proofs.Common.{sym, subst}
+use Rattle.std.proofs.Common.{sym, subst, ◌∙◌}
 use Rattle.sqlite.specs.Effect.{Database}
 use Rattle.sqlite.specs.Held.{state}
 use Rattle.sqlite.proofs.Callers.{unchanged_then}
@@ -9,6 +9,8 @@ use Rattle.ee_tables.proofs.Lemmas.Transactions.{clean_before}
 use Rattle.ee_opening.specs.Shown.{line_map}
 use Rattle.ee_opening.proofs.FaultLemmas.{handed_on}
 use Rattle.ee_opening.proofs.ReadLemmas.{sound_after, still_ours}
+use Rattle.ee_opening.specs.Faults.{IsExcused}
+use Rattle.ee_opening.proofs.CauseLemmas.{excused_then}
 use Rattle.ee_opening.proofs.whole.read_payments.Goals as goal
 
 pub returns-in_err-lines-clause-kept : goal.returns-in_err-lines-clause-kept
@@ -77,3 +79,21 @@ returns-in_err-lines-clause-usable g c clean =
     let open_1 = same_1.0.is_open in
     let holds_1 = subst (λ (d : Database). Holds d.trees rows) (sym same_1.0.now_is) holds_0 in
     c.in_err-lines.ensures.usable clean_2 unusable ours_1 open_1 rows.paid holds_1.paid)
+
+pub returns-in_err-tickets-clause-cause : goal.returns-in_err-tickets-clause-cause
+returns-in_err-tickets-clause-cause g c clean ours_0 limit =
+    let at_0 = state g.S.Store c.args.conn.now in
+    let at_1 = state g.S.Store c.read_tickets.new.conn in
+    handed_on (IsExcused at_0 at_1) c.from_residual.result c.in_err-tickets.field-0.0 c.from_residual.ensures.1 (c.in_err-tickets.ensures.cause clean ours_0 limit)
+
+pub returns-in_err-lines-clause-cause : goal.returns-in_err-lines-clause-cause
+returns-in_err-lines-clause-cause g c clean ours_0 limit =
+    let at_0 = state g.S.Store c.args.conn.now in
+    let at_1 = state g.S.Store c.read_tickets.new.conn in
+    let at_2 = state g.S.Store c.read_lines.new.conn in
+    let clean_2 = clean in
+    let clean_1 = clean_before at_1 at_2 c.read_lines.ensures.crash clean_2 in
+    let before_1 = c.read_tickets.ensures.crash in
+    let ours_1 = still_ours at_0 at_1 (c.in_ok-tickets.ensures.same clean_1) ours_0 in
+    handed_on (IsExcused at_0 at_2) c.from_residual-in_err-lines.result c.in_err-lines.field-0.0 c.from_residual-in_err-lines.ensures.1
+    (excused_then at_0 at_1 at_2 before_1 c.read_lines.ensures.crash clean _ (c.in_err-lines.ensures.cause clean ours_1 (before_1.limit ∙ limit)))

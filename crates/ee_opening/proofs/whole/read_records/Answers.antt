@@ -1,4 +1,4 @@
-use Rattle.std.proofs.Common.{sym, subst}
+use Rattle.std.proofs.Common.{sym, subst, ◌∙◌}
 use Rattle.sqlite.specs.Effect.{Database}
 use Rattle.sqlite.specs.Held.{state}
 use Rattle.sqlite.proofs.Callers.{unchanged_then}
@@ -9,6 +9,8 @@ use Rattle.ee_tables.proofs.Lemmas.Transactions.{clean_before}
 use Rattle.ee_opening.specs.Shown.{reply_map}
 use Rattle.ee_opening.proofs.FaultLemmas.{handed_on}
 use Rattle.ee_opening.proofs.ReadLemmas.{sound_after, still_ours}
+use Rattle.ee_opening.specs.Faults.{IsExcused}
+use Rattle.ee_opening.proofs.CauseLemmas.{excused_then}
 use Rattle.ee_opening.proofs.whole.read_records.Goals as goal
 
 pub returns-in_err-replies-clause-kept : goal.returns-in_err-replies-clause-kept
@@ -77,3 +79,21 @@ returns-in_err-replies-clause-usable g c clean =
     let open_1 = same_1.0.is_open in
     let holds_1 = subst (λ (d : Database). Holds d.trees rows) (sym same_1.0.now_is) holds_0 in
     c.in_err-replies.ensures.usable clean_2 unusable ours_1 open_1 rows.replies written holds_1.replies)
+
+pub returns-in_err-batches-clause-cause : goal.returns-in_err-batches-clause-cause
+returns-in_err-batches-clause-cause g c clean ours_0 limit =
+    let at_0 = state g.S.Store c.args.conn.now in
+    let at_1 = state g.S.Store c.read_batches.new.conn in
+    handed_on (IsExcused at_0 at_1) c.from_residual.result c.in_err-batches.field-0.0 c.from_residual.ensures.1 (c.in_err-batches.ensures.cause clean ours_0 limit)
+
+pub returns-in_err-replies-clause-cause : goal.returns-in_err-replies-clause-cause
+returns-in_err-replies-clause-cause g c clean ours_0 limit =
+    let at_0 = state g.S.Store c.args.conn.now in
+    let at_1 = state g.S.Store c.read_batches.new.conn in
+    let at_2 = state g.S.Store c.read_replies.new.conn in
+    let clean_2 = clean in
+    let clean_1 = clean_before at_1 at_2 c.read_replies.ensures.crash clean_2 in
+    let before_1 = c.read_batches.ensures.crash in
+    let ours_1 = still_ours at_0 at_1 (c.in_ok-batches.ensures.same clean_1) ours_0 in
+    handed_on (IsExcused at_0 at_2) c.from_residual-in_err-replies.result c.in_err-replies.field-0.0 c.from_residual-in_err-replies.ensures.1
+    (excused_then at_0 at_1 at_2 before_1 c.read_replies.ensures.crash clean _ (c.in_err-replies.ensures.cause clean ours_1 (before_1.limit ∙ limit)))

@@ -9,6 +9,8 @@ use Rattle.ee_tables.proofs.Lemmas.Transactions.{clean_before}
 use Rattle.ee_opening.specs.Shown.{rate_map, bond_map}
 use Rattle.ee_opening.proofs.FaultLemmas.{handed_on}
 use Rattle.ee_opening.proofs.ReadLemmas.{sound_after, still_ours}
+use Rattle.ee_opening.specs.Faults.{IsExcused}
+use Rattle.ee_opening.proofs.CauseLemmas.{excused_then, then_survives}
 use Rattle.ee_opening.proofs.whole.read_register.Goals as goal
 
 pub returns-in_err-rates-clause-kept : goal.returns-in_err-rates-clause-kept
@@ -119,3 +121,37 @@ returns-in_err-bonds-clause-usable g c clean =
     let open_2 = same_2.0.is_open in
     let holds_2 = subst (λ (d : Database). Holds d.trees rows) (sym same_2.0.now_is) holds_1 in
     c.in_err-bonds.ensures.usable clean_3 unusable ours_2 open_2 rows.bonds holds_2.bonds)
+
+pub returns-in_err-desk-clause-cause : goal.returns-in_err-desk-clause-cause
+returns-in_err-desk-clause-cause g c clean ours_0 limit =
+    let at_0 = state g.S.Store c.args.conn.now in
+    let at_1 = state g.S.Store c.read_desk.new.conn in
+    handed_on (IsExcused at_0 at_1) c.from_residual.result c.in_err-desk.field-0.0 c.from_residual.ensures.1 (c.in_err-desk.ensures.cause clean ours_0 limit)
+
+pub returns-in_err-rates-clause-cause : goal.returns-in_err-rates-clause-cause
+returns-in_err-rates-clause-cause g c clean ours_0 limit =
+    let at_0 = state g.S.Store c.args.conn.now in
+    let at_1 = state g.S.Store c.read_desk.new.conn in
+    let at_2 = state g.S.Store c.read_rates.new.conn in
+    let clean_2 = clean in
+    let clean_1 = clean_before at_1 at_2 c.read_rates.ensures.crash clean_2 in
+    let before_1 = c.read_desk.ensures.crash in
+    let ours_1 = still_ours at_0 at_1 (c.in_ok-desk.ensures.same clean_1) ours_0 in
+    handed_on (IsExcused at_0 at_2) c.from_residual-in_err-rates.result c.in_err-rates.field-0.0 c.from_residual-in_err-rates.ensures.1
+    (excused_then at_0 at_1 at_2 before_1 c.read_rates.ensures.crash clean _ (c.in_err-rates.ensures.cause clean ours_1 (before_1.limit ∙ limit)))
+
+pub returns-in_err-bonds-clause-cause : goal.returns-in_err-bonds-clause-cause
+returns-in_err-bonds-clause-cause g c clean ours_0 limit =
+    let at_0 = state g.S.Store c.args.conn.now in
+    let at_1 = state g.S.Store c.read_desk.new.conn in
+    let at_2 = state g.S.Store c.read_rates.new.conn in
+    let at_3 = state g.S.Store c.read_bonds.new.conn in
+    let clean_3 = clean in
+    let clean_2 = clean_before at_2 at_3 c.read_bonds.ensures.crash clean_3 in
+    let clean_1 = clean_before at_1 at_2 c.read_rates.ensures.crash clean_2 in
+    let before_1 = c.read_desk.ensures.crash in
+    let before_2 = then_survives at_0 at_1 at_2 before_1 c.read_rates.ensures.crash in
+    let ours_1 = still_ours at_0 at_1 (c.in_ok-desk.ensures.same clean_1) ours_0 in
+    let ours_2 = still_ours at_1 at_2 (c.in_ok-rates.ensures.same clean_2) ours_1 in
+    handed_on (IsExcused at_0 at_3) c.from_residual-in_err-bonds.result c.in_err-bonds.field-0.0 c.from_residual-in_err-bonds.ensures.1
+    (excused_then at_0 at_2 at_3 before_2 c.read_bonds.ensures.crash clean _ (c.in_err-bonds.ensures.cause clean ours_2 (before_2.limit ∙ limit)))

@@ -27,6 +27,7 @@ returns-in-Ok-adopt-clause-opened g c clean =
       goes_on = it.goes_on clean;
       crash = it.crash;
       left = it.left clean;
+      ready = it.ready clean (c.in-Ok.ensures.fresh.autocommit, c.in-Ok.ensures.fresh.unlimited);
     }
 
 pub returns-in-Err-adopt-clause-refused : goal.returns-in-Err-adopt-clause-refused
@@ -43,6 +44,7 @@ returns-in-Err-adopt-clause-refused g c clean =
       other = it.other clean;
       unusable = it.unusable clean;
       tested = it.tested clean;
+      cause = it.cause clean;
       waits = it.waits clean;
       crash = it.crash;
       left = it.left clean;

@@ -6,7 +6,7 @@ use Rattle.ee_acts.specs.Views.{picked}
 use Rattle.ee_acts.specs.Repeats.{Content}
 use Rattle.ee_tables.specs.Rows.{Rows, IsInside, Sees}
 use Rattle.ee_store.specs.Found.{terms_found}
-use Rattle.ee_store.specs.Serving.{SeesContent}
+use Rattle.ee_store.specs.Serving.{SeesContent, StaysSeen}
 use Rattle.ee_store.proofs.InTurn.{Stays}
 use Rattle.ee_store.proofs.terms.terms_in.Given as goal
 
@@ -17,7 +17,7 @@ invariant-loop-period g l =
     record {
       same_reference : l.tx.conn.ghost_name ≡ l.fn.tx.conn.ghost_name;
       stays : Stays old now;
-      rows : HasCleanDisk now → IsInside old → (rows : Rows) → Sees old rows → Sees now rows;
+      rows : HasCleanDisk now → IsInside old → (rows : Rows) → Sees old rows → StaysSeen old now rows;
       found : HasCleanDisk now → IsInside old → (content : Content) → SeesContent old content
           → terms_found l.found.entries ≡ picked (finite.get content.books.rates) (take l.period-index l.periods);
     }

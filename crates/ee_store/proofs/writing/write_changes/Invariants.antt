@@ -1,8 +1,8 @@
-use Rattle.std.proofs.Common.{◌≡◌, drop}
+use Rattle.std.proofs.Common.{◌≡◌, ℕ, ◌+◌, drop}
 use Rattle.sqlite.specs.Held.{state}
 use Rattle.sqlite.specs.State.{HasCleanDisk}
-use Rattle.ee_tables.specs.Rows.{Rows, Sees}
-use Rattle.ee_store.specs.Written.{applied_rows}
+use Rattle.ee_tables.specs.Rows.{Rows, Sees, IsInside, HasRoom}
+use Rattle.ee_store.specs.Written.{applied_rows, CanWriteAll, all_added_rows}
 use Rattle.ee_store.proofs.InTurn.{Stays}
 use Rattle.ee_store.proofs.writing.write_changes.Given as goal
 
@@ -15,5 +15,7 @@ invariant-loop-change g l =
       same_reference : l.tx.conn.ghost_name ≡ l.fn.tx.conn.ghost_name;
       stays : Stays old now;
       written : HasCleanDisk now → (rows : Rows) → Sees old rows
-          → (made : Rows) × Sees now made × (applied_rows l.fn.last_day made (drop l.change-index l.fn.changes) ≡ applied_rows l.fn.last_day rows l.fn.changes);
+          → (made : Rows) × Sees now made × (applied_rows l.fn.last_day made (drop l.change-index l.fn.changes) ≡ applied_rows l.fn.last_day rows l.fn.changes)
+          × (CanWriteAll l.fn.last_day rows l.fn.changes → CanWriteAll l.fn.last_day made (drop l.change-index l.fn.changes));
+      room : HasCleanDisk now → IsInside old → (rows : Rows) → Sees old rows → (n : ℕ) → HasRoom (all_added_rows l.fn.changes + n) old → HasRoom (all_added_rows (drop l.change-index l.fn.changes) + n) now;
     }
