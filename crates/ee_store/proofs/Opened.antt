@@ -47,7 +47,7 @@ no_length [] e = refl
 no_length (x ∷ xs) e = absurd (omega arith)
 
 -- an empty map has no entries
-none_in : {K X : Type 0} (R : K → K → Ordering) → entries (empty {X = X} {R = R}) ≡ []
+pub none_in : {K X : Type 0} (R : K → K → Ordering) → entries (empty {X = X} {R = R}) ≡ []
 none_in {X = X} R = no_length _ (sym (len-entries (empty {X = X} {R = R})) ∙ len-empty R X)
 
 pub nothing_rows : rows_of nothing ≡ first_rows

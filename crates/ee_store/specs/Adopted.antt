@@ -1,6 +1,6 @@
 -- What a store that is opened has, and what it had.
 -- Of a store that a failing disk has shut nothing is said.
-use Rattle.std.specs.Prelude.{◌≡◌, ◌≤◌, ◌⊎◌, None, false, List, [], ◌∷◌, Contains, Option, map, IsTrue, ⊤}
+use Rattle.std.specs.Prelude.{◌≡◌, ◌≤◌, ◌⊎◌, ◌+◌, ◌^◌, ℕ, None, false, List, [], ◌∷◌, Contains, Option, map, IsTrue, ⊤}
 use Rattle.std.specs.FinMap as finite
 use Rattle.std.specs.FinMap.{FinMap}
 use Rattle.sqlite_disk.specs.declared.Disk.{Ghosts}
@@ -20,7 +20,7 @@ use Rattle.ee_laws.specs.Events.Event.{Stop_between, Reopen}
 use Rattle.ee_laws.specs.Ties.{Leaves}
 use Rattle.ee_opening.specs.declared.entries.StoredRate.{StoredRate}
 use Rattle.ee_opening.specs.Making.{IsBlank}
-use Rattle.ee_tables.specs.Rows.{Rows, Has}
+use Rattle.ee_tables.specs.Rows.{Rows, Has, HasRoomIn, HasRoom}
 use Rattle.ee_tables.specs.Statements.{HasCause}
 use Rattle.ee_opening.specs.Opening.{HasTables, IsOtherVersion}
 use Rattle.ee_opening.specs.Whole.{IsOurs}
@@ -89,6 +89,10 @@ LeavesAsBefore old new = IsTrue old.is_open → HasTables old → (db : Trees) �
 abbrev pub FailsToAdopt : State → State → OpenFault → Type 0
 FailsToAdopt old new fault = old.in_transaction ≡ false → old.step_limit ≡ None → IsBlank old ⊎ IsOurs old → fault ≡ StoreFailed → HasCause old new
 
+-- it has room for as many rows as its trees have, and where it was new for all but one of 2^63
+abbrev pub OpensWithRoom : State → State → Type 0
+OpensWithRoom old new = (n : ℕ) → HasRoomIn n new.committed.trees ⊎ (IsBlank old × (1 + n ≤ 2 ^ 63)) → HasRoom n new
+
 -- the keeper has what was found in the files, which held this at first
 pub record IsOpenedFrom {D : Type 0} {g : Ghosts D} (start : Image) (now : Held (FileStore D g)) : Type 0 where
   pub was : Held (FileStore D g)
@@ -104,8 +108,9 @@ pub record IsOpenedFrom {D : Type 0} {g : Ghosts D} (start : Image) (now : Held 
   pub goes_on : GoesOn (file_state was) (file_state now)
   pub crash : Survives (file_state was) (file_state now) (λ db. IsBlank (file_state was) → StandsFor db nothing)
   pub left : LeavesAsBefore (file_state was) (file_state now)
-  -- it takes requests
+  -- it takes requests, with the room that its trees have
   pub ready : IsReady (file_state now)
+  pub room : OpensWithRoom (file_state was) (file_state now)
 
 -- the connection was refused with this fault, and is left as it was found in the files, which held this at first
 pub record IsRefusedFrom {D : Type 0} {g : Ghosts D} (start : Image) (fault : OpenFault) (now : Held (FileStore D g)) : Type 0 where

@@ -1,17 +1,17 @@
 //! Taking over a connection, and handing it back.
 
-ghost use Rattle.std.specs.Prelude.{◌≡◌, ◌≢◌, ◌≤◌, ◌⊎◌, None, IfOk, IfErr, OnOk, OnErr, MatchResult};
+ghost use Rattle.std.specs.Prelude.{◌≡◌, ◌≢◌, ◌≤◌, ◌⊎◌, None, false, IsTrue, IfOk, IfErr, OnOk, OnErr, MatchResult};
 ghost use Rattle.std.specs.List.{AllByRecursion};
 ghost use Rattle.std.specs.FinMap as finite;
 ghost use Rattle.sqlite.specs.Held.{state};
-ghost use Rattle.sqlite.specs.State.{HasCleanDisk, Survives};
+ghost use Rattle.sqlite.specs.State.{HasCleanDisk, IsLive, Survives};
 ghost use Rattle.ee_acts.specs.Values.{unsettled};
 ghost use Rattle.ee_acts.specs.Repeats.{Content, nothing};
 ghost use Rattle.ee_opening.specs.Making.{IsBlank};
 ghost use Rattle.ee_opening.specs.Whole.{rows_of, AreInOrder};
 ghost use Rattle.ee_contents.specs.Standing.{StandFor};
 ghost use Rattle.ee_store.specs.Serving.{StandsFor};
-ghost use Rattle.ee_store.specs.Adopted.{BeginsEmpty, KeepsContent, HasSome, HadNone, KeepsRows, KeepsWorld, BeginsWorld, GoesOn, StaysStopped, HadOtherVersion, HadNoOtherVersion, LeavesAsBefore, FailsToAdopt, IsSettledRow, tables_for};
+ghost use Rattle.ee_store.specs.Adopted.{BeginsEmpty, KeepsContent, HasSome, HadNone, KeepsRows, KeepsWorld, BeginsWorld, GoesOn, StaysStopped, HadOtherVersion, HadNoOtherVersion, LeavesAsBefore, FailsToAdopt, OpensWithRoom, IsSettledRow, tables_for};
 ghost use Rattle.ee_store.specs.Failures.{IsReady};
 
 use crate::keeper::SqlKeeper;
@@ -97,6 +97,15 @@ fn prepared(alloc: Global, all: &AllRows) -> Result<Tables, OpenFault>
     tables_of(alloc, &all.rates)
 }
 
+/// A connection sees a database, and outside a transaction its last commit. It does nothing.
+fn settled<S: Alter>(conn: &Connection<S>)
+    ensures live { IsLive (state S.Store conn.now) }
+    ensures committed { (state S.Store conn.now).in_transaction ≡ false → IsTrue (state S.Store conn.now).is_open → (state S.Store conn.now).now ≡ (state S.Store conn.now).committed }
+{
+    let _schema = conn.schema();
+    let _autocommit = conn.is_autocommit();
+}
+
 /// Finds the rows of a store, or makes its first ones, and tests that they stand for books and kept
 /// replies. It answers the tables of unit values for their rates.
 fn ready<S: Alter>(conn: &mut Connection<S>, alloc: Global) -> Result<Tables, OpenFault>
@@ -112,6 +121,7 @@ fn ready<S: Alter>(conn: &mut Connection<S>, alloc: Global) -> Result<Tables, Op
     ensures unusable { HasCleanDisk (state S.Store conn.new) → IfErr result (λ fault. fault ≡ OpenFault.Unusable → HadNone (state S.Store conn.old)) }
     ensures tested { HasCleanDisk (state S.Store conn.new) → IfErr result (λ fault. fault ≡ OpenFault.Unusable → HadNoOtherVersion (state S.Store conn.old)) }
     ensures ready { HasCleanDisk (state S.Store conn.new) → OnOk result (IsReady (state S.Store conn.old) → IsReady (state S.Store conn.new)) }
+    ensures room { HasCleanDisk (state S.Store conn.new) → OnOk result (OpensWithRoom (state S.Store conn.old) (state S.Store conn.new)) }
     ensures cause { HasCleanDisk (state S.Store conn.new) → IfErr result (FailsToAdopt (state S.Store conn.old) (state S.Store conn.new)) }
     ensures crash { Survives (state S.Store conn.old) (state S.Store conn.new) (λ db. IsBlank (state S.Store conn.old) → StandsFor db nothing) }
     ensures left { HasCleanDisk (state S.Store conn.new) → LeavesAsBefore (state S.Store conn.old) (state S.Store conn.new) }
@@ -119,6 +129,7 @@ fn ready<S: Alter>(conn: &mut Connection<S>, alloc: Global) -> Result<Tables, Op
 {
     let _schema = conn.schema();
     let all = open_rows(conn, alloc)?;
+    settled(conn);
     prepared(alloc, &all)
 }
 
@@ -140,6 +151,7 @@ impl<S: Alter> SqlKeeper<S> {
     /// - `other`, `tested`: `WrongVersion` is told only where the rows have another version, and `Unusable`
     ///   never there.
     /// - `ready`: a connection in no transaction, with no limit on steps, makes a keeper that takes requests.
+    /// - `room`: it has room for as many rows with hidden numbers as its trees have; a store that was new, for 2^63 - 1.
     /// - `cause`: of such a connection, over a store without tables or with just those of version 1,
     ///   `StoreFailed` is told only where the device failed once more, or the store was shut before.
     /// - `kept`: after a refusal a store that had any table, index or view is as it was. A store without
@@ -171,6 +183,7 @@ impl<S: Alter> SqlKeeper<S> {
         ensures unusable { IfErr result (λ not. HasCleanDisk (state S.Store not.conn) → not.fault ≡ OpenFault.Unusable → HadNone (state S.Store conn)) }
         ensures tested { IfErr result (λ not. HasCleanDisk (state S.Store not.conn) → not.fault ≡ OpenFault.Unusable → HadNoOtherVersion (state S.Store conn)) }
         ensures ready { IfOk result (λ keeper. HasCleanDisk (state S.Store keeper.conn) → IsReady (state S.Store conn) → IsReady (state S.Store keeper.conn)) }
+        ensures room { IfOk result (λ keeper. HasCleanDisk (state S.Store keeper.conn) → OpensWithRoom (state S.Store conn) (state S.Store keeper.conn)) }
         ensures cause { IfErr result (λ not. HasCleanDisk (state S.Store not.conn) → FailsToAdopt (state S.Store conn) (state S.Store not.conn) not.fault) }
         ensures waits { IfErr result (λ not. HasCleanDisk (state S.Store not.conn) → StaysStopped (state S.Store conn) (state S.Store not.conn)) }
         ensures crash { MatchResult result (λ keeper. Survives (state S.Store conn) (state S.Store keeper.conn) (λ db. IsBlank (state S.Store conn) → StandsFor db nothing))

@@ -1,4 +1,4 @@
-use Rattle.std.proofs.Common.{rules, ◌≡◌, ◌≢◌, inr, IsTrue, IfErr}
+use Rattle.std.proofs.Common.{rules, ◌≡◌, ◌≢◌, inr, IsTrue, IfErr, subst}
 use Rattle.sqlite.specs.Held.{state}
 use Rattle.ee_tables.specs.Rows.{Rows, Has}
 use Rattle.ee_tables.proofs.Lemmas.Transactions.{on_err_from}
@@ -11,6 +11,7 @@ use Rattle.ee_contents.specs.Standing.{rows_of}
 use Rattle.ee_store.proofs.Opened.{begins, begun_or, begun_survives, keeps_content, has_some, stood_for_none, of_version, keeps_world, if_ok, err_then, both_then}
 use Rattle.ee_store.proofs.Meeting.{goes_on, begins_world, of_no_other, stays_stopped}
 use Rattle.ee_store.proofs.Readable.{readable}
+use Rattle.ee_store.proofs.RoomAfter.{opened_room}
 use Rattle.ee_store.proofs.adopting.ready.Goals as goal
 
 pub returns-in_err-all-clause-kept : goal.returns-in_err-all-clause-kept
@@ -127,3 +128,10 @@ returns-clause-waits g c clean =
     let old = state g.S.Store c.args.conn.now in
     let new = state g.S.Store c.open_rows.new.conn in
     stays_stopped old new c.schema-schema.ensures.live (g.met.S.Store.settled c.args.conn.now.store) (c.in_ok-all.ensures.left clean)
+
+pub returns-clause-room : goal.returns-clause-room
+returns-clause-room g c clean =
+    let old = state g.S.Store c.args.conn.now in
+    let new = state g.S.Store c.open_rows.new.conn in
+    let it = c.in_ok-all.ensures in
+    if_ok c.prepared.result (opened_room old new (c.settled.ensures.committed (it.ended clean)) c.settled.ensures.live (λ blank. subst (Has new) (it.made clean blank (it.open clean).0) (it.found clean)))

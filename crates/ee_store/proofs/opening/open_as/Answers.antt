@@ -28,6 +28,7 @@ returns-in-Ok-adopt-clause-opened g c clean =
       crash = it.crash;
       left = it.left clean;
       ready = it.ready clean (c.in-Ok.ensures.fresh.autocommit, c.in-Ok.ensures.fresh.unlimited);
+      room = it.room clean;
     }
 
 pub returns-in-Err-adopt-clause-refused : goal.returns-in-Err-adopt-clause-refused
