@@ -8,7 +8,10 @@ use std::process::ExitCode;
 fn main(rt: HostRuntime) -> ExitCode {
     let status = match words(&rt) {
         Ok(words) => {
-            let stores = StoreFiles { rt: &rt, start: Untold };
+            let stores = StoreFiles {
+                rt: &rt,
+                start: Untold,
+            };
             run_words(
                 &rt,
                 &stores,
