@@ -89,7 +89,7 @@ fn days(alloc: Global) -> Result<Vec<Request>> {
     let mut requests = Vec::new(alloc);
     requests.push(ask(2_000_000_000, Act::CloseDay(first))?)?;
     for i in 1..=DAYS {
-        let day = Day::new(first.count().saturating_add(i)).context("day")?;
+        let day = Day::new(u64::from(first.count()).saturating_add(u64::from(i))).context("day")?;
         let number = u64::from(i).saturating_mul(2).saturating_add(2_000_000_000);
         requests.push(ask(number, Act::OpenDay(day))?)?;
         requests.push(ask(number.saturating_add(1), Act::CloseDay(day))?)?;

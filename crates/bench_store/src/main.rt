@@ -6,9 +6,9 @@
 #![tactic(auto)]
 
 use anyhow::{Context, Result, bail};
-use ee_acts::{Act, Number, RateRow, Reply, Request, Rows, Unserved};
 use ee_calculator::Bond;
 use ee_counter::run;
+use ee_desk_acts::{Act, Number, RateRow, Reply, Request, Rows, Unserved};
 use ee_keeper::Keeper;
 use ee_store::SqlKeeper;
 use ee_units::{Customer, Day, Rate, Serial};
@@ -40,15 +40,14 @@ fn serial(number: u64) -> Result<Serial> {
 
 /// A hundred bonds belong to one customer.
 fn owner(number: u64) -> Result<Customer> {
-    let customer = u32::try_from(number / 100 + 1).ok().context("customer")?;
-    Ok(Customer::new(customer).context("customer")?)
+    Ok(Customer::new(number / 100 + 1).context("customer")?)
 }
 
 /// The day of a ticket, counted from the first.
 fn day(count: u64) -> Result<Day> {
     let first: Day = "2015-05-04".parse()?;
-    let count = u32::try_from(count).ok().context("day")?;
-    Ok(Day::new(first.count().saturating_add(count)).context("day")?)
+    let count = u64::from(first.count()).saturating_add(count);
+    Ok(Day::new(count).context("day")?)
 }
 
 /// Up to `ROWS` bonds, from a serial number on.

@@ -5,8 +5,8 @@
 #![tactic(auto)]
 
 use anyhow::Result;
-use ee_calls::decode;
-use ee_framing::{Buffer, Next, WireEnd, next_message};
+use ee_wire_calls::decode;
+use ee_wire_framing::{Buffer, Next, WireEnd, next_message};
 use std::alloc::{AllocError, Global};
 use std::env;
 use std::io::{self, Read};

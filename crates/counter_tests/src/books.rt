@@ -2,10 +2,10 @@
 //! `ticket NUMBER DAY PAYEE CENTS SERIAL=CENTS ..`, `batch DAY TICKETS BONDS CENTS`, `day DAY` and
 //! `last DAY`, each ended by a semicolon; `-` stands for what is missing.
 
-use ee_acts::{Batch, Line, RateRow, Rows, Ticket};
 use ee_calculator::Bond;
 use ee_desk::{Books, Parts, PartsFault};
-use ee_texts::{read_act, reply_text};
+use ee_desk_acts::{Batch, Line, RateRow, Rows, Ticket};
+use ee_desk_texts::{read_act, reply_text};
 use ee_units::{Cents, Day};
 use ee_value::Rates;
 use std::alloc::Global;

@@ -2,13 +2,13 @@
 
 use crate::books::{BATCH, REDEEM, TICKET, begun, closed};
 use crate::days::DAY;
-use ee_acts::{Act, Effects, Reply, Request, Tables, Unserved};
 use ee_calculator::write_sheet;
 use ee_counter::{answer_message, run};
-use ee_decide::{View, ViewParts, decide};
+use ee_desk_acts::{Act, Effects, Reply, Request, UnitTables, Unserved};
+use ee_desk_decide::{View, ViewParts, decide};
+use ee_desk_parts::{checked, copy_tickets};
+use ee_desk_texts::{read_act, reply_text};
 use ee_keeper::{Keeper, ListKeeper};
-use ee_parts::{checked, copy_tickets};
-use ee_texts::{read_act, reply_text};
 use ee_units::Cents;
 use ee_value::Rates;
 use ee_wire::{Answer, Call, decode};
@@ -166,7 +166,7 @@ fn a_message_is_answered(rt: HostRuntime) -> Result<(), Fail> {
 #[test]
 fn one_table_is_kept_for_equal_rates(rt: HostRuntime) -> Result<(), Fail> {
     let fixed = "3.50".parse()?;
-    let mut tables = Tables::new(rt.alloc());
+    let mut tables = UnitTables::new(rt.alloc());
     assert!(rt; tables.terms(Rates { fixed })?.is_none());
     let made = tables.add(rt.alloc(), Rates { fixed })?;
     let kept = tables.keep(&made)?;

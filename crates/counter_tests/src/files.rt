@@ -2,10 +2,10 @@
 
 use crate::devices::{Narrow, Source};
 use crate::talk::compare;
-use ee_acts::{Number, Reply};
 use ee_counter::{ExportFault, ImportFault, export_inventory, import_inventory, import_rates};
+use ee_desk_acts::{Number, Reply};
+use ee_desk_texts::reply_text;
 use ee_keeper::{Keeper, ListKeeper};
-use ee_texts::reply_text;
 use std::alloc::Global;
 use std::fmt::Write;
 use std::process::Abort;

@@ -1,6 +1,6 @@
 //! Command lines, and what they ask for.
 
-use ee_commands::{Command, CommandFault, FileKind, read_command};
+use ee_cli_commands::{Command, CommandFault, FileKind, read_command};
 use std::alloc::Global;
 use std::test::Fail;
 

@@ -3,8 +3,8 @@
 
 use crate::days::{BEGUN, DAY};
 use crate::talk::{applied, compare, stream};
+use ee_desk_texts::read_reply;
 use ee_keeper::{Keeper, ListKeeper};
-use ee_texts::read_reply;
 use std::alloc::Global;
 use std::process::Abort;
 use std::test::Fail;

@@ -2,7 +2,7 @@
 //! status and the body of its answer. `[*COUNT ITEM*]` is a list of so many items, and `#` in
 //! the item is its place, from 1 on.
 
-use ee_actions::{Outcome, RunFault, StoreFault, apply_to};
+use ee_cli_actions::{Outcome, RunFault, StoreFault, apply_to};
 use ee_keeper::Keeper;
 use std::alloc::Global;
 use std::fmt::Write;

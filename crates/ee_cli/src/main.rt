@@ -1,7 +1,7 @@
 //! The counter of a paying agent for paper Series EE savings bonds: the program.
 #![tactic(auto)]
 
-use ee_program::{StoreFiles, Untold, refuse_words, run_words};
+use ee_cli_program::{StoreFiles, Untold, refuse_words, run_words};
 use std::io;
 use std::process::ExitCode;
 

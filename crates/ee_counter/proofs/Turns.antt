@@ -4,18 +4,18 @@ use Rattle.std.specs.List.{AllByRecursion}
 use Rattle.std.specs.Io.KnownBytes.{Appends, Consumes}
 use Rattle.std.proofs.KnownBytes.{Appends-nil, Appends-trans, Consumes-nil, Consumes-trans}
 use Rattle.ee_device.specs.Written.{WritesFront}
-use Rattle.ee_acts.specs.Repeats.{Content}
-use Rattle.ee_framing.specs.Stream.{Stream}
-use Rattle.ee_framing.specs.Framing.{Message, BeginsMessage, BeginsMessages, EndsWith, end}
-use Rattle.ee_framing.specs.Reading.{message_in, NeedsMore, Settles, ShowsFault, Takes}
-use Rattle.ee_framing.specs.declared.buffer.Message as parts
-use Rattle.ee_framing.specs.declared.buffer.Next.TheVariants as next
-use Rattle.ee_framing.specs.declared.buffer.WireEnd.TheVariants as wire
-use Rattle.ee_framing.proofs.Lemmas.{BeginsMessages-append, begins_more}
+use Rattle.ee_desk_acts.specs.Repeats.{Content}
+use Rattle.ee_wire_framing.specs.Stream.{Stream}
+use Rattle.ee_wire_framing.specs.Framing.{Message, BeginsMessage, BeginsMessages, EndsWith, end}
+use Rattle.ee_wire_framing.specs.Reading.{message_in, NeedsMore, Settles, ShowsFault, Takes}
+use Rattle.ee_wire_framing.specs.declared.buffer.Message as parts
+use Rattle.ee_wire_framing.specs.declared.buffer.Next.TheVariants as next
+use Rattle.ee_wire_framing.specs.declared.buffer.WireEnd.TheVariants as wire
+use Rattle.ee_wire_framing.proofs.Lemmas.{BeginsMessages-append, begins_more}
 use Rattle.ee_wire.specs.declared.answers.Answer.{Answer}
 use Rattle.ee_wire.specs.Answers.{answer_text}
 use Rattle.ee_counter.specs.Answering.{call_of, IsRight}
-use Rattle.ee_framing.specs.declared.FramingFault.{FramingFault}
+use Rattle.ee_wire_framing.specs.declared.FramingFault.{FramingFault}
 use Rattle.ee_counter.specs.declared.connections.Ended.{Ended}
 use Rattle.ee_counter.specs.declared.connections.Why.{Why}
 use Rattle.ee_counter.specs.declared.connections.Why.TheVariants.{Closed, Asked, Limit, Fault, ReadFailed, WriteFailed, NoMemory}

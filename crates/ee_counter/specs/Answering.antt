@@ -1,19 +1,19 @@
 -- The answer to a message, at a content of books and kept replies.
 use Rattle.std.specs.Prelude.{◌≡◌, [], ◌∷◌, Result, Ok, Err, ⊤}
-use Rattle.ee_acts.specs.PlainBooks.{PlainBooks}
-use Rattle.ee_acts.specs.Repeats.{Content}
-use Rattle.ee_acts.specs.Contents.{content_after}
-use Rattle.ee_acts.specs.Answers as desk
-use Rattle.ee_acts.specs.Queries.{ticket_numbered, batch_on}
-use Rattle.ee_acts.specs.declared.refusals.Unserved.{Unserved}
+use Rattle.ee_desk_acts.specs.PlainBooks.{PlainBooks}
+use Rattle.ee_desk_acts.specs.Repeats.{Content}
+use Rattle.ee_desk_acts.specs.Contents.{content_after}
+use Rattle.ee_desk_acts.specs.Answers as desk
+use Rattle.ee_desk_acts.specs.Queries.{ticket_numbered, batch_on}
+use Rattle.ee_desk_acts.specs.declared.refusals.Unserved.{Unserved}
 use Rattle.ee_keeper.specs.Keeping.{IsInventory, IsQuote}
-use Rattle.ee_framing.specs.Framing.{Message}
-use Rattle.ee_calls.specs.Calls.{decoded}
-use Rattle.ee_calls.specs.declared.calls.Call.{Call}
-use Rattle.ee_calls.specs.declared.calls.Call.TheVariants as call
-use Rattle.ee_calls.specs.declared.calls.Query.{Query}
-use Rattle.ee_calls.specs.declared.calls.Query.TheVariants as ask
-use Rattle.ee_calls.specs.declared.faults.WireFault.{WireFault}
+use Rattle.ee_wire_framing.specs.Framing.{Message}
+use Rattle.ee_wire_calls.specs.Calls.{decoded}
+use Rattle.ee_wire_calls.specs.declared.calls.Call.{Call}
+use Rattle.ee_wire_calls.specs.declared.calls.Call.TheVariants as call
+use Rattle.ee_wire_calls.specs.declared.calls.Query.{Query}
+use Rattle.ee_wire_calls.specs.declared.calls.Query.TheVariants as ask
+use Rattle.ee_wire_calls.specs.declared.faults.WireFault.{WireFault}
 use Rattle.ee_wire.specs.declared.answers.Answer.{Answer}
 use Rattle.ee_wire.specs.declared.answers.Answer.TheVariants as told
 

@@ -1,12 +1,12 @@
 -- Imports and exports of files.
 use Rattle.std.specs.Prelude.{◌≡◌, ℕ, List, length, Option, Some, Result, Ok, Err, true, false}
 use Rattle.ee_device.specs.Written.{WritesFront}
-use Rattle.ee_acts.specs.declared.acts.Act.{Act}
-use Rattle.ee_acts.specs.declared.acts.Request.{Request}
-use Rattle.ee_acts.specs.declared.replies.Reply.{Reply}
-use Rattle.ee_acts.specs.Numbers.{Number}
-use Rattle.ee_acts.specs.Repeats.{Content}
-use Rattle.ee_acts.specs.Queries.{bonds_of}
+use Rattle.ee_desk_acts.specs.declared.acts.Act.{Act}
+use Rattle.ee_desk_acts.specs.declared.acts.Request.{Request}
+use Rattle.ee_desk_acts.specs.declared.replies.Reply.{Reply}
+use Rattle.ee_desk_acts.specs.Numbers.{Number}
+use Rattle.ee_desk_acts.specs.Repeats.{Content}
+use Rattle.ee_desk_acts.specs.Queries.{bonds_of}
 use Rattle.ee_keeper.specs.Keeping.{Delivers}
 use Rattle.ee_files.specs.Answers.{Gives}
 use Rattle.ee_files.specs.BondFile.{inventory_text}

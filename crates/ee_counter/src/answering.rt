@@ -1,14 +1,14 @@
 //! The answer to a message.
 
 ghost use Rattle.std.specs.Prelude.{◌≡◌, true, false, Ok, IfOk};
-ghost use Rattle.ee_acts.specs.Repeats.{Content};
-ghost use Rattle.ee_calls.specs.Calls.{decoded};
-ghost use Rattle.ee_calls.specs.declared.calls.Call.TheVariants as call;
+ghost use Rattle.ee_desk_acts.specs.Repeats.{Content};
+ghost use Rattle.ee_wire_calls.specs.Calls.{decoded};
+ghost use Rattle.ee_wire_calls.specs.declared.calls.Call.TheVariants as call;
 ghost use Rattle.ee_keeper.specs.Keeping.{FailsOnlyIf, Shows};
 ghost use Rattle.ee_counter.specs.Answering.{ShowsQuery, Answers, AnswersUnless};
 ghost use Rattle.ee_counter.specs.Serving.{tells_failure};
 
-use ee_acts::{Request, Unserved};
+use ee_desk_acts::{Request, Unserved};
 use ee_keeper::Keeper;
 use ee_wire::{Answer, Call, Query, WireFault, decode};
 use std::alloc::Global;

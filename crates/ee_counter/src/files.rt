@@ -1,16 +1,16 @@
 //! Imports and exports of files.
 
 ghost use Rattle.std.specs.Prelude.{◌≡◌, ℕ, List, Some, IfErr};
-ghost use Rattle.ee_acts.specs.declared.acts.Act.TheVariants as act;
-ghost use Rattle.ee_acts.specs.declared.refusals.Unserved.TheVariants.{StoreFailed};
-ghost use Rattle.ee_acts.specs.Repeats.{Content};
+ghost use Rattle.ee_desk_acts.specs.declared.acts.Act.TheVariants as act;
+ghost use Rattle.ee_desk_acts.specs.declared.refusals.Unserved.TheVariants.{StoreFailed};
+ghost use Rattle.ee_desk_acts.specs.Repeats.{Content};
 ghost use Rattle.ee_device.specs.ReadWhole.{TakesAtMost};
 ghost use Rattle.ee_files.specs.BondFile.{bonds_of_file};
 ghost use Rattle.ee_files.specs.RateFile.{rates_of_file};
 ghost use Rattle.ee_keeper.specs.Keeping.{Delivers};
 ghost use Rattle.ee_counter.specs.Filing.{Imports, Exports};
 
-use ee_acts::{Act, Number, Reply, Request, Rows, Unserved};
+use ee_desk_acts::{Act, Number, Reply, Request, Rows, Unserved};
 use ee_files::{FileFault, WriteFault, read_inventory, read_rates, write_inventory};
 use ee_keeper::Keeper;
 use ee_units::Customer;

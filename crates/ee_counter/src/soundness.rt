@@ -1,8 +1,8 @@
 ghost use Rattle.std.specs.Prelude.{◌≡◌};
-ghost use Rattle.ee_acts.specs.Repeats.{Content};
-ghost use Rattle.ee_acts.specs.Paid.{paid_lines, NoneTwice, ArePaidRight};
-ghost use Rattle.ee_acts.specs.Sound.{IsSound};
-ghost use Rattle.ee_acts.specs.Conserved.{IsConserved};
+ghost use Rattle.ee_desk_acts.specs.Repeats.{Content};
+ghost use Rattle.ee_desk_acts.specs.Paid.{paid_lines, NoneTwice, ArePaidRight};
+ghost use Rattle.ee_desk_acts.specs.Sound.{IsSound};
+ghost use Rattle.ee_desk_acts.specs.Conserved.{IsConserved};
 
 use ee_keeper::Keeper;
 

@@ -4,10 +4,10 @@ use Rattle.std.specs.List.{sum_by}
 use Rattle.std.proofs.lemmas.Bool.{eq-eqb}
 use Rattle.std.proofs.lemmas.List.Elements.{filter-append}
 use Rattle.std.proofs.lemmas.List.Sums.{sum_by-append}
-use Rattle.ee_acts.specs.declared.replies.Ticket.{Ticket}
+use Rattle.ee_desk_acts.specs.declared.replies.Ticket.{Ticket}
 use Rattle.std.proofs.Common.{Option, subst}
-use Rattle.ee_acts.specs.PlainBooks.{of_day, batch_so_far, bonds_on, total_of}
-use Rattle.ee_decide.specs.declared.views.DayCounts.{DayCounts}
+use Rattle.ee_desk_acts.specs.PlainBooks.{of_day, batch_so_far, bonds_on, total_of}
+use Rattle.ee_desk_decide.specs.declared.views.DayCounts.{DayCounts}
 use Rattle.ee_desk.specs.Kept.{AreCounts}
 
 pub of_day_push : (tickets : List Ticket) (t : Ticket) → of_day t.day (tickets ++ t ∷ []) ≡ of_day t.day tickets ++ t ∷ []

@@ -17,10 +17,10 @@ use Rattle.ee_units.specs.Calendar.{period_start}
 use Rattle.ee_value.specs.declared.rates.Rates.{Rates}
 use Rattle.ee_calculator.specs.declared.bonds.Bond.{Bond}
 use Rattle.ee_calculator.specs.declared.rows.Row.{Row}
-use Rattle.ee_acts.specs.Sound.{IsSound, IsRightBond}
-use Rattle.ee_acts.specs.PlainBooks.{PlainBooks}
-use Rattle.ee_acts.specs.Queries.{PlainRow, shown_in_row, row_of, plain_row, is_open_bond, bonds_of}
-use Rattle.ee_acts.proofs.Lemmas.Maps.{serials_total, serials_exact}
+use Rattle.ee_desk_acts.specs.Sound.{IsSound, IsRightBond}
+use Rattle.ee_desk_acts.specs.PlainBooks.{PlainBooks}
+use Rattle.ee_desk_acts.specs.Queries.{PlainRow, shown_in_row, row_of, plain_row, is_open_bond, bonds_of}
+use Rattle.ee_desk_acts.proofs.Lemmas.Maps.{serials_total, serials_exact}
 use Rattle.std.proofs.lemmas.Map.Views.{tells_apart}
 
 front : (a b : Bool) → T (a && b) → T a

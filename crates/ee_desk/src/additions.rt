@@ -4,7 +4,7 @@ ghost use Rattle.std.specs.Prelude.{◌≡◌, drop, OnOk, OnErr};
 ghost use Rattle.ee_desk.specs.Kept.{rates_in, held_in};
 ghost use Rattle.ee_desk.specs.Added.{rate_row, held_row, with_row, without_row, with_changes, without_changes, every_second, AgreeBeside, AreNew};
 
-use ee_acts::{Change, Held, Tables, Terms};
+use ee_desk_acts::{Change, Held, Terms, UnitTables};
 use ee_units::{IssueMonth, Serial};
 use std::alloc::AllocError;
 use std::collections::BTreeMap;
@@ -12,7 +12,7 @@ use std::collections::BTreeMap;
 /// Adds rates whose periods are new: all of them, or none. Equal rates share one table; a table that
 /// is kept for rates that are then taken out stays, and changes nothing.
 pub fn add_rates(
-    tables: &mut Tables,
+    tables: &mut UnitTables,
     rates: &mut BTreeMap<IssueMonth, Terms>,
     changes: &[Change],
 ) -> Result<(), AllocError>
@@ -33,7 +33,7 @@ pub fn add_rates(
 }
 
 fn add_rate(
-    tables: &mut Tables,
+    tables: &mut UnitTables,
     rates: &mut BTreeMap<IssueMonth, Terms>,
     change: &Change,
 ) -> Result<(), AllocError>

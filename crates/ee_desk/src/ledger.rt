@@ -4,23 +4,23 @@ ghost use Rattle.std.specs.Prelude.{◌≡◌, IfOk, OnOk, OnErr, [], Some};
 ghost use Rattle.std.specs.List.{AllByRecursion};
 ghost use Rattle.std.specs.Option.{option_copied};
 ghost use Rattle.std.specs.FinMap as finite;
-ghost use Rattle.ee_acts.specs.PlainBooks.{no_books, of_day, batch_so_far};
-ghost use Rattle.ee_acts.specs.Acts.{changed, applied};
-ghost use Rattle.ee_acts.specs.Seen.{held_of, open_batch};
-ghost use Rattle.ee_acts.specs.Queries.{ticket_numbered, batch_on, bonds_of};
-ghost use Rattle.ee_acts.specs.declared.changes.Change.TheVariants as change;
-ghost use Rattle.ee_parts.specs.Parts.{parts_of};
-ghost use Rattle.ee_parts.specs.Marks.{AreMarked};
+ghost use Rattle.ee_desk_acts.specs.PlainBooks.{no_books, of_day, batch_so_far};
+ghost use Rattle.ee_desk_acts.specs.Acts.{changed, applied};
+ghost use Rattle.ee_desk_acts.specs.Seen.{held_of, open_batch};
+ghost use Rattle.ee_desk_acts.specs.Queries.{ticket_numbered, batch_on, bonds_of};
+ghost use Rattle.ee_desk_acts.specs.declared.changes.Change.TheVariants as change;
+ghost use Rattle.ee_desk_parts.specs.Parts.{parts_of};
+ghost use Rattle.ee_desk_parts.specs.Marks.{AreMarked};
 ghost use Rattle.ee_desk.specs.Kept.{books_of, AreCounts, AreKeyed};
 ghost use Rattle.ee_desk.specs.Added.{rate_row, bond_row, with_changes, AreNew};
 ghost use Rattle.ee_desk.specs.Applicable.{IsUnpaid, IsNextTicket, AreApplicable};
 
 use crate::additions::{add_bonds, add_rates};
 use crate::queries;
-use ee_acts::{Batch, Change, Held, Rows, Tables, Terms, Ticket};
 use ee_calculator::Bond;
-use ee_decide::DayCounts;
-use ee_parts::{Indexes, Parts, copy_tickets, held_bonds, mark_all, rate_rows};
+use ee_desk_acts::{Batch, Change, Held, Rows, Terms, Ticket, UnitTables};
+use ee_desk_decide::DayCounts;
+use ee_desk_parts::{Indexes, Parts, copy_tickets, held_bonds, mark_all, rate_rows};
 use ee_units::{Cents, Customer, Day, IssueMonth, Serial};
 use std::alloc::{AllocError, Global};
 use std::collections::BTreeMap;
@@ -30,7 +30,7 @@ use std::marker::Model;
 /// the open day's tickets are counted. Equal rates share one table of unit values.
 #[derive(Drop)]
 pub struct Ledger {
-    tables: Tables,
+    tables: UnitTables,
     rates: BTreeMap<IssueMonth, Terms>,
     bonds: BTreeMap<Serial, Held>,
     day: Option<Day>,
@@ -43,8 +43,8 @@ pub struct Ledger {
 impl Model for Ledger {
     ghost use Rattle.std.specs.Coded.{codes};
     ghost use Rattle.std.specs.FinMap as finite;
-    ghost use Rattle.ee_acts.specs.PlainBooks.{PlainBooks, batch_so_far};
-    ghost use Rattle.ee_parts.specs.Marks.{AreMarked};
+    ghost use Rattle.ee_desk_acts.specs.PlainBooks.{PlainBooks, batch_so_far};
+    ghost use Rattle.ee_desk_parts.specs.Marks.{AreMarked};
     ghost use Rattle.ee_desk.specs.Kept.{books_of, AreCounts};
 
     ghost Value = { PlainBooks };
@@ -74,7 +74,7 @@ impl Ledger {
         ensures { result ≡ no_books }
     {
         Ledger {
-            tables: Tables::new(alloc),
+            tables: UnitTables::new(alloc),
             rates: BTreeMap::new(alloc),
             bonds: BTreeMap::new(alloc),
             day: None,

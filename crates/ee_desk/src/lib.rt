@@ -10,10 +10,10 @@ mod seeing;
 mod sheets;
 
 pub use books::Books;
-pub use ee_acts::{
-    Act, Batch, Change, Effects, Held, Kept, Line, Number, RateRow, Refusal, Reply, Request, Rows,
-    Tables, Terms, Ticket, Unserved,
-};
 pub use ee_calculator::{Bond, Row, Sheet};
-pub use ee_decide::{DayCounts, View, ViewParts, decide};
-pub use ee_parts::{Parts, PartsFault, parts_tell};
+pub use ee_desk_acts::{
+    Act, Batch, Change, Effects, Held, Kept, Line, Number, RateRow, Refusal, Reply, Request, Rows,
+    Terms, Ticket, UnitTables, Unserved,
+};
+pub use ee_desk_decide::{DayCounts, View, ViewParts, decide};
+pub use ee_desk_parts::{Parts, PartsFault, parts_tell};

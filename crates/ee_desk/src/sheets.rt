@@ -3,12 +3,12 @@
 ghost use Rattle.std.specs.Prelude.{◌≡◌, ◌++◌, [], map, Some, None, IfOk, OnOk};
 ghost use Rattle.std.specs.Option.{option_map};
 ghost use Rattle.std.specs.List.{filter_map, cons_option};
-ghost use Rattle.ee_acts.specs.Queries as is;
-ghost use Rattle.ee_acts.specs.Queries.{shown_in_row};
+ghost use Rattle.ee_desk_acts.specs.Queries as is;
+ghost use Rattle.ee_desk_acts.specs.Queries.{shown_in_row};
 
 use crate::ledger::Ledger;
-use ee_acts::Terms;
 use ee_calculator::{Bond, Row, plain_row, row};
+use ee_desk_acts::Terms;
 use ee_units::calendar::period_of;
 use ee_units::{Denom, IssueMonth, Month, Rate};
 use std::alloc::{AllocError, Global};

@@ -17,7 +17,7 @@ use Rattle.ee_units.specs.Spelling.{SerialNumber, serial_of, customer_of, issue_
 use Rattle.ee_units.specs.Texts.{serial_text, month_text}
 use Rattle.ee_units.specs.declared.denoms.Denom.{Denom}
 use Rattle.ee_units.specs.declared.denoms.Denom.TheVariants as denom
-use Rattle.ee_units.proofs.Lemmas.{denom_back, serial_back, issue_back, customer_back}
+use Rattle.ee_units.proofs.Lemmas.{denom_back, dollars_small, serial_back, issue_back, customer_back}
 use Rattle.ee_calculator.specs.declared.bonds.Bond.{Bond}
 use Rattle.ee_files.specs.BondFile.{bond_columns, bond_entry, bonds_of_file, bond_fields, inventory_text, coowner_of, coowner_text, IsBond}
 use Rattle.ee_files.specs.Fields.{Bytes, field_value}
@@ -65,16 +65,6 @@ month_ascii m few =
 coowner_ascii : (c : Option ℕ) → IfSome c (λ n. (1 ≤ n) × (n ≤ 999999999)) → IsAscii (coowner_text c)
 coowner_ascii None h = IsAscii-nil
 coowner_ascii (Some n) h = let wide : 9999999999 < 2 ^ 64 = lit< tt in IsAscii-decimal n (omega (arith, h.1))
-
-dollars_small : (d : Denom) → dollars d < 2 ^ 64
-dollars_small denom.Fifty = lit< tt
-dollars_small denom.SeventyFive = lit< tt
-dollars_small denom.Hundred = lit< tt
-dollars_small denom.TwoHundred = lit< tt
-dollars_small denom.FiveHundred = lit< tt
-dollars_small denom.Thousand = lit< tt
-dollars_small denom.FiveThousand = lit< tt
-dollars_small denom.TenThousand = lit< tt
 
 entry_back : (row : ℕ) (b : Bond) → IsBond b → bond_entry row (bond_fields b) ≡ Ok b
 unfolding bond_entry field_at

@@ -12,11 +12,11 @@ use Rattle.sqlite.specs.State.{State, IsLive}
 use Rattle.sqlite.specs.Held.{Held}
 use Rattle.sqlite.specs.Files.{file_state}
 use Rattle.sqlite.specs.Closing.{IsCopied}
-use Rattle.ee_acts.specs.Repeats.{Content}
-use Rattle.ee_laws.specs.Events.{begun}
-use Rattle.ee_tables.proofs.Lemmas.Meeting.{stored_has}
-use Rattle.ee_contents.specs.Standing.{rows_of}
-use Rattle.ee_store.specs.Serving.{HasContent, StandsFor}
+use Rattle.ee_desk_acts.specs.Repeats.{Content}
+use Rattle.ee_desk_laws.specs.Events.{begun}
+use Rattle.ee_store_tables.proofs.Lemmas.Meeting.{stored_has}
+use Rattle.ee_store_contents.specs.Standing.{rows_of}
+use Rattle.ee_store_lookups.specs.Seen.{HasContent, StandsFor}
 use Rattle.ee_store.specs.Adopted.{GoesOn}
 use Rattle.ee_store.specs.Ended.{StandsAlone, IsAtRest}
 

@@ -3,12 +3,13 @@ use Rattle.std.proofs.Common.{◌≡◌, Bool, true, false, List, refl}
 use Rattle.std.specs.FinMap as finite
 use Rattle.sqlite.specs.Tree.{Trees}
 use Rattle.sqlite.specs.State.{State}
-use Rattle.ee_acts.specs.declared.acts.Request.{Request}
-use Rattle.ee_acts.specs.Numbers.{number_of}
-use Rattle.ee_laws.specs.Events.{World, Told, one, decided}
-use Rattle.ee_laws.specs.Ties.{Leaves}
-use Rattle.ee_laws.proofs.Lemmas.{leaves_new, leaves_kept}
-use Rattle.ee_store.specs.Serving.{StandsFor, HasContent, FollowsWorld}
+use Rattle.ee_desk_acts.specs.declared.acts.Request.{Request}
+use Rattle.ee_desk_acts.specs.Numbers.{number_of}
+use Rattle.ee_desk_laws.specs.Events.{World, Told, one, decided}
+use Rattle.ee_desk_laws.specs.Ties.{Leaves}
+use Rattle.ee_desk_laws.proofs.Lemmas.{leaves_new, leaves_kept}
+use Rattle.ee_store_lookups.specs.Seen.{StandsFor, HasContent}
+use Rattle.ee_store.specs.Served.{FollowsWorld}
 
 module _ (old new : State) (q : Request) (w : World) (follows : FollowsWorld old w) where
   leaves_decided : (told : List Told) → (finite.contains_key w.now.kept (number_of q) ≡ false → (db : Trees) → new.may_leave db → StandsFor db (one w.now q))

@@ -10,16 +10,17 @@ use Rattle.sqlite.specs.State.{State}
 use Rattle.sqlite.specs.Held.{Held}
 use Rattle.sqlite.specs.declared.FileStore.{FileStore}
 use Rattle.sqlite.specs.Files.{file_state}
-use Rattle.ee_acts.specs.declared.acts.Request.{Request}
-use Rattle.ee_acts.specs.Answers.{answer}
-use Rattle.ee_acts.specs.Numbers.{number_of}
-use Rattle.ee_acts.specs.Repeats.{Content, nothing}
-use Rattle.ee_acts.proofs.Lemmas.Requests.{content_after-known}
-use Rattle.ee_laws.specs.Events.{Event, World, Told, begun, decided, unserved, one, Happens}
-use Rattle.ee_laws.specs.Events.Event.{Deliver, Lose, Unserved, Stop_between, Reopen}
-use Rattle.ee_laws.specs.Stops.{SurvivesStops, SettlesByRetries}
-use Rattle.ee_laws.proofs.Lemmas.{in_tail}
-use Rattle.ee_store.specs.Serving.{StandsFor, FollowsWorld}
+use Rattle.ee_desk_acts.specs.declared.acts.Request.{Request}
+use Rattle.ee_desk_acts.specs.Answers.{answer}
+use Rattle.ee_desk_acts.specs.Numbers.{number_of}
+use Rattle.ee_desk_acts.specs.Repeats.{Content, nothing}
+use Rattle.ee_desk_acts.proofs.Lemmas.Requests.{content_after-known}
+use Rattle.ee_desk_laws.specs.Events.{Event, World, Told, begun, decided, unserved, one, Happens}
+use Rattle.ee_desk_laws.specs.Events.Event.{Deliver, Lose, Unserved, Stop_between, Reopen}
+use Rattle.ee_desk_laws.specs.Stops.{SurvivesStops, SettlesByRetries}
+use Rattle.ee_desk_laws.proofs.Lemmas.{in_tail}
+use Rattle.ee_store_lookups.specs.Seen.{StandsFor}
+use Rattle.ee_store.specs.Served.{FollowsWorld}
 use Rattle.ee_store.specs.Ended.{RestsIn}
 use Rattle.ee_store.specs.NextRun.{FollowsInNextRun}
 use Rattle.ee_store.specs.History.{IsUp, Goes, BeginsHistory, GoesByQueries, GoesThroughCrash, GoesThroughRest, HasHistory, SettlesHistory, RestsAfter}

@@ -3,14 +3,15 @@ use Rattle.std.proofs.Common.{◌≡◌, ◌∙◌, IsTrue, true, refl, sym, ap,
 use Rattle.sqlite.specs.Effect.{IsDatabase}
 use Rattle.sqlite.specs.Tree.{Trees}
 use Rattle.sqlite.specs.State.{State, IsLive}
-use Rattle.ee_acts.specs.Repeats.{Content, nothing}
-use Rattle.ee_laws.specs.Events.{World, begun, stopped}
-use Rattle.ee_tables.proofs.Lemmas.Meeting.{has_stored}
-use Rattle.ee_tables.specs.Rows.{Rows, DeskRow, Stores}
-use Rattle.ee_opening.specs.Making.{first_rows}
-use Rattle.ee_opening.specs.Opening.{HasTables, IsFirstVersion, IsOtherVersion}
-use Rattle.ee_contents.specs.Standing.{rows_of}
-use Rattle.ee_store.specs.Serving.{StandsFor, HasContent, FollowsWorld}
+use Rattle.ee_desk_acts.specs.Repeats.{Content, nothing}
+use Rattle.ee_desk_laws.specs.Events.{World, begun, stopped}
+use Rattle.ee_store_tables.proofs.Lemmas.Meeting.{has_stored}
+use Rattle.ee_store_tables.specs.Rows.{Rows, DeskRow, Stores}
+use Rattle.ee_store_opening.specs.Making.{first_rows}
+use Rattle.ee_store_opening.specs.Opening.{HasTables, IsFirstVersion, IsOtherVersion}
+use Rattle.ee_store_contents.specs.Standing.{rows_of}
+use Rattle.ee_store_lookups.specs.Seen.{StandsFor, HasContent}
+use Rattle.ee_store.specs.Served.{FollowsWorld}
 use Rattle.ee_store.specs.Adopted.{KeepsContent, LeavesAsBefore, GoesOn, StaysStopped}
 use Rattle.ee_store.proofs.Opened.{has_tables, nothing_rows, same_some}
 

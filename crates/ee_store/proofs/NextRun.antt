@@ -8,8 +8,8 @@ use Rattle.sqlite.specs.Recovery.{Image}
 use Rattle.sqlite.specs.Held.{Held, AreDatabases}
 use Rattle.sqlite.specs.Files.{file_state}
 use Rattle.sqlite.proofs.Theorems.{opens_again, next_run}
-use Rattle.ee_tables.specs.Tables.{counter_schema}
-use Rattle.ee_store.specs.Serving.{StandsFor}
+use Rattle.ee_store_tables.specs.Tables.{counter_schema}
+use Rattle.ee_store_lookups.specs.Seen.{StandsFor}
 use Rattle.ee_store.specs.Adopted.{IsOpenedFrom}
 use Rattle.ee_store.specs.NextRun.{IsNumbered, FollowsInNextRun, WaitsInNextRun, LeavesStanding, FollowsOn}
 

@@ -13,22 +13,22 @@ use Rattle.sqlite.proofs.StateLemmas.{survives_weaker}
 use Rattle.ee_units.specs.Spelling.{SerialNumber}
 use Rattle.ee_calculator.specs.declared.bonds.Bond.{Bond}
 use Rattle.ee_value.specs.declared.rates.Rates.{Rates}
-use Rattle.ee_acts.specs.declared.changes.Kept.{Kept}
-use Rattle.ee_acts.specs.Serials.{serial_cmp}
-use Rattle.ee_acts.specs.Numbers.{number_cmp}
-use Rattle.ee_acts.specs.Seen.{held_as}
-use Rattle.ee_acts.specs.Repeats.{Content, nothing}
-use Rattle.ee_acts.proofs.Lemmas.Books.{empty_is_sound}
-use Rattle.ee_contents.proofs.Lemmas.{get_desk_row}
-use Rattle.ee_laws.proofs.Lemmas.{leaves_as_before}
-use Rattle.ee_texts.specs.Ranges.{BondFits}
-use Rattle.ee_tables.specs.Keyed.{pair_cmp}
-use Rattle.ee_tables.specs.Rows.{Rows, DeskRow, Has, Holds, Stores}
-use Rattle.ee_opening.specs.Making.{IsBlank, first_rows}
-use Rattle.ee_opening.specs.Opening.{HasTables, IsOtherVersion}
-use Rattle.ee_opening.proofs.Lemmas.{ours_tables}
-use Rattle.ee_contents.specs.Standing.{rows_of, bond_row, reply_row, key_of, StandFor, IsRight, IsKept}
-use Rattle.ee_store.specs.Serving.{StandsFor, HasContent}
+use Rattle.ee_desk_acts.specs.declared.changes.Kept.{Kept}
+use Rattle.ee_desk_acts.specs.Serials.{serial_cmp}
+use Rattle.ee_desk_acts.specs.Numbers.{number_cmp}
+use Rattle.ee_desk_acts.specs.Seen.{held_as}
+use Rattle.ee_desk_acts.specs.Repeats.{Content, nothing}
+use Rattle.ee_desk_acts.proofs.Lemmas.Books.{empty_is_sound}
+use Rattle.ee_store_contents.proofs.Lemmas.{get_desk_row}
+use Rattle.ee_desk_laws.proofs.Lemmas.{leaves_as_before}
+use Rattle.ee_desk_texts.specs.Ranges.{BondFits}
+use Rattle.ee_store_tables.specs.Keyed.{pair_cmp}
+use Rattle.ee_store_tables.specs.Rows.{Rows, DeskRow, Has, Holds, Stores}
+use Rattle.ee_store_opening.specs.Making.{IsBlank, first_rows}
+use Rattle.ee_store_opening.specs.Opening.{HasTables, IsOtherVersion}
+use Rattle.ee_store_opening.proofs.Lemmas.{ours_tables}
+use Rattle.ee_store_contents.specs.Standing.{rows_of, bond_row, reply_row, key_of, StandFor, IsRight, IsKept}
+use Rattle.ee_store_lookups.specs.Seen.{StandsFor, HasContent}
 use Rattle.ee_store.specs.Adopted.{KeepsContent, KeepsWorld, HadNone, IfConnection}
 use Rattle.ee_store.specs.declared.opening.Rest.{Rest}
 use Rattle.ee_store.specs.declared.opening.Rest.TheVariants.{Connection, Files}

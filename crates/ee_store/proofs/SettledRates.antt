@@ -8,19 +8,19 @@ use Rattle.std.specs.Cmp.{nat_cmp_total}
 use Rattle.std.specs.FinMap as finite
 use Rattle.std.specs.FinMap.{entries, entries-from_sorted}
 use Rattle.ee_value.specs.declared.rates.Rates.{Rates}
-use Rattle.ee_acts.specs.Sound.{IsRightRate}
-use Rattle.ee_opening.specs.declared.entries.StoredRate.{StoredRate}
-use Rattle.ee_opening.specs.declared.whole.AllRows.{AllRows}
-use Rattle.ee_opening.specs.Shown.{rate_entry}
-use Rattle.ee_opening.specs.Whole as opened
-use Rattle.ee_opening.specs.Whole.{AreInOrder}
-use Rattle.ee_tables.specs.Rows.{Rows}
-use Rattle.ee_contents.specs.Standing.{StandFor, rate_rows}
-use Rattle.ee_contents.proofs.Lemmas.{get_rate_row}
+use Rattle.ee_desk_acts.specs.Sound.{IsRightRate}
+use Rattle.ee_store_opening.specs.declared.entries.StoredRate.{StoredRate}
+use Rattle.ee_store_opening.specs.declared.whole.AllRows.{AllRows}
+use Rattle.ee_store_opening.specs.Shown.{rate_entry}
+use Rattle.ee_store_opening.specs.Whole as opened
+use Rattle.ee_store_opening.specs.Whole.{AreInOrder}
+use Rattle.ee_store_tables.specs.Rows.{Rows}
+use Rattle.ee_store_contents.specs.Standing.{StandFor, rate_rows}
+use Rattle.ee_store_contents.proofs.Lemmas.{get_rate_row}
 use Rattle.ee_store.specs.Adopted.{IsSettledRow}
-use Rattle.ee_parts.proofs.Lemmas.{all_entries}
+use Rattle.ee_desk_parts.proofs.Lemmas.{all_entries}
 use Rattle.std.proofs.lemmas.Map.Lookups.{exact_unsigned}
-use Rattle.ee_acts.specs.Repeats.{Content}
+use Rattle.ee_desk_acts.specs.Repeats.{Content}
 
 -- the row of rates that a content has
 IsSettledEntry : ℕ → ℕ → Type 0

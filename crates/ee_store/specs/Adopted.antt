@@ -12,25 +12,26 @@ use Rattle.sqlite.specs.Recovery.{Image}
 use Rattle.sqlite.specs.Start.{FindsIn}
 use Rattle.sqlite.specs.State.{State, KeepsCommit, Survives}
 use Rattle.ee_value.specs.declared.rates.Rates.{Rates}
-use Rattle.ee_acts.specs.Values.{unsettled}
-use Rattle.ee_acts.specs.Tables.{rates_cmp}
-use Rattle.ee_acts.specs.Repeats.{Content, nothing}
-use Rattle.ee_laws.specs.Events.{World, Happens, begun}
-use Rattle.ee_laws.specs.Events.Event.{Stop_between, Reopen}
-use Rattle.ee_laws.specs.Ties.{Leaves}
-use Rattle.ee_opening.specs.declared.entries.StoredRate.{StoredRate}
-use Rattle.ee_opening.specs.Making.{IsBlank}
-use Rattle.ee_tables.specs.Rows.{Rows, Has, HasRoomIn, HasRoom}
-use Rattle.ee_tables.specs.Statements.{HasCause}
-use Rattle.ee_opening.specs.Opening.{HasTables, IsOtherVersion}
-use Rattle.ee_opening.specs.Whole.{IsOurs}
-use Rattle.ee_opening.specs.declared.making.OpenFault.{OpenFault}
-use Rattle.ee_opening.specs.declared.making.OpenFault.TheVariants.{StoreFailed, WrongVersion, Unusable}
+use Rattle.ee_desk_acts.specs.Values.{unsettled}
+use Rattle.ee_desk_acts.specs.UnitTables.{rates_cmp}
+use Rattle.ee_desk_acts.specs.Repeats.{Content, nothing}
+use Rattle.ee_desk_laws.specs.Events.{World, Happens, begun}
+use Rattle.ee_desk_laws.specs.Events.Event.{Stop_between, Reopen}
+use Rattle.ee_desk_laws.specs.Ties.{Leaves}
+use Rattle.ee_store_opening.specs.declared.entries.StoredRate.{StoredRate}
+use Rattle.ee_store_opening.specs.Making.{IsBlank}
+use Rattle.ee_store_tables.specs.Rows.{Rows, Has, HasRoomIn, HasRoom}
+use Rattle.ee_store_tables.specs.Statements.{HasCause}
+use Rattle.ee_store_opening.specs.Opening.{HasTables, IsOtherVersion}
+use Rattle.ee_store_opening.specs.Whole.{IsOurs}
+use Rattle.ee_store_opening.specs.declared.making.OpenFault.{OpenFault}
+use Rattle.ee_store_opening.specs.declared.making.OpenFault.TheVariants.{StoreFailed, WrongVersion, Unusable}
 use Rattle.ee_store.specs.declared.opening.Rest.{Rest}
 use Rattle.ee_store.specs.declared.opening.Rest.TheVariants.{Connection, Files}
-use Rattle.ee_store.specs.Serving.{StandsFor, HasContent, FollowsWorld}
+use Rattle.ee_store_lookups.specs.Seen.{StandsFor, HasContent}
+use Rattle.ee_store.specs.Served.{FollowsWorld}
 use Rattle.ee_store.specs.Ended.{StandsAlone}
-use Rattle.ee_store.specs.Failures.{IsReady}
+use Rattle.ee_store_lookups.specs.Causes.{IsReady}
 
 -- a store without tables has come to have the empty content
 abbrev pub BeginsEmpty : State → State → Type 0

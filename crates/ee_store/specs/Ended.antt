@@ -9,8 +9,8 @@ use Rattle.sqlite.specs.declared.FileStore.{FileStore}
 use Rattle.sqlite.specs.Held.{Held}
 use Rattle.sqlite.specs.Files.{image_of, file_state}
 use Rattle.sqlite.specs.Closing.{HoldsAlone}
-use Rattle.ee_acts.specs.Repeats.{Content}
-use Rattle.ee_store.specs.Serving.{StandsFor, HasContent}
+use Rattle.ee_desk_acts.specs.Repeats.{Content}
+use Rattle.ee_store_lookups.specs.Seen.{StandsFor, HasContent}
 
 -- the two files are a store of the content, and so is the file without its log
 pub record StandsAlone (image : Image) (content : Content) : Type 0 where

@@ -9,12 +9,13 @@ use Rattle.sqlite.specs.declared.FileStore.{FileStore}
 use Rattle.sqlite.specs.Held.{Held}
 use Rattle.sqlite.specs.Files.{image_of, file_state}
 use Rattle.sqlite.specs.Recovery.{Image}
-use Rattle.ee_acts.specs.declared.acts.Request.{Request}
-use Rattle.ee_acts.specs.Repeats.{Content, nothing}
-use Rattle.ee_laws.specs.Events.{Event, World, begun, Happens}
-use Rattle.ee_laws.specs.Events.Event.{Deliver, Stop_between, Reopen}
-use Rattle.ee_laws.specs.Stops.{Survives, Settles, sent}
-use Rattle.ee_store.specs.Serving.{HasContent, FollowsWorld}
+use Rattle.ee_desk_acts.specs.declared.acts.Request.{Request}
+use Rattle.ee_desk_acts.specs.Repeats.{Content, nothing}
+use Rattle.ee_desk_laws.specs.Events.{Event, World, begun, Happens}
+use Rattle.ee_desk_laws.specs.Events.Event.{Deliver, Stop_between, Reopen}
+use Rattle.ee_desk_laws.specs.Stops.{Survives, Settles, sent}
+use Rattle.ee_store_lookups.specs.Seen.{HasContent}
+use Rattle.ee_store.specs.Served.{FollowsWorld}
 use Rattle.ee_store.specs.Adopted.{IsOpenedFrom, KeepsWorld}
 use Rattle.ee_store.specs.Ended.{IsAtRest, RestsIn}
 use Rattle.ee_store.specs.NextRun.{IsNumbered, MayLeaveFiles}

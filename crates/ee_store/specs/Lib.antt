@@ -1,9 +1,5 @@
-pub mod Written
-pub mod Found
-pub mod Serving
-pub mod Asking
+pub mod Served
 pub mod Adopted
-pub mod Failures
 pub mod Ended
 pub mod NextRun
 pub mod History

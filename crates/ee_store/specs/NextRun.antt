@@ -7,12 +7,13 @@ use Rattle.sqlite.specs.Held.{Held}
 use Rattle.sqlite.specs.Tree.{Trees}
 use Rattle.sqlite.specs.Files.{file_state, HoldsDatabase}
 use Rattle.sqlite.specs.Recovery.{Image}
-use Rattle.ee_acts.specs.Repeats.{Content}
-use Rattle.ee_laws.specs.Events.{World, Happens}
-use Rattle.ee_laws.specs.Events.Event.{Stop_between, Reopen}
-use Rattle.ee_laws.specs.Ties.{Leaves}
-use Rattle.ee_opening.specs.declared.making.OpenFault.{OpenFault}
-use Rattle.ee_store.specs.Serving.{StandsFor, FollowsWorld}
+use Rattle.ee_desk_acts.specs.Repeats.{Content}
+use Rattle.ee_desk_laws.specs.Events.{World, Happens}
+use Rattle.ee_desk_laws.specs.Events.Event.{Stop_between, Reopen}
+use Rattle.ee_desk_laws.specs.Ties.{Leaves}
+use Rattle.ee_store_opening.specs.declared.making.OpenFault.{OpenFault}
+use Rattle.ee_store_lookups.specs.Seen.{StandsFor}
+use Rattle.ee_store.specs.Served.{FollowsWorld}
 use Rattle.ee_store.specs.Adopted.{IsOpenedFrom, IsRefusedFrom}
 
 -- a crash may leave these two files of the connection

@@ -5,20 +5,20 @@ ghost use Rattle.std.specs.List.{AllByRecursion};
 ghost use Rattle.std.specs.FinMap as finite;
 ghost use Rattle.sqlite.specs.Held.{state};
 ghost use Rattle.sqlite.specs.State.{HasCleanDisk, IsLive, Survives};
-ghost use Rattle.ee_acts.specs.Values.{unsettled};
-ghost use Rattle.ee_acts.specs.Repeats.{Content, nothing};
-ghost use Rattle.ee_opening.specs.Making.{IsBlank};
-ghost use Rattle.ee_opening.specs.Whole.{rows_of, AreInOrder};
-ghost use Rattle.ee_contents.specs.Standing.{StandFor};
-ghost use Rattle.ee_store.specs.Serving.{StandsFor};
+ghost use Rattle.ee_desk_acts.specs.Values.{unsettled};
+ghost use Rattle.ee_desk_acts.specs.Repeats.{Content, nothing};
+ghost use Rattle.ee_store_opening.specs.Making.{IsBlank};
+ghost use Rattle.ee_store_opening.specs.Whole.{rows_of, AreInOrder};
+ghost use Rattle.ee_store_contents.specs.Standing.{StandFor};
+ghost use Rattle.ee_store_lookups.specs.Seen.{StandsFor};
 ghost use Rattle.ee_store.specs.Adopted.{BeginsEmpty, KeepsContent, HasSome, HadNone, KeepsRows, KeepsWorld, BeginsWorld, GoesOn, StaysStopped, HadOtherVersion, HadNoOtherVersion, LeavesAsBefore, FailsToAdopt, OpensWithRoom, IsSettledRow, tables_for};
-ghost use Rattle.ee_store.specs.Failures.{IsReady};
+ghost use Rattle.ee_store_lookups.specs.Causes.{IsReady};
 
 use crate::keeper::SqlKeeper;
-use crate::values::rate_of;
-use ee_acts::Tables;
-use ee_contents::{ContentFault, content_of};
-use ee_opening::{AllRows, OpenFault, StoredRate, open_rows};
+use ee_desk_acts::UnitTables;
+use ee_store_contents::{ContentFault, content_of};
+use ee_store_opening::{AllRows, OpenFault, StoredRate, open_rows};
+use ee_units::Rate;
 use ee_value::{Rates, ValueFault};
 use sqlite::{Alter, Connection};
 use std::alloc::Global;
@@ -33,12 +33,12 @@ pub struct NotAdopted<S: Alter> {
 }
 
 /// The table of a rate in hundredths of a percent, made where there is none.
-fn add_table(alloc: Global, tables: &mut Tables, hundredths: u64) -> Result<(), OpenFault>
+fn add_table(alloc: Global, tables: &mut UnitTables, hundredths: u64) -> Result<(), OpenFault>
     ensures added { OnOk result (tables.new ≡ finite.insert tables.old (record { fixed = hundredths }) (record { fixed = hundredths })) }
     ensures fault { IfErr result (λ fault. (fault ≡ OpenFault.NoMemory) ⊎ (fault ≡ OpenFault.StoreFailed)) }
     ensures settled { hundredths ≤ 2000 → unsettled (record { fixed = hundredths }) ≡ None → IfErr result (λ fault. fault ≡ OpenFault.NoMemory) }
 {
-    let Some(fixed) = rate_of(hundredths) else {
+    let Some(fixed) = Rate::new(hundredths) else {
         return Err(OpenFault::StoreFailed);
     };
     match tables.add(alloc, Rates { fixed }) {
@@ -48,14 +48,14 @@ fn add_table(alloc: Global, tables: &mut Tables, hundredths: u64) -> Result<(), 
     }
 }
 
-fn no_tables(alloc: Global) -> Tables
+fn no_tables(alloc: Global) -> UnitTables
     ensures { result ≡ finite.empty }
 {
-    Tables::new(alloc)
+    UnitTables::new(alloc)
 }
 
 /// A table for the rates of each row.
-fn tables_of(alloc: Global, rows: &[StoredRate]) -> Result<Tables, OpenFault>
+fn tables_of(alloc: Global, rows: &[StoredRate]) -> Result<UnitTables, OpenFault>
     ensures made { IfOk result (λ tables. tables ≡ tables_for rows.now) }
     ensures fault { IfErr result (λ fault. (fault ≡ OpenFault.NoMemory) ⊎ (fault ≡ OpenFault.StoreFailed)) }
     ensures settled { AllByRecursion IsSettledRow rows.now → IfErr result (λ fault. fault ≡ OpenFault.NoMemory) }
@@ -86,7 +86,7 @@ fn tested(alloc: Global, all: &AllRows) -> Result<(), OpenFault>
 }
 
 /// The tables of unit values for the rates of rows that stand for books and kept replies.
-fn prepared(alloc: Global, all: &AllRows) -> Result<Tables, OpenFault>
+fn prepared(alloc: Global, all: &AllRows) -> Result<UnitTables, OpenFault>
     requires { AreInOrder all.now }
     ensures ok { IfOk result (λ tables. ((content : Content) × StandFor (rows_of all.now) content) × (tables ≡ tables_for all.now.rates.items)) }
     ensures unusable { IfErr result (λ fault. fault ≡ OpenFault.Unusable → (content : Content) → StandFor (rows_of all.now) content → ⊥) }
@@ -108,7 +108,7 @@ fn settled<S: Alter>(conn: &Connection<S>)
 
 /// Finds the rows of a store, or makes its first ones, and tests that they stand for books and kept
 /// replies. It answers the tables of unit values for their rates.
-fn ready<S: Alter>(conn: &mut Connection<S>, alloc: Global) -> Result<Tables, OpenFault>
+fn ready<S: Alter>(conn: &mut Connection<S>, alloc: Global) -> Result<UnitTables, OpenFault>
     ensures begins { HasCleanDisk (state S.Store conn.new) → OnOk result (BeginsEmpty (state S.Store conn.old) (state S.Store conn.new)) }
     ensures begun { HasCleanDisk (state S.Store conn.new) → OnOk result (BeginsWorld (state S.Store conn.old) (state S.Store conn.new)) }
     ensures found { HasCleanDisk (state S.Store conn.new) → OnOk result (KeepsContent (state S.Store conn.old) (state S.Store conn.new)) }

@@ -4,9 +4,10 @@ ghost use Rattle.std.specs.Prelude.{IfOk, IfErr};
 ghost use Rattle.sqlite.specs.Tree.{Trees};
 ghost use Rattle.sqlite.specs.Files.{file_state};
 ghost use Rattle.sqlite.specs.FileStore.{recovers};
-ghost use Rattle.ee_laws.specs.Events.{World};
-ghost use Rattle.ee_laws.specs.Ties.{Leaves};
-ghost use Rattle.ee_store.specs.Serving.{StandsFor, FollowsWorld};
+ghost use Rattle.ee_desk_laws.specs.Events.{World};
+ghost use Rattle.ee_desk_laws.specs.Ties.{Leaves};
+ghost use Rattle.ee_store_lookups.specs.Seen.{StandsFor};
+ghost use Rattle.ee_store.specs.Served.{FollowsWorld};
 ghost use Rattle.ee_store.specs.Ended.{RestsIn};
 ghost use Rattle.ee_store.specs.History.{RestsAfter};
 

@@ -5,20 +5,23 @@ ghost use Rattle.std.specs.FinMap as finite;
 ghost use Rattle.sqlite.specs.Held.{state};
 ghost use Rattle.sqlite.specs.Tree.{Trees};
 ghost use Rattle.sqlite.specs.State.{HasCleanDisk, Survives};
-ghost use Rattle.ee_acts.specs.Numbers.{number_of};
-ghost use Rattle.ee_acts.specs.Repeats.{Content};
-ghost use Rattle.ee_acts.specs.Contents.{content_after};
-ghost use Rattle.ee_laws.specs.Events.{World, Told, decided, unserved};
-ghost use Rattle.ee_laws.specs.Events.Event.{Deliver, Lose, Unserved as NotServed};
+ghost use Rattle.ee_desk_acts.specs.Numbers.{number_of};
+ghost use Rattle.ee_desk_acts.specs.Repeats.{Content};
+ghost use Rattle.ee_desk_acts.specs.Contents.{content_after};
+ghost use Rattle.ee_desk_laws.specs.Events.{World, Told, decided, unserved};
+ghost use Rattle.ee_desk_laws.specs.Events.Event.{Deliver, Lose, Unserved as NotServed};
 ghost use Rattle.ee_keeper.specs.Keeping.{Delivers};
-ghost use Rattle.ee_tables.specs.Statements.{HasCause};
-ghost use Rattle.ee_store.specs.Failures.{IsReady, KeepsRoom, CanDeliver};
-ghost use Rattle.ee_store.specs.Serving.{StandsFor, HasContent, FollowsWorld};
+ghost use Rattle.ee_store_tables.specs.Statements.{HasCause};
+ghost use Rattle.ee_store_lookups.specs.Causes.{IsReady};
+ghost use Rattle.ee_store_delivery.specs.Causes.{TakesRequestRoom, CanDeliver};
+ghost use Rattle.ee_store_lookups.specs.Seen.{StandsFor, HasContent};
+ghost use Rattle.ee_store.specs.Served.{FollowsWorld};
 ghost use Rattle.ee_store.specs.History.{Goes};
 
-use crate::delivering::deliver_on;
-use ee_acts::{Reply, Request, Tables, Unserved};
-use ee_laws::{StoreOfContents, ties_to_stores};
+use crate::failures::unserved;
+use ee_desk_acts::{Reply, Request, UnitTables, Unserved};
+use ee_desk_laws::{StoreOfContents, ties_to_stores};
+use ee_store_delivery::deliver_on;
 use sqlite::{Alter, Connection};
 use std::alloc::Global;
 
@@ -26,7 +29,7 @@ use std::alloc::Global;
 #[derive(Drop)]
 pub struct SqlKeeper<S: Alter> {
     pub(crate) alloc: Global,
-    pub(crate) tables: Tables,
+    pub(crate) tables: UnitTables,
     pub(crate) conn: Connection<S>,
 }
 
@@ -54,7 +57,7 @@ impl<S: Alter> SqlKeeper<S> {
         ensures again { HasCleanDisk (state S.Store self.new.conn) → OnOk result ((content : Content) → HasContent (state S.Store self.old.conn) content → finite.contains_key content.kept (number_of request.now) ≡ true
             → (db : Trees) → (state S.Store self.new.conn).may_leave db → (state S.Store self.old.conn).may_leave db) }
         ensures ready { IsReady (state S.Store self.old.conn) → IsReady (state S.Store self.new.conn) }
-        ensures room { KeepsRoom (state S.Store self.old.conn) (state S.Store self.new.conn) }
+        ensures room { TakesRequestRoom (state S.Store self.old.conn) (state S.Store self.new.conn) }
         ensures cause { HasCleanDisk (state S.Store self.new.conn) → (content : Content) → CanDeliver (state S.Store self.old.conn) content request.now
             → IfErr result (λ e. e ≡ Unserved.StoreFailed → HasCause (state S.Store self.old.conn) (state S.Store self.new.conn)) }
         ensures decided { HasCleanDisk (state S.Store self.new.conn) → OnOk result ((w : World) (told : List Told) → FollowsWorld (state S.Store self.old.conn) w → FollowsWorld (state S.Store self.new.conn) (decided w request.now told)) }
@@ -69,7 +72,7 @@ impl<S: Alter> SqlKeeper<S> {
                 let _schema = self.conn.schema();
                 Ok(reply)
             }
-            Err(unfinished) => Err(Unserved::from(unfinished)),
+            Err(failure) => Err(unserved(failure)),
         }
     }
 }
@@ -77,7 +80,7 @@ impl<S: Alter> SqlKeeper<S> {
 impl<S: Alter> StoreOfContents for SqlKeeper<S> {
     ghost use Rattle.sqlite.specs.Held.{state};
     ghost use Rattle.sqlite.specs.Tree.{Trees};
-    ghost use Rattle.ee_store.specs.Serving.{StandsFor};
+    ghost use Rattle.ee_store_lookups.specs.Seen.{StandsFor};
 
     ghost Disk = { Trees };
 

@@ -3,11 +3,11 @@
 ghost use Rattle.sqlite.specs.Held.{Held, state};
 ghost use Rattle.sqlite.specs.Steps.{over_memory};
 ghost use Rattle.sqlite_trees.specs.declared.memory.MemStore.{MemStore};
-ghost use Rattle.ee_tables.specs.Statements.{HasCause};
+ghost use Rattle.ee_store_tables.specs.Statements.{HasCause};
 ghost use Rattle.ee_store.specs.NextRun.{FollowsInNextRun, WaitsInNextRun};
 ghost use Rattle.ee_store.specs.History.{BeginsHistory, GoesByQueries, GoesThroughCrash, GoesThroughRest, HasHistory, SettlesHistory};
 
-pub use ee_laws::{runs_as_events, stops_and_retries, tellers_interleaved, ties_to_stores};
+pub use ee_desk_laws::{runs_as_events, stops_and_retries, tellers_interleaved, ties_to_stores};
 use sqlite_disk::Disk;
 
 /// From one run to the next. Of a keeper that follows the events of the law of stops and retries a crash

@@ -3,18 +3,21 @@
 ghost use Rattle.std.specs.Prelude.{◌≡◌};
 ghost use Rattle.sqlite.specs.Held.{state};
 ghost use Rattle.sqlite.specs.State.{HasCleanDisk, Survives};
-ghost use Rattle.ee_acts.specs.Repeats.{Content};
-ghost use Rattle.ee_acts.specs.Queries.{ticket_numbered, batch_on, bonds_of};
-ghost use Rattle.ee_laws.specs.Events.{World};
+ghost use Rattle.ee_desk_acts.specs.Repeats.{Content};
+ghost use Rattle.ee_desk_acts.specs.Queries.{ticket_numbered, batch_on, bonds_of};
+ghost use Rattle.ee_desk_laws.specs.Events.{World};
 ghost use Rattle.ee_keeper.specs.Keeping.{Shows, IsInventory, IsQuote};
-ghost use Rattle.ee_store.specs.Failures.{IsReady, ServesOrFails};
-ghost use Rattle.ee_store.specs.Serving.{HasContent, FollowsWorld};
+ghost use Rattle.ee_store_lookups.specs.Causes.{IsReady};
+ghost use Rattle.ee_store.specs.Served.{ServesOrFails};
+ghost use Rattle.ee_store_lookups.specs.Seen.{HasContent};
+ghost use Rattle.ee_store.specs.Served.{FollowsWorld};
 
-use crate::asking::{ask_batch, ask_bonds, ask_inventory, ask_quote, ask_ticket};
+use crate::failures::unserved;
 use crate::keeper::SqlKeeper;
-use ee_acts::{Batch, Reply, Request, Ticket, Unserved};
 use ee_calculator::{Bond, Row, Sheet};
+use ee_desk_acts::{Batch, Reply, Request, Ticket, Unserved};
 use ee_keeper::Keeper;
+use ee_store_queries::{ask_batch, ask_bonds, ask_inventory, ask_quote, ask_ticket};
 use ee_units::{Customer, Day, Denom, IssueMonth, Month};
 use sqlite::Alter;
 
@@ -47,7 +50,7 @@ impl<S: Alter> SqlKeeper<S> {
             month,
         ) {
             Ok(sheet) => Ok(sheet),
-            Err(unfinished) => Err(Unserved::from(unfinished)),
+            Err(failure) => Err(unserved(failure)),
         }
     }
 
@@ -63,7 +66,7 @@ impl<S: Alter> SqlKeeper<S> {
     {
         match ask_bonds(&mut self.conn, self.alloc, customer) {
             Ok(bonds) => Ok(bonds),
-            Err(unfinished) => Err(Unserved::from(unfinished)),
+            Err(failure) => Err(unserved(failure)),
         }
     }
 
@@ -79,7 +82,7 @@ impl<S: Alter> SqlKeeper<S> {
     {
         match ask_ticket(&mut self.conn, self.alloc, number) {
             Ok(ticket) => Ok(ticket),
-            Err(unfinished) => Err(Unserved::from(unfinished)),
+            Err(failure) => Err(unserved(failure)),
         }
     }
 
@@ -95,7 +98,7 @@ impl<S: Alter> SqlKeeper<S> {
     {
         match ask_batch(&mut self.conn, day) {
             Ok(batch) => Ok(batch),
-            Err(unfinished) => Err(Unserved::from(unfinished)),
+            Err(failure) => Err(unserved(failure)),
         }
     }
 
@@ -124,7 +127,7 @@ impl<S: Alter> SqlKeeper<S> {
             month,
         ) {
             Ok(row) => Ok(row),
-            Err(unfinished) => Err(Unserved::from(unfinished)),
+            Err(failure) => Err(unserved(failure)),
         }
     }
 }
@@ -132,7 +135,7 @@ impl<S: Alter> SqlKeeper<S> {
 impl<S: Alter> Keeper for SqlKeeper<S> {
     ghost use Rattle.sqlite.specs.Held.{state};
     ghost use Rattle.sqlite.specs.State.{HasCleanDisk};
-    ghost use Rattle.ee_store.specs.Serving.{HasContent};
+    ghost use Rattle.ee_store_lookups.specs.Seen.{HasContent};
 
     ghost has = { λ k content. HasContent (state S.Store k.conn) content };
 

@@ -1,7 +1,7 @@
--- A denomination's text reads back.
-use Rattle.std.proofs.Common.{◌≡◌, refl, Some}
+-- A denomination's text reads back, and so does its number of dollars.
+use Rattle.std.proofs.Common.{◌≡◌, ◌<◌, ◌^◌, refl, Some, lit<}
 use Rattle.std.specs.Fmt.{decimal, digits}
-use Rattle.ee_units.specs.Denoms.{dollars, denom_of}
+use Rattle.ee_units.specs.Denoms.{dollars, denom_of, denom_with}
 use Rattle.ee_units.specs.declared.denoms.Denom.{Denom}
 use Rattle.ee_units.specs.declared.denoms.Denom.TheVariants as denom
 
@@ -15,3 +15,23 @@ denom_back denom.FiveHundred = refl
 denom_back denom.Thousand = refl
 denom_back denom.FiveThousand = refl
 denom_back denom.TenThousand = refl
+
+pub denom_with-dollars : (d : Denom) → denom_with (dollars d) ≡ Some d
+denom_with-dollars denom.Fifty = refl
+denom_with-dollars denom.SeventyFive = refl
+denom_with-dollars denom.Hundred = refl
+denom_with-dollars denom.TwoHundred = refl
+denom_with-dollars denom.FiveHundred = refl
+denom_with-dollars denom.Thousand = refl
+denom_with-dollars denom.FiveThousand = refl
+denom_with-dollars denom.TenThousand = refl
+
+pub dollars_small : (d : Denom) → dollars d < 2 ^ 64
+dollars_small denom.Fifty = lit< tt
+dollars_small denom.SeventyFive = lit< tt
+dollars_small denom.Hundred = lit< tt
+dollars_small denom.TwoHundred = lit< tt
+dollars_small denom.FiveHundred = lit< tt
+dollars_small denom.Thousand = lit< tt
+dollars_small denom.FiveThousand = lit< tt
+dollars_small denom.TenThousand = lit< tt

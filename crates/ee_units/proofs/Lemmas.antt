@@ -1,14 +1,14 @@
 -- Lemmas that the proofs of crates above use.
-use Rattle.std.proofs.Common.{List, Result, Some, false, true, ℕ, ◌++◌, ◌<◌, ◌∷◌, ◌≡◌, ◌≤◌}
+use Rattle.std.proofs.Common.{List, Result, Some, false, true, ℕ, ◌++◌, ◌<◌, ◌^◌, ◌∷◌, ◌≡◌, ◌≤◌}
 use Rattle.std.specs.Char.{is_ascii_digit}
 use Rattle.std.specs.Fmt.{decimal}
 use Rattle.std.specs.Result.{result_ok}
 use Rattle.std.specs.Str.Parse.{ParsesUnsigned, digits_value}
 use Rattle.std.proofs.lemmas.Str.Parse.{IsNumeralModel}
-use Rattle.ee_units.specs.Denoms.{denom_of, dollars}
+use Rattle.ee_units.specs.Denoms.{denom_of, denom_with, dollars}
 use Rattle.ee_units.specs.Grammar.{IsDayText, WritesDigits, WritesNumber}
 use Rattle.ee_units.specs.Spelling.{SerialNumber, customer_of, day_of, digits_of, in_range, is_number, issue_of, number_of, parts_at, rate_of, serial_of}
-use Rattle.ee_units.specs.Texts.{day_text, month_text, rate_text, serial_text}
+use Rattle.ee_units.specs.Texts.{day_text, month_text, rate_text, serial_text, two_digits}
 use Rattle.ee_units.specs.declared.denoms.Denom.{Denom}
 use Rattle.ee_units.proofs.DayGrammar
 use Rattle.ee_units.proofs.DenomTexts
@@ -69,6 +69,22 @@ customer_back = ReadBack.customer_back
 -- the text of a denomination's dollars is read as that denomination
 pub denom_back : (d : Denom) → denom_of (decimal (dollars d)) ≡ Some d
 denom_back = DenomTexts.denom_back
+
+-- a denomination is the one of its dollars
+pub denom_with-dollars : (d : Denom) → denom_with (dollars d) ≡ Some d
+denom_with-dollars = DenomTexts.denom_with-dollars
+
+-- a denomination's dollars fit 64 bits
+pub dollars_small : (d : Denom) → dollars d < 2 ^ 64
+dollars_small = DenomTexts.dollars_small
+
+-- a number in a range is found there
+pub in_range_back : (low high n : ℕ) → low ≤ n → n ≤ high → in_range low high n ≡ Some n
+in_range_back = Numbers.in_range_back
+
+-- two digits write a number below 100
+pub two_digits-write : (n : ℕ) → n < 100 → WritesDigits 2 (two_digits n) n
+two_digits-write = ReadBack.two_fits
 
 -- what is read as a day is that day's text
 pub day_of-sound : (text : List ℕ) (n : ℕ) → day_of text ≡ Some n → IsDayText text n

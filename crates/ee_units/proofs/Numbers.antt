@@ -1,14 +1,13 @@
-use Rattle.std.proofs.Common.{◌≡◌, ℕ, ◌<◌, ◌≤◌, ◌^◌, true, List, length, Result, arith, rules, refl, lit<}
+-- Numbers of digits, and numbers in a range.
+use Rattle.std.proofs.Common.{◌≡◌, ℕ, ◌<◌, ◌≤◌, ◌^◌, true, List, length, Result, Some, IfSome, inl, inr, arith, rules, refl, lit<}
 use Rattle.std.specs.Char.{is_ascii_digit}
 use Rattle.std.specs.List.{list_all}
 use Rattle.std.specs.Result.{result_ok}
 use Rattle.std.specs.Str.Parse.{ParsesUnsigned, digits_value}
 use Rattle.std.proofs.lemmas.Str.Parse.{IsNumeralModel, numerals_by_value, parse_gives, digits_value_short}
-use Rattle.std.proofs.lemmas.Bool.{and_parts, leb-true}
+use Rattle.std.proofs.lemmas.Bool.{and_parts, leb-true, le-leb, cases_Bool}
 use Rattle.std.proofs.Math.Nat.{pow-le-pow_right}
-use Rattle.std.proofs.lemmas.Bool.{cases_Bool}
-use Rattle.std.proofs.Common.{inl, inr, IfSome}
-use Rattle.ee_units.specs.Spelling.{is_number, number_of}
+use Rattle.ee_units.specs.Spelling.{in_range, is_number, number_of}
 
 abbrev pub IsDigits : List ℕ → Type 0
 IsDigits ds = list_all is_ascii_digit ds ≡ true
@@ -23,6 +22,9 @@ number_facts most ds e =
     let p = and_parts _ _ e in
     let q = and_parts _ _ p.1 in
     (leb-true _ _ p.0, leb-true _ _ q.0, q.1)
+
+pub in_range_back : (low high n : ℕ) → low ≤ n → n ≤ high → in_range low high n ≡ Some n
+in_range_back low high n from to = rw (le-leb low n from, le-leb n high to) refl
 
 -- such a number is below 2 ^ 64, so it parses
 pub parsed : {E : Type 0} (most : ℕ) (bs : List ℕ) (r : Result ℕ E) → ParsesUnsigned 64 10 bs r → is_number most bs ≡ true → most < 19 → result_ok r ≡ number_of most bs

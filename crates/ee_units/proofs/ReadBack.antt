@@ -37,7 +37,7 @@ two_number n small =
       value = omega (arith, digits_value_push 10 (a ∷ []) b, digits_value_push 10 [] a, digit_value_digit a (la, ha), digit_value_digit b (lb, hb));
     }
 
-two_fits : (n : ℕ) → n < 100 → WritesDigits 2 (two_digits n) n
+pub two_fits : (n : ℕ) → n < 100 → WritesDigits 2 (two_digits n) n
 two_fits n small = record { long = refl; writes = two_number n small }
 
 -- a number with no leading zero

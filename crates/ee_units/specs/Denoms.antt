@@ -1,5 +1,5 @@
 -- The denominations of paper bonds (31 CFR Part 351; the unit is this project's rule).
-use Rattle.std.specs.Prelude.{ℕ, List, Option, Some, None, ◌*◌, codes, if◌then◌else◌}
+use Rattle.std.specs.Prelude.{ℕ, List, Option, Some, None, ◌*◌, ◌==◌, codes, if◌then◌else◌}
 use Rattle.std.specs.Str.{bytes_eq}
 use Rattle.ee_units.specs.declared.denoms.Denom.{Denom}
 use Rattle.ee_units.specs.declared.denoms.Denom.TheVariants as denom
@@ -14,6 +14,18 @@ dollars denom.FiveHundred = 500
 dollars denom.Thousand = 1000
 dollars denom.FiveThousand = 5000
 dollars denom.TenThousand = 10000
+
+-- the denomination of so many dollars
+abbrev pub denom_with : ℕ → Option Denom
+denom_with n = if n == 50 then Some denom.Fifty
+    else if n == 75 then Some denom.SeventyFive
+    else if n == 100 then Some denom.Hundred
+    else if n == 200 then Some denom.TwoHundred
+    else if n == 500 then Some denom.FiveHundred
+    else if n == 1000 then Some denom.Thousand
+    else if n == 5000 then Some denom.FiveThousand
+    else if n == 10000 then Some denom.TenThousand
+    else None
 
 -- its units: one for each 25 dollars of denomination, which is 12.50 dollars of issue price
 abbrev pub units_of : Denom → ℕ

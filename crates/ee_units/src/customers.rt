@@ -28,11 +28,13 @@ impl Model for Customer {
 
 impl Customer {
     /// The customer of that number, where it is in range.
-    pub const fn new(number: u32) -> Option<Customer>
+    pub const fn new(number: u64) -> Option<Customer>
         ensures { result ≡ in_range 1 999999999 number }
     {
         if 1 <= number && number <= 999_999_999 {
-            Some(Customer { number })
+            Some(Customer {
+                number: number as u32,
+            })
         } else {
             None
         }
@@ -87,12 +89,5 @@ impl FromStr for Customer {
 fn customer_in(text: &str) -> Option<Customer>
     ensures { result ≡ customer_of text.now }
 {
-    let number = number(text, 9)?;
-    if (1..=999_999_999).contains(&number) {
-        Some(Customer {
-            number: number as u32,
-        })
-    } else {
-        None
-    }
+    Customer::new(number(text, 9)?)
 }

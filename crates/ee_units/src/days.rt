@@ -32,11 +32,13 @@ impl Model for Day {
 
 impl Day {
     /// The day of that count from 1970-01-01, where it is in range.
-    pub const fn new(count: u32) -> Option<Day>
+    pub const fn new(count: u64) -> Option<Day>
         ensures { result ≡ in_range 12904 84005 count }
     {
         if 12_904 <= count && count <= 84_005 {
-            Some(Day { count })
+            Some(Day {
+                count: count as u32,
+            })
         } else {
             None
         }

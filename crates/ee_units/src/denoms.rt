@@ -18,9 +18,26 @@ pub enum Denom {
 
 ghost use Rattle.std.specs.Prelude.{◌≡◌};
 ghost use Rattle.std.specs.Option.{ok_or};
-ghost use Rattle.ee_units.specs.Denoms.{dollars, units_of, price_of, denom_of};
+ghost use Rattle.ee_units.specs.Denoms.{dollars, denom_with, units_of, price_of, denom_of};
 
 impl Denom {
+    /// The denomination of so many dollars, where bonds have it.
+    pub const fn with_dollars(dollars: u64) -> Option<Denom>
+        ensures { result ≡ denom_with dollars }
+    {
+        match dollars {
+            50 => Some(Denom::Fifty),
+            75 => Some(Denom::SeventyFive),
+            100 => Some(Denom::Hundred),
+            200 => Some(Denom::TwoHundred),
+            500 => Some(Denom::FiveHundred),
+            1000 => Some(Denom::Thousand),
+            5000 => Some(Denom::FiveThousand),
+            10000 => Some(Denom::TenThousand),
+            _ => None,
+        }
+    }
+
     /// The denomination in dollars.
     pub const fn dollars(self) -> u64
         ensures { result ≡ dollars self }

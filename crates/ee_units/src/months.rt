@@ -28,11 +28,13 @@ impl Model for Month {
 
 impl Month {
     /// The month of that count from 2005-05, where it is in range.
-    pub const fn new(count: u16) -> Option<Month>
+    pub const fn new(count: u64) -> Option<Month>
         ensures { result ≡ in_range 0 2335 count }
     {
         if count <= 2335 {
-            Some(Month { count })
+            Some(Month {
+                count: count as u16,
+            })
         } else {
             None
         }
@@ -136,11 +138,13 @@ impl Model for IssueMonth {
 
 impl IssueMonth {
     /// The month of that count from 2005-05, where it is in range.
-    pub const fn new(count: u16) -> Option<IssueMonth>
+    pub const fn new(count: u64) -> Option<IssueMonth>
         ensures { result ≡ in_range 0 1135 count }
     {
         if count <= 1135 {
-            Some(IssueMonth { count })
+            Some(IssueMonth {
+                count: count as u16,
+            })
         } else {
             None
         }
@@ -209,5 +213,5 @@ impl FromStr for IssueMonth {
 fn issue_in(text: &str) -> Option<IssueMonth>
     ensures { result ≡ issue_of text.now }
 {
-    IssueMonth::new(month_in(text)?.count)
+    IssueMonth::new(u64::from(month_in(text)?.count))
 }

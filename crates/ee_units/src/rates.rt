@@ -29,11 +29,13 @@ impl Model for Rate {
 
 impl Rate {
     /// The rate of so many hundredths of a percent, where it is in range.
-    pub const fn new(hundredths: u16) -> Option<Rate>
+    pub const fn new(hundredths: u64) -> Option<Rate>
         ensures { result ≡ in_range 0 2000 hundredths }
     {
         if hundredths <= 2000 {
-            Some(Rate { hundredths })
+            Some(Rate {
+                hundredths: hundredths as u16,
+            })
         } else {
             None
         }
@@ -97,8 +99,7 @@ impl FromStr for Rate {
 fn rate_in(text: &str) -> Option<Rate>
     ensures { result ≡ rate_of text.now }
 {
-    let hundredths = decimal(without_percent(text))?;
-    Rate::new(u16::try_from(hundredths).ok()?)
+    Rate::new(decimal(without_percent(text))?)
 }
 
 fn without_percent(text: &str) -> &str

@@ -46,11 +46,11 @@ impl Model for Serial {
 impl Serial {
     /// The serial of a letter, from 1 for A to 26 for Z, and a number, where both are in range.
     #[tactic(auto, unfolding(crate::specs::Spelling::serial_at))]
-    pub const fn new(letter: u8, number: u64) -> Option<Serial>
+    pub const fn new(letter: u64, number: u64) -> Option<Serial>
         ensures { result ≡ serial_at letter number }
     {
         if 1 <= letter && letter <= 26 && 1 <= number && number <= 9_999_999_999 {
-            Some(Serial::pack(letter, number))
+            Some(Serial::pack(letter as u8, number))
         } else {
             None
         }

@@ -3,9 +3,9 @@ use Rattle.std.proofs.Common.{◌≡◌, ℕ, Bool, true, false, List, [], ◌++
 use Rattle.std.specs.Prelude.{decimal}
 use Rattle.serde_json.specs.Written.{has_float}
 use Rattle.ee_device.specs.Written.{WritesFront}
-use Rattle.ee_calls.specs.declared.faults.Field.{Field}
-use Rattle.ee_calls.specs.declared.faults.WireFault.{WireFault}
-use Rattle.ee_calls.specs.Faults.{code_of, name_of}
+use Rattle.ee_wire_calls.specs.declared.faults.Field.{Field}
+use Rattle.ee_wire_calls.specs.declared.faults.WireFault.{WireFault}
+use Rattle.ee_wire_calls.specs.Faults.{code_of, name_of}
 use Rattle.ee_wire.specs.Heads.{line, status_line, kind_line, closing_line, head_text}
 use Rattle.serde_json.specs.Data.{string, object, member}
 use Rattle.ee_wire.specs.Answers.{number_data, fault_data, field_in, field_member}

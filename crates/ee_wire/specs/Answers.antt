@@ -9,15 +9,15 @@ use Rattle.ee_device.specs.Written.{WritesFront}
 use Rattle.ee_calculator.specs.Notes.{note_text}
 use Rattle.ee_calculator.specs.Sheets.{sheet_text}
 use Rattle.ee_calculator.specs.declared.rows.Row.{Row}
-use Rattle.ee_framing.specs.declared.FramingFault.TheVariants.{BadHead, HeadTooLong, BodyTooLong, BadLength, Truncated}
-use Rattle.ee_acts.specs.declared.replies.Reply.TheVariants as reply
-use Rattle.ee_acts.specs.declared.refusals.Unserved.{Unserved}
-use Rattle.ee_acts.specs.declared.refusals.Unserved.TheVariants as unserved
-use Rattle.ee_texts.specs.Texts.{reply_text}
-use Rattle.ee_calls.specs.Faults.{code_of, name_of, field_name}
-use Rattle.ee_calls.specs.declared.faults.Field.{Field}
-use Rattle.ee_calls.specs.declared.faults.WireFault.{WireFault}
-use Rattle.ee_calls.specs.declared.faults.WireFault.TheVariants as fault
+use Rattle.ee_wire_framing.specs.declared.FramingFault.TheVariants.{BadHead, HeadTooLong, BodyTooLong, BadLength, Truncated}
+use Rattle.ee_desk_acts.specs.declared.replies.Reply.TheVariants as reply
+use Rattle.ee_desk_acts.specs.declared.refusals.Unserved.{Unserved}
+use Rattle.ee_desk_acts.specs.declared.refusals.Unserved.TheVariants as unserved
+use Rattle.ee_desk_texts.specs.Texts.{reply_text}
+use Rattle.ee_wire_calls.specs.Faults.{code_of, name_of, field_name}
+use Rattle.ee_wire_calls.specs.declared.faults.Field.{Field}
+use Rattle.ee_wire_calls.specs.declared.faults.WireFault.{WireFault}
+use Rattle.ee_wire_calls.specs.declared.faults.WireFault.TheVariants as fault
 use Rattle.ee_wire.specs.Heads.{head_text}
 use Rattle.ee_wire.specs.declared.answers.Answer.{Answer}
 use Rattle.ee_wire.specs.declared.answers.Answer.TheVariants as answer

@@ -1,9 +1,9 @@
 ghost use Rattle.std.specs.Prelude.{◌≡◌};
 ghost use Rattle.ee_wire.specs.Answers.{status_of, kind_of, ends_connection};
 
-use ee_acts::{Batch, Reply, Ticket, Unserved};
 use ee_calculator::{Row, Sheet};
-use ee_calls::WireFault;
+use ee_desk_acts::{Batch, Reply, Ticket, Unserved};
+use ee_wire_calls::WireFault;
 use thiserror::Error;
 
 /// What a message is answered by.
@@ -57,7 +57,7 @@ pub enum Kind {
 
 ghost use Rattle.ee_wire.specs.Answers.{status_of_fault};
 
-use ee_framing::FramingFault;
+use ee_wire_framing::FramingFault;
 
 fn status_of_fault(fault: WireFault) -> Status
     ensures { result ≡ status_of_fault fault }

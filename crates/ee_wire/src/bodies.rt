@@ -3,15 +3,15 @@ ghost use Rattle.std.specs.Prelude.{◌≡◌, IfOk, string_bytes};
 ghost use Rattle.serde_json.specs.View.{view};
 ghost use Rattle.serde_json.specs.Written.{compact_text};
 ghost use Rattle.ee_calculator.specs.Sheets.{sheet_text};
-ghost use Rattle.ee_texts.specs.Texts.{reply_text};
+ghost use Rattle.ee_desk_texts.specs.Texts.{reply_text};
 ghost use Rattle.ee_wire.specs.Answers.{field_in, fault_data, fault_text, unserved_text, row_data, body_of};
 
 use crate::answers::Answer;
 use crate::rows::row_value;
-use ee_acts::{Reply, Unserved};
 use ee_calculator::{Row, Sheet, write_sheet};
-use ee_calls::{Field, WireFault};
-use ee_texts::reply_text;
+use ee_desk_acts::{Reply, Unserved};
+use ee_desk_texts::reply_text;
+use ee_wire_calls::{Field, WireFault};
 use serde_json::{Value, json};
 use std::alloc::{AllocError, Global};
 

@@ -6,9 +6,9 @@ ghost use Rattle.ee_wire.specs.declared.answers.WriteEnd.TheVariants as written;
 use crate::answers::{Answer, WriteEnd};
 use crate::bodies::body_bytes;
 use crate::heads::head_text;
-use ee_acts::Unserved;
-use ee_calls::WireFault;
+use ee_desk_acts::Unserved;
 use ee_device::write_whole;
+use ee_wire_calls::WireFault;
 use std::alloc::{AllocError, Global};
 use std::io::Write;
 

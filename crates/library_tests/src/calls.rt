@@ -1,5 +1,5 @@
 use crate::comparing::{same, shown};
-use ee_calls::{WireFault, decode};
+use ee_wire_calls::{WireFault, decode};
 use std::alloc::Global;
 use std::process::Abort;
 use std::test::Fail;

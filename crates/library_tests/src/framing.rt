@@ -1,5 +1,5 @@
 use crate::comparing::same;
-use ee_framing::{Buffer, Next, WireEnd, next_message};
+use ee_wire_framing::{Buffer, Next, WireEnd, next_message};
 use std::io::{self, ErrorKind, Read};
 use std::test::Fail;
 

@@ -1,8 +1,8 @@
 use crate::comparing::{same, shown};
-use ee_tables::{
-    Batch, Entry, Failure, Line, Rate, Serial, Ticket, UnpaidBond, add_batch, add_bond, add_rate,
-    add_reply, add_ticket, bonds_of_owner, day_tickets, find_batch, find_bond, find_desk,
-    find_rate, find_reply, find_ticket, first_ticket, last_ticket, pay_lines, set_day,
+use ee_store_tables::{
+    BatchRow, Failure, PaidRow, RateRow, ReplyRow, Serial, TicketRow, UnpaidBond, add_batch,
+    add_bond, add_rate, add_reply, add_ticket, bonds_of_owner, day_tickets, find_batch, find_bond,
+    find_desk, find_rate, find_reply, find_ticket, first_ticket, last_ticket, pay_lines, set_day,
     ticket_lines,
 };
 use sqlite::{Alter, Connection, Error, Transaction};
@@ -38,11 +38,11 @@ fn make_tables<S: Alter>(conn: &mut Connection<S>) -> Result<(), Error> {
 /// Rates and bonds; a second rate for a period and a second bond of a serial number change nothing.
 fn register<S: Alter>(tx: &mut Transaction<'_, S>) -> Result<(), Failure> {
     let rates = [
-        Rate {
+        RateRow {
             period: 60,
             rate: 350,
         },
-        Rate {
+        RateRow {
             period: 60,
             rate: 200,
         },
@@ -83,21 +83,21 @@ fn register<S: Alter>(tx: &mut Transaction<'_, S>) -> Result<(), Failure> {
 }
 
 /// A ticket of one bond, the batch of its day, and a reply.
-fn redeem<S: Alter>(tx: &mut Transaction<'_, S>, entry: &Entry) -> Result<(), Failure> {
-    let ticket = Ticket {
+fn redeem<S: Alter>(tx: &mut Transaction<'_, S>, entry: &ReplyRow) -> Result<(), Failure> {
+    let ticket = TicketRow {
         day: DAY,
         payee: 7,
         bonds: 1,
         total: 2974,
     };
     add_ticket(tx, 1, ticket)?;
-    let lines = [Line {
+    let lines = [PaidRow {
         letter: 1,
         number: 1,
         cents: 2974,
     }];
     pay_lines(tx, 1, 1, &lines)?;
-    let batch = Batch {
+    let batch = BatchRow {
         tickets: 1,
         bonds: 1,
         total: 9_223_372_036_854_775_807,
@@ -118,7 +118,7 @@ fn shows_register<S: Alter>(
     alloc: Global,
     tx: &mut Transaction<'_, S>,
 ) -> Result<(), Fail> {
-    let desk = "Ok(Some(Desk { version: 1, day: Some(16559), last_day: Some(16558) }))";
+    let desk = "Ok(Some(DeskRow { version: 1, day: Some(16559), last_day: Some(16558) }))";
     shows(rt, alloc, &find_desk(tx), desk)?;
     shows(rt, alloc, &find_rate(tx, 60), "Ok(Some(350))")?;
     shows(rt, alloc, &find_rate(tx, 66), "Ok(None)")
@@ -130,7 +130,8 @@ fn shows_bonds<S: Alter>(
     alloc: Global,
     tx: &mut Transaction<'_, S>,
 ) -> Result<(), Fail> {
-    let paid = "Ok(Some(Bond { denom: 50, issued: 60, owner: 7, coowner: None, ticket: Some(1) }))";
+    let paid =
+        "Ok(Some(BondRow { denom: 50, issued: 60, owner: 7, coowner: None, ticket: Some(1) }))";
     shows(rt, alloc, &find_bond(tx, A1), paid)?;
     let unpaid =
         "Ok([UnpaidBond { letter: 26, number: 9999999999, denom: 10000, issued: 60, owner: 7, coowner: Some(8) }])";
@@ -144,7 +145,7 @@ fn shows_tickets<S: Alter>(
     alloc: Global,
     tx: &mut Transaction<'_, S>,
 ) -> Result<(), Fail> {
-    let ticket = "Ok(Some(Ticket { day: 16559, payee: 7, bonds: 1, total: 2974 }))";
+    let ticket = "Ok(Some(TicketRow { day: 16559, payee: 7, bonds: 1, total: 2974 }))";
     shows(rt, alloc, &find_ticket(tx, 1), ticket)?;
     shows(rt, alloc, &first_ticket(tx, DAY), "Ok(Some(1))")?;
     shows(rt, alloc, &first_ticket(tx, DAY + 1), "Ok(None)")?;
@@ -161,7 +162,7 @@ fn shows_rest<S: Alter>(
 ) -> Result<(), Fail> {
     let placed = "Ok([PlacedLine { place: 1, letter: 1, number: 1, cents: 2974 }])";
     shows(rt, alloc, &ticket_lines(tx, alloc, 1), placed)?;
-    let batch = "Ok(Some(Batch { tickets: 1, bonds: 1, total: 9223372036854775807 }))";
+    let batch = "Ok(Some(BatchRow { tickets: 1, bonds: 1, total: 9223372036854775807 }))";
     shows(rt, alloc, &find_batch(tx, DAY), batch)?;
     match find_reply(tx, 9_223_372_036_854_775_807) {
         Ok(Some(entry)) => same(rt, entry.reply.as_str(), "paid", "reply"),
@@ -178,7 +179,7 @@ fn a_ticket_is_written_and_looked_up(rt: HostRuntime) -> Result<(), Fail> {
     if !conn.is_autocommit() {
         return Err("a transaction was begun".into());
     }
-    let entry = Entry {
+    let entry = ReplyRow {
         act: String::from_str(alloc, "redeem")?,
         reply: String::from_str(alloc, "paid")?,
     };

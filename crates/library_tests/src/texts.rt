@@ -2,7 +2,7 @@
 //! written by hand from the rules for texts.
 
 use crate::comparing::{same, shown};
-use ee_texts::{canonical, read_act, read_reply, reply_text};
+use ee_desk_texts::{canonical, read_act, read_reply, reply_text};
 use std::test::Fail;
 
 /// The canonical text of each act, and the act as `Debug` shows it.

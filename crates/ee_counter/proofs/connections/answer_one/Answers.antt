@@ -1,6 +1,6 @@
 use Rattle.std.proofs.Common.{◌∙◌, refl, sym, subst, List, ℕ, Some, Err}
 use Rattle.std.specs.Io.KnownBytes.{Appends}
-use Rattle.ee_framing.specs.Reading.{message_in}
+use Rattle.ee_wire_framing.specs.Reading.{message_in}
 use Rattle.ee_wire.specs.Answers.{answer_text, WritesAnswer}
 use Rattle.ee_wire.specs.declared.answers.WriteEnd.{WriteEnd}
 use Rattle.ee_counter.specs.Serving.{CutsShort, tells_failure}

@@ -1,4 +1,4 @@
-use Rattle.ee_framing.specs.Reading.{message_in}
+use Rattle.ee_wire_framing.specs.Reading.{message_in}
 use Rattle.ee_counter.proofs.Right.{of_parts}
 use Rattle.ee_counter.proofs.connections.answer_to.Goals as goal
 

@@ -1,6 +1,6 @@
 use Rattle.ee_counter.proofs.Turns.{none_told, serves_ended, serves_limit, turn_more}
 use Rattle.std.proofs.Common.{ap, arith, rules}
-use Rattle.ee_framing.specs.Stream.{Stream}
+use Rattle.ee_wire_framing.specs.Stream.{Stream}
 use Rattle.ee_counter.proofs.connections.serve.Goals as goal
 
 pub loop-messages-init : goal.loop-messages-init

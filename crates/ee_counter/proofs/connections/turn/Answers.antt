@@ -1,7 +1,7 @@
 use Rattle.std.proofs.Common.{subst, Ok, Err}
-use Rattle.ee_framing.specs.declared.buffer.Next.{Next}
-use Rattle.ee_framing.specs.declared.buffer.WireEnd.{WireEnd}
-use Rattle.ee_framing.specs.Reading.{Settles}
+use Rattle.ee_wire_framing.specs.declared.buffer.Next.{Next}
+use Rattle.ee_wire_framing.specs.declared.buffer.WireEnd.{WireEnd}
+use Rattle.ee_wire_framing.specs.Reading.{Settles}
 use Rattle.ee_counter.proofs.Turns.{turn_closed, turn_failed, turn_refused, turn_starved, turn_told}
 use Rattle.ee_counter.proofs.connections.turn.Goals as goal
 

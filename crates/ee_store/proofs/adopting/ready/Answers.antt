@@ -1,17 +1,17 @@
 use Rattle.std.proofs.Common.{rules, ◌≡◌, ◌≢◌, inr, IsTrue, IfErr, subst}
 use Rattle.sqlite.specs.Held.{state}
-use Rattle.ee_tables.specs.Rows.{Rows, Has}
-use Rattle.ee_tables.proofs.Lemmas.Transactions.{on_err_from}
+use Rattle.ee_store_tables.specs.Rows.{Rows, Has}
+use Rattle.ee_store_tables.proofs.Lemmas.Transactions.{on_err_from}
 use Rattle.std.proofs.lemmas.Result.{IfOk-weaker}
-use Rattle.ee_opening.specs.declared.making.OpenFault.TheVariants.{WrongVersion, Unusable}
-use Rattle.ee_opening.specs.Making.{IsBlank}
-use Rattle.ee_opening.specs.Whole as whole
-use Rattle.ee_opening.specs.Opening.{IsOtherVersion, AreReadable}
-use Rattle.ee_contents.specs.Standing.{rows_of}
+use Rattle.ee_store_opening.specs.declared.making.OpenFault.TheVariants.{WrongVersion, Unusable}
+use Rattle.ee_store_opening.specs.Making.{IsBlank}
+use Rattle.ee_store_opening.specs.Whole as whole
+use Rattle.ee_store_opening.specs.Opening.{IsOtherVersion, AreReadable}
+use Rattle.ee_store_contents.specs.Standing.{rows_of}
 use Rattle.ee_store.proofs.Opened.{begins, begun_or, begun_survives, keeps_content, has_some, stood_for_none, of_version, keeps_world, if_ok, err_then, both_then}
 use Rattle.ee_store.proofs.Meeting.{goes_on, begins_world, of_no_other, stays_stopped}
-use Rattle.ee_store.proofs.Readable.{readable}
-use Rattle.ee_store.proofs.RoomAfter.{opened_room}
+use Rattle.ee_store_contents.proofs.Lemmas.{readable}
+use Rattle.ee_store.proofs.OpenedRoom.{opened_room}
 use Rattle.ee_store.proofs.adopting.ready.Goals as goal
 
 pub returns-in_err-all-clause-kept : goal.returns-in_err-all-clause-kept

@@ -1,6 +1,6 @@
 use Rattle.std.proofs.Common.{ap, sym, ◌∙◌, map, Some}
 use Rattle.std.specs.List.{filter_map}
-use Rattle.ee_acts.specs.Queries.{row_of, bonds_of, sheet_of, sheet_in}
+use Rattle.ee_desk_acts.specs.Queries.{row_of, bonds_of, sheet_of, sheet_in}
 use Rattle.ee_desk.proofs.SheetRows.{sheet_is}
 use Rattle.ee_desk.proofs.EveryRow.{every_row}
 use Rattle.ee_desk.proofs.books.Books.inventory.Goals as goal

@@ -1,7 +1,7 @@
 use Rattle.std.proofs.Common.{[], ◌∷◌, inl, inr}
 use Rattle.sqlite.specs.Held.{state}
-use Rattle.ee_acts.specs.Contents.{content_after}
-use Rattle.ee_store.proofs.Transactions.{stands_committed}
+use Rattle.ee_desk_acts.specs.Contents.{content_after}
+use Rattle.ee_store_lookups.proofs.Lemmas.{stands_committed}
 use Rattle.ee_store.proofs.Following.{follows_decided}
 use Rattle.ee_store.proofs.History.{goes_decided, goes_lost, goes_unserved}
 use Rattle.ee_store.proofs.keeper.SqlKeeper.deliver.Goals as goal

@@ -1,0 +1,126 @@
+-- One connection more.
+use Rattle.std.proofs.Common.{◌≡◌, ◌⊎◌, ◌||◌, Bool, true, false, ℕ, ◌+◌, ◌≤◌, List, [], ◌∷◌, ◌++◌, length, Option, Some, None, Result, Err, refl, sym, ap, subst, ◌∙◌, arith, append_assoc, append-nil, length-append, inl, inr}
+use Rattle.std.specs.Io.KnownBytes.{Appends}
+use Rattle.std.proofs.KnownBytes.{Appends-trans}
+use Rattle.ee_desk_acts.specs.Repeats.{Content}
+use Rattle.ee_counter.specs.declared.connections.Ended.{Ended}
+use Rattle.ee_counter.specs.declared.connections.Why.{Why}
+use Rattle.ee_counter.specs.declared.connections.Why.TheVariants.{Closed, Asked, Limit, Fault, ReadFailed, WriteFailed, NoMemory}
+use Rattle.ee_counter.specs.Serving.{EndsBy, Told, left_by, left_by_all}
+use Rattle.ee_cli_actions.specs.Connections.{EndsWithFailure, PrintsLines, ServesEach, ServesSocket, WritesSome, any_failed}
+use Rattle.ee_cli_actions.specs.declared.faults.Outcome.{Outcome}
+use Rattle.ee_cli_actions.specs.declared.faults.RunFault.{RunFault}
+use Rattle.ee_cli_actions.specs.declared.faults.RunFault.TheVariants.{Device}
+use Rattle.ee_cli_actions.specs.declared.faults.RunFault.TheVariants as fault
+use Rattle.ee_cli_actions.specs.Printed.{connection_line, connection_lines}
+
+-- a connection leaves one content
+ends_at : (why : Why) (last : Option Told) (bytes : List ℕ) (left old new : Option (List ℕ)) (c : Content) (n count : ℕ) (Has : Content → Type 0)
+    → EndsBy why last bytes left old new c n count Has → (d : Content) × EndsBy why last bytes left old new c n count (λ now. now ≡ d) × Has d
+ends_at Closed None bytes left old new c n count Has e = (c, (e.0, e.1, e.2, e.3, refl), e.4)
+ends_at Closed (Some t) bytes left old new c n count Has e = absurd e
+ends_at Asked None bytes left old new c n count Has e = absurd e
+ends_at Asked (Some t) bytes left old new c n count Has e = (left_by c t, ((e.0.0, e.0.1, refl), e.1, e.2, e.3), e.0.2)
+ends_at Limit None bytes left old new c n count Has e = (c, (e.0, e.1, e.2, refl), e.3)
+ends_at Limit (Some t) bytes left old new c n count Has e = absurd e
+ends_at (Fault f) None bytes left old new c n count Has e = (c, (e.0, e.1, e.2, refl), e.3)
+ends_at (Fault f) (Some t) bytes left old new c n count Has e = absurd e
+ends_at ReadFailed None bytes left old new c n count Has e = (c, (e.0, e.1, e.2, refl), e.3)
+ends_at ReadFailed (Some t) bytes left old new c n count Has e = absurd e
+ends_at NoMemory None bytes left old new c n count Has e = (c, (e.0, e.1, e.2, refl), e.3)
+ends_at NoMemory (Some t) bytes left old new c n count Has e = (left_by c t, (e.0, e.1, (e.2.0, e.2.1, refl)), e.2.2)
+ends_at WriteFailed None bytes left old new c n count Has e = (c, (e.0, e.1, refl), e.2)
+ends_at WriteFailed (Some t) bytes left old new c n count Has e = (left_by c t, (e.0, (e.1.0, e.1.1, refl), e.2), e.1.2)
+
+serves_at : (c : Content) (e : Ended) (Has : Content → Type 0) → ServesSocket c e Has → (d : Content) × ServesSocket c e (λ left. left ≡ d) × Has d
+serves_at c e Has s =
+    let x = ends_at e.why s.ends.0 s.rest None s.wrote None (left_by_all c s.told) (length s.told) e.messages Has s.ends.2 in
+    (x.0, record { bytes = s.bytes; read = s.read; told = s.told; few = s.few; rest = s.rest; wrote = s.wrote; so_far = s.so_far; ends = (s.ends.0, s.ends.1, x.1) }, x.2)
+
+or_false : (b : Bool) → (b || false) ≡ b
+or_false true = refl
+or_false false = refl
+
+first_false : (a b : Bool) → (a || b) ≡ false → a ≡ false
+first_false true b none = none
+first_false false b none = refl
+
+second_false : (a b : Bool) → (a || b) ≡ false → b ≡ false
+second_false true b none = absurd (cc)
+second_false false b none = none
+
+pub each_more : (c : Content) (es : List Ended) (e : Ended) (Has After : Content → Type 0)
+    → ServesEach c es Has → ((d : Content) → Has d → ServesSocket d e After) → ServesEach c (es ++ e ∷ []) After
+each_more c [] e Has After has next = serves_at c e After (next c has)
+each_more c (x ∷ es) e Has After each next = (each.0, each.1, each_more each.0 es e Has After each.2 next)
+
+-- no connection more
+pub each_yet : (c : Content) (es : List Ended) (Has After : Content → Type 0)
+    → ServesEach c es Has → ((d : Content) → Has d → After d) → ServesEach c es After
+each_yet c [] Has After has stays = stays c has
+each_yet c (x ∷ es) Has After each stays = (each.0, each.1, each_yet each.0 es Has After each.2 stays)
+
+assoc : (a b c : List ℕ) → a ++ (b ++ c) ≡ (a ++ b) ++ c
+assoc a b c = simp append_assoc
+
+lines_after : (n : ℕ) (es : List Ended) (e : Ended) → connection_lines n (es ++ e ∷ []) ≡ connection_lines n es ++ connection_line (n + length es + 1) e
+lines_after n [] e = let same : n + 1 ≡ n + 0 + 1 = omega arith in append-nil (connection_line (n + 1) e) ∙ ap (λ k. connection_line k e) same
+lines_after n (x ∷ es) e =
+    let same : n + 1 + length es + 1 ≡ n + length (x ∷ es) + 1 = omega arith in
+    ap (λ r. connection_line (n + 1) x ++ r) (lines_after (n + 1) es e)
+    ∙ assoc (connection_line (n + 1) x) (connection_lines (n + 1) es) (connection_line (n + 1 + length es + 1) e)
+    ∙ ap (λ k. (connection_line (n + 1) x ++ connection_lines (n + 1) es) ++ connection_line k e) same
+
+pub lines_more : (es : List Ended) (e : Ended) (n : ℕ) → length es ≡ n → connection_lines 0 (es ++ e ∷ []) ≡ connection_lines 0 es ++ connection_line (n + 1) e
+lines_more es e n is =
+    let same : 0 + length es + 1 ≡ n + 1 = omega (arith, is) in
+    lines_after 0 es e ∙ ap (λ k. connection_lines 0 es ++ connection_line k e) same
+
+pub count_more : (es : List Ended) (e : Ended) (n : ℕ) → length es ≡ n → length (es ++ e ∷ []) ≡ n + 1
+count_more es e n is = omega (arith, length-append es (e ∷ []), is)
+
+-- one line more was printed
+pub printed_more : (old mid new : Option (List ℕ)) (es : List Ended) (e : Ended) (n : ℕ) → length es ≡ n
+    → Appends old mid (connection_lines 0 es) → Appends mid new (connection_line (n + 1) e) → Appends old new (connection_lines 0 (es ++ e ∷ []))
+printed_more old mid new es e n is a b = subst (Appends old new) (sym (lines_more es e n is)) (Appends-trans old mid new _ _ a b)
+
+-- and one that was cut
+pub printed_cut : (old mid new : Option (List ℕ)) (es : List Ended) (e : Ended) (n : ℕ) → length es ≡ n
+    → Appends old mid (connection_lines 0 es) → WritesSome mid new (connection_line (n + 1) e) → WritesSome old new (connection_lines 0 (es ++ e ∷ []))
+printed_cut old mid new es e n is a w = record {
+  front = connection_lines 0 es ++ w.front;
+  rest = w.rest;
+  parts = lines_more es e n is ∙ ap (λ x. connection_lines 0 es ++ x) w.parts ∙ assoc (connection_lines 0 es) w.front w.rest;
+  written = Appends-trans old mid new _ _ a w.written;
+}
+
+-- where a device or memory failed
+pub lines_failed : (most : ℕ) (old new : Option (List ℕ)) (es : List Ended) (r : Result Outcome RunFault) (cause told : RunFault)
+    → r ≡ Err cause → cause ≡ told → (told ≡ Device) ⊎ (told ≡ fault.NoMemory)
+    → length es ≤ most → WritesSome old new (connection_lines 0 es) → PrintsLines most old new es r
+lines_failed most old new es r cause told is same (inl device) few some = subst (PrintsLines most old new es) (sym (is ∙ ap Err (same ∙ device))) (few, some)
+lines_failed most old new es r cause told is same (inr memory) few some = subst (PrintsLines most old new es) (sym (is ∙ ap Err (same ∙ memory))) (few, some)
+
+-- all of a text is a front of it
+pub some_of : (old new : Option (List ℕ)) (text : List ℕ) → Appends old new text → WritesSome old new text
+some_of old new text a = record { front = text; rest = []; parts = sym (append-nil text); written = a }
+
+-- ---- whether the store failed
+
+pub failed_more : (es : List Ended) (e : Ended) → any_failed es ≡ false → any_failed (es ++ e ∷ []) ≡ e.store_failed
+failed_more [] e none = or_false e.store_failed
+failed_more (x ∷ es) e none =
+    ap (λ b. b || any_failed (es ++ e ∷ [])) (first_false x.store_failed (any_failed es) none) ∙ failed_more es e (second_false x.store_failed (any_failed es) none)
+
+-- no connection is served after one on which it did
+pub until_more : (es : List Ended) (e : Ended) → any_failed es ≡ false → EndsWithFailure (es ++ e ∷ [])
+until_more [] e none = tt
+until_more (x ∷ []) e none = (first_false x.store_failed false none, tt)
+until_more (x ∷ y ∷ es) e none =
+    (first_false x.store_failed (any_failed (y ∷ es)) none, until_more (y ∷ es) e (second_false x.store_failed (any_failed (y ∷ es)) none))
+
+pub until_none : (es : List Ended) → any_failed es ≡ false → EndsWithFailure es
+until_none [] none = tt
+until_none (x ∷ []) none = tt
+until_none (x ∷ y ∷ es) none =
+    (first_false x.store_failed (any_failed (y ∷ es)) none, until_none (y ∷ es) (second_false x.store_failed (any_failed (y ∷ es)) none))

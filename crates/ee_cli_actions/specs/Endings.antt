@@ -1,0 +1,58 @@
+-- How a command ends, by what it met.
+use Rattle.std.specs.Prelude.{◌≡◌, Result, Ok, Err, if◌then◌else◌}
+use Rattle.ee_value.specs.declared.faults.ValueFault.{ValueFault}
+use Rattle.ee_value.specs.declared.faults.ValueFault.TheVariants as value
+use Rattle.ee_desk_acts.specs.declared.refusals.Unserved.{Unserved}
+use Rattle.ee_desk_acts.specs.declared.refusals.Unserved.TheVariants as unserved
+use Rattle.ee_desk_acts.specs.declared.replies.Reply.{Reply}
+use Rattle.ee_desk_acts.specs.declared.replies.Reply.TheVariants as reply
+use Rattle.ee_counter.specs.declared.connections.Ended.{Ended}
+use Rattle.ee_counter.specs.declared.connections.Why.{Why}
+use Rattle.ee_counter.specs.declared.connections.Why.TheVariants as why
+use Rattle.ee_counter.specs.declared.files.ImportFault.{ImportFault}
+use Rattle.ee_counter.specs.declared.files.ImportFault.TheVariants as import
+use Rattle.ee_cli_actions.specs.declared.faults.Outcome.{Outcome}
+use Rattle.ee_cli_actions.specs.declared.faults.Outcome.TheVariants.{Done, Refused, Unsettled}
+use Rattle.ee_cli_actions.specs.declared.faults.StoreFault.TheVariants.{StoreFailed}
+use Rattle.ee_cli_actions.specs.declared.faults.RunFault.{RunFault}
+use Rattle.ee_cli_actions.specs.declared.faults.RunFault.TheVariants as fault
+
+-- how a command ends that asks for a value of which there is no table
+abbrev pub ending_of_value : ValueFault → Result Outcome RunFault
+ending_of_value (value.Unsettled month) = Ok (Unsettled month)
+ending_of_value value.NoMemory = Err fault.NoMemory
+
+abbrev pub fault_of_unserved : Unserved → RunFault
+fault_of_unserved unserved.NoMemory = fault.NoMemory
+fault_of_unserved unserved.StoreFailed = fault.Store StoreFailed
+
+abbrev pub fault_of_import : ImportFault → RunFault
+fault_of_import (import.File cause) = fault.File cause
+fault_of_import (import.Unserved cause) = fault_of_unserved cause
+
+-- a refusal was the reply, or something else
+abbrev pub outcome_of : Reply → Outcome
+outcome_of (reply.Added new same) = Done
+outcome_of (reply.Opened day) = Done
+outcome_of (reply.Ticket ticket) = Done
+outcome_of (reply.Batch batch) = Done
+outcome_of (reply.Refused refusal) = Refused
+
+-- how serving one connection ends a command whose answers don't tell that the store failed: a framing fault was answered,
+-- and is a refusal
+abbrev pub ending_by : Why → Result Outcome RunFault
+ending_by why.Closed = Ok Done
+ending_by why.Asked = Ok Done
+ending_by why.Limit = Ok Done
+ending_by (why.Fault cause) = Ok Refused
+ending_by why.ReadFailed = Err fault.Device
+ending_by why.WriteFailed = Err fault.Device
+ending_by why.NoMemory = Err fault.NoMemory
+
+-- where an answer told that the store failed, the command ends by that
+abbrev pub ending_of : Ended → Result Outcome RunFault
+ending_of e = if e.store_failed then Err (fault.Store StoreFailed) else ending_by e.why
+
+-- it is told that the store failed only where that may be
+abbrev pub TellsFailureOnlyIf : Type 0 → Result Outcome RunFault → Type 0
+TellsFailureOnlyIf may_fail result = result ≡ Err (fault.Store StoreFailed) → may_fail

@@ -1,0 +1,54 @@
+-- What commands print.
+use Rattle.std.specs.Prelude.{ℕ, ◌+◌, List, [], ◌∷◌, ◌++◌, codes}
+use Rattle.std.specs.Fmt.{decimal}
+use Rattle.ee_units.specs.Texts.{decimal_text}
+use Rattle.ee_units.specs.Denoms.{units_of}
+use Rattle.ee_units.specs.declared.denoms.Denom.{Denom}
+use Rattle.ee_calculator.specs.Notes.{note_text}
+use Rattle.ee_calculator.specs.Rows.{columns_of}
+use Rattle.ee_calculator.specs.declared.notes.Note.{Note}
+use Rattle.ee_desk_acts.specs.declared.replies.Reply.{Reply}
+use Rattle.ee_desk_texts.specs.Texts.{reply_text}
+use Rattle.ee_wire_calls.specs.Faults.{code_of}
+use Rattle.ee_wire_calls.specs.declared.faults.WireFault.TheVariants.{Framing}
+use Rattle.ee_counter.specs.declared.connections.Ended.{Ended}
+use Rattle.ee_counter.specs.declared.connections.Why.{Why}
+use Rattle.ee_counter.specs.declared.connections.Why.TheVariants as why
+
+-- a space and the note, where there is one
+abbrev pub noted : List ℕ → List ℕ
+noted [] = []
+noted (b ∷ bs) = 32 ∷ b ∷ bs
+
+-- an amount of cents and a note, on a line
+abbrev pub line_of : ℕ → Note → List ℕ
+line_of cents note = decimal_text cents ++ (noted (note_text note) ++ 10 ∷ [])
+
+-- the line of a bond's value in a month, of its denomination, issue month and fixed rate
+abbrev pub value_line : Denom → ℕ → ℕ → ℕ → List ℕ
+value_line denom issued month rate =
+    let shown = columns_of (units_of denom) issued (record { fixed = rate }) month in line_of shown.value shown.note
+
+-- the text of a reply, on a line
+abbrev pub reply_line : Reply → List ℕ
+reply_line reply = reply_text reply ++ 10 ∷ []
+
+-- why serving a connection ended; a framing fault by its code
+abbrev pub why_text : Why → List ℕ
+why_text why.Closed = codes "Closed"
+why_text why.Asked = codes "Asked"
+why_text why.Limit = codes "Limit"
+why_text (why.Fault cause) = codes "Fault " ++ decimal (code_of (Framing cause))
+why_text why.ReadFailed = codes "ReadFailed"
+why_text why.WriteFailed = codes "WriteFailed"
+why_text why.NoMemory = codes "NoMemory"
+
+-- `connection I: M messages, WHY`, on a line
+abbrev pub connection_line : ℕ → Ended → List ℕ
+connection_line number e =
+    codes "connection " ++ (decimal number ++ (codes ": " ++ (decimal e.messages ++ (codes " messages, " ++ (why_text e.why ++ 10 ∷ [])))))
+
+-- the lines of connections after n others
+abbrev pub connection_lines : ℕ → List Ended → List ℕ
+connection_lines n [] = []
+connection_lines n (e ∷ es) = connection_line (n + 1) e ++ connection_lines (n + 1) es

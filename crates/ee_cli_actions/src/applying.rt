@@ -1,0 +1,46 @@
+//! The command `apply`.
+
+ghost use Rattle.std.specs.Prelude.{◌≡◌};
+ghost use Rattle.ee_desk_acts.specs.Repeats.{Content};
+ghost use Rattle.ee_cli_actions.specs.Actions.{Applies};
+ghost use Rattle.ee_cli_actions.specs.Endings.{TellsFailureOnlyIf, ending_of};
+
+use crate::faults::{Outcome, RunFault, StoreFault};
+use ee_counter::{Ended, Why, serve};
+use ee_keeper::Keeper;
+use std::alloc::Global;
+use std::io::{Read, Write};
+
+/// Serves the input as one connection, and writes the answers to the output. It is done where the input
+/// ends between two messages, where a message asks to close, and after 1,000 messages; it is refused where
+/// the bytes are no message, which is answered. Where an answer told that the store failed it is
+/// `StoreFailed`, however serving ended. Else, where a device failed it is `Device`, and where memory was
+/// refused `NoMemory`: the last message may then have been decided without a whole answer.
+pub fn apply_to<K: Keeper, R: Read, W: Write>(
+    alloc: Global,
+    keeper: &mut K,
+    input: &mut R,
+    output: &mut W,
+) -> Result<Outcome, RunFault>
+    ensures clean { K.is_clean keeper.new → K.is_clean keeper.old }
+    ensures applies { K.is_clean keeper.new → (c : Content) → K.has keeper.old c
+        → Applies (R.remaining input.old) (R.remaining input.new) (W.contents output.old) (W.contents output.new) c result (K.has keeper.new) }
+    ensures failed { TellsFailureOnlyIf K.may_fail result }
+{
+    let ended = serve(alloc, keeper, input, output);
+    ending(ended)
+}
+
+fn ending(ended: Ended) -> Result<Outcome, RunFault>
+    ensures { result ≡ ending_of ended }
+{
+    if ended.store_failed {
+        return Err(RunFault::Store(StoreFault::StoreFailed));
+    }
+    match ended.why {
+        Why::Closed | Why::Asked | Why::Limit => Ok(Outcome::Done),
+        Why::Fault(_) => Ok(Outcome::Refused),
+        Why::ReadFailed | Why::WriteFailed => Err(RunFault::Device),
+        Why::NoMemory => Err(RunFault::NoMemory),
+    }
+}

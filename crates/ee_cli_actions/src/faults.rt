@@ -1,0 +1,78 @@
+//! How a command ends.
+
+ghost use Rattle.std.specs.Prelude.{◌≡◌};
+ghost use Rattle.ee_cli_actions.specs.Endings.{fault_of_unserved};
+
+use ee_desk_acts::Unserved;
+use ee_files::FileFault;
+use ee_units::Age;
+use std::alloc::AllocError;
+use thiserror::Error;
+
+/// How a command ended that was carried out.
+#[derive(Clone, Copy, Debug, PartialEq, Eq)]
+pub enum Outcome {
+    /// It was done.
+    Done,
+    /// The answer was a refusal.
+    Refused,
+    /// The precision doesn't settle the value; this is the least age at which it doesn't.
+    Unsettled(Age),
+}
+
+/// Why a store doesn't serve. Its text is its name.
+#[derive(Clone, Copy, Debug, PartialEq, Eq, Error)]
+pub enum StoreFault {
+    /// The store failed, or it isn't one.
+    #[error("StoreFailed")]
+    StoreFailed,
+    /// Its tables are of another version.
+    #[error("WrongVersion")]
+    WrongVersion,
+    /// Its rows stand for no books.
+    #[error("Unusable")]
+    Unusable,
+    /// Its log was not written back. What was decided stands, in the file and the log together.
+    #[error("NotWrittenBack")]
+    NotWrittenBack,
+}
+
+/// Why a command was not carried out.
+#[derive(Clone, Copy, Debug, PartialEq, Eq, Error)]
+pub enum RunFault {
+    /// The file has a fault, or wasn't read. Nothing was delivered.
+    #[error("file: {0}")]
+    File(FileFault),
+    /// The store didn't serve, and nothing has changed; or it was not written back.
+    #[error("store: {0}")]
+    Store(StoreFault),
+    /// Reading or writing failed, or a file or a socket wasn't opened.
+    #[error("input or output failed")]
+    Device,
+    /// A growth was refused.
+    #[error("no memory")]
+    NoMemory,
+}
+
+impl RunFault {
+    /// The fault of a request or a query that wasn't served.
+    pub fn of_unserved(cause: Unserved) -> RunFault
+        ensures { result ≡ fault_of_unserved cause }
+    {
+        match cause {
+            Unserved::NoMemory => RunFault::NoMemory,
+            Unserved::StoreFailed => RunFault::Store(StoreFault::StoreFailed),
+        }
+    }
+}
+
+impl From<AllocError> for RunFault {
+    ghost use Rattle.std.specs.Prelude.{◌≡◌};
+    ghost use Rattle.ee_cli_actions.specs.declared.faults.RunFault.TheVariants.{NoMemory};
+
+    ghost from_gives = { λ _ fault. fault ≡ NoMemory };
+
+    fn from(_error: AllocError) -> RunFault {
+        RunFault::NoMemory
+    }
+}

@@ -1,0 +1,122 @@
+//! The commands `import` and `export`.
+
+ghost use Rattle.std.specs.Prelude.{◌≡◌, ◌++◌, ◌∷◌, [], Ok, Err, IfOk, IfErr, string_bytes};
+ghost use Rattle.ee_desk_acts.specs.Repeats.{Content};
+ghost use Rattle.ee_desk_acts.specs.declared.refusals.Unserved.TheVariants.{StoreFailed};
+ghost use Rattle.ee_cli_actions.specs.Actions.{ExportsFrom, ImportsFile, ImportsInto, TellsReply};
+ghost use Rattle.ee_cli_actions.specs.Endings.{TellsFailureOnlyIf, outcome_of};
+ghost use Rattle.ee_cli_actions.specs.Printed.{reply_line};
+ghost use Rattle.ee_cli_actions.specs.declared.faults.StoreFault.TheVariants as store;
+ghost use Rattle.ee_cli_actions.specs.declared.faults.RunFault.TheVariants.{Store};
+
+use crate::faults::{Outcome, RunFault};
+use crate::printing::print;
+use ee_cli_commands::FileKind;
+use ee_counter::{ExportFault, ImportFault, export_inventory, import_inventory, import_rates};
+use ee_desk_acts::{Number, Reply};
+use ee_desk_texts::reply_text;
+use ee_keeper::Keeper;
+use ee_units::Customer;
+use std::alloc::{AllocError, Global};
+use std::io::{Read, Write};
+
+/// Imports a file of that kind as one request under the number, and prints the reply's text on a line; it
+/// is refused where the reply is a refusal. Where the file has a fault nothing was delivered. Where the
+/// output failed, or memory was refused to the reply's text, the request was delivered: the same line
+/// gives its reply again.
+pub fn import_into<K: Keeper, R: Read, W: Write>(
+    alloc: Global,
+    keeper: &mut K,
+    kind: FileKind,
+    number: Number,
+    file: &mut R,
+    output: &mut W,
+) -> Result<Outcome, RunFault>
+    ensures clean { K.is_clean keeper.new → K.is_clean keeper.old }
+    ensures imports { K.is_clean keeper.new → (c : Content) → K.has keeper.old c
+        → ImportsInto kind (R.remaining file.old) (W.contents output.old) (W.contents output.new) number c result (K.has keeper.new) }
+    ensures failed { TellsFailureOnlyIf K.may_fail result }
+{
+    let answer = import_file(alloc, keeper, kind, number, file);
+    tell(alloc, answer, output)
+}
+
+fn import_file<K: Keeper, R: Read>(
+    alloc: Global,
+    keeper: &mut K,
+    kind: FileKind,
+    number: Number,
+    file: &mut R,
+) -> Result<Reply, ImportFault>
+    ensures clean { K.is_clean keeper.new → K.is_clean keeper.old }
+    ensures imports { K.is_clean keeper.new → (c : Content) → K.has keeper.old c
+        → ImportsFile kind (R.remaining file.old) number c result (K.has keeper.new) }
+    ensures failed { IfErr result (λ fault. fault ≡ ImportFault.Unserved StoreFailed → K.may_fail) }
+{
+    match kind {
+        FileKind::Rates => import_rates(alloc, keeper, number, file),
+        FileKind::Inventory => import_inventory(alloc, keeper, number, file),
+    }
+}
+
+// Prints the reply, or says why there is none.
+fn tell<W: Write>(
+    alloc: Global,
+    answer: Result<Reply, ImportFault>,
+    output: &mut W,
+) -> Result<Outcome, RunFault>
+    ensures told { TellsReply (W.contents output.old) (W.contents output.new) answer result }
+    ensures failed { result ≡ Err (Store store.StoreFailed) → answer ≡ Err (ImportFault.Unserved StoreFailed) }
+{
+    match answer {
+        Ok(reply) => tell_reply(alloc, &reply, output),
+        Err(ImportFault::File(fault)) => Err(RunFault::File(fault)),
+        Err(ImportFault::Unserved(cause)) => Err(RunFault::of_unserved(cause)),
+    }
+}
+
+fn tell_reply<W: Write>(alloc: Global, reply: &Reply, output: &mut W) -> Result<Outcome, RunFault>
+    ensures { TellsReply (W.contents output.old) (W.contents output.new) (Ok reply.now) result }
+{
+    let line = line(alloc, reply)?;
+    print(&line, output)?;
+    Ok(outcome(reply))
+}
+
+fn line(alloc: Global, reply: &Reply) -> Result<String, AllocError>
+    ensures { IfOk result (λ line. string_bytes line ≡ reply_line reply.now) }
+{
+    let mut line = reply_text(alloc, reply)?;
+    line.push('\n')?;
+    Ok(line)
+}
+
+fn outcome(reply: &Reply) -> Outcome
+    ensures { result ≡ outcome_of reply.now }
+{
+    match reply {
+        Reply::Refused(_) => Outcome::Refused,
+        _ => Outcome::Done,
+    }
+}
+
+/// Writes the customer's unpaid bonds as a file of the kind that an import reads, in order of serial. Where
+/// the store didn't serve, or memory was refused, nothing is written; where the output failed, a front.
+pub fn export_from<K: Keeper, W: Write>(
+    alloc: Global,
+    keeper: &mut K,
+    customer: Customer,
+    output: &mut W,
+) -> Result<Outcome, RunFault>
+    ensures clean { K.is_clean keeper.new → K.is_clean keeper.old }
+    ensures exports { K.is_clean keeper.new → (c : Content) → K.has keeper.old c
+        → ExportsFrom (W.contents output.old) (W.contents output.new) customer c result (K.has keeper.new) }
+    ensures failed { TellsFailureOnlyIf K.may_fail result }
+    ensures done { IfOk result (λ outcome. outcome ≡ Outcome.Done) }
+{
+    match export_inventory(alloc, keeper, customer, output) {
+        Ok(_) => Ok(Outcome::Done),
+        Err(ExportFault::WriteFailed) => Err(RunFault::Device),
+        Err(ExportFault::Unserved(cause)) => Err(RunFault::of_unserved(cause)),
+    }
+}

@@ -1,0 +1,127 @@
+//! The command `serve`.
+
+ghost use Rattle.std.specs.Prelude.{◌≡◌, ◌⊎◌, true, IfOk, IfErr, string_bytes};
+ghost use Rattle.ee_desk_acts.specs.Repeats.{Content};
+ghost use Rattle.ee_cli_actions.specs.Connections.{PrintsLine, ServesAll, ServesNext, ServesSocket};
+ghost use Rattle.ee_cli_actions.specs.Endings.{TellsFailureOnlyIf};
+ghost use Rattle.ee_cli_actions.specs.Printed.{connection_line};
+
+use crate::faults::{Outcome, RunFault, StoreFault};
+use crate::patience::Patient;
+use crate::printing::print;
+use crate::reasons::Reason;
+use ee_counter::{Ended, Why, serve};
+use ee_keeper::Keeper;
+use std::alloc::{AllocError, Global};
+use std::io::Write;
+use std::net::{TcpListener, TcpStream};
+use std::time::{Clock, Duration};
+
+/// Serves so many connections, one after another, and prints a line for each as it ends:
+/// `connection I: M messages, WHY`, with I from 1, M the answers that were written whole, and WHY the name
+/// of what ended it. However a connection ends, the next one is served. A message that doesn't come whole
+/// within `patience`, and an answer that isn't taken within it, end the connection by `ReadFailed` and
+/// `WriteFailed`. Serving ends early where no connection could be accepted or a line not be written (`Device`),
+/// where memory was refused to a line (`NoMemory`), or after a connection of which an answer told that the
+/// store failed (`StoreFailed`), whose line is printed.
+pub fn serve_on<C: Clock, K: Keeper, W: Write>(
+    clock: &C,
+    alloc: Global,
+    keeper: &mut K,
+    listener: &TcpListener,
+    connections: u64,
+    patience: Duration,
+    output: &mut W,
+) -> Result<Outcome, RunFault>
+    ensures clean { K.is_clean keeper.new → K.is_clean keeper.old }
+    ensures serves { K.is_clean keeper.new → (c : Content) → K.has keeper.old c
+        → ServesAll connections (W.contents output.old) (W.contents output.new) c result (K.has keeper.new) }
+    ensures done { IfOk result (λ outcome. outcome ≡ Outcome.Done) }
+    ensures failed { TellsFailureOnlyIf K.may_fail result }
+{
+    for connection in 0..connections {
+        let ended = serve_next(clock, alloc, keeper, listener, patience)?;
+        tell(alloc, connection + 1, ended, output)?;
+        if ended.store_failed {
+            return Err(RunFault::Store(StoreFault::StoreFailed));
+        }
+    }
+    Ok(Outcome::Done)
+}
+
+// Accepts a connection, serves it, and closes it.
+fn serve_next<C: Clock, K: Keeper>(
+    clock: &C,
+    alloc: Global,
+    keeper: &mut K,
+    listener: &TcpListener,
+    patience: Duration,
+) -> Result<Ended, RunFault>
+    ensures clean { K.is_clean keeper.new → K.is_clean keeper.old }
+    ensures serves { K.is_clean keeper.new → (c : Content) → K.has keeper.old c → ServesNext c result (K.has keeper.new) }
+    ensures failed { IfOk result (λ ended. ended.store_failed ≡ true → K.may_fail) }
+    ensures device { IfErr result (λ fault. fault ≡ RunFault.Device) }
+{
+    match listener.accept() {
+        Ok((stream, _)) => Ok(serve_stream(clock, alloc, keeper, &stream, patience)),
+        Err(_) => Err(RunFault::Device),
+    }
+}
+
+fn serve_stream<C: Clock, K: Keeper>(
+    clock: &C,
+    alloc: Global,
+    keeper: &mut K,
+    stream: &TcpStream,
+    patience: Duration,
+) -> Ended
+    ensures clean { K.is_clean keeper.new → K.is_clean keeper.old }
+    ensures serves { K.is_clean keeper.new → (c : Content) → K.has keeper.old c → ServesSocket c result (K.has keeper.new) }
+    ensures failed { result.store_failed ≡ true → K.may_fail }
+{
+    let patient = Patient::new(clock, stream, patience);
+    let ended = serve_patient(alloc, keeper, &patient);
+    if leaves_more(ended.why) {
+        let _let_go = patient.let_go();
+    }
+    ended
+}
+
+fn serve_patient<'c, 's, C: Clock, K: Keeper>(
+    alloc: Global,
+    keeper: &mut K,
+    patient: &Patient<'c, 's, C>,
+) -> Ended
+    ensures clean { K.is_clean keeper.new → K.is_clean keeper.old }
+    ensures serves { K.is_clean keeper.new → (c : Content) → K.has keeper.old c → ServesSocket c result (K.has keeper.new) }
+    ensures failed { result.store_failed ≡ true → K.may_fail }
+{
+    let mut reader = patient;
+    let mut writer = patient;
+    serve(alloc, keeper, &mut reader, &mut writer)
+}
+
+// Whether the other side may still be sending.
+fn leaves_more(why: Why) -> bool {
+    match why {
+        Why::Asked | Why::Limit | Why::Fault(_) | Why::NoMemory => true,
+        Why::Closed | Why::ReadFailed | Why::WriteFailed => false,
+    }
+}
+
+// Prints a connection's line.
+fn tell<W: Write>(alloc: Global, number: u64, ended: Ended, output: &mut W) -> Result<(), RunFault>
+    ensures printed { PrintsLine (W.contents output.old) (W.contents output.new) (connection_line number ended) result }
+    ensures fault { IfErr result (λ fault. (fault ≡ RunFault.Device) ⊎ (fault ≡ RunFault.NoMemory)) }
+{
+    let line = line(alloc, number, ended)?;
+    print(&line, output)
+}
+
+fn line(alloc: Global, number: u64, ended: Ended) -> Result<String, AllocError>
+    ensures { IfOk result (λ line. string_bytes line ≡ connection_line number ended) }
+{
+    let messages = ended.messages;
+    let why = Reason(ended.why);
+    format!(in alloc; "connection {number}: {messages} messages, {why}\n")
+}

@@ -1,0 +1,48 @@
+//! The command `sheet`.
+
+ghost use Rattle.std.specs.Prelude.{◌≡◌, Err, IfOk};
+ghost use Rattle.ee_desk_acts.specs.Repeats.{Content};
+ghost use Rattle.ee_desk_acts.specs.declared.refusals.Unserved.TheVariants.{StoreFailed};
+ghost use Rattle.ee_cli_actions.specs.Actions.{ShowsSheet, TellsSheet};
+ghost use Rattle.ee_cli_actions.specs.Endings.{TellsFailureOnlyIf};
+ghost use Rattle.ee_cli_actions.specs.declared.faults.StoreFault.TheVariants as store;
+ghost use Rattle.ee_cli_actions.specs.declared.faults.RunFault.TheVariants.{Store};
+
+use crate::faults::{Outcome, RunFault};
+use ee_calculator::{Sheet, write_sheet};
+use ee_desk_acts::Unserved;
+use ee_keeper::Keeper;
+use ee_units::{Customer, Month};
+use std::io::Write;
+
+/// Writes the sheet in a month of the unpaid bonds whose owner is this customer, in order of serial. Where
+/// the store didn't serve nothing is written; where the output failed, a front of the sheet.
+pub fn sheet_of<K: Keeper, W: Write>(
+    keeper: &mut K,
+    customer: Customer,
+    month: Month,
+    output: &mut W,
+) -> Result<Outcome, RunFault>
+    ensures clean { K.is_clean keeper.new → K.is_clean keeper.old }
+    ensures shows { K.is_clean keeper.new → (c : Content) → K.has keeper.old c
+        → ShowsSheet (W.contents output.old) (W.contents output.new) customer month c result (K.has keeper.new c) }
+    ensures done { IfOk result (λ outcome. outcome ≡ Outcome.Done) }
+    ensures failed { TellsFailureOnlyIf K.may_fail result }
+{
+    let shown = keeper.inventory(customer, month);
+    tell(shown, output)
+}
+
+fn tell<W: Write>(shown: Result<Sheet, Unserved>, output: &mut W) -> Result<Outcome, RunFault>
+    ensures told { TellsSheet (W.contents output.old) (W.contents output.new) shown result }
+    ensures done { IfOk result (λ outcome. outcome ≡ Outcome.Done) }
+    ensures failed { result ≡ Err (Store store.StoreFailed) → shown ≡ Err StoreFailed }
+{
+    match shown {
+        Ok(sheet) => match write_sheet(&sheet, output) {
+            Ok(()) => Ok(Outcome::Done),
+            Err(_) => Err(RunFault::Device),
+        },
+        Err(cause) => Err(RunFault::of_unserved(cause)),
+    }
+}

@@ -1,0 +1,82 @@
+//! The command `value`.
+
+ghost use Rattle.std.specs.Prelude.{◌≡◌, IfErr, IfOk, string_bytes};
+ghost use Rattle.ee_calculator.specs.Rows.{columns_of};
+ghost use Rattle.ee_units.specs.Denoms.{units_of};
+ghost use Rattle.ee_value.specs.Fault.{IsFaultOf};
+ghost use Rattle.ee_cli_actions.specs.Endings.{ending_of_value};
+ghost use Rattle.ee_cli_actions.specs.Printed.{line_of, value_line};
+ghost use Rattle.ee_cli_actions.specs.Values.{PrintsValue};
+
+use crate::faults::{Outcome, RunFault};
+use crate::printing::print;
+use ee_calculator::{Note, plain_row};
+use ee_units::{Bits, Cents, Denom, IssueMonth, Month, Rate, calendar};
+use ee_value::{Rates, ValueFault, unit_table};
+use std::alloc::{AllocError, Global};
+use std::io::Write;
+
+/// The precision of the program's values: 62 binary places.
+const PRECISION: u8 = 62;
+
+/// Prints the value in a month of a bond of that denomination and issue month, at that rate: the value,
+/// then a space and the note where there is one. A month before issue needs no table of the rate; from
+/// issue on, the rate's least unsettled age is answered where it has one.
+pub fn print_value<W: Write>(
+    alloc: Global,
+    denom: Denom,
+    issued: IssueMonth,
+    month: Month,
+    rate: Rate,
+    output: &mut W,
+) -> Result<Outcome, RunFault>
+    ensures { PrintsValue denom issued month rate (W.contents output.old) (W.contents output.new) result }
+{
+    match value_text(alloc, denom, issued, month, rate) {
+        Ok(text) => {
+            print(&text, output)?;
+            Ok(Outcome::Done)
+        }
+        Err(fault) => without_value(fault),
+    }
+}
+
+// How the command ends where there is no table of values.
+fn without_value(fault: ValueFault) -> Result<Outcome, RunFault>
+    ensures { result ≡ ending_of_value fault }
+{
+    match fault {
+        ValueFault::Unsettled { month } => Ok(Outcome::Unsettled(month)),
+        ValueFault::NoMemory => Err(RunFault::NoMemory),
+    }
+}
+
+// The line that shows the value.
+#[tactic(auto, unfolding(ee_calculator::specs::Rows::columns_of))]
+fn value_text(
+    alloc: Global,
+    denom: Denom,
+    issued: IssueMonth,
+    month: Month,
+    rate: Rate,
+) -> Result<String, ValueFault>
+    ensures text { IfOk result (λ text. string_bytes text ≡ value_line denom issued month rate) }
+    ensures fault { IfErr result (IsFaultOf (record { fixed = rate }) 62) }
+{
+    if calendar::age(issued, month).is_none() {
+        return Ok(line(alloc, Cents(0), Note::Ni)?);
+    }
+    let rates = Rates { fixed: rate };
+    let table = unit_table(alloc, rates, Bits::from_places(PRECISION))?;
+    let row = plain_row(denom, issued, rates, &table, month);
+    Ok(line(alloc, row.value, row.note)?)
+}
+
+fn line(alloc: Global, value: Cents, note: Note) -> Result<String, AllocError>
+    ensures { IfOk result (λ text. string_bytes text ≡ line_of value.0 note) }
+{
+    match note {
+        Note::Plain => format!(in alloc; "{value}\n"),
+        _ => format!(in alloc; "{value} {note}\n"),
+    }
+}

@@ -1,0 +1,95 @@
+-- What the reader of command lines answers.
+use Rattle.std.specs.Prelude.{◌≡◌, ◌≢◌, List, [], Some, Result, Ok, Err, ⊤, map}
+use Rattle.std.specs.Borrow.{Bor}
+use Rattle.clap.specs.Words.{IsAmong, Text, fault_of}
+use Rattle.clap.specs.declared.error.ErrorKind.{ErrorKind}
+use Rattle.clap.specs.declared.error.ErrorKind.TheVariants.{DisplayHelp, DisplayVersion, OutOfMemory}
+use Rattle.ee_cli_commands.specs.CommandLine.{Asked, value, apply, imports, export, sheet, serve, asked_by, program, kind_words}
+use Rattle.ee_cli_commands.specs.declared.commands.Command.{Command}
+use Rattle.ee_cli_commands.specs.declared.commands.Command.TheVariants as command
+use Rattle.ee_cli_commands.specs.declared.commands.CommandFault.{CommandFault}
+use Rattle.ee_cli_commands.specs.declared.commands.CommandFault.TheVariants as fault
+
+-- a command, as what it asks for
+abbrev pub view_of : Command → Asked
+view_of (command.Value denom issued month rate) = value denom issued month rate
+view_of (command.Apply db) = apply db.now
+view_of (command.Import kind file db number) = imports kind file.now db.now number
+view_of (command.Export customer db) = export customer db.now
+view_of (command.Sheet customer month db) = sheet customer month db.now
+view_of (command.Serve db port connections) = serve db.now port connections
+
+-- clap reads the words by the program's rows, and this is what they ask for. The words for the kinds of files stand behind
+-- references, and clap reads the same wherever those point.
+pub record IsAsked (words : List Text) (r : Result Asked Text) : Type 0 where
+  pub kinds : Bor (List (Bor Text))
+  pub kind_words_are : map (λ k. k.now) kinds.now ≡ kind_words
+  pub read : fault_of (program kinds) words ≡ []
+  pub asks : asked_by (program kinds) words ≡ Some r
+
+-- clap refuses the words, with this kind of fault among others
+pub record IsRefusedBy (kind : ErrorKind) (words : List Text) : Type 0 where
+  pub kinds : Bor (List (Bor Text))
+  pub kind_words_are : map (λ k. k.now) kinds.now ≡ kind_words
+  pub refused : IsAmong kind (fault_of (program kinds) words)
+
+-- the words ask for help
+abbrev pub AsksForHelp : List Text → Type 0
+AsksForHelp words = IsRefusedBy DisplayHelp words
+
+-- the words ask for the version
+abbrev pub AsksForVersion : List Text → Type 0
+AsksForVersion words = IsRefusedBy DisplayVersion words
+
+-- clap refuses the words for another cause than memory, which is neither that they ask for help nor for the version
+pub record IsRefused (words : List Text) : Type 0 where
+  pub kind : ErrorKind
+  pub by : IsRefusedBy kind words
+  pub no_help : kind ≢ DisplayHelp
+  pub no_version : kind ≢ DisplayVersion
+
+-- words ask for one thing at most
+abbrev pub AsksForOne : Type 0
+AsksForOne = (words : List Text) (r s : Result Asked Text) → IsAsked words r → IsAsked words s → r ≡ s
+
+-- words that ask for something are not refused, nor do they ask for help or the version
+abbrev pub AsksUnrefused : Type 0
+AsksUnrefused = (words : List Text) (r : Result Asked Text) (kind : ErrorKind) → IsAsked words r → IsRefusedBy kind words → ⊥
+
+-- words that ask for help are not refused for another cause
+abbrev pub AsksForHelpAlone : Type 0
+AsksForHelpAlone = (words : List Text) → AsksForHelp words → IsRefused words → ⊥
+
+-- words that ask for the version are not refused for another cause
+abbrev pub AsksForVersionAlone : Type 0
+AsksForVersionAlone = (words : List Text) → AsksForVersion words → IsRefused words → ⊥
+
+-- no words ask for help and for the version
+abbrev pub NeverAsksForBoth : Type 0
+NeverAsksForBoth = (words : List Text) → AsksForHelp words → AsksForVersion words → ⊥
+
+-- what an answer says of the words
+abbrev pub IsAnswer : List Text → Result Command CommandFault → Type 0
+IsAnswer words (Ok c) = IsAsked words (Ok (view_of c))
+IsAnswer words (Err (fault.Argument name)) = IsAsked words (Err name.now)
+IsAnswer words (Err (fault.Help text)) = AsksForHelp words
+IsAnswer words (Err fault.Version) = AsksForVersion words
+IsAnswer words (Err (fault.Line text)) = IsRefused words
+IsAnswer words (Err fault.NoMemory) = ⊤
+
+-- a value that was read, seen by view, or the name of the word that spells none
+abbrev pub Gives : {X Y : Type 0} → (X → Y) → Result X CommandFault → Result Y Text → Type 0
+Gives view (Ok x) read = read ≡ Ok (view x)
+Gives view (Err (fault.Argument name)) read = read ≡ Err name.now
+Gives view (Err (fault.Help text)) read = ⊥
+Gives view (Err fault.Version) read = ⊥
+Gives view (Err (fault.Line text)) read = ⊥
+Gives view (Err fault.NoMemory) read = ⊥
+
+-- what an error of clap's comes to
+abbrev pub Refuses : ErrorKind → CommandFault → Type 0
+Refuses kind (fault.Help text) = kind ≡ DisplayHelp
+Refuses kind fault.Version = kind ≡ DisplayVersion
+Refuses kind (fault.Line text) = (kind ≢ OutOfMemory) × (kind ≢ DisplayHelp) × (kind ≢ DisplayVersion)
+Refuses kind (fault.Argument name) = ⊥
+Refuses kind fault.NoMemory = kind ≡ OutOfMemory

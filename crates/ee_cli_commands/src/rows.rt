@@ -1,0 +1,258 @@
+//! The rows of the program.
+
+ghost use Rattle.std.specs.Prelude.{◌≡◌, IfOk, Some, List, false, map, codes};
+ghost use Rattle.std.specs.Borrow.{Bor};
+ghost use Rattle.clap.specs.Words.{Text, app_of, new_app, rule_of, with_rule, with_subcommand};
+ghost use Rattle.clap.specs.declared.builder.command.Command.TheViews.{out-Command as fields_of};
+ghost use Rattle.clap.specs.declared.builder.ValueParser.TheVariants.{Names};
+ghost use Rattle.ee_cli_commands.specs.CommandLine as is;
+
+use clap::{Arg, Command, value_parser};
+use std::alloc::{AllocError, Global};
+
+/// The version of the program.
+pub const VERSION: &str = "1.0.0";
+
+// What stands below the commands in the help of the program.
+const NOTES: &str = "\
+ee_cli COMMAND --help tells the words of a command, with an example.
+
+Exit status:
+  0  done
+  1  refused, or a value that is unsettled
+  2  a bad command line
+  3  a file, a socket, memory or a store failed
+
+Limits:
+  500 rows a request, 100 serial numbers a redemption, 1,000 messages a connection
+
+One process at a time uses a store.";
+
+const IMPORT_EXAMPLES: &str = "\
+Examples:
+  ee_cli import rates samples/rates.csv --db day.db --number 1
+  ee_cli import inventory samples/inventory.csv --db day.db --number 2";
+
+static KINDS: [&str; 2] = ["rates", "inventory"];
+
+/// All rows.
+pub fn program<'a>(alloc: Global) -> Result<Command<'a>, AllocError>
+    ensures { IfOk result (λ c. (kinds : Bor (List (Bor Text))) × (map (λ k. k.now) kinds.now ≡ is.kind_words) × (app_of c ≡ is.program kinds)) }
+{
+    let rows = with_row(first_rows(alloc)?, import_command(alloc)?)?;
+    let rows = with_row(rows, export_command(alloc)?)?;
+    let rows = with_row(rows, sheet_command(alloc)?)?;
+    with_row(rows, serve_command(alloc)?)
+}
+
+fn first_rows<'a>(alloc: Global) -> Result<Command<'a>, AllocError>
+    ensures { IfOk result (λ c. app_of c ≡ is.first_rows) }
+{
+    let about = "The counter of a paying agent for paper Series EE savings bonds";
+    let rows = named(alloc, "ee_cli", about, NOTES)
+        .version(VERSION)
+        .subcommand_required(true)
+        .disable_help_subcommand(true);
+    let rows = with_row(rows, value_command(alloc)?)?;
+    with_row(rows, apply_command(alloc)?)
+}
+
+fn with_row<'a>(rows: Command<'a>, row: Command<'a>) -> Result<Command<'a>, AllocError>
+    requires { (fields_of row).has_globals ≡ false }
+    ensures { IfOk result (λ c. app_of c ≡ with_subcommand (app_of rows.entry) (app_of row.entry).top) }
+{
+    rows.subcommand(row)
+}
+
+fn value_command<'a>(alloc: Global) -> Result<Command<'a>, AllocError>
+    ensures shape { IfOk result (λ c. app_of c ≡ is.value_row) }
+    ensures local { IfOk result (λ c. (fields_of c).has_globals ≡ false) }
+{
+    let row = named(
+        alloc,
+        "value",
+        "Print the value of a bond in a month",
+        "Example:\n  ee_cli value 50 2010-05 2015-05 3.50",
+    );
+    let row = with(
+        row,
+        positional(alloc, "denom", "Denomination in dollars, as 50"),
+    )?;
+    let row = with(
+        row,
+        positional(alloc, "issued", "Issue month, as 2010-05 or 05/2010"),
+    )?;
+    let row = with(
+        row,
+        positional(alloc, "month", "Month of the value, as 2015-05"),
+    )?;
+    with(
+        row,
+        positional(alloc, "rate", "Fixed rate in percent, as 3.50"),
+    )
+}
+
+fn apply_command<'a>(alloc: Global) -> Result<Command<'a>, AllocError>
+    ensures shape { IfOk result (λ c. app_of c ≡ is.apply_row) }
+    ensures local { IfOk result (λ c. (fields_of c).has_globals ≡ false) }
+{
+    let row = named(
+        alloc,
+        "apply",
+        "Answer the messages of standard input",
+        "Example:\n  ee_cli apply --db day.db < requests.http",
+    );
+    with(row, store(alloc))
+}
+
+fn import_command<'a>(alloc: Global) -> Result<Command<'a>, AllocError>
+    ensures shape { IfOk result (λ c. (kinds : Bor (List (Bor Text))) × (map (λ k. k.now) kinds.now ≡ is.kind_words) × (app_of c ≡ is.import_row kinds)) }
+    ensures local { IfOk result (λ c. (fields_of c).has_globals ≡ false) }
+{
+    let row = named(
+        alloc,
+        "import",
+        "Import a CSV file of rates or bonds as one request",
+        IMPORT_EXAMPLES,
+    );
+    let row = with(row, kind(alloc))?;
+    let row = with(row, positional(alloc, "file", "The CSV file"))?;
+    let row = with(row, store(alloc))?;
+    with(row, request_number(alloc))
+}
+
+fn export_command<'a>(alloc: Global) -> Result<Command<'a>, AllocError>
+    ensures shape { IfOk result (λ c. app_of c ≡ is.export_row) }
+    ensures local { IfOk result (λ c. (fields_of c).has_globals ≡ false) }
+{
+    let row = named(
+        alloc,
+        "export",
+        "Print a customer's unpaid bonds as CSV",
+        "Example:\n  ee_cli export 7 --db day.db",
+    );
+    let row = with(row, customer(alloc))?;
+    with(row, store(alloc))
+}
+
+fn sheet_command<'a>(alloc: Global) -> Result<Command<'a>, AllocError>
+    ensures shape { IfOk result (λ c. app_of c ≡ is.sheet_row) }
+    ensures local { IfOk result (λ c. (fields_of c).has_globals ≡ false) }
+{
+    let row = named(
+        alloc,
+        "sheet",
+        "Print the sheet of a customer's unpaid bonds",
+        "Example:\n  ee_cli sheet 7 2012-02 --db day.db",
+    );
+    let row = with(row, customer(alloc))?;
+    let row = with(
+        row,
+        positional(alloc, "month", "Month of the values, as 2015-05"),
+    )?;
+    with(row, store(alloc))
+}
+
+fn serve_command<'a>(alloc: Global) -> Result<Command<'a>, AllocError>
+    ensures shape { IfOk result (λ c. app_of c ≡ is.serve_row) }
+    ensures local { IfOk result (λ c. (fields_of c).has_globals ≡ false) }
+{
+    let row = named(
+        alloc,
+        "serve",
+        "Answer connections on 127.0.0.1, one after the other, until it is stopped",
+        "Example:\n  ee_cli serve --db day.db --port 8377",
+    );
+    let row = with(row, store(alloc))?;
+    let row = with(row, port(alloc))?;
+    with(row, connections(alloc))
+}
+
+// The row of that name, with a text above its words in its help, and one below them.
+fn named<'a>(alloc: Global, name: &'a str, about: &'a str, below: &'a str) -> Command<'a>
+    ensures shape { app_of result ≡ new_app name.entry.now }
+    ensures local { (fields_of result).has_globals ≡ false }
+{
+    Command::new(alloc, name).about(about).after_help(below)
+}
+
+fn with<'a>(row: Command<'a>, arg: Arg<'a>) -> Result<Command<'a>, AllocError>
+    requires row { (fields_of row).has_globals ≡ false }
+    requires arg { arg.global ≡ false }
+    ensures shape { IfOk result (λ c. app_of c ≡ with_rule (app_of row.entry) (rule_of arg.entry)) }
+    ensures local { IfOk result (λ c. (fields_of c).has_globals ≡ false) }
+{
+    row.arg(arg)
+}
+
+fn positional<'a>(alloc: Global, id: &'a str, help: &'a str) -> Arg<'a>
+    ensures rule { rule_of result ≡ is.positional id.entry.now }
+    ensures local { result.global ≡ false }
+{
+    Arg::new(alloc, id).required(true).help(help)
+}
+
+fn option<'a>(alloc: Global, id: &'a str, help: &'a str) -> Arg<'a>
+    ensures rule { rule_of result ≡ is.option id.entry.now }
+    ensures local { result.global ≡ false }
+{
+    Arg::new(alloc, id).long(id).required(true).help(help)
+}
+
+fn customer<'a>(alloc: Global) -> Arg<'a>
+    ensures rule { rule_of result ≡ is.positional (codes "customer") }
+    ensures local { result.global ≡ false }
+{
+    positional(alloc, "customer", "Number of the customer, as 7")
+}
+
+fn store<'a>(alloc: Global) -> Arg<'a>
+    ensures rule { rule_of result ≡ is.option (codes "db") }
+    ensures local { result.global ≡ false }
+{
+    option(
+        alloc,
+        "db",
+        "The file of the store; made where it isn't there",
+    )
+}
+
+fn kind<'a>(alloc: Global) -> Arg<'a>
+    ensures { (kinds : Bor (List (Bor Text))) × (map (λ k. k.now) kinds.now ≡ is.kind_words) × (rule_of result ≡ record (is.positional (codes "kind")) { parser = Some (Names kinds) }) × (result.global ≡ false) }
+{
+    positional(alloc, "kind", "What the file holds").value_parser(KINDS.as_slice())
+}
+
+fn request_number<'a>(alloc: Global) -> Arg<'a>
+    ensures rule { rule_of result ≡ is.number_option (codes "number") is.most_number }
+    ensures local { result.global ≡ false }
+{
+    option(
+        alloc,
+        "number",
+        "Number of the request; each number acts once",
+    )
+    .value_parser(value_parser!(u64).range(1..=9_223_372_036_854_775_807))
+}
+
+fn port<'a>(alloc: Global) -> Arg<'a>
+    ensures rule { rule_of result ≡ is.number_option (codes "port") is.most_port }
+    ensures local { result.global ≡ false }
+{
+    option(alloc, "port", "Port of 127.0.0.1, from 1 to 65535").value_parser(value_parser!(
+        u64
+    ).range(1..=65_535))
+}
+
+fn connections<'a>(alloc: Global) -> Arg<'a>
+    ensures rule { rule_of result ≡ is.optional_number (codes "connections") is.most_connections }
+    ensures local { result.global ≡ false }
+{
+    option(
+        alloc,
+        "connections",
+        "End after that many connections, from 1 to 1000",
+    )
+    .required(false)
+    .value_parser(value_parser!(u64).range(1..=1_000))
+}

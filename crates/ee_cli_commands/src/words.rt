@@ -1,0 +1,145 @@
+//! The values that the words of a row spell.
+
+ghost use Rattle.std.specs.Prelude.{◌≡◌, ◌≤◌, IfOk, option_and_then, option_map};
+ghost use Rattle.clap.specs.Words.{first_of, found_of, one_of, rows_of};
+ghost use Rattle.ee_units.specs.Denoms.{denom_of};
+ghost use Rattle.ee_units.specs.Spelling.{customer_of, in_range, issue_of, month_of, rate_of};
+ghost use Rattle.ee_cli_commands.specs.CommandLine.{kind_of_file, most_number, most_port, number_word, numbered, numbered_or, spelled, text_of};
+ghost use Rattle.ee_cli_commands.specs.Answer.{Gives};
+
+use crate::commands::{CommandFault, FileKind};
+use clap::ArgMatches;
+use ee_desk_acts::Number;
+use ee_units::{
+    Customer, Denom, IssueMonth, Month, Rate, read_customer, read_denom, read_issue, read_month,
+    read_rate,
+};
+
+const MOST_NUMBER: u64 = 9_223_372_036_854_775_807;
+
+const MOST_PORT: u64 = 65_535;
+
+fn word<'a>(matches: &ArgMatches<'a>, name: &'static str) -> Option<&'a str>
+    ensures { option_map (λ s. s.now) result ≡ first_of name.now (rows_of (found_of matches.now)) }
+{
+    matches.get_str(name)
+}
+
+/// The word of a name, as it stands.
+pub fn text<'a>(matches: &ArgMatches<'a>, name: &'static str) -> Result<&'a str, CommandFault>
+    ensures { Gives (λ s. s.now) result (spelled name.now text_of (rows_of (found_of matches.now))) }
+{
+    word(matches, name).ok_or(CommandFault::Argument(name))
+}
+
+/// The denomination.
+pub fn denom(matches: &ArgMatches, name: &'static str) -> Result<Denom, CommandFault>
+    ensures { Gives (λ v. v) result (spelled name.now denom_of (rows_of (found_of matches.now))) }
+{
+    match word(matches, name) {
+        Some(word) => read_denom(word).map_err(|_| CommandFault::Argument(name)),
+        None => Err(CommandFault::Argument(name)),
+    }
+}
+
+/// An issue month.
+pub fn issue(matches: &ArgMatches, name: &'static str) -> Result<IssueMonth, CommandFault>
+    ensures { Gives (λ v. v) result (spelled name.now issue_of (rows_of (found_of matches.now))) }
+{
+    match word(matches, name) {
+        Some(word) => read_issue(word).map_err(|_| CommandFault::Argument(name)),
+        None => Err(CommandFault::Argument(name)),
+    }
+}
+
+/// A month.
+pub fn month(matches: &ArgMatches, name: &'static str) -> Result<Month, CommandFault>
+    ensures { Gives (λ v. v) result (spelled name.now month_of (rows_of (found_of matches.now))) }
+{
+    match word(matches, name) {
+        Some(word) => read_month(word).map_err(|_| CommandFault::Argument(name)),
+        None => Err(CommandFault::Argument(name)),
+    }
+}
+
+/// A rate.
+pub fn rate(matches: &ArgMatches, name: &'static str) -> Result<Rate, CommandFault>
+    ensures { Gives (λ v. v) result (spelled name.now rate_of (rows_of (found_of matches.now))) }
+{
+    match word(matches, name) {
+        Some(word) => read_rate(word).map_err(|_| CommandFault::Argument(name)),
+        None => Err(CommandFault::Argument(name)),
+    }
+}
+
+/// A customer.
+pub fn customer(matches: &ArgMatches, name: &'static str) -> Result<Customer, CommandFault>
+    ensures { Gives (λ v. v) result (spelled name.now customer_of (rows_of (found_of matches.now))) }
+{
+    match word(matches, name) {
+        Some(word) => read_customer(word).map_err(|_| CommandFault::Argument(name)),
+        None => Err(CommandFault::Argument(name)),
+    }
+}
+
+/// A kind of file.
+pub fn kind(matches: &ArgMatches, name: &'static str) -> Result<FileKind, CommandFault>
+    ensures { Gives (λ v. v) result (spelled name.now kind_of_file (rows_of (found_of matches.now))) }
+{
+    match word(matches, name) {
+        Some("rates") => Ok(FileKind::Rates),
+        Some("inventory") => Ok(FileKind::Inventory),
+        _ => Err(CommandFault::Argument(name)),
+    }
+}
+
+fn whole_number(matches: &ArgMatches, name: &'static str, most: u64) -> Option<u64>
+    ensures { option_and_then (in_range 1 most) result
+        ≡ option_and_then (number_word most) (one_of name.now (rows_of (found_of matches.now))) }
+{
+    matches.get_one::<u64>(name)
+}
+
+/// A whole number from 1 to that one.
+pub fn number(matches: &ArgMatches, name: &'static str, most: u64) -> Result<u64, CommandFault>
+    ensures number { Gives (λ v. v) result (numbered name.now most (rows_of (found_of matches.now))) }
+    ensures low { IfOk result (λ n. 1 ≤ n) }
+    ensures high { IfOk result (λ n. n ≤ most) }
+{
+    match whole_number(matches, name, most) {
+        Some(number) if number >= 1 && number <= most => Ok(number),
+        _ => Err(CommandFault::Argument(name)),
+    }
+}
+
+/// A whole number from 1 to that one, or `otherwise` where there is no such word.
+pub fn number_or(
+    matches: &ArgMatches,
+    name: &'static str,
+    most: u64,
+    otherwise: u64,
+) -> Result<u64, CommandFault>
+    ensures { Gives (λ v. v) result (numbered_or otherwise name.now most (rows_of (found_of matches.now))) }
+{
+    match word(matches, name) {
+        Some(_) => number(matches, name, most),
+        None => Ok(otherwise),
+    }
+}
+
+/// A request number.
+pub fn request_number(matches: &ArgMatches, name: &'static str) -> Result<Number, CommandFault>
+    ensures { Gives (λ v. v) result (numbered name.now most_number (rows_of (found_of matches.now))) }
+{
+    match Number::new(number(matches, name, MOST_NUMBER)?) {
+        Some(number) => Ok(number),
+        None => Err(CommandFault::Argument(name)),
+    }
+}
+
+/// A port.
+pub fn port(matches: &ArgMatches, name: &'static str) -> Result<u16, CommandFault>
+    ensures { Gives (λ v. v) result (numbered name.now most_port (rows_of (found_of matches.now))) }
+{
+    Ok(number(matches, name, MOST_PORT)? as u16)
+}

@@ -1,0 +1,146 @@
+-- What an outcome and its status say.
+use Rattle.std.proofs.Common.{◌≡◌, ◌⊎◌, ℕ, List, Option, Result, Ok, Err, refl, subst, arith, inl, inr}
+use Rattle.std.specs.Io.KnownBytes.{Appends}
+use Rattle.clap.specs.Words.{Text}
+use Rattle.ee_units.specs.declared.denoms.Denom.{Denom}
+use Rattle.ee_cli_actions.specs.Printed.{value_line}
+use Rattle.ee_cli_actions.specs.declared.faults.Outcome.{Outcome}
+use Rattle.ee_cli_actions.specs.declared.faults.Outcome.TheVariants as outcome
+use Rattle.ee_cli_actions.specs.declared.faults.RunFault.{RunFault}
+use Rattle.ee_cli_commands.specs.CommandLine.{Asked, value}
+use Rattle.ee_cli_commands.specs.Answer.{IsAsked, IsRefused, AsksForHelp, AsksForVersion}
+use Rattle.ee_cli_commands.proofs.Lemmas.{asks_for_help_alone, asks_for_version_alone, asks_for_one, asks_unrefused}
+use Rattle.ee_cli_program.specs.Statuses.{AsksToShow, Carries, Ends, IsRun, IsStatusFor}
+
+-- ---- the words determine what they ask for
+
+one_command : (words : List Text) (asked other : Asked) → IsAsked words (Ok asked) → IsAsked words (Ok other) → asked ≡ other
+one_command words asked other is also =
+    let same = asks_for_one words (Ok asked) (Ok other) is also in cc
+
+no_name : (words : List Text) (asked : Asked) (name : Text) → IsAsked words (Ok asked) → IsAsked words (Err name) → ⊥
+no_name words asked name is bad =
+    let same = asks_for_one words (Ok asked) (Err name) is bad in cc
+
+-- the line was bad
+abbrev IsBad : List Text → Type 0
+IsBad words = ((name : Text) × IsAsked words (Err name)) ⊎ IsRefused words
+
+nothing_asked : (words : List Text) (asked : Asked) → IsBad words → IsAsked words (Ok asked) → ⊥
+nothing_asked words asked (inl bad) is = no_name words asked bad.0 is bad.1
+nothing_asked words asked (inr refused) is = asks_unrefused words (Ok asked) refused.kind is refused.by
+
+no_command : (words : List Text) (asked : Asked) → AsksToShow words → IsAsked words (Ok asked) → ⊥
+no_command words asked (inl help) is = asks_unrefused words (Ok asked) _ is help
+no_command words asked (inr version) is = asks_unrefused words (Ok asked) _ is version
+
+nothing_bad : (words : List Text) → AsksToShow words → IsBad words → ⊥
+nothing_bad words (inl help) (inl bad) = asks_unrefused words _ _ bad.1 help
+nothing_bad words (inr version) (inl bad) = asks_unrefused words _ _ bad.1 version
+nothing_bad words (inl help) (inr refused) = asks_for_help_alone words help refused
+nothing_bad words (inr version) (inr refused) = asks_for_version_alone words version refused
+
+-- ---- the statuses
+
+at_three : (Carried : Result Outcome RunFault → Type 0) (status : ℕ) → status ≡ 3 → Ends Carried status
+at_three Carried status three = record {
+  done = λ zero. absurd (omega (arith, three, zero));
+  refused = λ one. absurd (omega (arith, three, one));
+  is_good_line = λ two. absurd (omega (arith, three, two));
+}
+
+pub is_failed : (words : List Text) (Carried : Asked → Result Outcome RunFault → Type 0) (status : ℕ) → status ≡ 3 → IsRun words Carried status
+is_failed words Carried status three = record {
+  range = omega (arith, three);
+  ends = λ asked is. at_three (Carried asked) status three;
+  shows = λ _. inr three;
+  refuses_line = λ bad. inr three;
+  done = λ zero. absurd (omega (arith, three, zero));
+  refused = λ one. absurd (omega (arith, three, one));
+  bad_line = λ two. absurd (omega (arith, three, two));
+}
+
+is_done : (words : List Text) (Carried : Asked → Result Outcome RunFault → Type 0) (asked : Asked) (status : ℕ)
+    → IsAsked words (Ok asked) → Carried asked (Ok outcome.Done) → status ≡ 0 → IsRun words Carried status
+is_done words Carried asked status is w zero = record {
+  range = omega (arith, zero);
+  ends = λ other also. record {
+    done = λ _. subst (λ (a : Asked). Carried a (Ok outcome.Done)) (one_command words asked other is also) w;
+    refused = λ one. absurd (omega (arith, zero, one));
+    is_good_line = λ two. absurd (omega (arith, zero, two));
+  };
+  shows = λ _. inl zero;
+  refuses_line = λ bad. absurd (nothing_asked words asked bad is);
+  done = λ _. inl (asked, is);
+  refused = λ one. absurd (omega (arith, zero, one));
+  bad_line = λ two. absurd (omega (arith, zero, two));
+}
+
+-- a command that was refused, or found the value unsettled
+abbrev Refuses : (Result Outcome RunFault → Type 0) → Type 0
+Refuses Carried = Carried (Ok outcome.Refused) ⊎ ((age : ℕ) × Carried (Ok (outcome.Unsettled age)))
+
+is_refused : (words : List Text) (Carried : Asked → Result Outcome RunFault → Type 0) (asked : Asked) (status : ℕ)
+    → IsAsked words (Ok asked) → Refuses (Carried asked) → status ≡ 1 → IsRun words Carried status
+is_refused words Carried asked status is w one = record {
+  range = omega (arith, one);
+  ends = λ other also. record {
+    done = λ zero. absurd (omega (arith, one, zero));
+    refused = λ _. subst (λ (a : Asked). Refuses (Carried a)) (one_command words asked other is also) w;
+    is_good_line = λ two. absurd (omega (arith, one, two));
+  };
+  shows = λ show. absurd (no_command words asked show is);
+  refuses_line = λ bad. absurd (nothing_asked words asked bad is);
+  done = λ zero. absurd (omega (arith, one, zero));
+  refused = λ _. (asked, is);
+  bad_line = λ two. absurd (omega (arith, one, two));
+}
+
+-- a command was carried out
+pub concluded : (words : List Text) (Carried : Asked → Result Outcome RunFault → Type 0) (asked : Asked) (ended : Outcome) (status : ℕ)
+    → IsAsked words (Ok asked) → Carried asked (Ok ended) → IsStatusFor ended status → IsRun words Carried status
+concluded words Carried asked outcome.Done status is w h = is_done words Carried asked status is w h
+concluded words Carried asked outcome.Refused status is w h = is_refused words Carried asked status is (inl w) h
+concluded words Carried asked (outcome.Unsettled age) status is w (inl one) = is_refused words Carried asked status is (inr (age, w)) one
+concluded words Carried asked (outcome.Unsettled age) status is w (inr three) = is_failed words Carried status three
+
+-- help or the version was asked for
+shown_at_zero : (words : List Text) (Carried : Asked → Result Outcome RunFault → Type 0) (status : ℕ) → AsksToShow words → status ≡ 0 → IsRun words Carried status
+shown_at_zero words Carried status show zero = record {
+  range = omega (arith, zero);
+  ends = λ asked is. absurd (no_command words asked show is);
+  shows = λ _. inl zero;
+  refuses_line = λ bad. absurd (nothing_bad words show bad);
+  done = λ _. inr show;
+  refused = λ one. absurd (omega (arith, zero, one));
+  bad_line = λ two. absurd (omega (arith, zero, two));
+}
+
+pub shown : (words : List Text) (Carried : Asked → Result Outcome RunFault → Type 0) (status : ℕ) → AsksToShow words → (status ≡ 0) ⊎ (status ≡ 3) → IsRun words Carried status
+shown words Carried status show (inl zero) = shown_at_zero words Carried status show zero
+shown words Carried status show (inr three) = is_failed words Carried status three
+
+bad_at_two : (words : List Text) (Carried : Asked → Result Outcome RunFault → Type 0) (status : ℕ) → IsBad words → status ≡ 2 → IsRun words Carried status
+bad_at_two words Carried status bad two = record {
+  range = omega (arith, two);
+  ends = λ asked is. absurd (nothing_asked words asked bad is);
+  shows = λ show. absurd (nothing_bad words show bad);
+  refuses_line = λ _. inl two;
+  done = λ zero. absurd (omega (arith, two, zero));
+  refused = λ one. absurd (omega (arith, two, one));
+  bad_line = λ _. bad;
+}
+
+pub refused_line : (words : List Text) (Carried : Asked → Result Outcome RunFault → Type 0) (status : ℕ)
+    → ((name : Text) × IsAsked words (Err name)) ⊎ IsRefused words → (status ≡ 2) ⊎ (status ≡ 3) → IsRun words Carried status
+refused_line words Carried status bad (inl two) = bad_at_two words Carried status bad two
+refused_line words Carried status bad (inr three) = is_failed words Carried status three
+
+-- ---- the value's line
+
+-- of a value that was asked for, status 0 says that its line was printed
+pub value_printed : (words : List Text) (old new : Option (List ℕ)) (status : ℕ) → IsRun words (Carries old new) status
+    → (denom : Denom) (issued month rate : ℕ) → IsAsked words (Ok (value denom issued month rate)) → status ≡ 0 → Appends old new (value_line denom issued month rate)
+value_printed words old new status run denom issued month rate is zero =
+    let line = (run.ends (value denom issued month rate) is).done zero in
+    subst (Appends old new) (line.whole refl) line.written

@@ -1,0 +1,20 @@
+use Rattle.std.proofs.Common.{rules}
+use Rattle.ee_cli_program.proofs.carrying.carry_out.Goals as goal
+
+pub returns-in-Apply-clause-over : goal.returns-in-Apply-clause-over
+returns-in-Apply-clause-over g c = λ clean contents holds. rw c.in-Apply.is (c.apply.ensures clean (contents c.in-Apply.db.now) (holds c.in-Apply.db.now))
+
+pub returns-in-Import-clause-over : goal.returns-in-Import-clause-over
+returns-in-Import-clause-over g c = λ clean contents holds. rw c.in-Import.is (c.import.ensures clean (contents c.in-Import.db.now) (holds c.in-Import.db.now))
+
+pub returns-in-Export-clause-over : goal.returns-in-Export-clause-over
+returns-in-Export-clause-over g c = λ clean contents holds. rw c.in-Export.is (c.export.ensures.over clean (contents c.in-Export.db.now) (holds c.in-Export.db.now))
+
+pub returns-in-Sheet-clause-over : goal.returns-in-Sheet-clause-over
+returns-in-Sheet-clause-over g c = λ clean contents holds. rw c.in-Sheet.is (c.sheet.ensures.over clean (contents c.in-Sheet.db.now) (holds c.in-Sheet.db.now))
+
+pub returns-in-Serve-clause-over : goal.returns-in-Serve-clause-over
+returns-in-Serve-clause-over g c = λ clean contents holds. rw c.in-Serve.is (c.serve.ensures.over clean (contents c.in-Serve.db.now) (holds c.in-Serve.db.now))
+
+pub returns-in-Value-clause-carries : goal.returns-in-Value-clause-carries
+returns-in-Value-clause-carries g c = search rules

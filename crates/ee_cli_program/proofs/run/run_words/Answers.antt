@@ -1,0 +1,62 @@
+use Rattle.std.proofs.Common.{inl, inr}
+use Rattle.ee_cli_commands.specs.Answer.{view_of}
+use Rattle.ee_cli_commands.proofs.Lemmas.{asks_unrefused, never_asks_for_both}
+use Rattle.ee_cli_program.specs.Statuses.{Carries}
+use Rattle.ee_cli_program.proofs.Ended.{concluded, shown, refused_line, value_printed}
+use Rattle.ee_cli_program.proofs.run.run_words.Goals as goal
+
+pub returns-in-Ok-carry_out-clause-status : goal.returns-in-Ok-carry_out-clause-status
+returns-in-Ok-carry_out-clause-status g c =
+    concluded _ _ (view_of c.in-Ok.command) c.in-Ok-carry_out.outcome c.conclude.result c.in-Ok.ensures c.in-Ok-carry_out.ensures.carries c.conclude.ensures
+
+pub returns-in-Ok-carry_out-clause-printed : goal.returns-in-Ok-carry_out-clause-printed
+returns-in-Ok-carry_out-clause-printed g c =
+    let old = g.W.Write.contents c.args.output.now in
+    let new = g.W.Write.contents c.carry_out.new.output in
+    value_printed _ old new c.conclude.result
+    (concluded _ (Carries old new) (view_of c.in-Ok.command) c.in-Ok-carry_out.outcome c.conclude.result c.in-Ok.ensures c.in-Ok-carry_out.ensures.carries c.conclude.ensures)
+
+pub returns-in-Ok-carry_out-clause-over : goal.returns-in-Ok-carry_out-clause-over
+returns-in-Ok-carry_out-clause-over g c = λ clean contents holds.
+    concluded _ _ (view_of c.in-Ok.command) c.in-Ok-carry_out.outcome c.conclude.result c.in-Ok.ensures (c.in-Ok-carry_out.ensures.over clean contents holds) c.conclude.ensures
+
+pub returns-in-Err-Help-clause-status : goal.returns-in-Err-Help-clause-status
+returns-in-Err-Help-clause-status g c = shown _ _ _ (inl (rw c.in-Err-Help.field-0-is at c.in-Err-Help.ensures)) c.show.ensures.status
+
+pub returns-in-Err-Help-clause-printed : goal.returns-in-Err-Help-clause-printed
+returns-in-Err-Help-clause-printed g c = λ denom issued month rate is zero. absurd (asks_unrefused _ _ _ is (rw c.in-Err-Help.field-0-is at c.in-Err-Help.ensures))
+
+pub returns-in-Err-Help-clause-over : goal.returns-in-Err-Help-clause-over
+returns-in-Err-Help-clause-over g c = λ clean contents holds. shown _ _ _ (inl (rw c.in-Err-Help.field-0-is at c.in-Err-Help.ensures)) c.show.ensures.status
+
+pub returns-in-Err-Line-clause-status : goal.returns-in-Err-Line-clause-status
+returns-in-Err-Line-clause-status g c = refused_line _ _ _ (inr (rw c.in-Err-Line.field-0-is at c.in-Err-Line.ensures)) c.refuse_line.ensures
+
+pub returns-in-Err-Line-clause-over : goal.returns-in-Err-Line-clause-over
+returns-in-Err-Line-clause-over g c = λ clean contents holds. refused_line _ _ _ (inr (rw c.in-Err-Line.field-0-is at c.in-Err-Line.ensures)) c.refuse_line.ensures
+
+pub returns-in-Err-Argument-clause-status : goal.returns-in-Err-Argument-clause-status
+returns-in-Err-Argument-clause-status g c =
+    refused_line _ _ _ (inl (c.in-Err-Argument.name.now, rw c.in-Err-Argument.field-0-is at c.in-Err-Argument.ensures)) c.refuse_argument.ensures
+
+pub returns-in-Err-Argument-clause-over : goal.returns-in-Err-Argument-clause-over
+returns-in-Err-Argument-clause-over g c = λ clean contents holds.
+    refused_line _ _ _ (inl (c.in-Err-Argument.name.now, rw c.in-Err-Argument.field-0-is at c.in-Err-Argument.ensures)) c.refuse_argument.ensures
+
+pub returns-in-Ok-carry_out-clause-version : goal.returns-in-Ok-carry_out-clause-version
+returns-in-Ok-carry_out-clause-version g c = λ version zero. absurd (asks_unrefused _ _ _ c.in-Ok.ensures version)
+
+pub returns-in-Err-Help-clause-version : goal.returns-in-Err-Help-clause-version
+returns-in-Err-Help-clause-version g c = λ version zero. absurd (never_asks_for_both _ (rw c.in-Err-Help.field-0-is at c.in-Err-Help.ensures) version)
+
+pub returns-in-Err-Version-clause-status : goal.returns-in-Err-Version-clause-status
+returns-in-Err-Version-clause-status g c = shown _ _ _ (inr (rw c.in-Err-Version.field-0-is at c.in-Err-Version.ensures)) c.show_version.ensures.status
+
+pub returns-in-Err-Version-clause-printed : goal.returns-in-Err-Version-clause-printed
+returns-in-Err-Version-clause-printed g c = λ denom issued month rate is zero. absurd (asks_unrefused _ _ _ is (rw c.in-Err-Version.field-0-is at c.in-Err-Version.ensures))
+
+pub returns-in-Err-Version-clause-version : goal.returns-in-Err-Version-clause-version
+returns-in-Err-Version-clause-version g c = λ version zero. c.show_version.ensures.printed zero
+
+pub returns-in-Err-Version-clause-over : goal.returns-in-Err-Version-clause-over
+returns-in-Err-Version-clause-over g c = λ clean contents holds. shown _ _ _ (inr (rw c.in-Err-Version.field-0-is at c.in-Err-Version.ensures)) c.show_version.ensures.status

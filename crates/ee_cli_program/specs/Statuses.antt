@@ -1,0 +1,50 @@
+-- What an exit status says of the words of a line, and of what was carried out.
+use Rattle.std.specs.Prelude.{◌≡◌, ◌≢◌, ◌≤◌, ◌⊎◌, ◌++◌, ◌∷◌, [], ℕ, List, codes, Option, Result, Ok, Err, IfOk, ⊤}
+use Rattle.clap.specs.Words.{Text}
+use Rattle.ee_cli_actions.specs.Values.{PrintsValue}
+use Rattle.ee_cli_actions.specs.declared.faults.Outcome.{Outcome}
+use Rattle.ee_cli_actions.specs.declared.faults.Outcome.TheVariants as outcome
+use Rattle.ee_cli_actions.specs.declared.faults.RunFault.{RunFault}
+use Rattle.ee_cli_commands.specs.CommandLine.{Asked, value, apply, imports, export, sheet, serve}
+use Rattle.ee_cli_commands.specs.Answer.{IsAsked, IsRefused, AsksForHelp, AsksForVersion}
+
+-- whatever the store holds: a value is printed, and what shows or serves is never refused. A value needs no store.
+abbrev pub Carries : Option (List ℕ) → Option (List ℕ) → Asked → Result Outcome RunFault → Type 0
+Carries old new (value denom issued month rate) result = PrintsValue denom issued month rate old new result
+Carries old new (apply db) result = ⊤
+Carries old new (imports kind file db number) result = ⊤
+Carries old new (export customer db) result = IfOk result (λ ended. ended ≡ outcome.Done)
+Carries old new (sheet customer month db) result = IfOk result (λ ended. ended ≡ outcome.Done)
+Carries old new (serve db port connections) result = IfOk result (λ ended. ended ≡ outcome.Done)
+
+-- the versions of the program and of the stores that it makes
+abbrev pub version_line : List ℕ
+version_line = codes "ee_cli 1.0.0, store version 1" ++ 10 ∷ []
+
+-- the words ask for help, or for the version
+abbrev pub AsksToShow : List Text → Type 0
+AsksToShow words = AsksForHelp words ⊎ AsksForVersion words
+
+-- an unsettled value that could not be told is status 3
+abbrev pub IsStatusFor : Outcome → ℕ → Type 0
+IsStatusFor outcome.Done status = status ≡ 0
+IsStatusFor outcome.Refused status = status ≡ 1
+IsStatusFor (outcome.Unsettled age) status = (status ≡ 1) ⊎ (status ≡ 3)
+
+-- how a command ended, by the status: 0 done, 1 refused or unsettled, never 2; 3 says nothing
+pub record Ends (Carried : Result Outcome RunFault → Type 0) (status : ℕ) : Type 0 where
+  pub done : status ≡ 0 → Carried (Ok outcome.Done)
+  pub refused : status ≡ 1 → Carried (Ok outcome.Refused) ⊎ ((age : ℕ) × Carried (Ok (outcome.Unsettled age)))
+  pub is_good_line : status ≢ 2
+
+-- 0: the words ask for a command, which was done, or for help or the version; 1: for a command that was refused; 2: one of them spells
+-- no value, or clap refuses them; 3: anything. `Carried` says what is known of a command that ended so: whichever command
+-- the words ask for ended as the status says.
+pub record IsRun (words : List Text) (Carried : Asked → Result Outcome RunFault → Type 0) (status : ℕ) : Type 0 where
+  pub range : status ≤ 3
+  pub ends : (asked : Asked) → IsAsked words (Ok asked) → Ends (Carried asked) status
+  pub shows : AsksToShow words → (status ≡ 0) ⊎ (status ≡ 3)
+  pub refuses_line : ((name : Text) × IsAsked words (Err name)) ⊎ IsRefused words → (status ≡ 2) ⊎ (status ≡ 3)
+  pub done : status ≡ 0 → ((asked : Asked) × IsAsked words (Ok asked)) ⊎ AsksToShow words
+  pub refused : status ≡ 1 → (asked : Asked) × IsAsked words (Ok asked)
+  pub bad_line : status ≡ 2 → ((name : Text) × IsAsked words (Err name)) ⊎ IsRefused words

@@ -1,0 +1,51 @@
+-- What commands do over the stores that their lines name.
+use Rattle.std.specs.Prelude.{◌≡◌, ◌⊎◌, ℕ, List, Option, None, Result, Err, OnOk, ⊤}
+use Rattle.std.specs.Result.{IsOk, IsErr}
+use Rattle.clap.specs.Words.{Text}
+use Rattle.ee_desk_acts.specs.Repeats.{Content}
+use Rattle.ee_cli_actions.specs.Actions.{Applies, ExportsFrom, ImportsInto, ShowsSheet}
+use Rattle.ee_cli_actions.specs.Connections.{ServesAll}
+use Rattle.ee_cli_actions.specs.declared.faults.Outcome.{Outcome}
+use Rattle.ee_cli_actions.specs.declared.faults.RunFault.{RunFault}
+use Rattle.ee_cli_actions.specs.declared.faults.RunFault.TheVariants.{Store}
+use Rattle.ee_cli_actions.specs.declared.faults.StoreFault.TheVariants.{NotWrittenBack}
+use Rattle.ee_cli_commands.specs.CommandLine.{Asked, value, apply, imports, export, sheet, serve}
+
+-- every store is memory, or returns what was written
+abbrev pub AreClean : {S : Type 0} → (S → Type 0) → Type 0
+AreClean {S} is_clean = (store : S) → is_clean store
+
+-- the command was carried out over the store that it was given; or a file or a port was not opened, and nothing was printed
+abbrev pub Tries : Option (List ℕ) → Option (List ℕ) → Result Outcome RunFault → Type 0 → Type 0
+Tries old new result Carried = Carried ⊎ (IsErr result × (new ≡ old))
+
+-- a command ends as its work did; or its work was done, and the store was not written back
+abbrev pub EndsAs : Result Outcome RunFault → Result Outcome RunFault → Type 0
+EndsAs ended result = (result ≡ ended) ⊎ (IsOk ended × (result ≡ Err (Store NotWrittenBack)))
+
+-- the work ended so over a store, which was left so and then closed: where the command did not fail, it is at rest
+pub record Works {S R : Type 0} (rests : S → R → Type 0) (result : Result Outcome RunFault) (Carried : S → Result Outcome RunFault → Type 0) : Type 0 where
+  pub left : S
+  pub ended : Result Outcome RunFault
+  pub carried : Carried left ended
+  pub ends : EndsAs ended result
+  pub at_rest : OnOk result ((rest : R) × rests left rest)
+
+-- the work was done over the store; or the store, a file or a port was not opened, and nothing was printed
+abbrev pub Over : {S R : Type 0} → (S → R → Type 0) → Option (List ℕ) → Option (List ℕ) → Result Outcome RunFault → (S → Result Outcome RunFault → Type 0) → Type 0
+Over rests old new result Carried = Works rests result Carried ⊎ (IsErr result × (new ≡ old))
+
+-- a command over the store that its line names, where `contents` says what each store holds: the bytes of the input and what
+-- is left of them, those of the output before and after, and how it ended. Of a file that is imported nobody knows the bytes.
+abbrev pub CarriesOver : {S R : Type 0} → (S → Content → Type 0) → (S → R → Type 0) → (Text → Content) → Option (List ℕ) → Option (List ℕ) → Option (List ℕ) → Option (List ℕ) → Asked → Result Outcome RunFault → Type 0
+CarriesOver has rests contents input left old new (value denom issued month rate) result = ⊤
+CarriesOver has rests contents input left old new (apply db) result =
+    Over rests old new result (λ store ended. Applies input left old new (contents db) ended (has store))
+CarriesOver has rests contents input left old new (imports kind file db number) result =
+    Over rests old new result (λ store ended. ImportsInto kind None old new number (contents db) ended (has store))
+CarriesOver has rests contents input left old new (export customer db) result =
+    Over rests old new result (λ store ended. ExportsFrom old new customer (contents db) ended (has store))
+CarriesOver has rests contents input left old new (sheet customer month db) result =
+    Over rests old new result (λ store ended. ShowsSheet old new customer month (contents db) ended (has store (contents db)))
+CarriesOver has rests contents input left old new (serve db port connections) result =
+    Over rests old new result (λ store ended. ServesAll connections old new (contents db) ended (has store))

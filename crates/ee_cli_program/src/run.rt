@@ -1,0 +1,159 @@
+//! Running one command line.
+
+ghost use Rattle.std.specs.Prelude.{◌≡◌, ◌≢◌, ◌⊎◌, ℕ, Ok, IfOk, map, string_bytes};
+ghost use Rattle.std.specs.Io.KnownBytes.{Appends};
+ghost use Rattle.std.specs.IoError.{error_kind};
+ghost use Rattle.clap.specs.Words.{Text};
+ghost use Rattle.ee_desk_acts.specs.Repeats.{Content};
+ghost use Rattle.ee_cli_actions.specs.Printed.{value_line};
+ghost use Rattle.ee_cli_commands.specs.Answer.{AsksForVersion, IsAsked};
+ghost use Rattle.ee_cli_commands.specs.CommandLine.{value};
+ghost use Rattle.ee_units.specs.declared.denoms.Denom.{Denom};
+ghost use Rattle.ee_cli_program.specs.Statuses.{Carries, IsRun, IsStatusFor, version_line};
+ghost use Rattle.ee_cli_program.specs.Stores.{AreClean, CarriesOver};
+
+use crate::carrying::carry_out;
+use crate::stores::Stores;
+use ee_cli_actions::{Outcome, RunFault, print};
+use ee_cli_commands::{CommandFault, VERSION, read_command};
+use ee_store_opening::STORE_VERSION;
+use std::alloc::{AllocError, Global};
+use std::io::{self, ErrorKind, Read, Write};
+
+/// The line was carried out.
+pub const DONE: u8 = 0;
+
+/// The answer was a refusal.
+pub const REFUSED: u8 = 1;
+
+/// The command line was bad.
+pub const BAD_LINE: u8 = 2;
+
+/// A file, a socket, memory or a store failed.
+pub const FAILED: u8 = 3;
+
+/// Runs the line of those words, the first of which is the program's name, over these stores: the exit
+/// status. What is told of faults goes to `faults`, all else to `output`.
+///
+/// - `status`: what the words were, and how the command ended that they ask for. They ask for one thing at
+///   most (`ee_cli_commands::one_meaning`).
+/// - `printed`: where they ask for a value and the status is 0, the output gained just that value's line.
+/// - `version`: where they ask for the version and the status is 0, it gained just the line of the versions.
+/// - `over`: what a command over a store did and printed, by what the store held (`contents`).
+pub fn run_words<O: Stores, R: Read, W: Write, E: Write>(
+    rt: &HostRuntime,
+    stores: &O,
+    words: &[String],
+    input: &mut R,
+    output: &mut W,
+    faults: &mut E,
+) -> u8
+    ensures status { IsRun (map (λ w. string_bytes w) words.now) (Carries (W.contents output.old) (W.contents output.new)) result }
+    ensures printed { (denom : Denom) (issued month rate : ℕ)
+        → IsAsked (map (λ w. string_bytes w) words.now) (Ok (value denom issued month rate)) → result ≡ 0
+        → Appends (W.contents output.old) (W.contents output.new) (value_line denom issued month rate) }
+    ensures version { AsksForVersion (map (λ w. string_bytes w) words.now) → result ≡ 0
+        → Appends (W.contents output.old) (W.contents output.new) version_line }
+    ensures over { AreClean O.Store.is_clean → (contents : Text → Content) → ((path : Text) → O.holds stores.now path (contents path))
+        → IsRun (map (λ w. string_bytes w) words.now) (CarriesOver O.Store.has O.rests contents (R.remaining input.old) (R.remaining input.new) (W.contents output.old) (W.contents output.new)) result }
+{
+    match read_command(rt.alloc(), words) {
+        Ok(command) => match carry_out(rt, stores, command, input, output) {
+            Ok(outcome) => conclude(outcome, faults),
+            Err(fault) => report(fault, faults),
+        },
+        Err(CommandFault::Help(text)) => show(&text, output, faults),
+        Err(CommandFault::Version) => show_version(rt.alloc(), output, faults),
+        Err(CommandFault::Line(text)) => refuse_line(&text, faults),
+        Err(CommandFault::Argument(name)) => refuse_argument(name, faults),
+        Err(CommandFault::NoMemory) => report(RunFault::NoMemory, faults),
+    }
+}
+
+/// Tells that the words of a line were not read, and why: the exit status. One that isn't UTF-8 makes a bad line; else
+/// memory was refused.
+pub fn refuse_words<E: Write>(error: &io::Error, faults: &mut E) -> u8
+    ensures not_text { error_kind error.now ≡ ErrorKind.InvalidData → (result ≡ 2) ⊎ (result ≡ 3) }
+    ensures memory { error_kind error.now ≢ ErrorKind.InvalidData → result ≡ 3 }
+{
+    match error.kind() {
+        ErrorKind::InvalidData => {
+            if writeln!(faults, "bad argument: a word isn't UTF-8").is_ok() {
+                BAD_LINE
+            } else {
+                FAILED
+            }
+        }
+        _ => report(RunFault::NoMemory, faults),
+    }
+}
+
+// Tells how a command ended that was carried out.
+fn conclude<E: Write>(outcome: Outcome, faults: &mut E) -> u8
+    ensures { IsStatusFor outcome result }
+{
+    match outcome {
+        Outcome::Done => DONE,
+        Outcome::Refused => REFUSED,
+        Outcome::Unsettled(age) => {
+            let age = age.months();
+            if writeln!(faults, "unsettled at age {age}").is_ok() {
+                REFUSED
+            } else {
+                FAILED
+            }
+        }
+    }
+}
+
+// Tells why a command was not carried out.
+fn report<E: Write>(fault: RunFault, faults: &mut E) -> u8
+    ensures { result ≡ 3 }
+{
+    let _told = writeln!(faults, "{fault}");
+    FAILED
+}
+
+// Prints what a line asks for that names no command.
+fn show<W: Write, E: Write>(text: &str, output: &mut W, faults: &mut E) -> u8
+    ensures status { (result ≡ 0) ⊎ (result ≡ 3) }
+    ensures printed { result ≡ 0 → Appends (W.contents output.old) (W.contents output.new) text.now }
+{
+    match print(text, output) {
+        Ok(()) => DONE,
+        Err(fault) => report(fault, faults),
+    }
+}
+
+// Prints the versions of the program and of the stores that it makes.
+fn show_version<W: Write, E: Write>(alloc: Global, output: &mut W, faults: &mut E) -> u8
+    ensures status { (result ≡ 0) ⊎ (result ≡ 3) }
+    ensures printed { result ≡ 0 → Appends (W.contents output.old) (W.contents output.new) version_line }
+{
+    match version(alloc) {
+        Ok(line) => show(&line, output, faults),
+        Err(_) => report(RunFault::NoMemory, faults),
+    }
+}
+
+fn version(alloc: Global) -> Result<String, AllocError>
+    ensures { IfOk result (λ line. string_bytes line ≡ version_line) }
+{
+    format!(in alloc; "ee_cli {VERSION}, store version {STORE_VERSION}\n")
+}
+
+// Tells that the words fit no row.
+fn refuse_line<E: Write>(text: &str, faults: &mut E) -> u8
+    ensures { (result ≡ 2) ⊎ (result ≡ 3) }
+{
+    let told = write!(faults, "{text}");
+    if told.is_ok() { BAD_LINE } else { FAILED }
+}
+
+// Tells which word spells no value.
+fn refuse_argument<E: Write>(name: &str, faults: &mut E) -> u8
+    ensures { (result ≡ 2) ⊎ (result ≡ 3) }
+{
+    let told = writeln!(faults, "bad argument: {name}");
+    if told.is_ok() { BAD_LINE } else { FAILED }
+}

@@ -1,0 +1,78 @@
+//! Stores in files.
+
+ghost use Rattle.std.specs.Prelude.{◌≡◌};
+ghost use Rattle.sqlite.specs.WalFiles.{image_at};
+ghost use Rattle.ee_store.specs.Ended.{RestsIn, StandsAlone};
+ghost use Rattle.ee_store.specs.History.{RestsAfter};
+ghost use Rattle.ee_cli_program.specs.Faults.{fault_of_opening};
+
+use crate::stores::Stores;
+use ee_cli_actions::{RunFault, StoreFault};
+use ee_store::{OpenFault, SqlKeeper, open_as};
+use sqlite::{FileFrom, FileStore, Files, Start};
+
+/// A file of which nothing is told that it held anything. A torn write leaves each byte old or new.
+#[derive(Clone, Copy)]
+pub struct Untold;
+
+impl Start for Untold {
+    ghost use Rattle.std.specs.Prelude.{true, []};
+
+    ghost log = { [] };
+
+    ghost db = { [] };
+
+    ghost is_mixing = { true };
+
+    fn mixes() -> bool {
+        true
+    }
+}
+
+/// The stores in the files of this system, where `start` stands for what each held as it is opened.
+#[derive(Clone, Copy)]
+pub struct StoreFiles<'a, F: Start> {
+    pub rt: &'a HostRuntime,
+    pub start: F,
+}
+
+impl<F: Start + Copy> Stores for StoreFiles<'_, F> {
+    type Store = SqlKeeper<FileStore<FileFrom<F>>>;
+
+    type Rest = Files<FileFrom<F>>;
+
+    // What each held is a store of that content at rest.
+    ghost holds = { λ _ _ content. StandsAlone (image_at F.Start) content };
+
+    // The files are at rest with what the store had, and that is what its whole history led to.
+    ghost rests = { λ store files. RestsIn store.conn files × RestsAfter store.conn files };
+
+    fn open(&self, path: &str) -> Result<SqlKeeper<FileStore<FileFrom<F>>>, RunFault> {
+        match open_as(self.rt, path, self.start) {
+            Ok(keeper) => Ok(keeper),
+            Err(not) => Err(told(not.fault)),
+        }
+    }
+
+    fn close(
+        &self,
+        store: SqlKeeper<FileStore<FileFrom<F>>>,
+    ) -> Result<Files<FileFrom<F>>, RunFault> {
+        match store.close_files() {
+            Ok(files) => Ok(files),
+            Err(_store) => Err(RunFault::Store(StoreFault::NotWrittenBack)),
+        }
+    }
+}
+
+// How a store that isn't opened is told.
+fn told(fault: OpenFault) -> RunFault
+    ensures { result ≡ fault_of_opening fault }
+{
+    match fault {
+        OpenFault::NoMemory => RunFault::NoMemory,
+        OpenFault::StoreFailed => RunFault::Store(StoreFault::StoreFailed),
+        OpenFault::WrongVersion => RunFault::Store(StoreFault::WrongVersion),
+        OpenFault::Unusable => RunFault::Store(StoreFault::Unusable),
+    }
+}

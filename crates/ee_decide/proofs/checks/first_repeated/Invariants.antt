@@ -1,6 +1,0 @@
-use Rattle.std.proofs.Common.{◌≡◌, [], take, drop}
-use Rattle.ee_acts.specs.Refusals as is
-use Rattle.ee_decide.proofs.checks.first_repeated.Given as goal
-
-abbrev pub invariant-loop-i : goal.invariant-loop-i
-invariant-loop-i l = is.repeated (take l.i l.serials) (drop l.i l.serials) ≡ is.repeated [] l.serials

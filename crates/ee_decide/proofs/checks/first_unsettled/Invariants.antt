@@ -1,6 +1,0 @@
-use Rattle.std.proofs.Common.{◌≡◌, drop}
-use Rattle.ee_acts.specs.Refusals as is
-use Rattle.ee_decide.proofs.checks.first_unsettled.Given as goal
-
-abbrev pub invariant-loop-row : goal.invariant-loop-row
-invariant-loop-row l = is.first_of (is.near) (drop l.row-index l.rows) ≡ is.first_of (is.near) l.rows

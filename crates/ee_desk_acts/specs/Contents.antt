@@ -1,0 +1,28 @@
+-- The books and the content that a list of requests leaves.
+use Rattle.std.specs.Prelude.{List, [], ◌∷◌}
+use Rattle.std.specs.FinMap as finite
+use Rattle.std.specs.FinMap.{FinMap}
+use Rattle.ee_desk_acts.specs.Numbers.{number_cmp, number_of}
+use Rattle.ee_desk_acts.specs.declared.acts.Request.{Request}
+use Rattle.ee_desk_acts.specs.declared.changes.Kept.{Kept}
+use Rattle.ee_desk_acts.specs.PlainBooks.{PlainBooks}
+use Rattle.ee_desk_acts.specs.Outcomes.{act}
+use Rattle.ee_desk_acts.specs.Repeats.{Content, once}
+
+-- the books after requests that know nothing of numbers
+abbrev pub acted : PlainBooks → List Request → PlainBooks
+acted books [] = books
+acted books (q ∷ qs) = acted (act books q.act).books qs
+
+abbrev pub books_after : Content → List Request → PlainBooks
+books_after start requests = acted start.books (once start requests)
+
+-- one entry for each request: its number, its act and its reply
+abbrev pub noted : PlainBooks → FinMap number_cmp Kept → List Request → FinMap number_cmp Kept
+noted books kept [] = kept
+noted books kept (q ∷ qs) =
+    noted (act books q.act).books (finite.insert kept (number_of q) (record { act = q.act; reply = (act books q.act).reply })) qs
+
+abbrev pub content_after : Content → List Request → Content
+content_after start requests =
+    record { books = books_after start requests; kept = noted start.books start.kept (once start requests) }

@@ -1,0 +1,26 @@
+//! What the desk of a paying agent is asked, what it answers, and what these mean: acts and replies
+//! as types, the books, the order of refusals, and requests that may come again as definitions.
+#![tactic(auto)]
+
+mod acts;
+mod changes;
+mod laws;
+mod numbers;
+mod ranges;
+mod refusals;
+mod replies;
+mod rows;
+mod terms;
+mod unit_tables;
+
+pub use acts::{Act, Request};
+pub use changes::{Change, Effects, Held, Kept};
+pub use ee_value::RateRow;
+pub use laws::{acts_keep_sound, one_view, same_acts, shows_own_bonds_alone, view_decides};
+pub use numbers::Number;
+pub use ranges::in_range;
+pub use refusals::{Refusal, Unserved};
+pub use replies::{Batch, Line, Reply, Ticket};
+pub use rows::Rows;
+pub use terms::Terms;
+pub use unit_tables::UnitTables;

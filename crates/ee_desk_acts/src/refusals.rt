@@ -1,0 +1,159 @@
+ghost use Rattle.std.specs.Prelude.{◌≡◌};
+ghost use Rattle.ee_desk_acts.specs.Codes.{code_of, name_of, number_of_unserved};
+
+use ee_units::{Age, IssueMonth, Serial};
+use std::alloc::AllocError;
+use thiserror::Error;
+
+/// Why an act is refused. The first that holds is answered, in the order of the codes; those from 50
+/// on are tested serial by serial. A refusal changes nothing.
+#[derive(Clone, Copy, Debug, PartialEq, Eq, Error)]
+pub enum Refusal {
+    /// The number has a kept reply for another act. This answer isn't kept.
+    #[error("the number stands for another act")]
+    NumberReused,
+    /// There is no row, or no serial.
+    #[error("nothing is asked")]
+    Empty,
+    /// There are more than 500 rows, or more than 100 serials.
+    #[error("too much is asked at once")]
+    TooMany,
+    /// The serial stands earlier in the request.
+    #[error("a serial stands twice")]
+    Repeated(Serial),
+    /// The coowner is the owner.
+    #[error("the coowner is the owner")]
+    SameCoowner(Serial),
+    /// Rates are announced in May and November alone.
+    #[error("no month of announcement")]
+    NotAnnouncementMonth(IssueMonth),
+    /// The month holds other rates, in the books or in an earlier row.
+    #[error("the month has other rates")]
+    RateConflict(IssueMonth),
+    /// Some value at these rates can't be settled to the cent; this is the least such age.
+    #[error("a value at these rates is unsettled")]
+    RateUnsettled(Age),
+    /// There are no rates for the period of issue.
+    #[error("no rates for the period of issue")]
+    NoRate(Serial),
+    /// The serial is registered with other content.
+    #[error("the serial is registered with other content")]
+    SerialConflict(Serial),
+    /// A day is open.
+    #[error("a day is open")]
+    DayOpen,
+    /// The day is not after the last closed one.
+    #[error("the day is not after the last closed day")]
+    DayNotLater,
+    /// No day is open.
+    #[error("no day is open")]
+    NoOpenDay,
+    /// Another day is open.
+    #[error("another day is open")]
+    DayIsOther,
+    /// The day has 1,000 tickets.
+    #[error("the day has 1,000 tickets")]
+    DayFull,
+    /// The serial isn't registered.
+    #[error("the serial is not registered")]
+    UnknownSerial(Serial),
+    /// The payee is neither owner nor coowner.
+    #[error("the payee is neither owner nor coowner")]
+    NotPayee(Serial),
+    /// The bond stands on that ticket.
+    #[error("the bond is paid already")]
+    AlreadyPaid(Serial, u64),
+    /// The day's month is before the month of issue.
+    #[error("the bond is not issued yet")]
+    NotIssued(Serial),
+    /// The bond is younger than 12 months (31 CFR Part 351).
+    #[error("the bond is younger than 12 months")]
+    NotEligible(Serial),
+}
+
+impl Refusal {
+    /// The refusal's code, 10 to 54.
+    pub fn code(&self) -> u8
+        ensures { result ≡ code_of self.now }
+    {
+        match self {
+            Refusal::NumberReused => 10,
+            Refusal::Empty => 11,
+            Refusal::TooMany => 12,
+            Refusal::Repeated(_) => 13,
+            Refusal::SameCoowner(_) => 14,
+            Refusal::NotAnnouncementMonth(_) => 20,
+            Refusal::RateConflict(_) => 21,
+            Refusal::RateUnsettled(_) => 22,
+            Refusal::NoRate(_) => 30,
+            Refusal::SerialConflict(_) => 31,
+            Refusal::DayOpen => 40,
+            Refusal::DayNotLater => 41,
+            Refusal::NoOpenDay => 42,
+            Refusal::DayIsOther => 43,
+            Refusal::DayFull => 44,
+            Refusal::UnknownSerial(_) => 50,
+            Refusal::NotPayee(_) => 51,
+            Refusal::AlreadyPaid(_, _) => 52,
+            Refusal::NotIssued(_) => 53,
+            Refusal::NotEligible(_) => 54,
+        }
+    }
+
+    /// The refusal's name.
+    pub fn name(&self) -> &'static str
+        ensures { result.now ≡ name_of self.now }
+    {
+        match self {
+            Refusal::NumberReused => "NumberReused",
+            Refusal::Empty => "Empty",
+            Refusal::TooMany => "TooMany",
+            Refusal::Repeated(_) => "Repeated",
+            Refusal::SameCoowner(_) => "SameCoowner",
+            Refusal::NotAnnouncementMonth(_) => "NotAnnouncementMonth",
+            Refusal::RateConflict(_) => "RateConflict",
+            Refusal::RateUnsettled(_) => "RateUnsettled",
+            Refusal::NoRate(_) => "NoRate",
+            Refusal::SerialConflict(_) => "SerialConflict",
+            Refusal::DayOpen => "DayOpen",
+            Refusal::DayNotLater => "DayNotLater",
+            Refusal::NoOpenDay => "NoOpenDay",
+            Refusal::DayIsOther => "DayIsOther",
+            Refusal::DayFull => "DayFull",
+            Refusal::UnknownSerial(_) => "UnknownSerial",
+            Refusal::NotPayee(_) => "NotPayee",
+            Refusal::AlreadyPaid(_, _) => "AlreadyPaid",
+            Refusal::NotIssued(_) => "NotIssued",
+            Refusal::NotEligible(_) => "NotEligible",
+        }
+    }
+}
+
+/// Why a request got no reply. It then changed nothing, and its number stays as it was.
+#[derive(Clone, Copy, Debug, PartialEq, Eq, Error)]
+pub enum Unserved {
+    #[error("no memory")]
+    NoMemory = 1,
+    #[error("the store failed")]
+    StoreFailed = 2,
+}
+
+impl Unserved {
+    /// Its number, 1 or 2.
+    pub const fn code(self) -> u8
+        ensures { result ≡ number_of_unserved self }
+    {
+        self as u8
+    }
+}
+
+impl From<AllocError> for Unserved {
+    ghost use Rattle.std.specs.Prelude.{◌≡◌};
+    ghost use Rattle.ee_desk_acts.specs.declared.refusals.Unserved.TheVariants.{NoMemory};
+
+    ghost from_gives = { λ _ e. e ≡ NoMemory };
+
+    fn from(_: AllocError) -> Unserved {
+        Unserved::NoMemory
+    }
+}

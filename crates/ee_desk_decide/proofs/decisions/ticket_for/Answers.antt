@@ -1,0 +1,10 @@
+use Rattle.std.proofs.Common.{ap, ◌∙◌}
+use Rattle.ee_desk_acts.specs.Views.{shown_by}
+use Rattle.ee_desk_acts.specs.Refusals.{refusal_of_serial}
+use Rattle.ee_desk_decide.proofs.Payable.{none_at}
+use Rattle.ee_desk_decide.proofs.decisions.ticket_for.Goals as goal
+
+pub line_for-line-requires : goal.line_for-line-requires
+line_for-line-requires c =
+    ap (λ m. refusal_of_serial (shown_by c.args.view.now) m c.args.payee c.serial-item.result) c.month_of-month.ensures
+    ∙ none_at _ c.args.serials.now c.loop-serial.serial-index c.serial-item.result c.requires.payable c.loop-serial-test.true c.serial-item.is

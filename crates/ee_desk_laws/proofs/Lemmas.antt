@@ -1,0 +1,39 @@
+-- Lemmas that the proofs of crates above use: what a disk may leave after each turn, and elements of lists.
+use Rattle.std.proofs.Common.{List, ◌∷◌, false, true, ◌≡◌, ◌⊎◌}
+use Rattle.std.specs.List.{Contains}
+use Rattle.ee_desk_acts.specs.Numbers.{number_of}
+use Rattle.ee_desk_acts.specs.Repeats.{Content}
+use Rattle.ee_desk_acts.specs.declared.acts.Request.{Request}
+use Rattle.ee_desk_laws.specs.Events.{Told, World, decided, one, unserved}
+use Rattle.ee_desk_laws.specs.Ties.{Leaves}
+use Rattle.std.specs.FinMap as finite
+use Rattle.ee_desk_laws.proofs.Elements
+use Rattle.ee_desk_laws.proofs.Leaving
+
+-- ---- what may be left stands for a content of the world
+-- where no disk may be left but those of before
+pub leaves_as_before : {Disk : Type 0} (Stands : Disk → Content → Type 0) (old new : Disk → Type 0) (w : World)
+    → ((disk : Disk) → new disk → old disk) → Leaves Stands old w → Leaves Stands new w
+leaves_as_before = Leaving.leaves_as_before
+
+-- after a request with a new number, where what may be left stands for the content after it
+pub leaves_new : {Disk : Type 0} (Stands : Disk → Content → Type 0) (may_leave : Disk → Type 0) (w : World) (q : Request) (told : List Told)
+    → finite.contains_key w.now.kept (number_of q) ≡ false → ((disk : Disk) → may_leave disk → Stands disk (one w.now q))
+    → Leaves Stands may_leave (decided w q told)
+leaves_new = Leaving.leaves_new
+
+-- after a request whose number is kept, where no disk may be left but those of before
+pub leaves_kept : {Disk : Type 0} (Stands : Disk → Content → Type 0) (old new : Disk → Type 0) (w : World) (q : Request) (told : List Told)
+    → finite.contains_key w.now.kept (number_of q) ≡ true → ((disk : Disk) → new disk → old disk) → Leaves Stands old w
+    → Leaves Stands new (decided w q told)
+leaves_kept = Leaving.leaves_kept
+
+-- after a request that wasn't served, where what may be left was left before or stands for the content after it
+pub leaves_unserved : {Disk : Type 0} (Stands : Disk → Content → Type 0) (old new : Disk → Type 0) (w : World) (q : Request)
+    → ((disk : Disk) → new disk → old disk ⊎ Stands disk (one w.now q)) → Leaves Stands old w → Leaves Stands new (unserved w q)
+leaves_unserved = Leaving.leaves_unserved
+
+-- ---- elements
+-- an element of the rest is one of the list
+pub in_tail : {A : Type 0} (y : A) (xs : List A) (x : A) → Contains xs x → Contains (y ∷ xs) x
+in_tail = Elements.in_tail

@@ -1,0 +1,9 @@
+use Rattle.std.proofs.Common.{◌≡◌, ◌++◌, drop, Some}
+use Rattle.serde_json.specs.View.{items_view}
+use Rattle.ee_units.specs.Spelling.{◌>>=◌}
+use Rattle.ee_desk_texts.specs.Reading.{each, rate_row_of}
+use Rattle.ee_desk_texts.proofs.act_reading.rate_rows_of.Given as goal
+
+abbrev pub invariant-loop-value : goal.invariant-loop-value
+invariant-loop-value l =
+    (each rate_row_of (items_view (drop l.value-index l.values)) >>= λ later. Some (l.rows.items ++ later)) ≡ each rate_row_of (items_view l.values)

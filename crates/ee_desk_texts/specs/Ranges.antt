@@ -1,0 +1,74 @@
+-- Acts and replies whose plain numbers are in the ranges of their types, as all that a program holds are.
+use Rattle.std.specs.Prelude.{ℕ, ◌^◌, ◌<◌, ◌≤◌, IfSome, ⊤}
+use Rattle.std.specs.List.{AllByRecursion}
+use Rattle.ee_units.specs.Spelling.{SerialNumber}
+use Rattle.ee_value.specs.Chain.{InRange}
+use Rattle.ee_calculator.specs.declared.bonds.Bond.{Bond}
+use Rattle.ee_desk_acts.specs.Sound.{IsDay, IsIssueMonth}
+use Rattle.ee_value.specs.declared.rates.RateRow.{RateRow}
+use Rattle.ee_desk_acts.specs.declared.acts.Act.{Act}
+use Rattle.ee_desk_acts.specs.declared.acts.Act.TheVariants as act
+use Rattle.ee_desk_acts.specs.declared.replies.Line.{Line}
+use Rattle.ee_desk_acts.specs.declared.replies.Ticket.{Ticket}
+use Rattle.ee_desk_acts.specs.declared.replies.Batch.{Batch}
+use Rattle.ee_desk_acts.specs.declared.replies.Reply.{Reply}
+use Rattle.ee_desk_acts.specs.declared.replies.Reply.TheVariants as reply
+use Rattle.ee_desk_texts.specs.Data.{names}
+use Rattle.ee_desk_texts.specs.declared.refusals.Named.{Named}
+use Rattle.ee_desk_texts.specs.declared.refusals.Named.TheVariants as named
+
+-- a count, or an amount of cents
+abbrev pub IsCount : ℕ → Type 0
+IsCount n = n < 2 ^ 64
+
+abbrev pub IsCustomer : ℕ → Type 0
+IsCustomer customer = (1 ≤ customer) × (customer ≤ 999999999)
+
+abbrev pub IsSerial : SerialNumber → Type 0
+IsSerial serial = (1 ≤ serial.letter) × (serial.letter ≤ 26) × (1 ≤ serial.number) × (serial.number ≤ 9999999999)
+
+abbrev pub RateRowFits : RateRow → Type 0
+RateRowFits row = IsIssueMonth row.from × InRange row.rates
+
+pub record BondFits (bond : Bond) : Type 0 where
+  pub serial : IsSerial bond.serial
+  pub issued : IsIssueMonth bond.issued
+  pub owner : IsCustomer bond.owner
+  pub coowner : IfSome bond.coowner IsCustomer
+
+abbrev pub ActFits : Act → Type 0
+ActFits (act.AddRates rows) = AllByRecursion RateRowFits rows
+ActFits (act.AddBonds bonds) = AllByRecursion BondFits bonds
+ActFits (act.OpenDay day) = IsDay day
+ActFits (act.Redeem day payee serials) = IsDay day × IsCustomer payee × AllByRecursion IsSerial serials
+ActFits (act.CloseDay day) = IsDay day
+
+abbrev pub LineFits : Line → Type 0
+LineFits line = IsSerial line.serial × IsCount line.cents.0
+
+pub record TicketFits (ticket : Ticket) : Type 0 where
+  pub number : IsCount ticket.ticket
+  pub day : IsDay ticket.day
+  pub payee : IsCustomer ticket.payee
+  pub lines : AllByRecursion LineFits ticket.lines
+  pub total : IsCount ticket.total.0
+
+pub record BatchFits (batch : Batch) : Type 0 where
+  pub day : IsDay batch.day
+  pub tickets : IsCount batch.tickets
+  pub bonds : IsCount batch.bonds
+  pub total : IsCount batch.total.0
+
+abbrev pub NamedFits : Named → Type 0
+NamedFits named.Nothing = ⊤
+NamedFits (named.Period month) = IsIssueMonth month
+NamedFits (named.Months age) = age ≤ 2335
+NamedFits (named.Bond serial) = IsSerial serial
+NamedFits (named.Paid serial ticket) = IsSerial serial × IsCount ticket
+
+abbrev pub ReplyFits : Reply → Type 0
+ReplyFits (reply.Added new same) = IsCount new × IsCount same
+ReplyFits (reply.Opened day) = IsDay day
+ReplyFits (reply.Ticket ticket) = TicketFits ticket
+ReplyFits (reply.Batch batch) = BatchFits batch
+ReplyFits (reply.Refused refusal) = NamedFits (names refusal)

@@ -1,0 +1,181 @@
+//! Acts back from their texts.
+
+ghost use Rattle.std.specs.Prelude.{◌≡◌, IfOk, option_map};
+ghost use Rattle.serde_json.specs.View.{view, items_view};
+ghost use Rattle.ee_desk_texts.specs.Reading.{each, rate_row_of, bond_with, bond_of, serial_in, add_rates_of, add_bonds_of, open_of, redeem_of, close_of, act_of, ReadsAct};
+
+use crate::acts::canonical;
+use crate::fields::{count_at, customer_at, day_at, issue_at, items_at, serial_at, text_at};
+use ee_calculator::Bond;
+use ee_desk_acts::{Act, RateRow, Rows};
+use ee_units::{Customer, Denom, Serial, read_rate, read_serial};
+use ee_value::Rates;
+use serde_json::Value;
+use std::alloc::{AllocError, Global};
+
+#[tactic(auto, unfolding(crate::specs::Reading::rate_row_of))]
+fn rate_row_of(value: &Value) -> Option<RateRow>
+    ensures { result ≡ rate_row_of (view value.now) }
+{
+    let from = issue_at(value, "from")?;
+    let fixed = read_rate(text_at(value, "rate")?).ok()?;
+    Some(RateRow {
+        from,
+        rates: Rates { fixed },
+    })
+}
+
+fn rate_rows_of(alloc: Global, values: &[Value]) -> Result<Option<Vec<RateRow>>, AllocError>
+    ensures { IfOk result (λ o. option_map (λ v. v.items) o ≡ each rate_row_of (items_view values.now)) }
+{
+    let mut rows = Vec::new(alloc);
+    for value in values {
+        let Some(row) = rate_row_of(value) else {
+            return Ok(None);
+        };
+        rows.push(row)?;
+    }
+    Ok(Some(rows))
+}
+
+#[tactic(auto, unfolding(crate::specs::Reading::bond_with))]
+fn bond_with(coowner: Option<Customer>, value: &Value) -> Option<Bond>
+    ensures { result ≡ bond_with coowner (view value.now) }
+{
+    let denom = Denom::with_dollars(count_at(value, "denom")?)?;
+    let issued = issue_at(value, "issued")?;
+    let owner = customer_at(value, "owner")?;
+    let serial = serial_at(value, "serial")?;
+    Some(Bond {
+        serial,
+        denom,
+        issued,
+        owner,
+        coowner,
+    })
+}
+
+fn bonds_of(alloc: Global, values: &[Value]) -> Result<Option<Vec<Bond>>, AllocError>
+    ensures { IfOk result (λ o. option_map (λ v. v.items) o ≡ each bond_of (items_view values.now)) }
+{
+    let mut bonds = Vec::new(alloc);
+    for value in values {
+        let coowner: Option<Customer> = customer_at(value, "coowner");
+        let Some(bond) = bond_with(coowner, value) else {
+            return Ok(None);
+        };
+        bonds.push(bond)?;
+    }
+    Ok(Some(bonds))
+}
+
+fn serial_in(value: &Value) -> Option<Serial>
+    ensures { result ≡ serial_in (view value.now) }
+{
+    read_serial(value.as_str()?).ok()
+}
+
+fn serials_of(alloc: Global, values: &[Value]) -> Result<Option<Vec<Serial>>, AllocError>
+    ensures { IfOk result (λ o. option_map (λ v. v.items) o ≡ each serial_in (items_view values.now)) }
+{
+    let mut serials = Vec::new(alloc);
+    for value in values {
+        let Some(serial) = serial_in(value) else {
+            return Ok(None);
+        };
+        serials.push(serial)?;
+    }
+    Ok(Some(serials))
+}
+
+fn add_rates_of(alloc: Global, value: &Value) -> Result<Option<Act>, AllocError>
+    ensures { IfOk result (λ o. o ≡ add_rates_of (view value.now)) }
+{
+    let Some(list) = items_at(value, "rates") else {
+        return Ok(None);
+    };
+    let Some(rows) = rate_rows_of(alloc, list)? else {
+        return Ok(None);
+    };
+    Ok(Some(Act::AddRates(Rows::new(rows))))
+}
+
+fn add_bonds_of(alloc: Global, value: &Value) -> Result<Option<Act>, AllocError>
+    ensures { IfOk result (λ o. o ≡ add_bonds_of (view value.now)) }
+{
+    let Some(list) = items_at(value, "bonds") else {
+        return Ok(None);
+    };
+    let Some(bonds) = bonds_of(alloc, list)? else {
+        return Ok(None);
+    };
+    Ok(Some(Act::AddBonds(Rows::new(bonds))))
+}
+
+fn open_of(value: &Value) -> Option<Act>
+    ensures { result ≡ open_of (view value.now) }
+{
+    Some(Act::OpenDay(day_at(value, "day")?))
+}
+
+#[tactic(auto, unfolding(crate::specs::Reading::redeem_of))]
+fn redeem_of(alloc: Global, value: &Value) -> Result<Option<Act>, AllocError>
+    ensures { IfOk result (λ o. o ≡ redeem_of (view value.now)) }
+{
+    let Some(day) = day_at(value, "day") else {
+        return Ok(None);
+    };
+    let Some(payee) = customer_at(value, "payee") else {
+        return Ok(None);
+    };
+    let Some(list) = items_at(value, "serials") else {
+        return Ok(None);
+    };
+    let Some(serials) = serials_of(alloc, list)? else {
+        return Ok(None);
+    };
+    Ok(Some(Act::Redeem {
+        day,
+        payee,
+        serials: Rows::new(serials),
+    }))
+}
+
+fn close_of(value: &Value) -> Option<Act>
+    ensures { result ≡ close_of (view value.now) }
+{
+    Some(Act::CloseDay(day_at(value, "day")?))
+}
+
+fn act_of(alloc: Global, value: &Value) -> Result<Option<Act>, AllocError>
+    ensures { IfOk result (λ o. o ≡ act_of (view value.now)) }
+{
+    match text_at(value, "act") {
+        Some("rates") => add_rates_of(alloc, value),
+        Some("bonds") => add_bonds_of(alloc, value),
+        Some("open") => Ok(open_of(value)),
+        Some("redeem") => redeem_of(alloc, value),
+        Some("close") => Ok(close_of(value)),
+        _ => Ok(None),
+    }
+}
+
+/// The act of which the text is the canonical one, or None where it is that of none. Another order
+/// of keys, another spelling or a space makes another text.
+pub fn read_act(alloc: Global, text: &str) -> Result<Option<Act>, AllocError>
+    ensures { IfOk result (λ o. ReadsAct text.now o) }
+{
+    let value = match Value::from_str(alloc, text) {
+        Ok(value) => value,
+        Err(e) if e.is_memory() => return Err(AllocError),
+        Err(_) => return Ok(None),
+    };
+    let Some(act) = act_of(alloc, &value)? else {
+        return Ok(None);
+    };
+    if canonical(alloc, &act)?.as_str() == text {
+        Ok(Some(act))
+    } else {
+        Ok(None)
+    }
+}

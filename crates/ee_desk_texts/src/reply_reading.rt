@@ -1,0 +1,130 @@
+//! Replies back from their texts.
+
+ghost use Rattle.std.specs.Prelude.{◌≡◌, IfOk, option_map};
+ghost use Rattle.serde_json.specs.View.{view, items_view};
+ghost use Rattle.ee_desk_texts.specs.Reading.{each, added_of, opened_of, batch_of, line_of, ticket_of, short_reply_of, reply_of, ReadsReply};
+
+use crate::fields::{cents_at, count_at, customer_at, day_at, items_at, serial_at};
+use crate::refusal_reading::refused_of;
+use crate::replies::reply_text;
+use ee_desk_acts::{Batch, Line, Reply, Rows, Ticket};
+use serde_json::Value;
+use std::alloc::{AllocError, Global};
+
+#[tactic(auto, unfolding(crate::specs::Reading::added_of))]
+fn added_of(value: &Value) -> Option<Reply>
+    ensures { result ≡ added_of (view value.now) }
+{
+    let new = count_at(value, "new")?;
+    let same = count_at(value, "same")?;
+    Some(Reply::Added { new, same })
+}
+
+fn opened_of(value: &Value) -> Option<Reply>
+    ensures { result ≡ opened_of (view value.now) }
+{
+    Some(Reply::Opened(day_at(value, "opened")?))
+}
+
+#[tactic(auto, unfolding(crate::specs::Reading::batch_of))]
+fn batch_of(value: &Value) -> Option<Reply>
+    ensures { result ≡ batch_of (view value.now) }
+{
+    let bonds = count_at(value, "bonds")?;
+    let day = day_at(value, "day")?;
+    let tickets = count_at(value, "tickets")?;
+    let total = cents_at(value, "total")?;
+    Some(Reply::Batch(Batch {
+        day,
+        tickets,
+        bonds,
+        total,
+    }))
+}
+
+#[tactic(auto, unfolding(crate::specs::Reading::line_of))]
+fn line_of(value: &Value) -> Option<Line>
+    ensures { result ≡ line_of (view value.now) }
+{
+    let cents = cents_at(value, "paid")?;
+    let serial = serial_at(value, "serial")?;
+    Some(Line { serial, cents })
+}
+
+fn lines_of(alloc: Global, values: &[Value]) -> Result<Option<Vec<Line>>, AllocError>
+    ensures { IfOk result (λ o. option_map (λ v. v.items) o ≡ each line_of (items_view values.now)) }
+{
+    let mut lines = Vec::new(alloc);
+    for value in values {
+        let Some(line) = line_of(value) else {
+            return Ok(None);
+        };
+        lines.push(line)?;
+    }
+    Ok(Some(lines))
+}
+
+#[tactic(auto, unfolding(crate::specs::Reading::ticket_of))]
+fn ticket_of(alloc: Global, value: &Value) -> Result<Option<Reply>, AllocError>
+    ensures { IfOk result (λ o. o ≡ ticket_of (view value.now)) }
+{
+    let Some(day) = day_at(value, "day") else {
+        return Ok(None);
+    };
+    let Some(payee) = customer_at(value, "payee") else {
+        return Ok(None);
+    };
+    let Some(ticket) = count_at(value, "ticket") else {
+        return Ok(None);
+    };
+    let Some(total) = cents_at(value, "total") else {
+        return Ok(None);
+    };
+    let Some(list) = items_at(value, "lines") else {
+        return Ok(None);
+    };
+    let Some(lines) = lines_of(alloc, list)? else {
+        return Ok(None);
+    };
+    Ok(Some(Reply::Ticket(Ticket {
+        ticket,
+        day,
+        payee,
+        lines: Rows::new(lines),
+        total,
+    })))
+}
+
+fn short_reply_of(value: &Value) -> Option<Reply>
+    ensures { result ≡ short_reply_of (view value.now) }
+{
+    added_of(value).or(opened_of(value).or(batch_of(value).or(refused_of(value))))
+}
+
+fn reply_of(alloc: Global, value: &Value) -> Result<Option<Reply>, AllocError>
+    ensures { IfOk result (λ o. o ≡ reply_of (view value.now)) }
+{
+    match short_reply_of(value) {
+        Some(reply) => Ok(Some(reply)),
+        None => ticket_of(alloc, value),
+    }
+}
+
+/// The reply whose text this is, or None where it is that of none.
+pub fn read_reply(alloc: Global, text: &str) -> Result<Option<Reply>, AllocError>
+    ensures { IfOk result (λ o. ReadsReply text.now o) }
+{
+    let value = match Value::from_str(alloc, text) {
+        Ok(value) => value,
+        Err(e) if e.is_memory() => return Err(AllocError),
+        Err(_) => return Ok(None),
+    };
+    let Some(reply) = reply_of(alloc, &value)? else {
+        return Ok(None);
+    };
+    if reply_text(alloc, &reply)?.as_str() == text {
+        Ok(Some(reply))
+    } else {
+        Ok(None)
+    }
+}

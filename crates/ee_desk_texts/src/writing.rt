@@ -1,0 +1,72 @@
+//! JSON that is written a value at a time, with no tree of it in memory.
+
+ghost use Rattle.std.specs.Prelude.{IfSome};
+ghost use Rattle.serde_json.specs.Data.{string};
+ghost use Rattle.ee_desk_texts.specs.Data.{number_data, list_data};
+ghost use Rattle.ee_desk_texts.specs.Writing.{AddsData, AddsMember};
+
+use json::Writer;
+use std::alloc::{AllocError, Global};
+use std::fmt::Display;
+
+/// Writes a string: the value as it is printed.
+pub fn write_string<D: Display>(
+    alloc: Global,
+    out: &mut Writer,
+    value: &D,
+) -> Result<(), AllocError>
+    ensures { IfSome (D.output value.now) (λ text. AddsData result out.old out.new (string text)) }
+{
+    let text = value.to_string(alloc)?;
+    out.string(text.as_str())
+}
+
+/// Writes a member whose value is a string: the value as it is printed.
+pub fn write_string_member<D: Display>(
+    alloc: Global,
+    out: &mut Writer,
+    name: &str,
+    value: &D,
+) -> Result<(), AllocError>
+    ensures { IfSome (D.output value.now) (λ text. AddsMember result out.old out.new name.now (string text)) }
+{
+    out.key(name)?;
+    write_string(alloc, out, value)
+}
+
+/// Writes a member whose value is a whole number.
+pub fn write_number_member(out: &mut Writer, name: &str, number: u64) -> Result<(), AllocError>
+    ensures { AddsMember result out.old out.new name.now (number_data number) }
+{
+    out.key(name)?;
+    out.u64(number)
+}
+
+/// A row of a list.
+pub trait Row {
+    ghost use Rattle.serde_json.specs.Data.{Data};
+
+    // The row as JSON.
+    ghost row_data: { Self → Data };
+
+    /// Writes the row.
+    fn write(&self, alloc: Global, out: &mut Writer) -> Result<(), AllocError>
+        ensures { AddsData result out.old out.new (row_data self.now) };
+}
+
+/// Writes a member whose value is a list, row by row.
+pub fn write_list_member<R: Row>(
+    alloc: Global,
+    out: &mut Writer,
+    name: &str,
+    rows: &[R],
+) -> Result<(), AllocError>
+    ensures { AddsMember result out.old out.new name.now (list_data R.row_data rows.now) }
+{
+    out.key(name)?;
+    out.begin_array()?;
+    for row in rows {
+        row.write(alloc, out)?;
+    }
+    out.end_array()
+}

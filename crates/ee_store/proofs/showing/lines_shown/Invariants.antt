@@ -1,7 +1,0 @@
-use Rattle.std.proofs.Common.{◌≡◌, map, take}
-use Rattle.ee_contents.specs.Standing.{paid_row}
-use Rattle.ee_store.specs.Asking.{row_of_placed}
-use Rattle.ee_store.proofs.showing.lines_shown.Given as goal
-
-abbrev pub invariant-loop-row : goal.invariant-loop-row
-invariant-loop-row l = map paid_row l.lines.items ≡ map row_of_placed (take l.row-index l.rows)

@@ -1,9 +1,0 @@
-use Rattle.std.proofs.Common.{arith}
-use Rattle.ee_store.proofs.ReadValues.{number_fits, number_read}
-use Rattle.ee_store.proofs.values.rate_of.Goals as goal
-
-pub returns-clause-value : goal.returns-clause-value
-returns-clause-value c = number_read 0 2000 c.args.hundredths c.rate_of.result c.rate_of.ensures
-
-pub returns-clause-read : goal.returns-clause-read
-returns-clause-read c fits = number_fits 0 2000 c.args.hundredths c.rate_of.result c.rate_of.ensures (omega arith) fits

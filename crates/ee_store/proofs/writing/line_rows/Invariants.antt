@@ -1,8 +1,0 @@
-use Rattle.std.proofs.Common.{◌≡◌, map, take}
-use Rattle.std.specs.Prelude.{All}
-use Rattle.ee_tables.specs.AsRows.{FitsLine, row_of_line}
-use Rattle.ee_contents.specs.Standing.{paid_row}
-use Rattle.ee_store.proofs.writing.line_rows.Given as goal
-
-abbrev pub invariant-loop-line : goal.invariant-loop-line
-invariant-loop-line l = (map row_of_line l.rows.items ≡ map paid_row (take l.line-index l.lines)) × All FitsLine l.rows.items

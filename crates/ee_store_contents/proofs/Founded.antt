@@ -1,0 +1,40 @@
+-- What a store stands for, by what is read of its rows.
+use Rattle.std.proofs.Common.{◌≡◌, ◌↔◌, Bool, true, false, sym, ap, ◌∙◌, subst}
+use Rattle.std.specs.Prelude.{Some, None}
+use Rattle.std.specs.List.{AllByRecursion}
+use Rattle.std.proofs.lemmas.Bool.{false≢true}
+use Rattle.ee_desk_acts.specs.PlainBooks.{PlainBooks}
+use Rattle.ee_desk_acts.specs.Sound.{IsSound}
+use Rattle.ee_desk_acts.specs.Repeats.{Content}
+use Rattle.ee_desk_parts.specs.declared.parts.Parts.{Parts}
+use Rattle.ee_desk_parts.specs.Parts.{parts_of, AreUnsound}
+use Rattle.ee_store_opening.specs.declared.whole.AllRows.{AllRows}
+use Rattle.ee_store_contents.specs.Standing.{StandFor}
+use Rattle.ee_store_opening.specs.Whole.{AreInOrder, rows_of}
+use Rattle.ee_store_contents.specs.Contents.{PartsFit, KeepsReply}
+use Rattle.ee_store_contents.specs.Reading.{parts_in}
+use Rattle.ee_store_contents.proofs.ReadBack.{some_is}
+use Rattle.ee_store_contents.proofs.RowsOfBooks.{rows_of_parts, parts_in_range, parts_read, parts_are, replies_kept, content_stands}
+
+-- rows that stand for a content are read as its parts
+read_as : (stored : AllRows) (content : Content) → AreInOrder stored → StandFor (rows_of stored) content → parts_in stored ≡ Some (parts_of content.books)
+read_as stored content order stands = parts_read (parts_of content.books) stored (rows_of_parts stored content order stands) (parts_in_range content stands.right)
+
+pub no_parts : (stored : AllRows) → AreInOrder stored → None ≡ parts_in stored → (content : Content) → StandFor (rows_of stored) content → ⊥
+no_parts stored order none content stands =
+    let read = none ∙ read_as stored content order stands in
+    cc
+
+pub not_kept : (stored : AllRows) (right : Bool) → AreInOrder stored → (right ≡ true) ↔ AllByRecursion KeepsReply stored.replies.items → right ≡ false
+    → (content : Content) → StandFor (rows_of stored) content → ⊥
+not_kept stored right order is wrong content stands = false≢true (sym wrong ∙ is.1 (replies_kept stored content order stands))
+
+pub not_sound : (stored : AllRows) (parts : Parts) → AreInOrder stored → Some parts ≡ parts_in stored → AreUnsound parts
+    → (content : Content) → StandFor (rows_of stored) content → ⊥
+not_sound stored parts order read unsound content stands =
+    unsound content.books stands.right.sound (sym (some_is parts (parts_of content.books) (read ∙ read_as stored content order stands)))
+
+pub founded : (stored : AllRows) (parts : Parts) (books : PlainBooks) → AreInOrder stored → Some parts ≡ parts_in stored → PartsFit parts → parts_of books ≡ parts → IsSound books
+    → AllByRecursion KeepsReply stored.replies.items → (content : Content) × (content.books ≡ books) × StandFor (rows_of stored) content
+founded stored parts books order read fit is sound all =
+    content_stands stored books order (parts_are (parts_of books) stored (sym read ∙ ap Some (sym is))) (subst PartsFit (sym is) fit) sound all

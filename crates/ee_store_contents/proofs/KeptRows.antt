@@ -1,0 +1,54 @@
+-- Rows of kept replies.
+use Rattle.std.proofs.Common.{◌≡◌, ◌↔◌, ℕ, ◌≤◌, Bool, true, false, not, List, refl, sym, ◌∙◌, subst}
+use Rattle.std.specs.Prelude.{Option, Some, None, string_bytes}
+use Rattle.std.proofs.lemmas.Bool.{false≢true}
+use Rattle.ee_desk_acts.specs.declared.acts.Act.{Act}
+use Rattle.ee_desk_acts.specs.declared.replies.Reply.{Reply}
+use Rattle.ee_desk_acts.specs.declared.replies.Reply.TheVariants.{Refused}
+use Rattle.ee_desk_acts.specs.declared.refusals.Refusal.TheVariants.{NumberReused}
+use Rattle.ee_desk_texts.specs.Reading.{ReadsAct, ReadsReply}
+use Rattle.ee_desk_texts.proofs.Lemmas.{one_reply}
+use Rattle.ee_store_opening.specs.declared.entries.StoredReply.{StoredReply}
+use Rattle.ee_store_contents.specs.Contents.{KeepsReply}
+
+pub no_number : (row : StoredReply) → ((1 ≤ row.number) × (row.number ≤ 9223372036854775807) → ⊥) → KeepsReply row → ⊥
+no_number row out k = out k.1.is_kept.number_in_range
+
+pub no_act : (row : StoredReply) → ReadsAct (string_bytes row.act) None → KeepsReply row → ⊥
+no_act row none k = none k.0.act k.1.is_kept.act_in_range k.1.act
+
+pub no_reply : (row : StoredReply) → ReadsReply (string_bytes row.reply) None → KeepsReply row → ⊥
+no_reply row none k = none k.0.reply k.1.is_kept.reply_in_range k.1.reply
+
+not_both : (b : Bool) → not b ≡ true → b ≡ true → ⊥
+not_both true h k = false≢true h
+not_both false h k = false≢true k
+
+not_true : (b : Bool) → (b ≡ true → ⊥) → not b ≡ true
+not_true true h = absurd (h refl)
+not_true false h = refl
+
+pub keeps_one : (row : StoredReply) (a : Act) (r : Reply) (reuse : Bool) → (1 ≤ row.number) × (row.number ≤ 9223372036854775807)
+    → ReadsAct (string_bytes row.act) (Some a) → ReadsReply (string_bytes row.reply) (Some r) → (reuse ≡ true) ↔ (r ≡ Refused NumberReused)
+    → (not reuse ≡ true) ↔ KeepsReply row
+keeps_one row a r reuse number act reply is = (
+  λ fresh. (
+    record { act = a; reply = r },
+    record {
+      is_kept = record { number_in_range = number; act_in_range = act.0; reply_in_range = reply.0; first = λ e. not_both reuse fresh (is.1 e) };
+      act = act.1;
+      reply = reply.1;
+    },
+  ),
+  λ k. not_true reuse (λ e. k.1.is_kept.first (sym (one_reply r k.0.reply reply.0 k.1.is_kept.reply_in_range (sym reply.1 ∙ k.1.reply)) ∙ is.0 e)),
+)
+
+-- the same, as the texts are read
+pub keeps_read : (row : StoredReply) (text other : List ℕ) (o : Option Act) (p : Option Reply) (a : Act) (r : Reply) (reuse : Bool) → (1 ≤ row.number) × (row.number ≤ 9223372036854775807)
+    → text ≡ string_bytes row.act → other ≡ string_bytes row.reply → ReadsAct text o → ReadsReply other p → o ≡ Some a → p ≡ Some r → (reuse ≡ true) ↔ (r ≡ Refused NumberReused)
+    → (not reuse ≡ true) ↔ KeepsReply row
+keeps_read row text other o p a r reuse number same alike act reply is are reused =
+    keeps_one row a r reuse number
+    (subst (λ q. ReadsAct (string_bytes row.act) q) is (subst (λ t. ReadsAct t o) same act))
+    (subst (λ q. ReadsReply (string_bytes row.reply) q) are (subst (λ t. ReadsReply t p) alike reply))
+    reused

@@ -1,0 +1,123 @@
+-- Which books and kept replies the rows of the store's tables stand for (this project's rule: version 1 of the tables).
+use Rattle.std.specs.Prelude.{◌≡◌, ◌≢◌, ℕ, ◌+◌, ◌≤◌, Option, List, [], ◌∷◌, map, length, IfSome, flat_map}
+use Rattle.std.specs.List.{AllByRecursion}
+use Rattle.std.specs.FinMap as finite
+use Rattle.std.specs.FinMap.{FinMap, entries, from_entries}
+use Rattle.std.specs.Ordering.{nat_cmp}
+use Rattle.ee_units.specs.Spelling.{SerialNumber}
+use Rattle.ee_units.specs.Denoms.{dollars}
+use Rattle.ee_value.specs.declared.rates.Rates.{Rates}
+use Rattle.ee_calculator.specs.declared.bonds.Bond.{Bond}
+use Rattle.ee_desk_acts.specs.declared.changes.Held.{Held}
+use Rattle.ee_desk_acts.specs.declared.changes.Kept.{Kept}
+use Rattle.ee_desk_acts.specs.declared.replies.Line.{Line}
+use Rattle.ee_desk_acts.specs.declared.replies.Ticket.{Ticket}
+use Rattle.ee_desk_acts.specs.declared.replies.Batch.{Batch}
+use Rattle.ee_desk_acts.specs.declared.replies.Reply.TheVariants.{Refused}
+use Rattle.ee_desk_acts.specs.declared.refusals.Refusal.TheVariants.{NumberReused}
+use Rattle.ee_desk_acts.specs.Serials.{serial_cmp}
+use Rattle.ee_desk_acts.specs.Numbers.{Number, number_cmp}
+use Rattle.ee_desk_acts.specs.PlainBooks.{PlainBooks}
+use Rattle.ee_desk_acts.specs.Seen.{held_as}
+use Rattle.ee_desk_acts.specs.Sound.{IsSound}
+use Rattle.ee_desk_acts.specs.Repeats.{Content}
+use Rattle.ee_desk_texts.specs.Texts.{act_text, reply_text}
+use Rattle.ee_desk_texts.specs.Ranges.{ActFits, ReplyFits, BondFits, TicketFits, BatchFits}
+use Rattle.ee_store_tables.specs.Keyed.{pair_cmp}
+use Rattle.ee_store_tables.specs.Rows.{Rows, DeskRow, BondRow, TicketRow, PaidRow, BatchRow, ReplyRow}
+
+-- ---- the rows of a content
+
+-- one row, under 1: the version of the tables, the open day and the last closed day
+abbrev pub desk_rows : Option ℕ → Option ℕ → FinMap nat_cmp DeskRow
+desk_rows day last_day = from_entries ((1, record { version = 1; day = day; last_day = last_day }) ∷ [])
+
+-- rates in hundredths of a percent, by period
+abbrev pub rate_rows : FinMap nat_cmp Rates → FinMap nat_cmp ℕ
+rate_rows rates = from_entries (map (λ e. (e.0, e.1.fixed)) (entries rates))
+
+abbrev pub key_of : SerialNumber → ℕ × ℕ
+key_of serial = (serial.letter, serial.number)
+
+abbrev pub bond_row : Held → BondRow
+bond_row held = record {
+  denom = dollars held.bond.denom;
+  issued = held.bond.issued;
+  owner = held.bond.owner;
+  coowner = held.bond.coowner;
+  ticket = held.ticket;
+}
+
+-- bonds by serial, each with the ticket that pays it
+abbrev pub bond_rows : FinMap serial_cmp Bond → List Ticket → FinMap pair_cmp BondRow
+bond_rows bonds tickets = from_entries (map (λ e. (key_of e.0, bond_row (held_as tickets e.0 e.1))) (entries bonds))
+
+abbrev pub ticket_row : Ticket → TicketRow
+ticket_row ticket = record { day = ticket.day; payee = ticket.payee; bonds = length ticket.lines; total = ticket.total.0 }
+
+abbrev pub ticket_rows : List Ticket → FinMap nat_cmp TicketRow
+ticket_rows tickets = from_entries (map (λ ticket. (ticket.ticket, ticket_row ticket)) tickets)
+
+abbrev pub paid_row : Line → PaidRow
+paid_row line = record { letter = line.serial.letter; number = line.serial.number; cents = line.cents.0 }
+
+-- lines of a ticket, from a place on
+abbrev pub placed : ℕ → ℕ → List Line → List ((ℕ × ℕ) × PaidRow)
+placed ticket place [] = []
+placed ticket place (line ∷ lines) = ((ticket, place), paid_row line) ∷ placed ticket (place + 1) lines
+
+-- the lines of all tickets, by ticket and place
+abbrev pub paid_rows : List Ticket → FinMap pair_cmp PaidRow
+paid_rows tickets = from_entries (flat_map (λ ticket. placed ticket.ticket 1 ticket.lines) tickets)
+
+abbrev pub batch_row : Batch → BatchRow
+batch_row batch = record { tickets = batch.tickets; bonds = batch.bonds; total = batch.total.0 }
+
+-- batches by day
+abbrev pub batch_rows : List Batch → FinMap nat_cmp BatchRow
+batch_rows batches = from_entries (map (λ batch. (batch.day, batch_row batch)) batches)
+
+abbrev pub reply_row : Kept → ReplyRow
+reply_row kept = record { act = act_text kept.act; reply = reply_text kept.reply }
+
+-- the texts of acts and replies, by request number
+abbrev pub reply_rows : FinMap number_cmp Kept → FinMap nat_cmp ReplyRow
+reply_rows kept = from_entries (map (λ e. (e.0, reply_row e.1)) (entries kept))
+
+-- all rows of books and kept replies
+abbrev pub rows_of : Content → Rows
+rows_of content = record {
+  desk = desk_rows content.books.day content.books.last_day;
+  rates = rate_rows content.books.rates;
+  bonds = bond_rows content.books.bonds content.books.tickets;
+  tickets = ticket_rows content.books.tickets;
+  paid = paid_rows content.books.tickets;
+  batches = batch_rows content.books.batches;
+  replies = reply_rows content.kept;
+}
+
+-- ---- the contents that have rows
+
+-- the values that soundness doesn't bound are in range
+pub record AreInRange (books : PlainBooks) : Type 0 where
+  pub bonds : (serial : SerialNumber) → IfSome (finite.get books.bonds serial) BondFits
+  pub tickets : AllByRecursion TicketFits books.tickets
+  pub batches : AllByRecursion BatchFits books.batches
+
+-- a reply that is kept under a number: any but that the number was used for another act
+pub record IsKept (number : Number) (kept : Kept) : Type 0 where
+  pub number_in_range : (1 ≤ number) × (number ≤ 9223372036854775807)
+  pub act_in_range : ActFits kept.act
+  pub reply_in_range : ReplyFits kept.reply
+  pub first : kept.reply ≢ Refused NumberReused
+
+-- sound books and kept replies
+pub record IsRight (content : Content) : Type 0 where
+  pub sound : IsSound content.books
+  pub in_range : AreInRange content.books
+  pub kept : (number : Number) → IfSome (finite.get content.kept number) (IsKept number)
+
+-- the rows are those of the content
+pub record StandFor (rows : Rows) (content : Content) : Type 0 where
+  pub are : rows ≡ rows_of content
+  pub right : IsRight content

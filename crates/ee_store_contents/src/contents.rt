@@ -1,0 +1,111 @@
+ghost use Rattle.std.specs.Prelude.{◌≡◌, IfOk, IfErr, IfSome};
+ghost use Rattle.ee_desk_acts.specs.Repeats.{Content};
+ghost use Rattle.ee_desk_parts.specs.Parts.{parts_of, AreUnsound};
+ghost use Rattle.ee_store_contents.specs.Reading.{parts_in};
+ghost use Rattle.ee_store_opening.specs.Whole.{AreInOrder, rows_of};
+ghost use Rattle.ee_store_contents.specs.Standing.{StandFor};
+ghost use Rattle.ee_store_contents.specs.Contents.{PartsFit};
+
+use crate::marks::marks_of;
+use crate::ranges::parts_fit;
+use crate::reading::{batches_in, bonds_in, days_in, rates_in};
+use crate::replies::keep_replies;
+use crate::tickets::tickets_in;
+use ee_desk::Books;
+use ee_desk_acts::Rows;
+use ee_desk_parts::{Parts, PartsFault};
+use ee_store_opening::AllRows;
+use std::alloc::{AllocError, Global};
+use thiserror::Error;
+
+/// Why rows give no books.
+#[derive(Clone, Copy, Debug, PartialEq, Eq, Error)]
+pub enum ContentFault {
+    /// The rows stand for no books and kept replies.
+    #[error("the rows of the store are unusable")]
+    Unusable,
+    /// Memory was refused.
+    #[error("out of memory")]
+    NoMemory,
+}
+
+impl From<AllocError> for ContentFault {
+    ghost use Rattle.std.specs.Prelude.{◌≡◌};
+    ghost use Rattle.ee_store_contents.specs.declared.contents.ContentFault.TheVariants.{NoMemory};
+
+    ghost from_gives = { λ _ e. e ≡ NoMemory };
+
+    fn from(_: AllocError) -> ContentFault {
+        ContentFault::NoMemory
+    }
+}
+
+/// The parts of books whose rows these are.
+#[tactic(auto, unfolding(crate::specs::Reading::parts_in))]
+fn parts_in(alloc: Global, stored: &AllRows) -> Result<Option<Parts>, AllocError>
+    ensures value { IfOk result (λ o. o ≡ parts_in stored.now) }
+    ensures fits { IfOk result (λ o. IfSome o PartsFit) }
+{
+    let Some(days) = days_in(&stored.desk) else {
+        return Ok(None);
+    };
+    let Some(rates) = rates_in(alloc, &stored.rates)? else {
+        return Ok(None);
+    };
+    let Some(tickets) = tickets_in(alloc, &stored.tickets, &stored.lines)? else {
+        return Ok(None);
+    };
+    let marks = marks_of(alloc, &tickets)?;
+    let Some(bonds) = bonds_in(alloc, &marks, &stored.bonds)? else {
+        return Ok(None);
+    };
+    let Some(batches) = batches_in(alloc, &stored.batches)? else {
+        return Ok(None);
+    };
+    let parts = Parts {
+        rates: Rows::new(rates),
+        bonds: Rows::new(bonds),
+        day: days.day,
+        last_day: days.last_day,
+        tickets: Rows::new(tickets),
+        batches: Rows::new(batches),
+    };
+    parts_fit(&parts);
+    Ok(Some(parts))
+}
+
+/// The books of these parts, or `Unusable` where no sound books have them.
+fn books_of(alloc: Global, parts: Parts) -> Result<Books, ContentFault>
+    ensures ok { IfOk result (λ books. parts_of books ≡ parts) }
+    ensures unusable { IfErr result (λ fault. fault ≡ ContentFault.Unusable → AreUnsound parts) }
+{
+    match Books::from_parts(alloc, parts) {
+        Ok(books) => Ok(books),
+        Err(fault) => Err(match fault {
+            PartsFault::Unsound => ContentFault::Unusable,
+            PartsFault::NoMemory => ContentFault::NoMemory,
+        }),
+    }
+}
+
+/// The books that the rows of a store stand for, where they stand for books and kept replies. It
+/// answers `Unusable` exactly where they stand for none.
+pub fn content_of(alloc: Global, stored: &AllRows) -> Result<Books, ContentFault>
+    requires { AreInOrder stored.now }
+    ensures ok { IfOk result (λ books. (content : Content) × (content.books ≡ books) × StandFor (rows_of stored.now) content) }
+    ensures unusable { IfErr result (λ fault. fault ≡ ContentFault.Unusable → (content : Content) → StandFor (rows_of stored.now) content → ⊥) }
+{
+    let Some(parts) = parts_in(alloc, stored)? else {
+        return Err(ContentFault::Unusable);
+    };
+    if !keep_replies(alloc, &stored.replies)? {
+        return Err(ContentFault::Unusable);
+    }
+    match books_of(alloc, parts) {
+        Ok(books) => {
+            books.known();
+            Ok(books)
+        }
+        Err(fault) => Err(fault),
+    }
+}

@@ -1,0 +1,41 @@
+-- The kept reply by the texts of acts.
+use Rattle.std.proofs.Common.{◌≡◌, ◌≢◌, ℕ, cond, List, Some, None, sym, ap, ◌∙◌, subst}
+use Rattle.std.specs.Option.{unwrap_or}
+use Rattle.std.proofs.lemmas.Bool.{false_from_ne_true}
+use Rattle.ee_desk_acts.specs.declared.acts.Act.{Act}
+use Rattle.ee_desk_acts.specs.declared.changes.Kept.{Kept}
+use Rattle.ee_desk_acts.specs.declared.replies.Reply.{Reply}
+use Rattle.ee_desk_acts.specs.declared.replies.Reply.TheVariants.{Refused}
+use Rattle.ee_desk_acts.specs.declared.refusals.Refusal.TheVariants.{NumberReused}
+use Rattle.ee_desk_acts.specs.Acts.{same_act}
+use Rattle.ee_desk_acts.specs.Numbers.{Number}
+use Rattle.ee_desk_acts.specs.Answers.{reply_again}
+use Rattle.ee_desk_acts.proofs.Lemmas.Requests.{same_act-is, same_act-self}
+use Rattle.ee_desk_texts.proofs.Lemmas.{one_act, reply_only}
+use Rattle.ee_desk_texts.specs.Ranges.{ActFits}
+use Rattle.ee_desk_texts.specs.Reading.{ReadsReply}
+use Rattle.ee_desk_texts.specs.Texts.{act_text, reply_text}
+use Rattle.ee_store_contents.specs.Standing.{IsKept}
+
+abbrev pub IsAgain : List ℕ → List ℕ → List ℕ → Reply → Type 0
+IsAgain act reply asked told = (number : Number) (kept : Kept) (again : Act) → IsKept number kept → ActFits again
+    → act ≡ act_text kept.act → reply ≡ reply_text kept.reply → asked ≡ act_text again → told ≡ reply_again kept.act kept.reply again
+
+pub of_other : (act reply asked : List ℕ) → act ≢ asked → IsAgain act reply asked (Refused NumberReused)
+of_other act reply asked apart number kept again is fits one two three =
+    let differs = false_from_ne_true (same_act kept.act again) (λ same. apart (one ∙ ap act_text (same_act-is kept.act again same) ∙ sym three)) in
+    sym (ap (λ b. cond b kept.reply (Refused NumberReused)) differs)
+
+some_is : (a b : Reply) → Some a ≡ Some b → a ≡ b
+some_is a b e = ap (λ o. unwrap_or o a) e
+
+pub of_same : (act reply asked : List ℕ) (told : Reply) → act ≡ asked → ReadsReply reply (Some told) → IsAgain act reply asked told
+of_same act reply asked told same reads number kept again is fits one two three =
+    let acts = one_act kept.act again is.act_in_range fits (sym one ∙ same ∙ three) in
+    let is_same = ap (same_act kept.act) (sym acts) ∙ same_act-self kept.act in
+    some_is told kept.reply (reply_only kept.reply (Some told) is.reply_in_range (subst (λ t. ReadsReply t (Some told)) two reads))
+    ∙ sym (ap (λ b. cond b kept.reply (Refused NumberReused)) is_same)
+
+-- the text of a kept reply is that of a reply
+pub kept_is_read : (reply : List ℕ) (number : Number) (kept : Kept) → IsKept number kept → reply ≡ reply_text kept.reply → ¬ ReadsReply reply None
+kept_is_read reply number kept is own reads = absurd (let e = reply_only kept.reply None is.reply_in_range (subst (λ t. ReadsReply t None) own reads) in cc)

@@ -1,0 +1,12 @@
+mod Changes
+mod Written
+mod NeverReused
+mod Delivered
+mod Again
+mod Served
+mod NeededDays
+mod Named
+mod NewNumbers
+mod Writable
+mod WriteCauses
+mod RoomAfter

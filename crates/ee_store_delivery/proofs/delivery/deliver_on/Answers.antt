@@ -1,0 +1,270 @@
+use Rattle.std.proofs.Common.{◌≡◌, subst, ap, sym, ◌∙◌, OnErr, [], ◌∷◌, ◌+◌}
+use Rattle.sqlite.specs.Held.{state}
+use Rattle.sqlite.specs.State.{HasCleanDisk, Survives, State}
+use Rattle.ee_desk_acts.specs.Repeats.{Content}
+use Rattle.ee_desk_acts.specs.Contents.{content_after}
+use Rattle.ee_desk_acts.specs.Answers.{answer}
+use Rattle.ee_store_tables.proofs.Lemmas.Transactions.{clean_before, on_err_from, rolled_keeps, failed_keeps, commit_survives}
+use Rattle.ee_store_lookups.specs.Seen.{StandsFor, HasContent}
+use Rattle.ee_store_delivery.proofs.NewNumbers.{known_stays}
+use Rattle.ee_store_lookups.proofs.Lemmas.{inside_content, sees_content, still_content, committed_content, stands_when_open, excused_later, commit_excused, handed_on, excused}
+use Rattle.ee_store_tables.specs.Failures.{failure_of}
+use Rattle.ee_store_tables.specs.Statements.{IsExcused}
+use Rattle.ee_store_lookups.specs.Causes.{IsReady}
+use Rattle.ee_store_delivery.specs.Causes.{TakesRequestRoom, DeliversOrFails}
+use Rattle.ee_store_delivery.proofs.RoomAfter.{begun_with, rolled_room, failed_room, ready_then, committed_with}
+use Rattle.ee_store_delivery.proofs.delivery.deliver_on.Goals as goal
+
+pub returns-in_err-is_new-clause-failed : goal.returns-in_err-is_new-clause-failed
+returns-in_err-is_new-clause-failed g c =
+    let old = state g.S.Store c.args.conn.now in
+    let start = state g.S.Store c.transaction-tx.result.conn.now in
+    let is = ap (state g.S.Store) c.transaction-tx.ensures.begun in
+    let middle = state g.S.Store c.serve_in.new.tx.conn.now in
+    let settled = c.is_autocommit.ensures.settled c.if-not-is_autocommit.false in
+    let q = c.args.request.now in
+    let new = state g.S.Store c.drop-tx.new.self.0 in
+    let same = c.conn-1.given.1 (sym (c.in_err-is_new.ensures.same_reference ∙ c.transaction-tx.ensures.same_reference)) in
+    subst (λ h. HasCleanDisk (state g.S.Store h) → OnErr c.from_residual.result ((S : Content) → HasContent old S → HasContent (state g.S.Store h) S)) (sym same) (λ clean.
+    let before = clean_before middle new c.drop-tx.ensures.survives clean in
+    on_err_from c.from_residual.result (λ S has. still_content old start is middle new S has (c.in_err-is_new.ensures.commit before (inside_content old start is settled S has))
+    (rolled_keeps old start is middle new (c.drop-tx.ensures.undone clean))))
+
+pub returns-then-not-is_new-clause-told : goal.returns-then-not-is_new-clause-told
+returns-then-not-is_new-clause-told g c =
+    let old = state g.S.Store c.args.conn.now in
+    let start = state g.S.Store c.transaction-tx.result.conn.now in
+    let is = ap (state g.S.Store) c.transaction-tx.ensures.begun in
+    let middle = state g.S.Store c.serve_in.new.tx.conn.now in
+    let settled = c.is_autocommit.ensures.settled c.if-not-is_autocommit.false in
+    let q = c.args.request.now in
+    let new = state g.S.Store c.drop-tx-then-not-is_new.new.self.0 in
+    let same = c.conn-then-not-is_new-1.given.1 (sym (c.in_ok-is_new.ensures.same_reference ∙ c.transaction-tx.ensures.same_reference)) in
+    subst (λ h. HasCleanDisk (state g.S.Store h) → (S : Content) → HasContent old S → c.in_ok-is_new.reply ≡ answer S [] q) (sym same) (λ clean S has.
+    let before = clean_before middle new c.drop-tx-then-not-is_new.ensures.survives clean in
+    (c.in_ok-is_new.ensures.serves before (inside_content old start is settled S has) S (sees_content old start is settled S has)).told)
+
+pub returns-then-not-is_new-clause-kept : goal.returns-then-not-is_new-clause-kept
+returns-then-not-is_new-clause-kept g c =
+    let old = state g.S.Store c.args.conn.now in
+    let start = state g.S.Store c.transaction-tx.result.conn.now in
+    let is = ap (state g.S.Store) c.transaction-tx.ensures.begun in
+    let middle = state g.S.Store c.serve_in.new.tx.conn.now in
+    let settled = c.is_autocommit.ensures.settled c.if-not-is_autocommit.false in
+    let q = c.args.request.now in
+    let new = state g.S.Store c.drop-tx-then-not-is_new.new.self.0 in
+    let same = c.conn-then-not-is_new-1.given.1 (sym (c.in_ok-is_new.ensures.same_reference ∙ c.transaction-tx.ensures.same_reference)) in
+    subst (λ h. HasCleanDisk (state g.S.Store h) → (S : Content) → HasContent old S → HasContent (state g.S.Store h) (content_after S (q ∷ []))) (sym same) (λ clean S has.
+    let before = clean_before middle new c.drop-tx-then-not-is_new.ensures.survives clean in
+    let inside = inside_content old start is settled S has in
+    subst (HasContent new) (known_stays S q c.in_ok-is_new.is_new c.if-not-is_new.true (c.in_ok-is_new.ensures.serves before (inside_content old start is settled S has) S (sees_content old start is settled S has)).first)
+    (still_content old start is middle new S has (c.in_ok-is_new.ensures.commit before inside) (rolled_keeps old start is middle new (c.drop-tx-then-not-is_new.ensures.undone clean))))
+
+pub returns-in_err-commit-clause-failed : goal.returns-in_err-commit-clause-failed
+returns-in_err-commit-clause-failed g c =
+    let old = state g.S.Store c.args.conn.now in
+    let start = state g.S.Store c.transaction-tx.result.conn.now in
+    let is = ap (state g.S.Store) c.transaction-tx.ensures.begun in
+    let middle = state g.S.Store c.serve_in.new.tx.conn.now in
+    let settled = c.is_autocommit.ensures.settled c.if-not-is_autocommit.false in
+    let q = c.args.request.now in
+    let new = state g.S.Store c.commit.new.self.0 in
+    let same = c.conn-2-1.given.1 (sym (c.in_ok-is_new.ensures.same_reference ∙ c.transaction-tx.ensures.same_reference)) in
+    subst (λ h. HasCleanDisk (state g.S.Store h) → OnErr c.from_residual-in_err-commit.result ((S : Content) → HasContent old S → HasContent (state g.S.Store h) S)) (sym same) (λ clean.
+    let before = clean_before middle new c.in_err-commit.ensures.survives clean in
+    on_err_from c.from_residual-in_err-commit.result (λ S has. still_content old start is middle new S has (c.in_ok-is_new.ensures.commit before (inside_content old start is settled S has))
+    (failed_keeps old start is middle new _ (c.in_err-commit.ensures.err clean))))
+
+pub returns-in_err-commit-clause-crash : goal.returns-in_err-commit-clause-crash
+returns-in_err-commit-clause-crash g c =
+    let old = state g.S.Store c.args.conn.now in
+    let start = state g.S.Store c.transaction-tx.result.conn.now in
+    let is = ap (state g.S.Store) c.transaction-tx.ensures.begun in
+    let middle = state g.S.Store c.serve_in.new.tx.conn.now in
+    let settled = c.is_autocommit.ensures.settled c.if-not-is_autocommit.false in
+    let q = c.args.request.now in
+    let new = state g.S.Store c.commit.new.self.0 in
+    let same = c.conn-2-1.given.1 (sym (c.in_ok-is_new.ensures.same_reference ∙ c.transaction-tx.ensures.same_reference)) in
+    subst (λ h. Survives old (state g.S.Store h) (λ db. (S : Content) → HasContent old S → StandsFor db (content_after S (q ∷ [])))) (sym same)
+    (commit_survives old start is middle new (λ db. (S : Content) → HasContent old S → StandsFor db (content_after S (q ∷ [])))
+    (λ before S has. let inside = inside_content old start is settled S has in let is_open = c.in_ok-is_new.ensures.open before in
+    stands_when_open middle (content_after S (q ∷ [])) (c.in_ok-is_new.ensures.serves before inside S (sees_content old start is settled S has)).seen is_open (c.in_ok-is_new.ensures.sound before inside c.if-not-is_new.false is_open))
+    c.in_ok-is_new.ensures.crash c.in_err-commit.ensures.survives)
+
+pub returns-clause-kept : goal.returns-clause-kept
+returns-clause-kept g c =
+    let old = state g.S.Store c.args.conn.now in
+    let start = state g.S.Store c.transaction-tx.result.conn.now in
+    let is = ap (state g.S.Store) c.transaction-tx.ensures.begun in
+    let middle = state g.S.Store c.serve_in.new.tx.conn.now in
+    let settled = c.is_autocommit.ensures.settled c.if-not-is_autocommit.false in
+    let q = c.args.request.now in
+    let new = state g.S.Store c.commit.new.self.0 in
+    let same = c.conn-2-1.given.1 (sym (c.in_ok-is_new.ensures.same_reference ∙ c.transaction-tx.ensures.same_reference)) in
+    subst (λ h. HasCleanDisk (state g.S.Store h) → (S : Content) → HasContent old S → HasContent (state g.S.Store h) (content_after S (q ∷ []))) (sym same) (λ clean S has.
+    let before = clean_before middle new c.in_ok-commit.ensures.survives clean in
+    committed_content old start is middle new (content_after S (q ∷ [])) (c.in_ok-is_new.ensures.serves before (inside_content old start is settled S has) S (sees_content old start is settled S has)).seen (c.in_ok-commit.ensures.ok clean).1)
+
+pub returns-clause-crash : goal.returns-clause-crash
+returns-clause-crash g c =
+    let old = state g.S.Store c.args.conn.now in
+    let start = state g.S.Store c.transaction-tx.result.conn.now in
+    let is = ap (state g.S.Store) c.transaction-tx.ensures.begun in
+    let middle = state g.S.Store c.serve_in.new.tx.conn.now in
+    let settled = c.is_autocommit.ensures.settled c.if-not-is_autocommit.false in
+    let q = c.args.request.now in
+    let new = state g.S.Store c.commit.new.self.0 in
+    let same = c.conn-2-1.given.1 (sym (c.in_ok-is_new.ensures.same_reference ∙ c.transaction-tx.ensures.same_reference)) in
+    subst (λ h. Survives old (state g.S.Store h) (λ db. (S : Content) → HasContent old S → StandsFor db (content_after S (q ∷ [])))) (sym same)
+    (commit_survives old start is middle new (λ db. (S : Content) → HasContent old S → StandsFor db (content_after S (q ∷ [])))
+    (λ before S has. let inside = inside_content old start is settled S has in let is_open = c.in_ok-is_new.ensures.open before in
+    stands_when_open middle (content_after S (q ∷ [])) (c.in_ok-is_new.ensures.serves before inside S (sees_content old start is settled S has)).seen is_open (c.in_ok-is_new.ensures.sound before inside c.if-not-is_new.false is_open))
+    c.in_ok-is_new.ensures.crash c.in_ok-commit.ensures.survives)
+
+pub returns-in_err-is_new-clause-ready : goal.returns-in_err-is_new-clause-ready
+returns-in_err-is_new-clause-ready g c =
+    let old = state g.S.Store c.args.conn.now in
+    let start = state g.S.Store c.transaction-tx.result.conn.now in
+    let is = ap (state g.S.Store) c.transaction-tx.ensures.begun in
+    let middle = state g.S.Store c.serve_in.new.tx.conn.now in
+    let settled = c.is_autocommit.ensures.settled c.if-not-is_autocommit.false in
+    let new = state g.S.Store c.drop-tx.new.self.0 in
+    let same = c.conn-1.given.1 (sym (c.in_err-is_new.ensures.same_reference ∙ c.transaction-tx.ensures.same_reference)) in
+    subst (λ h. IsReady old → IsReady (state g.S.Store h)) (sym same)
+    (ready_then old start is middle new c.drop-tx.ensures.ended c.drop-tx.ensures.survives.limit c.serve_in.ensures.crash.limit)
+
+pub returns-in_err-is_new-clause-room : goal.returns-in_err-is_new-clause-room
+returns-in_err-is_new-clause-room g c =
+    let old = state g.S.Store c.args.conn.now in
+    let start = state g.S.Store c.transaction-tx.result.conn.now in
+    let is = ap (state g.S.Store) c.transaction-tx.ensures.begun in
+    let middle = state g.S.Store c.serve_in.new.tx.conn.now in
+    let settled = c.is_autocommit.ensures.settled c.if-not-is_autocommit.false in
+    let new = state g.S.Store c.drop-tx.new.self.0 in
+    let same = c.conn-1.given.1 (sym (c.in_err-is_new.ensures.same_reference ∙ c.transaction-tx.ensures.same_reference)) in
+    subst (λ h. TakesRequestRoom old (state g.S.Store h)) (sym same) (λ clean ready S has n room.
+    let before = clean_before middle new c.drop-tx.ensures.survives clean in
+    rolled_room old start is settled middle new (c.in_err-is_new.ensures.commit before (inside_content old start is settled S has)) (c.drop-tx.ensures.undone clean) n room)
+
+pub returns-then-not-is_new-clause-ready : goal.returns-then-not-is_new-clause-ready
+returns-then-not-is_new-clause-ready g c =
+    let old = state g.S.Store c.args.conn.now in
+    let start = state g.S.Store c.transaction-tx.result.conn.now in
+    let is = ap (state g.S.Store) c.transaction-tx.ensures.begun in
+    let middle = state g.S.Store c.serve_in.new.tx.conn.now in
+    let settled = c.is_autocommit.ensures.settled c.if-not-is_autocommit.false in
+    let new = state g.S.Store c.drop-tx-then-not-is_new.new.self.0 in
+    let same = c.conn-then-not-is_new-1.given.1 (sym (c.in_ok-is_new.ensures.same_reference ∙ c.transaction-tx.ensures.same_reference)) in
+    subst (λ h. IsReady old → IsReady (state g.S.Store h)) (sym same)
+    (ready_then old start is middle new c.drop-tx-then-not-is_new.ensures.ended c.drop-tx-then-not-is_new.ensures.survives.limit c.serve_in.ensures.crash.limit)
+
+pub returns-then-not-is_new-clause-room : goal.returns-then-not-is_new-clause-room
+returns-then-not-is_new-clause-room g c =
+    let old = state g.S.Store c.args.conn.now in
+    let start = state g.S.Store c.transaction-tx.result.conn.now in
+    let is = ap (state g.S.Store) c.transaction-tx.ensures.begun in
+    let middle = state g.S.Store c.serve_in.new.tx.conn.now in
+    let settled = c.is_autocommit.ensures.settled c.if-not-is_autocommit.false in
+    let new = state g.S.Store c.drop-tx-then-not-is_new.new.self.0 in
+    let same = c.conn-then-not-is_new-1.given.1 (sym (c.in_ok-is_new.ensures.same_reference ∙ c.transaction-tx.ensures.same_reference)) in
+    subst (λ h. TakesRequestRoom old (state g.S.Store h)) (sym same) (λ clean ready S has n room.
+    let before = clean_before middle new c.drop-tx-then-not-is_new.ensures.survives clean in
+    rolled_room old start is settled middle new (c.in_ok-is_new.ensures.commit before (inside_content old start is settled S has)) (c.drop-tx-then-not-is_new.ensures.undone clean) n room)
+
+pub returns-in_err-commit-clause-ready : goal.returns-in_err-commit-clause-ready
+returns-in_err-commit-clause-ready g c =
+    let old = state g.S.Store c.args.conn.now in
+    let start = state g.S.Store c.transaction-tx.result.conn.now in
+    let is = ap (state g.S.Store) c.transaction-tx.ensures.begun in
+    let middle = state g.S.Store c.serve_in.new.tx.conn.now in
+    let settled = c.is_autocommit.ensures.settled c.if-not-is_autocommit.false in
+    let new = state g.S.Store c.commit.new.self.0 in
+    let same = c.conn-2-1.given.1 (sym (c.in_ok-is_new.ensures.same_reference ∙ c.transaction-tx.ensures.same_reference)) in
+    subst (λ h. IsReady old → IsReady (state g.S.Store h)) (sym same)
+    (ready_then old start is middle new c.in_err-commit.ensures.ended c.in_err-commit.ensures.survives.limit c.serve_in.ensures.crash.limit)
+
+pub returns-in_err-commit-clause-room : goal.returns-in_err-commit-clause-room
+returns-in_err-commit-clause-room g c =
+    let old = state g.S.Store c.args.conn.now in
+    let start = state g.S.Store c.transaction-tx.result.conn.now in
+    let is = ap (state g.S.Store) c.transaction-tx.ensures.begun in
+    let middle = state g.S.Store c.serve_in.new.tx.conn.now in
+    let settled = c.is_autocommit.ensures.settled c.if-not-is_autocommit.false in
+    let new = state g.S.Store c.commit.new.self.0 in
+    let same = c.conn-2-1.given.1 (sym (c.in_ok-is_new.ensures.same_reference ∙ c.transaction-tx.ensures.same_reference)) in
+    subst (λ h. TakesRequestRoom old (state g.S.Store h)) (sym same) (λ clean ready S has n room.
+    let before = clean_before middle new c.in_err-commit.ensures.survives clean in
+    let inside = inside_content old start is settled S has in
+    failed_room old start is settled middle new (c.in_ok-is_new.ensures.inside before inside) (c.in_ok-is_new.ensures.commit before inside) _ (c.in_err-commit.ensures.err clean) n room)
+
+pub returns-clause-ready : goal.returns-clause-ready
+returns-clause-ready g c =
+    let old = state g.S.Store c.args.conn.now in
+    let start = state g.S.Store c.transaction-tx.result.conn.now in
+    let is = ap (state g.S.Store) c.transaction-tx.ensures.begun in
+    let middle = state g.S.Store c.serve_in.new.tx.conn.now in
+    let settled = c.is_autocommit.ensures.settled c.if-not-is_autocommit.false in
+    let new = state g.S.Store c.commit.new.self.0 in
+    let same = c.conn-2-1.given.1 (sym (c.in_ok-is_new.ensures.same_reference ∙ c.transaction-tx.ensures.same_reference)) in
+    subst (λ h. IsReady old → IsReady (state g.S.Store h)) (sym same)
+    (ready_then old start is middle new c.in_ok-commit.ensures.ended c.in_ok-commit.ensures.survives.limit c.serve_in.ensures.crash.limit)
+
+pub returns-clause-room : goal.returns-clause-room
+returns-clause-room g c =
+    let old = state g.S.Store c.args.conn.now in
+    let start = state g.S.Store c.transaction-tx.result.conn.now in
+    let is = ap (state g.S.Store) c.transaction-tx.ensures.begun in
+    let middle = state g.S.Store c.serve_in.new.tx.conn.now in
+    let settled = c.is_autocommit.ensures.settled c.if-not-is_autocommit.false in
+    let new = state g.S.Store c.commit.new.self.0 in
+    let same = c.conn-2-1.given.1 (sym (c.in_ok-is_new.ensures.same_reference ∙ c.transaction-tx.ensures.same_reference)) in
+    subst (λ h. TakesRequestRoom old (state g.S.Store h)) (sym same) (λ clean ready S has n room.
+    let before = clean_before middle new c.in_ok-commit.ensures.survives clean in
+    committed_with middle new n (c.in_ok-commit.ensures.ok clean).1
+    (c.in_ok-is_new.ensures.room before (inside_content old start is settled S has) S (sees_content old start is settled S has) n (begun_with old start is (500 + n) room)))
+
+pub returns-in_err-is_new-clause-cause : goal.returns-in_err-is_new-clause-cause
+returns-in_err-is_new-clause-cause g c =
+    let old = state g.S.Store c.args.conn.now in
+    let start = state g.S.Store c.transaction-tx.result.conn.now in
+    let is = ap (state g.S.Store) c.transaction-tx.ensures.begun in
+    let middle = state g.S.Store c.serve_in.new.tx.conn.now in
+    let settled = c.is_autocommit.ensures.settled c.if-not-is_autocommit.false in
+    let new = state g.S.Store c.drop-tx.new.self.0 in
+    let same = c.conn-1.given.1 (sym (c.in_err-is_new.ensures.same_reference ∙ c.transaction-tx.ensures.same_reference)) in
+    subst (λ h. DeliversOrFails old (state g.S.Store h) c.args.request.now c.from_residual.result) (sym same) (λ clean S can.
+    let before = clean_before middle new c.drop-tx.ensures.survives clean in
+    let has = can.1 in
+    handed_on _ c.from_residual.result c.in_err-is_new.field-0.0 c.from_residual.ensures.1
+    (excused old start is middle new c.serve_in.ensures.crash c.drop-tx.ensures.survives _
+    (c.in_err-is_new.ensures.cause before (inside_content old start is settled S has) (ap (λ (s : State). s.step_limit) is ∙ can.0.1) S (sees_content old start is settled S has) (can.2, begun_with old start is 500 can.3))))
+
+pub returns-in_err-commit-clause-cause : goal.returns-in_err-commit-clause-cause
+returns-in_err-commit-clause-cause g c =
+    let old = state g.S.Store c.args.conn.now in
+    let start = state g.S.Store c.transaction-tx.result.conn.now in
+    let is = ap (state g.S.Store) c.transaction-tx.ensures.begun in
+    let middle = state g.S.Store c.serve_in.new.tx.conn.now in
+    let settled = c.is_autocommit.ensures.settled c.if-not-is_autocommit.false in
+    let new = state g.S.Store c.commit.new.self.0 in
+    let same = c.conn-2-1.given.1 (sym (c.in_ok-is_new.ensures.same_reference ∙ c.transaction-tx.ensures.same_reference)) in
+    subst (λ h. DeliversOrFails old (state g.S.Store h) c.args.request.now c.from_residual-in_err-commit.result) (sym same) (λ clean S can.
+    let before = clean_before middle new c.in_err-commit.ensures.survives clean in
+    let inside = c.in_ok-is_new.ensures.inside before (inside_content old start is settled S can.1) in
+    handed_on _ c.from_residual-in_err-commit.result (failure_of c.in_err-commit.field-0.0) c.from_residual-in_err-commit.ensures.1
+    (subst (λ s. IsExcused s new (failure_of c.in_err-commit.field-0.0)) is
+    (excused_later start middle new clean c.serve_in.ensures.crash c.in_err-commit.ensures.survives _ (commit_excused middle new inside c.in_err-commit.field-0.0 (c.in_err-commit.ensures.err clean)))))
+
+pub returns-clause-told : goal.returns-clause-told
+returns-clause-told g c =
+    let old = state g.S.Store c.args.conn.now in
+    let start = state g.S.Store c.transaction-tx.result.conn.now in
+    let is = ap (state g.S.Store) c.transaction-tx.ensures.begun in
+    let middle = state g.S.Store c.serve_in.new.tx.conn.now in
+    let settled = c.is_autocommit.ensures.settled c.if-not-is_autocommit.false in
+    let q = c.args.request.now in
+    let new = state g.S.Store c.commit.new.self.0 in
+    let same = c.conn-2-1.given.1 (sym (c.in_ok-is_new.ensures.same_reference ∙ c.transaction-tx.ensures.same_reference)) in
+    subst (λ h. HasCleanDisk (state g.S.Store h) → (S : Content) → HasContent old S → c.in_ok-is_new.reply ≡ answer S [] q) (sym same) (λ clean S has.
+    let before = clean_before middle new c.in_ok-commit.ensures.survives clean in
+    (c.in_ok-is_new.ensures.serves before (inside_content old start is settled S has) S (sees_content old start is settled S has)).told)

@@ -1,0 +1,35 @@
+-- Why a delivery fails, and the room that it takes.
+use Rattle.std.specs.Prelude.{ℕ, Result, OnOk, ◌≤◌, ◌+◌, length, IfErr}
+use Rattle.sqlite.specs.State.{State, HasCleanDisk}
+use Rattle.ee_desk_acts.specs.declared.acts.Request.{Request}
+use Rattle.ee_desk_acts.specs.Outcomes.{act}
+use Rattle.ee_desk_acts.specs.Repeats.{Content}
+use Rattle.ee_store_tables.specs.Rows.{Rows, Sees, HasRoom, IsInside}
+use Rattle.ee_desk_texts.specs.Texts.{act_text, reply_text}
+use Rattle.ee_store_tables.specs.declared.failures.Failure.{Failure}
+use Rattle.ee_store_lookups.specs.Seen.{HasContent, SeesContent}
+use Rattle.ee_store_lookups.specs.Causes.{IsReady}
+use Rattle.ee_store_tables.specs.Statements.{IsExcused}
+
+-- in a transaction that sees rows, room is left for that many rows less
+abbrev pub LeavesRoom : {X : Type 0} → State → State → Result X Failure → ℕ → Type 0
+LeavesRoom old new result count = HasCleanDisk new → IsInside old → OnOk result ((rows : Rows) → Sees old rows → (n : ℕ) → HasRoom (count + n) old → HasRoom n new)
+
+-- the text of the request and that of its reply fit a row
+abbrev pub TextsFit : Content → Request → Type 0
+TextsFit content request = length (act_text request.act) + length (reply_text (act content.books request.act).reply) ≤ 900000000
+
+-- in a transaction that sees a content, a request takes room for 500 rows at most
+abbrev pub LeavesRoomAfter : {X : Type 0} → State → State → Result X Failure → Type 0
+LeavesRoomAfter old new result = HasCleanDisk new → IsInside old → OnOk result ((content : Content) → SeesContent old content → (n : ℕ) → HasRoom (500 + n) old → HasRoom n new)
+
+-- a request to a store that is ready, with room for the rows of one request, whose texts fit
+abbrev pub CanDeliver : State → Content → Request → Type 0
+CanDeliver old content request = IsReady old × HasContent old content × TextsFit content request × HasRoom 500 old
+
+abbrev pub DeliversOrFails : {X : Type 0} → State → State → Request → Result X Failure → Type 0
+DeliversOrFails old new request result = HasCleanDisk new → (content : Content) → CanDeliver old content request → IfErr result (IsExcused old new)
+
+-- a request takes room for 500 rows at most
+abbrev pub TakesRequestRoom : State → State → Type 0
+TakesRequestRoom old new = HasCleanDisk new → IsReady old → (content : Content) → HasContent old content → (n : ℕ) → HasRoom (500 + n) old → HasRoom n new

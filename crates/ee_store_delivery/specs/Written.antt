@@ -1,0 +1,67 @@
+-- The rows after changes of the books.
+use Rattle.std.specs.Prelude.{◌≡◌, ◌≤◌, ⊤, ℕ, ◌+◌, List, [], ◌∷◌, map, length, Option, Some, None, IfSome}
+use Rattle.std.specs.List.{AllByRecursion}
+use Rattle.std.specs.FinMap.{get}
+use Rattle.ee_desk_acts.specs.declared.changes.Change.{Change}
+use Rattle.ee_desk_acts.specs.declared.changes.Change.TheVariants as change
+use Rattle.ee_desk_acts.specs.declared.replies.Ticket.{Ticket}
+use Rattle.ee_desk_acts.specs.declared.replies.Batch.{Batch}
+use Rattle.ee_store_tables.specs.AsRows.{Fits}
+use Rattle.ee_store_tables.specs.Rows.{Rows, with_rate, with_bond, with_day, with_batch, with_ticket, with_lines, CanPayAll}
+use Rattle.ee_store_contents.specs.Standing.{key_of, bond_row, ticket_row, paid_row, batch_row}
+
+-- the rows after one change, where this is the last closed day
+abbrev pub changed_rows : Option ℕ → Rows → Change → Rows
+changed_rows last_day rows (change.Rates from rates) = with_rate rows (from, rates.fixed)
+changed_rows last_day rows (change.Bond bond) = with_bond rows (key_of bond.serial, bond_row (record { bond = bond; ticket = None }))
+changed_rows last_day rows (change.Day day) = with_day rows (Some day) last_day
+changed_rows last_day rows (change.Ticket ticket) = with_lines (with_ticket rows ticket.ticket (ticket_row ticket)) ticket.ticket 1 (map paid_row ticket.lines)
+changed_rows last_day rows (change.Batch batch) = with_day (with_batch rows batch.day (batch_row batch)) None (Some batch.day)
+
+-- the rows after changes, one after the other
+abbrev pub applied_rows : Option ℕ → Rows → List Change → Rows
+applied_rows last_day rows [] = rows
+applied_rows last_day rows (change ∷ changes) = applied_rows last_day (changed_rows last_day rows change) changes
+
+-- ---- what can be written
+
+-- a ticket of a new number whose amounts fit, with at most 100 lines that no ticket paid
+pub record CanPayTicket (rows : Rows) (ticket : Ticket) : Type 0 where
+  pub number : Fits ticket.ticket
+  pub total : Fits ticket.total.0
+  pub few : length ticket.lines ≤ 100
+  pub cents : AllByRecursion (λ line. Fits line.cents.0) ticket.lines
+  pub new : get rows.tickets ticket.ticket ≡ None
+  pub unpaid : CanPayAll (with_ticket rows ticket.ticket (ticket_row ticket)) ticket.ticket 1 (map paid_row ticket.lines)
+
+-- the batch of a day without one, whose sums fit
+pub record CanClose (rows : Rows) (batch : Batch) : Type 0 where
+  pub tickets : Fits batch.tickets
+  pub bonds : Fits batch.bonds
+  pub total : Fits batch.total.0
+  pub new : get rows.batches batch.day ≡ None
+
+-- the change can be written, where this is the last closed day
+abbrev pub CanWrite : Option ℕ → Rows → Change → Type 0
+CanWrite last_day rows (change.Rates from rates) = ⊤
+CanWrite last_day rows (change.Bond bond) = ⊤
+CanWrite last_day rows (change.Day day) = IfSome last_day Fits
+CanWrite last_day rows (change.Ticket ticket) = CanPayTicket rows ticket
+CanWrite last_day rows (change.Batch batch) = CanClose rows batch
+
+-- so can changes, one after the other
+abbrev pub CanWriteAll : Option ℕ → Rows → List Change → Type 0
+CanWriteAll last_day rows [] = ⊤
+CanWriteAll last_day rows (change ∷ changes) = CanWrite last_day rows change × CanWriteAll last_day (changed_rows last_day rows change) changes
+
+-- how many rows with a hidden rowid a change adds at most
+abbrev pub added_rows : Change → ℕ
+added_rows (change.Rates from rates) = 0
+added_rows (change.Bond bond) = 1
+added_rows (change.Day day) = 0
+added_rows (change.Ticket ticket) = length ticket.lines
+added_rows (change.Batch batch) = 0
+
+abbrev pub all_added_rows : List Change → ℕ
+all_added_rows [] = 0
+all_added_rows (change ∷ changes) = added_rows change + all_added_rows changes

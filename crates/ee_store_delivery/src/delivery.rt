@@ -1,0 +1,139 @@
+//! A request in a transaction, and its delivery: all that it does and its reply are committed together.
+
+ghost use Rattle.std.specs.Prelude.{◌≡◌, IfOk, IfErr, None, IsTrue, string_bytes, true, false, [], ◌∷◌, OnOk, OnErr};
+ghost use Rattle.ee_desk_acts.specs.declared.acts.Act.{Act};
+ghost use Rattle.ee_desk_acts.specs.declared.changes.Kept.{Kept};
+ghost use Rattle.ee_desk_acts.specs.Numbers.{Number, number_of};
+ghost use Rattle.ee_desk_acts.specs.Answers.{reply_again, answer};
+ghost use Rattle.ee_desk_texts.specs.Ranges.{ActFits};
+ghost use Rattle.ee_desk_texts.specs.Texts.{act_text, reply_text};
+ghost use Rattle.ee_store_contents.specs.Standing.{IsKept};
+ghost use Rattle.std.specs.FinMap as finite;
+ghost use Rattle.sqlite.specs.Effect.{IsDatabase};
+ghost use Rattle.sqlite.specs.State.{HasCleanDisk, Survives};
+ghost use Rattle.ee_store_tables.specs.Rows.{IsInside, HasRoom};
+ghost use Rattle.sqlite.specs.Held.{state};
+ghost use Rattle.ee_store_tables.specs.Statements.{LeavesOpen, StaysOpen, StaysInside, LeavesSound, CommitsNothing, LeavesNoMore};
+ghost use Rattle.ee_store_lookups.specs.Causes.{FailsByCause, IsReady};
+ghost use Rattle.ee_store_delivery.specs.Causes.{LeavesRoomAfter, TextsFit, TakesRequestRoom, DeliversOrFails};
+ghost use Rattle.ee_store_delivery.specs.Delivered.{Decides, Serves};
+ghost use Rattle.sqlite.specs.Tree.{Trees};
+ghost use Rattle.ee_desk_acts.specs.Repeats.{Content};
+ghost use Rattle.ee_desk_acts.specs.Contents.{content_after};
+ghost use Rattle.ee_store_lookups.specs.Seen.{StandsFor, HasContent};
+
+use crate::view::effects_in;
+use crate::writing::write_changes;
+use ee_desk_acts::{Effects, Refusal, Reply, Request, UnitTables};
+use ee_desk_texts::{canonical, read_reply, reply_text};
+use ee_store_tables::{Failure, ReplyRow, add_reply, find_reply};
+use sqlite::{Alter, Connection, Transaction};
+use std::alloc::Global;
+
+/// The reply to a number that comes again, by the kept texts of its act and its reply, and by the text of
+/// the act that is asked now: the kept reply where the acts are the same, and else `NumberReused`.
+pub fn reply_again(alloc: Global, act: &str, reply: &str, asked: &str) -> Result<Reply, Failure>
+    ensures read { (number : Number) (kept : Kept) → IsKept number kept → reply.now ≡ reply_text kept.reply → IfErr result (λ e. e ≡ Failure.NoMemory) }
+    ensures told { IfOk result (λ told. (number : Number) (kept : Kept) (again : Act) → IsKept number kept → ActFits again
+        → act.now ≡ act_text kept.act → reply.now ≡ reply_text kept.reply → asked.now ≡ act_text again
+        → told ≡ reply_again kept.act kept.reply again) }
+{
+    if act != asked {
+        return Ok(Reply::Refused(Refusal::NumberReused));
+    }
+    match read_reply(alloc, reply)? {
+        Some(reply) => Ok(reply),
+        None => Err(Failure::StoreFailed),
+    }
+}
+
+/// Decides a request whose number isn't kept, and writes its changes and its reply.
+fn decide_in<S: Alter>(
+    tx: &mut Transaction<'_, S>,
+    alloc: Global,
+    tables: &mut UnitTables,
+    request: &Request,
+    act: String,
+) -> Result<Reply, Failure>
+    requires fits { ActFits request.now.act }
+    requires text { string_bytes act ≡ act_text request.now.act }
+    ensures same_reference { tx.new.conn.ghost_name ≡ tx.old.conn.ghost_name }
+    ensures open { StaysOpen (state S.Store tx.old.conn.now) (state S.Store tx.new.conn.now) result }
+    ensures inside { StaysInside (state S.Store tx.old.conn.now) (state S.Store tx.new.conn.now) result }
+    ensures decides { Decides (state S.Store tx.old.conn.now) (state S.Store tx.new.conn.now) request.now result }
+    ensures sound { LeavesSound (state S.Store tx.old.conn.now) (state S.Store tx.new.conn.now) result }
+    ensures commit { CommitsNothing (state S.Store tx.old.conn.now) (state S.Store tx.new.conn.now) }
+    ensures crash { LeavesNoMore (state S.Store tx.old.conn.now) (state S.Store tx.new.conn.now) }
+    ensures room { LeavesRoomAfter (state S.Store tx.old.conn.now) (state S.Store tx.new.conn.now) result }
+    ensures cause { FailsByCause (state S.Store tx.old.conn.now) (state S.Store tx.new.conn.now) result (λ content. (finite.get content.kept (number_of request.now) ≡ None) × TextsFit content request.now × HasRoom 500 (state S.Store tx.old.conn.now)) }
+{
+    let (effects, last_day) = effects_in(tx, alloc, tables, &request.act)?;
+    let Effects { changes, reply } = effects;
+    let words = reply_text(alloc, &reply)?;
+    write_changes(tx, alloc, last_day, changes.as_slice())?;
+    let entry = ReplyRow { act, reply: words };
+    add_reply(tx, request.number.value(), &entry)?;
+    Ok(reply)
+}
+
+/// The reply to a request, and whether its number is new. What a new number does is written.
+pub fn serve_in<S: Alter>(
+    tx: &mut Transaction<'_, S>,
+    alloc: Global,
+    tables: &mut UnitTables,
+    request: &Request,
+) -> Result<(bool, Reply), Failure>
+    ensures same_reference { tx.new.conn.ghost_name ≡ tx.old.conn.ghost_name }
+    ensures open { LeavesOpen (state S.Store tx.new.conn.now) result }
+    ensures inside { StaysInside (state S.Store tx.old.conn.now) (state S.Store tx.new.conn.now) result }
+    ensures serves { Serves (state S.Store tx.old.conn.now) (state S.Store tx.new.conn.now) request.now result }
+    ensures sound { HasCleanDisk (state S.Store tx.new.conn.now) → IsInside (state S.Store tx.old.conn.now) → IfOk result (λ r. IsTrue r.0 → IsTrue (state S.Store tx.new.conn.now).is_open → IsDatabase (state S.Store tx.new.conn.now).now) }
+    ensures commit { CommitsNothing (state S.Store tx.old.conn.now) (state S.Store tx.new.conn.now) }
+    ensures crash { LeavesNoMore (state S.Store tx.old.conn.now) (state S.Store tx.new.conn.now) }
+    ensures room { LeavesRoomAfter (state S.Store tx.old.conn.now) (state S.Store tx.new.conn.now) result }
+    ensures cause { FailsByCause (state S.Store tx.old.conn.now) (state S.Store tx.new.conn.now) result (λ content. TextsFit content request.now × HasRoom 500 (state S.Store tx.old.conn.now)) }
+{
+    let act = canonical(alloc, &request.act)?;
+    if let Some(entry) = find_reply(tx, request.number.value())? {
+        let kept_act = entry.act.as_str();
+        let kept_reply = entry.reply.as_str();
+        let asked = act.as_str();
+        let reply = reply_again(alloc, kept_act, kept_reply, asked)?;
+        return Ok((false, reply));
+    }
+    let reply = decide_in(tx, alloc, tables, request, act)?;
+    Ok((true, reply))
+}
+
+/// The reply to a request, which acts once: all that it does and its reply are committed together.
+pub fn deliver_on<S: Alter>(
+    conn: &mut Connection<S>,
+    alloc: Global,
+    tables: &mut UnitTables,
+    request: &Request,
+) -> Result<Reply, Failure>
+    ensures told { HasCleanDisk (state S.Store conn.new) → IfOk result (λ reply. (content : Content) → HasContent (state S.Store conn.old) content → reply ≡ answer content [] request.now) }
+    ensures kept { HasCleanDisk (state S.Store conn.new) → OnOk result ((content : Content) → HasContent (state S.Store conn.old) content → HasContent (state S.Store conn.new) (content_after content (request.now ∷ []))) }
+    ensures failed { HasCleanDisk (state S.Store conn.new) → OnErr result ((content : Content) → HasContent (state S.Store conn.old) content → HasContent (state S.Store conn.new) content) }
+    ensures crash { Survives (state S.Store conn.old) (state S.Store conn.new) (λ db. (content : Content) → HasContent (state S.Store conn.old) content → StandsFor db (content_after content (request.now ∷ []))) }
+    ensures opened { HasCleanDisk (state S.Store conn.new) → OnOk result ((content : Content) → HasContent (state S.Store conn.old) content → finite.contains_key content.kept (number_of request.now) ≡ false
+        → IsTrue (state S.Store conn.new).is_open) }
+    ensures durable { HasCleanDisk (state S.Store conn.new) → OnOk result ((content : Content) → HasContent (state S.Store conn.old) content → finite.contains_key content.kept (number_of request.now) ≡ false
+        → (db : Trees) → (state S.Store conn.new).may_leave db → db ≡ (state S.Store conn.new).committed.trees) }
+    ensures again { HasCleanDisk (state S.Store conn.new) → OnOk result ((content : Content) → HasContent (state S.Store conn.old) content → finite.contains_key content.kept (number_of request.now) ≡ true
+        → (db : Trees) → (state S.Store conn.new).may_leave db → (state S.Store conn.old).may_leave db) }
+    ensures ready { IsReady (state S.Store conn.old) → IsReady (state S.Store conn.new) }
+    ensures room { TakesRequestRoom (state S.Store conn.old) (state S.Store conn.new) }
+    ensures cause { DeliversOrFails (state S.Store conn.old) (state S.Store conn.new) request.now result }
+{
+    if !conn.is_autocommit() {
+        return Err(Failure::StoreFailed);
+    }
+    let mut tx = conn.transaction();
+    let (is_new, reply) = serve_in(&mut tx, alloc, tables, request)?;
+    if !is_new {
+        return Ok(reply);
+    }
+    tx.commit()?;
+    Ok(reply)
+}

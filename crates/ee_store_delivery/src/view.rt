@@ -1,0 +1,253 @@
+//! What an act sees of the books, read by its keys in a transaction.
+
+ghost use Rattle.std.specs.Prelude.{◌≡◌, IfOk, IfSome, IsSome, Some, None, length, ⊤};
+ghost use Rattle.std.specs.Result.{IsOk};
+ghost use Rattle.std.specs.Option.{option_map};
+ghost use Rattle.std.specs.FinMap as finite;
+ghost use Rattle.sqlite.specs.Held.{state};
+ghost use Rattle.ee_desk_acts.specs.Seen.{held_of};
+ghost use Rattle.ee_desk_acts.specs.declared.acts.Act.{Act};
+ghost use Rattle.ee_desk_acts.specs.PlainBooks.{PlainBooks};
+ghost use Rattle.ee_desk_acts.specs.Refusals.{length_refusal};
+ghost use Rattle.ee_desk_acts.specs.Sound.{IsDay, IsSound};
+ghost use Rattle.ee_desk_acts.specs.Views as is;
+ghost use Rattle.ee_desk_acts.specs.Views.{picked};
+ghost use Rattle.ee_store_tables.specs.AsRows.{row_of_desk};
+ghost use Rattle.ee_store_tables.specs.Rows.{DeskRow};
+ghost use Rattle.ee_store_tables.specs.Statements.{StaysOpen, StaysInside, CommitsNothing, LeavesNoMore};
+ghost use Rattle.ee_store_lookups.specs.Causes.{FailsByCause};
+ghost use Rattle.ee_store_lookups.specs.Found.{terms_found, bonds_found};
+ghost use Rattle.ee_store_lookups.specs.Seen.{FindsIn, LeavesRows};
+ghost use Rattle.ee_store_delivery.specs.Delivered.{AreEffects};
+
+use crate::named_by_act::{periods_of, serials_of};
+use ee_desk_acts::{Act, Effects, Held, Terms, UnitTables};
+use ee_desk_decide::{DayCounts, View, ViewParts, decide, length_refusal};
+use ee_store_lookups::{counted_in, held_in, terms_in, tickets_in};
+use ee_store_tables as tables;
+use ee_store_tables::{Failure, find_desk};
+use ee_units::{Day, IssueMonth, Serial};
+use sqlite::{Alter, Transaction};
+use std::alloc::Global;
+use std::collections::BTreeMap;
+
+fn optional_day(count: Option<u64>) -> Option<Option<Day>>
+    ensures value { IfSome result (λ day. day ≡ count) }
+    ensures read { IfSome count IsDay → IsSome result }
+{
+    match count {
+        None => Some(None),
+        Some(count) => Some(Some(Day::new(count)?)),
+    }
+}
+
+/// The open day and the day that was closed last.
+#[derive(Drop)]
+struct Days {
+    day: Option<Day>,
+    last_day: Option<Day>,
+}
+
+fn days_of(desk: tables::DeskRow) -> Result<Days, Failure>
+    ensures value { IfOk result (λ days. (days.day ≡ desk.day) × (days.last_day ≡ desk.last_day)) }
+    ensures read { IfSome desk.day IsDay → IfSome desk.last_day IsDay → IsOk result }
+{
+    let Some(day) = optional_day(desk.day) else {
+        return Err(Failure::StoreFailed);
+    };
+    let Some(last_day) = optional_day(desk.last_day) else {
+        return Err(Failure::StoreFailed);
+    };
+    Ok(Days { day, last_day })
+}
+
+/// The days that a look-up showed.
+fn days_shown(found: Option<tables::DeskRow>) -> Result<Days, Failure>
+    ensures value { IfOk result (λ days. (desk : DeskRow) → option_map row_of_desk found ≡ Some desk → (days.day ≡ desk.day) × (days.last_day ≡ desk.last_day)) }
+    ensures read { (desk : DeskRow) → option_map row_of_desk found ≡ Some desk → IfSome desk.day IsDay → IfSome desk.last_day IsDay → IsOk result }
+{
+    match found {
+        Some(desk) => days_of(desk),
+        None => Err(Failure::StoreFailed),
+    }
+}
+
+/// The open day and the day that was closed last.
+fn days_in<S: Alter>(tx: &mut Transaction<'_, S>) -> Result<Days, Failure>
+    ensures same_reference { tx.new.conn.ghost_name ≡ tx.old.conn.ghost_name }
+    ensures open { StaysOpen (state S.Store tx.old.conn.now) (state S.Store tx.new.conn.now) result }
+    ensures inside { StaysInside (state S.Store tx.old.conn.now) (state S.Store tx.new.conn.now) result }
+    ensures found { FindsIn (state S.Store tx.old.conn.now) (state S.Store tx.new.conn.now) result (λ content days. (days.day ≡ content.books.day) × (days.last_day ≡ content.books.last_day)) }
+    ensures rows { LeavesRows (state S.Store tx.old.conn.now) (state S.Store tx.new.conn.now) result }
+    ensures commit { CommitsNothing (state S.Store tx.old.conn.now) (state S.Store tx.new.conn.now) }
+    ensures crash { LeavesNoMore (state S.Store tx.old.conn.now) (state S.Store tx.new.conn.now) }
+    ensures cause { FailsByCause (state S.Store tx.old.conn.now) (state S.Store tx.new.conn.now) result (λ _. ⊤) }
+{
+    let found = find_desk(tx)?;
+    days_shown(found)
+}
+
+/// The terms and the bonds that an act names.
+#[derive(Drop)]
+struct Keys {
+    terms: BTreeMap<IssueMonth, Terms>,
+    bonds: BTreeMap<Serial, Held>,
+}
+
+/// The terms and the bonds that an act names.
+fn keys_in<S: Alter>(
+    tx: &mut Transaction<'_, S>,
+    alloc: Global,
+    tables: &mut UnitTables,
+    act: &Act,
+) -> Result<Keys, Failure>
+    ensures same_reference { tx.new.conn.ghost_name ≡ tx.old.conn.ghost_name }
+    ensures open { StaysOpen (state S.Store tx.old.conn.now) (state S.Store tx.new.conn.now) result }
+    ensures inside { StaysInside (state S.Store tx.old.conn.now) (state S.Store tx.new.conn.now) result }
+    ensures found { FindsIn (state S.Store tx.old.conn.now) (state S.Store tx.new.conn.now) result (λ content keys.
+        (terms_found keys.terms.entries ≡ picked (finite.get content.books.rates) (is.periods_of content.books act.now))
+        × (bonds_found keys.bonds.entries ≡ picked (held_of content.books) (is.serials_of act.now))) }
+    ensures rows { LeavesRows (state S.Store tx.old.conn.now) (state S.Store tx.new.conn.now) result }
+    ensures commit { CommitsNothing (state S.Store tx.old.conn.now) (state S.Store tx.new.conn.now) }
+    ensures crash { LeavesNoMore (state S.Store tx.old.conn.now) (state S.Store tx.new.conn.now) }
+    ensures cause { FailsByCause (state S.Store tx.old.conn.now) (state S.Store tx.new.conn.now) result (λ _. ⊤) }
+{
+    let serials = serials_of(alloc, act)?;
+    let named = serials.as_slice();
+    let bonds = held_in(tx, alloc, named)?;
+    let periods = periods_of(alloc, &bonds, act)?;
+    let asked = periods.as_slice();
+    let terms = terms_in(tx, alloc, tables, asked)?;
+    Ok(Keys { terms, bonds })
+}
+
+/// How many tickets there are, and those of the open day, for the acts that count them.
+#[derive(Drop)]
+struct Counts {
+    tickets: u64,
+    day: DayCounts,
+}
+
+/// How many tickets there are, and those of the open day, for the acts that count them.
+fn counts_in<S: Alter>(
+    tx: &mut Transaction<'_, S>,
+    alloc: Global,
+    act: &Act,
+    day: Option<Day>,
+) -> Result<Counts, Failure>
+    ensures same_reference { tx.new.conn.ghost_name ≡ tx.old.conn.ghost_name }
+    ensures open { StaysOpen (state S.Store tx.old.conn.now) (state S.Store tx.new.conn.now) result }
+    ensures inside { StaysInside (state S.Store tx.old.conn.now) (state S.Store tx.new.conn.now) result }
+    ensures found { FindsIn (state S.Store tx.old.conn.now) (state S.Store tx.new.conn.now) result (λ content counts. day ≡ content.books.day
+        → (counts.tickets ≡ length content.books.tickets) × (counts.day.tickets ≡ (is.needed_counts content.books act.now).tickets)
+        × (counts.day.bonds ≡ (is.needed_counts content.books act.now).bonds) × (counts.day.total.0 ≡ (is.needed_counts content.books act.now).total.0)) }
+    ensures rows { LeavesRows (state S.Store tx.old.conn.now) (state S.Store tx.new.conn.now) result }
+    ensures commit { CommitsNothing (state S.Store tx.old.conn.now) (state S.Store tx.new.conn.now) }
+    ensures crash { LeavesNoMore (state S.Store tx.old.conn.now) (state S.Store tx.new.conn.now) }
+    ensures cause { FailsByCause (state S.Store tx.old.conn.now) (state S.Store tx.new.conn.now) result (λ _. ⊤) }
+{
+    let tickets = tickets_in(tx)?;
+    let counts = counted_in(tx, alloc, act, day, tickets)?;
+    Ok(Counts {
+        tickets,
+        day: counts,
+    })
+}
+
+fn view_from(keys: Keys, days: Days, counts: Counts) -> Result<View, Failure>
+    ensures fits { (books : PlainBooks) → IsSound books → (asked : Act) → record { rates = terms_found keys.terms.entries; bonds = bonds_found keys.bonds.entries; day = days.day; last_day = days.last_day; tickets = counts.tickets; day_tickets = counts.day.tickets; day_bonds = counts.day.bonds; day_total = counts.day.total.0 } ≡ is.needed_of books asked → IsOk result }
+    ensures view { IfOk result (λ view. view ≡ record { rates = terms_found keys.terms.entries; bonds = bonds_found keys.bonds.entries; day = days.day; last_day = days.last_day; tickets = counts.tickets; day_tickets = counts.day.tickets; day_bonds = counts.day.bonds; day_total = counts.day.total.0 }) }
+{
+    let Keys { terms, bonds } = keys;
+    let parts = ViewParts {
+        rates: terms,
+        bonds,
+        day: days.day,
+        last_day: days.last_day,
+        tickets: counts.tickets,
+        day_tickets: counts.day.tickets,
+        day_bonds: counts.day.bonds,
+        day_total: counts.day.total,
+    };
+    match View::from_parts(parts) {
+        Some(view) => Ok(view),
+        None => Err(Failure::StoreFailed),
+    }
+}
+
+/// What an act is decided by that the length of its list doesn't refuse.
+fn view_within<S: Alter>(
+    tx: &mut Transaction<'_, S>,
+    alloc: Global,
+    tables: &mut UnitTables,
+    act: &Act,
+) -> Result<View, Failure>
+    ensures same_reference { tx.new.conn.ghost_name ≡ tx.old.conn.ghost_name }
+    ensures open { StaysOpen (state S.Store tx.old.conn.now) (state S.Store tx.new.conn.now) result }
+    ensures inside { StaysInside (state S.Store tx.old.conn.now) (state S.Store tx.new.conn.now) result }
+    ensures found { FindsIn (state S.Store tx.old.conn.now) (state S.Store tx.new.conn.now) result (λ content view. view ≡ is.needed_within content.books act.now) }
+    ensures rows { LeavesRows (state S.Store tx.old.conn.now) (state S.Store tx.new.conn.now) result }
+    ensures commit { CommitsNothing (state S.Store tx.old.conn.now) (state S.Store tx.new.conn.now) }
+    ensures crash { LeavesNoMore (state S.Store tx.old.conn.now) (state S.Store tx.new.conn.now) }
+    ensures cause { FailsByCause (state S.Store tx.old.conn.now) (state S.Store tx.new.conn.now) result (λ _. length_refusal act.now ≡ None) }
+{
+    let days = days_in(tx)?;
+    let keys = keys_in(tx, alloc, tables, act)?;
+    let counts = counts_in(tx, alloc, act, days.day)?;
+    view_from(keys, days, counts)
+}
+
+/// What an act is decided by. Where the length of its list refuses it nothing is read.
+fn view_in<S: Alter>(
+    tx: &mut Transaction<'_, S>,
+    alloc: Global,
+    tables: &mut UnitTables,
+    act: &Act,
+) -> Result<View, Failure>
+    ensures same_reference { tx.new.conn.ghost_name ≡ tx.old.conn.ghost_name }
+    ensures open { StaysOpen (state S.Store tx.old.conn.now) (state S.Store tx.new.conn.now) result }
+    ensures inside { StaysInside (state S.Store tx.old.conn.now) (state S.Store tx.new.conn.now) result }
+    ensures found { FindsIn (state S.Store tx.old.conn.now) (state S.Store tx.new.conn.now) result (λ content view. view ≡ is.needed_of content.books act.now) }
+    ensures rows { LeavesRows (state S.Store tx.old.conn.now) (state S.Store tx.new.conn.now) result }
+    ensures commit { CommitsNothing (state S.Store tx.old.conn.now) (state S.Store tx.new.conn.now) }
+    ensures crash { LeavesNoMore (state S.Store tx.old.conn.now) (state S.Store tx.new.conn.now) }
+    ensures cause { FailsByCause (state S.Store tx.old.conn.now) (state S.Store tx.new.conn.now) result (λ _. ⊤) }
+{
+    match length_refusal(act) {
+        Some(_) => Ok(View::of_nothing(alloc)),
+        None => view_within(tx, alloc, tables, act),
+    }
+}
+
+fn count_of(day: Option<Day>) -> Option<u64>
+    ensures { result ≡ day }
+{
+    match day {
+        None => None,
+        Some(day) => Some(day.count() as u64),
+    }
+}
+
+/// The effects of an act on the books that the transaction sees, and, where it changes something, the day
+/// that was closed last.
+pub fn effects_in<S: Alter>(
+    tx: &mut Transaction<'_, S>,
+    alloc: Global,
+    tables: &mut UnitTables,
+    act: &Act,
+) -> Result<(Effects, Option<u64>), Failure>
+    ensures same_reference { tx.new.conn.ghost_name ≡ tx.old.conn.ghost_name }
+    ensures open { StaysOpen (state S.Store tx.old.conn.now) (state S.Store tx.new.conn.now) result }
+    ensures inside { StaysInside (state S.Store tx.old.conn.now) (state S.Store tx.new.conn.now) result }
+    ensures found { FindsIn (state S.Store tx.old.conn.now) (state S.Store tx.new.conn.now) result (AreEffects act.now) }
+    ensures rows { LeavesRows (state S.Store tx.old.conn.now) (state S.Store tx.new.conn.now) result }
+    ensures commit { CommitsNothing (state S.Store tx.old.conn.now) (state S.Store tx.new.conn.now) }
+    ensures crash { LeavesNoMore (state S.Store tx.old.conn.now) (state S.Store tx.new.conn.now) }
+    ensures cause { FailsByCause (state S.Store tx.old.conn.now) (state S.Store tx.new.conn.now) result (λ _. ⊤) }
+{
+    let view = view_in(tx, alloc, tables, act)?;
+    let effects = decide(alloc, &view, act)?;
+    let closed = view.last_day();
+    let last_day = count_of(closed);
+    Ok((effects, last_day))
+}

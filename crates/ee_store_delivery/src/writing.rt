@@ -1,0 +1,170 @@
+//! The changes of the books, written as rows.
+
+ghost use Rattle.std.specs.Prelude.{◌≡◌, IfSome, length, Some, None};
+ghost use Rattle.sqlite.specs.Held.{state};
+ghost use Rattle.ee_store_tables.specs.AsRows.{Fits};
+ghost use Rattle.ee_store_tables.specs.Rows.{HasRoom};
+ghost use Rattle.ee_store_tables.specs.Statements.{LeavesOpen, StaysOpen, StaysInside, CommitsNothing, LeavesNoMore, Makes, FailsByCause};
+ghost use Rattle.ee_store_delivery.specs.Causes.{LeavesRoom};
+ghost use Rattle.ee_store_delivery.specs.Written.{changed_rows, applied_rows, CanPayTicket, CanClose, CanWrite, CanWriteAll, added_rows, all_added_rows};
+
+use crate::to_rows::{batch_row, bond_row, line_rows, ticket_row, whole, whole_option};
+use ee_calculator::Bond;
+use ee_desk_acts::{Batch, Change, Terms, Ticket};
+use ee_store_tables::{
+    Failure, RateRow, add_batch, add_bond, add_rate, add_ticket, pay_lines, set_day,
+};
+use ee_units::{Day, IssueMonth};
+use sqlite::{Alter, Transaction};
+use std::alloc::Global;
+
+/// Writes the terms of a period.
+fn write_terms<S: Alter>(
+    tx: &mut Transaction<'_, S>,
+    from: IssueMonth,
+    terms: &Terms,
+) -> Result<(), Failure>
+    ensures same_reference { tx.new.conn.ghost_name ≡ tx.old.conn.ghost_name }
+    ensures open { LeavesOpen (state S.Store tx.new.conn.now) result }
+    ensures inside { StaysInside (state S.Store tx.old.conn.now) (state S.Store tx.new.conn.now) result }
+    ensures written { Makes (state S.Store tx.old.conn.now) (state S.Store tx.new.conn.now) result (λ rows. changed_rows None rows (Change.Rates from terms.now)) }
+    ensures commit { CommitsNothing (state S.Store tx.old.conn.now) (state S.Store tx.new.conn.now) }
+    ensures crash { LeavesNoMore (state S.Store tx.old.conn.now) (state S.Store tx.new.conn.now) }
+    ensures room { LeavesRoom (state S.Store tx.old.conn.now) (state S.Store tx.new.conn.now) result 0 }
+    ensures cause { FailsByCause (state S.Store tx.old.conn.now) (state S.Store tx.new.conn.now) result (λ _. HasRoom 0 (state S.Store tx.old.conn.now)) }
+{
+    let rates = terms.rates();
+    let row = RateRow {
+        period: from.count() as u64,
+        rate: rates.fixed.hundredths() as u64,
+    };
+    add_rate(tx, row)?;
+    Ok(())
+}
+
+/// Writes a new bond.
+fn write_bond<S: Alter>(tx: &mut Transaction<'_, S>, bond: &Bond) -> Result<(), Failure>
+    ensures same_reference { tx.new.conn.ghost_name ≡ tx.old.conn.ghost_name }
+    ensures open { LeavesOpen (state S.Store tx.new.conn.now) result }
+    ensures inside { StaysInside (state S.Store tx.old.conn.now) (state S.Store tx.new.conn.now) result }
+    ensures written { Makes (state S.Store tx.old.conn.now) (state S.Store tx.new.conn.now) result (λ rows. changed_rows None rows (Change.Bond bond.now)) }
+    ensures commit { CommitsNothing (state S.Store tx.old.conn.now) (state S.Store tx.new.conn.now) }
+    ensures crash { LeavesNoMore (state S.Store tx.old.conn.now) (state S.Store tx.new.conn.now) }
+    ensures room { LeavesRoom (state S.Store tx.old.conn.now) (state S.Store tx.new.conn.now) result 1 }
+    ensures cause { FailsByCause (state S.Store tx.old.conn.now) (state S.Store tx.new.conn.now) result (λ _. HasRoom 1 (state S.Store tx.old.conn.now)) }
+{
+    let row = bond_row(bond);
+    add_bond(tx, row)?;
+    Ok(())
+}
+
+/// Writes a ticket with its lines, and marks its bonds as paid.
+fn write_ticket<S: Alter>(
+    tx: &mut Transaction<'_, S>,
+    alloc: Global,
+    ticket: &Ticket,
+) -> Result<(), Failure>
+    ensures same_reference { tx.new.conn.ghost_name ≡ tx.old.conn.ghost_name }
+    ensures open { StaysOpen (state S.Store tx.old.conn.now) (state S.Store tx.new.conn.now) result }
+    ensures inside { StaysInside (state S.Store tx.old.conn.now) (state S.Store tx.new.conn.now) result }
+    ensures written { Makes (state S.Store tx.old.conn.now) (state S.Store tx.new.conn.now) result (λ rows. changed_rows None rows (Change.Ticket ticket.now)) }
+    ensures commit { CommitsNothing (state S.Store tx.old.conn.now) (state S.Store tx.new.conn.now) }
+    ensures crash { LeavesNoMore (state S.Store tx.old.conn.now) (state S.Store tx.new.conn.now) }
+    ensures room { LeavesRoom (state S.Store tx.old.conn.now) (state S.Store tx.new.conn.now) result (length ticket.now.lines) }
+    ensures cause { FailsByCause (state S.Store tx.old.conn.now) (state S.Store tx.new.conn.now) result (λ rows. CanPayTicket rows ticket.now × HasRoom (length ticket.now.lines) (state S.Store tx.old.conn.now)) }
+{
+    let number = whole(ticket.ticket)?;
+    let row = ticket_row(ticket)?;
+    let lines = line_rows(alloc, ticket.lines.as_slice())?;
+    if lines.len() > 100 {
+        return Err(Failure::StoreFailed);
+    }
+    add_ticket(tx, number, row)?;
+    pay_lines(tx, number, 1, &lines)?;
+    Ok(())
+}
+
+/// Writes the batch that closes its day.
+fn write_batch<S: Alter>(tx: &mut Transaction<'_, S>, batch: &Batch) -> Result<(), Failure>
+    ensures same_reference { tx.new.conn.ghost_name ≡ tx.old.conn.ghost_name }
+    ensures open { LeavesOpen (state S.Store tx.new.conn.now) result }
+    ensures inside { StaysInside (state S.Store tx.old.conn.now) (state S.Store tx.new.conn.now) result }
+    ensures written { Makes (state S.Store tx.old.conn.now) (state S.Store tx.new.conn.now) result (λ rows. changed_rows None rows (Change.Batch batch.now)) }
+    ensures commit { CommitsNothing (state S.Store tx.old.conn.now) (state S.Store tx.new.conn.now) }
+    ensures crash { LeavesNoMore (state S.Store tx.old.conn.now) (state S.Store tx.new.conn.now) }
+    ensures room { LeavesRoom (state S.Store tx.old.conn.now) (state S.Store tx.new.conn.now) result 0 }
+    ensures cause { FailsByCause (state S.Store tx.old.conn.now) (state S.Store tx.new.conn.now) result (λ rows. CanClose rows batch.now × HasRoom 0 (state S.Store tx.old.conn.now)) }
+{
+    let row = batch_row(batch)?;
+    let day = batch.day.count() as u64;
+    add_batch(tx, day, row)?;
+    set_day(tx, None, Some(day))?;
+    Ok(())
+}
+
+/// Writes the day that is opened, where this is the day that was closed last.
+fn write_day<S: Alter>(
+    tx: &mut Transaction<'_, S>,
+    last_day: Option<u64>,
+    day: Day,
+) -> Result<(), Failure>
+    ensures same_reference { tx.new.conn.ghost_name ≡ tx.old.conn.ghost_name }
+    ensures open { LeavesOpen (state S.Store tx.new.conn.now) result }
+    ensures inside { StaysInside (state S.Store tx.old.conn.now) (state S.Store tx.new.conn.now) result }
+    ensures written { Makes (state S.Store tx.old.conn.now) (state S.Store tx.new.conn.now) result (λ rows. changed_rows last_day rows (Change.Day day)) }
+    ensures commit { CommitsNothing (state S.Store tx.old.conn.now) (state S.Store tx.new.conn.now) }
+    ensures crash { LeavesNoMore (state S.Store tx.old.conn.now) (state S.Store tx.new.conn.now) }
+    ensures room { LeavesRoom (state S.Store tx.old.conn.now) (state S.Store tx.new.conn.now) result 0 }
+    ensures cause { FailsByCause (state S.Store tx.old.conn.now) (state S.Store tx.new.conn.now) result (λ _. IfSome last_day Fits × HasRoom 0 (state S.Store tx.old.conn.now)) }
+{
+    let last = whole_option(last_day)?;
+    set_day(tx, Some(day.count() as u64), last)?;
+    Ok(())
+}
+
+/// Writes a change, where this is the day that was closed last.
+fn write_change<S: Alter>(
+    tx: &mut Transaction<'_, S>,
+    alloc: Global,
+    last_day: Option<u64>,
+    change: &Change,
+) -> Result<(), Failure>
+    ensures same_reference { tx.new.conn.ghost_name ≡ tx.old.conn.ghost_name }
+    ensures open { StaysOpen (state S.Store tx.old.conn.now) (state S.Store tx.new.conn.now) result }
+    ensures inside { StaysInside (state S.Store tx.old.conn.now) (state S.Store tx.new.conn.now) result }
+    ensures written { Makes (state S.Store tx.old.conn.now) (state S.Store tx.new.conn.now) result (λ rows. changed_rows last_day rows change.now) }
+    ensures commit { CommitsNothing (state S.Store tx.old.conn.now) (state S.Store tx.new.conn.now) }
+    ensures crash { LeavesNoMore (state S.Store tx.old.conn.now) (state S.Store tx.new.conn.now) }
+    ensures room { LeavesRoom (state S.Store tx.old.conn.now) (state S.Store tx.new.conn.now) result (added_rows change.now) }
+    ensures cause { FailsByCause (state S.Store tx.old.conn.now) (state S.Store tx.new.conn.now) result (λ rows. CanWrite last_day rows change.now × HasRoom (added_rows change.now) (state S.Store tx.old.conn.now)) }
+{
+    match change {
+        Change::Rates(from, terms) => write_terms(tx, *from, terms),
+        Change::Bond(bond) => write_bond(tx, bond),
+        Change::Day(day) => write_day(tx, last_day, *day),
+        Change::Ticket(ticket) => write_ticket(tx, alloc, ticket),
+        Change::Batch(batch) => write_batch(tx, batch),
+    }
+}
+
+/// Writes changes, one after the other, where this is the day that was closed last.
+pub fn write_changes<S: Alter>(
+    tx: &mut Transaction<'_, S>,
+    alloc: Global,
+    last_day: Option<u64>,
+    changes: &[Change],
+) -> Result<(), Failure>
+    ensures same_reference { tx.new.conn.ghost_name ≡ tx.old.conn.ghost_name }
+    ensures open { StaysOpen (state S.Store tx.old.conn.now) (state S.Store tx.new.conn.now) result }
+    ensures inside { StaysInside (state S.Store tx.old.conn.now) (state S.Store tx.new.conn.now) result }
+    ensures written { Makes (state S.Store tx.old.conn.now) (state S.Store tx.new.conn.now) result (λ rows. applied_rows last_day rows changes.now) }
+    ensures commit { CommitsNothing (state S.Store tx.old.conn.now) (state S.Store tx.new.conn.now) }
+    ensures crash { LeavesNoMore (state S.Store tx.old.conn.now) (state S.Store tx.new.conn.now) }
+    ensures room { LeavesRoom (state S.Store tx.old.conn.now) (state S.Store tx.new.conn.now) result (all_added_rows changes.now) }
+    ensures cause { FailsByCause (state S.Store tx.old.conn.now) (state S.Store tx.new.conn.now) result (λ rows. CanWriteAll last_day rows changes.now × HasRoom (all_added_rows changes.now) (state S.Store tx.old.conn.now)) }
+{
+    for change in changes {
+        write_change(tx, alloc, last_day, change)?;
+    }
+    Ok(())
+}

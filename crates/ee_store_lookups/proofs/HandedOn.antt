@@ -1,0 +1,49 @@
+-- Errors that are handed on, and rates that can be read.
+use Rattle.std.proofs.Common.{◌≡◌, ℕ, ◌≤◌, Option, Some, None, Result, Ok, Err, IfErr, IsErrAnd, sym, ap, subst}
+use Rattle.std.proofs.lemmas.Result.{IfErr-weaker}
+use Rattle.std.specs.Prelude.{IfSome}
+use Rattle.std.specs.Option.{option_map, unwrap_or}
+use Rattle.std.specs.FinMap as finite
+use Rattle.sqlite.specs.State.{State}
+use Rattle.ee_value.specs.declared.rates.Rates.{Rates}
+use Rattle.ee_value.specs.Chain.{InRange}
+use Rattle.ee_desk_acts.specs.Repeats.{Content}
+use Rattle.ee_desk_acts.specs.Sound.{IsRightRate}
+use Rattle.ee_desk_acts.specs.Values.{unsettled}
+use Rattle.ee_store_contents.specs.Standing.{IsRight}
+use Rattle.ee_store_tables.specs.declared.failures.Failure.{Failure}
+use Rattle.ee_store_tables.specs.declared.failures.Failure.TheVariants as failure
+use Rattle.ee_store_tables.specs.Statements.{IsExcused}
+
+-- ---- errors that are handed on
+pub handed_on : {X : Type 0} (P : Failure → Type 0) (r : Result X Failure) (e : Failure) → IsErrAnd r (λ told. told ≡ e) → P e → IfErr r P
+handed_on P (Ok x) e is p = tt
+handed_on P (Err told) e is p = subst P (sym is) p
+
+-- a statement failed
+pub statement_failed : {X : Type 0} (old new : State) (r : Result X Failure) (f : Failure) → IsErrAnd r (λ told. told ≡ f) → IsExcused old new f → IfErr r (IsExcused old new)
+statement_failed old new r f is h = handed_on (IsExcused old new) r f is h
+
+-- memory was refused
+pub memory_handed_on : {X : Type 0} (old new : State) (r : Result X Failure) (e : Failure) → IsErrAnd r (λ told. told ≡ e) → e ≡ failure.NoMemory → IfErr r (IsExcused old new)
+memory_handed_on old new r e is memory = handed_on (IsExcused old new) r e is (subst (IsExcused old new) (sym memory) tt)
+
+pub memory_alone : {X : Type 0} (old new : State) (r : Result X Failure) → IfErr r (λ e. e ≡ failure.NoMemory) → IfErr r (IsExcused old new)
+memory_alone old new r h = IfErr-weaker r (λ e. e ≡ failure.NoMemory) (IsExcused old new) (λ e is. subst (IsExcused old new) (sym is) tt) h
+
+-- ---- rates
+right_rate : (period : ℕ) (o : Option Rates) → IfSome o (IsRightRate period) → IfSome o (λ rates. InRange rates × (unsettled rates ≡ None))
+right_rate period None h = tt
+right_rate period (Some rates) h = (h.in_range.1, h.settled)
+
+-- the rates of a right content can be read
+pub rates_right : (S : Content) (period : ℕ) → IsRight S → IfSome (finite.get S.books.rates period) (λ rates. InRange rates × (unsettled rates ≡ None))
+rates_right S period right = right_rate period (finite.get S.books.rates period) (right.sound.rates period)
+
+-- what was found are such rates
+pub rates_read : (found : ℕ) (terms : Option Rates) → Some found ≡ option_map (λ rates. rates.fixed) terms → IfSome terms (λ rates. InRange rates × (unsettled rates ≡ None))
+    → (found ≤ 2000) × (unsettled (record { fixed = found }) ≡ None)
+rates_read found None is h = absurd (cc)
+rates_read found (Some rates) is h =
+    let same : rates.fixed ≡ found = sym (ap (λ o. unwrap_or o found) is) in
+    subst (λ n. (n ≤ 2000) × (unsettled (record { fixed = n }) ≡ None)) same h

@@ -1,0 +1,10 @@
+//! Look-ups in a transaction: terms of periods, held bonds and counts of tickets, as the content that the transaction sees has them.
+#![tactic(auto)]
+
+mod held_bonds;
+mod terms;
+mod ticket_counts;
+
+pub use held_bonds::{held_from, held_in};
+pub use terms::{find_terms, terms_in};
+pub use ticket_counts::{counted_in, tickets_in};

@@ -1,0 +1,49 @@
+-- What reading several tables in turn gives.
+use Rattle.std.specs.Result.{is_ok, is_err}
+use Rattle.std.specs.Prelude.{if◌then◌else◌}
+use Rattle.std.proofs.Common.{◌≡◌, ◌+◌, false, length, length-append, List, [], ◌∷◌, ◌++◌, map, refl, Ok, Err, Result, IfOk, IfErr, OnOk, sym, ap, subst, ◌∙◌}
+use Rattle.sqlite.specs.Effect.{Database, IsDatabase}
+use Rattle.sqlite.specs.State.{State, IsUnchanged}
+use Rattle.ee_store_opening.specs.Reading.{IsSoundNow, HasOurTables}
+
+pub both_ok : {X E : Type 0} {P Q R : X → Type 0} (r : Result X E) → ((x : X) → P x → Q x → R x) → IfOk r P → IfOk r Q → IfOk r R
+both_ok (Ok x) f p q = f x p q
+both_ok (Err e) f p q = tt
+
+pub sound_after : (a b : State) → IsUnchanged a b → IsSoundNow a → IsSoundNow b
+sound_after a b same sound is_open = subst IsDatabase (sym same.0.now_is) (sound same.0.was_open)
+
+pub each_ok : {X E : Type 0} {P Q : X → Type 0} (r : Result X E) → ((x : X) → P x → Q x) → IfOk r P → IfOk r Q
+each_ok (Ok x) f p = f x p
+each_ok (Err e) f p = tt
+
+pub each_fault : {X E : Type 0} {P Q : E → Type 0} (r : Result X E) → ((e : E) → P e → Q e) → IfErr r P → IfErr r Q
+each_fault (Ok x) f p = tt
+each_fault (Err e) f p = f e p
+
+pub still_ours : (a b : State) → IsUnchanged a b → HasOurTables a → HasOurTables b
+still_ours a b same ours is_open = ap (λ (d : Database). d.schema) same.0.now_is ∙ ours same.0.was_open
+
+-- ---- premises of results
+
+pub under_ok : {X E A : Type 0} (P : X → Type 0) (r : Result X E) → (A → IfOk r P) → IfOk r (λ x. A → P x)
+under_ok P (Ok x) f = f
+under_ok P (Err e) f = tt
+
+pub ok_then : {X E Q : Type 0} {P R : X → Type 0} (r : Result X E) → ((x : X) → P x → Q → R x) → IfOk r P → OnOk r Q → IfOk r R
+ok_then (Ok x) f p q = f x p q
+ok_then (Err e) f p q = tt
+
+-- ---- one more row
+
+pub one_more : {A B E F : Type 0} (f : A → B) (r : Result E F) → false ≡ is_err r → (ys xs : List A) (x : A) → ys ≡ (if is_ok r then xs ++ x ∷ [] else xs) → map f xs ++ f x ∷ [] ≡ map f ys
+one_more f (Ok e) done ys xs x is = sym (ap (map f) is ∙ mapped xs)
+  where
+    mapped : (zs : List _) → map f (zs ++ x ∷ []) ≡ map f zs ++ f x ∷ []
+    mapped [] = refl
+    mapped (z ∷ zs) = ap (λ more. f z ∷ more) (mapped zs)
+one_more f (Err e) done ys xs x is = absurd cc
+
+pub one_longer : {A E F : Type 0} (r : Result E F) → false ≡ is_err r → (ys xs : List A) (x : A) → ys ≡ (if is_ok r then xs ++ x ∷ [] else xs) → length ys ≡ length xs + 1
+one_longer (Ok e) done ys xs x is = ap length is ∙ length-append xs (x ∷ [])
+one_longer (Err e) done ys xs x is = absurd cc

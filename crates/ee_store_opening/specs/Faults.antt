@@ -1,0 +1,28 @@
+-- What a failure of `sqlite` says of a store that is opened, and why a store is told to have failed.
+use Rattle.std.specs.Prelude.{◌≡◌, None, Result, IfErr}
+use Rattle.sqlite.specs.State.{State, HasCleanDisk}
+use Rattle.ee_store_tables.specs.Statements.{HasCause}
+use Rattle.sqlite.specs.declared.error.Error.{Error}
+use Rattle.sqlite.specs.declared.error.Error.TheVariants.{SqliteFailure, SqlInputError, InvalidColumnIndex, InvalidColumnType, IntegralValueOutOfRange, Utf8Error}
+use Rattle.sqlite.specs.declared.error.ErrorCode.TheVariants.{OutOfMemory, NameTaken}
+use Rattle.ee_store_opening.specs.declared.making.OpenFault.{OpenFault}
+use Rattle.ee_store_opening.specs.declared.making.OpenFault.TheVariants.{NoMemory, StoreFailed, Unusable}
+
+-- A statement that the tables refuse and a value that can't be read tell of another store than ours.
+abbrev pub fault_of : Error → OpenFault
+fault_of (SqliteFailure OutOfMemory) = NoMemory
+fault_of (SqliteFailure NameTaken) = Unusable
+fault_of (SqlInputError refused) = Unusable
+fault_of (InvalidColumnIndex at) = Unusable
+fault_of (InvalidColumnType at kind) = Unusable
+fault_of (IntegralValueOutOfRange at) = Unusable
+fault_of (Utf8Error at) = Unusable
+fault_of _ = StoreFailed
+
+-- a store that failed has such a cause
+abbrev pub IsExcused : State → State → OpenFault → Type 0
+IsExcused old new fault = fault ≡ StoreFailed → HasCause old new
+
+-- it has, from a state like this on and with no limit on steps
+abbrev pub FailsForCause : {X : Type 0} → (State → Type 0) → State → State → Result X OpenFault → Type 0
+FailsForCause Starts old new result = HasCleanDisk new → Starts old → old.step_limit ≡ None → IfErr result (IsExcused old new)

@@ -1,0 +1,92 @@
+-- What is read of a whole table.
+use Rattle.std.specs.Prelude.{◌≡◌, ◌≤◌, length, ◌&&◌, ℕ, Bool, true, false, IsTrue, List, [], ◌∷◌, map, pos, negsuc, None, Ok, Err, Result, All, IsPermutation}
+use Rattle.sqlite.specs.declared.types.Value.TheVariants.{Int}
+use Rattle.sqlite.specs.Order.{Row}
+use Rattle.sqlite.specs.Tree.{Trees}
+use Rattle.sqlite.specs.Schema.{Schema}
+use Rattle.sqlite.specs.Term.{Term, lit}
+use Rattle.sqlite_sql.specs.Term.{eval_all}
+use Rattle.sqlite_value.specs.declared.keys.Key.{Key}
+use Rattle.sqlite.specs.Query.{Query, IsAnswer, inner, end}
+use Rattle.sqlite.specs.Program.{overlay}
+use Rattle.sqlite_resolve.specs.declared.compiled.Compiled.{Compiled}
+use Rattle.sqlite_resolve.specs.declared.error.CompileError.{CompileError}
+use Rattle.sqlite.specs.Command.TheVariants.{Select}
+use Rattle.sqlite.specs.declared.error.Error.{Error}
+use Rattle.sqlite.specs.Effect.{IsDatabase, RefusesToRead}
+use Rattle.sqlite.specs.Listing.{understood, reads_listing}
+use Rattle.sqlite.specs.State.{State, Begins}
+use Rattle.ee_store_tables.specs.Tables.{counter_schema}
+
+-- each element comes before the next
+abbrev pub rises : {X : Type 0} → (X → X → Bool) → List X → Bool
+rises precedes [] = true
+rises precedes (x ∷ []) = true
+rises precedes (x ∷ y ∷ ys) = precedes x y && rises precedes (y ∷ ys)
+
+-- all rows of a table, each shown by these terms
+abbrev pub whole_table : ℕ → List Term → List (Term × Key) → Query
+whole_table tree terms order = record {
+  from = inner tree end;
+  filter = [];
+  group = None;
+  project = terms;
+  distinct = false;
+  collations = [];
+  order = order;
+  limit = lit (Int (negsuc 0));
+  offset = lit (Int (pos 0));
+}
+
+abbrev pub IsQuery : Query → Result Compiled CompileError → Type 0
+IsQuery query (Ok c) = (names : List (List ℕ)) × (c.command ≡ Select (record { lets = []; body = query }) names) × (c.returning ≡ None) × (c.formats ≡ [])
+IsQuery query (Err e) = ⊥
+
+-- the text asks for the whole table
+pub record AsksForAll (schema : Schema) (text : List ℕ) (tree : ℕ) (terms : List Term) : Type 0 where
+  pub order : List (Term × Key)
+  pub query : IsQuery (whole_table tree terms order) (understood schema text)
+  pub unlisted : reads_listing schema text ≡ false
+
+-- the text is one statement for so many parameters, which neither shows what it writes nor reads the time
+abbrev pub IsOneStatement : List ℕ → ℕ → Result Compiled CompileError → Type 0
+IsOneStatement text count (Ok c) = (length text ≤ c.tail) × (count ≡ length c.names) × (c.returning ≡ None) × (c.formats ≡ [])
+IsOneStatement text count (Err e) = ⊥
+
+abbrev pub NeverRefuses : Schema → Row → Result Compiled CompileError → Type 0
+NeverRefuses schema params (Ok c) = (trees : Trees) (e : Error) → ¬ RefusesToRead None c.command (record { schema = schema; trees = trees }) params e
+NeverRefuses schema params (Err e) = ⊥
+
+-- with no limit on steps `sqlite` refuses the query for no rows of these tables
+pub record IsNeverRefused (schema : Schema) (text : List ℕ) (params : Row) : Type 0 where
+  pub statement : IsOneStatement text (length params) (understood schema text)
+  pub accepted : NeverRefuses schema params (understood schema text)
+  pub unlisted : reads_listing schema text ≡ false
+
+-- what the terms show of a row
+abbrev pub shown_by : List Term → Row → Row
+shown_by terms row = eval_all terms ([] ∷ row ∷ [])
+
+-- the rows show the whole table, each row once
+abbrev pub ShowsAll : Trees → ℕ → List Term → List Row → Type 0
+ShowsAll db tree terms rows = IsPermutation (map (shown_by terms) (db tree)) rows
+
+-- the tables obey the schema, as `sqlite` keeps them
+abbrev pub IsSoundNow : State → Type 0
+IsSoundNow s = IsTrue s.is_open → IsDatabase s.now
+
+-- the tables that are seen are the counter's
+abbrev pub HasOurTables : State → Type 0
+HasOurTables s = IsTrue s.is_open → s.now.schema ≡ counter_schema
+
+-- the text writes nothing, whatever tables there are
+abbrev pub OnlyAsks : List ℕ → Type 0
+OnlyAsks text = (schema : Schema) (c : Compiled) → understood schema text ≡ Ok c → c.returning ≡ None
+
+-- an answer begins with rows of which some can't be read
+abbrev pub ShowsUnreadable : (Row → Type 0) → List ℕ → State → Type 0
+ShowsUnreadable IsReadable text s = (rows : List Row) × Begins text [] s rows × ¬ All IsReadable rows
+
+-- What the query shows can be read, each row, and their keys rise.
+abbrev pub CanBeRead : {A : Type 0} → (Row → Type 0) → (A → Row) → (A → A → Bool) → Trees → Query → Type 0
+CanBeRead {A} IsReadable shown precedes db query = (rows : List Row) → IsAnswer query (overlay db []) [] rows → All IsReadable rows × ((found : List A) → rows ≡ map shown found → rises precedes found ≡ true)

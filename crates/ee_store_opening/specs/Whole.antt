@@ -1,0 +1,77 @@
+-- What all rows of a store are together.
+use Rattle.std.specs.Prelude.{◌≡◌, IsTrue, T, map}
+use Rattle.std.specs.Ordering.{nat_cmp}
+use Rattle.std.specs.FinMap.{entries, is_sorted}
+use Rattle.sqlite.specs.Tree.{Trees}
+use Rattle.sqlite.specs.State.{State}
+use Rattle.ee_store_tables.specs.Tables.{counter_schema}
+use Rattle.ee_store_tables.specs.Keyed.{pair_cmp, HoldsMap, HoldsPairs}
+use Rattle.ee_store_tables.specs.Rows.{Rows, desk_columns, rate_columns, bond_columns, ticket_columns, paid_columns, batch_columns, reply_columns}
+use Rattle.ee_store_opening.specs.declared.whole.AllRows.{AllRows}
+use Rattle.ee_store_opening.specs.declared.whole.Register.{Register}
+use Rattle.ee_store_opening.specs.declared.whole.Payments.{Payments}
+use Rattle.ee_store_opening.specs.declared.whole.Records.{Records}
+use Rattle.ee_store_opening.specs.Shown.{desk_map, rate_map, bond_map, ticket_map, line_map, batch_map, reply_map, desk_entry, rate_entry, bond_entry, ticket_entry, line_entry, batch_entry, reply_entry}
+
+-- the last commit left the tables of version 1
+abbrev pub IsOurs : State → Type 0
+IsOurs s = IsTrue s.is_open → s.committed.schema ≡ counter_schema
+
+abbrev pub rows_of : AllRows → Rows
+rows_of all = record {
+  desk = desk_map all.desk.items;
+  rates = rate_map all.rates.items;
+  bonds = bond_map all.bonds.items;
+  tickets = ticket_map all.tickets.items;
+  paid = line_map all.lines.items;
+  batches = batch_map all.batches.items;
+  replies = reply_map all.replies.items;
+}
+
+-- Each table's rows are in order of their keys, and no key stands twice.
+pub record AreInOrder (all : AllRows) : Type 0 where
+  pub desk : T (is_sorted nat_cmp (map desk_entry all.desk.items))
+  pub rates : T (is_sorted nat_cmp (map rate_entry all.rates.items))
+  pub bonds : T (is_sorted pair_cmp (map bond_entry all.bonds.items))
+  pub tickets : T (is_sorted nat_cmp (map ticket_entry all.tickets.items))
+  pub lines : T (is_sorted pair_cmp (map line_entry all.lines.items))
+  pub batches : T (is_sorted nat_cmp (map batch_entry all.batches.items))
+  pub replies : T (is_sorted nat_cmp (map reply_entry all.replies.items))
+
+-- The entries of each map are the rows that were read, in their order.
+pub record ListsAll (all : AllRows) : Type 0 where
+  pub desk : entries (desk_map all.desk.items) ≡ map desk_entry all.desk.items
+  pub rates : entries (rate_map all.rates.items) ≡ map rate_entry all.rates.items
+  pub bonds : entries (bond_map all.bonds.items) ≡ map bond_entry all.bonds.items
+  pub tickets : entries (ticket_map all.tickets.items) ≡ map ticket_entry all.tickets.items
+  pub lines : entries (line_map all.lines.items) ≡ map line_entry all.lines.items
+  pub batches : entries (batch_map all.batches.items) ≡ map batch_entry all.batches.items
+  pub replies : entries (reply_map all.replies.items) ≡ map reply_entry all.replies.items
+
+-- ---- parts of the whole
+
+pub record ListsRegister (part : Register) : Type 0 where
+  pub desk : entries (desk_map part.desk.items) ≡ map desk_entry part.desk.items
+  pub rates : entries (rate_map part.rates.items) ≡ map rate_entry part.rates.items
+  pub bonds : entries (bond_map part.bonds.items) ≡ map bond_entry part.bonds.items
+
+pub record ListsPayments (part : Payments) : Type 0 where
+  pub tickets : entries (ticket_map part.tickets.items) ≡ map ticket_entry part.tickets.items
+  pub lines : entries (line_map part.lines.items) ≡ map line_entry part.lines.items
+
+pub record ListsRecords (part : Records) : Type 0 where
+  pub batches : entries (batch_map part.batches.items) ≡ map batch_entry part.batches.items
+  pub replies : entries (reply_map part.replies.items) ≡ map reply_entry part.replies.items
+
+pub record HoldsRegister (db : Trees) (part : Register) : Type 0 where
+  pub desk : HoldsMap desk_columns (db 0) (desk_map part.desk.items)
+  pub rates : HoldsMap rate_columns (db 1) (rate_map part.rates.items)
+  pub bonds : HoldsPairs bond_columns (db 2) (bond_map part.bonds.items)
+
+pub record HoldsPayments (db : Trees) (part : Payments) : Type 0 where
+  pub tickets : HoldsMap ticket_columns (db 5) (ticket_map part.tickets.items)
+  pub lines : HoldsPairs paid_columns (db 7) (line_map part.lines.items)
+
+pub record HoldsRecords (db : Trees) (part : Records) : Type 0 where
+  pub batches : HoldsMap batch_columns (db 10) (batch_map part.batches.items)
+  pub replies : HoldsMap reply_columns (db 11) (reply_map part.replies.items)

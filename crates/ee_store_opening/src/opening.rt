@@ -1,0 +1,101 @@
+//! Opening a store: its rows are found, and made where it has none.
+
+ghost use Rattle.std.specs.Prelude.{◌≡◌, ◌≢◌, ◌⊎◌, false, None, IsTrue, IfOk, IfErr, OnOk, OnErr};
+ghost use Rattle.sqlite.specs.State.{HasCleanDisk, KeepsCommit, Survives};
+ghost use Rattle.sqlite.specs.Held.{state};
+ghost use Rattle.sqlite.specs.Tree.{Trees};
+ghost use Rattle.ee_store_tables.specs.Rows.{Rows, Has, Stores};
+ghost use Rattle.ee_store_tables.specs.Statements.{LeavesNoMore};
+ghost use Rattle.ee_store_opening.specs.Faults.{IsExcused, FailsForCause};
+ghost use Rattle.ee_store_opening.specs.Making.{IsBlank, first_rows};
+ghost use Rattle.ee_store_opening.specs.Whole.{rows_of, IsOurs, AreInOrder};
+ghost use Rattle.ee_store_opening.specs.Opening.{HasTables, IsFirstVersion, IsOtherVersion, AreReadable};
+
+use crate::making::{OpenFault, make_tables};
+use crate::ours::{has_no_tables, has_our_tables};
+use crate::version::check_version;
+use crate::whole::{AllRows, read_all};
+use sqlite::{Alter, Connection};
+use std::alloc::Global;
+
+/// Makes the tables, and reads their rows.
+fn open_blank<S: Alter>(conn: &mut Connection<S>, alloc: Global) -> Result<AllRows, OpenFault>
+    ensures found { HasCleanDisk (state S.Store conn.new) → IfOk result (λ all. IsBlank (state S.Store conn.old) → Has (state S.Store conn.new) (rows_of all)) }
+    ensures made { HasCleanDisk (state S.Store conn.new) → IfOk result (λ all. IsBlank (state S.Store conn.old) → rows_of all ≡ first_rows) }
+    ensures order { IfOk result AreInOrder }
+    ensures open { HasCleanDisk (state S.Store conn.new) → OnOk result (IsTrue (state S.Store conn.old).is_open × IsTrue (state S.Store conn.new).is_open) }
+    ensures begun { HasCleanDisk (state S.Store conn.new) → OnOk result (IsBlank (state S.Store conn.old) → (db : Trees) → (state S.Store conn.new).may_leave db → Stores db first_rows) }
+    ensures blank { HasCleanDisk (state S.Store conn.new) → IfErr result (λ e. IsBlank (state S.Store conn.old) → IsTrue (state S.Store conn.old).is_open → (e ≢ OpenFault.Unusable) × (e ≢ OpenFault.WrongVersion)) }
+    ensures failed { HasCleanDisk (state S.Store conn.new) → OnErr result (KeepsCommit (state S.Store conn.old) (state S.Store conn.new)
+        ⊎ (IsTrue (state S.Store conn.old).is_open × (IsBlank (state S.Store conn.old) → Has (state S.Store conn.new) first_rows))) }
+    ensures cause { FailsForCause (λ s. (s.in_transaction ≡ false) × IsBlank s) (state S.Store conn.old) (state S.Store conn.new) result }
+    ensures ended { HasCleanDisk (state S.Store conn.new) → OnOk result ((state S.Store conn.new).in_transaction ≡ false) }
+    ensures crash { Survives (state S.Store conn.old) (state S.Store conn.new) (λ db. IsBlank (state S.Store conn.old) → Stores db first_rows) }
+{
+    make_tables(conn)?;
+    read_all(conn, alloc)
+}
+
+/// Why a store with other tables isn't opened.
+fn refusal<S: Alter>(conn: &mut Connection<S>) -> OpenFault
+    ensures kept { HasCleanDisk (state S.Store conn.new) → KeepsCommit (state S.Store conn.old) (state S.Store conn.new) }
+    ensures crash { LeavesNoMore (state S.Store conn.old) (state S.Store conn.new) }
+{
+    match check_version(conn) {
+        Ok(()) => OpenFault::Unusable,
+        Err(fault) => fault,
+    }
+}
+
+/// The rows of a store; the tables of version 1 are made where it has none at all.
+///
+/// A store is read where its tables are those of version 1, in the order in which they are made, with
+/// their indexes, and it has nothing else. Where it has no table, index or view they are made in one
+/// transaction, with the desk's row: version 1, no open day and no last day. Any other store is
+/// refused, one with our tables in another order too, and nothing is committed in it. The version is
+/// tested before all else is read. Each table's rows come in order of their keys. It takes time and
+/// memory in proportion to the rows.
+///
+/// # Errors
+///
+/// `WrongVersion` where the desk's row is of another version, whatever the tables are besides.
+/// `Unusable` where the tables are others than those of version 1, the desk's row is missing, or a row
+/// has a value that no row of this program has. `NoMemory` where there is not enough memory, and else
+/// `StoreFailed`, as where the connection is in a transaction. What was committed stays, or just the
+/// new tables and the desk's row are there. Where there is a table, an index or a view, nothing is
+/// committed. Outside a transaction and with no limit on steps, a store with no tables or with those
+/// of version 1 gives `StoreFailed` only where its device fails during the call or it was shut before.
+pub fn open_rows<S: Alter>(conn: &mut Connection<S>, alloc: Global) -> Result<AllRows, OpenFault>
+    ensures found { HasCleanDisk (state S.Store conn.new) → IfOk result (λ all. Has (state S.Store conn.new) (rows_of all)) }
+    ensures ours { HasCleanDisk (state S.Store conn.new) → OnOk result (IsOurs (state S.Store conn.old) ⊎ IsBlank (state S.Store conn.old)) }
+    ensures made { HasCleanDisk (state S.Store conn.new) → IfOk result (λ all. IsBlank (state S.Store conn.old) → IsTrue (state S.Store conn.old).is_open → rows_of all ≡ first_rows) }
+    ensures those { HasCleanDisk (state S.Store conn.new) → IfOk result (λ all. (rows : Rows) → Has (state S.Store conn.old) rows → IsTrue (state S.Store conn.old).is_open → rows_of all ≡ rows) }
+    ensures order { IfOk result AreInOrder }
+    ensures open { HasCleanDisk (state S.Store conn.new) → OnOk result (IsTrue (state S.Store conn.old).is_open × IsTrue (state S.Store conn.new).is_open) }
+    ensures begun { HasCleanDisk (state S.Store conn.new) → OnOk result (IsBlank (state S.Store conn.old) → (db : Trees) → (state S.Store conn.new).may_leave db → Stores db first_rows) }
+    ensures first { HasCleanDisk (state S.Store conn.new) → OnOk result ((rows : Rows) → Has (state S.Store conn.old) rows → IsTrue (state S.Store conn.old).is_open → IsFirstVersion rows) }
+    ensures version { HasCleanDisk (state S.Store conn.new) → IfErr result (λ e. e ≡ OpenFault.WrongVersion → (rows : Rows) → Has (state S.Store conn.old) rows → IsTrue (state S.Store conn.old).is_open → IsOtherVersion rows) }
+    ensures tested { HasCleanDisk (state S.Store conn.new) → IfErr result (λ e. e ≡ OpenFault.Unusable → (rows : Rows) → Has (state S.Store conn.old) rows → IsTrue (state S.Store conn.old).is_open → ¬ IsOtherVersion rows) }
+    ensures unusable { HasCleanDisk (state S.Store conn.new) → IfErr result (λ e. e ≡ OpenFault.Unusable → (rows : Rows) → Has (state S.Store conn.old) rows → IsTrue (state S.Store conn.old).is_open → ¬ AreReadable rows) }
+    ensures blank { HasCleanDisk (state S.Store conn.new) → IfErr result (λ e. IsBlank (state S.Store conn.old) → IsTrue (state S.Store conn.old).is_open → (e ≢ OpenFault.Unusable) × (e ≢ OpenFault.WrongVersion)) }
+    ensures failed { HasCleanDisk (state S.Store conn.new) → OnErr result ((HasTables (state S.Store conn.old) → KeepsCommit (state S.Store conn.old) (state S.Store conn.new))
+        × (IsBlank (state S.Store conn.old) → KeepsCommit (state S.Store conn.old) (state S.Store conn.new) ⊎ Has (state S.Store conn.new) first_rows)) }
+    ensures kept { HasCleanDisk (state S.Store conn.new) → OnOk result (HasTables (state S.Store conn.old) → KeepsCommit (state S.Store conn.old) (state S.Store conn.new)) }
+    ensures stays { HasCleanDisk (state S.Store conn.new) → OnOk result (HasTables (state S.Store conn.old) → (db : Trees) → (state S.Store conn.new).may_leave db → (state S.Store conn.old).may_leave db) }
+    ensures left { HasCleanDisk (state S.Store conn.new) → IsTrue (state S.Store conn.old).is_open → HasTables (state S.Store conn.old) → (db : Trees) → (state S.Store conn.new).may_leave db → (state S.Store conn.old).may_leave db }
+    ensures ended { HasCleanDisk (state S.Store conn.new) → OnOk result ((state S.Store conn.new).in_transaction ≡ false) }
+    ensures clean { HasCleanDisk (state S.Store conn.new) → HasCleanDisk (state S.Store conn.old) }
+    ensures cause { HasCleanDisk (state S.Store conn.new) → (state S.Store conn.old).in_transaction ≡ false → (state S.Store conn.old).step_limit ≡ None → IsBlank (state S.Store conn.old) ⊎ IsOurs (state S.Store conn.old) → IfErr result (IsExcused (state S.Store conn.old) (state S.Store conn.new)) }
+    ensures crash { Survives (state S.Store conn.old) (state S.Store conn.new) (λ db. IsBlank (state S.Store conn.old) → Stores db first_rows) }
+{
+    if !conn.is_autocommit() {
+        return Err(OpenFault::StoreFailed);
+    }
+    if has_no_tables(conn.schema()) {
+        open_blank(conn, alloc)
+    } else if has_our_tables(conn.schema()) {
+        read_all(conn, alloc)
+    } else {
+        Err(refusal(conn))
+    }
+}

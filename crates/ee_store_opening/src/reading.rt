@@ -1,0 +1,112 @@
+//! Reading the rows of a table, and testing that their keys rise.
+
+ghost use Rattle.std.specs.Prelude.{◌≡◌, ◌≢◌, List, Bool, true, IsTrue, IfOk, IfErr, OnOk, map, ℕ, []};
+ghost use Rattle.sqlite.specs.State.{HasCleanDisk, IsUnchanged, KeepsCommit, Survives, Shown};
+ghost use Rattle.sqlite.specs.Given.{IsPlain};
+ghost use Rattle.sqlite.specs.Held.{state};
+ghost use Rattle.sqlite.specs.Listing.{understood};
+ghost use Rattle.sqlite.specs.Term.{Term};
+ghost use Rattle.sqlite.specs.Order.{Row as Columns};
+ghost use Rattle.ee_store_tables.specs.Tables.{counter_schema};
+ghost use Rattle.ee_store_opening.specs.Faults.{FailsForCause};
+ghost use Rattle.ee_store_opening.specs.Reading.{rises, whole_table, AsksForAll, IsNeverRefused, ShowsAll, ShowsUnreadable, CanBeRead, HasOurTables, OnlyAsks};
+
+use crate::making::OpenFault;
+use sqlite::{Alter, Connection, Row};
+use std::alloc::Global;
+
+/// A row of a table, as a query of the whole table shows it.
+pub trait Record: Sized {
+    // What the query shows.
+    ghost shown: { Self → Columns };
+
+    // It stands before the other, in the order of the keys.
+    ghost stands_before: { Self → Self → Bool };
+
+    // A row that this program writes, as the query shows it.
+    ghost is_readable: { Columns → Type 0 };
+
+    /// Reads a row that the query showed.
+    fn read(row: &Row) -> Result<Self, OpenFault>
+        ensures exact { IfOk result (λ found. row.now ≡ shown found) }
+        ensures usable { IfErr result (λ e. e ≡ OpenFault.Unusable → ¬ is_readable row.now) }
+        ensures other { IfErr result (λ e. e ≢ OpenFault.WrongVersion) }
+        ensures cause { IfErr result (λ e. e ≢ OpenFault.StoreFailed) };
+
+    /// Whether its key is below the other's.
+    fn precedes(&self, next: &Self) -> bool
+        ensures { result ≡ stands_before self.now next.now };
+}
+
+/// Whether each key is below the next.
+fn keys_rise<T: Record>(found: &[T]) -> bool
+    ensures { result ≡ rises T.stands_before found.now }
+{
+    let mut rest = found;
+    while let Some((first, more)) = rest.split_first() {
+        if let Some(next) = more.first() {
+            if !first.precedes(next) {
+                return false;
+            }
+        }
+        rest = more;
+    }
+    true
+}
+
+/// The rows that a query shows, read one after the other, so that nobody holds its answer as a whole.
+fn read_rows<S: Alter, T: Record + Drop>(
+    conn: &mut Connection<S>,
+    alloc: Global,
+    sql: &str,
+) -> Result<Vec<T>, OpenFault>
+    requires { OnlyAsks sql.now }
+    ensures shown { HasCleanDisk (state S.Store conn.new) → IfOk result (λ found. Shown sql.now [] (state S.Store conn.old) (state S.Store conn.new) (map T.shown found.items)) }
+    ensures usable { HasCleanDisk (state S.Store conn.new) → IfErr result (λ e. e ≡ OpenFault.Unusable → IsPlain (understood (state S.Store conn.old).now.schema sql.now)
+        → ShowsUnreadable T.is_readable sql.now (state S.Store conn.old)) }
+    ensures same { HasCleanDisk (state S.Store conn.new) → OnOk result (IsUnchanged (state S.Store conn.old) (state S.Store conn.new)) }
+    ensures kept { HasCleanDisk (state S.Store conn.new) → KeepsCommit (state S.Store conn.old) (state S.Store conn.new) }
+    ensures other { IfErr result (λ e. e ≢ OpenFault.WrongVersion) }
+    ensures cause { FailsForCause (λ s. IsNeverRefused s.now.schema sql.now []) (state S.Store conn.old) (state S.Store conn.new) result }
+    ensures crash { Survives (state S.Store conn.old) (state S.Store conn.new) (λ _. ⊥) }
+{
+    let mut found = Vec::new(alloc);
+    let mut rows = conn.query(sql, &[])?;
+    'rows: for _ in 0..usize::MAX {
+        let Some(row) = rows.next()? else {
+            return Ok(found);
+        };
+        let next = T::read(row)?;
+        if found.push(next).is_err() {
+            return Err(OpenFault::NoMemory);
+        }
+    }
+    // No store has so many rows.
+    Err(OpenFault::StoreFailed)
+}
+
+/// The rows of a table, in order of their keys.
+pub(crate) fn read_table<S: Alter, T: Record + Drop>(
+    conn: &mut Connection<S>,
+    alloc: Global,
+    sql: &str,
+) -> Result<Vec<T>, OpenFault>
+    requires { OnlyAsks sql.now }
+    ensures found { HasCleanDisk (state S.Store conn.new) → IfOk result (λ found. (tree : ℕ) (terms : List Term) → AsksForAll counter_schema sql.now tree terms
+        → HasOurTables (state S.Store conn.old) → IsTrue (state S.Store conn.old).is_open × ShowsAll (state S.Store conn.old).now.trees tree terms (map T.shown found.items)) }
+    ensures rises { IfOk result (λ found. rises T.stands_before found.items ≡ true) }
+    ensures usable { HasCleanDisk (state S.Store conn.new) → IfErr result (λ e. e ≡ OpenFault.Unusable → (tree : ℕ) (terms : List Term) (asks : AsksForAll counter_schema sql.now tree terms)
+        → HasOurTables (state S.Store conn.old) → IsTrue (state S.Store conn.old).is_open
+        → ¬ CanBeRead T.is_readable T.shown T.stands_before (state S.Store conn.old).now.trees (whole_table tree terms asks.order)) }
+    ensures same { HasCleanDisk (state S.Store conn.new) → OnOk result (IsUnchanged (state S.Store conn.old) (state S.Store conn.new)) }
+    ensures kept { HasCleanDisk (state S.Store conn.new) → KeepsCommit (state S.Store conn.old) (state S.Store conn.new) }
+    ensures other { IfErr result (λ e. e ≢ OpenFault.WrongVersion) }
+    ensures cause { IsNeverRefused counter_schema sql.now [] → FailsForCause HasOurTables (state S.Store conn.old) (state S.Store conn.new) result }
+    ensures crash { Survives (state S.Store conn.old) (state S.Store conn.new) (λ _. ⊥) }
+{
+    let found: Vec<T> = read_rows(conn, alloc, sql)?;
+    if !keys_rise(&found) {
+        return Err(OpenFault::Unusable);
+    }
+    Ok(found)
+}

@@ -1,0 +1,188 @@
+//! Reading the whole store.
+
+ghost use Rattle.std.specs.Prelude.{◌≡◌, ◌≢◌, false, IsTrue, IfOk, IfErr, OnOk};
+ghost use Rattle.sqlite.specs.State.{HasCleanDisk, IsUnchanged, KeepsCommit, Survives};
+ghost use Rattle.sqlite.specs.Held.{state};
+ghost use Rattle.ee_store_tables.specs.Rows.{Rows, Sees, Has, Holds};
+ghost use Rattle.ee_store_opening.specs.Opening.{IsFirstVersion, IsOtherVersion, AreReadable};
+ghost use Rattle.ee_store_opening.specs.Shown.{AreWritten};
+ghost use Rattle.ee_store_opening.specs.Faults.{FailsForCause};
+ghost use Rattle.ee_store_opening.specs.Reading.{IsSoundNow, HasOurTables};
+ghost use Rattle.ee_store_opening.specs.Whole.{rows_of, HoldsRegister, HoldsPayments, HoldsRecords, IsOurs, AreInOrder, ListsAll, ListsRegister, ListsPayments, ListsRecords};
+
+use crate::entries::{
+    StoredBatch, StoredBond, StoredDesk, StoredLine, StoredRate, StoredReply, StoredTicket,
+};
+use crate::making::OpenFault;
+use crate::tables::{
+    read_batches, read_bonds, read_desk, read_lines, read_rates, read_replies, read_tickets,
+};
+use crate::version::check_version;
+use sqlite::{Alter, Connection};
+use std::alloc::Global;
+
+/// All rows of a store, each table in order of its keys.
+#[derive(Drop)]
+pub struct AllRows {
+    /// The row of the desk.
+    pub desk: Vec<StoredDesk>,
+    /// The rates.
+    pub rates: Vec<StoredRate>,
+    /// The bonds.
+    pub bonds: Vec<StoredBond>,
+    /// The tickets.
+    pub tickets: Vec<StoredTicket>,
+    /// The lines of the tickets.
+    pub lines: Vec<StoredLine>,
+    /// The batches.
+    pub batches: Vec<StoredBatch>,
+    /// The kept acts and replies.
+    pub replies: Vec<StoredReply>,
+}
+
+/// The rows of the register.
+#[derive(Drop)]
+pub(crate) struct Register {
+    desk: Vec<StoredDesk>,
+    rates: Vec<StoredRate>,
+    bonds: Vec<StoredBond>,
+}
+
+/// The rows of the payments.
+#[derive(Drop)]
+pub(crate) struct Payments {
+    tickets: Vec<StoredTicket>,
+    lines: Vec<StoredLine>,
+}
+
+/// The rows of what is kept.
+#[derive(Drop)]
+pub(crate) struct Records {
+    batches: Vec<StoredBatch>,
+    replies: Vec<StoredReply>,
+}
+
+/// Reads the desk, the rates and the bonds.
+fn read_register<S: Alter>(conn: &mut Connection<S>, alloc: Global) -> Result<Register, OpenFault>
+    ensures found { HasCleanDisk (state S.Store conn.new) → HasOurTables (state S.Store conn.old) → IsSoundNow (state S.Store conn.old) → IfOk result (λ found. HoldsRegister (state S.Store conn.old).now.trees found) }
+    ensures listed { IfOk result ListsRegister }
+    ensures usable { HasCleanDisk (state S.Store conn.new) → IfErr result (λ e. e ≡ OpenFault.Unusable → HasOurTables (state S.Store conn.old) → IsTrue (state S.Store conn.old).is_open → (rows : Rows) → ¬ Holds (state S.Store conn.old).now.trees rows) }
+    ensures same { HasCleanDisk (state S.Store conn.new) → OnOk result (IsUnchanged (state S.Store conn.old) (state S.Store conn.new)) }
+    ensures kept { HasCleanDisk (state S.Store conn.new) → KeepsCommit (state S.Store conn.old) (state S.Store conn.new) }
+    ensures other { IfErr result (λ e. e ≢ OpenFault.WrongVersion) }
+    ensures cause { FailsForCause HasOurTables (state S.Store conn.old) (state S.Store conn.new) result }
+    ensures crash { Survives (state S.Store conn.old) (state S.Store conn.new) (λ _. ⊥) }
+{
+    let desk = read_desk(conn, alloc)?;
+    let rates = read_rates(conn, alloc)?;
+    let bonds = read_bonds(conn, alloc)?;
+    Ok(Register { desk, rates, bonds })
+}
+
+/// Reads the tickets and their lines.
+fn read_payments<S: Alter>(conn: &mut Connection<S>, alloc: Global) -> Result<Payments, OpenFault>
+    ensures found { HasCleanDisk (state S.Store conn.new) → HasOurTables (state S.Store conn.old) → IsSoundNow (state S.Store conn.old) → IfOk result (λ found. HoldsPayments (state S.Store conn.old).now.trees found) }
+    ensures listed { IfOk result ListsPayments }
+    ensures usable { HasCleanDisk (state S.Store conn.new) → IfErr result (λ e. e ≡ OpenFault.Unusable → HasOurTables (state S.Store conn.old) → IsTrue (state S.Store conn.old).is_open → (rows : Rows) → ¬ Holds (state S.Store conn.old).now.trees rows) }
+    ensures same { HasCleanDisk (state S.Store conn.new) → OnOk result (IsUnchanged (state S.Store conn.old) (state S.Store conn.new)) }
+    ensures kept { HasCleanDisk (state S.Store conn.new) → KeepsCommit (state S.Store conn.old) (state S.Store conn.new) }
+    ensures other { IfErr result (λ e. e ≢ OpenFault.WrongVersion) }
+    ensures cause { FailsForCause HasOurTables (state S.Store conn.old) (state S.Store conn.new) result }
+    ensures crash { Survives (state S.Store conn.old) (state S.Store conn.new) (λ _. ⊥) }
+{
+    let tickets = read_tickets(conn, alloc)?;
+    let lines = read_lines(conn, alloc)?;
+    Ok(Payments { tickets, lines })
+}
+
+/// Reads the batches and the replies.
+fn read_records<S: Alter>(conn: &mut Connection<S>, alloc: Global) -> Result<Records, OpenFault>
+    ensures found { HasCleanDisk (state S.Store conn.new) → HasOurTables (state S.Store conn.old) → IsSoundNow (state S.Store conn.old) → IfOk result (λ found. HoldsRecords (state S.Store conn.old).now.trees found) }
+    ensures listed { IfOk result ListsRecords }
+    ensures usable { HasCleanDisk (state S.Store conn.new) → IfErr result (λ e. e ≡ OpenFault.Unusable → HasOurTables (state S.Store conn.old) → IsTrue (state S.Store conn.old).is_open → (rows : Rows) → AreWritten rows.replies → ¬ Holds (state S.Store conn.old).now.trees rows) }
+    ensures same { HasCleanDisk (state S.Store conn.new) → OnOk result (IsUnchanged (state S.Store conn.old) (state S.Store conn.new)) }
+    ensures kept { HasCleanDisk (state S.Store conn.new) → KeepsCommit (state S.Store conn.old) (state S.Store conn.new) }
+    ensures other { IfErr result (λ e. e ≢ OpenFault.WrongVersion) }
+    ensures cause { FailsForCause HasOurTables (state S.Store conn.old) (state S.Store conn.new) result }
+    ensures crash { Survives (state S.Store conn.old) (state S.Store conn.new) (λ _. ⊥) }
+{
+    let batches = read_batches(conn, alloc)?;
+    let replies = read_replies(conn, alloc)?;
+    Ok(Records { batches, replies })
+}
+
+/// Reads all tables.
+fn read_in<S: Alter>(conn: &mut Connection<S>, alloc: Global) -> Result<AllRows, OpenFault>
+    ensures found { HasCleanDisk (state S.Store conn.new) → HasOurTables (state S.Store conn.old) → IsSoundNow (state S.Store conn.old) → IfOk result (λ found. Holds (state S.Store conn.old).now.trees (rows_of found)) }
+    ensures listed { IfOk result ListsAll }
+    ensures usable { HasCleanDisk (state S.Store conn.new) → IfErr result (λ e. e ≡ OpenFault.Unusable → HasOurTables (state S.Store conn.old) → IsTrue (state S.Store conn.old).is_open → (rows : Rows) → AreWritten rows.replies → ¬ Holds (state S.Store conn.old).now.trees rows) }
+    ensures same { HasCleanDisk (state S.Store conn.new) → OnOk result (IsUnchanged (state S.Store conn.old) (state S.Store conn.new)) }
+    ensures kept { HasCleanDisk (state S.Store conn.new) → KeepsCommit (state S.Store conn.old) (state S.Store conn.new) }
+    ensures other { IfErr result (λ e. e ≢ OpenFault.WrongVersion) }
+    ensures cause { FailsForCause HasOurTables (state S.Store conn.old) (state S.Store conn.new) result }
+    ensures crash { Survives (state S.Store conn.old) (state S.Store conn.new) (λ _. ⊥) }
+{
+    let register = read_register(conn, alloc)?;
+    let payments = read_payments(conn, alloc)?;
+    let records = read_records(conn, alloc)?;
+    Ok(AllRows {
+        desk: register.desk,
+        rates: register.rates,
+        bonds: register.bonds,
+        tickets: payments.tickets,
+        lines: payments.lines,
+        batches: records.batches,
+        replies: records.replies,
+    })
+}
+
+/// Tests the version, and then reads all tables.
+fn read_current<S: Alter>(conn: &mut Connection<S>, alloc: Global) -> Result<AllRows, OpenFault>
+    ensures found { HasCleanDisk (state S.Store conn.new) → HasOurTables (state S.Store conn.old) → IsSoundNow (state S.Store conn.old) → IfOk result (λ found. Holds (state S.Store conn.old).now.trees (rows_of found)) }
+    ensures listed { IfOk result ListsAll }
+    ensures first { HasCleanDisk (state S.Store conn.new) → OnOk result ((rows : Rows) → Sees (state S.Store conn.old) rows → IsFirstVersion rows) }
+    ensures other { HasCleanDisk (state S.Store conn.new) → IfErr result (λ e. e ≡ OpenFault.WrongVersion → (rows : Rows) → Sees (state S.Store conn.old) rows → IsOtherVersion rows) }
+    ensures usable { HasCleanDisk (state S.Store conn.new) → IfErr result (λ e. e ≡ OpenFault.Unusable → HasOurTables (state S.Store conn.old) → IsTrue (state S.Store conn.old).is_open → (rows : Rows) → Sees (state S.Store conn.old) rows → ¬ AreReadable rows) }
+    ensures tested { HasCleanDisk (state S.Store conn.new) → IfErr result (λ e. e ≡ OpenFault.Unusable → HasOurTables (state S.Store conn.old) → IsTrue (state S.Store conn.old).is_open → (rows : Rows) → Sees (state S.Store conn.old) rows → ¬ IsOtherVersion rows) }
+    ensures same { HasCleanDisk (state S.Store conn.new) → OnOk result (IsUnchanged (state S.Store conn.old) (state S.Store conn.new)) }
+    ensures kept { HasCleanDisk (state S.Store conn.new) → KeepsCommit (state S.Store conn.old) (state S.Store conn.new) }
+    ensures cause { FailsForCause HasOurTables (state S.Store conn.old) (state S.Store conn.new) result }
+    ensures crash { Survives (state S.Store conn.old) (state S.Store conn.new) (λ _. ⊥) }
+{
+    check_version(conn)?;
+    read_in(conn, alloc)
+}
+
+/// Reads all rows of a store that has the tables of version 1.
+///
+/// The version is tested first. The store keeps what was committed, and a stop leaves what it could
+/// leave before. It takes time and memory in proportion to the rows.
+///
+/// # Errors
+///
+/// `WrongVersion` where the desk's row is of another version. `Unusable` where a row has a value that
+/// no row of this program has, or a table or the desk's row is missing. `NoMemory` where there is not
+/// enough memory, and else `StoreFailed`, as where the connection is in a transaction.
+pub(crate) fn read_all<S: Alter>(
+    conn: &mut Connection<S>,
+    alloc: Global,
+) -> Result<AllRows, OpenFault>
+    ensures found { HasCleanDisk (state S.Store conn.new) → IfOk result (λ all. IsOurs (state S.Store conn.old) → Has (state S.Store conn.new) (rows_of all)) }
+    ensures those { HasCleanDisk (state S.Store conn.new) → IfOk result (λ all. (rows : Rows) → Has (state S.Store conn.old) rows → IsTrue (state S.Store conn.old).is_open → rows_of all ≡ rows) }
+    ensures order { IfOk result AreInOrder }
+    ensures first { HasCleanDisk (state S.Store conn.new) → OnOk result ((rows : Rows) → Has (state S.Store conn.old) rows → IsFirstVersion rows) }
+    ensures version { HasCleanDisk (state S.Store conn.new) → IfErr result (λ e. e ≡ OpenFault.WrongVersion → (rows : Rows) → Has (state S.Store conn.old) rows → IsOtherVersion rows) }
+    ensures tested { HasCleanDisk (state S.Store conn.new) → IfErr result (λ e. e ≡ OpenFault.Unusable → (rows : Rows) → Has (state S.Store conn.old) rows → IsTrue (state S.Store conn.old).is_open → ¬ IsOtherVersion rows) }
+    ensures usable { HasCleanDisk (state S.Store conn.new) → IfErr result (λ e. e ≡ OpenFault.Unusable → (rows : Rows) → Has (state S.Store conn.old) rows → IsTrue (state S.Store conn.old).is_open → ¬ AreReadable rows) }
+    ensures open { HasCleanDisk (state S.Store conn.new) → OnOk result (IsTrue (state S.Store conn.old).is_open × IsTrue (state S.Store conn.new).is_open) }
+    ensures kept { HasCleanDisk (state S.Store conn.new) → KeepsCommit (state S.Store conn.old) (state S.Store conn.new) }
+    ensures cause { FailsForCause (λ s. (s.in_transaction ≡ false) × IsOurs s) (state S.Store conn.old) (state S.Store conn.new) result }
+    ensures ended { HasCleanDisk (state S.Store conn.new) → OnOk result ((state S.Store conn.new).in_transaction ≡ false) }
+    ensures crash { Survives (state S.Store conn.old) (state S.Store conn.new) (λ _. ⊥) }
+{
+    if !conn.is_autocommit() {
+        return Err(OpenFault::StoreFailed);
+    }
+    let _schema = conn.schema();
+    read_current(conn, alloc)
+}

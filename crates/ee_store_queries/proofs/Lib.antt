@@ -1,0 +1,4 @@
+mod FoundTickets
+mod FoundBonds
+mod FoundRows
+mod QueryCauses

@@ -1,0 +1,41 @@
+-- What a query shows of the content that a store has.
+-- Of a store that a failing disk has shut nothing is said.
+use Rattle.std.specs.Prelude.{Result, IfOk, IfErr}
+use Rattle.sqlite.specs.State.{State, HasCleanDisk}
+use Rattle.ee_units.specs.Denoms.{dollars}
+use Rattle.ee_calculator.specs.declared.bonds.Bond.{Bond}
+use Rattle.ee_desk_acts.specs.Repeats.{Content}
+use Rattle.ee_store_tables.specs.declared.records.PlacedLine.{PlacedLine}
+use Rattle.ee_store_tables.specs.declared.records.UnpaidBond.{UnpaidBond}
+use Rattle.ee_store_tables.specs.Rows.{PaidRow}
+use Rattle.ee_store_lookups.specs.Seen.{HasContent}
+use Rattle.ee_store_lookups.specs.Causes.{IsReady}
+use Rattle.ee_store_tables.specs.Statements.{IsExcused}
+use Rattle.ee_store_tables.specs.declared.failures.Failure.{Failure}
+
+-- what is shown, whichever content the store has
+abbrev pub ShowsContent : {X E : Type 0} → State → State → Result X E → (Content → X → Type 0) → Type 0
+ShowsContent old new result Is = HasCleanDisk new → IfOk result (λ shown. (content : Content) → HasContent old content → Is content shown)
+
+-- whichever content the store has, it keeps
+abbrev pub KeepsContent : State → State → Type 0
+KeepsContent old new = HasCleanDisk new → (content : Content) → HasContent old content → HasContent new content
+
+-- the row of a line, without its place
+abbrev pub row_of_placed : PlacedLine → PaidRow
+row_of_placed line = record { letter = line.letter; number = line.number; cents = line.cents }
+
+-- the row of a bond that no ticket paid
+abbrev pub unpaid_row : Bond → UnpaidBond
+unpaid_row bond = record {
+  letter = bond.serial.letter;
+  number = bond.serial.number;
+  denom = dollars bond.denom;
+  issued = bond.issued;
+  owner = bond.owner;
+  coowner = bond.coowner;
+}
+
+-- of a store that is ready and has a content
+abbrev pub AnswersOrFails : {X : Type 0} → State → State → Result X Failure → Type 0
+AnswersOrFails old new result = HasCleanDisk new → IsReady old → (content : Content) → HasContent old content → IfErr result (IsExcused old new)

@@ -1,0 +1,8 @@
+//! Queries of a store: each is one transaction, which is read and rolled back.
+#![tactic(auto)]
+
+mod from_rows;
+mod queries;
+mod sheets;
+
+pub use queries::{ask_batch, ask_bonds, ask_inventory, ask_quote, ask_ticket};

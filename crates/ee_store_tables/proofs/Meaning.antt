@@ -1,0 +1,402 @@
+-- What the statements mean.
+use Rattle.std.proofs.Common.{◌≡◌, ℕ, pos, negsuc, List, [], ◌∷◌, codes, length, true, false, Some, None, Option, Ok, Err, Result, refl}
+use Rattle.sqlite.specs.declared.types.Value.TheVariants.{Null, Int}
+use Rattle.sqlite.specs.Term.{Term, lit, col, op2}
+use Rattle.sqlite_sql.specs.declared.ops.BinaryOp.TheVariants.{Compare, Is}
+use Rattle.sqlite_sql.specs.declared.ops.CompareOp.TheVariants.{Eq}
+use Rattle.sqlite.specs.Collation.TheVariants.{Binary}
+use Rattle.sqlite.specs.Query.{Query, inner, end}
+use Rattle.sqlite_value.specs.declared.keys.Key.{Key}
+use Rattle.sqlite.specs.Source.TheVariants.{Values}
+use Rattle.sqlite.specs.Command.TheVariants.{Insert, Select, Update, InsertOr}
+use Rattle.sqlite_schema.specs.declared.command.Returning.{Returning}
+use Rattle.sqlite_schema.specs.declared.command.Conflict.TheVariants.{Abort}
+use Rattle.sqlite_resolve.specs.declared.compiled.Compiled.{Compiled}
+use Rattle.sqlite_resolve.specs.declared.error.CompileError.{CompileError}
+use Rattle.sqlite_tied.specs.Compute.{everything}
+use Rattle.sqlite.specs.Listing.{understood, reads_listing}
+use Rattle.sqlite.proofs.Callers.{IsPlain, command_of}
+use Rattle.ee_store_tables.specs.Tables.{counter_schema}
+
+abbrev pub returning_of : Result Compiled CompileError → Option Returning
+returning_of (Ok c) = c.returning
+returning_of (Err e) = None
+
+-- the text is one statement that does not read the time, with so many parameters
+abbrev pub IsWhole : List ℕ → ℕ → Result Compiled CompileError → Type 0
+IsWhole sql count (Ok c) = (c.tail ≡ length sql) × (length c.names ≡ count) × (c.formats ≡ [])
+IsWhole sql count (Err e) = ⊥
+
+-- a query of one table by its rowid
+abbrev pub by_number : ℕ → List Term → Query
+by_number tree project = record {
+  from = inner tree end;
+  filter = op2 (Compare Eq Binary) (col 1 0) (col 0 0) ∷ [];
+  group = None;
+  project = project;
+  distinct = false;
+  collations = [];
+  order = [];
+  limit = lit (Int (negsuc 0));
+  offset = lit (Int (pos 0));
+}
+
+-- a query of one table by its first two columns
+abbrev pub by_pair : ℕ → List Term → Query
+by_pair tree project = record {
+  from = inner tree end;
+  filter = op2 (Compare Eq Binary) (col 1 1) (col 0 0) ∷ op2 (Compare Eq Binary) (col 1 2) (col 0 1) ∷ [];
+  group = None;
+  project = project;
+  distinct = false;
+  collations = [];
+  order = [];
+  limit = lit (Int (negsuc 0));
+  offset = lit (Int (pos 0));
+}
+
+-- a query of one table that shows its rows in order
+abbrev pub ordered_query : ℕ → List Term → List Term → List (Term × Key) → Term → Query
+ordered_query tree terms project order limit = record {
+  from = inner tree end;
+  filter = terms;
+  group = None;
+  project = project;
+  distinct = false;
+  collations = [];
+  order = order;
+  limit = limit;
+  offset = lit (Int (pos 0));
+}
+
+abbrev pub no_limit : Term
+no_limit = lit (Int (negsuc 0))
+
+abbrev pub by_column : ℕ → Term × Key
+by_column at = (col 1 at, record { descending = false; collation = Binary })
+
+abbrev pub find_bond_text : List ℕ
+find_bond_text = codes "SELECT denom, issued, owner, coowner, ticket FROM bonds WHERE letter = ?1 AND number = ?2"
+
+abbrev pub find_bond_query : Query
+find_bond_query = by_pair 2 (col 1 3 ∷ col 1 4 ∷ col 1 5 ∷ col 1 6 ∷ col 1 7 ∷ [])
+
+pub find_bond_is : (command_of (understood counter_schema find_bond_text)
+    ≡ Select (record { lets = []; body = find_bond_query }) (codes "denom" ∷ codes "issued" ∷ codes "owner" ∷ codes "coowner" ∷ codes "ticket" ∷ [])) × (reads_listing counter_schema find_bond_text ≡ false)
+unfolding understood everything
+find_bond_is = (refl, refl)
+
+pub find_bond_whole : IsWhole find_bond_text 2 (understood counter_schema find_bond_text)
+unfolding understood everything
+find_bond_whole = (refl, refl, refl)
+
+pub find_bond_plain : IsPlain (understood counter_schema find_bond_text)
+unfolding understood everything
+find_bond_plain = (refl, refl)
+
+abbrev pub mark_bond_text : List ℕ
+mark_bond_text = codes "UPDATE bonds SET ticket = ?3 WHERE letter = ?1 AND number = ?2 RETURNING denom, issued, owner, coowner"
+
+abbrev pub mark_bond_query : Query
+mark_bond_query = by_pair 2 (col 1 0 ∷ col 1 0 ∷ col 1 1 ∷ col 1 2 ∷ col 1 3 ∷ col 1 4 ∷ col 1 5 ∷ col 1 6 ∷ col 0 2 ∷ [])
+
+pub mark_bond_is : command_of (understood counter_schema mark_bond_text) ≡ Update 2 (record { lets = []; body = mark_bond_query })
+unfolding understood everything
+mark_bond_is = refl
+
+pub mark_bond_whole : IsWhole mark_bond_text 3 (understood counter_schema mark_bond_text)
+unfolding understood everything
+mark_bond_whole = (refl, refl, refl)
+
+pub mark_bond_shows : returning_of (understood counter_schema mark_bond_text) ≡ Some (record { names = codes "denom" ∷ codes "issued" ∷ codes "owner" ∷ codes "coowner" ∷ []; row = Values (col 0 7 ∷ col 0 8 ∷ col 0 9 ∷ col 0 10 ∷ []) 4 })
+unfolding understood everything
+mark_bond_shows = refl
+
+abbrev pub add_paid_text : List ℕ
+add_paid_text = codes "INSERT INTO paid (ticket, place, letter, number, cents) VALUES (?1, ?2, ?3, ?4, ?5)"
+
+pub add_paid_is : command_of (understood counter_schema add_paid_text) ≡ Insert 4 (Values (lit Null ∷ col 0 0 ∷ col 0 1 ∷ col 0 2 ∷ col 0 3 ∷ col 0 4 ∷ []) 6)
+unfolding understood everything
+add_paid_is = refl
+
+pub add_paid_whole : IsWhole add_paid_text 5 (understood counter_schema add_paid_text)
+unfolding understood everything
+add_paid_whole = (refl, refl, refl)
+
+pub add_paid_plain : IsPlain (understood counter_schema add_paid_text)
+unfolding understood everything
+add_paid_plain = (refl, refl)
+
+abbrev pub find_reply_text : List ℕ
+find_reply_text = codes "SELECT act, reply FROM replies WHERE number = ?1"
+
+abbrev pub find_reply_query : Query
+find_reply_query = by_number 11 (col 1 2 ∷ col 1 3 ∷ [])
+
+pub find_reply_is : (command_of (understood counter_schema find_reply_text) ≡ Select (record { lets = []; body = find_reply_query }) (codes "act" ∷ codes "reply" ∷ [])) × (reads_listing counter_schema find_reply_text ≡ false)
+unfolding understood everything
+find_reply_is = (refl, refl)
+
+pub find_reply_whole : IsWhole find_reply_text 1 (understood counter_schema find_reply_text)
+unfolding understood everything
+find_reply_whole = (refl, refl, refl)
+
+pub find_reply_plain : IsPlain (understood counter_schema find_reply_text)
+unfolding understood everything
+find_reply_plain = (refl, refl)
+
+abbrev pub add_reply_text : List ℕ
+add_reply_text = codes "INSERT INTO replies (number, act, reply) VALUES (?1, ?2, ?3)"
+
+pub add_reply_is : command_of (understood counter_schema add_reply_text) ≡ Insert 6 (Values (col 0 0 ∷ lit Null ∷ col 0 1 ∷ col 0 2 ∷ []) 4)
+unfolding understood everything
+add_reply_is = refl
+
+pub add_reply_whole : IsWhole add_reply_text 3 (understood counter_schema add_reply_text)
+unfolding understood everything
+add_reply_whole = (refl, refl, refl)
+
+pub add_reply_plain : IsPlain (understood counter_schema add_reply_text)
+unfolding understood everything
+add_reply_plain = (refl, refl)
+
+abbrev pub add_ticket_text : List ℕ
+add_ticket_text = codes "INSERT INTO tickets (ticket, day, payee, bonds, total) VALUES (?1, ?2, ?3, ?4, ?5)"
+
+pub add_ticket_is : command_of (understood counter_schema add_ticket_text) ≡ Insert 3 (Values (col 0 0 ∷ lit Null ∷ col 0 1 ∷ col 0 2 ∷ col 0 3 ∷ col 0 4 ∷ []) 6)
+unfolding understood everything
+add_ticket_is = refl
+
+pub add_ticket_whole : IsWhole add_ticket_text 5 (understood counter_schema add_ticket_text)
+unfolding understood everything
+add_ticket_whole = (refl, refl, refl)
+
+pub add_ticket_plain : IsPlain (understood counter_schema add_ticket_text)
+unfolding understood everything
+add_ticket_plain = (refl, refl)
+
+abbrev pub find_desk_text : List ℕ
+find_desk_text = codes "SELECT version, day, last_day FROM desk WHERE id = ?1"
+
+abbrev pub find_desk_query : Query
+find_desk_query = by_number 0 (col 1 2 ∷ col 1 3 ∷ col 1 4 ∷ [])
+
+pub find_desk_is : (command_of (understood counter_schema find_desk_text) ≡ Select (record { lets = []; body = find_desk_query }) (codes "version" ∷ codes "day" ∷ codes "last_day" ∷ [])) × (reads_listing counter_schema find_desk_text ≡ false)
+unfolding understood everything
+find_desk_is = (refl, refl)
+
+pub find_desk_whole : IsWhole find_desk_text 1 (understood counter_schema find_desk_text)
+unfolding understood everything
+find_desk_whole = (refl, refl, refl)
+
+pub find_desk_plain : IsPlain (understood counter_schema find_desk_text)
+unfolding understood everything
+find_desk_plain = (refl, refl)
+
+abbrev pub set_day_text : List ℕ
+set_day_text = codes "UPDATE desk SET day = ?2, last_day = ?3 WHERE id = ?1"
+
+abbrev pub set_day_query : Query
+set_day_query = by_number 0 (col 1 0 ∷ col 1 0 ∷ lit Null ∷ col 1 2 ∷ col 0 1 ∷ col 0 2 ∷ [])
+
+pub set_day_is : command_of (understood counter_schema set_day_text) ≡ Update 0 (record { lets = []; body = set_day_query })
+unfolding understood everything
+set_day_is = refl
+
+pub set_day_whole : IsWhole set_day_text 3 (understood counter_schema set_day_text)
+unfolding understood everything
+set_day_whole = (refl, refl, refl)
+
+pub set_day_plain : IsPlain (understood counter_schema set_day_text)
+unfolding understood everything
+set_day_plain = (refl, refl)
+
+abbrev pub find_rate_text : List ℕ
+find_rate_text = codes "SELECT rate FROM rates WHERE period = ?1"
+
+abbrev pub find_rate_query : Query
+find_rate_query = by_number 1 (col 1 2 ∷ [])
+
+pub find_rate_is : (command_of (understood counter_schema find_rate_text) ≡ Select (record { lets = []; body = find_rate_query }) (codes "rate" ∷ [])) × (reads_listing counter_schema find_rate_text ≡ false)
+unfolding understood everything
+find_rate_is = (refl, refl)
+
+pub find_rate_whole : IsWhole find_rate_text 1 (understood counter_schema find_rate_text)
+unfolding understood everything
+find_rate_whole = (refl, refl, refl)
+
+pub find_rate_plain : IsPlain (understood counter_schema find_rate_text)
+unfolding understood everything
+find_rate_plain = (refl, refl)
+
+abbrev pub add_rate_text : List ℕ
+add_rate_text = codes "INSERT INTO rates (period, rate) VALUES (?1, ?2) ON CONFLICT (period) DO NOTHING"
+
+pub add_rate_is : command_of (understood counter_schema add_rate_text) ≡ InsertOr 1 Abort (Values (col 0 0 ∷ lit Null ∷ col 0 1 ∷ []) 3) (record { target = Some (0 ∷ []); update = None } ∷ [])
+unfolding understood everything
+add_rate_is = refl
+
+pub add_rate_whole : IsWhole add_rate_text 2 (understood counter_schema add_rate_text)
+unfolding understood everything
+add_rate_whole = (refl, refl, refl)
+
+pub add_rate_plain : IsPlain (understood counter_schema add_rate_text)
+unfolding understood everything
+add_rate_plain = (refl, refl)
+
+abbrev pub add_bond_text : List ℕ
+add_bond_text = codes "INSERT INTO bonds (letter, number, denom, issued, owner, coowner) VALUES (?1, ?2, ?3, ?4, ?5, ?6) ON CONFLICT (letter, number) DO NOTHING"
+
+pub add_bond_is : command_of (understood counter_schema add_bond_text) ≡ InsertOr 2 Abort (Values (lit Null ∷ col 0 0 ∷ col 0 1 ∷ col 0 2 ∷ col 0 3 ∷ col 0 4 ∷ col 0 5 ∷ lit Null ∷ []) 8) (record { target = Some (1 ∷ 2 ∷ []); update = None } ∷ [])
+unfolding understood everything
+add_bond_is = refl
+
+pub add_bond_whole : IsWhole add_bond_text 6 (understood counter_schema add_bond_text)
+unfolding understood everything
+add_bond_whole = (refl, refl, refl)
+
+pub add_bond_plain : IsPlain (understood counter_schema add_bond_text)
+unfolding understood everything
+add_bond_plain = (refl, refl)
+
+abbrev pub add_batch_text : List ℕ
+add_batch_text = codes "INSERT INTO batches (day, tickets, bonds, total) VALUES (?1, ?2, ?3, ?4)"
+
+pub add_batch_is : command_of (understood counter_schema add_batch_text) ≡ Insert 5 (Values (col 0 0 ∷ lit Null ∷ col 0 1 ∷ col 0 2 ∷ col 0 3 ∷ []) 5)
+unfolding understood everything
+add_batch_is = refl
+
+pub add_batch_whole : IsWhole add_batch_text 4 (understood counter_schema add_batch_text)
+unfolding understood everything
+add_batch_whole = (refl, refl, refl)
+
+pub add_batch_plain : IsPlain (understood counter_schema add_batch_text)
+unfolding understood everything
+add_batch_plain = (refl, refl)
+
+abbrev pub find_ticket_text : List ℕ
+find_ticket_text = codes "SELECT day, payee, bonds, total FROM tickets WHERE ticket = ?1"
+
+abbrev pub find_ticket_query : Query
+find_ticket_query = by_number 5 (col 1 2 ∷ col 1 3 ∷ col 1 4 ∷ col 1 5 ∷ [])
+
+pub find_ticket_is : (command_of (understood counter_schema find_ticket_text) ≡ Select (record { lets = []; body = find_ticket_query }) (codes "day" ∷ codes "payee" ∷ codes "bonds" ∷ codes "total" ∷ [])) × (reads_listing counter_schema find_ticket_text ≡ false)
+unfolding understood everything
+find_ticket_is = (refl, refl)
+
+pub find_ticket_whole : IsWhole find_ticket_text 1 (understood counter_schema find_ticket_text)
+unfolding understood everything
+find_ticket_whole = (refl, refl, refl)
+
+pub find_ticket_plain : IsPlain (understood counter_schema find_ticket_text)
+unfolding understood everything
+find_ticket_plain = (refl, refl)
+
+abbrev pub find_batch_text : List ℕ
+find_batch_text = codes "SELECT tickets, bonds, total FROM batches WHERE day = ?1"
+
+abbrev pub find_batch_query : Query
+find_batch_query = by_number 10 (col 1 2 ∷ col 1 3 ∷ col 1 4 ∷ [])
+
+pub find_batch_is : (command_of (understood counter_schema find_batch_text) ≡ Select (record { lets = []; body = find_batch_query }) (codes "tickets" ∷ codes "bonds" ∷ codes "total" ∷ [])) × (reads_listing counter_schema find_batch_text ≡ false)
+unfolding understood everything
+find_batch_is = (refl, refl)
+
+pub find_batch_whole : IsWhole find_batch_text 1 (understood counter_schema find_batch_text)
+unfolding understood everything
+find_batch_whole = (refl, refl, refl)
+
+pub find_batch_plain : IsPlain (understood counter_schema find_batch_text)
+unfolding understood everything
+find_batch_plain = (refl, refl)
+
+abbrev pub last_ticket_text : List ℕ
+last_ticket_text = codes "SELECT ticket FROM tickets ORDER BY ticket DESC LIMIT 1"
+
+abbrev pub last_ticket_query : Query
+last_ticket_query = ordered_query 5 [] (col 1 0 ∷ []) ((col 1 0, record { descending = true; collation = Binary }) ∷ []) (lit (Int (pos 1)))
+
+pub last_ticket_is : (command_of (understood counter_schema last_ticket_text) ≡ Select (record { lets = []; body = last_ticket_query }) (codes "ticket" ∷ [])) × (reads_listing counter_schema last_ticket_text ≡ false)
+unfolding understood everything
+last_ticket_is = (refl, refl)
+
+pub last_ticket_whole : IsWhole last_ticket_text 0 (understood counter_schema last_ticket_text)
+unfolding understood everything
+last_ticket_whole = (refl, refl, refl)
+
+pub last_ticket_plain : IsPlain (understood counter_schema last_ticket_text)
+unfolding understood everything
+last_ticket_plain = (refl, refl)
+
+abbrev pub day_tickets_text : List ℕ
+day_tickets_text = codes "SELECT ticket, bonds, total FROM tickets WHERE day = ?1 ORDER BY ticket"
+
+abbrev pub day_tickets_query : Query
+day_tickets_query = ordered_query 5 (op2 (Compare Eq Binary) (col 1 2) (col 0 0) ∷ []) (col 1 0 ∷ col 1 4 ∷ col 1 5 ∷ []) (by_column 0 ∷ []) no_limit
+
+pub day_tickets_is : (command_of (understood counter_schema day_tickets_text) ≡ Select (record { lets = []; body = day_tickets_query }) (codes "ticket" ∷ codes "bonds" ∷ codes "total" ∷ [])) × (reads_listing counter_schema day_tickets_text ≡ false)
+unfolding understood everything
+day_tickets_is = (refl, refl)
+
+pub day_tickets_whole : IsWhole day_tickets_text 1 (understood counter_schema day_tickets_text)
+unfolding understood everything
+day_tickets_whole = (refl, refl, refl)
+
+pub day_tickets_plain : IsPlain (understood counter_schema day_tickets_text)
+unfolding understood everything
+day_tickets_plain = (refl, refl)
+
+abbrev pub first_ticket_text : List ℕ
+first_ticket_text = codes "SELECT ticket FROM tickets WHERE day = ?1 ORDER BY ticket LIMIT 1"
+
+abbrev pub first_ticket_query : Query
+first_ticket_query = ordered_query 5 (op2 (Compare Eq Binary) (col 1 2) (col 0 0) ∷ []) (col 1 0 ∷ []) (by_column 0 ∷ []) (lit (Int (pos 1)))
+
+pub first_ticket_is : (command_of (understood counter_schema first_ticket_text) ≡ Select (record { lets = []; body = first_ticket_query }) (codes "ticket" ∷ [])) × (reads_listing counter_schema first_ticket_text ≡ false)
+unfolding understood everything
+first_ticket_is = (refl, refl)
+
+pub first_ticket_whole : IsWhole first_ticket_text 1 (understood counter_schema first_ticket_text)
+unfolding understood everything
+first_ticket_whole = (refl, refl, refl)
+
+pub first_ticket_plain : IsPlain (understood counter_schema first_ticket_text)
+unfolding understood everything
+first_ticket_plain = (refl, refl)
+
+abbrev pub ticket_lines_text : List ℕ
+ticket_lines_text = codes "SELECT place, letter, number, cents FROM paid WHERE ticket = ?1 ORDER BY place"
+
+abbrev pub ticket_lines_query : Query
+ticket_lines_query = ordered_query 7 (op2 (Compare Eq Binary) (col 1 1) (col 0 0) ∷ []) (col 1 2 ∷ col 1 3 ∷ col 1 4 ∷ col 1 5 ∷ []) (by_column 2 ∷ []) no_limit
+
+pub ticket_lines_is : (command_of (understood counter_schema ticket_lines_text) ≡ Select (record { lets = []; body = ticket_lines_query }) (codes "place" ∷ codes "letter" ∷ codes "number" ∷ codes "cents" ∷ [])) × (reads_listing counter_schema ticket_lines_text ≡ false)
+unfolding understood everything
+ticket_lines_is = (refl, refl)
+
+pub ticket_lines_whole : IsWhole ticket_lines_text 1 (understood counter_schema ticket_lines_text)
+unfolding understood everything
+ticket_lines_whole = (refl, refl, refl)
+
+pub ticket_lines_plain : IsPlain (understood counter_schema ticket_lines_text)
+unfolding understood everything
+ticket_lines_plain = (refl, refl)
+
+abbrev pub bonds_of_owner_text : List ℕ
+bonds_of_owner_text = codes "SELECT letter, number, denom, issued, owner, coowner FROM bonds WHERE owner = ?1 AND ticket IS NULL ORDER BY letter, number"
+
+abbrev pub bonds_of_owner_query : Query
+bonds_of_owner_query = ordered_query 2 (op2 (Compare Eq Binary) (col 1 5) (col 0 0) ∷ op2 (Is Binary) (col 1 7) (lit Null) ∷ []) (col 1 1 ∷ col 1 2 ∷ col 1 3 ∷ col 1 4 ∷ col 1 5 ∷ col 1 6 ∷ [])
+    (by_column 1 ∷ by_column 2 ∷ []) no_limit
+
+pub bonds_of_owner_is : (command_of (understood counter_schema bonds_of_owner_text) ≡ Select (record { lets = []; body = bonds_of_owner_query }) (codes "letter" ∷ codes "number" ∷ codes "denom" ∷ codes "issued" ∷ codes "owner" ∷ codes "coowner" ∷ [])) × (reads_listing counter_schema bonds_of_owner_text ≡ false)
+unfolding understood everything
+bonds_of_owner_is = (refl, refl)
+
+pub bonds_of_owner_whole : IsWhole bonds_of_owner_text 1 (understood counter_schema bonds_of_owner_text)
+unfolding understood everything
+bonds_of_owner_whole = (refl, refl, refl)
+
+pub bonds_of_owner_plain : IsPlain (understood counter_schema bonds_of_owner_text)
+unfolding understood everything
+bonds_of_owner_plain = (refl, refl)

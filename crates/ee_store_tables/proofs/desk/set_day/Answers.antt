@@ -1,0 +1,72 @@
+use Rattle.ee_store_tables.specs.Statements.{IsExcused}
+use Rattle.ee_store_tables.proofs.CauseLemmas.{from_err, write_excused}
+use Rattle.ee_store_tables.proofs.AskLemmas.{writes_day}
+use Rattle.ee_store_tables.proofs.UpdateLemmas.{set_day_stays}
+use Rattle.ee_store_tables.proofs.RoomLemmas.{room_beside}
+use Rattle.std.proofs.Common.{◌≡◌, None, Err, refl, sym, arith, Ok, List, [], ◌∷◌, ap, subst, ◌∙◌}
+use Rattle.sqlite.specs.declared.types.Value.{Value}
+use Rattle.sqlite_value.specs.Value.{owned}
+use Rattle.sqlite.specs.Values.{bound_value}
+use Rattle.sqlite.specs.Held.{state}
+use Rattle.sqlite.specs.State.{Executes, ExecutesInside}
+use Rattle.ee_store_tables.specs.Rows.{optional}
+use Rattle.ee_store_tables.proofs.Meaning.{set_day_text}
+use Rattle.ee_store_tables.proofs.KeepLemmas.{inside_if_ok}
+use Rattle.ee_store_tables.proofs.WriteLemmas.{bound_optional}
+use Rattle.ee_store_tables.proofs.DeskLemmas.{given_days, sets_day}
+use Rattle.ee_store_tables.proofs.desk.set_day.Goals as goal
+
+pub returns-clause-set : goal.returns-clause-set
+returns-clause-set g c clean rows sees =
+    let old = state g.S.Store c.args.tx.now.conn.now in
+    let new = state g.S.Store c.execute.new.self.conn.now in
+    let inside = inside_if_ok old.in_transaction c.execute.result c.in_ok-execute.field-0 c.in_ok-execute.was c.execute.ensures.ended in
+    let it = c.in_ok-execute.ensures.runs clean inside in
+    let part-1 : bound_value (owned c.optional.result) ≡ optional c.args.day = ap bound_value c.optional.ensures ∙ bound_optional c.args.day in
+    let part-2 : bound_value (owned c.optional-2.result) ≡ optional c.args.last_day = ap bound_value c.optional-2.ensures ∙ bound_optional c.args.last_day in
+    let params : List Value = bound_value (owned c.whole.result) ∷ bound_value (owned c.optional.result) ∷ bound_value (owned c.optional-2.result) ∷ [] in
+    let given : params ≡ given_days c.args.day c.args.last_day = λ i. bound_value (c.whole.ensures i) ∷ part-1 i ∷ part-2 i ∷ [] in
+    let ran = subst (λ row. Executes set_day_text row old new (Ok c.in_ok-execute.field-0)) given it.0 in
+    let first = sees it.1.was_open in
+    let after = sets_day old new c.args.day c.args.last_day c.in_ok-execute.field-0 first.0 ran in
+    λ _. (after.0, after.1 rows first.1)
+
+pub returns-clause-inside : goal.returns-clause-inside
+returns-clause-inside g c clean inside_old =
+    let old = state g.S.Store c.args.tx.now.conn.now in
+    let new = state g.S.Store c.execute.new.self.conn.now in
+    let inside = inside_if_ok old.in_transaction c.execute.result c.in_ok-execute.field-0 c.in_ok-execute.was c.execute.ensures.ended in
+    let it = c.in_ok-execute.ensures.runs clean inside in
+    let part-1 : bound_value (owned c.optional.result) ≡ optional c.args.day = ap bound_value c.optional.ensures ∙ bound_optional c.args.day in
+    let part-2 : bound_value (owned c.optional-2.result) ≡ optional c.args.last_day = ap bound_value c.optional-2.ensures ∙ bound_optional c.args.last_day in
+    let params : List Value = bound_value (owned c.whole.result) ∷ bound_value (owned c.optional.result) ∷ bound_value (owned c.optional-2.result) ∷ [] in
+    let given : params ≡ given_days c.args.day c.args.last_day = λ i. bound_value (c.whole.ensures i) ∷ part-1 i ∷ part-2 i ∷ [] in
+    let ran = subst (λ row. Executes set_day_text row old new (Ok c.in_ok-execute.field-0)) given it.0 in
+    λ _. (it.1.mode, (sets_day old new c.args.day c.args.last_day c.in_ok-execute.field-0 (inside_old it.1.was_open).1 ran).0)
+
+pub returns-clause-room : goal.returns-clause-room
+returns-clause-room g c clean inside_old rows sees n room =
+    let old = state g.S.Store c.args.tx.now.conn.now in
+    let new = state g.S.Store c.execute.new.self.conn.now in
+    let inside = inside_if_ok old.in_transaction c.execute.result c.in_ok-execute.field-0 c.in_ok-execute.was c.execute.ensures.ended in
+    let it = c.in_ok-execute.ensures.runs clean inside in
+    let part-1 : bound_value (owned c.optional.result) ≡ optional c.args.day = ap bound_value c.optional.ensures ∙ bound_optional c.args.day in
+    let part-2 : bound_value (owned c.optional-2.result) ≡ optional c.args.last_day = ap bound_value c.optional-2.ensures ∙ bound_optional c.args.last_day in
+    let params : List Value = bound_value (owned c.whole.result) ∷ bound_value (owned c.optional.result) ∷ bound_value (owned c.optional-2.result) ∷ [] in
+    let given : params ≡ given_days c.args.day c.args.last_day = λ i. bound_value (c.whole.ensures i) ∷ part-1 i ∷ part-2 i ∷ [] in
+    let ran = subst (λ row. Executes set_day_text row old new (Ok c.in_ok-execute.field-0)) given it.0 in
+    let after = sets_day old new c.args.day c.args.last_day c.in_ok-execute.field-0 (inside_old it.1.was_open).1 ran in
+    room_beside old new 0 n (λ e. omega (arith, e)) (λ e. omega (arith, e)) after.3 after.2 it.1.was_open room
+
+pub returns-in_err-execute-clause-cause : goal.returns-in_err-execute-clause-cause
+returns-in_err-execute-clause-cause g c clean inside endless rows sees allowed =
+    let old = state g.S.Store c.args.tx.now.conn.now in
+    let new = state g.S.Store c.execute.new.self.conn.now in
+    let part-1 : bound_value (owned c.optional.result) ≡ optional c.args.day = ap bound_value c.optional.ensures ∙ bound_optional c.args.day in
+    let part-2 : bound_value (owned c.optional-2.result) ≡ optional c.args.last_day = ap bound_value c.optional-2.ensures ∙ bound_optional c.args.last_day in
+    let params : List Value = bound_value (owned c.whole.result) ∷ bound_value (owned c.optional.result) ∷ bound_value (owned c.optional-2.result) ∷ [] in
+    let given : params ≡ given_days c.args.day c.args.last_day = λ i. bound_value (c.whole.ensures i) ∷ part-1 i ∷ part-2 i ∷ [] in
+    from_err c.from_residual.result c.from_residual.ensures.1 (λ failure same. subst (IsExcused old new) (sym same)
+    (write_excused set_day_text (given_days c.args.day c.args.last_day) None _ (writes_day c.args.day c.args.last_day) old new 0 rows allowed sees
+    (λ stands unique _. set_day_stays c.args.day c.args.last_day old.now.trees rows stands unique) inside endless refl c.in_err-execute.field-0.0
+    (λ within. subst (λ row. ExecutesInside 0 set_day_text row old new (Err c.in_err-execute.field-0.0)) given (c.in_err-execute.ensures.runs clean within))))

@@ -1,0 +1,174 @@
+//! The table `bonds`: the register, with the ticket that paid each bond.
+
+ghost use Rattle.std.specs.Prelude.{◌≡◌, Option, option_map, IfOk, map, ⊤, IfErr};
+ghost use Rattle.std.specs.Option.{option_to_list};
+ghost use Rattle.std.specs.FinMap.{get};
+ghost use Rattle.sqlite.specs.Held.{state};
+ghost use Rattle.ee_store_tables.specs.AsRows.{Fits, FitsSerial, FitsUnpaid, key_of, row_of_bond, entry_of_unpaid, unpaid_bond_of, unpaid_columns};
+ghost use Rattle.ee_store_tables.specs.Rows as table;
+ghost use Rattle.ee_store_tables.specs.Rows.{bond_columns, marked, with_bond, unpaid_of, HasRoom};
+ghost use Rattle.ee_store_tables.specs.Statements.{LeavesOpen, StaysInside, CommitsNothing, LeavesNoMore, Makes, Finds, ChangesNothing, FailsAlone, FailsByCause, QueryFailsByCause, IsMemory, KeepsRoom, TakesRoom};
+
+use crate::failures::Failure;
+use crate::reading::{Record, read_each};
+use crate::records::{BondRow, Serial, UnpaidBond};
+use crate::values::{optional, whole};
+use sqlite::{Alter, Error, Row, Transaction};
+use std::alloc::Global;
+
+/// Registers a bond. Where its serial number has one, nothing changes.
+pub fn add_bond<S: Alter>(tx: &mut Transaction<'_, S>, bond: UnpaidBond) -> Result<(), Failure>
+    requires { FitsUnpaid bond }
+    ensures same_reference { tx.new.conn.ghost_name ≡ tx.old.conn.ghost_name }
+    ensures open { LeavesOpen (state S.Store tx.new.conn.now) result }
+    ensures inside { StaysInside (state S.Store tx.old.conn.now) (state S.Store tx.new.conn.now) result }
+    ensures added { Makes (state S.Store tx.old.conn.now) (state S.Store tx.new.conn.now) result (λ rows. with_bond rows (entry_of_unpaid bond)) }
+    ensures room { TakesRoom (state S.Store tx.old.conn.now) (state S.Store tx.new.conn.now) result 1 }
+    ensures commit { CommitsNothing (state S.Store tx.old.conn.now) (state S.Store tx.new.conn.now) }
+    ensures cause { FailsByCause (state S.Store tx.old.conn.now) (state S.Store tx.new.conn.now) result (λ _. HasRoom 1 (state S.Store tx.old.conn.now)) }
+    ensures crash { LeavesNoMore (state S.Store tx.old.conn.now) (state S.Store tx.new.conn.now) }
+{
+    tx.execute(
+        "INSERT INTO bonds (letter, number, denom, issued, owner, coowner) VALUES (?1, ?2, ?3, ?4, ?5, ?6) ON CONFLICT (letter, number) DO NOTHING",
+        &[
+            whole(bond.letter),
+            whole(bond.number),
+            whole(bond.denom),
+            whole(bond.issued),
+            whole(bond.owner),
+            optional(bond.coowner),
+        ],
+    )?;
+    Ok(())
+}
+
+/// Marks a bond as paid on a ticket. Where no such bond is registered, nothing changes.
+pub fn mark_bond<S: Alter>(
+    tx: &mut Transaction<'_, S>,
+    serial: Serial,
+    ticket: u64,
+) -> Result<(), Failure>
+    requires serial { FitsSerial serial }
+    requires ticket { Fits ticket }
+    ensures same_reference { tx.new.conn.ghost_name ≡ tx.old.conn.ghost_name }
+    ensures open { LeavesOpen (state S.Store tx.new.conn.now) result }
+    ensures inside { StaysInside (state S.Store tx.old.conn.now) (state S.Store tx.new.conn.now) result }
+    ensures marked { Makes (state S.Store tx.old.conn.now) (state S.Store tx.new.conn.now) result (λ rows. marked rows (key_of serial) ticket) }
+    ensures room { KeepsRoom (state S.Store tx.old.conn.now) (state S.Store tx.new.conn.now) result }
+    ensures commit { CommitsNothing (state S.Store tx.old.conn.now) (state S.Store tx.new.conn.now) }
+    ensures cause { FailsByCause (state S.Store tx.old.conn.now) (state S.Store tx.new.conn.now) result (λ _. HasRoom 0 (state S.Store tx.old.conn.now)) }
+    ensures crash { LeavesNoMore (state S.Store tx.old.conn.now) (state S.Store tx.new.conn.now) }
+{
+    let _bond = tx.query_all(
+        "UPDATE bonds SET ticket = ?3 WHERE letter = ?1 AND number = ?2 RETURNING denom, issued, owner, coowner",
+        &[whole(serial.letter), whole(serial.number), whole(ticket)],
+    )?;
+    Ok(())
+}
+
+/// The row of a bond, if it is registered.
+fn bond_rows<S: Alter>(tx: &mut Transaction<'_, S>, serial: Serial) -> Result<Vec<Row>, Error>
+    requires { FitsSerial serial }
+    ensures same_reference { tx.new.conn.ghost_name ≡ tx.old.conn.ghost_name }
+    ensures open { LeavesOpen (state S.Store tx.new.conn.now) result }
+    ensures found { Finds (state S.Store tx.old.conn.now) (state S.Store tx.new.conn.now) result (λ rows found. found.items ≡ option_to_list (option_map bond_columns (get rows.bonds (key_of serial)))) }
+    ensures same { ChangesNothing (state S.Store tx.old.conn.now) (state S.Store tx.new.conn.now) result }
+    ensures err { FailsAlone (state S.Store tx.old.conn.now) (state S.Store tx.new.conn.now) result }
+    ensures cause { QueryFailsByCause (state S.Store tx.old.conn.now) (state S.Store tx.new.conn.now) result }
+    ensures crash { LeavesNoMore (state S.Store tx.old.conn.now) (state S.Store tx.new.conn.now) }
+{
+    tx.query_all(
+        "SELECT denom, issued, owner, coowner, ticket FROM bonds WHERE letter = ?1 AND number = ?2",
+        &[whole(serial.letter), whole(serial.number)],
+    )
+}
+
+/// The bond that a look-up showed.
+fn read_bond(rows: &[Row]) -> Result<Option<BondRow>, Error>
+    ensures found { IfOk result (λ found. (bond : Option table.BondRow) → rows.now ≡ option_to_list (option_map bond_columns bond) → option_map row_of_bond found ≡ bond) }
+    ensures memory { IfErr result (λ e. (bond : Option table.BondRow) → rows.now ≡ option_to_list (option_map bond_columns bond) → IsMemory e) }
+{
+    match rows.first() {
+        None => Ok(None),
+        Some(row) => Ok(Some(BondRow {
+            denom: row.get(0)?,
+            issued: row.get(1)?,
+            owner: row.get(2)?,
+            coowner: row.get(3)?,
+            ticket: row.get(4)?,
+        })),
+    }
+}
+
+/// The bond of a serial number.
+pub fn find_bond<S: Alter>(
+    tx: &mut Transaction<'_, S>,
+    serial: Serial,
+) -> Result<Option<BondRow>, Failure>
+    requires { FitsSerial serial }
+    ensures same_reference { tx.new.conn.ghost_name ≡ tx.old.conn.ghost_name }
+    ensures open { LeavesOpen (state S.Store tx.new.conn.now) result }
+    ensures found { Finds (state S.Store tx.old.conn.now) (state S.Store tx.new.conn.now) result (λ rows found. option_map row_of_bond found ≡ get rows.bonds (key_of serial)) }
+    ensures same { ChangesNothing (state S.Store tx.old.conn.now) (state S.Store tx.new.conn.now) result }
+    ensures err { FailsAlone (state S.Store tx.old.conn.now) (state S.Store tx.new.conn.now) result }
+    ensures cause { FailsByCause (state S.Store tx.old.conn.now) (state S.Store tx.new.conn.now) result (λ _. ⊤) }
+    ensures crash { LeavesNoMore (state S.Store tx.old.conn.now) (state S.Store tx.new.conn.now) }
+{
+    let rows = bond_rows(tx, serial)?;
+    let found = read_bond(&rows)?;
+    Ok(found)
+}
+
+impl Record for UnpaidBond {
+    ghost shown = { unpaid_columns };
+
+    fn read(row: &Row) -> Result<UnpaidBond, Failure> {
+        if row.column_count() != 6 {
+            return Err(Failure::StoreFailed);
+        }
+        Ok(UnpaidBond {
+            letter: row.get(0)?,
+            number: row.get(1)?,
+            denom: row.get(2)?,
+            issued: row.get(3)?,
+            owner: row.get(4)?,
+            coowner: row.get(5)?,
+        })
+    }
+}
+
+/// The rows of an owner's bonds that no ticket paid.
+fn owner_rows<S: Alter>(tx: &mut Transaction<'_, S>, owner: u64) -> Result<Vec<Row>, Error>
+    requires { Fits owner }
+    ensures same_reference { tx.new.conn.ghost_name ≡ tx.old.conn.ghost_name }
+    ensures open { LeavesOpen (state S.Store tx.new.conn.now) result }
+    ensures found { Finds (state S.Store tx.old.conn.now) (state S.Store tx.new.conn.now) result (λ rows found. found.items ≡ map unpaid_columns (map unpaid_bond_of (unpaid_of rows owner))) }
+    ensures same { ChangesNothing (state S.Store tx.old.conn.now) (state S.Store tx.new.conn.now) result }
+    ensures err { FailsAlone (state S.Store tx.old.conn.now) (state S.Store tx.new.conn.now) result }
+    ensures cause { QueryFailsByCause (state S.Store tx.old.conn.now) (state S.Store tx.new.conn.now) result }
+    ensures crash { LeavesNoMore (state S.Store tx.old.conn.now) (state S.Store tx.new.conn.now) }
+{
+    tx.query_all(
+        "SELECT letter, number, denom, issued, owner, coowner FROM bonds WHERE owner = ?1 AND ticket IS NULL ORDER BY letter, number",
+        &[whole(owner)],
+    )
+}
+
+/// The bonds of an owner that no ticket paid, in order of their serial numbers.
+pub fn bonds_of_owner<S: Alter>(
+    tx: &mut Transaction<'_, S>,
+    alloc: Global,
+    owner: u64,
+) -> Result<Vec<UnpaidBond>, Failure>
+    requires { Fits owner }
+    ensures same_reference { tx.new.conn.ghost_name ≡ tx.old.conn.ghost_name }
+    ensures open { LeavesOpen (state S.Store tx.new.conn.now) result }
+    ensures found { Finds (state S.Store tx.old.conn.now) (state S.Store tx.new.conn.now) result (λ rows found. found.items ≡ map unpaid_bond_of (unpaid_of rows owner)) }
+    ensures same { ChangesNothing (state S.Store tx.old.conn.now) (state S.Store tx.new.conn.now) result }
+    ensures err { FailsAlone (state S.Store tx.old.conn.now) (state S.Store tx.new.conn.now) result }
+    ensures cause { FailsByCause (state S.Store tx.old.conn.now) (state S.Store tx.new.conn.now) result (λ _. ⊤) }
+    ensures crash { LeavesNoMore (state S.Store tx.old.conn.now) (state S.Store tx.new.conn.now) }
+{
+    let rows = owner_rows(tx, owner)?;
+    read_each(alloc, &rows)
+}

@@ -1,0 +1,85 @@
+//! The table `desk`: one row, with the version of the tables and the days.
+
+ghost use Rattle.std.specs.Prelude.{◌≡◌, Option, option_map, IfOk, IfSome, ⊤, IfErr};
+ghost use Rattle.std.specs.Option.{option_to_list};
+ghost use Rattle.std.specs.FinMap.{get};
+ghost use Rattle.sqlite.specs.Held.{state};
+ghost use Rattle.ee_store_tables.specs.AsRows.{Fits, row_of_desk};
+ghost use Rattle.ee_store_tables.specs.Rows as table;
+ghost use Rattle.ee_store_tables.specs.Rows.{desk_columns, with_day, HasRoom};
+ghost use Rattle.ee_store_tables.specs.Statements.{LeavesOpen, StaysInside, CommitsNothing, LeavesNoMore, Makes, Finds, ChangesNothing, FailsAlone, FailsByCause, QueryFailsByCause, IsMemory, KeepsRoom};
+
+use crate::failures::Failure;
+use crate::records::DeskRow;
+use crate::values::{optional, whole};
+use sqlite::{Alter, Error, Row, Transaction};
+
+/// Sets the open day and the day that was closed last.
+pub fn set_day<S: Alter>(
+    tx: &mut Transaction<'_, S>,
+    day: Option<u64>,
+    last_day: Option<u64>,
+) -> Result<(), Failure>
+    requires day { IfSome day Fits }
+    requires last_day { IfSome last_day Fits }
+    ensures same_reference { tx.new.conn.ghost_name ≡ tx.old.conn.ghost_name }
+    ensures open { LeavesOpen (state S.Store tx.new.conn.now) result }
+    ensures inside { StaysInside (state S.Store tx.old.conn.now) (state S.Store tx.new.conn.now) result }
+    ensures set { Makes (state S.Store tx.old.conn.now) (state S.Store tx.new.conn.now) result (λ rows. with_day rows day last_day) }
+    ensures room { KeepsRoom (state S.Store tx.old.conn.now) (state S.Store tx.new.conn.now) result }
+    ensures commit { CommitsNothing (state S.Store tx.old.conn.now) (state S.Store tx.new.conn.now) }
+    ensures cause { FailsByCause (state S.Store tx.old.conn.now) (state S.Store tx.new.conn.now) result (λ _. HasRoom 0 (state S.Store tx.old.conn.now)) }
+    ensures crash { LeavesNoMore (state S.Store tx.old.conn.now) (state S.Store tx.new.conn.now) }
+{
+    tx.execute(
+        "UPDATE desk SET day = ?2, last_day = ?3 WHERE id = ?1",
+        &[whole(1), optional(day), optional(last_day)],
+    )?;
+    Ok(())
+}
+
+/// The desk's row, if it is there.
+fn desk_rows<S: Alter>(tx: &mut Transaction<'_, S>) -> Result<Vec<Row>, Error>
+    ensures same_reference { tx.new.conn.ghost_name ≡ tx.old.conn.ghost_name }
+    ensures open { LeavesOpen (state S.Store tx.new.conn.now) result }
+    ensures found { Finds (state S.Store tx.old.conn.now) (state S.Store tx.new.conn.now) result (λ rows found. found.items ≡ option_to_list (option_map desk_columns (get rows.desk 1))) }
+    ensures same { ChangesNothing (state S.Store tx.old.conn.now) (state S.Store tx.new.conn.now) result }
+    ensures err { FailsAlone (state S.Store tx.old.conn.now) (state S.Store tx.new.conn.now) result }
+    ensures cause { QueryFailsByCause (state S.Store tx.old.conn.now) (state S.Store tx.new.conn.now) result }
+    ensures crash { LeavesNoMore (state S.Store tx.old.conn.now) (state S.Store tx.new.conn.now) }
+{
+    tx.query_all(
+        "SELECT version, day, last_day FROM desk WHERE id = ?1",
+        &[whole(1)],
+    )
+}
+
+/// The desk that a look-up showed.
+fn read_desk(rows: &[Row]) -> Result<Option<DeskRow>, Error>
+    ensures found { IfOk result (λ found. (desk : Option table.DeskRow) → rows.now ≡ option_to_list (option_map desk_columns desk) → option_map row_of_desk found ≡ desk) }
+    ensures memory { IfErr result (λ e. (desk : Option table.DeskRow) → rows.now ≡ option_to_list (option_map desk_columns desk) → IsMemory e) }
+{
+    match rows.first() {
+        None => Ok(None),
+        Some(row) => Ok(Some(DeskRow {
+            version: row.get(0)?,
+            day: row.get(1)?,
+            last_day: row.get(2)?,
+        })),
+    }
+}
+
+/// The desk: the version of the tables, the open day, and the day that was closed last.
+pub fn find_desk<S: Alter>(tx: &mut Transaction<'_, S>) -> Result<Option<DeskRow>, Failure>
+    ensures same_reference { tx.new.conn.ghost_name ≡ tx.old.conn.ghost_name }
+    ensures open { LeavesOpen (state S.Store tx.new.conn.now) result }
+    ensures found { Finds (state S.Store tx.old.conn.now) (state S.Store tx.new.conn.now) result (λ rows found. option_map row_of_desk found ≡ get rows.desk 1) }
+    ensures same { ChangesNothing (state S.Store tx.old.conn.now) (state S.Store tx.new.conn.now) result }
+    ensures err { FailsAlone (state S.Store tx.old.conn.now) (state S.Store tx.new.conn.now) result }
+    ensures cause { FailsByCause (state S.Store tx.old.conn.now) (state S.Store tx.new.conn.now) result (λ _. ⊤) }
+    ensures crash { LeavesNoMore (state S.Store tx.old.conn.now) (state S.Store tx.new.conn.now) }
+{
+    let rows = desk_rows(tx)?;
+    let found = read_desk(&rows)?;
+    Ok(found)
+}

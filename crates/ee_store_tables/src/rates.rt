@@ -1,0 +1,74 @@
+//! The table `rates`: the fixed rate of each period.
+
+ghost use Rattle.std.specs.Prelude.{◌≡◌, ℕ, Option, option_map, IfOk, ⊤, IfErr};
+ghost use Rattle.std.specs.Option.{option_to_list};
+ghost use Rattle.std.specs.FinMap.{get};
+ghost use Rattle.sqlite.specs.Held.{state};
+ghost use Rattle.ee_store_tables.specs.AsRows.{Fits, FitsRate, entry_of_rate};
+ghost use Rattle.ee_store_tables.specs.Rows.{rate_columns, with_rate, HasRoom};
+ghost use Rattle.ee_store_tables.specs.Statements.{LeavesOpen, StaysInside, CommitsNothing, LeavesNoMore, Makes, Finds, ChangesNothing, FailsAlone, FailsByCause, QueryFailsByCause, IsMemory, KeepsRoom};
+
+use crate::failures::Failure;
+use crate::records::RateRow;
+use crate::values::whole;
+use sqlite::{Alter, Error, Row, Transaction};
+
+/// Adds a rate. Where its period has one, nothing changes.
+pub fn add_rate<S: Alter>(tx: &mut Transaction<'_, S>, rate: RateRow) -> Result<(), Failure>
+    requires { FitsRate rate }
+    ensures same_reference { tx.new.conn.ghost_name ≡ tx.old.conn.ghost_name }
+    ensures open { LeavesOpen (state S.Store tx.new.conn.now) result }
+    ensures inside { StaysInside (state S.Store tx.old.conn.now) (state S.Store tx.new.conn.now) result }
+    ensures added { Makes (state S.Store tx.old.conn.now) (state S.Store tx.new.conn.now) result (λ rows. with_rate rows (entry_of_rate rate)) }
+    ensures room { KeepsRoom (state S.Store tx.old.conn.now) (state S.Store tx.new.conn.now) result }
+    ensures commit { CommitsNothing (state S.Store tx.old.conn.now) (state S.Store tx.new.conn.now) }
+    ensures cause { FailsByCause (state S.Store tx.old.conn.now) (state S.Store tx.new.conn.now) result (λ _. HasRoom 0 (state S.Store tx.old.conn.now)) }
+    ensures crash { LeavesNoMore (state S.Store tx.old.conn.now) (state S.Store tx.new.conn.now) }
+{
+    tx.execute(
+        "INSERT INTO rates (period, rate) VALUES (?1, ?2) ON CONFLICT (period) DO NOTHING",
+        &[whole(rate.period), whole(rate.rate)],
+    )?;
+    Ok(())
+}
+
+/// The row of a period's rate, if it has one.
+fn rate_rows<S: Alter>(tx: &mut Transaction<'_, S>, period: u64) -> Result<Vec<Row>, Error>
+    requires { Fits period }
+    ensures same_reference { tx.new.conn.ghost_name ≡ tx.old.conn.ghost_name }
+    ensures open { LeavesOpen (state S.Store tx.new.conn.now) result }
+    ensures found { Finds (state S.Store tx.old.conn.now) (state S.Store tx.new.conn.now) result (λ rows found. found.items ≡ option_to_list (option_map rate_columns (get rows.rates period))) }
+    ensures same { ChangesNothing (state S.Store tx.old.conn.now) (state S.Store tx.new.conn.now) result }
+    ensures err { FailsAlone (state S.Store tx.old.conn.now) (state S.Store tx.new.conn.now) result }
+    ensures cause { QueryFailsByCause (state S.Store tx.old.conn.now) (state S.Store tx.new.conn.now) result }
+    ensures crash { LeavesNoMore (state S.Store tx.old.conn.now) (state S.Store tx.new.conn.now) }
+{
+    tx.query_all("SELECT rate FROM rates WHERE period = ?1", &[whole(period)])
+}
+
+/// The rate that a look-up showed.
+fn read_rate(rows: &[Row]) -> Result<Option<u64>, Error>
+    ensures found { IfOk result (λ found. (rate : Option ℕ) → rows.now ≡ option_to_list (option_map rate_columns rate) → found ≡ rate) }
+    ensures memory { IfErr result (λ e. (rate : Option ℕ) → rows.now ≡ option_to_list (option_map rate_columns rate) → IsMemory e) }
+{
+    match rows.first() {
+        None => Ok(None),
+        Some(row) => Ok(Some(row.get(0)?)),
+    }
+}
+
+/// The rate of a period, in hundredths of a percent.
+pub fn find_rate<S: Alter>(tx: &mut Transaction<'_, S>, period: u64) -> Result<Option<u64>, Failure>
+    requires { Fits period }
+    ensures same_reference { tx.new.conn.ghost_name ≡ tx.old.conn.ghost_name }
+    ensures open { LeavesOpen (state S.Store tx.new.conn.now) result }
+    ensures found { Finds (state S.Store tx.old.conn.now) (state S.Store tx.new.conn.now) result (λ rows found. found ≡ get rows.rates period) }
+    ensures same { ChangesNothing (state S.Store tx.old.conn.now) (state S.Store tx.new.conn.now) result }
+    ensures err { FailsAlone (state S.Store tx.old.conn.now) (state S.Store tx.new.conn.now) result }
+    ensures cause { FailsByCause (state S.Store tx.old.conn.now) (state S.Store tx.new.conn.now) result (λ _. ⊤) }
+    ensures crash { LeavesNoMore (state S.Store tx.old.conn.now) (state S.Store tx.new.conn.now) }
+{
+    let rows = rate_rows(tx, period)?;
+    let found = read_rate(&rows)?;
+    Ok(found)
+}

@@ -1,0 +1,28 @@
+//! Numbers as values of the store.
+
+ghost use Rattle.std.specs.Prelude.{◌≡◌, ◌<◌, ◌^◌, pos, IfSome};
+ghost use Rattle.sqlite.specs.declared.types.Value.TheVariants.{Int};
+ghost use Rattle.sqlite_value.specs.Value.{owned};
+ghost use Rattle.ee_store_tables.specs.AsRows.{Fits};
+ghost use Rattle.ee_store_tables.specs.Rows as rows;
+
+use sqlite::types::ValueRef;
+
+/// A number as a value of the store.
+pub(crate) fn whole<'a>(number: u64) -> ValueRef<'a>
+    requires { Fits number }
+    ensures { owned result ≡ rows.number number }
+{
+    ValueRef::Int(number as i64)
+}
+
+/// A number that may be missing as a value of the store: NULL stands for none.
+pub(crate) fn optional<'a>(number: Option<u64>) -> ValueRef<'a>
+    requires { IfSome number Fits }
+    ensures { owned result ≡ rows.optional number }
+{
+    match number {
+        None => ValueRef::Null,
+        Some(number) => whole(number),
+    }
+}

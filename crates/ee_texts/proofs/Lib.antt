@@ -1,5 +1,0 @@
-mod Amounts
-mod Back
-mod Whole
-mod Same
-pub mod Lemmas

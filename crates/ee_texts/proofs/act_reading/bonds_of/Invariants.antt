@@ -1,9 +1,0 @@
-use Rattle.std.proofs.Common.{◌≡◌, ◌++◌, drop, Some}
-use Rattle.serde_json.specs.View.{items_view}
-use Rattle.ee_units.specs.Spelling.{◌>>=◌}
-use Rattle.ee_texts.specs.Reading.{each, bond_of}
-use Rattle.ee_texts.proofs.act_reading.bonds_of.Given as goal
-
-abbrev pub invariant-loop-value : goal.invariant-loop-value
-invariant-loop-value l =
-    (each bond_of (items_view (drop l.value-index l.values)) >>= λ later. Some (l.bonds.items ++ later)) ≡ each bond_of (items_view l.values)

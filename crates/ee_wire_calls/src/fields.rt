@@ -1,0 +1,134 @@
+//! Fields of an object.
+ghost use Rattle.std.specs.Prelude.{◌≡◌, codes, bytes_eq, string_bytes, map};
+ghost use Rattle.std.specs.BTreeMap as tree;
+ghost use Rattle.std.specs.List.{list_all, list_any};
+ghost use Rattle.serde_json.specs.View.{view, items_view};
+ghost use Rattle.ee_wire_calls.specs.Kinds.{number_in, day_in, issue_in, rate_in, serial_in, denom_in, customer_in};
+ghost use Rattle.ee_wire_calls.specs.Fields.{field, optional, no_other, an_object};
+ghost use Rattle.ee_wire_calls.specs.Views.{map_ok, view_at, text_at};
+ghost use Rattle.serde_json.specs.Find.{as_array};
+
+use crate::faults::Field;
+use crate::kinds::{customer_in, day_in, denom_in, issue_in, number_in, rate_in, serial_in};
+use ee_desk_acts::Number;
+use ee_units::{Customer, Day, Denom, IssueMonth, Rate, Serial};
+use serde_json::{Map, Value};
+
+/// The value, where it is an object.
+pub fn an_object(value: &Value, fault: Field) -> Result<&Value, Field>
+    ensures { map_ok view_at result ≡ an_object fault (view value.now) }
+{
+    if value.is_object() {
+        Ok(value)
+    } else {
+        Err(fault)
+    }
+}
+
+pub fn number_field(body: &Value) -> Result<Number, Field>
+    ensures { result ≡ field (codes "number") number_in Field.Number (view body.now) }
+{
+    body.get("number").and_then(number_in).ok_or(Field::Number)
+}
+
+pub fn day_field(body: &Value) -> Result<Day, Field>
+    ensures { result ≡ field (codes "day") day_in Field.Day (view body.now) }
+{
+    body.get("day").and_then(day_in).ok_or(Field::Day)
+}
+
+pub fn from_field(row: &Value) -> Result<IssueMonth, Field>
+    ensures { result ≡ field (codes "from") issue_in Field.From (view row.now) }
+{
+    row.get("from").and_then(issue_in).ok_or(Field::From)
+}
+
+pub fn rate_field(row: &Value) -> Result<Rate, Field>
+    ensures { result ≡ field (codes "rate") rate_in Field.Rate (view row.now) }
+{
+    row.get("rate").and_then(rate_in).ok_or(Field::Rate)
+}
+
+pub fn serial_field(row: &Value) -> Result<Serial, Field>
+    ensures { result ≡ field (codes "serial") serial_in Field.Serial (view row.now) }
+{
+    row.get("serial").and_then(serial_in).ok_or(Field::Serial)
+}
+
+pub fn denom_field(row: &Value) -> Result<Denom, Field>
+    ensures { result ≡ field (codes "denom") denom_in Field.Denom (view row.now) }
+{
+    row.get("denom").and_then(denom_in).ok_or(Field::Denom)
+}
+
+pub fn issued_field(row: &Value) -> Result<IssueMonth, Field>
+    ensures { result ≡ field (codes "issued") issue_in Field.Issued (view row.now) }
+{
+    row.get("issued").and_then(issue_in).ok_or(Field::Issued)
+}
+
+pub fn owner_field(row: &Value) -> Result<Customer, Field>
+    ensures { result ≡ field (codes "owner") customer_in Field.Owner (view row.now) }
+{
+    row.get("owner").and_then(customer_in).ok_or(Field::Owner)
+}
+
+pub fn payee_field(row: &Value) -> Result<Customer, Field>
+    ensures { result ≡ field (codes "payee") customer_in Field.Payee (view row.now) }
+{
+    row.get("payee").and_then(customer_in).ok_or(Field::Payee)
+}
+
+/// The coowner, which may be missing or null.
+pub fn coowner_field(row: &Value) -> Result<Option<Customer>, Field>
+    ensures { result ≡ optional (codes "coowner") customer_in Field.Coowner (view row.now) }
+{
+    match row.get("coowner") {
+        None => Ok(None),
+        Some(value) => optional_customer(value),
+    }
+}
+
+ghost use Rattle.ee_wire_calls.specs.Fields.{or_null};
+
+fn optional_customer(value: &Value) -> Result<Option<Customer>, Field>
+    ensures { result ≡ or_null customer_in Field.Coowner (view value.now) }
+{
+    if value.is_null() {
+        return Ok(None);
+    }
+    customer_in(value).map(Some).ok_or(Field::Coowner)
+}
+
+/// The list of this name.
+pub fn list_field<'a>(body: &'a Value, name: &str, fault: Field) -> Result<&'a Vec<Value>, Field>
+    ensures { map_ok (λ v. items_view v.now.items) result ≡ field name.now as_array fault (view body.now) }
+{
+    body.get(name).and_then(Value::as_array).ok_or(fault)
+}
+
+fn is_named(names: &[&str], name: &str) -> bool
+    ensures { result ≡ list_any (λ n. bytes_eq n.now name.now) names.now }
+{
+    names.iter().any(|n| *n == name)
+}
+
+fn keys_named(members: &Map<String, Value>, names: &[&str]) -> bool
+    ensures { result ≡ list_all (λ k. list_any (λ n. bytes_eq n.now (string_bytes k)) names.now) (tree.keys members.now) }
+{
+    members.keys().all(|name| is_named(names, name.as_str()))
+}
+
+/// Refuses a field of another name.
+pub fn no_other(body: &Value, names: &[&str]) -> Result<(), Field>
+    ensures { result ≡ no_other (map text_at names.now) (view body.now) }
+{
+    let Some(members) = body.as_object() else {
+        return Ok(());
+    };
+    if keys_named(members, names) {
+        Ok(())
+    } else {
+        Err(Field::Other)
+    }
+}

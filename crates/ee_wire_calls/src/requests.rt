@@ -1,0 +1,71 @@
+//! What a message asks for.
+ghost use Rattle.std.specs.Prelude.{◌≡◌, ◌≢◌};
+ghost use Rattle.ee_wire_calls.specs.Calls.{decoded, posted, json_of, IsUnlessMemory};
+
+use crate::bodies::request_of;
+use crate::calls::Call;
+use crate::faults::WireFault;
+use crate::paths::query_of;
+use crate::routes::{Get, Post, Route, route_of, router};
+use serde_json::Value;
+use std::alloc::Global;
+
+fn posted(alloc: Global, post: Post, body: &[u8]) -> Result<Call, WireFault>
+    ensures { IsUnlessMemory result (posted post (json_of body.now)) }
+{
+    match Value::from_slice(alloc, body) {
+        Ok(value) => Ok(Call::Request(request_of(alloc, post, &value)?)),
+        Err(e) if e.is_memory() => Err(WireFault::NoMemory),
+        Err(_) => Err(WireFault::BadJson),
+    }
+}
+
+ghost use Rattle.ee_wire_calls.specs.Calls.{asked};
+
+fn asked(get: Get, path: &str) -> Result<Call, WireFault>
+    ensures { result ≡ asked get path.now }
+{
+    match query_of(get, path) {
+        Ok(query) => Ok(Call::Query(query)),
+        Err(field) => Err(WireFault::BadField(field)),
+    }
+}
+
+fn routed(alloc: Global, path: &str) -> Result<Route, WireFault>
+    ensures { IsUnlessMemory result (routed path.now) }
+{
+    let Ok(router) = router(alloc) else {
+        return Err(WireFault::NoMemory);
+    };
+    route_of(&router, path).ok_or(WireFault::NoRoute)
+}
+
+ghost use Rattle.ee_wire_calls.specs.Calls.{routed, called};
+
+fn called(
+    alloc: Global,
+    route: Route,
+    path: &str,
+    method: &[u8],
+    body: &[u8],
+) -> Result<Call, WireFault>
+    ensures { IsUnlessMemory result (called route path.now method.now body.now) }
+{
+    match route {
+        Route::Post(post) if method == b"POST".as_slice() => posted(alloc, post, body),
+        Route::Get(get) if method == b"GET".as_slice() => asked(get, path),
+        _ => Err(WireFault::BadMethod),
+    }
+}
+
+/// What a message asks for.
+#[tactic(auto, unfolding(crate::specs::Calls::decoded))]
+pub fn decode(alloc: Global, path: &[u8], method: &[u8], body: &[u8]) -> Result<Call, WireFault>
+    ensures { IsUnlessMemory result (decoded path.now method.now body.now) }
+{
+    let Ok(path) = std::str::from_utf8(path) else {
+        return Err(WireFault::NoRoute);
+    };
+    let route = routed(alloc, path)?;
+    called(alloc, route, path, method, body)
+}

@@ -1,0 +1,57 @@
+//! The routes of the counter.
+ghost use Rattle.std.specs.Prelude.{◌≡◌, IfOk};
+ghost use Rattle.ee_wire_calls.specs.Routes.{routes, route_of};
+
+use matchit::{InsertError, Router};
+use std::alloc::Global;
+
+#[derive(Clone, Copy, Debug, PartialEq, Eq)]
+pub enum Post {
+    Rates,
+    Bonds,
+    DayOpen,
+    DayClose,
+    Redeem,
+}
+
+#[derive(Clone, Copy, Debug, PartialEq, Eq)]
+pub enum Get {
+    Inventory,
+    Ticket,
+    Batch,
+    Value,
+}
+
+#[derive(Clone, Copy, Debug, PartialEq, Eq)]
+pub enum Route {
+    Post(Post),
+    Get(Get),
+}
+
+/// The router.
+pub fn router(alloc: Global) -> Result<Router<Route>, InsertError>
+    ensures { IfOk result (λ r. r ≡ routes) }
+{
+    let mut router = Router::new(alloc);
+    router.insert("/rates", Route::Post(Post::Rates))?;
+    router.insert("/bonds", Route::Post(Post::Bonds))?;
+    router.insert("/day/open", Route::Post(Post::DayOpen))?;
+    router.insert("/day/close", Route::Post(Post::DayClose))?;
+    router.insert("/redeem", Route::Post(Post::Redeem))?;
+    router.insert("/inventory/{customer}/{month}", Route::Get(Get::Inventory))?;
+    router.insert("/ticket/{n}", Route::Get(Get::Ticket))?;
+    router.insert("/batch/{day}", Route::Get(Get::Batch))?;
+    router.insert("/value/{denom}/{issued}/{month}", Route::Get(Get::Value))?;
+    Ok(router)
+}
+
+/// The route of a path.
+pub fn route_of(router: &Router<Route>, path: &str) -> Option<Route>
+    requires { router.now ≡ routes }
+    ensures { result ≡ route_of path.now }
+{
+    match router.at(path) {
+        Ok(found) => Some(*found.value),
+        Err(_) => None,
+    }
+}

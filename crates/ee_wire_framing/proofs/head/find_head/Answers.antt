@@ -1,0 +1,32 @@
+use Rattle.std.proofs.Common.{◌+◌, ◌≤◌, Some, None, subst, arith, length-take}
+use Rattle.ee_wire_framing.specs.Heads.{IsLastLineFeed, length_of}
+use Rattle.ee_wire_framing.proofs.Tested.{judged, unfound, begins_front}
+use Rattle.ee_wire_framing.proofs.head.find_head.Goals as goal
+
+pub judge_after-requires-clause-tested : goal.judge_after-requires-clause-tested
+judge_after-requires-clause-tested c =
+    let last = subst (IsLastLineFeed c.args.bytes.now c.args.tested c.min.result) c.in-Some.is c.last_line_feed.ensures in
+    let ordered : length_of c.args.lines ≤ c.args.tested = c.requires.tested.ordered in
+    let after : c.args.tested ≤ c.in-Some.at = last.0 in
+    begins_front c.args.bytes.now (c.in-Some.at + 1) c.args.lines (omega arith) c.requires.tested.begins
+
+pub judge_after-requires-clause-more : goal.judge_after-requires-clause-more
+judge_after-requires-clause-more c =
+    let last = subst (IsLastLineFeed c.args.bytes.now c.args.tested c.min.result) c.in-Some.is c.last_line_feed.ensures in
+    let ordered : length_of c.args.lines ≤ c.args.tested = c.requires.tested.ordered in
+    let after : c.args.tested ≤ c.in-Some.at = last.0 in
+    let inside = last.1 in
+    let end = c.min.ensures in
+    omega (arith, length-take (c.in-Some.at + 1) c.args.bytes.now)
+
+pub returns-in-None : goal.returns-in-None
+returns-in-None c =
+    unfound c.args.bytes.now c.args.lines c.args.tested c.requires.tested
+    (subst (λ n. IsLastLineFeed c.args.bytes.now c.args.tested n None) c.min.ensures
+    (subst (IsLastLineFeed c.args.bytes.now c.args.tested c.min.result) c.in-None.is c.last_line_feed.ensures))
+
+pub returns-in-Some : goal.returns-in-Some
+returns-in-Some c =
+    judged c.args.bytes.now c.args.tested c.in-Some.at c.judge_after.result
+    (subst (λ n. IsLastLineFeed c.args.bytes.now c.args.tested n (Some c.in-Some.at)) c.min.ensures
+    (subst (IsLastLineFeed c.args.bytes.now c.args.tested c.min.result) c.in-Some.is c.last_line_feed.ensures)) c.judge_after.ensures

@@ -1,0 +1,101 @@
+-- What is known of the front of some bytes.
+use Rattle.std.specs.Prelude.{◌≡◌, ◌≢◌, ℕ, ◌+◌, ◌<◌, ◌≤◌, min, List, [], ◌∷◌, ◌++◌, length, take, drop, get_or, Option, Some, None}
+use Rattle.httparse.specs.Ascii.{line_feed}
+use Rattle.httparse.specs.Grammar.{LineEnd, lf, print_blank, RequestHead, ReadsRequest, HasNoRequest, NeverHasRequest, print_request}
+use Rattle.httparse.specs.Spans.{IsWithin, span_bytes}
+use Rattle.httparse.specs.declared.spans.Span.{Span}
+use Rattle.ee_wire_framing.specs.declared.fields.Values.{Values}
+use Rattle.ee_wire_framing.specs.declared.fields.Values.TheVariants as values
+use Rattle.ee_wire_framing.specs.declared.head.Head.{Head}
+use Rattle.ee_wire_framing.specs.declared.head.Lines.{Lines}
+use Rattle.ee_wire_framing.specs.declared.head.Lines.TheVariants as lines
+use Rattle.ee_wire_framing.specs.declared.head.Verdict.{Verdict}
+use Rattle.ee_wire_framing.specs.declared.head.Verdict.TheVariants.{Found, Bad, Partial}
+use Rattle.ee_wire_framing.specs.declared.front.Progress.{Progress}
+use Rattle.ee_wire_framing.specs.declared.front.Progress.TheVariants as progress
+use Rattle.ee_wire_framing.specs.Framing.{most_head, HasBadHead, IsUndecided, body_length_of, asks_to_close}
+
+-- the bytes end with a line feed
+abbrev pub IsLines : List ℕ → Type 0
+IsLines bytes = (front : List ℕ) × (bytes ≡ front ++ line_feed ∷ [])
+
+-- the bytes begin with the head h, and found is its summary
+pub record IsHeadAt (bytes : List ℕ) (found : Head) (h : RequestHead) : Type 0 where
+  pub reads : ReadsRequest bytes h (drop found.len bytes)
+  pub len : found.len ≡ length (print_request h)
+  pub in_bytes : found.len ≤ length bytes
+  pub method_in : IsWithin found.len found.method
+  pub method : span_bytes bytes found.method ≡ h.method
+  pub target_in : IsWithin found.len found.target
+  pub target : span_bytes bytes found.target ≡ h.target
+  pub body : found.body ≡ body_length_of h
+  pub closes : found.closes ≡ asks_to_close h
+
+-- no head begins the lines, and more bytes may change that
+pub record IsOpen (lines : List ℕ) : Type 0 where
+  pub no_head : HasNoRequest lines
+  pub not_bad : ¬ (NeverHasRequest lines)
+
+-- the bytes are empty lines, or none
+abbrev pub AreEmptyLines : List ℕ → Type 0
+AreEmptyLines lines = (ends : List LineEnd) × (lines ≡ print_blank ends)
+
+-- the bytes are all lines of a head but the last, the empty one
+abbrev pub AreFieldLines : List ℕ → Type 0
+AreFieldLines lines = (h : RequestHead) × ReadsRequest (lines ++ line_feed ∷ []) h [] × (h.last ≡ lf)
+
+-- each line feed among the first n bytes leaves open what stands there
+abbrev pub AreOpen : List ℕ → ℕ → Type 0
+AreOpen bytes n = (k : ℕ) → k < n → get_or bytes k 0 ≡ line_feed → IsOpen (take (k + 1) bytes)
+
+-- the last line feed from start on and before end, if there is one
+abbrev pub IsLastLineFeed : List ℕ → ℕ → ℕ → Option ℕ → Type 0
+IsLastLineFeed bytes start end None = (k : ℕ) → start ≤ k → k < end → get_or bytes k 0 ≢ line_feed
+IsLastLineFeed bytes start end (Some at) =
+    (start ≤ at) × (at < end) × (get_or bytes at 0 ≡ line_feed) × ((k : ℕ) → at < k → k < end → get_or bytes k 0 ≢ line_feed)
+
+abbrev pub length_of : Lines → ℕ
+length_of (lines.Empty n) = n
+length_of (lines.Fields n) = n
+
+-- the bytes begin with such lines
+abbrev pub BeginsLines : List ℕ → Lines → Type 0
+BeginsLines bytes (lines.Empty n) = AreEmptyLines (take n bytes)
+BeginsLines bytes (lines.Fields n) = AreFieldLines (take n bytes)
+
+-- the bytes begin with these lines, and no line feed comes after them among the first n bytes
+pub record AreLinesUpTo (bytes : List ℕ) (tested : Lines) (n : ℕ) : Type 0 where
+  pub begins : BeginsLines bytes tested
+  pub ordered : length_of tested ≤ n
+  pub in_bytes : n ≤ length bytes
+  pub limit : n ≤ most_head
+  pub none : IsLastLineFeed bytes (length_of tested) n None
+
+-- `httparse` calls the lines a head, bad, or partial
+abbrev pub Judges : List ℕ → Verdict → Type 0
+Judges lines (Found found) = (h : RequestHead) × IsHeadAt lines found h
+Judges lines Bad = NeverHasRequest lines
+Judges lines (Partial tested) = (length_of tested ≡ length lines) × BeginsLines lines tested
+
+-- what stands at the front of the bytes
+abbrev pub Finds : List ℕ → Verdict → Type 0
+Finds bytes (Found found) = (h : RequestHead) × IsHeadAt bytes found h × (found.len ≤ most_head)
+Finds bytes Bad = HasBadHead bytes
+Finds bytes (Partial tested) = IsUndecided bytes × AreLinesUpTo bytes tested (min (length bytes) most_head)
+
+-- what earlier tests said of the bytes: the lines among so many of them, or a head
+abbrev pub Knows : List ℕ → Progress → Type 0
+Knows bytes (progress.Tested tested n) = AreLinesUpTo bytes tested n
+Knows bytes (progress.Found found) = (h : RequestHead) × IsHeadAt bytes found h × (found.len ≤ most_head)
+
+-- what was found of the values of a name
+abbrev pub AreValues : List ℕ → List (List ℕ) → Values → Type 0
+AreValues lines vs values.None = vs ≡ []
+AreValues lines vs (values.One s) = IsWithin (length lines) s × (vs ≡ span_bytes lines s ∷ [])
+AreValues lines vs values.Many = 2 ≤ length vs
+
+-- one more value
+abbrev pub next : Values → Span → Values
+next values.None s = values.One s
+next (values.One t) s = values.Many
+next values.Many s = values.Many

@@ -1,0 +1,159 @@
+//! Where a head ends.
+ghost use Rattle.std.specs.Prelude.{◌≡◌, ◌≤◌, ◌<◌, length, take, drop, true, false};
+ghost use Rattle.std.specs.List.{list_all};
+ghost use Rattle.httparse.specs.Grammar.{RequestHead};
+ghost use Rattle.httparse.specs.Pieces.{is_newline};
+ghost use Rattle.httparse.specs.Spans.{IsRequestWithin, IsRequestAt};
+ghost use Rattle.ee_wire_framing.specs.Framing.{most_head};
+ghost use Rattle.ee_wire_framing.specs.Heads.{IsLines, IsHeadAt, AreEmptyLines, AreFieldLines, BeginsLines, length_of, AreLinesUpTo, Judges, Finds, IsLastLineFeed};
+
+use crate::fields::{body_length, has_close};
+use crate::{FramingFault, HEAD_LIMIT, HEADER_ROOM};
+use httparse::Status;
+use httparse::spans::{HeaderSpan, RequestSpans, Span, parse_headers_from, parse_request};
+
+/// What is kept of a head.
+#[derive(Clone, Copy)]
+pub struct Head {
+    pub method: Span,
+    pub target: Span,
+    pub len: usize,
+    pub closes: bool,
+    pub body: Result<usize, FramingFault>,
+}
+
+/// Whole lines that begin a head and don't end it, in so many bytes.
+#[derive(Clone, Copy)]
+pub enum Lines {
+    /// Empty lines, or none.
+    Empty(usize),
+    /// A request line and field lines, after any empty lines.
+    Fields(usize),
+}
+
+/// What the parser says of some bytes.
+#[derive(Clone, Copy)]
+pub enum Verdict {
+    Found(Head),
+    Bad,
+    /// These lines stand there so far.
+    Partial(Lines),
+}
+
+/// Tests the lines from the first on.
+fn judge(lines: &[u8], headers: &mut [HeaderSpan]) -> Verdict
+    requires lines { IsLines lines.now }
+    requires started { list_all is_newline lines.now ≡ false }
+    requires limit { length lines.now ≤ most_head }
+    requires room { length headers.old ≡ HEADER_ROOM }
+    ensures { Judges lines.now result }
+{
+    match parse_request(lines, headers) {
+        Ok(Status::Complete(spans)) => Verdict::Found(summary(lines, headers, spans)),
+        Ok(Status::Partial) => Verdict::Partial(Lines::Fields(lines.len())),
+        Err(_) => Verdict::Bad,
+    }
+}
+
+/// Tests line ends that follow so many bytes of empty lines.
+fn judge_empty(lines: &[u8], tested: usize, headers: &mut [HeaderSpan]) -> Verdict
+    requires lines { IsLines lines.now }
+    requires tested { AreEmptyLines (take tested lines.now) }
+    requires more { tested < length lines.now }
+    requires empty { list_all is_newline (drop tested lines.now) ≡ true }
+    requires limit { length lines.now ≤ most_head }
+    requires room { length headers.old ≡ HEADER_ROOM }
+    ensures { Judges lines.now result }
+{
+    match parse_request(&lines[tested..], headers) {
+        Ok(Status::Complete(_)) => unreachable!(),
+        Ok(Status::Partial) => Verdict::Partial(Lines::Empty(lines.len())),
+        Err(_) => Verdict::Bad,
+    }
+}
+
+/// Tests the lines that follow so many bytes of a request line and field lines.
+fn judge_fields(lines: &[u8], tested: usize, headers: &mut [HeaderSpan]) -> Verdict
+    requires lines { IsLines lines.now }
+    requires tested { AreFieldLines (take tested lines.now) }
+    requires more { tested < length lines.now }
+    requires limit { length lines.now ≤ most_head }
+    requires room { length headers.old ≡ HEADER_ROOM }
+    ensures { Judges lines.now result }
+{
+    match parse_headers_from(lines, tested, headers) {
+        Ok(Status::Complete(_)) => judge(lines, headers),
+        Ok(Status::Partial) => Verdict::Partial(Lines::Fields(lines.len())),
+        Err(_) => Verdict::Bad,
+    }
+}
+
+fn has_line_ends_alone(bytes: &[u8]) -> bool
+    ensures { result ≡ list_all is_newline bytes.now }
+{
+    bytes.iter().all(|byte| *byte == b'\r' || *byte == b'\n')
+}
+
+/// Tests the lines that follow those that were tested before. A head that ends there is read once
+/// more, as a whole.
+fn judge_after(tested: Lines, lines: &[u8], headers: &mut [HeaderSpan]) -> Verdict
+    requires lines { IsLines lines.now }
+    requires tested { BeginsLines lines.now tested }
+    requires more { length_of tested < length lines.now }
+    requires limit { length lines.now ≤ most_head }
+    requires room { length headers.old ≡ HEADER_ROOM }
+    ensures { Judges lines.now result }
+{
+    match tested {
+        Lines::Fields(len) => judge_fields(lines, len, headers),
+        Lines::Empty(len) => {
+            if has_line_ends_alone(&lines[len..]) {
+                judge_empty(lines, len, headers)
+            } else {
+                judge(lines, headers)
+            }
+        }
+    }
+}
+
+fn summary(lines: &[u8], headers: &[HeaderSpan], spans: RequestSpans) -> Head
+    requires { IsRequestWithin lines.now headers.now spans }
+    ensures { (h : RequestHead) → IsRequestAt lines.now headers.now spans h → IsHeadAt lines.now result h }
+{
+    let fields = &headers[..spans.headers];
+    Head {
+        method: spans.method,
+        target: spans.path,
+        len: spans.len,
+        closes: spans.version == 0 || has_close(lines, fields),
+        body: body_length(lines, fields),
+    }
+}
+
+/// The last line feed among the bytes from `start` on and before `end`.
+fn last_line_feed(bytes: &[u8], start: usize, end: usize) -> Option<usize>
+    requires { end ≤ length bytes.now }
+    ensures { IsLastLineFeed bytes.now start end result }
+{
+    let mut after = end;
+    while start < after {
+        if bytes[after - 1] == b'\n' {
+            return Some(after - 1);
+        }
+        after -= 1;
+    }
+    None
+}
+
+/// Looks for a head at the front of the bytes, of which so many were tested before: these lines,
+/// and no line feed after them. One test at the last line feed decides as much as a test at each.
+pub fn find_head(bytes: &[u8], lines: Lines, tested: usize, headers: &mut [HeaderSpan]) -> Verdict
+    requires tested { AreLinesUpTo bytes.now lines tested }
+    requires room { length headers.old ≡ HEADER_ROOM }
+    ensures { Finds bytes.now result }
+{
+    match last_line_feed(bytes, tested, bytes.len().min(HEAD_LIMIT)) {
+        None => Verdict::Partial(lines),
+        Some(at) => judge_after(lines, &bytes[..at + 1], headers),
+    }
+}
