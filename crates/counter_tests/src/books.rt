@@ -89,28 +89,66 @@ fn changed(alloc: Global, changes: &str) -> Result<String, Fail> {
     Ok(text)
 }
 
-fn rate(words: &[&str]) -> Result<RateRow, Fail> {
-    match *words {
-        [from, fixed] => Ok(RateRow {
+/// A row of the books in words.
+trait Worded: Sized + Drop {
+    /// The word that its rows begin with.
+    fn kind() -> &'static str;
+
+    /// The row of the words after that.
+    fn read(alloc: Global, words: &[&str]) -> Result<Self, Fail>;
+
+    /// Adds these words.
+    fn add_words(&self, text: &mut String) -> Result<(), Fail>;
+}
+
+impl Worded for RateRow {
+    fn kind() -> &'static str {
+        "rate"
+    }
+
+    fn read(_alloc: Global, words: &[&str]) -> Result<RateRow, Fail> {
+        let [from, fixed] = *words else {
+            return Err("rate".into());
+        };
+        let fixed = fixed.parse()?;
+        Ok(RateRow {
             from: from.parse()?,
-            rates: Rates {
-                fixed: fixed.parse()?,
-            },
-        }),
-        _ => Err("rate")?,
+            rates: Rates { fixed },
+        })
+    }
+
+    fn add_words(&self, text: &mut String) -> Result<(), Fail> {
+        write!(text, " {} {}", self.from, self.rates.fixed)?;
+        Ok(())
     }
 }
 
-fn bond(words: &[&str]) -> Result<Bond, Fail> {
-    match *words {
-        [serial, denom, issued, owner, coowner] => Ok(Bond {
+impl Worded for Bond {
+    fn kind() -> &'static str {
+        "bond"
+    }
+
+    fn read(_alloc: Global, words: &[&str]) -> Result<Bond, Fail> {
+        let [serial, denom, issued, owner, coowner] = *words else {
+            return Err("bond".into());
+        };
+        Ok(Bond {
             serial: serial.parse()?,
             denom: denom.parse()?,
             issued: issued.parse()?,
             owner: owner.parse()?,
             coowner: coowner.parse().ok(),
-        }),
-        _ => Err("bond")?,
+        })
+    }
+
+    fn add_words(&self, text: &mut String) -> Result<(), Fail> {
+        let (serial, denom, issued) = (self.serial, self.denom, self.issued);
+        write!(text, " {serial} {denom} {issued} {}", self.owner)?;
+        match self.coowner {
+            Some(coowner) => write!(text, " {coowner}")?,
+            None => write!(text, " -")?,
+        }
+        Ok(())
     }
 }
 
@@ -122,45 +160,84 @@ fn line(word: &str) -> Result<Line, Fail> {
     })
 }
 
-fn ticket(alloc: Global, words: &[&str]) -> Result<Ticket, Fail> {
-    if words.len() < 4 {
-        return Err("ticket")?;
-    }
+fn lines(alloc: Global, words: &[&str]) -> Result<Rows<Line>, Fail> {
     let mut lines = Vec::new(alloc);
-    for word in &words[4..] {
+    for word in words {
         lines.push(line(word)?)?;
     }
-    Ok(Ticket {
-        ticket: words[0].parse()?,
-        day: words[1].parse()?,
-        payee: words[2].parse()?,
-        lines: Rows::new(lines),
-        total: Cents(words[3].parse()?),
-    })
+    Ok(Rows::new(lines))
 }
 
-fn batch(words: &[&str]) -> Result<Batch, Fail> {
-    match *words {
-        [day, tickets, bonds, total] => Ok(Batch {
+impl Worded for Ticket {
+    fn kind() -> &'static str {
+        "ticket"
+    }
+
+    fn read(alloc: Global, words: &[&str]) -> Result<Ticket, Fail> {
+        let [ticket, day, payee, total, ref paid @ ..] = *words else {
+            return Err("ticket".into());
+        };
+        Ok(Ticket {
+            ticket: ticket.parse()?,
+            day: day.parse()?,
+            payee: payee.parse()?,
+            total: Cents(total.parse()?),
+            lines: lines(alloc, paid)?,
+        })
+    }
+
+    fn add_words(&self, text: &mut String) -> Result<(), Fail> {
+        let (number, day, payee) = (self.ticket, self.day, self.payee);
+        write!(text, " {number} {day} {payee} {}", self.total.0)?;
+        for line in self.lines.as_slice() {
+            write!(text, " {}={}", line.serial, line.cents.0)?;
+        }
+        Ok(())
+    }
+}
+
+impl Worded for Batch {
+    fn kind() -> &'static str {
+        "batch"
+    }
+
+    fn read(_alloc: Global, words: &[&str]) -> Result<Batch, Fail> {
+        let [day, tickets, bonds, total] = *words else {
+            return Err("batch".into());
+        };
+        Ok(Batch {
             day: day.parse()?,
             tickets: tickets.parse()?,
             bonds: bonds.parse()?,
             total: Cents(total.parse()?),
-        }),
-        _ => Err("batch")?,
+        })
+    }
+
+    fn add_words(&self, text: &mut String) -> Result<(), Fail> {
+        let (day, tickets, bonds) = (self.day, self.tickets, self.bonds);
+        write!(text, " {day} {tickets} {bonds} {}", self.total.0)?;
+        Ok(())
     }
 }
 
-/// The words of each row of a kind, without the kind.
-fn rows_of<'a>(alloc: Global, text: &'a str, kind: &str) -> Result<Vec<Vec<&'a str>>, Fail> {
+/// The row of a text between two semicolons, where it is of that kind.
+fn row_of<T: Worded>(alloc: Global, row: &str) -> Result<Option<T>, Fail> {
+    let (kind, rest) = row.trim().split_once(' ').ok_or("row")?;
+    if kind != T::kind() {
+        return Ok(None);
+    }
+    let words: Vec<&str> = rest.split_whitespace().collect(alloc)?;
+    Ok(Some(T::read(alloc, words.as_slice())?))
+}
+
+fn rows_of<T: Worded>(alloc: Global, text: &str) -> Result<Rows<T>, Fail> {
     let mut rows = Vec::new(alloc);
     for row in text.split_terminator(';') {
-        let (name, rest) = row.trim().split_once(' ').ok_or("row")?;
-        if name == kind {
-            rows.push(rest.split_whitespace().collect(alloc)?)?;
+        if let Some(row) = row_of(alloc, row)? {
+            rows.push(row)?;
         }
     }
-    Ok(rows)
+    Ok(Rows::new(rows))
 }
 
 /// The day of a kind of row; None where it is missing or `-`.
@@ -175,83 +252,42 @@ fn day_of(text: &str, kind: &str) -> Option<Day> {
 }
 
 fn read(alloc: Global, text: &str) -> Result<Parts, Fail> {
-    let mut rates = Vec::new(alloc);
-    for words in &rows_of(alloc, text, "rate")? {
-        rates.push(rate(words)?)?;
-    }
-    let mut bonds = Vec::new(alloc);
-    for words in &rows_of(alloc, text, "bond")? {
-        bonds.push(bond(words)?)?;
-    }
-    let mut tickets = Vec::new(alloc);
-    for words in &rows_of(alloc, text, "ticket")? {
-        tickets.push(ticket(alloc, words)?)?;
-    }
-    let mut batches = Vec::new(alloc);
-    for words in &rows_of(alloc, text, "batch")? {
-        batches.push(batch(words)?)?;
-    }
     Ok(Parts {
-        rates: Rows::new(rates),
-        bonds: Rows::new(bonds),
+        rates: rows_of(alloc, text)?,
+        bonds: rows_of(alloc, text)?,
         day: day_of(text, "day"),
         last_day: day_of(text, "last"),
-        tickets: Rows::new(tickets),
-        batches: Rows::new(batches),
+        tickets: rows_of(alloc, text)?,
+        batches: rows_of(alloc, text)?,
     })
+}
+
+fn add_rows<T: Worded>(text: &mut String, rows: &[T]) -> Result<(), Fail> {
+    for row in rows {
+        text.push_str(T::kind())?;
+        row.add_words(text)?;
+        text.push_str("; ")?;
+    }
+    Ok(())
 }
 
 fn add_day(text: &mut String, kind: &str, day: Option<Day>) -> Result<(), Fail> {
     match day {
-        Some(day) => write!(text, " {kind} {day};")?,
-        None => write!(text, " {kind} -;")?,
+        Some(day) => write!(text, "{kind} {day};")?,
+        None => write!(text, "{kind} -;")?,
     }
-    Ok(())
-}
-
-fn add_bond(text: &mut String, bond: &Bond) -> Result<(), Fail> {
-    let Bond {
-        serial,
-        denom,
-        issued,
-        owner,
-        coowner,
-    } = *bond;
-    write!(text, "bond {serial} {denom} {issued} {owner} ")?;
-    match coowner {
-        Some(coowner) => write!(text, "{coowner}; ")?,
-        None => write!(text, "-; ")?,
-    }
-    Ok(())
-}
-
-fn add_ticket(text: &mut String, ticket: &Ticket) -> Result<(), Fail> {
-    let (number, day, payee, total) = (ticket.ticket, ticket.day, ticket.payee, ticket.total.0);
-    write!(text, "ticket {number} {day} {payee} {total}")?;
-    for line in ticket.lines.as_slice() {
-        write!(text, " {}={}", line.serial, line.cents.0)?;
-    }
-    write!(text, "; ")?;
     Ok(())
 }
 
 /// The parts in words.
 fn written(alloc: Global, parts: &Parts) -> Result<String, Fail> {
     let mut text = String::new(alloc);
-    for row in parts.rates.as_slice() {
-        write!(text, "rate {} {}; ", row.from, row.rates.fixed)?;
-    }
-    for bond in parts.bonds.as_slice() {
-        add_bond(&mut text, bond)?;
-    }
-    for ticket in parts.tickets.as_slice() {
-        add_ticket(&mut text, ticket)?;
-    }
-    for batch in parts.batches.as_slice() {
-        let (day, tickets, bonds, total) = (batch.day, batch.tickets, batch.bonds, batch.total.0);
-        write!(text, "batch {day} {tickets} {bonds} {total};")?;
-    }
+    add_rows(&mut text, parts.rates.as_slice())?;
+    add_rows(&mut text, parts.bonds.as_slice())?;
+    add_rows(&mut text, parts.tickets.as_slice())?;
+    add_rows(&mut text, parts.batches.as_slice())?;
     add_day(&mut text, "day", parts.day)?;
+    text.push_str(" ")?;
     add_day(&mut text, "last", parts.last_day)?;
     Ok(text)
 }

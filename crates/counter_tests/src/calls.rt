@@ -1,20 +1,18 @@
 //! Calls that take memory and that the other tests reach only through others, with ample memory.
 
-use crate::books::{BATCH, REDEEM, TICKET, begun, closed};
-use crate::days::DAY;
+use crate::books::{REDEEM, TICKET, begun, closed};
 use ee_calculator::write_sheet;
-use ee_counter::{answer_message, run};
-use ee_desk_acts::{Act, Effects, Reply, Request, UnitTables, Unserved};
+use ee_counter::answer_message;
+use ee_desk_acts::{Act, Effects, UnitTables};
 use ee_desk_decide::{View, ViewParts, decide};
 use ee_desk_parts::{checked, copy_tickets};
 use ee_desk_texts::{read_act, reply_text};
-use ee_keeper::{Keeper, ListKeeper};
+use ee_keeper::ListKeeper;
 use ee_units::Cents;
 use ee_value::Rates;
-use ee_wire::{Answer, Call, decode};
+use ee_wire::Answer;
 use std::alloc::Global;
 use std::collections::BTreeMap;
-use std::process::Abort;
 use std::test::Fail;
 
 /// The act of a canonical text.
@@ -73,93 +71,26 @@ fn parts_are_checked_and_copied(rt: HostRuntime) -> Result<(), Fail> {
     Ok(())
 }
 
-/// The request of a line `PATH BODY`.
-fn request(alloc: Global, line: &str) -> Result<Request, Fail> {
-    let (path, body) = line.split_once(' ').ok_or("path")?;
-    match decode(alloc, path.as_bytes(), b"POST", body.as_bytes())? {
-        Call::Request(request) => Ok(request),
-        Call::Query(_) => Err("a query".into()),
-    }
-}
-
-fn told(alloc: Global, answer: &Result<Reply, Unserved>) -> Result<String, Fail> {
-    match answer {
-        Ok(reply) => Ok(reply_text(alloc, reply)?),
-        Err(cause) => Ok(format!(in alloc; "{cause}")?),
-    }
-}
-
-/// Runs the requests of a transcript as one list, and compares the replies.
-pub fn runs<K: Keeper>(
-    rt: &impl Abort,
+/// The text of the reply to a message without a connection.
+pub fn reply_to(
     alloc: Global,
-    keeper: &mut K,
-    transcript: &str,
-) -> Result<(), Fail> {
-    let mut requests = Vec::new(alloc);
-    let mut wanted = Vec::new(alloc);
-    let mut lines = transcript.lines();
-    while let Some(line) = lines.next() {
-        if let Some(line) = line.strip_prefix("> POST ") {
-            requests.push(request(alloc, line)?)?;
-            wanted.push(lines.next().ok_or("reply")?)?;
-        }
+    keeper: &mut ListKeeper,
+    path: &str,
+    body: &str,
+) -> Result<String, Fail> {
+    match answer_message(alloc, keeper, path.as_bytes(), b"POST", body.as_bytes()) {
+        Answer::Reply(reply) => Ok(reply_text(alloc, &reply)?),
+        _ => Err("no reply".into()),
     }
-    let answers = run(alloc, keeper, requests.as_slice())?;
-    assert_eq!(rt; answers.len(), wanted.len());
-    for (answer, wanted) in answers.iter().zip(&wanted) {
-        let text = told(alloc, answer)?;
-        assert!(rt; wanted.ends_with(text.as_str()), "{text} for {wanted}");
-    }
-    Ok(())
 }
 
-#[test]
-fn a_day_as_one_list(rt: HostRuntime) -> Result<(), Fail> {
-    runs(&rt, rt.alloc(), &mut ListKeeper::empty(rt.alloc()), DAY)
-}
-
-/// What a keeper shows after the day.
-pub fn shown<K: Keeper>(rt: &impl Abort, alloc: Global, keeper: &mut K) -> Result<(), Fail> {
-    let ticket = keeper.ticket(1)?.ok_or("ticket")?;
-    let text = reply_text(alloc, &Reply::Ticket(ticket))?;
-    assert_eq!(rt; text.as_str(), TICKET);
-    let batch = keeper.batch("2012-02-06".parse()?)?.ok_or("batch")?;
-    let text = reply_text(alloc, &Reply::Batch(batch))?;
-    assert_eq!(rt; text.as_str(), BATCH);
-    assert!(rt; keeper.bonds_of("7".parse()?)?.is_empty());
-    assert!(rt;
-        keeper
-            .inventory("7".parse()?, "2012-02".parse()?)?
-            .rows
-            .is_empty()
-    );
-    let row = keeper.quote("50".parse()?, "2010-11".parse()?, "2012-02".parse()?)?;
-    assert_eq!(rt; row.ok_or("row")?.value, Cents(2588));
-    Ok(())
-}
-
-#[test]
-fn a_keeper_shows_its_books(rt: HostRuntime) -> Result<(), Fail> {
-    let mut keeper = ListKeeper::empty(rt.alloc());
-    runs(&rt, rt.alloc(), &mut keeper, DAY)?;
-    shown(&rt, rt.alloc(), &mut keeper)
-}
-
-/// A message is answered without a connection.
 #[test]
 fn a_message_is_answered(rt: HostRuntime) -> Result<(), Fail> {
     let mut keeper = ListKeeper::empty(rt.alloc());
-    let body = b"{\"number\":1,\"day\":\"2012-02-06\"}";
-    let answer = answer_message(rt.alloc(), &mut keeper, b"/day/open", b"POST", body);
-    match answer {
-        Answer::Reply(reply) => {
-            let text = reply_text(rt.alloc(), &reply)?;
-            assert_eq!(rt; text.as_str(), "{\"opened\":\"2012-02-06\"}");
-            Ok(())
-        }
-        _ => Err("an answer".into()),
-    }
+    let body = "{\"number\":1,\"day\":\"2012-02-06\"}";
+    let reply = reply_to(rt.alloc(), &mut keeper, "/day/open", body)?;
+    assert_eq!(rt; reply.as_str(), "{\"opened\":\"2012-02-06\"}");
+    Ok(())
 }
 
 /// Terms are made once for equal rates.

@@ -1,5 +1,6 @@
 //! Readers and writers that cut and fail.
 
+use std::alloc::Global;
 use std::io::{self, ErrorKind, Read, Write};
 
 /// Hands out `first` bytes, then at most `step` a read. The read of the number `fails` fails, and the next
@@ -14,6 +15,7 @@ pub struct Source<'a> {
 }
 
 impl<'a> Source<'a> {
+    /// No read fails.
     pub fn of(bytes: &'a [u8], first: usize, step: usize) -> Source<'a> {
         Source {
             bytes,
@@ -24,6 +26,7 @@ impl<'a> Source<'a> {
         }
     }
 
+    /// The read of the number `fails` fails.
     pub fn failing(bytes: &'a [u8], step: usize, fails: usize) -> Source<'a> {
         Source {
             bytes,
@@ -57,8 +60,18 @@ impl Read for Source<'_> {
 #[derive(Drop)]
 pub struct Narrow {
     pub text: Vec<u8>,
-    pub step: usize,
-    pub room: usize,
+    step: usize,
+    room: usize,
+}
+
+impl Narrow {
+    pub fn new(alloc: Global, step: usize, room: usize) -> Narrow {
+        Narrow {
+            text: Vec::new(alloc),
+            step,
+            room,
+        }
+    }
 }
 
 impl Write for Narrow {

@@ -1,52 +1,36 @@
 //! Connections: streams however they are cut, faults, and devices that fail.
 
-use crate::days::BEGUN;
 use crate::devices::{Narrow, Source};
-use crate::talk::{compare, message};
-use ee_counter::{Ended, Why, serve};
-use ee_keeper::{Keeper, ListKeeper};
+use ee_counter::{Ended, serve};
+use ee_keeper::ListKeeper;
 use std::alloc::Global;
-use std::process::Abort;
 use std::test::Fail;
 
-pub const RATE: &str =
+const RATE: &str =
     "POST /rates HTTP/1.1\r\nContent-Length: 55\r\n\r\n{\"number\":1,\"rates\":[{\"from\":\"2010-11\",\"rate\":\"3.50\"}]}";
 
-pub const VALUE: &str = "GET /value/50/2010-11/2012-02 HTTP/1.1\r\n\r\n";
+const VALUE: &str = "GET /value/50/2010-11/2012-02 HTTP/1.1\r\n\r\n";
 
-pub const ADDED: &str =
+const ADDED: &str =
     "HTTP/1.1 200 OK\r\nContent-Type: application/json\r\nContent-Length: 18\r\n\r\n{\"new\":1,\"same\":0}";
 
-pub const ROW: &str =
+const ROW: &str =
     "HTTP/1.1 200 OK\r\nContent-Type: application/json\r\nContent-Length: 143\r\n\r\n{\"denom\":50,\"final\":\"2040-11\",\"interest\":\"0.88\",\"issued\":\"2010-11\",\"next\":\"2012-03\",\"note\":\"P5\",\"price\":\"25.00\",\"rate\":\"3.50%\",\"value\":\"25.88\"}";
 
-pub const CUT: &str =
+const CUT: &str =
     "HTTP/1.1 400 Bad Request\r\nContent-Type: application/json\r\nContent-Length: 31\r\nConnection: close\r\n\r\n{\"code\":68,\"fault\":\"Truncated\"}";
 
 /// How many answers were written whole, why it ended, and what was written.
-fn ended_told(alloc: Global, ended: Ended, text: Vec<u8>) -> Result<String, Fail> {
-    let why = match ended.why {
-        Why::Closed => "Closed",
-        Why::Asked => "Asked",
-        Why::Limit => "Limit",
-        Why::Fault(_) => "Fault",
-        Why::ReadFailed => "ReadFailed",
-        Why::WriteFailed => "WriteFailed",
-        Why::NoMemory => "NoMemory",
-    };
-    let text = String::from_utf8(text).ok().ok_or("text")?;
-    Ok(format!(in alloc; "{} {why}\n{text}", ended.messages)?)
+fn ended_told(alloc: Global, ended: Ended, text: &[u8]) -> Result<String, Fail> {
+    let Ended { messages, why, .. } = ended;
+    Ok(format!(in alloc; "{messages} {why:?}\n{}", str::from_utf8(text)?)?)
 }
 
 /// What is told of serving a source.
-pub fn told_of<K: Keeper>(
-    alloc: Global,
-    keeper: &mut K,
-    reader: &mut Source,
-) -> Result<String, Fail> {
+fn told_of(alloc: Global, keeper: &mut ListKeeper, reader: &mut Source) -> Result<String, Fail> {
     let mut text = Vec::new(alloc);
     let ended = serve(alloc, keeper, reader, &mut text);
-    ended_told(alloc, ended, text)
+    ended_told(alloc, ended, &text)
 }
 
 /// What is told of serving a stream over an empty keeper.
@@ -75,7 +59,7 @@ fn a_cut_message_is_truncated(rt: HostRuntime) -> Result<(), Fail> {
     let alloc = rt.alloc();
     let front = RATE.strip_suffix("}").ok_or("front")?;
     let stream = format!(in alloc; "{RATE}{VALUE}{front}")?;
-    let wanted = format!(in alloc; "3 Fault\n{ADDED}{ROW}{CUT}")?;
+    let wanted = format!(in alloc; "3 Fault(Truncated)\n{ADDED}{ROW}{CUT}")?;
     for step in [1, 7, 4_096] {
         let mut reader = Source::of(stream.as_bytes(), step, step);
         let told = told_of(alloc, &mut ListKeeper::empty(alloc), &mut reader)?;
@@ -85,51 +69,65 @@ fn a_cut_message_is_truncated(rt: HostRuntime) -> Result<(), Fail> {
 }
 
 /// An answer of JSON; `headers` stand after its length.
-pub fn answer(alloc: Global, status: &str, headers: &str, body: &str) -> Result<String, Fail> {
+fn answer(alloc: Global, status: &str, headers: &str, body: &str) -> Result<String, Fail> {
     let length = body.len();
     Ok(format!(in alloc;
         "HTTP/1.1 {status}\r\nContent-Type: application/json\r\nContent-Length: {length}\r\n{headers}\r\n{body}"
     )?)
 }
 
-/// Header lines, each ended by a bar, and the status and body of their fault.
+/// What is told of one fault, after which nothing is answered.
+fn fault_told(alloc: Global, fault: &str, status: &str, body: &str) -> Result<String, Fail> {
+    let answer = answer(alloc, status, "Connection: close\r\n", body)?;
+    Ok(format!(in alloc; "1 Fault({fault})\n{answer}")?)
+}
+
+/// Header lines, and what their fault is told as: its name, its status and its body.
 const FAULTS: &str =
-    r#"Content-Length: 1|Content-Length: 1| => 400 Bad Request => {"code":63,"fault":"BadLength"}
-Transfer-Encoding: chunked| => 400 Bad Request => {"code":63,"fault":"BadLength"}
-Content-Length: 1x| => 400 Bad Request => {"code":63,"fault":"BadLength"}
-Content-Length: | => 400 Bad Request => {"code":63,"fault":"BadLength"}
-Content-Length: 999999999999999999999999999999| => 413 Content Too Large => {"code":62,"fault":"BodyTooLong"}
-Content-Length: 1048577| => 413 Content Too Large => {"code":62,"fault":"BodyTooLong"}
-no header| => 400 Bad Request => {"code":60,"fault":"BadHead"}
+    r#"Content-Length: 1|Content-Length: 1 => BadLength => 400 Bad Request => {"code":63,"fault":"BadLength"}
+Transfer-Encoding: chunked => BadLength => 400 Bad Request => {"code":63,"fault":"BadLength"}
+Content-Length: 1x => BadLength => 400 Bad Request => {"code":63,"fault":"BadLength"}
+Content-Length:  => BadLength => 400 Bad Request => {"code":63,"fault":"BadLength"}
+Content-Length: 999999999999999999999999999999 => BodyTooLong => 413 Content Too Large => {"code":62,"fault":"BodyTooLong"}
+Content-Length: 1048577 => BodyTooLong => 413 Content Too Large => {"code":62,"fault":"BodyTooLong"}
+no header => BadHead => 400 Bad Request => {"code":60,"fault":"BadHead"}
 "#;
 
-/// What is told of one fault, after which nothing is answered.
-fn fault_told(alloc: Global, status: &str, body: &str) -> Result<String, Fail> {
-    let answer = answer(alloc, status, "Connection: close\r\n", body)?;
-    Ok(format!(in alloc; "1 Fault\n{answer}")?)
+/// A message with headers, between two of which stands a bar, and another one.
+fn two_messages(alloc: Global, headers: &str) -> Result<String, Fail> {
+    let mut stream = String::from_str(alloc, "GET /ticket/1 HTTP/1.1\r\n")?;
+    for header in headers.split('|') {
+        stream.push_str(header)?;
+        stream.push_str("\r\n")?;
+    }
+    stream.push_str("\r\n")?;
+    stream.push_str(VALUE)?;
+    Ok(stream)
+}
+
+/// What a row of the table wants.
+fn wanted_of(alloc: Global, row: &str) -> Result<String, Fail> {
+    let (fault, row) = row.split_once(" => ").ok_or("fault")?;
+    let (status, body) = row.split_once(" => ").ok_or("status")?;
+    fault_told(alloc, fault, status, body)
 }
 
 #[test]
 fn a_framing_fault_ends_the_connection(rt: HostRuntime) -> Result<(), Fail> {
-    let alloc = rt.alloc();
     for row in FAULTS.lines() {
         let (headers, row) = row.split_once(" => ").ok_or("headers")?;
-        let (status, body) = row.split_once(" => ").ok_or("status")?;
-        let mut stream = String::from_str(alloc, "GET /ticket/1 HTTP/1.1\r\n")?;
-        for header in headers.split_terminator('|') {
-            stream.push_str(header)?;
-            stream.push_str("\r\n")?;
-        }
-        stream.push_str("\r\n")?;
-        stream.push_str(VALUE)?;
-        let wanted = fault_told(alloc, status, body)?;
-        assert_eq!(rt; alone(alloc, stream.as_str())?.as_str(), wanted.as_str());
+        let stream = two_messages(rt.alloc(), headers)?;
+        let wanted = wanted_of(rt.alloc(), row)?;
+        assert_eq!(rt;
+            alone(rt.alloc(), stream.as_str())?.as_str(),
+            wanted.as_str()
+        );
     }
     Ok(())
 }
 
 /// A message with so many headers, and of so many bytes where that is more.
-pub fn headed(alloc: Global, headers: u64, length: usize) -> Result<String, Fail> {
+fn headed(alloc: Global, headers: u64, length: usize) -> Result<String, Fail> {
     let mut text = String::from_str(alloc, "GET /ticket/1 HTTP/1.1\r\n")?;
     for _ in 1..headers {
         text.push_str("a: b\r\n")?;
@@ -142,35 +140,34 @@ pub fn headed(alloc: Global, headers: u64, length: usize) -> Result<String, Fail
     Ok(text)
 }
 
+/// Headers and bytes of heads, and what is told as in the table of faults; the heads without a fault are served.
+const HEADS: &str = r#"32 0 => served => 404 Not Found => {"code":69,"fault":"NotFound"}
+33 0 => BadHead => 400 Bad Request => {"code":60,"fault":"BadHead"}
+32 16384 => served => 404 Not Found => {"code":69,"fault":"NotFound"}
+32 16385 => HeadTooLong => 413 Content Too Large => {"code":61,"fault":"HeadTooLong"}
+"#;
+
+/// What a row of heads wants.
+fn head_wants(alloc: Global, row: &str) -> Result<String, Fail> {
+    let Some(row) = row.strip_prefix("served => ") else {
+        return wanted_of(alloc, row);
+    };
+    let (status, body) = row.split_once(" => ").ok_or("status")?;
+    let answer = answer(alloc, status, "", body)?;
+    Ok(format!(in alloc; "1 Closed\n{answer}")?)
+}
+
 #[test]
 fn a_head_has_limits(rt: HostRuntime) -> Result<(), Fail> {
-    let alloc = rt.alloc();
-    let missing = answer(
-        alloc,
-        "404 Not Found",
-        "",
-        "{\"code\":69,\"fault\":\"NotFound\"}",
-    )?;
-    let served = format!(in alloc; "1 Closed\n{missing}")?;
-    let many = fault_told(
-        alloc,
-        "400 Bad Request",
-        "{\"code\":60,\"fault\":\"BadHead\"}",
-    )?;
-    let long = fault_told(
-        alloc,
-        "413 Content Too Large",
-        "{\"code\":61,\"fault\":\"HeadTooLong\"}",
-    )?;
-    for (headers, length, wanted) in [
-        (32, 0, &served),
-        (33, 0, &many),
-        (32, 16_384, &served),
-        (32, 16_385, &long),
-    ] {
-        let stream = headed(alloc, headers, length)?;
-        let told = alone(alloc, stream.as_str())?;
-        assert_eq!(rt; told.as_str(), wanted.as_str(), "{headers} {length}");
+    for row in HEADS.lines() {
+        let (head, row) = row.split_once(" => ").ok_or("head")?;
+        let (headers, length) = head.split_once(' ').ok_or("length")?;
+        let stream = headed(rt.alloc(), headers.parse()?, length.parse()?)?;
+        let wanted = head_wants(rt.alloc(), row)?;
+        assert_eq!(rt;
+            alone(rt.alloc(), stream.as_str())?.as_str(),
+            wanted.as_str()
+        );
     }
     Ok(())
 }
@@ -243,12 +240,10 @@ fn a_failed_read_ends_the_connection(rt: HostRuntime) -> Result<(), Fail> {
     let one = format!(in alloc; "1 ReadFailed\n{ADDED}")?;
     let both = format!(in alloc; "2 ReadFailed\n{ADDED}{ROW}")?;
     for before in 0..=stream.len() {
-        let wanted = if before < RATE.len() {
-            "0 ReadFailed\n"
-        } else if before < stream.len() {
-            one.as_str()
-        } else {
-            both.as_str()
+        let wanted = match before {
+            _ if before < RATE.len() => "0 ReadFailed\n",
+            _ if before < stream.len() => one.as_str(),
+            _ => both.as_str(),
         };
         let mut reader = Source::failing(stream.as_bytes(), 1, before.saturating_add(1));
         let told = told_of(alloc, &mut ListKeeper::empty(alloc), &mut reader)?;
@@ -257,22 +252,21 @@ fn a_failed_read_ends_the_connection(rt: HostRuntime) -> Result<(), Fail> {
     Ok(())
 }
 
-/// What is told of serving a stream to a writer that takes so many bytes.
-fn cut_short<K: Keeper>(
-    alloc: Global,
-    keeper: &mut K,
-    stream: &str,
-    room: usize,
-) -> Result<String, Fail> {
+/// What is told of serving two messages to a writer that takes so many bytes.
+fn cut_short(alloc: Global, keeper: &mut ListKeeper, room: usize) -> Result<String, Fail> {
+    let stream = format!(in alloc; "{RATE}{VALUE}")?;
     let mut reader = stream.as_bytes();
-    let mut writer = Narrow {
-        text: Vec::new(alloc),
-        step: 7,
-        room,
-    };
+    let mut writer = Narrow::new(alloc, 7, room);
     let ended = serve(alloc, keeper, &mut reader, &mut writer);
-    let Narrow { text, .. } = writer;
-    ended_told(alloc, ended, text)
+    ended_told(alloc, ended, &writer.text)
+}
+
+/// What is told of it where that is a front of the answers.
+fn wanted_front(alloc: Global, room: usize) -> Result<String, Fail> {
+    let messages: u64 = if room < ADDED.len() { 0 } else { 1 };
+    let whole = format!(in alloc; "{ADDED}{ROW}")?;
+    let front = whole.as_str().get(..room).ok_or("front")?;
+    Ok(format!(in alloc; "{messages} WriteFailed\n{front}")?)
 }
 
 /// The writer fails after each byte in turn. What it took is a front of the answers; the message whose
@@ -281,53 +275,14 @@ fn cut_short<K: Keeper>(
 fn a_failed_write_ends_the_connection(rt: HostRuntime) -> Result<(), Fail> {
     let alloc = rt.alloc();
     let stream = format!(in alloc; "{RATE}{VALUE}")?;
-    let none = format!(in alloc; "0 WriteFailed\n{ADDED}")?;
-    let one = format!(in alloc; "1 WriteFailed\n{ADDED}{ROW}")?;
     let both = format!(in alloc; "2 Closed\n{ADDED}{ROW}")?;
     for room in 0..ADDED.len().saturating_add(ROW.len()) {
         let mut keeper = ListKeeper::empty(alloc);
-        let told = cut_short(alloc, &mut keeper, stream.as_str(), room)?;
-        let wanted = if room < ADDED.len() { &none } else { &one };
-        let length = room.saturating_add("0 WriteFailed\n".len());
-        assert_eq!(rt; told.len(), length);
-        assert!(rt; wanted.as_str().starts_with(told.as_str()), "{told}");
+        let told = cut_short(alloc, &mut keeper, room)?;
+        assert_eq!(rt; told.as_str(), wanted_front(alloc, room)?.as_str());
         let mut reader = Source::of(stream.as_bytes(), 4_096, 4_096);
         let again = told_of(alloc, &mut keeper, &mut reader)?;
         assert_eq!(rt; again.as_str(), both.as_str());
     }
     Ok(())
-}
-
-const REDEEM: &str =
-    r#"POST /redeem {"number":4,"day":"2012-02-06","payee":7,"serials":["L1EE","K2EE","M3EE"]}"#;
-
-const TICKET: &str =
-    r#"{"day":"2012-02-06","lines":[{"paid":"25.88","serial":"L1EE"},{"paid":"38.34","serial":"K2EE"},{"paid":"5132.00","serial":"M3EE"}],"payee":7,"ticket":1,"total":"5196.22"}"#;
-
-/// After the whole reply: one ticket, which closes.
-const AFTER: &str = r#"> GET /ticket/2
-404 {"code":69,"fault":"NotFound"}
-> POST /day/close {"number":5,"day":"2012-02-06"}
-200 {"bonds":3,"day":"2012-02-06","tickets":1,"total":"5196.22"}
-"#;
-
-/// The writer fails inside the reply: one ticket stands, and the repeat has the whole reply.
-pub fn lost_reply<K: Keeper>(rt: &impl Abort, alloc: Global, keeper: &mut K) -> Result<(), Fail> {
-    compare(rt, alloc, keeper, BEGUN)?;
-    let redeem = message(alloc, REDEEM)?;
-    let whole = answer(alloc, "200 OK", "", TICKET)?;
-    let told = cut_short(alloc, keeper, redeem.as_str(), 200)?;
-    let front = told.as_str().strip_prefix("0 WriteFailed\n").ok_or("end")?;
-    assert!(rt; whole.as_str().starts_with(front));
-    assert!(rt; keeper.ticket(1)?.is_some());
-    let mut reader = Source::of(redeem.as_bytes(), 4_096, 4_096);
-    let again = told_of(alloc, keeper, &mut reader)?;
-    let wanted = format!(in alloc; "1 Closed\n{whole}")?;
-    assert_eq!(rt; again.as_str(), wanted.as_str());
-    compare(rt, alloc, keeper, AFTER)
-}
-
-#[test]
-fn a_lost_reply_is_told_again(rt: HostRuntime) -> Result<(), Fail> {
-    lost_reply(&rt, rt.alloc(), &mut ListKeeper::empty(rt.alloc()))
 }

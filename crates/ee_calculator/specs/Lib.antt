@@ -1,3 +1,4 @@
+pub mod Bonds
 pub mod Notes
 pub mod Rows
 pub mod Sheets

@@ -1,3 +1,8 @@
+//! Paper bonds, as a register holds them.
+
+ghost use Rattle.std.specs.Prelude.{◌≡◌};
+ghost use Rattle.ee_calculator.specs.Bonds.{has_coowner, is_payee};
+
 use ee_units::{Customer, Denom, IssueMonth, Serial};
 
 /// A paper bond, as the register holds it. A bond in coownership form is paid to either coowner;
@@ -9,4 +14,20 @@ pub struct Bond {
     pub issued: IssueMonth,
     pub owner: Customer,
     pub coowner: Option<Customer>,
+}
+
+impl Bond {
+    /// Whether this customer is its coowner.
+    pub fn has_coowner(&self, customer: Customer) -> bool
+        ensures { result ≡ has_coowner self.now customer }
+    {
+        self.coowner == Some(customer)
+    }
+
+    /// Whether it is paid to this customer: the owner or the coowner (31 CFR Part 353).
+    pub fn is_payee(&self, customer: Customer) -> bool
+        ensures { result ≡ is_payee self.now customer }
+    {
+        self.owner == customer || self.has_coowner(customer)
+    }
 }

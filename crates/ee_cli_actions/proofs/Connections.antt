@@ -2,6 +2,7 @@
 use Rattle.std.proofs.Common.{◌≡◌, ◌⊎◌, ◌||◌, Bool, true, false, ℕ, ◌+◌, ◌≤◌, List, [], ◌∷◌, ◌++◌, length, Option, Some, None, Result, Err, refl, sym, ap, subst, ◌∙◌, arith, append_assoc, append-nil, length-append, inl, inr}
 use Rattle.std.specs.Io.KnownBytes.{Appends}
 use Rattle.std.proofs.KnownBytes.{Appends-trans}
+use Rattle.std.proofs.Math.Bool.{or-false}
 use Rattle.ee_desk_acts.specs.Repeats.{Content}
 use Rattle.ee_counter.specs.declared.connections.Ended.{Ended}
 use Rattle.ee_counter.specs.declared.connections.Why.{Why}
@@ -37,10 +38,6 @@ serves_at c e Has s =
     let x = ends_at e.why s.ends.0 s.rest None s.wrote None (left_by_all c s.told) (length s.told) e.messages Has s.ends.2 in
     (x.0, record { bytes = s.bytes; read = s.read; told = s.told; few = s.few; rest = s.rest; wrote = s.wrote; so_far = s.so_far; ends = (s.ends.0, s.ends.1, x.1) }, x.2)
 
-or_false : (b : Bool) → (b || false) ≡ b
-or_false true = refl
-or_false false = refl
-
 first_false : (a b : Bool) → (a || b) ≡ false → a ≡ false
 first_false true b none = none
 first_false false b none = refl
@@ -60,15 +57,12 @@ pub each_yet : (c : Content) (es : List Ended) (Has After : Content → Type 0)
 each_yet c [] Has After has stays = stays c has
 each_yet c (x ∷ es) Has After each stays = (each.0, each.1, each_yet each.0 es Has After each.2 stays)
 
-assoc : (a b c : List ℕ) → a ++ (b ++ c) ≡ (a ++ b) ++ c
-assoc a b c = simp append_assoc
-
 lines_after : (n : ℕ) (es : List Ended) (e : Ended) → connection_lines n (es ++ e ∷ []) ≡ connection_lines n es ++ connection_line (n + length es + 1) e
 lines_after n [] e = let same : n + 1 ≡ n + 0 + 1 = omega arith in append-nil (connection_line (n + 1) e) ∙ ap (λ k. connection_line k e) same
 lines_after n (x ∷ es) e =
     let same : n + 1 + length es + 1 ≡ n + length (x ∷ es) + 1 = omega arith in
     ap (λ r. connection_line (n + 1) x ++ r) (lines_after (n + 1) es e)
-    ∙ assoc (connection_line (n + 1) x) (connection_lines (n + 1) es) (connection_line (n + 1 + length es + 1) e)
+    ∙ sym (append_assoc (connection_line (n + 1) x) (connection_lines (n + 1) es) (connection_line (n + 1 + length es + 1) e))
     ∙ ap (λ k. (connection_line (n + 1) x ++ connection_lines (n + 1) es) ++ connection_line k e) same
 
 pub lines_more : (es : List Ended) (e : Ended) (n : ℕ) → length es ≡ n → connection_lines 0 (es ++ e ∷ []) ≡ connection_lines 0 es ++ connection_line (n + 1) e
@@ -90,7 +84,7 @@ pub printed_cut : (old mid new : Option (List ℕ)) (es : List Ended) (e : Ended
 printed_cut old mid new es e n is a w = record {
   front = connection_lines 0 es ++ w.front;
   rest = w.rest;
-  parts = lines_more es e n is ∙ ap (λ x. connection_lines 0 es ++ x) w.parts ∙ assoc (connection_lines 0 es) w.front w.rest;
+  parts = lines_more es e n is ∙ ap (λ x. connection_lines 0 es ++ x) w.parts ∙ sym (append_assoc (connection_lines 0 es) w.front w.rest);
   written = Appends-trans old mid new _ _ a w.written;
 }
 
@@ -108,7 +102,7 @@ some_of old new text a = record { front = text; rest = []; parts = sym (append-n
 -- ---- whether the store failed
 
 pub failed_more : (es : List Ended) (e : Ended) → any_failed es ≡ false → any_failed (es ++ e ∷ []) ≡ e.store_failed
-failed_more [] e none = or_false e.store_failed
+failed_more [] e none = or-false e.store_failed
 failed_more (x ∷ es) e none =
     ap (λ b. b || any_failed (es ++ e ∷ [])) (first_false x.store_failed (any_failed es) none) ∙ failed_more es e (second_false x.store_failed (any_failed es) none)
 

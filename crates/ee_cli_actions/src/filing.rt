@@ -1,6 +1,6 @@
 //! The commands `import` and `export`.
 
-ghost use Rattle.std.specs.Prelude.{◌≡◌, ◌++◌, ◌∷◌, [], Ok, Err, IfOk, IfErr, string_bytes};
+ghost use Rattle.std.specs.Prelude.{◌≡◌, Ok, Err, IfOk, IfErr, string_bytes};
 ghost use Rattle.ee_desk_acts.specs.Repeats.{Content};
 ghost use Rattle.ee_desk_acts.specs.declared.refusals.Unserved.TheVariants.{StoreFailed};
 ghost use Rattle.ee_cli_actions.specs.Actions.{ExportsFrom, ImportsFile, ImportsInto, TellsReply};

@@ -31,6 +31,7 @@ pub struct Patient<'c, 's, C: Clock> {
 }
 
 impl<'c, 's, C: Clock> Patient<'c, 's, C> {
+    /// The stream, each of whose turns may take `patience`, by this clock.
     pub fn new(clock: &'c C, stream: &'s TcpStream, patience: Duration) -> Patient<'c, 's, C> {
         Patient {
             clock,

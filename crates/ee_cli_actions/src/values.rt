@@ -2,7 +2,6 @@
 
 ghost use Rattle.std.specs.Prelude.{◌≡◌, IfErr, IfOk, string_bytes};
 ghost use Rattle.ee_calculator.specs.Rows.{columns_of};
-ghost use Rattle.ee_units.specs.Denoms.{units_of};
 ghost use Rattle.ee_value.specs.Fault.{IsFaultOf};
 ghost use Rattle.ee_cli_actions.specs.Endings.{ending_of_value};
 ghost use Rattle.ee_cli_actions.specs.Printed.{line_of, value_line};

@@ -1,5 +1,5 @@
 -- What clap's contracts say of this program's lines.
-use Rattle.std.proofs.Common.{◌≡◌, ◌∙◌, Bool, true, false, not, List, [], ◌∷◌, Option, Some, None, Result, Ok, Err, is_some, refl, ap, map, subst, Bor, inl, inr}
+use Rattle.std.proofs.Common.{◌≡◌, ◌∙◌, Bool, true, false, not, List, [], ◌∷◌, Option, Some, Result, Ok, Err, is_some, refl, ap, map, subst, Bor, inl, inr}
 use Rattle.clap.specs.Words.{Row, Text, fault_of, is_simple, is_simple_and_free, subcommand_of, HasKind, IsAmong, Kinds, kind_of}
 use Rattle.std.specs.Prelude.{option_map, ◌&&◌}
 use Rattle.clap.specs.Kinds.{or_else, check_kinds}
@@ -14,6 +14,7 @@ use Rattle.ee_cli_commands.specs.Answer.{IsAnswer, Gives, Refuses, view_of}
 use Rattle.ee_cli_commands.specs.declared.commands.Command.{Command}
 use Rattle.ee_cli_commands.specs.declared.commands.CommandFault.{CommandFault}
 use Rattle.ee_cli_commands.specs.declared.commands.CommandFault.TheVariants as fault
+use Rattle.ee_desk_acts.proofs.Lemmas.Books.{some_from_is_some}
 
 pub is_plain : (k : Bor (List (Bor Text))) → is_simple (program k) ≡ true
 unfolding clap_on_literals
@@ -54,10 +55,6 @@ names_row k words e =
     let stop = (walk a.top.rules (names_of a) nothing_held args).stopped in
     level_wants a.top (names_of a) nothing_held args (is_some (entered a stop)) (entered_fault a stop) refl e
 
-some_of : {A : Type 0} (o : Option A) → is_some o ≡ true → (x : A) × (o ≡ Some x)
-some_of (Some x) e = (x, refl)
-some_of None e = cc
-
 answered : (k : Bor (List (Bor Text))) (words : List Text) (r : Result Command CommandFault) (row : Text × List Row) → map (λ s. s.now) k.now ≡ kind_words → fault_of (program k) words ≡ []
     → subcommand_of (program k) words ≡ Some row → Gives view_of r (asked row) → IsAnswer words r
 answered k words (Ok c) row known none is h = record { kinds = k; kind_words_are = known; read = none; asks = ap (option_map asked) is ∙ ap Some h }
@@ -72,7 +69,7 @@ pub answers : (k : Bor (List (Bor Text))) (words : List Text) (r : Result Comman
     → fault_of (program k) words ≡ [] → found ≡ subcommand_of (program k) words
     → ((name : Text) (rows : List Row) → found ≡ Some (name, rows) → Gives view_of r (asked (name, rows))) → IsAnswer words r
 answers k words r found known none is h =
-    let row = some_of (subcommand_of (program k) words) (names_row k words none) in
+    let row = some_from_is_some (subcommand_of (program k) words) (names_row k words none) in
     answered k words r row.0 known none row.1 (h row.0.0 row.0.1 (is ∙ row.1))
 
 -- an error of clap's is an answer

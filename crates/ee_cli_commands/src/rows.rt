@@ -218,7 +218,8 @@ fn store<'a>(alloc: Global) -> Arg<'a>
 }
 
 fn kind<'a>(alloc: Global) -> Arg<'a>
-    ensures { (kinds : Bor (List (Bor Text))) × (map (λ k. k.now) kinds.now ≡ is.kind_words) × (rule_of result ≡ record (is.positional (codes "kind")) { parser = Some (Names kinds) }) × (result.global ≡ false) }
+    ensures { (kinds : Bor (List (Bor Text))) × (map (λ k. k.now) kinds.now ≡ is.kind_words)
+        × (rule_of result ≡ record (is.positional (codes "kind")) { parser = Some (Names kinds) }) × (result.global ≡ false) }
 {
     positional(alloc, "kind", "What the file holds").value_parser(KINDS.as_slice())
 }

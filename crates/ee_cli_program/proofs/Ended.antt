@@ -8,7 +8,7 @@ use Rattle.ee_cli_actions.specs.declared.faults.Outcome.{Outcome}
 use Rattle.ee_cli_actions.specs.declared.faults.Outcome.TheVariants as outcome
 use Rattle.ee_cli_actions.specs.declared.faults.RunFault.{RunFault}
 use Rattle.ee_cli_commands.specs.CommandLine.{Asked, value}
-use Rattle.ee_cli_commands.specs.Answer.{IsAsked, IsRefused, AsksForHelp, AsksForVersion}
+use Rattle.ee_cli_commands.specs.Answer.{IsAsked, IsRefused}
 use Rattle.ee_cli_commands.proofs.Lemmas.{asks_for_help_alone, asks_for_version_alone, asks_for_one, asks_unrefused}
 use Rattle.ee_cli_program.specs.Statuses.{AsksToShow, Carries, Ends, IsRun, IsStatusFor}
 

@@ -27,7 +27,8 @@ pub fn carry_out<O: Stores, R: Read, W: Write>(
 ) -> Result<Outcome, RunFault>
     ensures carries { Carries (W.contents output.old) (W.contents output.new) (view_of command.entry) result }
     ensures over { AreClean O.Store.is_clean → (contents : Text → Content) → ((path : Text) → O.holds stores.now path (contents path))
-        → CarriesOver O.Store.has O.rests contents (R.remaining input.old) (R.remaining input.new) (W.contents output.old) (W.contents output.new) (view_of command.entry) result }
+        → CarriesOver O.Store.has O.rests contents (R.remaining input.old) (R.remaining input.new) (W.contents output.old) (W.contents output.new)
+        (view_of command.entry) result }
 {
     match command {
         Command::Value(denom, issued, month, rate) => {

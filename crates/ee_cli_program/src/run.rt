@@ -55,7 +55,8 @@ pub fn run_words<O: Stores, R: Read, W: Write, E: Write>(
     ensures version { AsksForVersion (map (λ w. string_bytes w) words.now) → result ≡ 0
         → Appends (W.contents output.old) (W.contents output.new) version_line }
     ensures over { AreClean O.Store.is_clean → (contents : Text → Content) → ((path : Text) → O.holds stores.now path (contents path))
-        → IsRun (map (λ w. string_bytes w) words.now) (CarriesOver O.Store.has O.rests contents (R.remaining input.old) (R.remaining input.new) (W.contents output.old) (W.contents output.new)) result }
+        → IsRun (map (λ w. string_bytes w) words.now)
+        (CarriesOver O.Store.has O.rests contents (R.remaining input.old) (R.remaining input.new) (W.contents output.old) (W.contents output.new)) result }
 {
     match read_command(rt.alloc(), words) {
         Ok(command) => match carry_out(rt, stores, command, input, output) {

@@ -98,15 +98,12 @@ right_more : (c : Content) (ts : List Told) (t : Told) → AreRight c ts → IsR
 right_more c [] t all right = (right, tt)
 right_more c (x ∷ ts) t all right = (all.0, right_more (left_by c x) ts t all.1 right)
 
-assoc : (a b c : List ℕ) → a ++ (b ++ c) ≡ (a ++ b) ++ c
-assoc a b c = simp append_assoc
-
 texts_more : (n : ℕ) (ts : List Told) (t : Told) → texts n (ts ++ t ∷ []) ≡ texts n ts ++ text_of (n + length ts) t
 texts_more n [] t = let same : n ≡ n + 0 = omega arith in append-nil (text_of n t) ∙ ap (λ k. text_of k t) same
 texts_more n (x ∷ ts) t =
     let same : n + 1 + length ts ≡ n + length (x ∷ ts) = omega arith in
     ap (λ r. text_of n x ++ r) (texts_more (n + 1) ts t)
-    ∙ assoc (text_of n x) (texts (n + 1) ts) (text_of (n + 1 + length ts) t)
+    ∙ sym (append_assoc (text_of n x) (texts (n + 1) ts) (text_of (n + 1 + length ts) t))
     ∙ ap (λ k. (text_of n x ++ texts (n + 1) ts) ++ text_of k t) same
 
 texts_at_end : (ts : List Told) (t : Told) → texts 0 (ts ++ t ∷ []) ≡ texts 0 ts ++ text_of (length ts) t

@@ -7,7 +7,6 @@ ghost use Rattle.ee_desk_acts.specs.Repeats.{Content};
 ghost use Rattle.ee_device.specs.ReadWhole.{TakesAtMost};
 ghost use Rattle.ee_files.specs.BondFile.{bonds_of_file};
 ghost use Rattle.ee_files.specs.RateFile.{rates_of_file};
-ghost use Rattle.ee_keeper.specs.Keeping.{Delivers};
 ghost use Rattle.ee_counter.specs.Filing.{Imports, Exports};
 
 use ee_desk_acts::{Act, Number, Reply, Request, Rows, Unserved};

@@ -1,3 +1,5 @@
+//! Lists of requests, delivered one after another.
+
 ghost use Rattle.std.specs.Prelude.{◌≡◌, [], length, IfOk, OnErr};
 ghost use Rattle.std.specs.List.{AllByRecursion};
 ghost use Rattle.ee_desk_acts.specs.Repeats.{Content};

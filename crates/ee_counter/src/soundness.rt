@@ -1,4 +1,5 @@
-ghost use Rattle.std.specs.Prelude.{◌≡◌};
+//! What the books of every keeper are.
+
 ghost use Rattle.ee_desk_acts.specs.Repeats.{Content};
 ghost use Rattle.ee_desk_acts.specs.Paid.{paid_lines, NoneTwice, ArePaidRight};
 ghost use Rattle.ee_desk_acts.specs.Sound.{IsSound};

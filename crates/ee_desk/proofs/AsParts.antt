@@ -19,10 +19,10 @@ use Rattle.ee_desk_parts.specs.Parts.{parts_of, row_of_entry}
 use Rattle.ee_desk.specs.Kept.{books_of}
 use Rattle.ee_desk.proofs.Ordered.{entries_are}
 
-abbrev bonds_kept : List (SerialNumber × Held) → List (SerialNumber × Bond)
+abbrev pub bonds_kept : List (SerialNumber × Held) → List (SerialNumber × Bond)
 bonds_kept es = map (λ e. (e.0, e.1.bond)) es
 
-same_keys : (es : List (SerialNumber × Held)) → keys_of (bonds_kept es) ≡ keys_of es
+pub same_keys : (es : List (SerialNumber × Held)) → keys_of (bonds_kept es) ≡ keys_of es
 same_keys [] = refl
 same_keys (e ∷ es) = ap (λ ks. e.0 ∷ ks) (same_keys es)
 

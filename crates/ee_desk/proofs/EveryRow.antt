@@ -1,17 +1,12 @@
 -- Each bond of an inventory has its row.
-use Rattle.std.proofs.Common.{◌≡◌, ℕ, Bool, true, false, true≢false, cond, ◌&&◌, List, [], ◌∷◌, map, Option, Some, None, refl, sym, ap, ◌∙◌, subst}
-use Rattle.std.specs.Prelude.{T, IsSome}
+use Rattle.std.proofs.Common.{◌≡◌, ℕ, Bool, true, false, true≢false, cond, List, [], ◌∷◌, map, Option, Some, None, refl, sym, ap, ◌∙◌}
+use Rattle.std.specs.Prelude.{IsSome}
 use Rattle.std.specs.Option.{IfSome, option_map}
 use Rattle.std.specs.List.{AllByRecursion, filter, filter_map, cons_option}
 use Rattle.std.specs.Map.{values_of}
 use Rattle.std.specs.FinMap as finite
-use Rattle.std.specs.FinMap.{FinMap, find, entries_sorted, get-entries}
-use Rattle.std.specs.FinMap.Entries.{is_sorted, below_all}
-use Rattle.std.specs.Ordering.{nat_cmp, is_lt, is_eq, eq_by_cmp}
-use Rattle.std.specs.Cmp.{IsTotalOrder, eq_by_cmp_equiv}
-use Rattle.std.specs.declared.cmp.Ordering.{Ordering}
-use Rattle.std.specs.declared.cmp.Ordering.TheVariants.{Less, Equal, Greater}
-use Rattle.std.proofs.lemmas.Map.Lookups.{CmpEqualImpliesEq}
+use Rattle.std.specs.FinMap.{FinMap}
+use Rattle.std.specs.Ordering.{nat_cmp}
 use Rattle.ee_units.specs.Spelling.{SerialNumber}
 use Rattle.ee_units.specs.Calendar.{period_start}
 use Rattle.ee_value.specs.declared.rates.Rates.{Rates}
@@ -21,40 +16,7 @@ use Rattle.ee_desk_acts.specs.Sound.{IsSound, IsRightBond}
 use Rattle.ee_desk_acts.specs.PlainBooks.{PlainBooks}
 use Rattle.ee_desk_acts.specs.Queries.{PlainRow, shown_in_row, row_of, plain_row, is_open_bond, bonds_of}
 use Rattle.ee_desk_acts.proofs.Lemmas.Maps.{serials_total, serials_exact}
-use Rattle.std.proofs.lemmas.Map.Views.{tells_apart}
-
-front : (a b : Bool) → T (a && b) → T a
-front true b p = tt
-front false b p = p
-
-back : (a b : Bool) → T (a && b) → T b
-back true b p = p
-back false b p = absurd p
-
-apart : (r : Ordering) → T (is_lt r) → is_eq r ≡ false
-apart Less h = refl
-apart Equal h = absurd h
-apart Greater h = absurd h
-
--- what holds wherever a key is found holds of each entry
-module _ {K V : Type 0} {R : K → K → Ordering} (o : IsTotalOrder R) (exact : CmpEqualImpliesEq R) (P : K → V → Type 0) where
-  absent : (q : K) (es : List (K × V)) → T (below_all R q es) → find R q es ≡ None
-  absent q [] h = refl
-  absent q (e ∷ es) h = ap (λ b. cond b (Some e.1) (find R q es)) (apart (R q e.0) (front _ _ h)) ∙ absent q es (back _ _ h)
-
-  past : (e : K × V) (es : List (K × V)) (q : K) → T (below_all R e.0 es) → (b : Bool) → eq_by_cmp R q e.0 ≡ b
-      → IfSome (cond b (Some e.1) (find R q es)) (P q) → IfSome (find R q es) (P q)
-  past e es q h true is p =
-      let none = subst (λ k. find R k es ≡ None) (sym (tells_apart exact q e.0 is)) (absent e.0 es h) in
-      subst (λ (v : Option V). IfSome v (P q)) (sym none) tt
-  past e es q h false is p = p
-
-  all_in : (es : List (K × V)) → T (is_sorted R es) → ((q : K) → IfSome (find R q es) (P q)) → AllByRecursion (λ e. P e.0 e.1) es
-  all_in [] s h = tt
-  all_in (e ∷ es) s h = (
-    subst (λ b. IfSome (cond b (Some e.1) (find R e.0 es)) (P e.0)) ((eq_by_cmp_equiv o).refl e.0) (h e.0),
-    all_in es (back _ _ s) (λ q. past e es q (front _ _ s) (eq_by_cmp R q e.0) refl (h q)),
-  )
+use Rattle.ee_desk_parts.proofs.Lemmas.{all_entries}
 
 abbrev IsRated : FinMap nat_cmp Rates → Bond → Type 0
 IsRated rates bond = IsSome (finite.get rates (period_start bond.issued))
@@ -96,5 +58,5 @@ pub every_row : (books : PlainBooks) (customer month : ℕ) (rows : List Row) �
 every_row books customer month rows sound is =
     same_serials rows ∙ ap serials_shown is
     ∙ rows_among books.rates month (is_open_bond books.tickets customer) (finite.entries books.bonds)
-    (all_in serials_total serials_exact (λ serial bond. IsRated books.rates bond) (finite.entries books.bonds) (entries_sorted books.bonds)
-    (λ serial. subst (λ o. IfSome o (IsRated books.rates)) (get-entries books.bonds serial) (rated_if books.rates serial (finite.get books.bonds serial) (sound.bonds serial))))
+    (all_entries serials_total serials_exact (λ serial bond. IsRated books.rates bond) books.bonds
+    (λ serial. rated_if books.rates serial (finite.get books.bonds serial) (sound.bonds serial)))

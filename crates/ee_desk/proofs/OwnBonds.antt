@@ -1,5 +1,5 @@
 -- The unpaid bonds of an owner in memory are those of the books.
-use Rattle.std.proofs.Common.{◌≡◌, ℕ, Bool, true, false, cond, ◌&&◌, ◌==◌, List, [], ◌∷◌, map, Option, Some, None, refl, sym, ap, ◌∙◌, subst}
+use Rattle.std.proofs.Common.{◌≡◌, ℕ, Bool, true, false, cond, ◌&&◌, ◌==◌, List, [], ◌∷◌, Option, Some, None, refl, sym, ap, ◌∙◌, subst}
 use Rattle.std.specs.Option.{IfSome, option_map, is_none}
 use Rattle.std.specs.List.{AllByRecursion, filter, filter_map, cons_option}
 use Rattle.std.specs.List.Sorted.{IsStrictlySortedBy}
@@ -23,6 +23,7 @@ use Rattle.ee_desk_parts.proofs.Lemmas.{get_held_bond}
 use Rattle.ee_desk_parts.specs.Marks.{bonds_held, held_at, AreMarked}
 use Rattle.ee_desk.specs.Kept.{own_bond}
 use Rattle.ee_desk.proofs.Ordered.{entries_are}
+use Rattle.ee_desk.proofs.AsParts.{bonds_kept, same_keys}
 
 -- what holds wherever a key is found holds of each entry
 module _ {K V : Type 0} {R : K → K → Ordering} (o : IsTotalOrder R) (P : K → V → Type 0) where
@@ -52,13 +53,6 @@ right_if tickets q (Some held) m k = (m, k)
 one_more : (b : Bool) (bond : Bond) (bonds : List Bond) → cons_option (cond b (Some bond) None) bonds ≡ cond b (bond ∷ bonds) bonds
 one_more true bond bonds = refl
 one_more false bond bonds = refl
-
-abbrev bonds_kept : List (SerialNumber × Held) → List (SerialNumber × Bond)
-bonds_kept es = map (λ e. (e.0, e.1.bond)) es
-
-same_keys : (es : List (SerialNumber × Held)) → keys_of (bonds_kept es) ≡ keys_of es
-same_keys [] = refl
-same_keys (e ∷ es) = ap (λ ks. e.0 ∷ ks) (same_keys es)
 
 own_among : (tickets : List Ticket) (customer : ℕ) (es : List (SerialNumber × Held)) → AllByRecursion (λ e. IsKeptRight tickets e.0 e.1) es
     → filter_map (own_bond customer) (values_of es) ≡ filter (is_open_bond tickets customer) (values_of (bonds_kept es))

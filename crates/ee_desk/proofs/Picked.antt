@@ -17,18 +17,9 @@ use Rattle.ee_desk_acts.specs.Seen.{held_as}
 use Rattle.ee_desk_acts.specs.Views.{picked}
 use Rattle.ee_desk_acts.proofs.Lemmas.Maps.{get_picked}
 use Rattle.std.proofs.lemmas.Map.Views.{tells_apart}
-use Rattle.ee_desk_parts.proofs.Lemmas.{get_held_bond}
+use Rattle.ee_desk_parts.proofs.Lemmas.{get_held_bond, list_any_push}
 use Rattle.ee_desk_parts.specs.Marks.{held_at, bonds_held}
 use Rattle.ee_desk.specs.Kept.{noted, noted_at}
-
-any_push : {A : Type 0} (p : A → Bool) (xs : List A) (y : A) → list_any p (xs ++ y ∷ []) ≡ (p y || list_any p xs)
-any_push p [] y = refl
-any_push p (x ∷ xs) y = ap (λ b. p x || b) (any_push p xs y) ∙ swap (p x) (p y) (list_any p xs)
-  where
-    swap : (a b c : Bool) → (a || (b || c)) ≡ (b || (a || c))
-    swap true true c = refl
-    swap true false c = refl
-    swap false b c = refl
 
 module _ {K V : Type 0} {R : K → K → Ordering} (o : IsTotalOrder R) (exact : CmpEqualImpliesEq R) (look : K → Option V) where
   push_at : (ks : List K) (k : K) (v : Option V) → look k ≡ v → (q : K) (b : Bool) → eq_by_cmp R q k ≡ b
@@ -44,7 +35,7 @@ module _ {K V : Type 0} {R : K → K → Ordering} (o : IsTotalOrder R) (exact :
 
   pub picked_push : (ks : List K) (k : K) → picked {R = R} look (ks ++ k ∷ []) ≡ noted look (picked look ks) k
   picked_push ks k = same_map o exact _ _ (λ q.
-      get_picked o exact look (ks ++ k ∷ []) q ∙ ap (λ b. cond b (look q) None) (any_push (eq_by_cmp R q) ks k) ∙ push_at ks k (look k) refl q (eq_by_cmp R q k) refl)
+      get_picked o exact look (ks ++ k ∷ []) q ∙ ap (λ b. cond b (look q) None) (list_any_push (eq_by_cmp R q) ks k) ∙ push_at ks k (look k) refl q (eq_by_cmp R q k) refl)
 
   pub picked_more : {A : Type 0} (key : A → K) (xs : List A) (i : ℕ) (d : A) → i < length xs
       → picked {R = R} look (map key (take (i + 1) xs)) ≡ noted look (picked look (map key (take i xs))) (key (get_or xs i d))

@@ -82,7 +82,8 @@ pub fn add_bonds(bonds: &mut BTreeMap<Serial, Held>, changes: &[Change]) -> Resu
 
 /// Registers every second bond, from the first on, and then the others.
 fn add_in_turns(bonds: &mut BTreeMap<Serial, Held>, changes: &[Change]) -> Result<(), AllocError>
-    ensures ok { OnOk result (held_in bonds.new.entries ≡ with_changes held_row (with_changes held_row (held_in bonds.old.entries) (every_second changes.now)) (every_second (drop 1 changes.now))) }
+    ensures ok { OnOk result (held_in bonds.new.entries
+        ≡ with_changes held_row (with_changes held_row (held_in bonds.old.entries) (every_second changes.now)) (every_second (drop 1 changes.now))) }
     ensures err { OnErr result (AgreeBeside held_row changes.now (held_in bonds.new.entries) (held_in bonds.old.entries)) }
 {
     add_every_second(bonds, changes)?;

@@ -12,11 +12,13 @@ ghost use Rattle.ee_desk_acts.specs.Queries.{ticket_numbered, batch_on, bonds_of
 ghost use Rattle.ee_desk_parts.specs.Parts.{parts_of, AreUnsound};
 
 use crate::ledger::Ledger;
-use crate::{seeing, sheets};
+use crate::seeing;
+use crate::sheets::{quote, rows_of};
 use ee_calculator::{Bond, Row, Sheet, sheet};
 use ee_desk_acts::{Act, Batch, Effects, Reply, Ticket, in_range};
 use ee_desk_decide::{View, decide};
 use ee_desk_parts::{Parts, PartsFault, checked};
+use ee_units::calendar::period_of;
 use ee_units::{Customer, Day, Denom, IssueMonth, Month};
 use std::alloc::{AllocError, Global};
 use std::marker::Model;
@@ -158,7 +160,7 @@ impl Books {
         ensures whole { IfOk result (λ sheet. map (λ row. row.serial) sheet.rows.items ≡ map (λ bond. Some bond.serial) (bonds_of self.now customer)) }
     {
         let bonds = self.bonds_of(customer)?;
-        let rows = sheets::rows_of(self.alloc, &self.ledger, bonds.as_slice(), month)?;
+        let rows = rows_of(self.alloc, self.ledger.rates(), bonds.as_slice(), month)?;
         Ok(sheet(rows))
     }
 
@@ -172,6 +174,7 @@ impl Books {
     ) -> Result<Option<Row>, AllocError>
         ensures { IfOk result (λ row. option_map shown_in_row row ≡ quote_of self.now denom issued month) }
     {
-        Ok(sheets::quote(&self.ledger, denom, issued, month))
+        let terms = self.ledger.terms(period_of(issued));
+        Ok(quote(terms, denom, issued, month))
     }
 }

@@ -11,7 +11,7 @@ ghost use Rattle.ee_desk_acts.specs.Queries.{ticket_numbered, batch_on, bonds_of
 ghost use Rattle.ee_desk_acts.specs.declared.changes.Change.TheVariants as change;
 ghost use Rattle.ee_desk_parts.specs.Parts.{parts_of};
 ghost use Rattle.ee_desk_parts.specs.Marks.{AreMarked};
-ghost use Rattle.ee_desk.specs.Kept.{books_of, AreCounts, AreKeyed};
+ghost use Rattle.ee_desk.specs.Kept.{books_of, rates_in, AreCounts, AreKeyed};
 ghost use Rattle.ee_desk.specs.Added.{rate_row, bond_row, with_changes, AreNew};
 ghost use Rattle.ee_desk.specs.Applicable.{IsUnpaid, IsNextTicket, AreApplicable};
 
@@ -56,18 +56,6 @@ impl Model for Ledger {
     ghost invariant = { λ b. AreMarked b.bonds.entries b.tickets.items × AreCounts (batch_so_far b.day b.tickets.items) b.counts };
 }
 
-fn no_counts() -> DayCounts
-    ensures tickets { result.tickets ≡ 0 }
-    ensures bonds { result.bonds ≡ 0 }
-    ensures total { result.total.0 ≡ 0 }
-{
-    DayCounts {
-        tickets: 0,
-        bonds: 0,
-        total: Cents(0),
-    }
-}
-
 impl Ledger {
     /// Nothing.
     pub fn empty(alloc: Global) -> Ledger
@@ -81,7 +69,7 @@ impl Ledger {
             last_day: None,
             tickets: Vec::new(alloc),
             batches: Vec::new(alloc),
-            counts: no_counts(),
+            counts: DayCounts::of_tickets(0),
         }
     }
 
@@ -110,7 +98,7 @@ impl Ledger {
         ensures { self.new ≡ changed self.old (change.Day day) }
     {
         self.day = Some(day);
-        self.counts = no_counts();
+        self.counts = DayCounts::of_tickets(0);
     }
 
     /// Closes the open day.
@@ -122,7 +110,7 @@ impl Ledger {
         self.batches.push(batch)?;
         self.last_day = Some(day);
         self.day = None;
-        self.counts = no_counts();
+        self.counts = DayCounts::of_tickets(0);
         Ok(())
     }
 
@@ -173,6 +161,13 @@ impl Ledger {
         ensures { option_copied result ≡ finite.get self.now.rates period }
     {
         self.rates.get(&period)
+    }
+
+    /// The terms of each period.
+    pub fn rates(&self) -> &BTreeMap<IssueMonth, Terms>
+        ensures { rates_in result.now.entries ≡ self.now.rates }
+    {
+        &self.rates
     }
 
     /// A registered bond, and the ticket that paid it.

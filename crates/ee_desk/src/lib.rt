@@ -17,3 +17,4 @@ pub use ee_desk_acts::{
 };
 pub use ee_desk_decide::{DayCounts, View, ViewParts, decide};
 pub use ee_desk_parts::{Parts, PartsFault, parts_tell};
+pub use sheets::{quote, rows_of};

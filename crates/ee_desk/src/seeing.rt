@@ -40,7 +40,8 @@ fn note_rate_of(
     ledger: &Ledger,
     serial: Serial,
 ) -> Result<(), AllocError>
-    ensures { OnOk result (rates_in found.new.entries ≡ noted_at (finite.get ledger.now.rates) (rates_in found.old.entries) (option_map period_of_held (held_of ledger.now serial))) }
+    ensures { OnOk result (rates_in found.new.entries
+        ≡ noted_at (finite.get ledger.now.rates) (rates_in found.old.entries) (option_map period_of_held (held_of ledger.now serial))) }
 {
     match ledger.held(serial) {
         Some(held) => note_rate(found, ledger, period_of(held.bond.issued)),
@@ -93,7 +94,8 @@ fn rates_of_serials(
     ledger: &Ledger,
     serials: &[Serial],
 ) -> Result<BTreeMap<IssueMonth, Terms>, AllocError>
-    ensures { IfOk result (λ m. rates_in m.entries ≡ picked (finite.get ledger.now.rates) (filter_map (λ s. option_map period_of_held (held_of ledger.now s)) serials.now)) }
+    ensures { IfOk result (λ m. rates_in m.entries ≡ picked (finite.get ledger.now.rates) (filter_map
+        (λ s. option_map period_of_held (held_of ledger.now s)) serials.now)) }
 {
     let mut found = BTreeMap::new(alloc);
     for serial in serials {
@@ -215,7 +217,8 @@ fn view_with(
     counts: DayCounts,
 ) -> Result<View, AllocError>
     requires { length ledger.now.tickets ≤ 71200000 }
-    ensures { IfOk result (λ v. v ≡ record (is.view_of ledger.now act.now) { day_tickets = counts.tickets; day_bonds = counts.bonds; day_total = counts.total.0 }) }
+    ensures { IfOk result (λ v. v
+        ≡ record (is.view_of ledger.now act.now) { day_tickets = counts.tickets; day_bonds = counts.bonds; day_total = counts.total.0 }) }
 {
     let rates = rates_of(alloc, ledger, act)?;
     let bonds = bonds_of(alloc, ledger, act)?;

@@ -1,17 +1,19 @@
-//! Rows of bonds, on the terms of a ledger. No table of unit values is made.
+//! Rows of bonds, on terms by issue period. No table of unit values is made.
 
 ghost use Rattle.std.specs.Prelude.{◌≡◌, ◌++◌, [], map, Some, None, IfOk, OnOk};
-ghost use Rattle.std.specs.Option.{option_map};
+ghost use Rattle.std.specs.Option.{option_map, option_copied};
+ghost use Rattle.std.specs.FinMap as finite;
 ghost use Rattle.std.specs.List.{filter_map, cons_option};
 ghost use Rattle.ee_desk_acts.specs.Queries as is;
 ghost use Rattle.ee_desk_acts.specs.Queries.{shown_in_row};
+ghost use Rattle.ee_desk.specs.Kept.{rates_in};
 
-use crate::ledger::Ledger;
 use ee_calculator::{Bond, Row, plain_row, row};
 use ee_desk_acts::Terms;
 use ee_units::calendar::period_of;
 use ee_units::{Denom, IssueMonth, Month, Rate};
 use std::alloc::{AllocError, Global};
+use std::collections::BTreeMap;
 
 /// The row of a bond on these terms.
 fn row_at(terms: &Terms, bond: &Bond, month: Month) -> Row
@@ -20,18 +22,18 @@ fn row_at(terms: &Terms, bond: &Bond, month: Month) -> Row
     row(bond, terms.rates(), terms.table(), month)
 }
 
-/// The row of a bond that isn't registered, on these terms.
-fn plain_row_at(terms: &Terms, denom: Denom, issued: IssueMonth, month: Month) -> Row
-    ensures { shown_in_row result ≡ is.plain_row None denom issued month terms.now }
+/// The terms of a period.
+fn terms_at(terms: &BTreeMap<IssueMonth, Terms>, period: IssueMonth) -> Option<&Terms>
+    ensures { option_copied result ≡ finite.get (rates_in terms.now.entries) period }
 {
-    plain_row(denom, issued, terms.rates(), terms.table(), month)
+    terms.get(&period)
 }
 
-/// The row of a bond, where there are rates for its issue period.
-fn row_of(ledger: &Ledger, bond: &Bond, month: Month) -> Option<Row>
-    ensures { option_map shown_in_row result ≡ is.row_of ledger.now.rates month bond.now }
+/// The row of a bond, where there are terms of its issue period.
+fn row_of(terms: &BTreeMap<IssueMonth, Terms>, bond: &Bond, month: Month) -> Option<Row>
+    ensures { option_map shown_in_row result ≡ is.row_of (rates_in terms.now.entries) month bond.now }
 {
-    match ledger.terms(period_of(bond.issued)) {
+    match terms_at(terms, period_of(bond.issued)) {
         Some(terms) => Some(row_at(terms, bond, month)),
         None => None,
     }
@@ -45,16 +47,6 @@ fn rate_in(row: &Option<Row>) -> Option<Rate> {
     }
 }
 
-/// The row of a bond that isn't registered, where there are rates.
-pub fn quote(ledger: &Ledger, denom: Denom, issued: IssueMonth, month: Month) -> Option<Row>
-    ensures { option_map shown_in_row result ≡ is.quote_of ledger.now denom issued month }
-{
-    match ledger.terms(period_of(issued)) {
-        Some(terms) => Some(plain_row_at(terms, denom, issued, month)),
-        None => None,
-    }
-}
-
 fn push_some<T: Drop>(items: &mut Vec<T>, item: Option<T>) -> Result<(), AllocError>
     ensures { OnOk result (items.new.items ≡ items.old.items ++ cons_option item []) }
 {
@@ -64,21 +56,31 @@ fn push_some<T: Drop>(items: &mut Vec<T>, item: Option<T>) -> Result<(), AllocEr
     Ok(())
 }
 
-/// The rows of bonds, in their order.
+/// The rows in a month of those bonds of whose issue periods there are terms, in their order.
 pub fn rows_of(
     alloc: Global,
-    ledger: &Ledger,
+    terms: &BTreeMap<IssueMonth, Terms>,
     bonds: &[Bond],
     month: Month,
 ) -> Result<Vec<Row>, AllocError>
-    ensures { IfOk result (λ rows. map shown_in_row rows.items ≡ filter_map (is.row_of ledger.now.rates month) bonds.now) }
+    ensures { IfOk result (λ rows. map shown_in_row rows.items ≡ filter_map (is.row_of (rates_in terms.now.entries) month) bonds.now) }
 {
     let mut rows = Vec::new(alloc);
     for bond in bonds {
-        let row = row_of(ledger, bond, month);
+        let row = row_of(terms, bond, month);
         // The proof of this loop has to meet the type of a row's rate.
         let _rate = rate_in(&row);
         push_some(&mut rows, row)?;
     }
     Ok(rows)
+}
+
+/// The row in a month of a bond that isn't registered, where there are terms of its issue period.
+pub fn quote(terms: Option<&Terms>, denom: Denom, issued: IssueMonth, month: Month) -> Option<Row>
+    ensures { option_map shown_in_row result ≡ option_map (is.plain_row None denom issued month) (option_copied terms.entry) }
+{
+    match terms {
+        Some(terms) => Some(plain_row(denom, issued, terms.rates(), terms.table(), month)),
+        None => None,
+    }
 }

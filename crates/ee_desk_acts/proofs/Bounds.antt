@@ -24,7 +24,7 @@ use Rattle.ee_desk_acts.proofs.Orders.{all_filter}
 use Rattle.ee_desk_acts.proofs.Conservation.{day_sum, spread}
 
 -- a sum of numbers up to k
-sum_le : {A : Type 0} (f : A → ℕ) (k : ℕ) (xs : List A) → AllByRecursion (λ x. f x ≤ k) xs → sum_by f xs ≤ length xs * k
+pub sum_le : {A : Type 0} (f : A → ℕ) (k : ℕ) (xs : List A) → AllByRecursion (λ x. f x ≤ k) xs → sum_by f xs ≤ length xs * k
 sum_le f k [] h = omega arith
 sum_le f k (x ∷ xs) h =
     let cons = sum_by-cons f x xs in
@@ -62,7 +62,7 @@ redemption-le rates a range = accrued-le rates (if nat_lt a 60 then a - 3 else a
 pub value_le : (rates : Rates) (bond : Bond) (month : ℕ) → InRange rates → value_of rates bond month ≤ 304493600
 value_le rates bond month range = mul-le-mul (units_le bond.denom) (redemption-le rates (month - bond.issued) range)
 
-line_le : (books : PlainBooks) → IsSound books → (ticket : Ticket) (line : Line) → IsRightLine books.rates books.bonds ticket line → cents_of line ≤ 304493600
+pub line_le : (books : PlainBooks) → IsSound books → (ticket : Ticket) (line : Line) → IsRightLine books.rates books.bonds ticket line → cents_of line ≤ 304493600
 line_le books sound ticket line h =
     let right = subst (λ o. IfSome o (IsRightRate (period_start h.0.issued))) h.3 (sound.rates (period_start h.0.issued)) in
     let le = value_le h.1 h.0 (month_of_day ticket.day) right.in_range.1 in

@@ -8,6 +8,7 @@ use Rattle.std.specs.FinMap as finite
 use Rattle.std.specs.FinMap.{find, get-from_entries, get-insert, same_map}
 use Rattle.std.specs.Ordering.{nat_cmp, eq_by_cmp, is_eq, ordering_then}
 use Rattle.std.specs.declared.cmp.Ordering.TheVariants.{Less, Equal, Greater}
+use Rattle.std.proofs.Math.Bool.{or-true}
 use Rattle.std.proofs.lemmas.Bool.{and_parts, eqb-true}
 use Rattle.std.specs.declared.cmp.Ordering.{Ordering}
 use Rattle.std.specs.Cmp.{IsTotalOrder, nat_cmp_total, eq_by_cmp_equiv, unsigned_tied}
@@ -75,16 +76,12 @@ pub all_both : {A : Type 0} (P Q : A → Type 0) (xs : List A) → AllByRecursio
 all_both P Q [] h k = tt
 all_both P Q (x ∷ xs) h k = ((h.0, k.0), all_both P Q xs h.1 k.1)
 
-or_true : (b : Bool) → (b || true) ≡ true
-or_true true = refl
-or_true false = refl
-
 or_here : (b c : Bool) → b ≡ true → (b || c) ≡ true
 or_here true c e = refl
 or_here false c e = absurd (true≢false (sym e))
 
 pub or_there : (b c : Bool) → c ≡ true → (b || c) ≡ true
-or_there b true e = or_true b
+or_there b true e = or-true b
 or_there b false e = absurd (true≢false (sym e))
 
 -- each key is among the keys

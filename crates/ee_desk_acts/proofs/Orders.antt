@@ -2,6 +2,7 @@
 use Rattle.std.proofs.Common.{◌≡◌, ℕ, ◌<◌, ◌≤◌, eqb, Bool, true, false, cond, ◌||◌, List, [], ◌∷◌, ◌++◌, map, true≢false, arith, refl, sym, ap}
 use Rattle.std.specs.List.{AllByRecursion, list_any, filter}
 use Rattle.std.proofs.lemmas.Bool.{eqb-true, false_from_ne_true}
+use Rattle.std.proofs.lemmas.List.Elements.{filter_passes, recursion_from_All}
 use Rattle.ee_desk_acts.specs.Lists.{Rising, NeverFalling}
 use Rattle.ee_desk_acts.proofs.Maps.{all_map, or_there}
 
@@ -18,12 +19,7 @@ all_filter {A} P p (x ∷ xs) h = keep (p x) (all_filter P p xs h.1)
     keep false k = k
 
 pub all_passed : {A : Type 0} (p : A → Bool) (xs : List A) → AllByRecursion (λ x. p x ≡ true) (filter p xs)
-all_passed p [] = tt
-all_passed p (x ∷ xs) = keep (p x) refl (all_passed p xs)
-  where
-    keep : (b : Bool) → p x ≡ b → AllByRecursion (λ y. p y ≡ true) (filter p xs) → AllByRecursion (λ y. p y ≡ true) (cond b (x ∷ filter p xs) (filter p xs))
-    keep true e k = (e, k)
-    keep false e k = k
+all_passed p xs = recursion_from_All (λ x. p x ≡ true) (filter p xs) (filter_passes p xs)
 
 -- one of the elements that a test finds has what all have
 pub any_has : {A : Type 0} (P : A → Type 0) (p : A → Bool) (C : Type 0) → ((x : A) → P x → p x ≡ true → C) → (xs : List A) → AllByRecursion P xs → list_any p xs ≡ true → C

@@ -1,12 +1,12 @@
 -- Acts that compare as the same are equal.
-use Rattle.std.proofs.Common.{◌≡◌, ℕ, Bool, true, cond, ◌&&◌, eqb, nat_eq, List, [], ◌∷◌, Option, Some, None, true≢false, refl, sym, ap, ◌∙◌}
+use Rattle.std.proofs.Common.{◌≡◌, ℕ, Bool, true, ◌&&◌, eqb, nat_eq, List, [], ◌∷◌, Option, Some, None, true≢false, refl, sym, ap}
 use Rattle.std.specs.Option.{option_eq}
 use Rattle.std.specs.Cmp.Lexicographic.{pointwise}
 use Rattle.std.proofs.lemmas.Bool.{eqb-true, eq-eqb, and_parts, and_from}
 use Rattle.ee_units.specs.Spelling.{SerialNumber}
 use Rattle.ee_units.specs.Denoms.{dollars}
 use Rattle.ee_units.specs.declared.denoms.Denom.{Denom}
-use Rattle.ee_units.specs.declared.denoms.Denom.TheVariants as denom
+use Rattle.ee_units.proofs.Lemmas as units
 use Rattle.ee_calculator.specs.declared.bonds.Bond.{Bond}
 use Rattle.ee_value.specs.declared.rates.RateRow.{RateRow}
 use Rattle.ee_desk_acts.specs.declared.acts.Act.{Act}
@@ -25,7 +25,7 @@ same_self E h (x ∷ xs) = and_from (E x x) (pointwise E xs xs) (h x) (same_self
 eq_self : (n : ℕ) → eqb n n ≡ true
 eq_self n = eq-eqb n n refl
 
-serial_self : (s : SerialNumber) → same_serial s s ≡ true
+pub serial_self : (s : SerialNumber) → same_serial s s ≡ true
 serial_self s = and_from _ _ (eq_self s.letter) (eq_self s.number)
 
 coowner_self : (o : Option ℕ) → option_eq eqb o o ≡ true
@@ -50,25 +50,10 @@ same_is E h (x ∷ xs) [] e = absurd (true≢false (sym e))
 same_is E h (x ∷ xs) (y ∷ ys) e =
     let p = and_parts (E x y) (pointwise E xs ys) e in λ i. h x y p.0 i ∷ same_is E h xs ys p.1 i
 
--- the denomination of so many dollars
-abbrev denom_at : ℕ → Denom
-denom_at n = cond (eqb n 50) denom.Fifty (cond (eqb n 75) denom.SeventyFive (cond (eqb n 100) denom.Hundred (cond (eqb n 200) denom.TwoHundred
-    (cond (eqb n 500) denom.FiveHundred (cond (eqb n 1000) denom.Thousand (cond (eqb n 5000) denom.FiveThousand denom.TenThousand))))))
-
-denom_back : (d : Denom) → denom_at (dollars d) ≡ d
-denom_back denom.Fifty = refl
-denom_back denom.SeventyFive = refl
-denom_back denom.Hundred = refl
-denom_back denom.TwoHundred = refl
-denom_back denom.FiveHundred = refl
-denom_back denom.Thousand = refl
-denom_back denom.FiveThousand = refl
-denom_back denom.TenThousand = refl
-
 denom_is : (a b : Denom) → same_denom a b ≡ true → a ≡ b
-denom_is a b e = sym (denom_back a) ∙ ap denom_at (eqb-true (dollars a) (dollars b) e) ∙ denom_back b
+denom_is a b e = units.same_denom a b (eqb-true (dollars a) (dollars b) e)
 
-coowner_is : (a b : Option ℕ) → option_eq nat_eq a b ≡ true → a ≡ b
+pub coowner_is : (a b : Option ℕ) → option_eq nat_eq a b ≡ true → a ≡ b
 coowner_is None None e = refl
 coowner_is None (Some n) e = absurd (true≢false (sym e))
 coowner_is (Some m) None e = absurd (true≢false (sym e))

@@ -26,8 +26,9 @@ use Rattle.ee_desk_acts.specs.Serials.{serial_cmp, same_serial}
 use Rattle.ee_units.specs.Calendar.{period_start, month_of_day, is_announcement}
 use Rattle.ee_desk_acts.specs.Values.{value_of, unsettled}
 use Rattle.ee_desk_acts.specs.Lists.{Rising, NeverFalling}
-use Rattle.ee_desk_acts.specs.PlainBooks.{PlainBooks, no_books, ticket_of, names, has_coowner, is_payee, of_day, batch_of, batch_so_far, bonds_on, total_of}
-use Rattle.ee_desk_acts.specs.Paid.{paid_lines}
+use Rattle.ee_calculator.specs.Bonds.{has_coowner, is_payee}
+use Rattle.ee_desk_acts.specs.PlainBooks.{PlainBooks, no_books, ticket_of, names, of_day, batch_of, batch_so_far, bonds_on, total_of}
+use Rattle.ee_desk_acts.specs.Paid.{paid_lines, NoneTwice}
 use Rattle.ee_desk_acts.specs.Seen.{Seen, shown, held_as, held_of, rate_of, value_in, line_for, ticket_for, closing_batch}
 use Rattle.ee_desk_acts.specs.Refusals.{first, first_of, known_rate, tests_of, tests_of_held, refusal_of, refusal_of_day, refusal_of_held, refusal_of_serial, unannounced, near, own_coowner, unrated, repeated}
 use Rattle.ee_desk_acts.specs.declared.changes.Change.TheVariants as change
@@ -36,7 +37,6 @@ use Rattle.ee_desk_acts.specs.Effects.{new_rates, new_bonds, rate_change, accept
 use Rattle.ee_desk_acts.specs.Ranges.{IsInRange}
 use Rattle.ee_desk_acts.specs.Acts.{with_rates, with_bonds, done, unless_refused, books_after}
 use Rattle.ee_desk_acts.specs.Sound.{IsSound, IsDay, IsRightRate, IsRightBond, IsRightLine, IsRightTicket, NumberedFrom, day_of, day_of_batch, open_days, days, last_of}
-use Rattle.ee_desk_acts.specs.Paid.{NoneTwice}
 use Rattle.ee_desk_acts.proofs.Maps.{serials_total, serials_tied, serials_swap, serial_is, all_map, all_both}
 use Rattle.ee_desk_acts.proofs.Orders.{all_append, all_filter, all_passed, all_mapped, all_unmapped, any_has, any_left, any_last, rising_push, rising_below, rising_most, never_falling_push, not_below}
 
@@ -89,7 +89,7 @@ pub none_is : {A : Type 0} (o : Option A) → is_none o ≡ true → o ≡ None
 none_is None e = refl
 none_is (Some x) e = absurd (true≢false (sym e))
 
-some_is : {A : Type 0} (o : Option A) → IsSome o → (x : A) × (o ≡ Some x)
+pub some_is : {A : Type 0} (o : Option A) → IsSome o → (x : A) × (o ≡ Some x)
 some_is None h = absurd (true≢false (sym h))
 some_is (Some x) h = (x, refl)
 
@@ -309,7 +309,7 @@ open_is : (o : Option ℕ) (day : ℕ) → refusal_of_day o day ≡ None → o �
 open_is None day e = absurd (cc)
 open_is (Some other) day e = ap Some (eqb-true other day (not-false (eqb other day) (test_passed (not (eqb other day)) DayIsOther None e).0))
 
-last_pushed : (batches : List Batch) (b : Batch) → last_of (batches ++ b ∷ []) ≡ Some b.day
+pub last_pushed : (batches : List Batch) (b : Batch) → last_of (batches ++ b ∷ []) ≡ Some b.day
 last_pushed [] b = refl
 last_pushed (x ∷ []) b = refl
 last_pushed (x ∷ y ∷ batches) b = last_pushed (y ∷ batches) b
@@ -353,7 +353,7 @@ none_twice_append [] ys h k cross = k
 none_twice_append (x ∷ xs) ys h k cross =
     (all_append (Apart x.serial) xs ys h.0 (cross_head x ys xs cross), none_twice_append xs ys h.1 k (cross_tail x ys xs cross))
 
-paid_append : (tickets : List Ticket) (t : Ticket) → paid_lines (tickets ++ t ∷ []) ≡ paid_lines tickets ++ t.lines
+pub paid_append : (tickets : List Ticket) (t : Ticket) → paid_lines (tickets ++ t ∷ []) ≡ paid_lines tickets ++ t.lines
 paid_append [] t = append-nil t.lines
 paid_append (u ∷ tickets) t = ap (λ l. u.lines ++ l) (paid_append tickets t) ∙ sym (append_assoc u.lines (paid_lines tickets) t.lines)
 

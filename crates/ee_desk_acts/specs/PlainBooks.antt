@@ -1,7 +1,7 @@
 -- What a desk keeps, as plain lists and finite maps: no kept replies; a bond is paid where a ticket names it (this project's rule).
-use Rattle.std.specs.Prelude.{ℕ, Bool, false, ◌||◌, ◌&&◌, ◌==◌, nat_eq, List, [], Option, Some, None, find, length, filter, sum_by}
+use Rattle.std.specs.Prelude.{ℕ, Bool, ◌&&◌, ◌==◌, nat_eq, List, [], Option, Some, None, find, length, filter, sum_by}
 use Rattle.std.specs.List.{list_any}
-use Rattle.std.specs.Option.{option_map, option_map_or, option_eq}
+use Rattle.std.specs.Option.{option_map, option_eq}
 use Rattle.std.specs.FinMap as finite
 use Rattle.std.specs.FinMap.{FinMap}
 use Rattle.std.specs.Ordering.{nat_cmp}
@@ -60,13 +60,6 @@ no_batch = record { day = 0; tickets = 0; bonds = 0; total = record { 0 = 0 } }
 abbrev pub batch_so_far : Option ℕ → List Ticket → Batch
 batch_so_far None tickets = no_batch
 batch_so_far (Some day) tickets = batch_of day tickets
-
-abbrev pub has_coowner : Bond → ℕ → Bool
-has_coowner bond customer = option_map_or (λ other. other == customer) bond.coowner false
-
--- whether this is the owner or the coowner
-abbrev pub is_payee : Bond → ℕ → Bool
-is_payee bond payee = (bond.owner == payee) || has_coowner bond payee
 
 abbrev pub same_denom : Denom → Denom → Bool
 same_denom a b = dollars a == dollars b

@@ -14,7 +14,8 @@ use Rattle.ee_desk_acts.specs.Serials.{same_serial}
 use Rattle.ee_units.specs.Calendar.{month_of_day, is_announcement}
 use Rattle.ee_desk_acts.specs.Values.{unsettled, same_rates}
 use Rattle.ee_value.specs.declared.rates.Rates.{Rates}
-use Rattle.ee_desk_acts.specs.PlainBooks.{is_payee, has_coowner, same_bond}
+use Rattle.ee_calculator.specs.Bonds.{is_payee, has_coowner}
+use Rattle.ee_desk_acts.specs.PlainBooks.{same_bond}
 use Rattle.ee_desk_acts.specs.Seen.{Seen, rate_of}
 
 -- the first refusal among tests in their order

@@ -15,8 +15,10 @@ use Rattle.ee_value.specs.Chain.{InRange}
 use Rattle.ee_desk_acts.specs.Paid.{paid_lines, NoneTwice}
 use Rattle.ee_units.specs.Calendar.{month_of_day, period_start, is_announcement}
 use Rattle.ee_desk_acts.specs.Values.{value_of, unsettled}
+use Rattle.ee_desk_acts.specs.Refusals.{most_tickets}
 use Rattle.ee_desk_acts.specs.Lists.{Rising, NeverFalling}
-use Rattle.ee_desk_acts.specs.PlainBooks.{PlainBooks, cents_of, has_coowner, is_payee, batch_of}
+use Rattle.ee_calculator.specs.Bonds.{has_coowner, is_payee}
+use Rattle.ee_desk_acts.specs.PlainBooks.{PlainBooks, cents_of, batch_of}
 
 -- from 2005-05-01 to 2199-12-31, as counts from 1970-01-01
 abbrev pub IsDay : ℕ → Type 0
@@ -86,7 +88,7 @@ pub record IsSound (books : PlainBooks) : Type 0 where
   pub tickets : AllByRecursion (IsRightTicket books.rates books.bonds) books.tickets
   pub once : NoneTwice (paid_lines books.tickets)
   pub in_order : NeverFalling (map day_of books.tickets)
-  pub few : (day : ℕ) → count_by (λ ticket. ticket.day == day) books.tickets ≤ 1000
+  pub few : (day : ℕ) → count_by (λ ticket. ticket.day == day) books.tickets ≤ most_tickets
   -- each ticket's day is a closed one or the open one
   pub dated : AllByRecursion (λ ticket. list_any (λ day. ticket.day == day) (days books) ≡ true) books.tickets
   -- the closed days rise, and the open one is later

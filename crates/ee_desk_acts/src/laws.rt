@@ -18,9 +18,12 @@ ghost use Rattle.ee_desk_acts.specs.Queries.{bonds_of, inventory};
 /// Two books of which an act sees the same have the same effects; so have two books that agree in what
 /// the act is decided by. An act that the length of its list refuses is refused whatever is seen.
 pub const fn one_view()
-    ensures seen { (one other : PlainBooks) (asked : Act) → view_of one asked ≡ view_of other asked → effects_of (shown one) asked ≡ effects_of (shown other) asked }
-    ensures needed { (one other : PlainBooks) (asked : Act) → needed_of one asked ≡ needed_of other asked → effects_of (shown one) asked ≡ effects_of (shown other) asked }
-    ensures length { (seen : Seen) (asked : Act) (refusal : Refusal) → length_refusal asked ≡ Some refusal → effects_of seen asked ≡ record { changes = []; reply = Refused refusal } }
+    ensures seen { (one other : PlainBooks) (asked : Act) → view_of one asked ≡ view_of other asked
+        → effects_of (shown one) asked ≡ effects_of (shown other) asked }
+    ensures needed { (one other : PlainBooks) (asked : Act) → needed_of one asked ≡ needed_of other asked
+        → effects_of (shown one) asked ≡ effects_of (shown other) asked }
+    ensures length { (seen : Seen) (asked : Act) (refusal : Refusal) → length_refusal asked ≡ Some refusal
+        → effects_of seen asked ≡ record { changes = []; reply = Refused refusal } }
 {}
 
 /// An act is decided on what it sees of the books as on the books, and on what it needs of them as on what it
@@ -28,13 +31,15 @@ pub const fn one_view()
 pub const fn view_decides()
     ensures reply { (books : PlainBooks) (asked : Act) → (effects_of (shown_by (view_of books asked)) asked).reply ≡ reply_to books asked }
     ensures books { (books : PlainBooks) (asked : Act) → applied books (effects_of (shown_by (view_of books asked)) asked).changes ≡ books_after books asked }
-    ensures needed { (books : PlainBooks) (asked : Act) → effects_of (shown_by (needed_of books asked)) asked ≡ effects_of (shown_by (view_of books asked)) asked }
+    ensures needed { (books : PlainBooks) (asked : Act)
+        → effects_of (shown_by (needed_of books asked)) asked ≡ effects_of (shown_by (view_of books asked)) asked }
 {}
 
 /// An inventory shows that owner's unpaid bonds, the rates and the month alone: books that agree
 /// there have the same sheet.
 pub const fn shows_own_bonds_alone()
-    ensures { (one other : PlainBooks) (customer month : ℕ) → one.rates ≡ other.rates → bonds_of one customer ≡ bonds_of other customer → inventory one customer month ≡ inventory other customer month }
+    ensures { (one other : PlainBooks) (customer month : ℕ) → one.rates ≡ other.rates → bonds_of one customer ≡ bonds_of other customer
+        → inventory one customer month ≡ inventory other customer month }
 {}
 
 /// Acts that compare as the same are equal.
@@ -46,5 +51,6 @@ pub const fn same_acts()
 /// program holds; or those of its changes are.
 pub const fn acts_keep_sound()
     ensures acts { (books : PlainBooks) (asked : Act) → IsSound books → IsActInRange asked → IsSound (books_after books asked) }
-    ensures changes { (books : PlainBooks) (asked : Act) → IsSound books → AllByRecursion IsInRange (effects_of (shown books) asked).changes → IsSound (books_after books asked) }
+    ensures changes { (books : PlainBooks) (asked : Act) → IsSound books → AllByRecursion IsInRange (effects_of (shown books) asked).changes
+        → IsSound (books_after books asked) }
 {}

@@ -5,6 +5,7 @@
 mod acts;
 mod changes;
 mod laws;
+mod limits;
 mod numbers;
 mod ranges;
 mod refusals;
@@ -17,6 +18,7 @@ pub use acts::{Act, Request};
 pub use changes::{Change, Effects, Held, Kept};
 pub use ee_value::RateRow;
 pub use laws::{acts_keep_sound, one_view, same_acts, shows_own_bonds_alone, view_decides};
+pub use limits::{MOST_DAY_TICKETS, MOST_ROWS, MOST_SERIALS};
 pub use numbers::Number;
 pub use ranges::in_range;
 pub use refusals::{Refusal, Unserved};

@@ -1,27 +1,21 @@
 //! The tests of acts, in their order.
-ghost use Rattle.std.specs.Prelude.{◌≡◌, None, [], find, ◌==◌, ◌+◌, length, IfOk};
+ghost use Rattle.std.specs.Prelude.{◌≡◌, None, [], find, ◌==◌, length, IfOk};
 ghost use Rattle.std.specs.Option.{option_map};
 ghost use Rattle.std.specs.List.{list_any};
-ghost use Rattle.ee_units.specs.Calendar.{is_announcement, month_of_day};
 ghost use Rattle.ee_desk_acts.specs.Serials.{same_serial};
 ghost use Rattle.ee_desk_acts.specs.Refusals as is;
-ghost use Rattle.ee_desk_acts.specs.PlainBooks.{is_payee, has_coowner};
 ghost use Rattle.ee_desk_acts.specs.Views.{shown_by};
 
 use crate::values::unsettled;
 use crate::views::View;
 use ee_calculator::Bond;
-use ee_desk_acts::{Act, Held, RateRow, Refusal, UnitTables};
-use ee_units::calendar::{month_of, period_of};
+use ee_desk_acts::{
+    Act, Held, MOST_DAY_TICKETS, MOST_ROWS, MOST_SERIALS, RateRow, Refusal, UnitTables,
+};
+use ee_units::calendar::{is_announcement, month_of, period_of};
 use ee_units::{Customer, Day, IssueMonth, Month, Serial};
 use ee_value::Rates;
 use std::alloc::{AllocError, Global};
-
-const MOST_ROWS: usize = 500;
-
-const MOST_SERIALS: usize = 100;
-
-const MOST_TICKETS: u64 = 1000;
 
 /// How the length of a list refuses it.
 fn refusal_of_length(most: usize, count: usize) -> Option<Refusal>
@@ -46,14 +40,6 @@ pub fn length_refusal(act: &Act) -> Option<Refusal>
         Act::Redeem { serials, .. } => refusal_of_length(MOST_SERIALS, serials.as_slice().len()),
         Act::OpenDay(_) | Act::CloseDay(_) => None,
     }
-}
-
-/// Whether a month is a May or November.
-pub fn is_announcement(month: IssueMonth) -> bool
-    ensures { result ≡ is_announcement month }
-{
-    let month = (month.count() + 4) % 12 + 1;
-    month == 5 || month == 11
 }
 
 fn first_unannounced(rows: &[RateRow]) -> Option<Refusal>
@@ -184,25 +170,11 @@ fn first_repeated_bond(bonds: &[Bond]) -> Option<Refusal>
     None
 }
 
-/// Whether this is the coowner.
-pub fn has_coowner(bond: &Bond, customer: Customer) -> bool
-    ensures { result ≡ has_coowner bond.now customer }
-{
-    bond.coowner == Some(customer)
-}
-
-/// Whether this is the owner or the coowner.
-pub fn is_payee(bond: &Bond, payee: Customer) -> bool
-    ensures { result ≡ is_payee bond.now payee }
-{
-    bond.owner == payee || has_coowner(bond, payee)
-}
-
 fn first_own_coowner(bonds: &[Bond]) -> Option<Refusal>
     ensures { result ≡ is.first_of is.own_coowner bonds.now }
 {
     for bond in bonds {
-        if has_coowner(bond, bond.owner) {
+        if bond.has_coowner(bond.owner) {
             return Some(Refusal::SameCoowner(bond.serial));
         }
     }
@@ -291,7 +263,7 @@ fn refusal_of_serial(view: &View, month: Month, payee: Customer, serial: Serial)
     let Some(Held { bond, ticket }) = view.held(serial) else {
         return Some(Refusal::UnknownSerial(serial));
     };
-    if !is_payee(&bond, payee) {
+    if !bond.is_payee(payee) {
         return Some(Refusal::NotPayee(serial));
     }
     if let Some(ticket) = ticket {
@@ -338,7 +310,7 @@ fn refusal_of_redeem(view: &View, day: Day, payee: Customer, serials: &[Serial])
     if let Some(refusal) = refusal_of_day(view.day(), day) {
         return Some(refusal);
     }
-    if view.counts().tickets >= MOST_TICKETS {
+    if view.counts().tickets >= MOST_DAY_TICKETS {
         return Some(Refusal::DayFull);
     }
     first_unpayable(view, month_of(day), payee, serials)

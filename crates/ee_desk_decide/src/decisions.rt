@@ -1,5 +1,5 @@
 //! The decision of an act by what it sees.
-ghost use Rattle.std.specs.Prelude.{◌≡◌, ◌+◌, ◌≤◌, ◌<◌, ◌^◌, [], ◌∷◌, ◌-◌, map, length, IfOk, None, Some};
+ghost use Rattle.std.specs.Prelude.{◌≡◌, ◌+◌, ◌≤◌, ◌<◌, [], ◌∷◌, ◌-◌, map, length, IfOk, None, Some};
 ghost use Rattle.ee_units.specs.Calendar.{month_of_day};
 ghost use Rattle.ee_desk_acts.specs.Views.{shown_by};
 ghost use Rattle.ee_desk_acts.specs.Seen as seen;

@@ -6,6 +6,6 @@ mod decisions;
 mod values;
 mod views;
 
-pub use checks::{has_coowner, is_announcement, is_payee, length_refusal};
+pub use checks::length_refusal;
 pub use decisions::decide;
 pub use views::{DayCounts, View, ViewParts};

@@ -2,7 +2,6 @@
 
 ghost use Rattle.std.specs.Prelude.{◌≡◌, ◌+◌, ◌≤◌, IfOk, IfSome, IsSome, true, None};
 ghost use Rattle.ee_desk_acts.specs.Values.{value_of, unsettled};
-ghost use Rattle.ee_desk_acts.specs.Views.{shown_by};
 
 use crate::views::View;
 use ee_calculator::Bond;

@@ -6,6 +6,7 @@ use Rattle.std.specs.List.Sorted.{IsPermutation}
 use Rattle.std.proofs.lemmas.List.Sorted.{IsPermutation-map, IsPermutation-append_right, sum_by-IsPermutation, list_any-IsPermutation}
 use Rattle.std.specs.FinMap as finite
 use Rattle.std.proofs.lemmas.List.Sums.{length-filter, sum_by-cons}
+use Rattle.std.proofs.lemmas.List.{map-append}
 use Rattle.ee_desk_acts.specs.declared.acts.Act.{Act}
 use Rattle.ee_desk_acts.specs.declared.acts.Act.TheVariants.{AddRates, AddBonds, OpenDay, Redeem, CloseDay}
 use Rattle.ee_desk_acts.specs.declared.changes.Kept.{Kept}
@@ -16,9 +17,8 @@ use Rattle.ee_desk_acts.specs.declared.replies.Reply.{Reply}
 use Rattle.ee_desk_acts.specs.declared.replies.Reply.TheVariants.{Refused}
 use Rattle.ee_desk_acts.specs.declared.replies.Reply.TheVariants as reply
 use Rattle.ee_desk_acts.specs.declared.acts.Request.{Request}
-use Rattle.ee_desk_acts.specs.PlainBooks.{PlainBooks, batch_of, batch_so_far, total_of, bonds_on}
+use Rattle.ee_desk_acts.specs.PlainBooks.{PlainBooks, batch_of, batch_so_far, total_of, bonds_on, of_day}
 use Rattle.ee_desk_acts.specs.Seen.{shown, closing_batch}
-use Rattle.ee_desk_acts.specs.PlainBooks.{of_day}
 use Rattle.ee_desk_acts.specs.declared.replies.Batch.{Batch}
 use Rattle.ee_desk_acts.specs.Refusals.{refusal_of_day, most_tickets}
 use Rattle.ee_desk_acts.specs.Outcomes.{act}
@@ -28,7 +28,6 @@ use Rattle.ee_desk_acts.specs.Repeats.{Content}
 use Rattle.ee_desk_acts.specs.Contents.{content_after, books_after}
 use Rattle.ee_desk_acts.specs.Answers.{answer, answer_for, answer_by, reply_again, is_of}
 use Rattle.ee_desk_laws.specs.Tellers.{Asked, requests, IsMerge, IsRedeem, AreTellers, open_tickets}
-use Rattle.ee_desk_laws.proofs.Lists.{map_append}
 use Rattle.ee_desk_laws.proofs.OneTeller.{begin, blank, new_of}
 use Rattle.ee_desk_laws.proofs.Merges.{RanAll, room_other, same_tickets, all_requests, merge_redeems, mine_of, new, own_of, run_all, same_merge}
 
@@ -148,8 +147,8 @@ module _ (S : Content) (tellers : List (List Request)) (are : AreTellers tellers
 
   same_days : IsPermutation (map blank (after_all one)) (map blank (after_all other))
   same_days =
-      subst (λ l. IsPermutation l (map blank (after_all other))) (sym (map_append blank S.books.tickets (new S tellers are one)))
-      (subst (IsPermutation (map blank S.books.tickets ++ map blank (new S tellers are one))) (sym (map_append blank S.books.tickets (new S tellers are other)))
+      subst (λ l. IsPermutation l (map blank (after_all other))) (sym (map-append blank S.books.tickets (new S tellers are one)))
+      (subst (IsPermutation (map blank S.books.tickets ++ map blank (new S tellers are one))) (sym (map-append blank S.books.tickets (new S tellers are other)))
       (IsPermutation-append_right (map blank S.books.tickets) _ _ (same_tickets S tellers are one other is at room)))
 
   ran_one : RanAll S tellers are 0 one

@@ -4,13 +4,13 @@ use Rattle.std.specs.List.{filter, flat_map, sum_by}
 use Rattle.std.specs.List.Sorted.{IsPermutation}
 use Rattle.std.proofs.lemmas.List.Sorted.{length_permutation}
 use Rattle.std.proofs.lemmas.Bool.{eq-eqb, ne_eqb}
-use Rattle.std.proofs.lemmas.List.{length-map}
+use Rattle.std.proofs.lemmas.List.{length-map, map-append}
 use Rattle.std.proofs.lemmas.List.Sums.{sum_by-cons}
+use Rattle.std.proofs.lemmas.List.Elements.{filter-append}
 use Rattle.ee_desk_acts.specs.declared.acts.Request.{Request}
 use Rattle.ee_desk_acts.specs.Refusals.{most_tickets}
 use Rattle.ee_desk_acts.specs.Repeats.{Content}
 use Rattle.ee_desk_laws.specs.Tellers.{Asked, requests, asked_by, list_of, IsMerge, AreTellers, open_tickets, new_lines, Interleaved}
-use Rattle.ee_desk_laws.proofs.Lists.{filter_append, map_append}
 use Rattle.ee_desk_laws.proofs.OneTeller.{blank}
 use Rattle.ee_desk_laws.proofs.Merges.{new, same_merge, same_lines, same_replies}
 use Rattle.ee_desk_laws.proofs.DayEnd.{closes, flat_blank}
@@ -24,7 +24,7 @@ in_turn i [] = []
 in_turn i (t ∷ tellers) = map (tag i) t ++ in_turn (i + 1) tellers
 
 asked_append : (j : ℕ) (xs ys : List Asked) → asked_by j (xs ++ ys) ≡ asked_by j xs ++ asked_by j ys
-asked_append j xs ys = ap requests (filter_append (λ a. a.teller == j) xs ys) ∙ map_append (λ (a : Asked). a.request) (filter (λ a. a.teller == j) xs) (filter (λ a. a.teller == j) ys)
+asked_append j xs ys = ap requests (filter-append (λ a. a.teller == j) xs ys) ∙ map-append (λ (a : Asked). a.request) (filter (λ a. a.teller == j) xs) (filter (λ a. a.teller == j) ys)
 
 asked_tagged : (j i : ℕ) (b : Bool) → (i == j) ≡ b → (t : List Request) → asked_by j (map (tag i) t) ≡ cond b t []
 asked_tagged j i true e [] = refl

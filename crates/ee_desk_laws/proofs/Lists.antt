@@ -1,16 +1,9 @@
 -- Lists: what is found, kept by a test, and stands in them.
-use Rattle.std.proofs.Common.{◌≡◌, ◌⊎◌, inl, inr, ℕ, Bool, true, false, cond, ◌||◌, eqb, List, [], ◌∷◌, ◌++◌, map, find, Option, Some, None, refl, sym, ap, ◌∙◌, subst}
+use Rattle.std.proofs.Common.{◌≡◌, ◌⊎◌, inl, inr, ℕ, Bool, true, false, cond, ◌||◌, eqb, List, [], ◌∷◌, ◌++◌, map, Option, Some, None, refl, sym, ap, ◌∙◌, subst}
 use Rattle.std.specs.Option.{option_map, option_or}
 use Rattle.std.specs.List.{AllByRecursion, filter, list_any}
 use Rattle.std.proofs.lemmas.Bool.{eq-eqb}
-
-pub find_append : {A : Type 0} (p : A → Bool) (xs ys : List A) → find p (xs ++ ys) ≡ option_or (find p xs) (find p ys)
-find_append p [] ys = refl
-find_append p (x ∷ xs) ys = by_case (p x) (find_append p xs ys)
-  where
-    by_case : (b : Bool) → find p (xs ++ ys) ≡ option_or (find p xs) (find p ys) → cond b (Some x) (find p (xs ++ ys)) ≡ option_or (cond b (Some x) (find p xs)) (find p ys)
-    by_case true h = refl
-    by_case false h = h
+use Rattle.std.proofs.Math.Bool.{or-true}
 
 map_or : {A B : Type 0} (h : A → B) (x y : Option A) → option_map h (option_or x y) ≡ option_or (option_map h x) (option_map h y)
 map_or h None y = refl
@@ -23,18 +16,6 @@ map_map g f (Some x) = refl
 -- two options in place of one another, in front and behind
 pub or_alike : {A B : Type 0} (h : A → B) (x y u v : Option A) → option_map h x ≡ option_map h y → option_map h u ≡ option_map h v → option_map h (option_or x u) ≡ option_map h (option_or y v)
 or_alike h x y u v e f = map_or h x u ∙ (λ i. option_or (e i) (f i)) ∙ sym (map_or h y v)
-
-pub map_append : {A B : Type 0} (f : A → B) (xs ys : List A) → map f (xs ++ ys) ≡ map f xs ++ map f ys
-map_append f [] ys = refl
-map_append f (x ∷ xs) ys = ap (λ l. f x ∷ l) (map_append f xs ys)
-
-pub filter_append : {A : Type 0} (p : A → Bool) (xs ys : List A) → filter p (xs ++ ys) ≡ filter p xs ++ filter p ys
-filter_append p [] ys = refl
-filter_append p (x ∷ xs) ys = by_case (p x) (filter_append p xs ys)
-  where
-    by_case : (b : Bool) → filter p (xs ++ ys) ≡ filter p xs ++ filter p ys → cond b (x ∷ filter p (xs ++ ys)) (filter p (xs ++ ys)) ≡ cond b (x ∷ filter p xs) (filter p xs) ++ filter p ys
-    by_case true h = ap (λ l. x ∷ l) h
-    by_case false h = h
 
 abbrev pub In : {A : Type 0} → A → List A → Type 0
 In x [] = ⊥
@@ -49,14 +30,10 @@ of_all P x [] h i = absurd i
 of_all P x (y ∷ ys) h (inl is) = subst P is h.0
 of_all P x (y ∷ ys) h (inr i) = of_all P x ys h.1 i
 
-pub or_true : (b : Bool) → (b || true) ≡ true
-or_true true = refl
-or_true false = refl
-
 pub any_in : {A : Type 0} (p : A → Bool) (x : A) (xs : List A) → In x xs → p x ≡ true → list_any p xs ≡ true
 any_in p x [] i h = absurd i
 any_in p x (y ∷ ys) (inl is) h = ap (λ b. b || list_any p ys) (ap p is ∙ h)
-any_in p x (y ∷ ys) (inr i) h = ap (λ b. p y || b) (any_in p x ys i h) ∙ or_true (p y)
+any_in p x (y ∷ ys) (inr i) h = ap (λ b. p y || b) (any_in p x ys i h) ∙ or-true (p y)
 
 pub in_map : {A B : Type 0} (f : A → B) (x : A) (xs : List A) → In x xs → In (f x) (map f xs)
 in_map f x [] i = absurd i

@@ -1,5 +1,5 @@
 -- Two merges of the same lists.
-use Rattle.std.proofs.Common.{◌≡◌, inl, inr, ◌==◌, ℕ, zero, suc, ◌+◌, ◌≤◌, Bool, true, false, cond, ◌||◌, ◌&&◌, eqb, List, [], ◌∷◌, ◌++◌, map, length, drop, arith, refl, sym, ap, ◌∙◌, subst}
+use Rattle.std.proofs.Common.{◌≡◌, inl, inr, ◌==◌, ℕ, zero, suc, ◌+◌, ◌≤◌, Bool, true, false, cond, ◌||◌, eqb, List, [], ◌∷◌, ◌++◌, map, length, drop, arith, refl, sym, ap, ◌∙◌, subst}
 use Rattle.std.specs.List.{AllByRecursion, filter, list_any, flat_map}
 use Rattle.std.specs.List.Sorted.{IsPermutation}
 use Rattle.std.proofs.lemmas.List.Sorted.{length_permutation}
@@ -11,7 +11,7 @@ use Rattle.ee_desk_acts.specs.declared.acts.Request.{Request}
 use Rattle.ee_desk_acts.specs.Serials.{same_serial}
 use Rattle.ee_desk_acts.specs.Refusals.{most_tickets}
 use Rattle.ee_desk_acts.specs.Numbers.{Number, number_of}
-use Rattle.ee_desk_acts.proofs.Lemmas.Maps.{same_number-self}
+use Rattle.ee_desk_acts.proofs.Lemmas.Maps.{same_number-self, same_serial-self}
 use Rattle.ee_desk_acts.specs.Repeats.{Content}
 use Rattle.ee_desk_acts.specs.Contents.{books_after}
 use Rattle.ee_desk_acts.specs.Answers.{is_of}
@@ -40,14 +40,11 @@ has_serial s r = list_any (same_serial s) (serials_of r.act)
 abbrev serials_in : List Request → SerialNumber → Bool
 serials_in rs s = list_any (has_serial s) rs
 
-serial_self : (s : SerialNumber) → same_serial s s ≡ true
-serial_self s = ap (λ b. b && eqb s.number s.number) (eq_self s.letter) ∙ eq_self s.number
-
 own_fits : (S : Content) (rs : List Request) (q : Request) → In q rs → IsRedeem q.act → Fits S (serials_in rs) (numbers_of rs) true q
 own_fits S rs q i redeem = record {
   redeem = redeem;
   number = any_in (is_of (number_of q)) q rs i (same_number-self (number_of q));
-  serials = all_in (λ s. serials_in rs s ≡ true) (serials_of q.act) (λ s j. any_in (has_serial s) q rs i (any_in (same_serial s) s (serials_of q.act) j (serial_self s)));
+  serials = all_in (λ s. serials_in rs s ≡ true) (serials_of q.act) (λ s j. any_in (has_serial s) q rs i (any_in (same_serial s) s (serials_of q.act) j (same_serial-self s)));
 }
 
 no_number : (q : Request) (rs : List Request) → AllByRecursion (AreStrange q) rs → numbers_of rs (number_of q) ≡ false

@@ -5,8 +5,10 @@ use Rattle.std.specs.List.{AllByRecursion, filter, list_any, count_by, sum_by}
 use Rattle.std.specs.FinMap as finite
 use Rattle.std.specs.FinMap.{FinMap}
 use Rattle.std.proofs.lemmas.Bool.{eqb-true, lt-ltb, lt-leb}
-use Rattle.std.proofs.lemmas.List.{length-map, drop_at}
+use Rattle.std.proofs.lemmas.List.{length-map, drop_at, map-append}
 use Rattle.std.proofs.lemmas.List.Sums.{length-filter, count_by-le-length, sum_by-append}
+use Rattle.std.proofs.lemmas.List.Elements.{filter-append}
+use Rattle.std.proofs.lemmas.List.Folds.{find-append}
 use Rattle.ee_units.specs.Spelling.{SerialNumber}
 use Rattle.ee_desk_acts.specs.declared.acts.Act.{Act}
 use Rattle.ee_desk_acts.specs.declared.acts.Act.TheVariants.{AddRates, AddBonds, OpenDay, Redeem, CloseDay}
@@ -38,7 +40,7 @@ use Rattle.ee_desk_acts.specs.Contents.{content_after, books_after}
 use Rattle.ee_desk_acts.specs.Answers.{answer, answer_for, reply_again}
 use Rattle.ee_desk_laws.specs.Tellers.{Asked, requests, asked_by, IsRedeem, open_tickets, told, for_teller, old_number, unnumbered_refusal, unnumbered}
 use Rattle.ee_desk_acts.specs.Views.{serials_of}
-use Rattle.ee_desk_laws.proofs.Lists.{filter_append, find_append, map_append, map_map, or_alike}
+use Rattle.ee_desk_laws.proofs.Lists.{map_map, or_alike}
 
 -- a ticket without its number
 abbrev pub blank : Ticket → Ticket
@@ -159,11 +161,11 @@ module _ (S : Content) (mine : SerialNumber → Bool) (own : Number → Bool) wh
       → option_map (old_number before) (ticket_of (S.books.tickets ++ new_m) s) ≡ option_map (old_number before) (ticket_of (S.books.tickets ++ new_t) s)
   same_ticket new_m new_t kept_m kept_t a s m =
       map_map (old_number before) (λ t. t.ticket) (find (names s) (S.books.tickets ++ new_m))
-      ∙ ap (option_map (λ t. old_number before t.ticket)) (find_append (names s) S.books.tickets new_m)
+      ∙ ap (option_map (λ t. old_number before t.ticket)) (find-append (names s) S.books.tickets new_m)
       ∙ or_alike (λ t. old_number before t.ticket) (find (names s) S.books.tickets) (find (names s) S.books.tickets) (find (names s) new_m) (find (names s) new_t) refl
       (found_above s new_m a.above_m ∙ ap (option_map nought) (found_mine s new_m m) ∙ found_blank s (filter pays new_m)
       ∙ ap (λ l. option_map nought (find (names s) l)) a.same ∙ sym (found_blank s new_t) ∙ sym (found_above s new_t a.above_t))
-      ∙ sym (ap (option_map (λ t. old_number before t.ticket)) (find_append (names s) S.books.tickets new_t))
+      ∙ sym (ap (option_map (λ t. old_number before t.ticket)) (find-append (names s) S.books.tickets new_t))
       ∙ sym (map_map (old_number before) (λ t. t.ticket) (find (names s) (S.books.tickets ++ new_t)))
 
   -- what a ticket's request is refused for
@@ -272,8 +274,8 @@ module _ (S : Content) (mine : SerialNumber → Bool) (own : Number → Bool) wh
       → map blank (filter pays new_m) ≡ map blank new_t → map blank (filter pays (added new_m day payee ss o)) ≡ map blank (added new_t day payee ss p)
   same_more new_m new_t day payee ss None None e own_ticket h =
       let t = ticket_of_request new_m day payee ss in
-      ap (map blank) (filter_append pays new_m (t ∷ []) ∙ ap (λ b. filter pays new_m ++ cond b (t ∷ []) []) (own_ticket refl))
-      ∙ map_append blank (filter pays new_m) (t ∷ []) ∙ (λ i. h i ++ blank_same new_m new_t day payee ss i ∷ []) ∙ sym (map_append blank new_t (ticket_of_request new_t day payee ss ∷ []))
+      ap (map blank) (filter-append pays new_m (t ∷ []) ∙ ap (λ b. filter pays new_m ++ cond b (t ∷ []) []) (own_ticket refl))
+      ∙ map-append blank (filter pays new_m) (t ∷ []) ∙ (λ i. h i ++ blank_same new_m new_t day payee ss i ∷ []) ∙ sym (map-append blank new_t (ticket_of_request new_t day payee ss ∷ []))
   same_more new_m new_t day payee ss None (Some r) e own_ticket h = absurd (cc)
   same_more new_m new_t day payee ss (Some r) None e own_ticket h = absurd (cc)
   same_more new_m new_t day payee ss (Some r) (Some q) e own_ticket h = h
@@ -281,7 +283,7 @@ module _ (S : Content) (mine : SerialNumber → Bool) (own : Number → Bool) wh
   same_passed : (new : List Ticket) (day payee : ℕ) (ss : List SerialNumber) (o : Option Refusal) → AllByRecursion (λ s. mine s ≡ false) ss → filter pays (added new day payee ss o) ≡ filter pays new
   same_passed new day payee ss None h =
       let t = ticket_of_request new day payee ss in
-      filter_append pays new (t ∷ []) ∙ ap (λ b. filter pays new ++ cond b (t ∷ []) []) (pays_none new day payee ss h) ∙ append-nil (filter pays new)
+      filter-append pays new (t ∷ []) ∙ ap (λ b. filter pays new ++ cond b (t ∷ []) []) (pays_none new day payee ss h) ∙ append-nil (filter pays new)
   same_passed new day payee ss (Some r) h = refl
 
   grows : (new : List Ticket) (day payee : ℕ) (ss : List SerialNumber) (o : Option Refusal) → length (added new day payee ss o) ≤ length new + 1

@@ -3,6 +3,7 @@ use Rattle.std.proofs.Common.{◌≡◌, inl, inr, zero, suc, ◌<◌, Bool, tru
 use Rattle.std.specs.List.{AllByRecursion, Contains, count_by, filter, list_any}
 use Rattle.std.proofs.lemmas.List.Sums.{length-filter}
 use Rattle.std.specs.FinMap as finite
+use Rattle.std.proofs.Math.Bool.{or-true, or-false}
 use Rattle.ee_desk_acts.specs.declared.acts.Request.{Request}
 use Rattle.ee_desk_acts.specs.Numbers.{Number, same_number, number_of}
 use Rattle.ee_desk_acts.proofs.Lemmas.Maps.{same_number-is, same_number-self, all_weaker}
@@ -59,14 +60,6 @@ split (Stop_within q ∷ events) again all (inr h) = let s = split events again 
 split (Stop_between ∷ events) again all h = split events again all h
 split (Reopen ∷ events) again all h = split events again all h
 
-or_false : (b : Bool) → (b || false) ≡ b
-or_false true = refl
-or_false false = refl
-
-or_true : (b : Bool) → (b || true) ≡ true
-or_true true = refl
-or_true false = refl
-
 -- the requests of a number that stand after one
 abbrev later : (Number → Bool) → Number → Request → List Request → List Request
 later known n q all = filter (is_of n) (firsts (λ m. known m || same_number m (number_of q)) all)
@@ -102,9 +95,9 @@ stands_once known n (q ∷ all) new h =
     by_case true true e same skip more none = absurd (true≢false (sym e ∙ ap known (sym (same_number-is n (number_of q) same)) ∙ new))
     by_case true false e apart skip more none = skip (sym (ap (λ c. c || list_any (is_of n) all) apart) ∙ h)
     by_case false true e same skip more none =
-        (q, ap (λ c. cond c (q ∷ later known n q all) (later known n q all)) same ∙ ap (λ l. q ∷ l) (none (ap (λ c. known n || c) same ∙ or_true (known n))))
+        (q, ap (λ c. cond c (q ∷ later known n q all) (later known n q all)) same ∙ ap (λ l. q ∷ l) (none (ap (λ c. known n || c) same ∙ or-true (known n))))
     by_case false false e apart skip more none =
-        let m = more (ap (λ c. known n || c) apart ∙ or_false (known n) ∙ new) (sym (ap (λ c. c || list_any (is_of n) all) apart) ∙ h) in
+        let m = more (ap (λ c. known n || c) apart ∙ or-false (known n) ∙ new) (sym (ap (λ c. c || list_any (is_of n) all) apart) ∙ h) in
         (m.0, ap (λ c. cond c (q ∷ later known n q all) (later known n q all)) apart ∙ m.1)
 
 counted : (n : Number) (xs : List Request) → IsOne (filter (is_of n) xs) → count_by (is_of n) xs ≡ 1
@@ -112,12 +105,12 @@ counted n xs h = sym (length-filter (is_of n) xs) ∙ ap (λ (l : List Request).
 
 any_append : (n : Number) (xs ys : List Request) → list_any (is_of n) ys ≡ true → list_any (is_of n) (xs ++ ys) ≡ true
 any_append n [] ys h = h
-any_append n (x ∷ xs) ys h = ap (λ b. is_of n x || b) (any_append n xs ys h) ∙ or_true (is_of n x)
+any_append n (x ∷ xs) ys h = ap (λ b. is_of n x || b) (any_append n xs ys h) ∙ or-true (is_of n x)
 
 any_of : (q : Request) (xs : List Request) → Contains xs q → list_any (is_of (number_of q)) xs ≡ true
 any_of q [] c = absurd (omega (arith, c.1))
 any_of q (x ∷ xs) (zero, below, is) = ap (λ b. b || list_any (is_of (number_of q)) xs) (ap (λ (r : Request). same_number (number_of q) (number_of r)) is ∙ same_number-self (number_of q))
-any_of q (x ∷ xs) (suc k, below, is) = ap (λ b. is_of (number_of q) x || b) (any_of q xs (k, omega (arith, below), is)) ∙ or_true (is_of (number_of q) x)
+any_of q (x ∷ xs) (suc k, below, is) = ap (λ b. is_of (number_of q) x || b) (any_of q xs (k, omega (arith, below), is)) ∙ or-true (is_of (number_of q) x)
 
 stand_once : (start : Content) (done again asked : List Request) → AllByRecursion (Contains again) asked → StandOnce start (done ++ again) asked
 stand_once start done again [] h = tt

@@ -14,6 +14,7 @@ use Rattle.ee_desk_acts.proofs.Lemmas.Requests.{content_after-known, content_aft
 use Rattle.ee_desk_acts.specs.Repeats.{Content}
 use Rattle.ee_desk_acts.specs.Contents.{content_after}
 use Rattle.ee_desk_acts.specs.Answers.{answer, answer_for, reply_again}
+use Rattle.ee_desk_acts.proofs.Lemmas.Books.{some_from_is_some}
 use Rattle.ee_desk_laws.specs.Events.{Event, Told, World, begun, one, decided, stopped, Leads, Happens}
 use Rattle.ee_desk_laws.specs.Stops.{BeginsWith, AreDone, StillTold, IsOfEvents, SurvivesStops}
 use Rattle.ee_desk_laws.specs.Events.Event.{Deliver, Lose, Unserved, Stop_within, Stop_between, Reopen}
@@ -71,11 +72,6 @@ told_kept now C q k is here = record { kept = k; is = here; reply = ap (answer_f
 begins : (q : Request) (P : List Request → Type 0) (rest : List Request) → P rest → BeginsWith q P (q ∷ rest)
 begins q P rest h = (rest, refl, h)
 
--- the value of an option that is some
-known_as : {A : Type 0} (o : Option A) → is_some o ≡ true → (x : A) × (o ≡ Some x)
-known_as None h = absurd (true≢false (sym h))
-known_as (Some x) h = (x, refl)
-
 module _ (Goal : Content → Type 0) (Rest : List Request → Type 0) where
   after_one : (C : Content) (q : Request) → ((done : List Request) → BeginsWith q Rest done → Goal (content_after C done)) → (done : List Request) → Rest done → Goal (content_after (one C q) done)
   after_one C q ends done h = subst Goal (content_after-first C q done) (ends (q ∷ done) (begins q Rest done h))
@@ -106,7 +102,7 @@ module _ (Goal : Content → Type 0) (Rest : List Request → Type 0) where
 
       by_case : (b : Bool) → finite.contains_key w.now.kept (number_of q) ≡ b → AllFine Goal Rest (record { now = one w.now q; may = cond b w.may (one w.now q ∷ []); told = more; up = true })
       by_case true known =
-          let k = known_as (finite.get w.now.kept (number_of q)) known in
+          let k = some_from_is_some (finite.get w.now.kept (number_of q)) known in
           record { now = first; may = all_weaker _ _ (decided_may w.now w.told more q k.0 k.1 (again k.0 k.1)) w.may h.may }
       by_case false new = record { now = first; may = (first, tt) }
 

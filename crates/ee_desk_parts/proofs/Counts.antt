@@ -1,20 +1,21 @@
 -- The tickets of days, counted one after the other.
-use Rattle.std.proofs.Common.{◌≡◌, ℕ, ◌+◌, ◌*◌, ◌<◌, ◌≤◌, ◌==◌, eqb, Bool, true, false, cond, ◌||◌, List, [], ◌∷◌, ◌++◌, length, take, get_or, Option, Some, None, true≢false, arith, refl, sym, ap, ◌∙◌, subst}
+use Rattle.std.proofs.Common.{◌≡◌, ℕ, ◌+◌, ◌<◌, ◌≤◌, ◌==◌, eqb, Bool, true, false, cond, ◌||◌, List, [], ◌∷◌, ◌++◌, length, take, get_or, Option, Some, None, true≢false, arith, refl, sym, ap, ◌∙◌, subst, append-nil}
 use Rattle.std.specs.Prelude.{count_by}
 use Rattle.std.specs.Option.{option_map, IfSome, IsSome}
 use Rattle.std.specs.List.{AllByRecursion, list_any, sum_by}
 use Rattle.std.proofs.lemmas.Bool.{eqb-true, eq-eqb, false_from_ne_true}
 use Rattle.std.proofs.lemmas.List.Elements.{filter-append}
 use Rattle.std.proofs.lemmas.List.Folds.{list_any-append}
-use Rattle.std.proofs.lemmas.List.Sums.{sum_by-cons, sum_by_push, sum_by-take-le, length-filter}
+use Rattle.std.proofs.lemmas.List.Sums.{sum_by_push, sum_by-take-le, length-filter}
 use Rattle.std.proofs.lemmas.List.{length_push}
 use Rattle.std.specs.BTreeMap.{is_at}
 use Rattle.std.specs.Ordering.{nat_cmp}
 use Rattle.std.specs.Cmp.{unsigned_tied}
+use Rattle.std.proofs.Math.Bool.{or-false}
 use Rattle.ee_desk_acts.specs.declared.replies.Ticket.{Ticket}
 use Rattle.ee_desk_acts.specs.PlainBooks.{of_day, bonds_on, total_of}
 use Rattle.ee_desk_decide.specs.declared.views.DayCounts.{DayCounts}
-use Rattle.ee_desk_acts.proofs.Lemmas.Maps.{all_append, all_filter}
+use Rattle.ee_desk_acts.proofs.Lemmas.Maps.{all_append, all_filter, sum_by_le}
 use Rattle.ee_desk_parts.specs.Days.{counts_at, counts_on, no_counts, counted, AreNothing, AreCounted, HasMore, IsSmall, HasSpace, HasRoom, FitCounts, FitDays}
 use Rattle.ee_desk_parts.proofs.Walks.{taken_is, all_at, all_taken}
 
@@ -27,10 +28,6 @@ eqb_turned a b = by_case (eqb a b) refl
     by_case : (t : Bool) → eqb a b ≡ t → eqb a b ≡ eqb b a
     by_case true e = e ∙ sym (eq-eqb b a (sym (eqb-true a b e)))
     by_case false e = e ∙ sym (false_from_ne_true (eqb b a) (λ f. absurd (true≢false (sym (eq-eqb a b (sym (eqb-true b a f))) ∙ e))))
-
-pub or_none : (b : Bool) → (b || false) ≡ b
-or_none true = refl
-or_none false = refl
 
 -- ---- days begun
 either : {A : Type 0} (a b : Bool) (x y : A) → cond (a || b) x y ≡ cond b x (cond a x y)
@@ -48,15 +45,11 @@ begun es fs days more old new q =
 pub day_begun : (es fs : Counts) (day : ℕ) (c : DayCounts) → c ≡ no_counts → ((q : ℕ) → counts_at fs q ≡ cond (is_at (nat_cmp day) q) (Some c) (counts_at es q)) → HasMore es fs (day ∷ [])
 day_begun es fs day c none new q =
     new q ∙ (λ i. cond (is_at (nat_cmp day) q) (Some (none i)) (counts_at es q))
-    ∙ ap (λ b. cond b (Some no_counts) (counts_at es q)) (unsigned_tied day q ∙ eqb_turned day q ∙ sym (or_none (q == day)))
+    ∙ ap (λ b. cond b (Some no_counts) (counts_at es q)) (unsigned_tied day q ∙ eqb_turned day q ∙ sym (or-false (q == day)))
 
 -- ---- one ticket more
 day_push : (q : ℕ) (tickets : List Ticket) (t : Ticket) (b : Bool) → eqb t.day q ≡ b → of_day q (tickets ++ t ∷ []) ≡ of_day q tickets ++ cond b (t ∷ []) []
 day_push q tickets t b e = filter-append (λ u. eqb u.day q) tickets (t ∷ []) ∙ ap (λ c. of_day q tickets ++ cond c (t ∷ []) []) e
-
-no_push : {A : Type 0} (xs : List A) → xs ++ [] ≡ xs
-no_push [] = refl
-no_push (x ∷ xs) = ap (λ ys. x ∷ ys) (no_push xs)
 
 abbrev sums_of : List Ticket → DayCounts
 sums_of own = record { tickets = length own; bonds = sum_by bonds_on own; total = record { 0 = sum_by total_of own } }
@@ -71,7 +64,7 @@ counts_push q tickets t = ap (λ b. counted b t (counts_on tickets q)) (eqb_turn
     by_case true e =
         three _ _ _ _ _ _ (sym (length_push (of_day q tickets) t)) (sym (sum_by_push bonds_on (of_day q tickets) t)) (sym (sum_by_push total_of (of_day q tickets) t))
         ∙ sym (ap sums_of (day_push q tickets t true e))
-    by_case false e = sym (ap sums_of (day_push q tickets t false e ∙ no_push (of_day q tickets)))
+    by_case false e = sym (ap sums_of (day_push q tickets t false e ∙ append-nil (of_day q tickets)))
 
 -- counts in memory, with a ticket more
 pub counts_more : (start es fs : Counts) (tickets : List Ticket) (i : ℕ) (t : Ticket) → i < length tickets → t ≡ get_or tickets i t
@@ -167,13 +160,6 @@ no_room start es tickets i t h is are full fit = by_case (counts_at start t.day)
         over (omega (arith, push, same, most, part, one))
 
 -- ---- space
-sum_most : {A : Type 0} (f : A → ℕ) (k : ℕ) (xs : List A) → AllByRecursion (λ x. f x ≤ k) xs → sum_by f xs ≤ length xs * k
-sum_most f k [] h = omega arith
-sum_most f k (x ∷ xs) h =
-    let cons = sum_by-cons f x xs in
-    let rest = sum_most f k xs h.1 in
-    let here = h.0 in omega (arith, cons, rest, here)
-
 few_lines : (tickets : List Ticket) → AllByRecursion IsSmall tickets → AllByRecursion (λ t. bonds_on t ≤ 100) tickets
 few_lines [] h = tt
 few_lines (t ∷ tickets) h = (h.0.0, few_lines tickets h.1)
@@ -188,8 +174,8 @@ space_in t own c small here now r =
     let a = ap (λ (x : DayCounts). x.tickets) now in
     let b = ap (λ (x : DayCounts). x.bonds) now in
     let d = ap (λ (x : DayCounts). x.total.0) now in
-    let bonds = sum_most bonds_on 100 own (few_lines own small) in
-    let total = sum_most total_of 30449360000 own (small_totals own small) in
+    let bonds = sum_by_le bonds_on 100 own (few_lines own small) in
+    let total = sum_by_le total_of 30449360000 own (small_totals own small) in
     let lines = here.0 in
     let sum = here.1 in
     (r, omega (arith, a, b, bonds, lines, r), omega (arith, a, d, total, sum, r))

@@ -1,9 +1,8 @@
 -- Lists in order, walked from the front.
-use Rattle.std.proofs.Common.{◌≡◌, ◌↔◌, ℕ, ◌+◌, ◌<◌, ◌≤◌, List, [], ◌∷◌, ◌++◌, Option, Some, None, length, drop, get_or, arith, refl, ap, ◌∙◌, subst}
+use Rattle.std.proofs.Common.{◌≡◌, ◌↔◌, ℕ, ◌+◌, ◌<◌, ◌≤◌, List, [], ◌∷◌, Option, Some, None, length, drop, get_or, arith, ap, ◌∙◌, subst}
 use Rattle.std.specs.Option.{IfSome}
 use Rattle.std.specs.List.{AllByRecursion}
-use Rattle.ee_desk_acts.specs.declared.replies.Batch.{Batch}
-use Rattle.ee_desk_acts.specs.Sound.{open_days, last_of}
+use Rattle.ee_desk_acts.specs.Sound.{open_days}
 use Rattle.ee_desk_acts.proofs.Lemmas.Maps.{serials_total}
 use Rattle.ee_units.specs.Spelling.{SerialNumber}
 use Rattle.ee_desk_parts.specs.Checks.{InOrder, IsAfter, IsBefore}
@@ -57,11 +56,6 @@ open_follows R None None = (λ h. (tt, tt), λ h. tt)
 open_follows R (Some l) None = (λ h. (tt, tt), λ h. tt)
 open_follows R None (Some d) = (λ h. (tt, (tt, tt)), λ h. tt)
 open_follows R (Some l) (Some d) = (λ h. ((h, tt), (tt, tt)), λ h. h.0.0)
-
-pub last_push : (batches : List Batch) (batch : Batch) → last_of (batches ++ batch ∷ []) ≡ Some batch.day
-last_push [] batch = refl
-last_push (b ∷ []) batch = refl
-last_push (b ∷ c ∷ batches) batch = last_push (c ∷ batches) batch
 
 pub in_order_map : {K : Type 0} (R S : K → K → Type 0) → ((a b : K) → R a b → S a b) → (ks : List K) → InOrder R ks → InOrder S ks
 in_order_map {K} R S f [] h = tt

@@ -1,16 +1,17 @@
 -- Lemmas that the proofs of crates above use.
-use Rattle.std.proofs.Common.{List, None, [], map, ℕ, ◌++◌, ◌∷◌, ◌≡◌}
+use Rattle.std.proofs.Common.{Bool, List, None, [], map, ℕ, ◌++◌, ◌||◌, ◌∷◌, ◌≡◌}
 use Rattle.std.specs.Cmp.{IsTotalOrder}
 use Rattle.std.specs.FinMap.{FinMap}
 use Rattle.std.specs.List.{AllByRecursion, list_any}
 use Rattle.std.specs.Option.{IfSome, option_map}
 use Rattle.std.specs.declared.cmp.Ordering.{Ordering}
+use Rattle.std.specs.declared.cmp.Ordering.TheVariants.{Less}
 use Rattle.std.proofs.lemmas.Map.Lookups.{CmpEqualImpliesEq}
 use Rattle.ee_desk_acts.specs.PlainBooks.{PlainBooks, ticket_of}
 use Rattle.ee_desk_acts.specs.Serials.{same_serial}
 use Rattle.ee_desk_acts.specs.declared.changes.Held.{Held}
 use Rattle.ee_desk_acts.specs.declared.replies.Ticket.{Ticket}
-use Rattle.ee_desk_parts.specs.Checks.{HaveRisingMonths, HaveRisingSerials, bonds_in, books_of, entry_of_row}
+use Rattle.ee_desk_parts.specs.Checks.{HaveRisingMonths, HaveRisingSerials, InOrder, bonds_in, books_of, entry_of_row}
 use Rattle.ee_desk_parts.specs.Marks.{AreMarked, bonds_held, held_at, marked}
 use Rattle.ee_desk_parts.specs.Parts.{parts_of}
 use Rattle.ee_desk_parts.specs.declared.parts.Parts.{Parts}
@@ -20,6 +21,7 @@ use Rattle.std.specs.FinMap as finite
 use Rattle.ee_desk_parts.proofs.PaidMarks
 use Rattle.ee_desk_parts.proofs.SortedRows
 use Rattle.ee_desk_parts.proofs.SoundParts
+use Rattle.ee_desk_parts.proofs.Walks
 
 -- ---- bonds and their tickets
 -- the bond of a serial number is that which is held of it
@@ -45,6 +47,11 @@ pub books_of-made : (parts : Parts) (terms : List (ℕ × Rates)) (held : List (
     (record { rates = finite.from_entries terms; bonds = bonds_held held; day = parts.day; last_day = parts.last_day; tickets = parts.tickets; batches = parts.batches }) (books_of parts)
 books_of-made = SoundParts.books_made
 
+-- ---- lists
+-- one element more: the test finds it, or another
+pub list_any_push : {A : Type 0} (p : A → Bool) (xs : List A) (y : A) → list_any p (xs ++ y ∷ []) ≡ (p y || list_any p xs)
+list_any_push = Walks.any_push
+
 -- ---- finite maps
 -- what each value has that is found, each entry has
 pub all_entries : {K V : Type 0} {R : K → K → Ordering} (o : IsTotalOrder R) (exact : CmpEqualImpliesEq R) (P : K → V → Type 0) (m : FinMap R V)
@@ -60,3 +67,8 @@ get_all = SortedRows.get_all
 pub map_of_entries : {K V : Type 0} (R : K → K → Ordering) → IsTotalOrder R → CmpEqualImpliesEq R → (m : FinMap R V)
     → finite.from_entries (finite.entries m) ≡ m
 map_of_entries = SortedRows.map_of_entries
+
+-- the map of entries whose keys rise has these entries
+pub entries_of_rising : {K V : Type 0} (R : K → K → Ordering) → IsTotalOrder R → CmpEqualImpliesEq R → (es : List (K × V))
+    → InOrder (λ a b. R a b ≡ Less) (map (λ e. e.0) es) → finite.entries (finite.from_entries {R = R} es) ≡ es
+entries_of_rising = SortedRows.entries_are

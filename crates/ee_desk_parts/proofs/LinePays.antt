@@ -10,7 +10,7 @@ use Rattle.ee_desk_acts.specs.declared.replies.Line.{Line}
 use Rattle.ee_desk_acts.specs.declared.replies.Ticket.{Ticket}
 use Rattle.ee_desk_acts.specs.Serials.{serial_cmp}
 use Rattle.ee_desk_acts.specs.Values.{value_of}
-use Rattle.ee_desk_acts.specs.PlainBooks.{is_payee}
+use Rattle.ee_calculator.specs.Bonds.{is_payee}
 use Rattle.ee_desk_acts.specs.Sound.{IsRightLine}
 use Rattle.ee_desk_parts.specs.Checks.{PaysBond}
 

@@ -1,6 +1,5 @@
 -- What is made of parts.
-use Rattle.std.proofs.Common.{◌≡◌, ℕ, List, [], map, Result, Ok, Err, sym, ap, ◌∙◌, subst}
-use Rattle.std.specs.Result.{IfErr}
+use Rattle.std.proofs.Common.{◌≡◌, ℕ, List, [], map, sym, ap, ◌∙◌, subst}
 use Rattle.std.specs.List.{AllByRecursion}
 use Rattle.std.specs.FinMap as finite
 use Rattle.ee_units.specs.Spelling.{SerialNumber}
@@ -16,10 +15,6 @@ use Rattle.ee_desk_parts.specs.Marks.{bonds_held, unpaid, AreMarked}
 use Rattle.ee_desk_parts.specs.Days.{days_of, counts_in, IsSmall}
 use Rattle.ee_desk_parts.specs.Made.{IsMadeOf}
 use Rattle.ee_desk_parts.proofs.SoundParts.{unsound, passed, register_is, paid_is, closed_is, unpaid_bonds, none_marked, rates_right, all_small}
-
-pub if_err : {A E : Type 0} {P Q : E → Type 0} (r : Result A E) → ((e : E) → P e → Q e) → IfErr r P → IfErr r Q
-if_err (Ok x) f h = h
-if_err (Err e) f h = f e h
 
 module _ (parts : Parts) (terms : List (ℕ × Rates)) (held : List (SerialNumber × Held)) (rates : terms ≡ map entry_of_row parts.rates) (bonds : held ≡ map unpaid parts.bonds) where
   pub unmarked : AreMarked held []

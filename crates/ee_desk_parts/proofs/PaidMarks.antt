@@ -1,18 +1,18 @@
 -- Marks of tickets on bonds.
-use Rattle.std.proofs.Common.{◌≡◌, ℕ, Bool, true, false, cond, ◌||◌, List, [], ◌∷◌, ◌++◌, Option, Some, None, map, true≢false, refl, sym, ap, ◌∙◌, subst}
+use Rattle.std.proofs.Common.{◌≡◌, ℕ, Bool, true, false, cond, List, [], ◌∷◌, ◌++◌, Option, Some, None, map, refl, sym, ap, ◌∙◌, subst}
 use Rattle.std.specs.Option.{option_map, option_or, IfSome}
-use Rattle.std.specs.List.{list_any, find, AllByRecursion}
+use Rattle.std.specs.List.{list_any, AllByRecursion}
 use Rattle.std.specs.Map.{lookup}
 use Rattle.std.specs.BTreeMap.{is_at}
 use Rattle.std.specs.FinMap as finite
 use Rattle.std.specs.FinMap.{same_map}
 use Rattle.ee_units.specs.Spelling.{SerialNumber}
 use Rattle.ee_desk_acts.specs.declared.changes.Held.{Held}
-use Rattle.ee_desk_acts.specs.declared.replies.Line.{Line}
 use Rattle.ee_desk_acts.specs.declared.replies.Ticket.{Ticket}
 use Rattle.ee_desk_acts.specs.Serials.{serial_cmp, same_serial}
 use Rattle.ee_desk_acts.specs.PlainBooks.{ticket_of, names}
 use Rattle.ee_desk_acts.proofs.Lemmas.Maps.{serials_total, serials_exact, serials_tied, same_serial-swap, same_serial-is, get_lookup}
+use Rattle.ee_desk_acts.proofs.Lemmas.Books.{ticket_of_push, named_unpaid}
 use Rattle.ee_desk_parts.specs.Marks.{bonds_held, held_at, AreMarked, marked}
 
 bond_if : (b : Bool) (h : Held) (o : Option Held) → cond b (Some h.bond) (option_map (λ x. x.bond) o) ≡ option_map (λ x. x.bond) (cond b (Some h) o)
@@ -51,19 +51,6 @@ pub mark_one : (es fs : List (SerialNumber × Held)) (s : SerialNumber) (h : Hel
 mark_one es fs s h n at is q = mark_case es fs s h n q (same_serial q s) at refl
     (is q ∙ ap (λ b. cond b (Some (record { bond = h.bond; ticket = Some n })) (held_at es q)) (serials_tied s q ∙ same_serial-swap s q))
 
-or_push : (b c : Bool) (t u : Ticket) (o p : Option Ticket) → option_map (λ x. x.ticket) o ≡ option_or (option_map (λ x. x.ticket) p) (cond c (Some t.ticket) None)
-    → option_map (λ x. x.ticket) (cond b (Some u) o) ≡ option_or (option_map (λ x. x.ticket) (cond b (Some u) p)) (cond c (Some t.ticket) None)
-or_push true c t u o p h = refl
-or_push false c t u o p h = h
-
-last_named : (b : Bool) (t : Ticket) → option_map (λ x. x.ticket) (cond b (Some t) None) ≡ cond b (Some t.ticket) None
-last_named true t = refl
-last_named false t = refl
-
-ticket_of_push : (tickets : List Ticket) (t : Ticket) (q : SerialNumber) → ticket_of (tickets ++ t ∷ []) q ≡ option_or (ticket_of tickets q) (cond (names q t) (Some t.ticket) None)
-ticket_of_push [] t q = last_named (names q t) t
-ticket_of_push (u ∷ tickets) t q = or_push (names q u) (names q t) t u (find (names q) (tickets ++ t ∷ [])) (find (names q) tickets) (ticket_of_push tickets t q)
-
 or_right_none : {A : Type 0} (o : Option A) → option_or o None ≡ o
 or_right_none None = refl
 or_right_none (Some x) = refl
@@ -74,19 +61,10 @@ mark_paid old n None b free h = tt
 mark_paid old n (Some held) true free h = sym (ap (λ t. option_or t (Some n)) (free refl))
 mark_paid old n (Some held) false free h = h ∙ sym (or_right_none old)
 
-unpaid_of : (tickets : List Ticket) (q : SerialNumber) (lines : List Line) → AllByRecursion (λ line. ticket_of tickets line.serial ≡ None) lines
-    → list_any (λ line. same_serial q line.serial) lines ≡ true → ticket_of tickets q ≡ None
-unpaid_of tickets q [] h e = absurd (true≢false (sym e))
-unpaid_of tickets q (line ∷ lines) h e = by_case (unpaid_of tickets q lines h.1) (same_serial q line.serial) refl e
-  where
-    by_case : (list_any (λ l. same_serial q l.serial) lines ≡ true → ticket_of tickets q ≡ None) → (b : Bool) → same_serial q line.serial ≡ b → (b || list_any (λ l. same_serial q l.serial) lines) ≡ true → ticket_of tickets q ≡ None
-    by_case later true same any = ap (ticket_of tickets) (same_serial-is q line.serial same) ∙ h.0
-    by_case later false apart any = later any
-
 pub ticket_kept : (bonds new : List (SerialNumber × Held)) (tickets pushed : List Ticket) (t : Ticket)
     → AreMarked bonds tickets → AllByRecursion (λ line. ticket_of tickets line.serial ≡ None) t.lines → pushed ≡ tickets ++ t ∷ []
     → ((q : SerialNumber) → held_at new q ≡ option_map (marked (list_any (λ line. same_serial q line.serial) t.lines) t.ticket) (held_at bonds q))
     → AreMarked new pushed
 ticket_kept bonds new tickets pushed t kept free push marks q =
     subst (λ (p : Option Held × Option ℕ). IfSome p.0 (λ h. h.ticket ≡ p.1)) (λ i. (sym (marks q) i, sym (ap (λ ts. ticket_of ts q) push ∙ ticket_of_push tickets t q) i))
-    (mark_paid (ticket_of tickets q) t.ticket (held_at bonds q) (names q t) (unpaid_of tickets q t.lines free) (kept q))
+    (mark_paid (ticket_of tickets q) t.ticket (held_at bonds q) (names q t) (named_unpaid tickets q t.lines free) (kept q))

@@ -11,7 +11,7 @@ use Rattle.ee_desk_acts.specs.PlainBooks.{ticket_of}
 use Rattle.ee_desk_acts.specs.Paid.{paid_lines}
 use Rattle.ee_desk_acts.proofs.Lemmas.Maps.{same_serial-swap}
 use Rattle.ee_desk_parts.specs.Marks.{held_at, marked, IsFree, ArePayable, AreMarked}
-use Rattle.ee_desk_parts.proofs.Walks.{left_is, taken_is}
+use Rattle.ee_desk_parts.proofs.Walks.{left_is, taken_is, any_push}
 use Rattle.ee_desk_parts.proofs.PaidMarks.{ticket_kept}
 
 abbrev Entries : Type 0
@@ -99,15 +99,6 @@ module _ (es fs : List (SerialNumber × Held)) (tickets : List Ticket) (i : ℕ)
       ticket_kept es fs (take i tickets) (take (i + 1) tickets) t are
       (subst (λ (ls : List Line). AllByRecursion (λ line. ticket_of (take i tickets) line.serial ≡ None) ls) own unpaid) (taken_is tickets i t h is)
       (λ q. marks q ∙ ap (λ ls. option_map (marked (list_any (λ line. same_serial q line.serial) ls) t.ticket) (held_at es q)) own)
-
-any_push : {A : Type 0} (p : A → Bool) (xs : List A) (y : A) → list_any p (xs ++ y ∷ []) ≡ (p y || list_any p xs)
-any_push p [] y = refl
-any_push p (x ∷ xs) y = ap (λ b. p x || b) (any_push p xs y) ∙ swap (p x) (p y) (list_any p xs)
-  where
-    swap : (a b c : Bool) → (a || (b || c)) ≡ (b || (a || c))
-    swap true true c = refl
-    swap true false c = refl
-    swap false b c = refl
 
 marked_both : (a b : Bool) (n : ℕ) (o : Option Held) → option_map (marked a n) (option_map (marked b n) o) ≡ option_map (marked (a || b) n) o
 marked_both a b n None = refl

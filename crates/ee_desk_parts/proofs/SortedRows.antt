@@ -1,5 +1,5 @@
 -- The entries of the map of rows whose keys rise are the rows; and the entries of each map rise.
-use Rattle.std.proofs.Common.{◌≡◌, ℕ, ◌<◌, ◌==◌, Bool, true, false, cond, ◌&&◌, nat_lt, List, [], ◌∷◌, map, Option, Some, None, refl, sym, ap, ◌∙◌, subst}
+use Rattle.std.proofs.Common.{◌≡◌, ℕ, ◌<◌, ◌==◌, Bool, true, false, cond, nat_lt, List, [], ◌∷◌, map, Option, Some, None, refl, sym, ap, ◌∙◌, subst}
 use Rattle.std.specs.Prelude.{T}
 use Rattle.std.specs.Option.{IfSome}
 use Rattle.std.specs.List.{AllByRecursion}
@@ -13,19 +13,8 @@ use Rattle.std.specs.declared.cmp.Ordering.TheVariants.{Less, Equal, Greater}
 use Rattle.std.proofs.lemmas.Map.Lookups.{CmpEqualImpliesEq}
 use Rattle.std.proofs.lemmas.Bool.{ltb-true}
 use Rattle.std.proofs.lemmas.Map.Views.{tells_apart}
+use Rattle.std.proofs.Math.Facts.{and_yes, yes_and}
 use Rattle.ee_desk_parts.specs.Checks.{InOrder}
-
-and_T : (a b : Bool) → T a → T b → T (a && b)
-and_T true b p q = q
-and_T false b p q = absurd p
-
-front : (a b : Bool) → T (a && b) → T a
-front true b p = tt
-front false b p = p
-
-back : (a b : Bool) → T (a && b) → T b
-back true b p = p
-back false b p = absurd p
 
 lt_is : (r : Ordering) → T (is_lt r) → r ≡ Less
 lt_is Less h = refl
@@ -43,19 +32,19 @@ module _ {K V : Type 0} (R : K → K → Ordering) where
 
   below : (k : K) (es : List (K × V)) → AllByRecursion (λ y. R k y ≡ Less) (map (λ e. e.0) es) → T (below_all R k es)
   below k [] h = tt
-  below k (e ∷ es) h = and_T (is_lt (R k e.0)) (below_all R k es) (subst (λ r. T (is_lt r)) (sym h.0) tt) (below k es h.1)
+  below k (e ∷ es) h = yes_and (is_lt (R k e.0)) (below_all R k es) (subst (λ r. T (is_lt r)) (sym h.0) tt) (below k es h.1)
 
   is_ordered : (es : List (K × V)) → Sorted es → T (is_sorted R es)
   is_ordered [] h = tt
-  is_ordered (e ∷ es) h = and_T (below_all R e.0 es) (is_sorted R es) (below e.0 es h.0) (is_ordered es h.1)
+  is_ordered (e ∷ es) h = yes_and (below_all R e.0 es) (is_sorted R es) (below e.0 es h.0) (is_ordered es h.1)
 
   above : (k : K) (es : List (K × V)) → T (below_all R k es) → AllByRecursion (λ y. R k y ≡ Less) (map (λ e. e.0) es)
   above k [] h = tt
-  above k (e ∷ es) h = (lt_is (R k e.0) (front _ _ h), above k es (back _ _ h))
+  above k (e ∷ es) h = (lt_is (R k e.0) (and_yes _ _ h).0, above k es (and_yes _ _ h).1)
 
   ordered_is : (es : List (K × V)) → T (is_sorted R es) → Sorted es
   ordered_is [] h = tt
-  ordered_is (e ∷ es) h = (above e.0 es (front _ _ h), ordered_is es (back _ _ h))
+  ordered_is (e ∷ es) h = (above e.0 es (and_yes _ _ h).0, ordered_is es (and_yes _ _ h).1)
 
   -- the entries of a map rise
   pub entries_rise : (m : FinMap R V) → InOrder (λ a b. R a b ≡ Less) (map (λ e. e.0) (finite.entries m))
@@ -73,7 +62,7 @@ module _ {K V : Type 0} (R : K → K → Ordering) where
 module _ {K V : Type 0} {R : K → K → Ordering} (o : IsTotalOrder R) (exact : CmpEqualImpliesEq R) (P : K → V → Type 0) where
   absent : (q : K) (es : List (K × V)) → T (below_all R q es) → find R q es ≡ None
   absent q [] h = refl
-  absent q (e ∷ es) h = ap (λ b. cond b (Some e.1) (find R q es)) (apart (R q e.0) (front _ _ h)) ∙ absent q es (back _ _ h)
+  absent q (e ∷ es) h = ap (λ b. cond b (Some e.1) (find R q es)) (apart (R q e.0) (and_yes _ _ h).0) ∙ absent q es (and_yes _ _ h).1
 
   past : (e : K × V) (es : List (K × V)) (q : K) → T (below_all R e.0 es) → (b : Bool) → eq_by_cmp R q e.0 ≡ b
       → IfSome (cond b (Some e.1) (find R q es)) (P q) → IfSome (find R q es) (P q)
@@ -86,7 +75,7 @@ module _ {K V : Type 0} {R : K → K → Ordering} (o : IsTotalOrder R) (exact :
   all_in [] s h = tt
   all_in (e ∷ es) s h = (
     subst (λ b. IfSome (cond b (Some e.1) (find R e.0 es)) (P e.0)) ((eq_by_cmp_equiv o).refl e.0) (h e.0),
-    all_in es (back _ _ s) (λ q. past e es q (front _ _ s) (eq_by_cmp R q e.0) refl (h q)),
+    all_in es (and_yes _ _ s).1 (λ q. past e es q (and_yes _ _ s).0 (eq_by_cmp R q e.0) refl (h q)),
   )
 
   pub all_entries : (m : FinMap R V) → ((q : K) → IfSome (finite.get m q) (P q)) → AllByRecursion (λ e. P e.0 e.1) (finite.entries m)

@@ -16,7 +16,8 @@ use Rattle.ee_desk_acts.specs.declared.replies.Batch.{Batch}
 use Rattle.ee_desk_acts.specs.declared.replies.Line.{Line}
 use Rattle.ee_desk_acts.specs.declared.replies.Ticket.{Ticket}
 use Rattle.ee_desk_acts.specs.Values.{value_of}
-use Rattle.ee_desk_acts.specs.PlainBooks.{PlainBooks, is_payee, batch_of}
+use Rattle.ee_calculator.specs.Bonds.{is_payee}
+use Rattle.ee_desk_acts.specs.PlainBooks.{PlainBooks, batch_of}
 use Rattle.ee_desk_acts.specs.Paid.{paid_lines}
 use Rattle.ee_desk_acts.specs.Sound.{IsSound, IsRightRate, IsRightBond, IsRightTicket, NumberedFrom, day_of, last_of}
 use Rattle.ee_desk_parts.specs.Marks.{bonds_held, ArePayable}

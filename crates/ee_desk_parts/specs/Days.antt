@@ -7,6 +7,7 @@ use Rattle.std.specs.Ordering.{nat_cmp}
 use Rattle.ee_desk_acts.specs.declared.replies.Ticket.{Ticket}
 use Rattle.ee_desk_acts.specs.declared.replies.Batch.{Batch}
 use Rattle.ee_desk_acts.specs.PlainBooks.{of_day, bonds_on, total_of}
+use Rattle.ee_desk_acts.specs.Refusals.{most_tickets}
 use Rattle.ee_desk_acts.specs.Sound.{day_of_batch, open_days}
 use Rattle.ee_desk_decide.specs.declared.views.DayCounts.{DayCounts}
 
@@ -51,20 +52,20 @@ counted own ticket counts = if own then record { tickets = counts.tickets + 1; b
 
 -- counts that a small ticket can be added to
 abbrev pub HasSpace : Ticket → DayCounts → Type 0
-HasSpace ticket counts = (counts.tickets < 1000) × (counts.bonds + length ticket.lines ≤ 100000) × (counts.total.0 + ticket.total.0 ≤ 30449360000000)
+HasSpace ticket counts = (counts.tickets < most_tickets) × (counts.bonds + length ticket.lines ≤ 100000) × (counts.total.0 + ticket.total.0 ≤ 30449360000000)
 
 -- a day that is known has room for one ticket more
 abbrev pub HasRoom : Option DayCounts → Type 0
 HasRoom None = ⊥
-HasRoom (Some counts) = counts.tickets < 1000
+HasRoom (Some counts) = counts.tickets < most_tickets
 
 -- each ticket's day is one of these, and none has more than 1,000
 abbrev pub FitDays : List ℕ → List Ticket → Type 0
-FitDays days tickets = AllByRecursion (λ ticket. list_any (λ day. ticket.day == day) days ≡ true) tickets × ((day : ℕ) → count_by (λ ticket. ticket.day == day) tickets ≤ 1000)
+FitDays days tickets = AllByRecursion (λ ticket. list_any (λ day. ticket.day == day) days ≡ true) tickets × ((day : ℕ) → count_by (λ ticket. ticket.day == day) tickets ≤ most_tickets)
 
 -- the same, where the days are those that have counts
 abbrev pub FitCounts : List (ℕ × DayCounts) → List Ticket → Type 0
-FitCounts counts tickets = AllByRecursion (λ ticket. IsSome (counts_at counts ticket.day)) tickets × ((day : ℕ) → count_by (λ ticket. ticket.day == day) tickets ≤ 1000)
+FitCounts counts tickets = AllByRecursion (λ ticket. IsSome (counts_at counts ticket.day)) tickets × ((day : ℕ) → count_by (λ ticket. ticket.day == day) tickets ≤ most_tickets)
 
 -- the counts of a batch
 abbrev pub counts_in : Batch → DayCounts

@@ -5,16 +5,28 @@ ghost use Rattle.std.specs.Option.{option_map};
 ghost use Rattle.std.specs.List.{AllByRecursion};
 ghost use Rattle.ee_desk_acts.specs.Sound.{IsDay, last_of, open_days};
 ghost use Rattle.ee_desk_parts.specs.Checks.{InOrder, IsAfter};
-ghost use Rattle.ee_desk_parts.specs.Days.{counts_at, counts_on, days_of, no_counts, AreCounted, AreNothing, HasMore, IsSmall, HasSpace, counted, HasRoom, FitCounts, FitDays, IsCounted};
+ghost use Rattle.ee_desk_parts.specs.Days.{
+  counts_at,
+  counts_on,
+  days_of,
+  no_counts,
+  AreCounted,
+  AreNothing,
+  HasMore,
+  IsSmall,
+  HasSpace,
+  counted,
+  HasRoom,
+  FitCounts,
+  FitDays,
+  IsCounted,
+};
 
-use ee_desk_acts::{Batch, Ticket};
+use ee_desk_acts::{Batch, MOST_DAY_TICKETS, Ticket};
 use ee_desk_decide::DayCounts;
 use ee_units::{Cents, Day};
 use std::alloc::{AllocError, Global};
 use std::collections::BTreeMap;
-
-/// The most tickets of a day.
-const MOST_TICKETS: u64 = 1000;
 
 /// Whether a day is later than the last one.
 fn is_later(last: Option<Day>, day: Day) -> bool
@@ -126,7 +138,7 @@ fn has_room(counts: &BTreeMap<Day, DayCounts>, day: Day) -> bool
     ensures { (result ≡ true) ↔ HasRoom (counts_at counts.now.entries day) }
 {
     match counts.get(&day) {
-        Some(own) => own.tickets < MOST_TICKETS,
+        Some(own) => own.tickets < MOST_DAY_TICKETS,
         None => false,
     }
 }
@@ -172,7 +184,8 @@ pub fn counts_of(
     day: Option<Day>,
 ) -> Result<Option<BTreeMap<Day, DayCounts>>, AllocError>
     requires { AllByRecursion IsSmall tickets.now }
-    ensures some { IfOk result (λ counts. IfSome counts (λ map. FitDays (days_of batches.now day) tickets.now × AreCounted map.entries (days_of batches.now day) tickets.now)) }
+    ensures some { IfOk result (λ counts. IfSome counts (λ map. FitDays (days_of batches.now day) tickets.now
+        × AreCounted map.entries (days_of batches.now day) tickets.now)) }
     ensures none { IfOk result (λ counts. counts ≡ None → FitDays (days_of batches.now day) tickets.now → ⊥) }
 {
     let mut counts = empty_counts(alloc, batches, day)?;

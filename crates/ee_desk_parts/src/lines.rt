@@ -10,15 +10,11 @@ ghost use Rattle.ee_desk_parts.specs.Checks.{PaysBond};
 ghost use Rattle.ee_desk_parts.specs.Marks.{bonds_held};
 
 use ee_calculator::Bond;
-use ee_desk_acts::{Held, Line, Terms, Ticket};
-use ee_desk_decide::is_payee;
+use ee_desk_acts::{Held, Line, MOST_SERIALS, Terms, Ticket};
 use ee_units::calendar::{month_of, period_of};
 use ee_units::{Age, Cents, IssueMonth, Month, Serial};
 use ee_value::{Quote, bond_value};
 use std::collections::BTreeMap;
-
-/// The most lines of a ticket.
-const MOST_LINES: usize = 100;
 
 /// The age from which a bond can be redeemed, in months.
 const FIRST_REDEMPTION: u16 = 12;
@@ -43,7 +39,7 @@ fn pays_bond(rates: &BTreeMap<IssueMonth, Terms>, bond: &Bond, ticket: &Ticket, 
     ensures { (result ≡ true) ↔ PaysBond (finite.from_entries rates.now.entries) bond.now ticket.now line.now }
 {
     match rates.get(&period_of(bond.issued)) {
-        Some(terms) => is_payee(bond, ticket.payee)
+        Some(terms) => bond.is_payee(ticket.payee)
             && is_worth(terms, bond, month_of(ticket.day), line.cents),
         None => false,
     }
@@ -104,7 +100,7 @@ fn is_right_ticket(
 {
     let lines = ticket.lines.as_slice();
     !lines.is_empty()
-        && lines.len() <= MOST_LINES
+        && lines.len() <= MOST_SERIALS
         && are_right_lines(rates, bonds, ticket, lines)
         && sums_to(lines, ticket.total)
 }

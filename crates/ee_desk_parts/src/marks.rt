@@ -27,7 +27,8 @@ fn mark(bonds: &mut BTreeMap<Serial, Held>, serial: Serial, ticket: u64)
 
 /// Marks the bonds of these lines.
 pub fn mark_all(bonds: &mut BTreeMap<Serial, Held>, lines: &[Line], ticket: u64)
-    ensures marked { (q : SerialNumber) → held_at bonds.new.entries q ≡ option_map (marked (list_any (λ line. same_serial q line.serial) lines.now) ticket) (held_at bonds.old.entries q) }
+    ensures marked { (q : SerialNumber)
+        → held_at bonds.new.entries q ≡ option_map (marked (list_any (λ line. same_serial q line.serial) lines.now) ticket) (held_at bonds.old.entries q) }
     ensures bonds { bonds_held bonds.new.entries ≡ bonds_held bonds.old.entries }
 {
     for line in lines {
@@ -65,7 +66,8 @@ fn is_free(bonds: &BTreeMap<Serial, Held>, serial: Serial) -> bool
 fn mark_free(bonds: &mut BTreeMap<Serial, Held>, lines: &[Line], ticket: u64) -> bool
     ensures taken { result ≡ false → (more : List Line) → ArePayable bonds.old.entries (lines.now ++ more) → ⊥ }
     ensures free { result ≡ true → (more : List Line) → ArePayable bonds.old.entries (lines.now ++ more) ↔ ArePayable bonds.new.entries more }
-    ensures marked { result ≡ true → (q : SerialNumber) → held_at bonds.new.entries q ≡ option_map (marked (list_any (λ line. same_serial q line.serial) lines.now) ticket) (held_at bonds.old.entries q) }
+    ensures marked { result ≡ true → (q : SerialNumber)
+        → held_at bonds.new.entries q ≡ option_map (marked (list_any (λ line. same_serial q line.serial) lines.now) ticket) (held_at bonds.old.entries q) }
 {
     for line in lines {
         if !is_free(bonds, line.serial) {

@@ -10,9 +10,8 @@ ghost use Rattle.ee_desk_parts.specs.Checks.{HaveRisingMonths, IsRightRow, IsRig
 use crate::parts::PartsFault;
 use ee_calculator::Bond;
 use ee_desk_acts::{RateRow, Terms, UnitTables};
-use ee_desk_decide::{has_coowner, is_announcement};
 use ee_units::IssueMonth;
-use ee_units::calendar::period_of;
+use ee_units::calendar::{is_announcement, period_of};
 use std::alloc::Global;
 use std::collections::BTreeMap;
 
@@ -63,7 +62,7 @@ fn is_right_bond(rates: &BTreeMap<IssueMonth, Terms>, bond: &Bond) -> bool
     ensures { (result ≡ true) ↔ IsRightOwn (finite.from_entries rates.now.entries) bond.now }
 {
     let _month = bond.issued.count();
-    is_rated(rates, bond) && !has_coowner(bond, bond.owner)
+    is_rated(rates, bond) && !bond.has_coowner(bond.owner)
 }
 
 /// Whether books with these rates may have the bonds.

@@ -35,6 +35,7 @@ use Rattle.ee_desk_texts.specs.declared.refusals.Named.TheVariants as named
 use Rattle.ee_desk_texts.specs.Texts.{act_text, reply_text}
 use Rattle.ee_desk_texts.specs.Data.{number_data, month_data, serial_data, rate_row_data, with_coowner, bond_data, act_data, line_data, ticket_data, batch_data, names, refused_data, reply_data}
 use Rattle.ee_desk_texts.specs.Ranges.{IsCustomer, IsSerial, RateRowFits, BondFits, ActFits, LineFits, TicketFits, BatchFits, NamedFits, ReplyFits}
+use Rattle.ee_desk_texts.proofs.Back.{code_small}
 
 -- ---- texts of JSON
 
@@ -231,28 +232,6 @@ refused_plain code name (named.Bond serial) c s fits =
     (tested (codes "code") refl, number_small code c, (tested (codes "refused") refl, s, (tested (codes "serial") refl, serial_small serial fits, tt)))
 refused_plain code name (named.Paid serial ticket) c s fits =
     (tested (codes "code") refl, number_small code c, (tested (codes "refused") refl, s, (tested (codes "serial") refl, serial_small serial fits.0, (tested (codes "ticket") refl, number_small ticket fits.1, tt))))
-
-code_small : (r : Refusal) → code_of r < 2 ^ 64
-code_small refusal.NumberReused = lit< tt
-code_small refusal.Empty = lit< tt
-code_small refusal.TooMany = lit< tt
-code_small (refusal.Repeated serial) = lit< tt
-code_small (refusal.SameCoowner serial) = lit< tt
-code_small (refusal.NotAnnouncementMonth month) = lit< tt
-code_small (refusal.RateConflict month) = lit< tt
-code_small (refusal.RateUnsettled age) = lit< tt
-code_small (refusal.NoRate serial) = lit< tt
-code_small (refusal.SerialConflict serial) = lit< tt
-code_small refusal.DayOpen = lit< tt
-code_small refusal.DayNotLater = lit< tt
-code_small refusal.NoOpenDay = lit< tt
-code_small refusal.DayIsOther = lit< tt
-code_small refusal.DayFull = lit< tt
-code_small (refusal.UnknownSerial serial) = lit< tt
-code_small (refusal.NotPayee serial) = lit< tt
-code_small (refusal.AlreadyPaid serial ticket) = lit< tt
-code_small (refusal.NotIssued serial) = lit< tt
-code_small (refusal.NotEligible serial) = lit< tt
 
 name_tested : (r : Refusal) → list_all (λ b. nat_lt b 128) (name_of r) ≡ true
 name_tested refusal.NumberReused = refl

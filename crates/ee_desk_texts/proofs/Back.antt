@@ -164,7 +164,7 @@ refused_back code name (named.Paid serial ticket) c fits = record {
   level = omega arith;
 }
 
-code_small : (r : Refusal) → code_of r < 2 ^ 64
+pub code_small : (r : Refusal) → code_of r < 2 ^ 64
 code_small refusal.NumberReused = lit< tt
 code_small refusal.Empty = lit< tt
 code_small refusal.TooMany = lit< tt

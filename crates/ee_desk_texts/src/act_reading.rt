@@ -2,7 +2,20 @@
 
 ghost use Rattle.std.specs.Prelude.{◌≡◌, IfOk, option_map};
 ghost use Rattle.serde_json.specs.View.{view, items_view};
-ghost use Rattle.ee_desk_texts.specs.Reading.{each, rate_row_of, bond_with, bond_of, serial_in, add_rates_of, add_bonds_of, open_of, redeem_of, close_of, act_of, ReadsAct};
+ghost use Rattle.ee_desk_texts.specs.Reading.{
+  each,
+  rate_row_of,
+  bond_with,
+  bond_of,
+  serial_in,
+  add_rates_of,
+  add_bonds_of,
+  open_of,
+  redeem_of,
+  close_of,
+  act_of,
+  ReadsAct,
+};
 
 use crate::acts::canonical;
 use crate::fields::{count_at, customer_at, day_at, issue_at, items_at, serial_at, text_at};

@@ -6,6 +6,11 @@ use Rattle.ee_device.specs.Written.{WritesFront}
 use Rattle.ee_device.proofs.Fronts
 
 -- ---- a loop that writes the text of each element
+-- the texts so far, with one element's more
+pub flat_map_more : {X : Type 0} (f : X → List ℕ) (xs : List X) (i : ℕ) (d : X) → i < length xs
+    → flat_map f (take (i + 1) xs) ≡ flat_map f (take i xs) ++ f (get_or xs i d)
+flat_map_more = Fronts.flat_map_more
+
 -- one text more was written whole
 pub next_piece_written : {X : Type 0} (old mid new : Option (List ℕ)) (f : X → List ℕ) (xs : List X) (i : ℕ) (d x : X) (done : Bool) → i < length xs
     → x ≡ get_or xs i d → Appends old mid (flat_map f (take i xs)) → WritesFront mid new (f x) done → done ≡ true

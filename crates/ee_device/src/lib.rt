@@ -1,7 +1,6 @@
 //! Devices: reading a source whole, and writing a text whole or a front of it where the device failed.
 #![tactic(auto)]
 
-ghost use Rattle.std.specs.Prelude.{◌≡◌, length};
 ghost use Rattle.ee_device.specs.Written.{WritesFront};
 
 mod reading;

@@ -1,3 +1,5 @@
+//! Reading a source whole.
+
 ghost use Rattle.std.specs.Prelude.{◌≡◌, ◌+◌, ◌≤◌, ℕ, List, Some, IfOk, length};
 ghost use Rattle.ee_device.specs.ReadWhole.{ReadsWhole, TakesAtMost};
 

@@ -1,20 +1,16 @@
 -- A loop that writes a row for each element.
-use Rattle.std.proofs.Common.{◌≡◌, ◌∙◌, ℕ, ◌+◌, ◌<◌, ◌≤◌, List, [], ◌∷◌, ◌++◌, Option, Some, Bool, length, get_or, take, sym, ap, append_assoc, subst}
+use Rattle.std.proofs.Common.{◌≡◌, ◌∙◌, ℕ, ◌+◌, ◌<◌, ◌≤◌, List, ◌++◌, Option, Some, Bool, length, get_or, take, sym, ap, append_assoc, subst}
 use Rattle.std.specs.List.{flat_map}
-use Rattle.std.proofs.lemmas.List.{append-nil, take_more, take_all}
+use Rattle.std.proofs.lemmas.List.{take_all}
 use Rattle.std.proofs.lemmas.List.Folds.{flat_map-map}
 use Rattle.std.proofs.lemmas.Option.{same_Some}
-use Rattle.std.proofs.lemmas.Grind.{flat_map-append}
 use Rattle.std.specs.Io.KnownBytes.{Appends}
 use Rattle.ee_device.specs.Written.{WritesFront}
+use Rattle.ee_device.proofs.Lemmas.{flat_map_more}
 use Rattle.csv.specs.Writing.{row_text, default_writer}
 use Rattle.ee_files.specs.BondFile.{bond_columns, bond_fields, inventory_text}
 use Rattle.ee_files.specs.Rows.{header_of}
 use Rattle.ee_calculator.specs.declared.bonds.Bond.{Bond}
-
-flat_map_more : {X : Type 0} (f : X → List ℕ) (xs : List X) (i : ℕ) (d : X) → i < length xs → flat_map f (take (i + 1) xs) ≡ flat_map f (take i xs) ++ f (get_or xs i d)
-flat_map_more f xs i d below =
-    ap (flat_map f) (take_more xs i d below) ∙ flat_map-append f (take i xs) (get_or xs i d ∷ []) ∙ ap (λ z. flat_map f (take i xs) ++ z) (append-nil (f (get_or xs i d)))
 
 pub more_row : {X : Type 0} (f : X → List ℕ) (head old new : List ℕ) (xs : List X) (i : ℕ) (d x : X) → i < length xs → x ≡ get_or xs i d → Some old ≡ Some (head ++ flat_map f (take i xs)) → Appends (Some old) (Some new) (f x) → Some new ≡ Some (head ++ flat_map f (take (i + 1) xs))
 more_row f head old new xs i d x below is before adds =

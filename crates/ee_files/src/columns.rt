@@ -1,3 +1,5 @@
+//! The columns of files, and their names.
+
 use std::fmt;
 
 /// A column of a file.

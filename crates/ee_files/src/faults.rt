@@ -1,3 +1,5 @@
+//! Why a file gives no rows.
+
 use crate::columns::Column;
 use std::fmt;
 use thiserror::Error;

@@ -13,6 +13,7 @@ fn names(fields: &ByteRecord, place: usize, column: Column) -> bool
     fields.get(place).unwrap_or(b"") == column.name().as_bytes()
 }
 
+/// Whether these are the column names of a rate file, in their order.
 pub fn is_rate_header(fields: &ByteRecord) -> bool
     ensures { result ≡ (length (fields_of fields.now) == 2)
         && (name_at (fields_of fields.now) 0 Column.From && name_at (fields_of fields.now) 1 Column.Rate) }
@@ -35,6 +36,7 @@ fn names_owners(fields: &ByteRecord) -> bool
     names(fields, 3, Column::Owner) && names(fields, 4, Column::Coowner)
 }
 
+/// Whether these are the column names of an inventory, in their order.
 pub fn is_bond_header(fields: &ByteRecord) -> bool
     ensures { result ≡ (length (fields_of fields.now) == 5)
         && ((name_at (fields_of fields.now) 0 Column.Serial

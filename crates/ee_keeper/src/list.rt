@@ -1,7 +1,6 @@
 //! A keeper in memory.
 
 ghost use Rattle.std.specs.Prelude.{◌≡◌, [], ◌∷◌, None, IfOk, IfErr, OnOk, OnErr};
-ghost use Rattle.std.specs.Option.{option_map};
 ghost use Rattle.std.specs.FinMap as finite;
 ghost use Rattle.ee_desk_acts.specs.Numbers.{number_of};
 ghost use Rattle.ee_desk_acts.specs.Outcomes.{act};
@@ -11,7 +10,7 @@ ghost use Rattle.ee_desk_acts.specs.Conserved.{IsConserved};
 ghost use Rattle.ee_desk_acts.specs.Repeats.{nothing};
 ghost use Rattle.ee_desk_acts.specs.Contents.{content_after};
 ghost use Rattle.ee_desk_acts.specs.Answers.{answer, reply_again};
-ghost use Rattle.ee_desk_acts.specs.Queries.{ticket_numbered, batch_on, bonds_of, shown_in_row};
+ghost use Rattle.ee_desk_acts.specs.Queries.{ticket_numbered, batch_on, bonds_of};
 ghost use Rattle.ee_keeper.specs.Kept.{kept_in};
 ghost use Rattle.ee_keeper.specs.Keeping.{IsInventory, IsQuote};
 

@@ -103,7 +103,7 @@ high_before b r n from_one h =
 sixth_below : (m n : ℕ) → m ^ 6 < n ^ 6 → m < n
 sixth_below m n h = elim (cases_lt m n) [ inl lt ↦ lt | inr le ↦ absurd (omega (arith, h, pow-le-pow_left le 6)) ]
 
-sixth_lt : (m n : ℕ) → m < n → m ^ 6 < n ^ 6
+pub sixth_lt : (m n : ℕ) → m < n → m ^ 6 < n ^ 6
 sixth_lt m n h = let some : 6 ≢ 0 = omega arith in pow-lt-pow_left h some
 
 sixth_le : (m n : ℕ) → m ^ 6 ≤ n ^ 6 → m ≤ n

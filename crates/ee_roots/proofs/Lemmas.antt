@@ -26,6 +26,10 @@ power_down-le-up = Directed.power_down-le-up
 pub pow-mul : (n i j : ℕ) → n ^ (i * j) ≡ (n ^ j) ^ i
 pow-mul = Bounds.pow-pow
 
+-- a larger base has a larger sixth power
+pub sixth_lt : (m n : ℕ) → m < n → m ^ 6 < n ^ 6
+sixth_lt = Bounds.sixth_lt
+
 -- ---- bounds of the sixth root
 -- the low bound is at most the high one
 pub low-le_high : (b r low high : ℕ) → IsLow b r low → IsHigh b r high → low ≤ high

@@ -1,3 +1,5 @@
+//! Amounts that two bounds settle.
+
 ghost use Rattle.std.specs.Prelude.{◌≡◌, ◌+◌, ◌^◌, ◌<◌, SomeIff};
 ghost use Rattle.ee_roots.specs.Amounts.{cents};
 

@@ -1,3 +1,5 @@
+//! Products and powers of fixed-point numbers, rounded down or up.
+
 ghost use Rattle.std.specs.Prelude.{◌≡◌, ◌*◌, ◌^◌, ◌<◌, ◌≤◌};
 ghost use Rattle.ee_roots.specs.Products.{down, up, power_down, power_up};
 

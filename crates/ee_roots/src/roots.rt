@@ -1,3 +1,5 @@
+//! Bounds of the sixth root of a half-year's growth, and of its powers.
+
 ghost use Rattle.std.specs.Prelude.{◌≡◌, ◌+◌, ◌-◌, ◌*◌, ◌^◌, ◌≤◌};
 ghost use Rattle.ee_roots.specs.Products.{power_down, power_up};
 ghost use Rattle.ee_roots.specs.Roots.{IsLow, IsHigh, Encloses};

@@ -1,5 +1,6 @@
 -- What a crash leaves, and what is opened over it.
 use Rattle.std.proofs.Common.{◌≡◌, ◌∙◌, IsTrue, true, refl, sym, ap, subst, arith}
+use Rattle.std.proofs.lemmas.Option.{same_Some}
 use Rattle.sqlite.specs.Effect.{IsDatabase}
 use Rattle.sqlite.specs.Tree.{Trees}
 use Rattle.sqlite.specs.State.{State, IsLive}
@@ -13,7 +14,7 @@ use Rattle.ee_store_contents.specs.Standing.{rows_of}
 use Rattle.ee_store_lookups.specs.Seen.{StandsFor, HasContent}
 use Rattle.ee_store.specs.Served.{FollowsWorld}
 use Rattle.ee_store.specs.Adopted.{KeepsContent, LeavesAsBefore, GoesOn, StaysStopped}
-use Rattle.ee_store.proofs.Opened.{has_tables, nothing_rows, same_some}
+use Rattle.ee_store.proofs.Opened.{has_tables, nothing_rows}
 
 -- a store whose trees stand for a content has it
 pub has_standing : (s : State) (content : Content) → (IsTrue s.is_open → IsDatabase s.committed) → StandsFor s.committed.trees content → HasContent s content
@@ -26,7 +27,7 @@ begins_world new is_open has left =
 
 -- rows of the first version are of no other
 pub of_no_other : (rows : Rows) → IsFirstVersion rows → IsOtherVersion rows → ⊥
-of_no_other rows first other = other.2 (ap (λ (d : DeskRow). d.version) (same_some other.0 first.0 (sym other.1 ∙ first.1)) ∙ first.2)
+of_no_other rows first other = other.2 (ap (λ (d : DeskRow). d.version) (same_Some other.0 first.0 (sym other.1 ∙ first.1)) ∙ first.2)
 
 -- a store that isn't served from leaves what it was opened over
 pub stays_stopped : (old new : State) → IsLive old → ((db : Trees) → IsTrue old.is_open → old.may_leave db → db ≡ old.committed.trees) → LeavesAsBefore old new → StaysStopped old new

@@ -1,11 +1,9 @@
 -- Opening a store: what the rows that were found stand for.
-use Rattle.std.proofs.Common.{◌≡◌, ◌⊎◌, inl, inr, Bool, true, false, true≢false, ℕ, List, [], ◌∷◌, map, length, Some, IsTrue, refl, sym, ap, ◌∙◌, subst, arith}
-use Rattle.std.specs.Prelude.{IfSome, Result, Ok, Err, IfErr, OnOk}
-use Rattle.std.specs.Option.{unwrap_or}
-use Rattle.std.specs.declared.cmp.Ordering.{Ordering}
+use Rattle.std.proofs.Common.{◌≡◌, ◌⊎◌, inl, inr, Bool, true, false, true≢false, ℕ, List, [], map, IsTrue, refl, sym, ap, ◌∙◌, subst}
+use Rattle.std.specs.Prelude.{IfSome}
 use Rattle.std.specs.Ordering.{nat_cmp}
-use Rattle.std.specs.FinMap.{empty, entries, from_entries, get-empty, len-empty, len-entries}
-use Rattle.sqlite.specs.Effect.{Database}
+use Rattle.std.specs.FinMap.{empty, from_entries, get-empty}
+use Rattle.std.proofs.lemmas.Option.{same_Some}
 use Rattle.sqlite.specs.Held.{Held}
 use Rattle.sqlite.specs.Tree.{Trees}
 use Rattle.sqlite.specs.State.{State, Survives, KeepsCommit}
@@ -23,10 +21,10 @@ use Rattle.ee_store_contents.proofs.Lemmas.{get_desk_row}
 use Rattle.ee_desk_laws.proofs.Lemmas.{leaves_as_before}
 use Rattle.ee_desk_texts.specs.Ranges.{BondFits}
 use Rattle.ee_store_tables.specs.Keyed.{pair_cmp}
-use Rattle.ee_store_tables.specs.Rows.{Rows, DeskRow, Has, Holds, Stores}
+use Rattle.ee_store_tables.specs.Rows.{Rows, DeskRow, Has, Stores}
 use Rattle.ee_store_opening.specs.Making.{IsBlank, first_rows}
 use Rattle.ee_store_opening.specs.Opening.{HasTables, IsOtherVersion}
-use Rattle.ee_store_opening.proofs.Lemmas.{ours_tables}
+use Rattle.ee_store_opening.proofs.Lemmas.{ours_tables, kept_has, no_entries}
 use Rattle.ee_store_contents.specs.Standing.{rows_of, bond_row, reply_row, key_of, StandFor, IsRight, IsKept}
 use Rattle.ee_store_lookups.specs.Seen.{StandsFor, HasContent}
 use Rattle.ee_store.specs.Adopted.{KeepsContent, KeepsWorld, HadNone, IfConnection}
@@ -42,27 +40,12 @@ nothing_right = record {
   kept = λ n. subst (λ o. IfSome o (IsKept n)) (sym (get-empty number_cmp n)) tt;
 }
 
-no_length : {A : Type 0} (xs : List A) → length xs ≡ 0 → xs ≡ []
-no_length [] e = refl
-no_length (x ∷ xs) e = absurd (omega arith)
-
--- an empty map has no entries
-pub none_in : {K X : Type 0} (R : K → K → Ordering) → entries (empty {X = X} {R = R}) ≡ []
-none_in {X = X} R = no_length _ (sym (len-entries (empty {X = X} {R = R})) ∙ len-empty R X)
-
 pub nothing_rows : rows_of nothing ≡ first_rows
 nothing_rows =
-    let rates = ap (λ (es : List (ℕ × Rates)). from_entries {R = nat_cmp} (map (λ e. (e.0, e.1.fixed)) es)) (none_in nat_cmp) in
-    let bonds = ap (λ (es : List (SerialNumber × Bond)). from_entries {R = pair_cmp} (map (λ e. (key_of e.0, bond_row (held_as [] e.0 e.1))) es)) (none_in serial_cmp) in
-    let replies = ap (λ (es : List (ℕ × Kept)). from_entries {R = nat_cmp} (map (λ e. (e.0, reply_row e.1)) es)) (none_in number_cmp) in
+    let rates = ap (λ (es : List (ℕ × Rates)). from_entries {R = nat_cmp} (map (λ e. (e.0, e.1.fixed)) es)) (no_entries nat_cmp) in
+    let bonds = ap (λ (es : List (SerialNumber × Bond)). from_entries {R = pair_cmp} (map (λ e. (key_of e.0, bond_row (held_as [] e.0 e.1))) es)) (no_entries serial_cmp) in
+    let replies = ap (λ (es : List (ℕ × Kept)). from_entries {R = nat_cmp} (map (λ e. (e.0, reply_row e.1)) es)) (no_entries number_cmp) in
     λ i. record first_rows { rates = rates i; bonds = bonds i; replies = replies i }
-
--- what a store has it has while nothing is committed
-kept_has : (old new : State) (rows : Rows) → KeepsCommit old new → Has old rows → Has new rows
-kept_has old new rows keeps has is_open =
-    let it = has (keeps.was_open is_open) in
-    let same = keeps.committed is_open in
-    (ap (λ (d : Database). d.schema) same ∙ it.0, subst (λ (d : Database). Holds d.trees rows) (sym same) it.1)
 
 -- a store whose rows are kept was open if it is
 pub was_open : (old new : State) → (HasTables old → KeepsCommit old new) → IsTrue new.is_open → IsTrue old.is_open
@@ -99,14 +82,11 @@ stood_for_none old rows those made none is_open = (
   λ blank. none nothing (record { are = made blank is_open ∙ sym nothing_rows; right = nothing_right }),
 )
 
-pub same_some : (a b : DeskRow) → Some a ≡ Some b → a ≡ b
-same_some a b e = ap (λ o. unwrap_or o a) e
-
 -- the rows of a content are of version 1
 pub of_version : (content : Content) → IsOtherVersion (rows_of content) → ⊥
 of_version content other =
     let books = content.books in
-    other.2 (ap (λ (d : DeskRow). d.version) (same_some other.0 (record { version = 1; day = books.day; last_day = books.last_day }) (sym other.1 ∙ get_desk_row books.day books.last_day)))
+    other.2 (ap (λ (d : DeskRow). d.version) (same_Some other.0 (record { version = 1; day = books.day; last_day = books.last_day }) (sym other.1 ∙ get_desk_row books.day books.last_day)))
 
 -- ---- what a call leaves
 
@@ -117,18 +97,6 @@ keeps_world old new found stays w follows =
 pub begun_or : (old new : State) → KeepsCommit old new ⊎ Has new first_rows → KeepsCommit old new ⊎ HasContent new nothing
 begun_or old new (inl kept) = inl kept
 begun_or old new (inr has) = inr (record { right = nothing_right; rows = subst (Has new) (sym nothing_rows) has })
-
-pub err_then : {X E : Type 0} {P Q : E → Type 0} (r : Result X E) → ((e : E) → P e → Q e) → IfErr r P → IfErr r Q
-err_then (Ok x) f h = tt
-err_then (Err e) f h = f e h
-
-pub both_then : {X E : Type 0} {P Q R : E → Type 0} (r : Result X E) → ((e : E) → P e → Q e → R e) → IfErr r P → IfErr r Q → IfErr r R
-both_then (Ok x) f p q = tt
-both_then (Err e) f p q = f e p q
-
-pub if_ok : {X E Q : Type 0} (r : Result X E) → Q → OnOk r Q
-if_ok (Ok x) q = q
-if_ok (Err e) q = tt
 
 -- ---- connections that are handed back
 

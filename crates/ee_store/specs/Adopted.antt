@@ -24,8 +24,8 @@ use Rattle.ee_store_tables.specs.Rows.{Rows, Has, HasRoomIn, HasRoom}
 use Rattle.ee_store_tables.specs.Statements.{HasCause}
 use Rattle.ee_store_opening.specs.Opening.{HasTables, IsOtherVersion}
 use Rattle.ee_store_opening.specs.Whole.{IsOurs}
-use Rattle.ee_store_opening.specs.declared.making.OpenFault.{OpenFault}
-use Rattle.ee_store_opening.specs.declared.making.OpenFault.TheVariants.{StoreFailed, WrongVersion, Unusable}
+use Rattle.ee_store_opening.specs.declared.faults.OpenFault.{OpenFault}
+use Rattle.ee_store_opening.specs.declared.faults.OpenFault.TheVariants.{StoreFailed, WrongVersion, Unusable}
 use Rattle.ee_store.specs.declared.opening.Rest.{Rest}
 use Rattle.ee_store.specs.declared.opening.Rest.TheVariants.{Connection, Files}
 use Rattle.ee_store_lookups.specs.Seen.{StandsFor, HasContent}

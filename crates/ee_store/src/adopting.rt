@@ -11,7 +11,24 @@ ghost use Rattle.ee_store_opening.specs.Making.{IsBlank};
 ghost use Rattle.ee_store_opening.specs.Whole.{rows_of, AreInOrder};
 ghost use Rattle.ee_store_contents.specs.Standing.{StandFor};
 ghost use Rattle.ee_store_lookups.specs.Seen.{StandsFor};
-ghost use Rattle.ee_store.specs.Adopted.{BeginsEmpty, KeepsContent, HasSome, HadNone, KeepsRows, KeepsWorld, BeginsWorld, GoesOn, StaysStopped, HadOtherVersion, HadNoOtherVersion, LeavesAsBefore, FailsToAdopt, OpensWithRoom, IsSettledRow, tables_for};
+ghost use Rattle.ee_store.specs.Adopted.{
+  BeginsEmpty,
+  KeepsContent,
+  HasSome,
+  HadNone,
+  KeepsRows,
+  KeepsWorld,
+  BeginsWorld,
+  GoesOn,
+  StaysStopped,
+  HadOtherVersion,
+  HadNoOtherVersion,
+  LeavesAsBefore,
+  FailsToAdopt,
+  OpensWithRoom,
+  IsSettledRow,
+  tables_for,
+};
 ghost use Rattle.ee_store_lookups.specs.Causes.{IsReady};
 
 use crate::keeper::SqlKeeper;
@@ -100,7 +117,8 @@ fn prepared(alloc: Global, all: &AllRows) -> Result<UnitTables, OpenFault>
 /// A connection sees a database, and outside a transaction its last commit. It does nothing.
 fn settled<S: Alter>(conn: &Connection<S>)
     ensures live { IsLive (state S.Store conn.now) }
-    ensures committed { (state S.Store conn.now).in_transaction ≡ false → IsTrue (state S.Store conn.now).is_open → (state S.Store conn.now).now ≡ (state S.Store conn.now).committed }
+    ensures committed { (state S.Store conn.now).in_transaction ≡ false → IsTrue (state S.Store conn.now).is_open
+        → (state S.Store conn.now).now ≡ (state S.Store conn.now).committed }
 {
     let _schema = conn.schema();
     let _autocommit = conn.is_autocommit();
@@ -179,14 +197,16 @@ impl<S: Alter> SqlKeeper<S> {
         ensures goes_on { IfOk result (λ keeper. HasCleanDisk (state S.Store keeper.conn) → GoesOn (state S.Store conn) (state S.Store keeper.conn)) }
         ensures kept { IfErr result (λ not. HasCleanDisk (state S.Store not.conn) → KeepsRows (state S.Store conn) (state S.Store not.conn)) }
         ensures version { IfErr result (λ not. HasCleanDisk (state S.Store not.conn) → not.fault ≡ OpenFault.WrongVersion → HadNone (state S.Store conn)) }
-        ensures other { IfErr result (λ not. HasCleanDisk (state S.Store not.conn) → not.fault ≡ OpenFault.WrongVersion → HadOtherVersion (state S.Store conn)) }
+        ensures other { IfErr result
+            (λ not. HasCleanDisk (state S.Store not.conn) → not.fault ≡ OpenFault.WrongVersion → HadOtherVersion (state S.Store conn)) }
         ensures unusable { IfErr result (λ not. HasCleanDisk (state S.Store not.conn) → not.fault ≡ OpenFault.Unusable → HadNone (state S.Store conn)) }
         ensures tested { IfErr result (λ not. HasCleanDisk (state S.Store not.conn) → not.fault ≡ OpenFault.Unusable → HadNoOtherVersion (state S.Store conn)) }
         ensures ready { IfOk result (λ keeper. HasCleanDisk (state S.Store keeper.conn) → IsReady (state S.Store conn) → IsReady (state S.Store keeper.conn)) }
         ensures room { IfOk result (λ keeper. HasCleanDisk (state S.Store keeper.conn) → OpensWithRoom (state S.Store conn) (state S.Store keeper.conn)) }
         ensures cause { IfErr result (λ not. HasCleanDisk (state S.Store not.conn) → FailsToAdopt (state S.Store conn) (state S.Store not.conn) not.fault) }
         ensures waits { IfErr result (λ not. HasCleanDisk (state S.Store not.conn) → StaysStopped (state S.Store conn) (state S.Store not.conn)) }
-        ensures crash { MatchResult result (λ keeper. Survives (state S.Store conn) (state S.Store keeper.conn) (λ db. IsBlank (state S.Store conn) → StandsFor db nothing))
+        ensures crash { MatchResult result
+            (λ keeper. Survives (state S.Store conn) (state S.Store keeper.conn) (λ db. IsBlank (state S.Store conn) → StandsFor db nothing))
             (λ not. Survives (state S.Store conn) (state S.Store not.conn) (λ db. IsBlank (state S.Store conn) → StandsFor db nothing)) }
         ensures left { MatchResult result (λ keeper. HasCleanDisk (state S.Store keeper.conn) → LeavesAsBefore (state S.Store conn) (state S.Store keeper.conn))
             (λ not. HasCleanDisk (state S.Store not.conn) → LeavesAsBefore (state S.Store conn) (state S.Store not.conn)) }

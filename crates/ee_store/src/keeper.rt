@@ -51,19 +51,26 @@ impl<S: Alter> SqlKeeper<S> {
         ensures clean { HasCleanDisk (state S.Store self.new.conn) → HasCleanDisk (state S.Store self.old.conn) }
         ensures delivers { HasCleanDisk (state S.Store self.new.conn) → (content : Content) → HasContent (state S.Store self.old.conn) content
             → Delivers content request.now result (HasContent (state S.Store self.new.conn)) }
-        ensures crash { Survives (state S.Store self.old.conn) (state S.Store self.new.conn) (λ db. (content : Content) → HasContent (state S.Store self.old.conn) content → StandsFor db (content_after content (request.now ∷ []))) }
-        ensures durable { HasCleanDisk (state S.Store self.new.conn) → OnOk result ((content : Content) → HasContent (state S.Store self.old.conn) content → finite.contains_key content.kept (number_of request.now) ≡ false
+        ensures crash { Survives (state S.Store self.old.conn) (state S.Store self.new.conn)
+            (λ db. (content : Content) → HasContent (state S.Store self.old.conn) content → StandsFor db (content_after content (request.now ∷ []))) }
+        ensures durable { HasCleanDisk (state S.Store self.new.conn) → OnOk result
+            ((content : Content) → HasContent (state S.Store self.old.conn) content → finite.contains_key content.kept (number_of request.now) ≡ false
             → (db : Trees) → (state S.Store self.new.conn).may_leave db → StandsFor db (content_after content (request.now ∷ []))) }
-        ensures again { HasCleanDisk (state S.Store self.new.conn) → OnOk result ((content : Content) → HasContent (state S.Store self.old.conn) content → finite.contains_key content.kept (number_of request.now) ≡ true
+        ensures again { HasCleanDisk (state S.Store self.new.conn) → OnOk result
+            ((content : Content) → HasContent (state S.Store self.old.conn) content → finite.contains_key content.kept (number_of request.now) ≡ true
             → (db : Trees) → (state S.Store self.new.conn).may_leave db → (state S.Store self.old.conn).may_leave db) }
         ensures ready { IsReady (state S.Store self.old.conn) → IsReady (state S.Store self.new.conn) }
         ensures room { TakesRequestRoom (state S.Store self.old.conn) (state S.Store self.new.conn) }
         ensures cause { HasCleanDisk (state S.Store self.new.conn) → (content : Content) → CanDeliver (state S.Store self.old.conn) content request.now
             → IfErr result (λ e. e ≡ Unserved.StoreFailed → HasCause (state S.Store self.old.conn) (state S.Store self.new.conn)) }
-        ensures decided { HasCleanDisk (state S.Store self.new.conn) → OnOk result ((w : World) (told : List Told) → FollowsWorld (state S.Store self.old.conn) w → FollowsWorld (state S.Store self.new.conn) (decided w request.now told)) }
-        ensures unserved { HasCleanDisk (state S.Store self.new.conn) → OnErr result ((w : World) → FollowsWorld (state S.Store self.old.conn) w → FollowsWorld (state S.Store self.new.conn) (unserved w request.now)) }
+        ensures decided { HasCleanDisk (state S.Store self.new.conn)
+            → OnOk result ((w : World) (told : List Told) → FollowsWorld (state S.Store self.old.conn) w
+            → FollowsWorld (state S.Store self.new.conn) (decided w request.now told)) }
+        ensures unserved { HasCleanDisk (state S.Store self.new.conn)
+            → OnErr result ((w : World) → FollowsWorld (state S.Store self.old.conn) w → FollowsWorld (state S.Store self.new.conn) (unserved w request.now)) }
         ensures goes { HasCleanDisk (state S.Store self.new.conn) → MatchResult result
-            (λ reply. Goes (state S.Store self.old.conn) (Deliver request.now ∷ []) (state S.Store self.new.conn) × Goes (state S.Store self.old.conn) (Lose request.now ∷ []) (state S.Store self.new.conn))
+            (λ reply. Goes (state S.Store self.old.conn) (Deliver request.now ∷ []) (state S.Store self.new.conn)
+            × Goes (state S.Store self.old.conn) (Lose request.now ∷ []) (state S.Store self.new.conn))
             (λ cause. Goes (state S.Store self.old.conn) (NotServed request.now ∷ []) (state S.Store self.new.conn)) }
     {
         ties_to_stores::<SqlKeeper<S>>();

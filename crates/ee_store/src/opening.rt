@@ -96,7 +96,8 @@ impl SqlKeeper<FileStore<File>> {
         path: &str,
     ) -> Result<SqlKeeper<FileStore<File>>, NotOpened<FileStore<File>, Leftover<File>>>
         ensures opened { IfOk result (λ keeper. HasCleanDisk (file_state keeper.conn) → (start : Image) × IsOpenedFrom start keeper.conn) }
-        ensures refused { IfErr result (λ not. IfConnection not.rest (λ conn. HasCleanDisk (file_state conn) → (start : Image) × IsRefusedFrom start not.fault conn)) }
+        ensures refused { IfErr result
+            (λ not. IfConnection not.rest (λ conn. HasCleanDisk (file_state conn) → (start : Image) × IsRefusedFrom start not.fault conn)) }
         ensures fault { IfErr result (λ not. IfFiles not.rest (λ _. (not.fault ≡ OpenFault.NoMemory) ⊎ (not.fault ≡ OpenFault.StoreFailed))) }
         ensures left { IfErr result (λ not. IfFiles not.rest (λ rest. IfSome rest (λ left. (files : _) × IsFresh true files.log × IsFresh false files.db
             × (IsCleanLeft left → LeavesFiles files left)))) }

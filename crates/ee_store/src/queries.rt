@@ -40,7 +40,8 @@ impl<S: Alter> SqlKeeper<S> {
         ensures crash { Survives (state S.Store self.old.conn) (state S.Store self.new.conn) (λ _. ⊥) }
         ensures ready { IsReady (state S.Store self.old.conn) → IsReady (state S.Store self.new.conn) }
         ensures cause { ServesOrFails (state S.Store self.old.conn) (state S.Store self.new.conn) result }
-        ensures follows { HasCleanDisk (state S.Store self.new.conn) → (w : World) → FollowsWorld (state S.Store self.old.conn) w → FollowsWorld (state S.Store self.new.conn) w }
+        ensures follows { HasCleanDisk (state S.Store self.new.conn) → (w : World) → FollowsWorld (state S.Store self.old.conn) w
+            → FollowsWorld (state S.Store self.new.conn) w }
     {
         match ask_inventory(
             &mut self.conn,
@@ -62,7 +63,8 @@ impl<S: Alter> SqlKeeper<S> {
         ensures crash { Survives (state S.Store self.old.conn) (state S.Store self.new.conn) (λ _. ⊥) }
         ensures ready { IsReady (state S.Store self.old.conn) → IsReady (state S.Store self.new.conn) }
         ensures cause { ServesOrFails (state S.Store self.old.conn) (state S.Store self.new.conn) result }
-        ensures follows { HasCleanDisk (state S.Store self.new.conn) → (w : World) → FollowsWorld (state S.Store self.old.conn) w → FollowsWorld (state S.Store self.new.conn) w }
+        ensures follows { HasCleanDisk (state S.Store self.new.conn) → (w : World) → FollowsWorld (state S.Store self.old.conn) w
+            → FollowsWorld (state S.Store self.new.conn) w }
     {
         match ask_bonds(&mut self.conn, self.alloc, customer) {
             Ok(bonds) => Ok(bonds),
@@ -78,7 +80,8 @@ impl<S: Alter> SqlKeeper<S> {
         ensures crash { Survives (state S.Store self.old.conn) (state S.Store self.new.conn) (λ _. ⊥) }
         ensures ready { IsReady (state S.Store self.old.conn) → IsReady (state S.Store self.new.conn) }
         ensures cause { ServesOrFails (state S.Store self.old.conn) (state S.Store self.new.conn) result }
-        ensures follows { HasCleanDisk (state S.Store self.new.conn) → (w : World) → FollowsWorld (state S.Store self.old.conn) w → FollowsWorld (state S.Store self.new.conn) w }
+        ensures follows { HasCleanDisk (state S.Store self.new.conn) → (w : World) → FollowsWorld (state S.Store self.old.conn) w
+            → FollowsWorld (state S.Store self.new.conn) w }
     {
         match ask_ticket(&mut self.conn, self.alloc, number) {
             Ok(ticket) => Ok(ticket),
@@ -94,7 +97,8 @@ impl<S: Alter> SqlKeeper<S> {
         ensures crash { Survives (state S.Store self.old.conn) (state S.Store self.new.conn) (λ _. ⊥) }
         ensures ready { IsReady (state S.Store self.old.conn) → IsReady (state S.Store self.new.conn) }
         ensures cause { ServesOrFails (state S.Store self.old.conn) (state S.Store self.new.conn) result }
-        ensures follows { HasCleanDisk (state S.Store self.new.conn) → (w : World) → FollowsWorld (state S.Store self.old.conn) w → FollowsWorld (state S.Store self.new.conn) w }
+        ensures follows { HasCleanDisk (state S.Store self.new.conn) → (w : World) → FollowsWorld (state S.Store self.old.conn) w
+            → FollowsWorld (state S.Store self.new.conn) w }
     {
         match ask_batch(&mut self.conn, day) {
             Ok(batch) => Ok(batch),
@@ -116,7 +120,8 @@ impl<S: Alter> SqlKeeper<S> {
         ensures crash { Survives (state S.Store self.old.conn) (state S.Store self.new.conn) (λ _. ⊥) }
         ensures ready { IsReady (state S.Store self.old.conn) → IsReady (state S.Store self.new.conn) }
         ensures cause { ServesOrFails (state S.Store self.old.conn) (state S.Store self.new.conn) result }
-        ensures follows { HasCleanDisk (state S.Store self.new.conn) → (w : World) → FollowsWorld (state S.Store self.old.conn) w → FollowsWorld (state S.Store self.new.conn) w }
+        ensures follows { HasCleanDisk (state S.Store self.new.conn) → (w : World) → FollowsWorld (state S.Store self.old.conn) w
+            → FollowsWorld (state S.Store self.new.conn) w }
     {
         match ask_quote(
             &mut self.conn,

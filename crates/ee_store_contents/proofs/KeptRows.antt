@@ -1,7 +1,7 @@
 -- Rows of kept replies.
 use Rattle.std.proofs.Common.{◌≡◌, ◌↔◌, ℕ, ◌≤◌, Bool, true, false, not, List, refl, sym, ◌∙◌, subst}
 use Rattle.std.specs.Prelude.{Option, Some, None, string_bytes}
-use Rattle.std.proofs.lemmas.Bool.{false≢true}
+use Rattle.std.proofs.lemmas.Bool.{false≢true, not-true}
 use Rattle.ee_desk_acts.specs.declared.acts.Act.{Act}
 use Rattle.ee_desk_acts.specs.declared.replies.Reply.{Reply}
 use Rattle.ee_desk_acts.specs.declared.replies.Reply.TheVariants.{Refused}
@@ -20,10 +20,6 @@ no_act row none k = none k.0.act k.1.is_kept.act_in_range k.1.act
 pub no_reply : (row : StoredReply) → ReadsReply (string_bytes row.reply) None → KeepsReply row → ⊥
 no_reply row none k = none k.0.reply k.1.is_kept.reply_in_range k.1.reply
 
-not_both : (b : Bool) → not b ≡ true → b ≡ true → ⊥
-not_both true h k = false≢true h
-not_both false h k = false≢true k
-
 not_true : (b : Bool) → (b ≡ true → ⊥) → not b ≡ true
 not_true true h = absurd (h refl)
 not_true false h = refl
@@ -35,7 +31,7 @@ keeps_one row a r reuse number act reply is = (
   λ fresh. (
     record { act = a; reply = r },
     record {
-      is_kept = record { number_in_range = number; act_in_range = act.0; reply_in_range = reply.0; first = λ e. not_both reuse fresh (is.1 e) };
+      is_kept = record { number_in_range = number; act_in_range = act.0; reply_in_range = reply.0; first = λ e. false≢true (sym (not-true reuse fresh) ∙ is.1 e) };
       act = act.1;
       reply = reply.1;
     },

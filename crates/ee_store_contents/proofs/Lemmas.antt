@@ -34,6 +34,7 @@ use Rattle.ee_store_contents.proofs.Readable
 use Rattle.ee_store_contents.proofs.RowsOfBooks
 pub use Rattle.ee_store_contents.proofs.Orders.{ticket_entry, ticket_lines, batch_entry}
 pub use Rattle.ee_store_contents.proofs.OneContent.{head_of, tail_of}
+pub use Rattle.ee_units.proofs.Lemmas.{same_denom}
 
 -- ---- rows at their keys
 -- the row of the desk
@@ -77,10 +78,6 @@ parts_in_range = RowsOfBooks.parts_in_range
 pub right_bond_is_keyed : (rates : FinMap nat_cmp Rates) (s : SerialNumber) (o : Option Bond) → IfSome o (IsRightBond rates s)
     → IfSome o (λ bond. bond.serial ≡ s)
 right_bond_is_keyed = OneContent.keyed
-
--- denominations of the same dollars are one
-pub same_denom : (a b : Denom) → dollars a ≡ dollars b → a ≡ b
-same_denom = OneContent.same_denom
 
 -- where one step after another gave a value, each step gave one
 pub some_from_bind : {A B : Type 0} (o : Option A) (f : A → Option B) (y : B) → (o >>= f) ≡ Some y → (x : A) × (o ≡ Some x) × (f x ≡ Some y)

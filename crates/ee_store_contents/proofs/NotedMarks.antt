@@ -1,17 +1,19 @@
 -- The tickets that pay serials, noted one after another.
 use Rattle.std.proofs.Common.{◌≡◌, ℕ, ◌+◌, ◌<◌, Bool, true, false, cond, ◌||◌, List, [], ◌∷◌, ◌++◌, length, take, get_or, refl, sym, ap, ◌∙◌}
-use Rattle.std.specs.Prelude.{Option, Some, None, find, is_some}
-use Rattle.std.specs.Option.{option_map, option_or}
+use Rattle.std.specs.Prelude.{Option, Some, None, is_some}
+use Rattle.std.specs.Option.{option_or}
 use Rattle.std.specs.List.{list_any}
 use Rattle.std.specs.BTreeMap.{is_at}
 use Rattle.std.proofs.lemmas.List.{take_more}
 use Rattle.std.proofs.lemmas.List.Folds.{list_any-append}
+use Rattle.std.proofs.Math.Bool.{or-false}
 use Rattle.ee_units.specs.Spelling.{SerialNumber}
 use Rattle.ee_desk_acts.specs.declared.replies.Line.{Line}
 use Rattle.ee_desk_acts.specs.declared.replies.Ticket.{Ticket}
 use Rattle.ee_desk_acts.specs.Serials.{serial_cmp, same_serial}
 use Rattle.ee_desk_acts.specs.PlainBooks.{names, ticket_of}
 use Rattle.ee_desk_acts.proofs.Lemmas.Maps.{serials_tied, same_serial-swap, same_serial-is}
+use Rattle.ee_desk_acts.proofs.Lemmas.Books.{ticket_of_push}
 use Rattle.ee_store_contents.specs.Reading.{mark_at}
 
 -- ---- one serial
@@ -38,10 +40,6 @@ pub noted_old : (es : List (SerialNumber × ℕ)) (s : SerialNumber) (n : ℕ) �
 noted_old es s n known q = note_old (mark_at es q) n (same_serial q s) (λ e. ap (λ t. is_some (mark_at es t)) (same_serial-is q s e) ∙ known)
 
 -- ---- lines
-or_right : (b : Bool) → (b || false) ≡ b
-or_right true = refl
-or_right false = refl
-
 both_noted : (o : Option ℕ) (n : ℕ) (a b : Bool) → option_or (option_or o (cond a (Some n) None)) (cond b (Some n) None) ≡ option_or o (cond (a || b) (Some n) None)
 both_noted (Some m) n a b = refl
 both_noted None n true b = refl
@@ -52,23 +50,10 @@ pub lines_more : (o : Option ℕ) (n : ℕ) (q : SerialNumber) (lines : List Lin
     ≡ option_or o (cond (list_any (λ l. same_serial q l.serial) (take (i + 1) lines)) (Some n) None)
 lines_more o n q lines i line h is =
     let named : Line → Bool = λ l. same_serial q l.serial in
-    let more = ap (list_any named) (take_more lines i line h ∙ ap (λ l. take i lines ++ l ∷ []) (sym is)) ∙ list_any-append named (take i lines) (line ∷ []) ∙ ap (λ b. list_any named (take i lines) || b) (or_right (named line)) in
+    let more = ap (list_any named) (take_more lines i line h ∙ ap (λ l. take i lines ++ l ∷ []) (sym is)) ∙ list_any-append named (take i lines) (line ∷ []) ∙ ap (λ b. list_any named (take i lines) || b) (or-false (named line)) in
     both_noted o n (list_any named (take i lines)) (named line) ∙ ap (λ b. option_or o (cond b (Some n) None)) (sym more)
 
 -- ---- tickets
-or_push : (b c : Bool) (t u : Ticket) (o p : Option Ticket) → option_map (λ x. x.ticket) o ≡ option_or (option_map (λ x. x.ticket) p) (cond c (Some t.ticket) None)
-    → option_map (λ x. x.ticket) (cond b (Some u) o) ≡ option_or (option_map (λ x. x.ticket) (cond b (Some u) p)) (cond c (Some t.ticket) None)
-or_push true c t u o p h = refl
-or_push false c t u o p h = h
-
-last_named : (b : Bool) (t : Ticket) → option_map (λ x. x.ticket) (cond b (Some t) None) ≡ cond b (Some t.ticket) None
-last_named true t = refl
-last_named false t = refl
-
-ticket_of_push : (tickets : List Ticket) (t : Ticket) (q : SerialNumber) → ticket_of (tickets ++ t ∷ []) q ≡ option_or (ticket_of tickets q) (cond (names q t) (Some t.ticket) None)
-ticket_of_push [] t q = last_named (names q t) t
-ticket_of_push (u ∷ tickets) t q = or_push (names q u) (names q t) t u (find (names q) (tickets ++ t ∷ [])) (find (names q) tickets) (ticket_of_push tickets t q)
-
 pub tickets_more : (tickets : List Ticket) (i : ℕ) (t : Ticket) (q : SerialNumber) → i < length tickets → t ≡ get_or tickets i t
     → option_or (ticket_of (take i tickets) q) (cond (names q t) (Some t.ticket) None) ≡ ticket_of (take (i + 1) tickets) q
 tickets_more tickets i t q h is =

@@ -1,15 +1,13 @@
 -- Rows stand for one content at most.
-use Rattle.std.proofs.Common.{◌≡◌, ◌==◌, ℕ, suc, ◌+◌, cond, List, [], ◌∷◌, ◌++◌, map, length, arith, refl, sym, ap, ◌∙◌}
+use Rattle.std.proofs.Common.{◌≡◌, ℕ, suc, ◌+◌, List, [], ◌∷◌, ◌++◌, map, length, arith, refl, sym, ap, ◌∙◌}
 use Rattle.std.specs.Prelude.{flat_map, Option, Some, None, IfSome, ⊤}
 use Rattle.std.specs.Option.{option_map, unwrap_or}
 use Rattle.std.specs.Ordering.{nat_cmp}
 use Rattle.std.specs.Cmp.{nat_cmp_total}
 use Rattle.std.specs.FinMap as finite
-use Rattle.std.specs.FinMap.{FinMap, nat_cmp-IsAntisymmetric, entries, get-from_entries, same_map}
+use Rattle.std.specs.FinMap.{FinMap, nat_cmp-IsAntisymmetric, entries, same_map}
 use Rattle.ee_units.specs.Spelling.{SerialNumber}
-use Rattle.ee_units.specs.Denoms.{dollars}
-use Rattle.ee_units.specs.declared.denoms.Denom.{Denom}
-use Rattle.ee_units.specs.declared.denoms.Denom.TheVariants as denom
+use Rattle.ee_units.proofs.Lemmas.{same_denom}
 use Rattle.ee_value.specs.declared.rates.Rates.{Rates}
 use Rattle.ee_calculator.specs.declared.bonds.Bond.{Bond}
 use Rattle.ee_desk_acts.specs.declared.changes.Kept.{Kept}
@@ -25,7 +23,7 @@ use Rattle.ee_desk_acts.proofs.Lemmas.Maps.{serials_total, serials_exact, number
 use Rattle.ee_desk_texts.proofs.Lemmas.{one_act, one_reply}
 use Rattle.ee_store_tables.specs.Rows.{Rows, DeskRow, PaidRow, BatchRow}
 use Rattle.ee_store_contents.specs.Standing.{rate_rows, bond_rows, bond_row, key_of, placed, reply_rows, reply_row, desk_rows, IsKept, StandFor}
-use Rattle.ee_store_contents.proofs.Images.{get_rate, get_reply, get_bond}
+use Rattle.ee_store_contents.proofs.Images.{get_rate, get_reply, get_bond, get_desk}
 use Rattle.ee_store_contents.proofs.Orders.{ticket_entry, ticket_entries, ticket_lines, paid_entries, batch_entry, batch_entries, rising_front}
 
 -- what is the same in two forms is the same
@@ -48,23 +46,6 @@ same_rates one other e = same_map nat_cmp_total nat_cmp-IsAntisymmetric one othe
     (sym (get_rate one q) ∙ ap (λ m. finite.get m q) e ∙ get_rate other q))
 
 -- ---- bonds
-abbrev denom_at : ℕ → Denom
-denom_at n = cond (n == 50) denom.Fifty (cond (n == 75) denom.SeventyFive (cond (n == 100) denom.Hundred (cond (n == 200) denom.TwoHundred
-    (cond (n == 500) denom.FiveHundred (cond (n == 1000) denom.Thousand (cond (n == 5000) denom.FiveThousand denom.TenThousand))))))
-
-denom_back : (d : Denom) → denom_at (dollars d) ≡ d
-denom_back denom.Fifty = refl
-denom_back denom.SeventyFive = refl
-denom_back denom.Hundred = refl
-denom_back denom.TwoHundred = refl
-denom_back denom.FiveHundred = refl
-denom_back denom.Thousand = refl
-denom_back denom.FiveThousand = refl
-denom_back denom.TenThousand = refl
-
-pub same_denom : (a b : Denom) → dollars a ≡ dollars b → a ≡ b
-same_denom a b e = sym (denom_back a) ∙ ap denom_at e ∙ denom_back b
-
 same_bond : (ts us : List Ticket) (s : SerialNumber) (x y : Bond) → x.serial ≡ s → y.serial ≡ s → bond_row (held_as ts s x) ≡ bond_row (held_as us s y) → x ≡ y
 same_bond ts us s x y a b e = λ i. record {
   serial = (a ∙ sym b) i;
@@ -148,9 +129,6 @@ same_kept one other a b e = same_map numbers_total numbers_exact one other (λ n
     (sym (get_reply one n) ∙ ap (λ m. finite.get m n) e ∙ get_reply other n))
 
 -- ---- days
-get_desk : (day last_day : Option ℕ) → finite.get (desk_rows day last_day) 1 ≡ Some (record { version = 1; day = day; last_day = last_day })
-get_desk day last_day = get-from_entries nat_cmp_total ((1, record { version = 1; day = day; last_day = last_day }) ∷ []) 1
-
 same_desk : (day last_day other_day other_last : Option ℕ) → desk_rows day last_day ≡ desk_rows other_day other_last → (day ≡ other_day) × (last_day ≡ other_last)
 same_desk day last_day other_day other_last e =
     let row : DeskRow = record { version = 1; day = day; last_day = last_day } in

@@ -3,7 +3,7 @@ use Rattle.std.proofs.Common.{◌≡◌, ◌==◌, ℕ, suc, ◌+◌, ◌≤◌,
 use Rattle.std.specs.Prelude.{nat_le, nat_eq, flat_map, Option, Some, None, IfSome, option_map}
 use Rattle.std.specs.Option.{unwrap_or, option_eq}
 use Rattle.std.specs.List.{AllByRecursion}
-use Rattle.std.proofs.lemmas.Bool.{eqb-true, eq-eqb, leb-true, le-leb}
+use Rattle.std.proofs.lemmas.Bool.{eqb-true, eq-eqb, leb-true, le-leb, and_parts}
 use Rattle.std.proofs.lemmas.List.{take-append-drop, length-take-le}
 use Rattle.ee_units.specs.Spelling.{SerialNumber, in_range, serial_at, ◌>>=◌}
 use Rattle.ee_units.specs.declared.denoms.Denom.{Denom}
@@ -16,6 +16,7 @@ use Rattle.ee_desk_acts.specs.declared.replies.Ticket.{Ticket}
 use Rattle.ee_desk_acts.specs.declared.replies.Batch.{Batch}
 use Rattle.ee_desk_acts.specs.Sound.{IsDay}
 use Rattle.ee_desk_acts.specs.PlainBooks.{ticket_of}
+use Rattle.ee_desk_acts.proofs.Lemmas.Books.{option_eq-is}
 use Rattle.ee_units.specs.Denoms.{denom_with, dollars}
 use Rattle.ee_desk_texts.specs.Ranges.{IsSerial, IsCustomer, RateRowFits, BondFits, LineFits, TicketFits, BatchFits}
 use Rattle.ee_store_contents.specs.declared.reading.Days.{Days}
@@ -43,10 +44,6 @@ cond_is : {A : Type 0} (b : Bool) (x : A) (o : Option A) (y : A) → cond b o No
 cond_is true x o y e = (refl, e)
 cond_is false x o y e = absurd (cc)
 
-and_is : (a b : Bool) → (a && b) ≡ true → (a ≡ true) × (b ≡ true)
-and_is true b e = (refl, e)
-and_is false b e = absurd (cc)
-
 optional_read : (read : ℕ → Option ℕ) (P : ℕ → Type 0) → ((n : ℕ) → P n → read n ≡ Some n) → (o : Option ℕ) → IfSome o P → optional_in read o ≡ Some o
 optional_read read P h None p = refl
 optional_read read P h (Some n) p = ap (option_map Some) (h n p)
@@ -58,12 +55,6 @@ map_is (Some m) p e = (m, refl, sym (some_is (Some m) p e))
 optional_is : (read : ℕ → Option ℕ) → ((n m : ℕ) → read n ≡ Some m → n ≡ m) → (o p : Option ℕ) → optional_in read o ≡ Some p → o ≡ p
 optional_is read h None p e = some_is None p e
 optional_is read h (Some n) p e = let m = map_is (read n) p e in ap Some (h n m.0 m.1) ∙ sym m.2
-
-option_eq_is : (a b : Option ℕ) → option_eq nat_eq a b ≡ true → a ≡ b
-option_eq_is None None e = refl
-option_eq_is None (Some m) e = absurd (cc)
-option_eq_is (Some n) None e = absurd (cc)
-option_eq_is (Some n) (Some m) e = ap Some (eqb-true n m e)
 
 option_eq_same : (a : Option ℕ) → option_eq nat_eq a a ≡ true
 option_eq_same None = refl
@@ -148,7 +139,7 @@ days_is [] days e = absurd (cc)
 days_is (row ∷ other ∷ rows) days e = absurd (cc)
 days_is (row ∷ []) days e =
     let open_row = cond_is ((row.id == 1) && (row.version == 1)) days (days_of row) days e in
-    let first = and_is (row.id == 1) (row.version == 1) open_row.0 in
+    let first = and_parts (row.id == 1) (row.version == 1) open_row.0 in
     let both = days_of_is row days open_row.1 in
     λ i. record { id = eqb-true row.id 1 first.0 i; version = eqb-true row.version 1 first.1 i; day = both.0 i; last_day = both.1 i } ∷ []
 
@@ -210,7 +201,7 @@ bond_is tickets row bond e =
     let plain = bind_is (plain_bond_in coowner.0 row) (marked_right paid row.ticket) bond coowner.2 in
     let right = cond_is (option_eq nat_eq row.ticket (paid plain.0.serial)) bond (Some plain.0) bond plain.2 in
     plain_bond_is row coowner.0 plain.0 (optional_is customer_in customer_is row.coowner coowner.0 coowner.1) plain.1
-    ∙ (λ i. stored_held (record { bond = plain.0; ticket = option_eq_is row.ticket (paid plain.0.serial) right.0 i }))
+    ∙ (λ i. stored_held (record { bond = plain.0; ticket = option_eq-is row.ticket (paid plain.0.serial) right.0 i }))
     ∙ ap (stored_bond tickets) (some_is plain.0 bond right.1)
 
 -- ---- lines
@@ -231,7 +222,7 @@ plain_line_is row line e =
 line_is : (ticket place : ℕ) (row : StoredLine) (line : Line) → line_at ticket place row ≡ Some line → row ≡ stored_line ticket place line
 line_is ticket place row line e =
     let here = cond_is ((row.ticket == ticket) && (row.place == place)) line (line_in row) line e in
-    let both = and_is (row.ticket == ticket) (row.place == place) here.0 in
+    let both = and_parts (row.ticket == ticket) (row.place == place) here.0 in
     plain_line_is row line here.1 ∙ (λ i. stored_line (eqb-true row.ticket ticket both.0 i) (eqb-true row.place place both.1 i) line)
 
 lines_read : (ticket place : ℕ) (lines : List Line) → AllByRecursion LineFits lines → lines_at ticket place (placed_lines ticket place lines) ≡ Some lines

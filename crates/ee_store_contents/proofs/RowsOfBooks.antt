@@ -22,7 +22,7 @@ use Rattle.ee_desk_acts.specs.PlainBooks.{PlainBooks, ticket_of}
 use Rattle.ee_desk_acts.specs.Seen.{held_as}
 use Rattle.ee_desk_acts.specs.Sound.{IsSound, IsDay, IsRightRate, day_of_batch, open_days, last_of}
 use Rattle.ee_desk_acts.specs.Repeats.{Content}
-use Rattle.ee_desk_acts.proofs.Lemmas.Maps.{serials_total, serials_exact, all_weaker, numbers_total}
+use Rattle.ee_desk_acts.proofs.Lemmas.Maps.{serials_total, serials_exact, all_weaker, numbers_total, all_mapped, all_unmapped}
 use Rattle.ee_desk_parts.proofs.Lemmas.{all_entries, get_all, map_of_entries}
 use Rattle.ee_desk_parts.specs.declared.parts.Parts.{Parts}
 use Rattle.ee_desk_parts.specs.Parts.{parts_of, row_of_entry}
@@ -44,7 +44,7 @@ use Rattle.ee_store_contents.specs.Contents.{stored_desk, stored_rate, stored_bo
 use Rattle.ee_store_contents.specs.Reading.{each, days_in, rate_in, bond_in, tickets_in, batch_in, parts_in}
 use Rattle.ee_store_contents.proofs.Images.{pair_total, pair_same, sorted_entries}
 use Rattle.ee_store_contents.proofs.Orders as orders
-use Rattle.ee_store_contents.proofs.Orders.{ticket_entries, ticket_lines, paid_entries, batch_entries, rising_front}
+use Rattle.ee_store_contents.proofs.Orders.{ticket_entries, ticket_lines, paid_entries, batch_entries, rising_front, all_front}
 use Rattle.ee_store_contents.proofs.OneContent.{keyed, head_of, tail_of}
 use Rattle.ee_store_contents.proofs.ReadBack.{some_is, bind_is, bind_some, each_read, each_is, days_read, days_is, rate_read, rate_is, bond_read, bond_is, tickets_read, tickets_is, batch_read, batch_is}
 
@@ -63,18 +63,6 @@ undone f g e (x ∷ xs) = λ i. e x i ∷ undone f g e xs i
 
 same_lists : {A B : Type 0} (f : A → B) (g : B → A) → ((x : A) → g (f x) ≡ x) → (xs ys : List A) → map f xs ≡ map f ys → xs ≡ ys
 same_lists f g e xs ys is = sym (undone f g e xs) ∙ ap (map g) is ∙ undone f g e ys
-
-all_mapped : {A B : Type 0} (P : B → Type 0) (f : A → B) (xs : List A) → AllByRecursion (λ x. P (f x)) xs → AllByRecursion P (map f xs)
-all_mapped P f [] h = tt
-all_mapped P f (x ∷ xs) h = (h.0, all_mapped P f xs h.1)
-
-all_unmapped : {A B : Type 0} (P : B → Type 0) (f : A → B) (xs : List A) → AllByRecursion P (map f xs) → AllByRecursion (λ x. P (f x)) xs
-all_unmapped P f [] h = tt
-all_unmapped P f (x ∷ xs) h = (h.0, all_unmapped P f xs h.1)
-
-all_front : (P : ℕ → Type 0) (xs ys : List ℕ) → AllByRecursion P (xs ++ ys) → AllByRecursion P xs
-all_front P [] ys h = tt
-all_front P (x ∷ xs) ys h = (h.0, all_front P xs ys h.1)
 
 all_back : (P : ℕ → Type 0) (xs ys : List ℕ) → AllByRecursion P (xs ++ ys) → AllByRecursion P ys
 all_back P [] ys h = h

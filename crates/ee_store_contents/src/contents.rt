@@ -1,3 +1,5 @@
+//! The books that the rows of a store stand for.
+
 ghost use Rattle.std.specs.Prelude.{◌≡◌, IfOk, IfErr, IfSome};
 ghost use Rattle.ee_desk_acts.specs.Repeats.{Content};
 ghost use Rattle.ee_desk_parts.specs.Parts.{parts_of, AreUnsound};

@@ -15,7 +15,8 @@ use std::collections::BTreeMap;
 
 /// Notes the ticket that pays a serial number, where none is noted yet.
 fn note(marks: &mut BTreeMap<Serial, u64>, serial: Serial, ticket: u64) -> Result<(), AllocError>
-    ensures { OnOk result ((q : SerialNumber) → mark_at marks.new.entries q ≡ option_or (mark_at marks.old.entries q) (if same_serial q serial then Some ticket else None)) }
+    ensures { OnOk result
+        ((q : SerialNumber) → mark_at marks.new.entries q ≡ option_or (mark_at marks.old.entries q) (if same_serial q serial then Some ticket else None)) }
 {
     if !marks.contains_key(&serial) {
         marks.insert(serial, ticket)?;
@@ -29,7 +30,9 @@ fn note_lines(
     ticket: u64,
     lines: &[Line],
 ) -> Result<(), AllocError>
-    ensures { OnOk result ((q : SerialNumber) → mark_at marks.new.entries q ≡ option_or (mark_at marks.old.entries q) (if list_any (λ line. same_serial q line.serial) lines.now then Some ticket else None)) }
+    ensures { OnOk result
+        ((q : SerialNumber) → mark_at marks.new.entries q ≡ option_or (mark_at marks.old.entries q)
+        (if list_any (λ line. same_serial q line.serial) lines.now then Some ticket else None)) }
 {
     for line in lines {
         note(marks, line.serial, ticket)?;

@@ -3,7 +3,7 @@
 ghost use Rattle.std.specs.Prelude.{IfSome};
 ghost use Rattle.std.specs.List.{AllByRecursion};
 ghost use Rattle.ee_desk_acts.specs.Sound.{IsDay};
-ghost use Rattle.ee_desk_texts.specs.Ranges.{RateRowFits, BondFits, TicketFits, BatchFits};
+ghost use Rattle.ee_desk_texts.specs.Ranges.{TicketFits, BatchFits};
 ghost use Rattle.ee_store_contents.specs.Contents.{PartsFit};
 
 use ee_desk_acts::{Batch, RateRow, Ticket};

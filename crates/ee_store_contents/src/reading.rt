@@ -1,7 +1,20 @@
 //! Rows of one table as the values that they stand for.
 
 ghost use Rattle.std.specs.Prelude.{◌≡◌, IfOk, option_map};
-ghost use Rattle.ee_store_contents.specs.Reading.{each, optional_in, day_in, customer_in, days_of, days_in, rate_in, plain_bond_in, bond_with, bond_in, batch_in, mark_at};
+ghost use Rattle.ee_store_contents.specs.Reading.{
+  each,
+  optional_in,
+  day_in,
+  customer_in,
+  days_of,
+  days_in,
+  rate_in,
+  plain_bond_in,
+  bond_with,
+  bond_in,
+  batch_in,
+  mark_at,
+};
 
 use ee_calculator::Bond;
 use ee_desk_acts::{Batch, RateRow};

@@ -1,6 +1,6 @@
 //! Tickets, each with its lines.
 
-ghost use Rattle.std.specs.Prelude.{◌≡◌, ◌+◌, ◌<◌, ◌^◌, IfOk, option_map, length};
+ghost use Rattle.std.specs.Prelude.{◌≡◌, ◌+◌, ◌<◌, IfOk, option_map};
 ghost use Rattle.ee_store_contents.specs.Reading.{line_in, line_at, lines_at, ticket_with, ticket_in, tickets_in};
 
 use ee_desk_acts::{Line, Rows, Ticket};

@@ -1,12 +1,11 @@
 -- Rows change as the books change.
-use Rattle.std.proofs.Common.{◌≡◌, ℕ, suc, ◌+◌, ◌<◌, ◌≤◌, eqb, Bool, true, false, cond, ◌||◌, List, [], ◌∷◌, ◌++◌, map, length, arith, refl, sym, ap, ◌∙◌, append-nil, append_assoc, true≢false, Less, Equal, Greater}
+use Rattle.std.proofs.Common.{◌≡◌, ℕ, suc, ◌+◌, ◌<◌, ◌≤◌, eqb, Bool, true, false, cond, ◌||◌, List, [], ◌∷◌, ◌++◌, map, length, arith, refl, sym, ap, ◌∙◌, append-nil, append_assoc, Equal}
 use Rattle.std.specs.Prelude.{flat_map, Option, Some, None}
 use Rattle.std.specs.Option.{option_map, option_or}
 use Rattle.std.specs.List.{AllByRecursion, list_any}
-use Rattle.std.specs.List as list
-use Rattle.std.specs.Ordering.{nat_cmp, eq_by_cmp, is_eq}
+use Rattle.std.specs.Ordering.{nat_cmp, eq_by_cmp}
 use Rattle.std.specs.declared.cmp.Ordering.{Ordering}
-use Rattle.std.specs.Cmp.{nat_cmp_total, unsigned_tied}
+use Rattle.std.specs.Cmp.{nat_cmp_total, unsigned_tied, Equal-is}
 use Rattle.std.proofs.lemmas.List.{map-append}
 use Rattle.std.proofs.lemmas.Bool.{false_from_ne_true}
 use Rattle.std.specs.FinMap as finite
@@ -23,7 +22,8 @@ use Rattle.ee_desk_acts.specs.Numbers.{Number, number_cmp}
 use Rattle.ee_desk_acts.specs.PlainBooks.{ticket_of, names}
 use Rattle.ee_desk_acts.specs.Seen.{held_as}
 use Rattle.ee_desk_acts.specs.Sound.{NumberedFrom, day_of_batch}
-use Rattle.ee_desk_acts.proofs.Lemmas.Maps.{serials_total, serials_exact, serials_tied, same_serial-is, numbers_total}
+use Rattle.ee_desk_acts.proofs.Lemmas.Maps.{serials_total, serials_exact, serials_tied, numbers_total}
+use Rattle.ee_desk_acts.proofs.Lemmas.Books.{ticket_of_push, named_unpaid}
 use Rattle.std.proofs.lemmas.Map.Views.{tells_apart}
 use Rattle.ee_store_tables.proofs.Lemmas.Rows.{pair_total, pair_same}
 use Rattle.ee_store_contents.proofs.Lemmas.{get_rate_row, get_reply_row, get_bond_row, ticket_entry, ticket_lines, batch_entry}
@@ -96,12 +96,7 @@ above_apart : (m n : ℕ) → m < n → eq_by_cmp nat_cmp n m ≡ false
 above_apart m n h = unsigned_tied n m ∙ false_from_ne_true (eqb n m) (λ e. let is = nat_cmp-IsAntisymmetric n m (equal n m e) in absurd (omega (arith, h, is)))
   where
     equal : (a b : ℕ) → eqb a b ≡ true → nat_cmp a b ≡ Equal
-    equal a b e = is_equal (nat_cmp a b) (unsigned_tied a b ∙ e)
-      where
-        is_equal : (o : Ordering) → is_eq o ≡ true → o ≡ Equal
-        is_equal Less h = absurd (true≢false (sym h))
-        is_equal Equal h = refl
-        is_equal Greater h = absurd (true≢false (sym h))
+    equal a b e = (Equal-is (nat_cmp a b)).0 (unsigned_tied a b ∙ e)
 
 not_found : (n k : ℕ) (tickets : List Ticket) → NumberedFrom n tickets → n + length tickets ≤ k → find nat_cmp k (map ticket_entry tickets) ≡ None
 not_found n k [] numbered far = refl
@@ -229,20 +224,6 @@ any_names : (s : SerialNumber) (lines : List Line) → list_any (λ line. eq_by_
 any_names s [] = refl
 any_names s (line ∷ lines) = λ i. serials_tied s line.serial i || any_names s lines i
 
--- the ticket that pays a serial, with one ticket more
-or_push : (b c : Bool) (t u : Ticket) (o p : Option Ticket) → option_map (λ x. x.ticket) o ≡ option_or (option_map (λ x. x.ticket) p) (cond c (Some t.ticket) None)
-    → option_map (λ x. x.ticket) (cond b (Some u) o) ≡ option_or (option_map (λ x. x.ticket) (cond b (Some u) p)) (cond c (Some t.ticket) None)
-or_push true c t u o p h = refl
-or_push false c t u o p h = h
-
-last_named : (b : Bool) (t : Ticket) → option_map (λ x. x.ticket) (cond b (Some t) None) ≡ cond b (Some t.ticket) None
-last_named true t = refl
-last_named false t = refl
-
-ticket_of_push : (tickets : List Ticket) (t : Ticket) (q : SerialNumber) → ticket_of (tickets ++ t ∷ []) q ≡ option_or (ticket_of tickets q) (cond (names q t) (Some t.ticket) None)
-ticket_of_push [] t q = last_named (names q t) t
-ticket_of_push (u ∷ tickets) t q = or_push (names q u) (names q t) t u (list.find (names q) (tickets ++ t ∷ [])) (list.find (names q) tickets) (ticket_of_push tickets t q)
-
 or_none_right : (o : Option ℕ) → option_or o None ≡ o
 or_none_right None = refl
 or_none_right (Some x) = refl
@@ -250,15 +231,6 @@ or_none_right (Some x) = refl
 last_pays : (b : Bool) (n : ℕ) (o : Option ℕ) → (b ≡ true → o ≡ None) → option_or o (cond b (Some n) None) ≡ cond b (Some n) o
 last_pays true n o h = ap (λ p. option_or p (Some n)) (h refl)
 last_pays false n o h = or_none_right o
-
-unpaid_of : (tickets : List Ticket) (q : SerialNumber) (lines : List Line) → AllByRecursion (λ line. ticket_of tickets line.serial ≡ None) lines
-    → list_any (λ line. same_serial q line.serial) lines ≡ true → ticket_of tickets q ≡ None
-unpaid_of tickets q [] h e = absurd (true≢false (sym e))
-unpaid_of tickets q (line ∷ lines) h e = by_case (unpaid_of tickets q lines h.1) (same_serial q line.serial) refl e
-  where
-    by_case : (list_any (λ l. same_serial q l.serial) lines ≡ true → ticket_of tickets q ≡ None) → (b : Bool) → same_serial q line.serial ≡ b → (b || list_any (λ l. same_serial q l.serial) lines) ≡ true → ticket_of tickets q ≡ None
-    by_case later true same any = ap (ticket_of tickets) (same_serial-is q line.serial same) ∙ h.0
-    by_case later false apart any = later any
 
 paid_row_at : (b : Bool) (n : ℕ) (old new : List Ticket) (s : SerialNumber) (o : Option Bond) → ticket_of new s ≡ cond b (Some n) (ticket_of old s)
     → option_map (row_at new s) o ≡ option_map (mark_if b n) (option_map (row_at old s) o)
@@ -269,7 +241,7 @@ pub with_new_marks : (bonds : FinMap serial_cmp Bond) (tickets : List Ticket) (t
     → bond_rows bonds (tickets ++ t ∷ []) ≡ marks (bond_rows bonds tickets) t.ticket t.lines
 with_new_marks bonds tickets t unpaid = same_map pair_total pair_same _ _ (λ q.
     let s = at q in
-    let pays = ticket_of_push tickets t s ∙ last_pays (names s t) t.ticket (ticket_of tickets s) (unpaid_of tickets s t.lines unpaid) in
+    let pays = ticket_of_push tickets t s ∙ last_pays (names s t) t.ticket (ticket_of tickets s) (named_unpaid tickets s t.lines unpaid) in
     get_bond_row bonds (tickets ++ t ∷ []) s
     ∙ paid_row_at (names s t) t.ticket tickets (tickets ++ t ∷ []) s (finite.get bonds s) pays
     ∙ ap (λ b. option_map (mark_if b t.ticket) (option_map (row_at tickets s) (finite.get bonds s))) (sym (any_names s t.lines))

@@ -10,12 +10,11 @@ use Rattle.std.specs.FinMap.{entries, find, put, insert, get-insert, get-from_en
 use Rattle.std.specs.FinMap.Entries.{by_order}
 use Rattle.std.proofs.lemmas.Bool.{false_from_ne_true}
 use Rattle.std.proofs.lemmas.List.{map-append, length-map}
-use Rattle.std.proofs.lemmas.List.Concat.{flat_map-append}
 use Rattle.std.proofs.lemmas.List.Elements.{All-from_recursion}
 use Rattle.std.proofs.lemmas.List.Sums.{sum_by-le, length-filter, count_by-le-length}
 use Rattle.std.proofs.lemmas.Map.Views.{tells_apart}
 use Rattle.ee_units.specs.Spelling.{SerialNumber}
-use Rattle.ee_units.specs.Calendar.{period_start, month_of_day}
+use Rattle.ee_units.specs.Calendar.{month_of_day}
 use Rattle.ee_calculator.specs.declared.bonds.Bond.{Bond}
 use Rattle.ee_value.specs.declared.rates.RateRow.{RateRow}
 use Rattle.ee_desk_acts.specs.declared.acts.Act.{Act}
@@ -38,9 +37,9 @@ use Rattle.ee_desk_acts.specs.Lists.{Rising}
 use Rattle.ee_desk_acts.specs.Paid.{paid_lines, NoneTwice}
 use Rattle.ee_desk_acts.specs.Ranges.{IsInRange}
 use Rattle.ee_desk_acts.specs.Repeats.{Content}
-use Rattle.ee_desk_acts.specs.Sound.{IsSound, IsDay, IsRightRate, IsRightLine, IsRightTicket, NumberedFrom, day_of_batch, open_days, last_of}
-use Rattle.ee_desk_acts.proofs.Lemmas.Books.{value_le, few_tickets, few_tickets_on, few_bonds_on, small_total_on, act_keeps_sound, applied_are_books_after, seen_enough, refused_by_length, none_from_cond, none_from_option_or}
-use Rattle.ee_desk_acts.proofs.Lemmas.Maps.{all_weaker, all_append, all_mapped, rising_below}
+use Rattle.ee_desk_acts.specs.Sound.{IsSound, IsDay, IsRightTicket, NumberedFrom, day_of_batch, open_days, last_of}
+use Rattle.ee_desk_acts.proofs.Lemmas.Books.{few_tickets, few_tickets_on, few_bonds_on, small_total_on, act_keeps_sound, applied_are_books_after, seen_enough, refused_by_length, none_from_cond, none_from_option_or, line_le, paid_lines_push}
+use Rattle.ee_desk_acts.proofs.Lemmas.Maps.{all_weaker, all_append, all_mapped, rising_below, all_both}
 use Rattle.ee_desk.specs.Applicable.{IsRate, IsBond, AreApplicable}
 use Rattle.ee_desk.proofs.Lemmas.{decided_are_applicable}
 use Rattle.ee_desk_texts.specs.Ranges.{ActFits}
@@ -61,10 +60,6 @@ all_front P (x ∷ xs) ys h = (h.0, all_front P xs ys h.1)
 all_back : {A : Type 0} (P : A → Type 0) (xs ys : List A) → AllByRecursion P (xs ++ ys) → AllByRecursion P ys
 all_back P [] ys h = h
 all_back P (x ∷ xs) ys h = all_back P xs ys h.1
-
-all_both : {A : Type 0} (P Q : A → Type 0) (xs : List A) → AllByRecursion P xs → AllByRecursion Q xs → AllByRecursion (λ x. P x × Q x) xs
-all_both P Q [] h k = tt
-all_both P Q (x ∷ xs) h k = ((h.0, k.0), all_both P Q xs h.1 k.1)
 
 -- ---- maps
 not_below : {X : Type 0} (k : ℕ) (es : List (ℕ × X)) → AllByRecursion (λ e. e.0 < k) es → find nat_cmp k es ≡ None
@@ -97,9 +92,6 @@ keys_apart : (a b : SerialNumber) → same_serial a b ≡ false → key_of a ≢
 keys_apart a b apart e =
     let same : same_serial a b ≡ true = λ i. eq-eqb a.letter b.letter (ap (λ k. k.0) e) i && eq-eqb a.number b.number (ap (λ k. k.1) e) i in
     true≢false (sym same ∙ apart)
-
-paid_push : (tickets : List Ticket) (t : Ticket) → paid_lines (tickets ++ t ∷ []) ≡ paid_lines tickets ++ t.lines
-paid_push tickets t = flat_map-append (λ (ticket : Ticket). ticket.lines) tickets (t ∷ []) ∙ ap (λ l. paid_lines tickets ++ l) (append-nil t.lines)
 
 none_twice_back : (xs ys : List Line) → NoneTwice (xs ++ ys) → NoneTwice ys
 none_twice_back [] ys h = h
@@ -183,12 +175,6 @@ can_pay rows n place (line ∷ lines) free unpaid once = (
 )
 
 -- ---- a ticket
-cents_small : (books : PlainBooks) → IsSound books → (ticket : Ticket) (line : Line) → IsRightLine books.rates books.bonds ticket line → cents_of line ≤ 304493600
-cents_small books sound ticket line h =
-    let right = subst (λ o. IfSome o (IsRightRate (period_start h.0.issued))) h.3 (sound.rates (period_start h.0.issued)) in
-    let le = value_le h.1 h.0 (month_of_day ticket.day) right.in_range.1 in
-    let is = h.6 in omega (arith, is, le)
-
 ticket_fits : (S : Content) (t : Ticket) → NumberedFrom 1 S.books.tickets → IsSound (changed S.books (change.Ticket t)) → CanPayTicket (rows_of S) t
 ticket_fits S t numbered sound =
     let tickets = S.books.tickets in
@@ -198,11 +184,11 @@ ticket_fits S t numbered sound =
     let most = few_tickets after sound in
     let right = (all_back (IsRightTicket after.rates after.bonds) tickets (t ∷ []) sound.tickets).0 in
     let few = right.few in
-    let small = all_weaker _ (λ line. cents_of line ≤ 304493600) (cents_small after sound t) t.lines right.lines in
+    let small = all_weaker _ (λ line. cents_of line ≤ 304493600) (line_le after sound t) t.lines right.lines in
     let sum = sum_by-le cents_of 304493600 t.lines (All-from_recursion (λ line. cents_of line ≤ 304493600) t.lines small) in
     let total = right.total in
     let earlier = numbered_below 1 t.ticket tickets numbered (omega (arith, next)) in
-    let once = subst NoneTwice (paid_push tickets t) sound.once in
+    let once = subst NoneTwice (paid_lines_push tickets t) sound.once in
     record {
       number = omega (arith, next, count, most);
       total = omega (arith, total, sum, few);

@@ -1,7 +1,7 @@
 -- The rows that a delivery writes are those of the content after it.
 use Rattle.std.proofs.Common.{◌≡◌, ℕ, suc, ◌+◌, List, [], ◌∷◌, ◌++◌, map, length, arith, refl, sym, ap, ◌∙◌, subst, append-nil}
 use Rattle.std.specs.Prelude.{Option, Some, None}
-use Rattle.std.specs.Option.{option_map, unwrap_or}
+use Rattle.std.specs.Option.{option_map}
 use Rattle.std.specs.Ordering.{nat_cmp}
 use Rattle.ee_units.specs.Spelling.{SerialNumber}
 use Rattle.ee_desk_acts.specs.Serials.{serial_cmp}
@@ -13,6 +13,7 @@ use Rattle.ee_calculator.specs.declared.bonds.Bond.{Bond}
 use Rattle.ee_desk_acts.specs.Seen.{held_as}
 use Rattle.std.specs.List.{AllByRecursion}
 use Rattle.std.proofs.lemmas.List.{map-append}
+use Rattle.std.proofs.lemmas.Option.{same_Some}
 use Rattle.ee_desk_acts.specs.declared.changes.Change.{Change}
 use Rattle.ee_desk_acts.specs.declared.changes.Change.TheVariants as change
 use Rattle.ee_desk_acts.specs.declared.replies.Ticket.{Ticket}
@@ -85,10 +86,7 @@ days_set : (rows : Rows) (day last_day old_day old_last : Option ℕ) (o : Optio
     → record rows { desk = insert rows.desk 1 (record { version = 1; day = day; last_day = last_day }) } ≡ day_set rows day last_day o
 days_set rows day last_day old_day old_last None is = absurd (cc)
 days_set rows day last_day old_day old_last (Some desk) is =
-    ap (λ (d : DeskRow). record rows { desk = insert rows.desk 1 (record d { day = day; last_day = last_day }) }) (sym (same_row desk _ is))
-  where
-    same_row : (a b : DeskRow) → Some a ≡ Some b → a ≡ b
-    same_row a b e = ap (λ o. unwrap_or o a) e
+    ap (λ (d : DeskRow). record rows { desk = insert rows.desk 1 (record d { day = day; last_day = last_day }) }) (sym (same_Some desk _ is))
 
 days_written : (rows : Rows) (day last_day old_day old_last : Option ℕ) → rows.desk ≡ desk_rows old_day old_last
     → record rows { desk = desk_rows day last_day } ≡ day_set rows day last_day (finite.get rows.desk 1)

@@ -65,7 +65,8 @@ fn decide_in<S: Alter>(
     ensures commit { CommitsNothing (state S.Store tx.old.conn.now) (state S.Store tx.new.conn.now) }
     ensures crash { LeavesNoMore (state S.Store tx.old.conn.now) (state S.Store tx.new.conn.now) }
     ensures room { LeavesRoomAfter (state S.Store tx.old.conn.now) (state S.Store tx.new.conn.now) result }
-    ensures cause { FailsByCause (state S.Store tx.old.conn.now) (state S.Store tx.new.conn.now) result (λ content. (finite.get content.kept (number_of request.now) ≡ None) × TextsFit content request.now × HasRoom 500 (state S.Store tx.old.conn.now)) }
+    ensures cause { FailsByCause (state S.Store tx.old.conn.now) (state S.Store tx.new.conn.now) result
+        (λ content. (finite.get content.kept (number_of request.now) ≡ None) × TextsFit content request.now × HasRoom 500 (state S.Store tx.old.conn.now)) }
 {
     let (effects, last_day) = effects_in(tx, alloc, tables, &request.act)?;
     let Effects { changes, reply } = effects;
@@ -87,11 +88,13 @@ pub fn serve_in<S: Alter>(
     ensures open { LeavesOpen (state S.Store tx.new.conn.now) result }
     ensures inside { StaysInside (state S.Store tx.old.conn.now) (state S.Store tx.new.conn.now) result }
     ensures serves { Serves (state S.Store tx.old.conn.now) (state S.Store tx.new.conn.now) request.now result }
-    ensures sound { HasCleanDisk (state S.Store tx.new.conn.now) → IsInside (state S.Store tx.old.conn.now) → IfOk result (λ r. IsTrue r.0 → IsTrue (state S.Store tx.new.conn.now).is_open → IsDatabase (state S.Store tx.new.conn.now).now) }
+    ensures sound { HasCleanDisk (state S.Store tx.new.conn.now) → IsInside (state S.Store tx.old.conn.now)
+        → IfOk result (λ r. IsTrue r.0 → IsTrue (state S.Store tx.new.conn.now).is_open → IsDatabase (state S.Store tx.new.conn.now).now) }
     ensures commit { CommitsNothing (state S.Store tx.old.conn.now) (state S.Store tx.new.conn.now) }
     ensures crash { LeavesNoMore (state S.Store tx.old.conn.now) (state S.Store tx.new.conn.now) }
     ensures room { LeavesRoomAfter (state S.Store tx.old.conn.now) (state S.Store tx.new.conn.now) result }
-    ensures cause { FailsByCause (state S.Store tx.old.conn.now) (state S.Store tx.new.conn.now) result (λ content. TextsFit content request.now × HasRoom 500 (state S.Store tx.old.conn.now)) }
+    ensures cause { FailsByCause (state S.Store tx.old.conn.now) (state S.Store tx.new.conn.now) result
+        (λ content. TextsFit content request.now × HasRoom 500 (state S.Store tx.old.conn.now)) }
 {
     let act = canonical(alloc, &request.act)?;
     if let Some(entry) = find_reply(tx, request.number.value())? {
@@ -112,15 +115,22 @@ pub fn deliver_on<S: Alter>(
     tables: &mut UnitTables,
     request: &Request,
 ) -> Result<Reply, Failure>
-    ensures told { HasCleanDisk (state S.Store conn.new) → IfOk result (λ reply. (content : Content) → HasContent (state S.Store conn.old) content → reply ≡ answer content [] request.now) }
-    ensures kept { HasCleanDisk (state S.Store conn.new) → OnOk result ((content : Content) → HasContent (state S.Store conn.old) content → HasContent (state S.Store conn.new) (content_after content (request.now ∷ []))) }
-    ensures failed { HasCleanDisk (state S.Store conn.new) → OnErr result ((content : Content) → HasContent (state S.Store conn.old) content → HasContent (state S.Store conn.new) content) }
-    ensures crash { Survives (state S.Store conn.old) (state S.Store conn.new) (λ db. (content : Content) → HasContent (state S.Store conn.old) content → StandsFor db (content_after content (request.now ∷ []))) }
-    ensures opened { HasCleanDisk (state S.Store conn.new) → OnOk result ((content : Content) → HasContent (state S.Store conn.old) content → finite.contains_key content.kept (number_of request.now) ≡ false
+    ensures told { HasCleanDisk (state S.Store conn.new)
+        → IfOk result (λ reply. (content : Content) → HasContent (state S.Store conn.old) content → reply ≡ answer content [] request.now) }
+    ensures kept { HasCleanDisk (state S.Store conn.new) → OnOk result
+        ((content : Content) → HasContent (state S.Store conn.old) content → HasContent (state S.Store conn.new) (content_after content (request.now ∷ []))) }
+    ensures failed { HasCleanDisk (state S.Store conn.new)
+        → OnErr result ((content : Content) → HasContent (state S.Store conn.old) content → HasContent (state S.Store conn.new) content) }
+    ensures crash { Survives (state S.Store conn.old) (state S.Store conn.new)
+        (λ db. (content : Content) → HasContent (state S.Store conn.old) content → StandsFor db (content_after content (request.now ∷ []))) }
+    ensures opened { HasCleanDisk (state S.Store conn.new)
+        → OnOk result ((content : Content) → HasContent (state S.Store conn.old) content → finite.contains_key content.kept (number_of request.now) ≡ false
         → IsTrue (state S.Store conn.new).is_open) }
-    ensures durable { HasCleanDisk (state S.Store conn.new) → OnOk result ((content : Content) → HasContent (state S.Store conn.old) content → finite.contains_key content.kept (number_of request.now) ≡ false
+    ensures durable { HasCleanDisk (state S.Store conn.new)
+        → OnOk result ((content : Content) → HasContent (state S.Store conn.old) content → finite.contains_key content.kept (number_of request.now) ≡ false
         → (db : Trees) → (state S.Store conn.new).may_leave db → db ≡ (state S.Store conn.new).committed.trees) }
-    ensures again { HasCleanDisk (state S.Store conn.new) → OnOk result ((content : Content) → HasContent (state S.Store conn.old) content → finite.contains_key content.kept (number_of request.now) ≡ true
+    ensures again { HasCleanDisk (state S.Store conn.new)
+        → OnOk result ((content : Content) → HasContent (state S.Store conn.old) content → finite.contains_key content.kept (number_of request.now) ≡ true
         → (db : Trees) → (state S.Store conn.new).may_leave db → (state S.Store conn.old).may_leave db) }
     ensures ready { IsReady (state S.Store conn.old) → IsReady (state S.Store conn.new) }
     ensures room { TakesRequestRoom (state S.Store conn.old) (state S.Store conn.new) }

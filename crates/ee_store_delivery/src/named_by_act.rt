@@ -81,7 +81,8 @@ fn periods_found(
     found: &BTreeMap<Serial, Held>,
     serials: &[Serial],
 ) -> Result<Vec<IssueMonth>, AllocError>
-    ensures { IfOk result (λ periods. periods.items ≡ filter_map (λ serial. option_map period_of_held (finite.get (bonds_found found.now.entries) serial)) serials.now) }
+    ensures { IfOk result
+        (λ periods. periods.items ≡ filter_map (λ serial. option_map period_of_held (finite.get (bonds_found found.now.entries) serial)) serials.now) }
 {
     let mut periods = Vec::new(alloc);
     for serial in serials {

@@ -14,10 +14,10 @@ ghost use Rattle.ee_desk_acts.specs.Views as is;
 ghost use Rattle.ee_desk_acts.specs.Views.{picked};
 ghost use Rattle.ee_store_tables.specs.AsRows.{row_of_desk};
 ghost use Rattle.ee_store_tables.specs.Rows.{DeskRow};
-ghost use Rattle.ee_store_tables.specs.Statements.{StaysOpen, StaysInside, CommitsNothing, LeavesNoMore};
+
 ghost use Rattle.ee_store_lookups.specs.Causes.{FailsByCause};
 ghost use Rattle.ee_store_lookups.specs.Found.{terms_found, bonds_found};
-ghost use Rattle.ee_store_lookups.specs.Seen.{FindsIn, LeavesRows};
+ghost use Rattle.ee_store_lookups.specs.Seen.{FindsIn, OnlyReads};
 ghost use Rattle.ee_store_delivery.specs.Delivered.{AreEffects};
 
 use crate::named_by_act::{periods_of, serials_of};
@@ -63,7 +63,8 @@ fn days_of(desk: tables::DeskRow) -> Result<Days, Failure>
 
 /// The days that a look-up showed.
 fn days_shown(found: Option<tables::DeskRow>) -> Result<Days, Failure>
-    ensures value { IfOk result (λ days. (desk : DeskRow) → option_map row_of_desk found ≡ Some desk → (days.day ≡ desk.day) × (days.last_day ≡ desk.last_day)) }
+    ensures value { IfOk result
+        (λ days. (desk : DeskRow) → option_map row_of_desk found ≡ Some desk → (days.day ≡ desk.day) × (days.last_day ≡ desk.last_day)) }
     ensures read { (desk : DeskRow) → option_map row_of_desk found ≡ Some desk → IfSome desk.day IsDay → IfSome desk.last_day IsDay → IsOk result }
 {
     match found {
@@ -75,12 +76,9 @@ fn days_shown(found: Option<tables::DeskRow>) -> Result<Days, Failure>
 /// The open day and the day that was closed last.
 fn days_in<S: Alter>(tx: &mut Transaction<'_, S>) -> Result<Days, Failure>
     ensures same_reference { tx.new.conn.ghost_name ≡ tx.old.conn.ghost_name }
-    ensures open { StaysOpen (state S.Store tx.old.conn.now) (state S.Store tx.new.conn.now) result }
-    ensures inside { StaysInside (state S.Store tx.old.conn.now) (state S.Store tx.new.conn.now) result }
-    ensures found { FindsIn (state S.Store tx.old.conn.now) (state S.Store tx.new.conn.now) result (λ content days. (days.day ≡ content.books.day) × (days.last_day ≡ content.books.last_day)) }
-    ensures rows { LeavesRows (state S.Store tx.old.conn.now) (state S.Store tx.new.conn.now) result }
-    ensures commit { CommitsNothing (state S.Store tx.old.conn.now) (state S.Store tx.new.conn.now) }
-    ensures crash { LeavesNoMore (state S.Store tx.old.conn.now) (state S.Store tx.new.conn.now) }
+    ensures only_reads { OnlyReads (state S.Store tx.old.conn.now) (state S.Store tx.new.conn.now) result }
+    ensures found { FindsIn (state S.Store tx.old.conn.now) (state S.Store tx.new.conn.now) result
+        (λ content days. (days.day ≡ content.books.day) × (days.last_day ≡ content.books.last_day)) }
     ensures cause { FailsByCause (state S.Store tx.old.conn.now) (state S.Store tx.new.conn.now) result (λ _. ⊤) }
 {
     let found = find_desk(tx)?;
@@ -102,14 +100,10 @@ fn keys_in<S: Alter>(
     act: &Act,
 ) -> Result<Keys, Failure>
     ensures same_reference { tx.new.conn.ghost_name ≡ tx.old.conn.ghost_name }
-    ensures open { StaysOpen (state S.Store tx.old.conn.now) (state S.Store tx.new.conn.now) result }
-    ensures inside { StaysInside (state S.Store tx.old.conn.now) (state S.Store tx.new.conn.now) result }
+    ensures only_reads { OnlyReads (state S.Store tx.old.conn.now) (state S.Store tx.new.conn.now) result }
     ensures found { FindsIn (state S.Store tx.old.conn.now) (state S.Store tx.new.conn.now) result (λ content keys.
         (terms_found keys.terms.entries ≡ picked (finite.get content.books.rates) (is.periods_of content.books act.now))
         × (bonds_found keys.bonds.entries ≡ picked (held_of content.books) (is.serials_of act.now))) }
-    ensures rows { LeavesRows (state S.Store tx.old.conn.now) (state S.Store tx.new.conn.now) result }
-    ensures commit { CommitsNothing (state S.Store tx.old.conn.now) (state S.Store tx.new.conn.now) }
-    ensures crash { LeavesNoMore (state S.Store tx.old.conn.now) (state S.Store tx.new.conn.now) }
     ensures cause { FailsByCause (state S.Store tx.old.conn.now) (state S.Store tx.new.conn.now) result (λ _. ⊤) }
 {
     let serials = serials_of(alloc, act)?;
@@ -136,14 +130,10 @@ fn counts_in<S: Alter>(
     day: Option<Day>,
 ) -> Result<Counts, Failure>
     ensures same_reference { tx.new.conn.ghost_name ≡ tx.old.conn.ghost_name }
-    ensures open { StaysOpen (state S.Store tx.old.conn.now) (state S.Store tx.new.conn.now) result }
-    ensures inside { StaysInside (state S.Store tx.old.conn.now) (state S.Store tx.new.conn.now) result }
+    ensures only_reads { OnlyReads (state S.Store tx.old.conn.now) (state S.Store tx.new.conn.now) result }
     ensures found { FindsIn (state S.Store tx.old.conn.now) (state S.Store tx.new.conn.now) result (λ content counts. day ≡ content.books.day
         → (counts.tickets ≡ length content.books.tickets) × (counts.day.tickets ≡ (is.needed_counts content.books act.now).tickets)
         × (counts.day.bonds ≡ (is.needed_counts content.books act.now).bonds) × (counts.day.total.0 ≡ (is.needed_counts content.books act.now).total.0)) }
-    ensures rows { LeavesRows (state S.Store tx.old.conn.now) (state S.Store tx.new.conn.now) result }
-    ensures commit { CommitsNothing (state S.Store tx.old.conn.now) (state S.Store tx.new.conn.now) }
-    ensures crash { LeavesNoMore (state S.Store tx.old.conn.now) (state S.Store tx.new.conn.now) }
     ensures cause { FailsByCause (state S.Store tx.old.conn.now) (state S.Store tx.new.conn.now) result (λ _. ⊤) }
 {
     let tickets = tickets_in(tx)?;
@@ -155,8 +145,29 @@ fn counts_in<S: Alter>(
 }
 
 fn view_from(keys: Keys, days: Days, counts: Counts) -> Result<View, Failure>
-    ensures fits { (books : PlainBooks) → IsSound books → (asked : Act) → record { rates = terms_found keys.terms.entries; bonds = bonds_found keys.bonds.entries; day = days.day; last_day = days.last_day; tickets = counts.tickets; day_tickets = counts.day.tickets; day_bonds = counts.day.bonds; day_total = counts.day.total.0 } ≡ is.needed_of books asked → IsOk result }
-    ensures view { IfOk result (λ view. view ≡ record { rates = terms_found keys.terms.entries; bonds = bonds_found keys.bonds.entries; day = days.day; last_day = days.last_day; tickets = counts.tickets; day_tickets = counts.day.tickets; day_bonds = counts.day.bonds; day_total = counts.day.total.0 }) }
+    ensures fits { (books : PlainBooks) → IsSound books → (asked : Act)
+        → record {
+          rates = terms_found keys.terms.entries;
+          bonds = bonds_found keys.bonds.entries;
+          day = days.day;
+          last_day = days.last_day;
+          tickets = counts.tickets;
+          day_tickets = counts.day.tickets;
+          day_bonds = counts.day.bonds;
+          day_total = counts.day.total.0;
+        } ≡ is.needed_of books asked
+        → IsOk result }
+    ensures view { IfOk result
+        (λ view. view ≡ record {
+          rates = terms_found keys.terms.entries;
+          bonds = bonds_found keys.bonds.entries;
+          day = days.day;
+          last_day = days.last_day;
+          tickets = counts.tickets;
+          day_tickets = counts.day.tickets;
+          day_bonds = counts.day.bonds;
+          day_total = counts.day.total.0;
+        }) }
 {
     let Keys { terms, bonds } = keys;
     let parts = ViewParts {
@@ -183,12 +194,9 @@ fn view_within<S: Alter>(
     act: &Act,
 ) -> Result<View, Failure>
     ensures same_reference { tx.new.conn.ghost_name ≡ tx.old.conn.ghost_name }
-    ensures open { StaysOpen (state S.Store tx.old.conn.now) (state S.Store tx.new.conn.now) result }
-    ensures inside { StaysInside (state S.Store tx.old.conn.now) (state S.Store tx.new.conn.now) result }
-    ensures found { FindsIn (state S.Store tx.old.conn.now) (state S.Store tx.new.conn.now) result (λ content view. view ≡ is.needed_within content.books act.now) }
-    ensures rows { LeavesRows (state S.Store tx.old.conn.now) (state S.Store tx.new.conn.now) result }
-    ensures commit { CommitsNothing (state S.Store tx.old.conn.now) (state S.Store tx.new.conn.now) }
-    ensures crash { LeavesNoMore (state S.Store tx.old.conn.now) (state S.Store tx.new.conn.now) }
+    ensures only_reads { OnlyReads (state S.Store tx.old.conn.now) (state S.Store tx.new.conn.now) result }
+    ensures found { FindsIn (state S.Store tx.old.conn.now) (state S.Store tx.new.conn.now) result
+        (λ content view. view ≡ is.needed_within content.books act.now) }
     ensures cause { FailsByCause (state S.Store tx.old.conn.now) (state S.Store tx.new.conn.now) result (λ _. length_refusal act.now ≡ None) }
 {
     let days = days_in(tx)?;
@@ -205,12 +213,8 @@ fn view_in<S: Alter>(
     act: &Act,
 ) -> Result<View, Failure>
     ensures same_reference { tx.new.conn.ghost_name ≡ tx.old.conn.ghost_name }
-    ensures open { StaysOpen (state S.Store tx.old.conn.now) (state S.Store tx.new.conn.now) result }
-    ensures inside { StaysInside (state S.Store tx.old.conn.now) (state S.Store tx.new.conn.now) result }
+    ensures only_reads { OnlyReads (state S.Store tx.old.conn.now) (state S.Store tx.new.conn.now) result }
     ensures found { FindsIn (state S.Store tx.old.conn.now) (state S.Store tx.new.conn.now) result (λ content view. view ≡ is.needed_of content.books act.now) }
-    ensures rows { LeavesRows (state S.Store tx.old.conn.now) (state S.Store tx.new.conn.now) result }
-    ensures commit { CommitsNothing (state S.Store tx.old.conn.now) (state S.Store tx.new.conn.now) }
-    ensures crash { LeavesNoMore (state S.Store tx.old.conn.now) (state S.Store tx.new.conn.now) }
     ensures cause { FailsByCause (state S.Store tx.old.conn.now) (state S.Store tx.new.conn.now) result (λ _. ⊤) }
 {
     match length_refusal(act) {
@@ -237,12 +241,8 @@ pub fn effects_in<S: Alter>(
     act: &Act,
 ) -> Result<(Effects, Option<u64>), Failure>
     ensures same_reference { tx.new.conn.ghost_name ≡ tx.old.conn.ghost_name }
-    ensures open { StaysOpen (state S.Store tx.old.conn.now) (state S.Store tx.new.conn.now) result }
-    ensures inside { StaysInside (state S.Store tx.old.conn.now) (state S.Store tx.new.conn.now) result }
+    ensures only_reads { OnlyReads (state S.Store tx.old.conn.now) (state S.Store tx.new.conn.now) result }
     ensures found { FindsIn (state S.Store tx.old.conn.now) (state S.Store tx.new.conn.now) result (AreEffects act.now) }
-    ensures rows { LeavesRows (state S.Store tx.old.conn.now) (state S.Store tx.new.conn.now) result }
-    ensures commit { CommitsNothing (state S.Store tx.old.conn.now) (state S.Store tx.new.conn.now) }
-    ensures crash { LeavesNoMore (state S.Store tx.old.conn.now) (state S.Store tx.new.conn.now) }
     ensures cause { FailsByCause (state S.Store tx.old.conn.now) (state S.Store tx.new.conn.now) result (λ _. ⊤) }
 {
     let view = view_in(tx, alloc, tables, act)?;

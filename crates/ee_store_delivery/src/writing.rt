@@ -27,7 +27,8 @@ fn write_terms<S: Alter>(
     ensures same_reference { tx.new.conn.ghost_name ≡ tx.old.conn.ghost_name }
     ensures open { LeavesOpen (state S.Store tx.new.conn.now) result }
     ensures inside { StaysInside (state S.Store tx.old.conn.now) (state S.Store tx.new.conn.now) result }
-    ensures written { Makes (state S.Store tx.old.conn.now) (state S.Store tx.new.conn.now) result (λ rows. changed_rows None rows (Change.Rates from terms.now)) }
+    ensures written { Makes (state S.Store tx.old.conn.now) (state S.Store tx.new.conn.now) result
+        (λ rows. changed_rows None rows (Change.Rates from terms.now)) }
     ensures commit { CommitsNothing (state S.Store tx.old.conn.now) (state S.Store tx.new.conn.now) }
     ensures crash { LeavesNoMore (state S.Store tx.old.conn.now) (state S.Store tx.new.conn.now) }
     ensures room { LeavesRoom (state S.Store tx.old.conn.now) (state S.Store tx.new.conn.now) result 0 }
@@ -71,7 +72,8 @@ fn write_ticket<S: Alter>(
     ensures commit { CommitsNothing (state S.Store tx.old.conn.now) (state S.Store tx.new.conn.now) }
     ensures crash { LeavesNoMore (state S.Store tx.old.conn.now) (state S.Store tx.new.conn.now) }
     ensures room { LeavesRoom (state S.Store tx.old.conn.now) (state S.Store tx.new.conn.now) result (length ticket.now.lines) }
-    ensures cause { FailsByCause (state S.Store tx.old.conn.now) (state S.Store tx.new.conn.now) result (λ rows. CanPayTicket rows ticket.now × HasRoom (length ticket.now.lines) (state S.Store tx.old.conn.now)) }
+    ensures cause { FailsByCause (state S.Store tx.old.conn.now) (state S.Store tx.new.conn.now) result
+        (λ rows. CanPayTicket rows ticket.now × HasRoom (length ticket.now.lines) (state S.Store tx.old.conn.now)) }
 {
     let number = whole(ticket.ticket)?;
     let row = ticket_row(ticket)?;
@@ -93,7 +95,8 @@ fn write_batch<S: Alter>(tx: &mut Transaction<'_, S>, batch: &Batch) -> Result<(
     ensures commit { CommitsNothing (state S.Store tx.old.conn.now) (state S.Store tx.new.conn.now) }
     ensures crash { LeavesNoMore (state S.Store tx.old.conn.now) (state S.Store tx.new.conn.now) }
     ensures room { LeavesRoom (state S.Store tx.old.conn.now) (state S.Store tx.new.conn.now) result 0 }
-    ensures cause { FailsByCause (state S.Store tx.old.conn.now) (state S.Store tx.new.conn.now) result (λ rows. CanClose rows batch.now × HasRoom 0 (state S.Store tx.old.conn.now)) }
+    ensures cause { FailsByCause (state S.Store tx.old.conn.now) (state S.Store tx.new.conn.now) result
+        (λ rows. CanClose rows batch.now × HasRoom 0 (state S.Store tx.old.conn.now)) }
 {
     let row = batch_row(batch)?;
     let day = batch.day.count() as u64;
@@ -115,7 +118,8 @@ fn write_day<S: Alter>(
     ensures commit { CommitsNothing (state S.Store tx.old.conn.now) (state S.Store tx.new.conn.now) }
     ensures crash { LeavesNoMore (state S.Store tx.old.conn.now) (state S.Store tx.new.conn.now) }
     ensures room { LeavesRoom (state S.Store tx.old.conn.now) (state S.Store tx.new.conn.now) result 0 }
-    ensures cause { FailsByCause (state S.Store tx.old.conn.now) (state S.Store tx.new.conn.now) result (λ _. IfSome last_day Fits × HasRoom 0 (state S.Store tx.old.conn.now)) }
+    ensures cause { FailsByCause (state S.Store tx.old.conn.now) (state S.Store tx.new.conn.now) result
+        (λ _. IfSome last_day Fits × HasRoom 0 (state S.Store tx.old.conn.now)) }
 {
     let last = whole_option(last_day)?;
     set_day(tx, Some(day.count() as u64), last)?;
@@ -136,7 +140,8 @@ fn write_change<S: Alter>(
     ensures commit { CommitsNothing (state S.Store tx.old.conn.now) (state S.Store tx.new.conn.now) }
     ensures crash { LeavesNoMore (state S.Store tx.old.conn.now) (state S.Store tx.new.conn.now) }
     ensures room { LeavesRoom (state S.Store tx.old.conn.now) (state S.Store tx.new.conn.now) result (added_rows change.now) }
-    ensures cause { FailsByCause (state S.Store tx.old.conn.now) (state S.Store tx.new.conn.now) result (λ rows. CanWrite last_day rows change.now × HasRoom (added_rows change.now) (state S.Store tx.old.conn.now)) }
+    ensures cause { FailsByCause (state S.Store tx.old.conn.now) (state S.Store tx.new.conn.now) result
+        (λ rows. CanWrite last_day rows change.now × HasRoom (added_rows change.now) (state S.Store tx.old.conn.now)) }
 {
     match change {
         Change::Rates(from, terms) => write_terms(tx, *from, terms),
@@ -161,7 +166,8 @@ pub fn write_changes<S: Alter>(
     ensures commit { CommitsNothing (state S.Store tx.old.conn.now) (state S.Store tx.new.conn.now) }
     ensures crash { LeavesNoMore (state S.Store tx.old.conn.now) (state S.Store tx.new.conn.now) }
     ensures room { LeavesRoom (state S.Store tx.old.conn.now) (state S.Store tx.new.conn.now) result (all_added_rows changes.now) }
-    ensures cause { FailsByCause (state S.Store tx.old.conn.now) (state S.Store tx.new.conn.now) result (λ rows. CanWriteAll last_day rows changes.now × HasRoom (all_added_rows changes.now) (state S.Store tx.old.conn.now)) }
+    ensures cause { FailsByCause (state S.Store tx.old.conn.now) (state S.Store tx.new.conn.now) result
+        (λ rows. CanWriteAll last_day rows changes.now × HasRoom (all_added_rows changes.now) (state S.Store tx.old.conn.now)) }
 {
     for change in changes {
         write_change(tx, alloc, last_day, change)?;

@@ -5,6 +5,7 @@ use Rattle.sqlite.specs.Tree.{Trees}
 use Rattle.sqlite.specs.State.{State, HasCleanDisk}
 use Rattle.ee_desk_acts.specs.Repeats.{Content}
 use Rattle.ee_store_tables.specs.Rows.{Rows, Stores, Sees, Has, HasRoom, IsInside}
+use Rattle.ee_store_tables.specs.Statements.{StaysOpen, StaysInside, CommitsNothing, LeavesNoMore}
 use Rattle.ee_store_contents.specs.Standing.{rows_of, IsRight}
 
 -- What the trees of a store stand for. They list the counter's tables, so that an open reads just these.
@@ -33,3 +34,11 @@ StaysSeen old new rows = Sees new rows × ((n : ℕ) → HasRoom n old → HasRo
 -- the rows that are seen stay, and so does the room
 abbrev pub LeavesRows : {X E : Type 0} → State → State → Result X E → Type 0
 LeavesRows old new result = HasCleanDisk new → IsInside old → OnOk result ((rows : Rows) → Sees old rows → StaysSeen old new rows)
+
+-- what a look-up in a transaction leaves: nothing is written
+pub record OnlyReads {X E : Type 0} (old new : State) (result : Result X E) : Type 0 where
+  pub still_open : StaysOpen old new result
+  pub inside : StaysInside old new result
+  pub rows : LeavesRows old new result
+  pub commit : CommitsNothing old new
+  pub crash : LeavesNoMore old new

@@ -10,11 +10,10 @@ ghost use Rattle.ee_desk_acts.specs.Seen.{held_of};
 ghost use Rattle.ee_desk_acts.specs.Views.{picked};
 ghost use Rattle.ee_desk_texts.specs.Ranges.{IsCustomer, BondFits};
 ghost use Rattle.ee_store_tables.specs.AsRows.{row_of_bond};
-ghost use Rattle.ee_store_tables.specs.Statements.{StaysOpen, StaysInside, CommitsNothing, LeavesNoMore};
 ghost use Rattle.ee_store_contents.specs.Standing.{bond_row};
 ghost use Rattle.ee_store_lookups.specs.Causes.{FailsByCause};
 ghost use Rattle.ee_store_lookups.specs.Found.{bonds_found, with_found};
-ghost use Rattle.ee_store_lookups.specs.Seen.{FindsIn, LeavesRows};
+ghost use Rattle.ee_store_lookups.specs.Seen.{FindsIn, OnlyReads};
 
 use ee_calculator::Bond;
 use ee_desk_acts::Held;
@@ -74,12 +73,8 @@ fn held_shown(serial: Serial, found: Option<BondRow>) -> Result<Option<Held>, Fa
 /// What is held of a serial number.
 fn find_held<S: Alter>(tx: &mut Transaction<'_, S>, serial: Serial) -> Result<Option<Held>, Failure>
     ensures same_reference { tx.new.conn.ghost_name ≡ tx.old.conn.ghost_name }
-    ensures open { StaysOpen (state S.Store tx.old.conn.now) (state S.Store tx.new.conn.now) result }
-    ensures inside { StaysInside (state S.Store tx.old.conn.now) (state S.Store tx.new.conn.now) result }
+    ensures only_reads { OnlyReads (state S.Store tx.old.conn.now) (state S.Store tx.new.conn.now) result }
     ensures found { FindsIn (state S.Store tx.old.conn.now) (state S.Store tx.new.conn.now) result (λ content held. held ≡ held_of content.books serial) }
-    ensures rows { LeavesRows (state S.Store tx.old.conn.now) (state S.Store tx.new.conn.now) result }
-    ensures commit { CommitsNothing (state S.Store tx.old.conn.now) (state S.Store tx.new.conn.now) }
-    ensures crash { LeavesNoMore (state S.Store tx.old.conn.now) (state S.Store tx.new.conn.now) }
     ensures cause { FailsByCause (state S.Store tx.old.conn.now) (state S.Store tx.new.conn.now) result (λ _. ⊤) }
 {
     let key = tables::Serial {
@@ -127,12 +122,9 @@ pub fn held_in<S: Alter>(
     serials: &[Serial],
 ) -> Result<BTreeMap<Serial, Held>, Failure>
     ensures same_reference { tx.new.conn.ghost_name ≡ tx.old.conn.ghost_name }
-    ensures open { StaysOpen (state S.Store tx.old.conn.now) (state S.Store tx.new.conn.now) result }
-    ensures inside { StaysInside (state S.Store tx.old.conn.now) (state S.Store tx.new.conn.now) result }
-    ensures found { FindsIn (state S.Store tx.old.conn.now) (state S.Store tx.new.conn.now) result (λ content found. bonds_found found.entries ≡ picked (held_of content.books) serials.now) }
-    ensures rows { LeavesRows (state S.Store tx.old.conn.now) (state S.Store tx.new.conn.now) result }
-    ensures commit { CommitsNothing (state S.Store tx.old.conn.now) (state S.Store tx.new.conn.now) }
-    ensures crash { LeavesNoMore (state S.Store tx.old.conn.now) (state S.Store tx.new.conn.now) }
+    ensures only_reads { OnlyReads (state S.Store tx.old.conn.now) (state S.Store tx.new.conn.now) result }
+    ensures found { FindsIn (state S.Store tx.old.conn.now) (state S.Store tx.new.conn.now) result
+        (λ content found. bonds_found found.entries ≡ picked (held_of content.books) serials.now) }
     ensures cause { FailsByCause (state S.Store tx.old.conn.now) (state S.Store tx.new.conn.now) result (λ _. ⊤) }
 {
     let mut found = no_bonds(alloc);

@@ -8,10 +8,9 @@ ghost use Rattle.ee_value.specs.declared.rates.Rates.{Rates};
 ghost use Rattle.ee_value.specs.Chain.{InRange};
 ghost use Rattle.ee_desk_acts.specs.Values.{unsettled};
 ghost use Rattle.ee_desk_acts.specs.Views.{picked};
-ghost use Rattle.ee_store_tables.specs.Statements.{StaysOpen, StaysInside, CommitsNothing, LeavesNoMore};
 ghost use Rattle.ee_store_lookups.specs.Causes.{FailsByCause};
 ghost use Rattle.ee_store_lookups.specs.Found.{terms_found, with_found};
-ghost use Rattle.ee_store_lookups.specs.Seen.{FindsIn, LeavesRows};
+ghost use Rattle.ee_store_lookups.specs.Seen.{FindsIn, OnlyReads};
 
 use ee_desk_acts::{Terms, UnitTables};
 use ee_store_tables::{Failure, find_rate};
@@ -40,7 +39,8 @@ fn terms_shown(
     found: Option<u64>,
 ) -> Result<Option<Terms>, Failure>
     ensures value { IfOk result (λ terms. option_map (λ rates. rates.fixed) terms ≡ found) }
-    ensures read { (terms : Option Rates) → found ≡ option_map (λ rates. rates.fixed) terms → IfSome terms (λ rates. InRange rates × (unsettled rates ≡ None)) → IfErr result (λ e. e ≡ Failure.NoMemory) }
+    ensures read { (terms : Option Rates) → found ≡ option_map (λ rates. rates.fixed) terms → IfSome terms (λ rates. InRange rates
+        × (unsettled rates ≡ None)) → IfErr result (λ e. e ≡ Failure.NoMemory) }
 {
     match found {
         None => Ok(None),
@@ -59,12 +59,9 @@ pub fn find_terms<S: Alter>(
     period: IssueMonth,
 ) -> Result<Option<Terms>, Failure>
     ensures same_reference { tx.new.conn.ghost_name ≡ tx.old.conn.ghost_name }
-    ensures open { StaysOpen (state S.Store tx.old.conn.now) (state S.Store tx.new.conn.now) result }
-    ensures inside { StaysInside (state S.Store tx.old.conn.now) (state S.Store tx.new.conn.now) result }
-    ensures found { FindsIn (state S.Store tx.old.conn.now) (state S.Store tx.new.conn.now) result (λ content terms. terms ≡ finite.get content.books.rates period) }
-    ensures rows { LeavesRows (state S.Store tx.old.conn.now) (state S.Store tx.new.conn.now) result }
-    ensures commit { CommitsNothing (state S.Store tx.old.conn.now) (state S.Store tx.new.conn.now) }
-    ensures crash { LeavesNoMore (state S.Store tx.old.conn.now) (state S.Store tx.new.conn.now) }
+    ensures only_reads { OnlyReads (state S.Store tx.old.conn.now) (state S.Store tx.new.conn.now) result }
+    ensures found { FindsIn (state S.Store tx.old.conn.now) (state S.Store tx.new.conn.now) result
+        (λ content terms. terms ≡ finite.get content.books.rates period) }
     ensures cause { FailsByCause (state S.Store tx.old.conn.now) (state S.Store tx.new.conn.now) result (λ _. ⊤) }
 {
     let found = find_rate(tx, period.count() as u64)?;
@@ -110,12 +107,9 @@ pub fn terms_in<S: Alter>(
     periods: &[IssueMonth],
 ) -> Result<BTreeMap<IssueMonth, Terms>, Failure>
     ensures same_reference { tx.new.conn.ghost_name ≡ tx.old.conn.ghost_name }
-    ensures open { StaysOpen (state S.Store tx.old.conn.now) (state S.Store tx.new.conn.now) result }
-    ensures inside { StaysInside (state S.Store tx.old.conn.now) (state S.Store tx.new.conn.now) result }
-    ensures found { FindsIn (state S.Store tx.old.conn.now) (state S.Store tx.new.conn.now) result (λ content found. terms_found found.entries ≡ picked (finite.get content.books.rates) periods.now) }
-    ensures rows { LeavesRows (state S.Store tx.old.conn.now) (state S.Store tx.new.conn.now) result }
-    ensures commit { CommitsNothing (state S.Store tx.old.conn.now) (state S.Store tx.new.conn.now) }
-    ensures crash { LeavesNoMore (state S.Store tx.old.conn.now) (state S.Store tx.new.conn.now) }
+    ensures only_reads { OnlyReads (state S.Store tx.old.conn.now) (state S.Store tx.new.conn.now) result }
+    ensures found { FindsIn (state S.Store tx.old.conn.now) (state S.Store tx.new.conn.now) result
+        (λ content found. terms_found found.entries ≡ picked (finite.get content.books.rates) periods.now) }
     ensures cause { FailsByCause (state S.Store tx.old.conn.now) (state S.Store tx.new.conn.now) result (λ _. ⊤) }
 {
     let mut found = no_terms(alloc);

@@ -6,9 +6,8 @@ ghost use Rattle.std.specs.Option.{option_map_or, unwrap_or};
 ghost use Rattle.sqlite.specs.Held.{state};
 ghost use Rattle.ee_desk_acts.specs.PlainBooks.{batch_of, batch_so_far};
 ghost use Rattle.ee_desk_acts.specs.Views as is;
-ghost use Rattle.ee_store_tables.specs.Statements.{StaysOpen, StaysInside, CommitsNothing, LeavesNoMore};
 ghost use Rattle.ee_store_lookups.specs.Causes.{FailsByCause};
-ghost use Rattle.ee_store_lookups.specs.Seen.{FindsIn, LeavesRows};
+ghost use Rattle.ee_store_lookups.specs.Seen.{FindsIn, OnlyReads};
 
 use ee_desk_acts::Act;
 use ee_desk_decide::DayCounts;
@@ -29,12 +28,8 @@ fn or_zero(number: Option<u64>) -> u64
 /// How many tickets there are over all days.
 pub fn tickets_in<S: Alter>(tx: &mut Transaction<'_, S>) -> Result<u64, Failure>
     ensures same_reference { tx.new.conn.ghost_name ≡ tx.old.conn.ghost_name }
-    ensures open { StaysOpen (state S.Store tx.old.conn.now) (state S.Store tx.new.conn.now) result }
-    ensures inside { StaysInside (state S.Store tx.old.conn.now) (state S.Store tx.new.conn.now) result }
+    ensures only_reads { OnlyReads (state S.Store tx.old.conn.now) (state S.Store tx.new.conn.now) result }
     ensures found { FindsIn (state S.Store tx.old.conn.now) (state S.Store tx.new.conn.now) result (λ content count. count ≡ length content.books.tickets) }
-    ensures rows { LeavesRows (state S.Store tx.old.conn.now) (state S.Store tx.new.conn.now) result }
-    ensures commit { CommitsNothing (state S.Store tx.old.conn.now) (state S.Store tx.new.conn.now) }
-    ensures crash { LeavesNoMore (state S.Store tx.old.conn.now) (state S.Store tx.new.conn.now) }
     ensures cause { FailsByCause (state S.Store tx.old.conn.now) (state S.Store tx.new.conn.now) result (λ _. ⊤) }
 {
     let last = last_ticket(tx)?;
@@ -73,13 +68,10 @@ fn day_in<S: Alter>(
     day: Day,
 ) -> Result<DayCounts, Failure>
     ensures same_reference { tx.new.conn.ghost_name ≡ tx.old.conn.ghost_name }
-    ensures open { StaysOpen (state S.Store tx.old.conn.now) (state S.Store tx.new.conn.now) result }
-    ensures inside { StaysInside (state S.Store tx.old.conn.now) (state S.Store tx.new.conn.now) result }
-    ensures found { FindsIn (state S.Store tx.old.conn.now) (state S.Store tx.new.conn.now) result (λ content counts. (counts.tickets ≡ (batch_of day content.books.tickets).tickets)
+    ensures only_reads { OnlyReads (state S.Store tx.old.conn.now) (state S.Store tx.new.conn.now) result }
+    ensures found { FindsIn (state S.Store tx.old.conn.now) (state S.Store tx.new.conn.now) result
+        (λ content counts. (counts.tickets ≡ (batch_of day content.books.tickets).tickets)
         × (counts.bonds ≡ (batch_of day content.books.tickets).bonds) × (counts.total.0 ≡ (batch_of day content.books.tickets).total.0)) }
-    ensures rows { LeavesRows (state S.Store tx.old.conn.now) (state S.Store tx.new.conn.now) result }
-    ensures commit { CommitsNothing (state S.Store tx.old.conn.now) (state S.Store tx.new.conn.now) }
-    ensures crash { LeavesNoMore (state S.Store tx.old.conn.now) (state S.Store tx.new.conn.now) }
     ensures cause { FailsByCause (state S.Store tx.old.conn.now) (state S.Store tx.new.conn.now) result (λ _. ⊤) }
 {
     let sums = day_tickets(tx, alloc, day.count() as u64)?;
@@ -94,13 +86,10 @@ fn open_day_in<S: Alter>(
     day: Option<Day>,
 ) -> Result<DayCounts, Failure>
     ensures same_reference { tx.new.conn.ghost_name ≡ tx.old.conn.ghost_name }
-    ensures open { StaysOpen (state S.Store tx.old.conn.now) (state S.Store tx.new.conn.now) result }
-    ensures inside { StaysInside (state S.Store tx.old.conn.now) (state S.Store tx.new.conn.now) result }
-    ensures found { FindsIn (state S.Store tx.old.conn.now) (state S.Store tx.new.conn.now) result (λ content counts. (counts.tickets ≡ (batch_so_far day content.books.tickets).tickets)
+    ensures only_reads { OnlyReads (state S.Store tx.old.conn.now) (state S.Store tx.new.conn.now) result }
+    ensures found { FindsIn (state S.Store tx.old.conn.now) (state S.Store tx.new.conn.now) result
+        (λ content counts. (counts.tickets ≡ (batch_so_far day content.books.tickets).tickets)
         × (counts.bonds ≡ (batch_so_far day content.books.tickets).bonds) × (counts.total.0 ≡ (batch_so_far day content.books.tickets).total.0)) }
-    ensures rows { LeavesRows (state S.Store tx.old.conn.now) (state S.Store tx.new.conn.now) result }
-    ensures commit { CommitsNothing (state S.Store tx.old.conn.now) (state S.Store tx.new.conn.now) }
-    ensures crash { LeavesNoMore (state S.Store tx.old.conn.now) (state S.Store tx.new.conn.now) }
     ensures cause { FailsByCause (state S.Store tx.old.conn.now) (state S.Store tx.new.conn.now) result (λ _. ⊤) }
 {
     match day {
@@ -126,13 +115,10 @@ fn length_of_day_in<S: Alter>(
     tickets: u64,
 ) -> Result<u64, Failure>
     ensures same_reference { tx.new.conn.ghost_name ≡ tx.old.conn.ghost_name }
-    ensures open { StaysOpen (state S.Store tx.old.conn.now) (state S.Store tx.new.conn.now) result }
-    ensures inside { StaysInside (state S.Store tx.old.conn.now) (state S.Store tx.new.conn.now) result }
-    ensures found { FindsIn (state S.Store tx.old.conn.now) (state S.Store tx.new.conn.now) result (λ content count. Some day ≡ content.books.day → tickets ≡ length content.books.tickets
+    ensures only_reads { OnlyReads (state S.Store tx.old.conn.now) (state S.Store tx.new.conn.now) result }
+    ensures found { FindsIn (state S.Store tx.old.conn.now) (state S.Store tx.new.conn.now) result (λ content count. Some day ≡ content.books.day
+        → tickets ≡ length content.books.tickets
         → count ≡ (batch_of day content.books.tickets).tickets) }
-    ensures rows { LeavesRows (state S.Store tx.old.conn.now) (state S.Store tx.new.conn.now) result }
-    ensures commit { CommitsNothing (state S.Store tx.old.conn.now) (state S.Store tx.new.conn.now) }
-    ensures crash { LeavesNoMore (state S.Store tx.old.conn.now) (state S.Store tx.new.conn.now) }
     ensures cause { FailsByCause (state S.Store tx.old.conn.now) (state S.Store tx.new.conn.now) result (λ _. ⊤) }
 {
     let first = first_ticket(tx, day.count() as u64)?;
@@ -146,13 +132,10 @@ fn length_of_open_day_in<S: Alter>(
     tickets: u64,
 ) -> Result<u64, Failure>
     ensures same_reference { tx.new.conn.ghost_name ≡ tx.old.conn.ghost_name }
-    ensures open { StaysOpen (state S.Store tx.old.conn.now) (state S.Store tx.new.conn.now) result }
-    ensures inside { StaysInside (state S.Store tx.old.conn.now) (state S.Store tx.new.conn.now) result }
-    ensures found { FindsIn (state S.Store tx.old.conn.now) (state S.Store tx.new.conn.now) result (λ content count. day ≡ content.books.day → tickets ≡ length content.books.tickets
+    ensures only_reads { OnlyReads (state S.Store tx.old.conn.now) (state S.Store tx.new.conn.now) result }
+    ensures found { FindsIn (state S.Store tx.old.conn.now) (state S.Store tx.new.conn.now) result (λ content count. day ≡ content.books.day
+        → tickets ≡ length content.books.tickets
         → count ≡ (batch_so_far day content.books.tickets).tickets) }
-    ensures rows { LeavesRows (state S.Store tx.old.conn.now) (state S.Store tx.new.conn.now) result }
-    ensures commit { CommitsNothing (state S.Store tx.old.conn.now) (state S.Store tx.new.conn.now) }
-    ensures crash { LeavesNoMore (state S.Store tx.old.conn.now) (state S.Store tx.new.conn.now) }
     ensures cause { FailsByCause (state S.Store tx.old.conn.now) (state S.Store tx.new.conn.now) result (λ _. ⊤) }
 {
     match day {
@@ -171,14 +154,11 @@ pub fn counted_in<S: Alter>(
     tickets: u64,
 ) -> Result<DayCounts, Failure>
     ensures same_reference { tx.new.conn.ghost_name ≡ tx.old.conn.ghost_name }
-    ensures open { StaysOpen (state S.Store tx.old.conn.now) (state S.Store tx.new.conn.now) result }
-    ensures inside { StaysInside (state S.Store tx.old.conn.now) (state S.Store tx.new.conn.now) result }
-    ensures found { FindsIn (state S.Store tx.old.conn.now) (state S.Store tx.new.conn.now) result (λ content counts. day ≡ content.books.day → tickets ≡ length content.books.tickets
+    ensures only_reads { OnlyReads (state S.Store tx.old.conn.now) (state S.Store tx.new.conn.now) result }
+    ensures found { FindsIn (state S.Store tx.old.conn.now) (state S.Store tx.new.conn.now) result (λ content counts. day ≡ content.books.day
+        → tickets ≡ length content.books.tickets
         → (counts.tickets ≡ (is.needed_counts content.books act.now).tickets)
         × (counts.bonds ≡ (is.needed_counts content.books act.now).bonds) × (counts.total.0 ≡ (is.needed_counts content.books act.now).total.0)) }
-    ensures rows { LeavesRows (state S.Store tx.old.conn.now) (state S.Store tx.new.conn.now) result }
-    ensures commit { CommitsNothing (state S.Store tx.old.conn.now) (state S.Store tx.new.conn.now) }
-    ensures crash { LeavesNoMore (state S.Store tx.old.conn.now) (state S.Store tx.new.conn.now) }
     ensures cause { FailsByCause (state S.Store tx.old.conn.now) (state S.Store tx.new.conn.now) result (λ _. ⊤) }
 {
     match act {

@@ -14,8 +14,8 @@ use Rattle.sqlite.specs.Clock.{timed}
 use Rattle.sqlite.specs.State.{State, store_error, HasCleanDisk, Survives, Fails, IsNoStatement, IsNotRun, FailsToShow, FailsToQuery, HasCause as Explains}
 use Rattle.sqlite.proofs.StateLemmas.{survives_then}
 use Rattle.ee_store_tables.proofs.Lemmas.Transactions.{clean_before}
-use Rattle.ee_store_opening.specs.declared.making.OpenFault.{OpenFault}
-use Rattle.ee_store_opening.specs.declared.making.OpenFault.TheVariants.{StoreFailed}
+use Rattle.ee_store_opening.specs.declared.faults.OpenFault.{OpenFault}
+use Rattle.ee_store_opening.specs.declared.faults.OpenFault.TheVariants.{StoreFailed}
 use Rattle.ee_store_tables.specs.Statements.{HasCause}
 use Rattle.ee_store_opening.specs.Faults.{fault_of, IsExcused}
 use Rattle.ee_store_opening.specs.Reading.{IsOneStatement, NeverRefuses, IsNeverRefused}

@@ -1,5 +1,5 @@
 -- What a CREATE TABLE and a CREATE INDEX leave.
-use Rattle.std.proofs.Common.{◌≡◌, ◌⊎◌, inl, inr, ℕ, List, [], ◌∷◌, ◌++◌, None, Ok, Err, Result, sym, ap, subst, ◌∙◌, false}
+use Rattle.std.proofs.Common.{◌≡◌, ℕ, List, [], ◌∷◌, ◌++◌, None, Ok, Err, Result, sym, ap, subst, ◌∙◌, false}
 use Rattle.std.specs.List.{AllByRecursion}
 use Rattle.sqlite.specs.Schema.{Schema}
 use Rattle.sqlite.specs.Table.{Table}
@@ -16,13 +16,7 @@ use Rattle.sqlite.specs.Listing.{understood}
 use Rattle.sqlite.specs.State.{State, mode_of, Writes, Executes}
 use Rattle.sqlite.proofs.Callers.{IsPlain, command_of, statement_of, runs_as}
 use Rattle.ee_store_opening.specs.Making.{IsCommand, AddsTable, AddsIndex}
-
-went : {B E R : Type 0} {b : B} {Stops : E → Type 0} → ((stop : E) × Stops stop × (Ok b ≡ Err stop)) ⊎ R → R
-went (inl stopped) = absurd (let e = stopped.2 in cc)
-went (inr on) = on
-
-pub same_value : {B E : Type 0} {a b : B} → ◌≡◌ {A = Result B E} (Ok a) (Ok b) → a ≡ b
-same_value e = cc
+use Rattle.ee_store_tables.proofs.Lemmas.Rows.{went_on, same_ok}
 
 -- a command as the lemmas on callers say it
 pub said : (text : List ℕ) (command : Command) (r : Result Compiled CompileError) → IsCommand text command r → (command_of r ≡ command) × IsPlain r × (statement_of text r ≡ text)
@@ -47,13 +41,13 @@ pub adds_table : (old new : State) (text : List ℕ) (count : ℕ) (before after
 adds_table old new text count before after adds has h =
     let it = said text CreateTable (understood before text) adds.command in
     let w = subst (λ t. Writes old new None CreateTable t [] count) it.2 (runs_as text [] old new before has.0 CreateTable it.0 it.1 count h) in
-    let all = went w.changed in
-    let first = went all.1 in
+    let all = went_on w.changed in
+    let first = went_on all.1 in
     let made = first.1 in
-    let same : made.table ≡ adds.table = same_value (sym made.defined ∙ adds.defined) in
+    let same : made.table ≡ adds.table = same_ok (sym made.defined ∙ adds.defined) in
     let schema : first.0.schema ≡ after = made.is ∙ ap (λ s. created s made.table) has.0 ∙ ap (created before) same ∙ adds.is in
     let plain : lacks_sequence first.0.schema ≡ false = ap lacks_sequence schema ∙ adds.uncounted in
-    let now : new.now ≡ first.0 = ap (λ (p : Tally × Database). p.1) (same_value all.2) ∙ same_value (rw plain at first.2) in
+    let now : new.now ≡ first.0 = ap (λ (p : Tally × Database). p.1) (same_ok all.2) ∙ same_ok (rw plain at first.2) in
     let kept = subst (λ (s : Schema). KeepsRows s.tables old.now.trees first.0.trees) has.0 made.others in
     let none = one_more_empty before.tables (record adds.table { tree = next_tree before }) first.0.trees (still_empty before.tables old.now.trees first.0.trees kept has.1)
     (subst (λ s. first.0.trees (next_tree s) ≡ []) has.0 made.empty) in
@@ -64,10 +58,10 @@ adds_index old new text count before after adds has h =
     let it = said text (CreateIndex adds.place) (understood before text) adds.command in
     let w = subst (λ t. Writes old new None (CreateIndex adds.place) t [] count) it.2 (runs_as text [] old new before has.0 (CreateIndex adds.place) it.0 it.1 count h) in
     let placed = subst (λ s. Does old.step_limit (mode_of old) [] (record old.now { schema = s }) text None (CreateIndex adds.place) (Ok (w.tally, new.now))) has.0 w.changed in
-    let all = went (rw adds.over at placed) in
+    let all = went_on (rw adds.over at placed) in
     let made = all.1 in
-    let now : new.now ≡ all.0 = ap (λ (p : Tally × Database). p.1) (same_value all.2) in
-    let same = same_value (sym made.defined ∙ adds.defined) in
+    let now : new.now ≡ all.0 = ap (λ (p : Tally × Database). p.1) (same_ok all.2) in
+    let same = same_ok (sym made.defined ∙ adds.defined) in
     let schema : all.0.schema ≡ after = made.is ∙ ap (indexed before adds.table) same ∙ adds.is in
     let none = still_empty before.tables old.now.trees all.0.trees made.rows has.1 in
     subst (λ (d : Database). (d.schema ≡ after) × AreEmpty after.tables d.trees) (sym now) (schema, subst (λ (s : Schema). AreEmpty s.tables all.0.trees) adds.is none)

@@ -1,5 +1,5 @@
 -- Each table, from the rows that were read of it.
-use Rattle.std.proofs.Common.{◌≡◌, ℕ, ℤ, pos, List, [], ◌∷◌, map, true, Some, None, Option, refl, sym, ap, subst, ◌∙◌, nat_cmp}
+use Rattle.std.proofs.Common.{◌≡◌, ℕ, ℤ, pos, List, [], ◌∷◌, map, true, refl, sym, ap, subst, ◌∙◌, nat_cmp}
 use Rattle.std.specs.Prelude.{IsPermutation, nat_lt, int_lt, drop}
 use Rattle.std.specs.List.{AllByRecursion}
 use Rattle.std.specs.FinMap.{entries, entries-from_sorted}
@@ -16,7 +16,7 @@ use Rattle.sqlite_keyed.proofs.RuleLemmas.{first_of_both}
 use Rattle.ee_store_tables.specs.Tables.{counter_schema, desk, rates, bonds, tickets, paid, batches, replies}
 use Rattle.ee_store_tables.specs.Keyed.{pair_cmp, row_of, stored, ReadAlike, HoldsMap, HoldsPairs}
 use Rattle.ee_store_tables.specs.Rows.{DeskRow, BondRow, TicketRow, PaidRow, BatchRow, ReplyRow, optional, desk_columns, rate_columns, bond_columns, ticket_columns, paid_columns, batch_columns, reply_columns}
-use Rattle.ee_store_tables.proofs.Lemmas.Rows.{pair_total}
+use Rattle.ee_store_tables.proofs.Lemmas.Rows.{pair_total, number_in, optional_in, optional_back}
 use Rattle.ee_store_opening.specs.declared.entries.StoredDesk.{StoredDesk}
 use Rattle.ee_store_opening.specs.declared.entries.StoredRate.{StoredRate}
 use Rattle.ee_store_opening.specs.declared.entries.StoredBond.{StoredBond}
@@ -29,16 +29,12 @@ use Rattle.ee_store_opening.specs.Reading.{rises, shown_by, ShowsAll}
 use Rattle.ee_store_opening.specs.Shown as spec
 use Rattle.ee_store_opening.specs.Shown.{pair_lt}
 use Rattle.ee_store_opening.proofs.FoundLemmas.{sorted_if_rises, reads_alike}
-use Rattle.ee_store_opening.proofs.TableLemmas.{rises_same, number_below, pair_below, number_in, optional_in, short_row, key_empty, apart_if_rises, holds_keyed, holds_pairs}
+use Rattle.ee_store_opening.proofs.TableLemmas.{rises_same, number_below, pair_below, short_row, key_empty, apart_if_rises, holds_keyed, holds_pairs}
 use Rattle.ee_store_opening.proofs.QuestionLemmas.{desk_terms, rate_terms, bond_terms, ticket_terms, line_terms, batch_terms, reply_terms, rowid_terms}
 
 abbrev text_in : Value → List ℕ
 text_in (Text t) = t
 text_in _ = []
-
-same_optional : (o : Option ℕ) → optional_in (optional o) ≡ o
-same_optional None = refl
-same_optional (Some n) = refl
 
 -- the rows of a table have the types of its columns
 module _ (db : Database) (sound : IsDatabase db) (has : db.schema ≡ counter_schema) where
@@ -58,7 +54,7 @@ un_desk r = record { version = number_in (column r 0); day = optional_in (column
 
 pub back_desk : (x : DeskRow) → un_desk (desk_columns x) ≡ x
 unfolding un_desk
-back_desk x = ap (λ d. record { version = x.version; day = d; last_day = optional_in (optional x.last_day) }) (same_optional x.day) ∙ ap (λ l. record { version = x.version; day = x.day; last_day = l }) (same_optional x.last_day)
+back_desk x = ap (λ d. record { version = x.version; day = d; last_day = optional_in (optional x.last_day) }) (optional_back x.day) ∙ ap (λ l. record { version = x.version; day = x.day; last_day = l }) (optional_back x.last_day)
 
 alike_desk : (r : Row) → are_typed desk.key 0 desk.columns (drop 1 r) ≡ true → (e : ℕ × DeskRow) → shown_by desk_terms r ≡ Int (pos e.0) ∷ desk_columns e.1 → ReadAlike r (row_of desk_columns (pos e.0, e))
 alike_desk r typed e is = reads_alike r (row_of desk_columns (pos e.0, e)) (ap (λ xs. column xs 0) is, (key_empty desk.columns r typed, (ap (λ xs. column xs 1) is, (ap (λ xs. column xs 2) is, (ap (λ xs. column xs 3) is, tt))))) (short_row desk.key desk.columns r typed)
@@ -158,7 +154,7 @@ un_bonds r = record { denom = number_in (column r 0); issued = number_in (column
 
 pub back_bonds : (x : BondRow) → un_bonds (bond_columns x) ≡ x
 unfolding un_bonds
-back_bonds x = ap (λ d. record { denom = x.denom; issued = x.issued; owner = x.owner; coowner = d; ticket = optional_in (optional x.ticket) }) (same_optional x.coowner) ∙ ap (λ l. record { denom = x.denom; issued = x.issued; owner = x.owner; coowner = x.coowner; ticket = l }) (same_optional x.ticket)
+back_bonds x = ap (λ d. record { denom = x.denom; issued = x.issued; owner = x.owner; coowner = d; ticket = optional_in (optional x.ticket) }) (optional_back x.coowner) ∙ ap (λ l. record { denom = x.denom; issued = x.issued; owner = x.owner; coowner = x.coowner; ticket = l }) (optional_back x.ticket)
 
 alike_bonds : (r : Row) → are_typed bonds.key 0 bonds.columns (drop 1 r) ≡ true → (i : ℤ) (e : (ℕ × ℕ) × BondRow) → column r 0 ≡ Int i → shown_by bond_terms r ≡ Int (pos e.0.0) ∷ Int (pos e.0.1) ∷ bond_columns e.1
     → ReadAlike r (stored bond_columns (i, e))

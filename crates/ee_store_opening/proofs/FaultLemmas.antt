@@ -15,8 +15,8 @@ use Rattle.sqlite.specs.Effect.{Database, RefusesToRead}
 use Rattle.sqlite.specs.Listing.{understood}
 use Rattle.sqlite.specs.State.{State, store_error, Fails, IsNoStatement, IsNotRun, FailsToShow, FailsToQuery, IsTooLate}
 use Rattle.sqlite.proofs.Callers.{IsPlain}
-use Rattle.ee_store_opening.specs.declared.making.OpenFault.{OpenFault}
-use Rattle.ee_store_opening.specs.declared.making.OpenFault.TheVariants.{Unusable}
+use Rattle.ee_store_opening.specs.declared.faults.OpenFault.{OpenFault}
+use Rattle.ee_store_opening.specs.declared.faults.OpenFault.TheVariants.{Unusable}
 use Rattle.ee_store_opening.specs.Faults.{fault_of}
 
 -- ---- it tells of no other tables

@@ -14,13 +14,12 @@ use Rattle.sqlite.specs.Rowids.TheVariants.{Chosen}
 use Rattle.sqlite_value.specs.Order.{number}
 use Rattle.sqlite_trees.specs.Tree.{with_tree}
 use Rattle.sqlite_trees.specs.View.{IsStorableRow}
-use Rattle.sqlite_schema.specs.declared.schema.Among.{Among}
 use Rattle.sqlite_schema.specs.declared.schema.Among.TheVariants as which
 use Rattle.sqlite_schema.specs.declared.schema.Index.{Index}
 use Rattle.sqlite_schema.specs.declared.schema.Keys.{Keys}
 use Rattle.sqlite_schema.specs.declared.schema.Keys.TheVariants.{Enforced}
 use Rattle.sqlite_schema.specs.declared.schema.Constraint.TheVariants.{Datatype, NotNull, Check, PrimaryKey, Unique, ForeignKey}
-use Rattle.sqlite_schema.specs.Rules.{Keeps, Refers, table_reals}
+use Rattle.sqlite_schema.specs.Rules.{Keeps, table_reals}
 use Rattle.sqlite_rules.specs.declared.error.Refusal.{Refusal}
 use Rattle.sqlite_rules.specs.declared.error.Refusal.TheVariants.{Violates, Mismatch, NoRowid, BadReference, TooDeep}
 use Rattle.sqlite_rules.specs.Lists.{Has}
@@ -39,6 +38,7 @@ use Rattle.ee_store_tables.specs.Tables.{counter_schema, desk}
 use Rattle.ee_store_tables.specs.Keyed.{row_of}
 use Rattle.ee_store_tables.specs.Rows.{desk_columns}
 use Rattle.ee_store_tables.proofs.Lemmas.Rows.{cast_int, cast_null}
+use Rattle.ee_store_tables.proofs.Lemmas.Causes.{no_references}
 use Rattle.ee_store_opening.specs.Making.{first_desk}
 use Rattle.ee_store_opening.specs.Reading.{IsOneStatement}
 use Rattle.ee_store_opening.proofs.CauseLemmas.{Excuses}
@@ -93,10 +93,6 @@ fits row (inl same) (inr (index, has, at, big)) = elsewhere has
 
 no_rows : (P : Row → Type 0) (rows : List Row) → rows ≡ [] → AllByRecursion P rows
 no_rows P rows none = subst (AllByRecursion P) (sym none) tt
-
--- no table has a foreign key
-refers : (among : Among) (db : Trees) → Refers among counter_schema db
-refers among db = (all_of _ (λ _. refl) _, (all_of _ (λ _. refl) _, (all_of _ (λ _. refl) _, (all_of _ (λ _. refl) _, (all_of _ (λ _. refl) _, (all_of _ (λ _. refl) _, (all_of _ (λ _. refl) _, tt)))))))
 
 module _ (db : Trees) (none : AllByRecursion (λ t. db t.tree ≡ []) counter_schema.tables) where
   keeps : (rows : List Row) → Keeps Unique counter_schema (with_tree db 0 rows)
@@ -153,7 +149,7 @@ insert_never old limit none stop does = elim (stopped stop does) [
     ]
   ]
   | inr wrote ↦ elim (stopped stop wrote.2) [
-    | inl tested ↦ tested.0 (refers which.All wrote.0.trees)
+    | inl tested ↦ tested.0 (no_references which.All wrote.0.trees)
     | inr tested ↦ elim (stopped stop tested.2) [ inl shows ↦ never_given _ stop shows | inr shows ↦ never_given _ stop shows.2 ]
   ]
 ]

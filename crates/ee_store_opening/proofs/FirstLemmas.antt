@@ -1,10 +1,11 @@
 -- The desk's row, in tables that have no rows.
-use Rattle.std.proofs.Common.{◌≡◌, ℕ, ℤ, pos, List, [], ◌∷◌, codes, None, Ok, refl, sym, ap, subst, ◌∙◌, arith, length, Ordering}
+use Rattle.std.proofs.Common.{◌≡◌, ℕ, ℤ, pos, List, [], ◌∷◌, codes, None, Ok, refl, sym, ap, subst, ◌∙◌, arith, Ordering}
 use Rattle.std.specs.Prelude.{IsPermutation}
 use Rattle.std.specs.FinMap.{empty, entries, insert, len-empty, len-entries}
 use Rattle.std.specs.Ordering.{nat_cmp}
 use Rattle.std.proofs.lemmas.List.Sorted.{IsPermutation-refl}
 use Rattle.std.specs.List.{AllByRecursion}
+use Rattle.std.proofs.lemmas.List.{nil_from_length}
 use Rattle.sqlite.specs.declared.types.Value.TheVariants.{Null, Int}
 use Rattle.sqlite.specs.Order.{Row}
 use Rattle.sqlite.specs.Term.{Term, lit}
@@ -45,13 +46,9 @@ pub desk_row_whole : statement_of desk_row_text (understood counter_schema desk_
 unfolding understood everything
 desk_row_whole = refl
 
-no_length : {A : Type 0} (xs : List A) → length xs ≡ 0 → xs ≡ []
-no_length [] e = refl
-no_length (x ∷ xs) e = absurd (omega arith)
-
 -- an empty map has no entries
-none_in : {K X : Type 0} (R : K → K → Ordering) → entries (empty {X = X} {R = R}) ≡ []
-none_in {X = X} R = no_length _ (sym (len-entries (empty {X = X} {R = R})) ∙ len-empty R X)
+pub none_in : {K X : Type 0} (R : K → K → Ordering) → entries (empty {X = X} {R = R}) ≡ []
+none_in {X = X} R = nil_from_length _ (sym (len-entries (empty {X = X} {R = R})) ∙ len-empty R X)
 
 no_rows : {K X : Type 0} (R : K → K → Ordering) (row : ℤ × (K × X) → Row) (rows : List Row) → rows ≡ [] → HoldsTable row rows (empty {X = X} {R = R})
 no_rows R row rows none = record {

@@ -8,6 +8,8 @@ use Rattle.std.specs.FinMap.{from_sorted, entries-from_sorted}
 use Rattle.std.specs.FinMap.Entries.{is_sorted, below_all}
 use Rattle.std.proofs.lemmas.List.Sorted.{IsPermutation-refl, IsPermutation-sym, IsPermutation-trans, IsPermutation-map, IsPermutation-cons, All-permutation}
 use Rattle.std.proofs.lemmas.List.Elements.{All-from_recursion, recursion_from_All}
+use Rattle.std.proofs.lemmas.Bool.{and_parts}
+use Rattle.std.proofs.Math.Facts.{yes_and}
 use Rattle.sqlite.specs.declared.types.Value.TheVariants.{Null}
 use Rattle.sqlite_value.specs.Order.{Row, column}
 use Rattle.sqlite_trees.specs.Tree.{IsAscending}
@@ -22,10 +24,6 @@ join : (a b : Bool) → a ≡ true → T b → T (a && b)
 join true b e h = h
 join false b e h = absurd cc
 
-both : (a b : Bool) → (a && b) ≡ true → (a ≡ true) × (b ≡ true)
-both true b h = (refl, h)
-both false b h = absurd cc
-
 less : (o : Ordering) → is_lt o ≡ true → o ≡ Less
 less Less h = refl
 less Equal h = absurd cc
@@ -38,18 +36,14 @@ module _ {A K X : Type 0} (R : K → K → Ordering) (total : IsTotalOrder R) (e
   above : (k : K) (a : A) (rest : List A) → R k (entry a).0 ≡ Less → rises precedes (a ∷ rest) ≡ true → T (below_all R k (map entry (a ∷ rest)))
   above k a [] low up = join _ true (ap is_lt low) tt
   above k a (b ∷ rest) low up =
-      let two = both _ _ up in
+      let two = and_parts _ _ up in
       join _ _ (ap is_lt low) (above k b rest (total.trans k (entry a).0 (entry b).0 low (less _ two.0)) two.1)
 
   -- where each comes before the next, each comes before all later ones
   pub sorted_if_rises : (list : List A) → rises precedes list ≡ true → T (is_sorted R (map entry list))
   sorted_if_rises [] up = tt
   sorted_if_rises (a ∷ []) up = tt
-  sorted_if_rises (a ∷ b ∷ rest) up = let two = both _ _ up in both_hold _ _ (above (entry a).0 b rest (less _ two.0) two.1) (sorted_if_rises (b ∷ rest) two.1)
-    where
-      both_hold : (x y : Bool) → T x → T y → T (x && y)
-      both_hold true y p q = q
-      both_hold false y p q = absurd p
+  sorted_if_rises (a ∷ b ∷ rest) up = let two = and_parts _ _ up in yes_and _ _ (above (entry a).0 b rest (less _ two.0) two.1) (sorted_if_rises (b ∷ rest) two.1)
 
 -- ---- things that are all different
 

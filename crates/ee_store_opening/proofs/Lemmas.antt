@@ -1,11 +1,16 @@
--- Lemmas that the proofs of crates above use: whether a store has tables, and why it fails.
-use Rattle.sqlite.specs.State.{State, HasCleanDisk, Survives}
+-- Lemmas that the proofs of crates above use: whether a store has tables, what it keeps, and why it fails.
+use Rattle.std.proofs.Common.{IfErr, Ordering, Result, [], ◌≡◌}
+use Rattle.std.specs.FinMap.{empty, entries}
+use Rattle.sqlite.specs.State.{State, HasCleanDisk, KeepsCommit, Survives}
 use Rattle.sqlite.specs.Tree.{Trees}
+use Rattle.ee_store_tables.specs.Rows.{Has, Rows}
 use Rattle.ee_store_tables.specs.Statements.{HasCause}
 use Rattle.ee_store_opening.specs.Opening.{HasTables}
 use Rattle.ee_store_opening.specs.Whole.{IsOurs}
-use Rattle.ee_store_opening.proofs.OpenLemmas
 use Rattle.ee_store_opening.proofs.CauseLemmas
+use Rattle.ee_store_opening.proofs.FirstLemmas
+use Rattle.ee_store_opening.proofs.OpenLemmas
+use Rattle.ee_store_opening.proofs.ReadLemmas
 
 -- a store with the tables of version 1 has tables
 pub ours_tables : (s : State) → IsOurs s → HasTables s
@@ -14,3 +19,19 @@ ours_tables = OpenLemmas.ours_tables
 -- the cause of a later call is one of both calls
 pub cause_then : (old middle new : State) {P Q : Trees → Type 0} → Survives old middle P → Survives middle new Q → HasCleanDisk new → HasCause middle new → HasCause old new
 cause_then = CauseLemmas.cause_then
+
+-- what a store has it has while nothing is committed
+pub kept_has : (old new : State) (rows : Rows) → KeepsCommit old new → Has old rows → Has new rows
+kept_has = OpenLemmas.kept_has
+
+-- an empty map has no entries
+pub no_entries : {K X : Type 0} (R : K → K → Ordering) → entries (empty {X = X} {R = R}) ≡ []
+no_entries = FirstLemmas.none_in
+
+-- what follows from what an error has, it has
+pub each_fault : {X E : Type 0} {P Q : E → Type 0} (r : Result X E) → ((e : E) → P e → Q e) → IfErr r P → IfErr r Q
+each_fault = ReadLemmas.each_fault
+
+-- and so what follows from two facts
+pub two_faults : {X E : Type 0} {P Q S : E → Type 0} (r : Result X E) → ((e : E) → P e → Q e → S e) → IfErr r P → IfErr r Q → IfErr r S
+two_faults = OpenLemmas.two_faults

@@ -21,7 +21,8 @@ use Rattle.sqlite.proofs.Callers.{command_of, statement_of}
 use Rattle.ee_store_opening.specs.Making.{AddsTable, AddsIndex, TakesTable, TakesIndex}
 use Rattle.ee_store_opening.specs.Reading.{IsOneStatement}
 use Rattle.ee_store_opening.proofs.CauseLemmas.{Excuses, fails_excused, not_run_excused}
-use Rattle.ee_store_opening.proofs.DefineLemmas.{said, same_value}
+use Rattle.ee_store_opening.proofs.DefineLemmas.{said}
+use Rattle.ee_store_tables.proofs.Lemmas.Rows.{same_ok}
 
 -- ---- parts that always give a value
 
@@ -95,7 +96,7 @@ makes_never before text db utf8 takes has (Some e) (inr h) = takes.taken h.0 (su
 create_never : (before after : Schema) (text : List ℕ) (db : Database) (mode : Mode) → IsUtf8 text → AddsTable before text after → TakesTable before text → db.schema ≡ before → NeverStops (Defines mode (Then (MakesTable text db) MakesSequence))
 create_never before after text db mode utf8 adds takes has =
     then_never (Then (MakesTable text db) MakesSequence) (λ next. Gives (no_rows mode.in_doubt, next)) (then_never (MakesTable text db) MakesSequence (makes_never before text db utf8 takes has) (λ next made stop h.
-    let same : made.table ≡ adds.table = same_value (sym made.defined ∙ adds.defined) in
+    let same : made.table ≡ adds.table = same_ok (sym made.defined ∙ adds.defined) in
     let schema : next.schema ≡ after = made.is ∙ ap (λ s. created s made.table) has ∙ ap (created before) same ∙ adds.is in
     let plain : lacks_sequence next.schema ≡ false = ap lacks_sequence schema ∙ adds.uncounted in
     gives_never next stop (rw plain at h))) (λ next made. gives_never (no_rows mode.in_doubt, next))

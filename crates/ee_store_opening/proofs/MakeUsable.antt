@@ -24,6 +24,7 @@ use Rattle.sqlite.specs.declared.run.Mode.{Mode}
 use Rattle.sqlite.specs.Source.TheVariants.{Values}
 use Rattle.sqlite.specs.Effect.{Database, alter_error, edit_error}
 use Rattle.ee_store_tables.specs.Tables.{counter_schema}
+use Rattle.ee_store_tables.proofs.Lemmas.Rows.{same_ok}
 use Rattle.ee_store_opening.proofs.FirstLemmas.{terms, desk_row_text, desk_row_is, desk_row_plain, desk_row_whole}
 use Rattle.sqlite.specs.Rows.{Part, Then, Gives}
 use Rattle.sqlite.specs.Does.{Does, MakesTable, MakesIndex, MakesSequence, Defines, no_rows, lacks_sequence}
@@ -33,7 +34,7 @@ use Rattle.sqlite.specs.State.{State, mode_of, text_of, shows_rows, IsMisplaced,
 use Rattle.sqlite.proofs.Callers.{IsPlain, command_of, statement_of}
 use Rattle.ee_store_opening.specs.Making.{AddsTable, AddsIndex}
 use Rattle.ee_store_opening.proofs.FaultLemmas.{IsUsable, same_error, store_fails, no_statement}
-use Rattle.ee_store_opening.proofs.DefineLemmas.{said, same_value}
+use Rattle.ee_store_opening.proofs.DefineLemmas.{said}
 
 -- ---- the parts of a statement
 
@@ -75,10 +76,10 @@ never b no_it it = let h = sym no_it ∙ it in cc
 -- the names are free
 pub name_free : (before after : Schema) (text : List ℕ) → AddsTable before text after → ¬ RefusesTable before text why.NameTaken
 name_free before after text adds (table, defined, inl used) =
-    let same : adds.table ≡ table = same_value (sym adds.defined ∙ defined) in
+    let same : adds.table ≡ table = same_ok (sym adds.defined ∙ defined) in
     never _ adds.free (ap (λ (t : Table). is_used before t.name) same ∙ used)
 name_free before after text adds (table, defined, inr (index, has, used)) =
-    let same : table ≡ adds.table = same_value (sym defined ∙ adds.defined) in
+    let same : table ≡ adds.table = same_ok (sym defined ∙ adds.defined) in
     test_fails (is_used before index.name) (has_free (λ (i : Index). not (is_used before i.name)) (automatics adds.table 0 0 adds.table.uniques) index adds.all_free (subst (λ (t : Table). Has (automatics t 0 0 t.uniques) index) same has)) used
 
 table_usable : (before after : Schema) (text : List ℕ) → AddsTable before text after → (reason : Refusal) → RefusesTable before text reason → IsUsable (alter_error reason)
@@ -97,7 +98,7 @@ makes_usable before after text db adds has e (inr (reason, h, is)) = same_error 
 create_usable : (before after : Schema) (text : List ℕ) (db : Database) (mode : Mode) → AddsTable before text after → db.schema ≡ before → AreUsable (Defines mode (Then (MakesTable text db) MakesSequence))
 create_usable before after text db mode adds has =
     then_usable (Then (MakesTable text db) MakesSequence) (λ next. Gives (no_rows mode.in_doubt, next)) (then_usable (MakesTable text db) MakesSequence (makes_usable before after text db adds has) (λ next made e h.
-    let same : made.table ≡ adds.table = same_value (sym made.defined ∙ adds.defined) in
+    let same : made.table ≡ adds.table = same_ok (sym made.defined ∙ adds.defined) in
     let schema : next.schema ≡ after = made.is ∙ ap (λ s. created s made.table) has ∙ ap (created before) same ∙ adds.is in
     let plain : lacks_sequence next.schema ≡ false = ap lacks_sequence schema ∙ adds.uncounted in
     gives_usable next e (rw plain at h))) (λ next made. gives_usable (no_rows mode.in_doubt, next))
@@ -107,7 +108,7 @@ create_usable before after text db mode adds has =
 index_usable : (before after : Schema) (text : List ℕ) (db : Database) (adds : AddsIndex before text after) (reason : Refusal) → RefusesIndex before db.trees adds.table text reason → IsUsable (alter_error reason)
 index_usable before after text db adds (why.Invalid e) h = absurd (let it = sym adds.defined ∙ h in cc)
 index_usable before after text db adds why.NameTaken (index, defined, used) =
-    let same : adds.index ≡ index = same_value (sym adds.defined ∙ defined) in
+    let same : adds.index ≡ index = same_ok (sym adds.defined ∙ defined) in
     absurd (never _ adds.free (ap (λ (i : Index). is_used before i.name) same ∙ used))
 index_usable before after text db adds why.BadName h = λ u. cc
 index_usable before after text db adds why.TooBig h = λ u. cc

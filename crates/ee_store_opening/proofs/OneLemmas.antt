@@ -12,8 +12,7 @@ use Rattle.sqlite_value.specs.Order.{Row, column}
 use Rattle.sqlite_keyed.proofs.ListLemmas.{IsPermutation-filter}
 use Rattle.ee_store_tables.specs.Keyed.{pair_cmp, row_of, stored, ReadAlike, AreRows, HoldsMap, HoldsPairs}
 use Rattle.ee_store_tables.specs.Rows.{Rows, Holds, desk_columns, rate_columns, bond_columns, ticket_columns, paid_columns, batch_columns, reply_columns}
-use Rattle.ee_store_tables.proofs.Lemmas.Rows.{tied, tied_entry, pair_total, pair_same, at_most_one}
-use Rattle.ee_store_opening.proofs.TableLemmas.{int_in, natural, number_in}
+use Rattle.ee_store_tables.proofs.Lemmas.Rows.{tied, tied_entry, pair_total, pair_same, at_most_one, int_in, natural, number_in}
 use Rattle.ee_store_opening.proofs.EachTable.{un_desk, back_desk, un_rates, back_rates, un_bonds, back_bonds, un_tickets, back_tickets, un_lines, back_lines, un_batches, back_batches, un_replies, back_replies}
 
 -- ---- maps of the same entries

@@ -1,5 +1,5 @@
 -- From the rows that were read to the map that a table holds, for each kind of key.
-use Rattle.std.proofs.Common.{◌≡◌, ◌≢◌, ℕ, ℤ, pos, List, [], ◌∷◌, map, length, Bool, true, Some, None, Option, refl, sym, ap, subst, ◌∙◌, arith, Less, nat_cmp, int_cmp, T}
+use Rattle.std.proofs.Common.{◌≡◌, ◌≢◌, ℕ, ℤ, pos, List, [], ◌∷◌, map, length, Bool, true, Some, Option, refl, sym, ap, subst, ◌∙◌, arith, Less, nat_cmp, int_cmp, T}
 use Rattle.std.specs.Prelude.{IsPermutation, ◌&&◌, ◌+◌, ◌≤◌, nat_lt, int_lt, drop}
 use Rattle.std.specs.List.{AllByRecursion}
 use Rattle.std.specs.Ordering.{is_lt}
@@ -10,6 +10,7 @@ use Rattle.std.proofs.lemmas.Bool.Decides.{nat_tests}
 use Rattle.std.proofs.lemmas.Int.{ints}
 use Rattle.std.specs.Cmp.{tied_itself}
 use Rattle.std.proofs.lemmas.List.Sorted.{IsPermutation-map, IsPermutation-sym}
+use Rattle.std.proofs.Math.Facts.{and_yes}
 use Rattle.sqlite.specs.declared.types.Value.{Value}
 use Rattle.sqlite.specs.declared.types.Value.TheVariants.{Null, Int, Real, Text, Blob}
 use Rattle.sqlite.specs.Term.{Term}
@@ -20,7 +21,7 @@ use Rattle.sqlite_sql.specs.Ops.{is_null}
 use Rattle.sqlite_keyed.proofs.ListLemmas.{map-map, map_same, map_back, all_unmap}
 use Rattle.sqlite_keyed.proofs.RuleLemmas.{first_of_both, second_of_both}
 use Rattle.ee_store_tables.specs.Keyed.{pair_cmp, row_of, stored, ReadAlike, HoldsMap, HoldsPairs}
-use Rattle.ee_store_tables.proofs.Lemmas.Rows.{both_parts}
+use Rattle.ee_store_tables.proofs.Lemmas.Rows.{int_in, natural, number_in}
 use Rattle.ee_store_opening.specs.Reading.{rises, shown_by}
 use Rattle.ee_store_opening.specs.Shown.{pair_lt}
 use Rattle.ee_store_opening.proofs.FoundLemmas.{alls, AllApart, apart_permuted, each_shown, holds_table}
@@ -40,23 +41,6 @@ pair_below a b = grind (arith, nat_tests)
 
 pub int_below : (i j : ℤ) → int_lt i j ≡ true → int_cmp i j ≡ Less
 int_below i j h = grind (arith, ints)
-
--- ---- numbers in values
-
-abbrev pub int_in : Value → ℤ
-int_in (Int n) = n
-int_in _ = pos 0
-
-abbrev pub natural : ℤ → ℕ
-natural (pos n) = n
-natural _ = 0
-
-abbrev pub number_in : Value → ℕ
-number_in v = natural (int_in v)
-
-abbrev pub optional_in : Value → Option ℕ
-optional_in (Int n) = Some (natural n)
-optional_in _ = None
 
 -- ---- what the types of the columns say of a row
 
@@ -88,14 +72,14 @@ key_empty (first ∷ columns) (v ∷ w ∷ r) h = null_if w (first_of_both _ _ h
 
 apart_below : {X : Type 0} (k : ℕ) (es : List (ℕ × X)) → T (below_all nat_cmp k es) → AllByRecursion (λ (j : ℤ). pos k ≢ j) (map (λ e. pos e.0) es)
 apart_below k [] h = tt
-apart_below k (e ∷ es) h = let two = both_parts _ _ h in ((λ same. unequal k e.0 two.0 (ap natural same)), apart_below k es two.1)
+apart_below k (e ∷ es) h = let two = and_yes _ _ h in ((λ same. unequal k e.0 two.0 (ap natural same)), apart_below k es two.1)
   where
     unequal : (m n : ℕ) → T (is_lt (nat_cmp m n)) → m ≡ n → ⊥
     unequal m n less same = grind (arith, nat_tests)
 
 apart_keys : {X : Type 0} (es : List (ℕ × X)) → T (is_sorted nat_cmp es) → AllApart (map (λ e. pos e.0) es)
 apart_keys [] h = tt
-apart_keys (e ∷ es) h = let two = both_parts _ _ h in (apart_below e.0 es two.0, apart_keys es two.1)
+apart_keys (e ∷ es) h = let two = and_yes _ _ h in (apart_below e.0 es two.0, apart_keys es two.1)
 
 module _ {X : Type 0} (columns : X → Row) (uncolumns : Row → X) (back : (x : X) → uncolumns (columns x) ≡ x) (terms : List Term) (first : (r : Row) → column (shown_by terms r) 0 ≡ column r 0)
     (tree : List Row) (es : List (ℕ × X)) where

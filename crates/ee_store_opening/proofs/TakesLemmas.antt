@@ -1,10 +1,11 @@
 -- Tables and indexes that `sqlite` has no reason to refuse.
-use Rattle.std.proofs.Common.{◌≡◌, ◌<◌, ◌+◌, ◌*◌, ◌^◌, inl, inr, ℕ, List, [], ◌∷◌, codes, length, Bool, true, false, ◌&&◌, Some, zero, suc, Ok, refl, sym, ap, subst, ◌∙◌, arith}
+use Rattle.std.proofs.Common.{◌≡◌, ◌<◌, ◌+◌, ◌*◌, ◌^◌, inl, inr, ℕ, List, [], ◌∷◌, codes, length, true, false, Some, zero, suc, Ok, refl, sym, ap, subst, ◌∙◌, arith}
 use Rattle.std.specs.Prelude.{IsUtf8, nat_lt, slice_get, slice_index}
 use Rattle.std.specs.Float.Ieee
 use Rattle.std.specs.List.{AllByRecursion, list_all}
 use Rattle.std.proofs.lemmas.Str.{IsUtf8-from_ascii}
 use Rattle.std.proofs.lemmas.Bool.Decides.{nat_tests}
+use Rattle.std.proofs.lemmas.Bool.{and_parts}
 use Rattle.sqlite.specs.Order.{Row}
 use Rattle.sqlite.specs.Tree.{Trees}
 use Rattle.sqlite.specs.Schema.{Schema}
@@ -26,23 +27,19 @@ use Rattle.sqlite_resolve.specs.Compile.{table_defined_by, index_defined_by}
 use Rattle.sqlite_tied.specs.Compute.{everything}
 use Rattle.sqlite.specs.Listing.{understood}
 use Rattle.ee_store_tables.specs.Tables.{counter_schema}
+use Rattle.ee_store_tables.proofs.Lemmas.Rows.{same_ok}
 use Rattle.ee_store_opening.specs.Making.{no_tables, register_tables, payment_tables, AddsTable, AddsIndex, TakesTable, TakesIndex}
 use Rattle.ee_store_opening.specs.Reading.{IsOneStatement}
 use Rattle.ee_store_opening.proofs.CauseLemmas.{never_both}
-use Rattle.ee_store_opening.proofs.DefineLemmas.{same_value}
 use Rattle.ee_store_opening.proofs.MakeUsable.{has_free, name_free}
 use Rattle.ee_store_opening.proofs.TextLemmas.{desk_text, rates_text, bonds_text, owner_text, tickets_text, day_text, paid_text, batches_text, replies_text, with_desk, with_rates, with_bonds, with_tickets, with_days, with_batches, adds_desk, adds_rates, adds_bonds, adds_owner, adds_tickets, adds_day, adds_paid, adds_batches, adds_replies}
 
 -- ---- tables
 
-both_on : (a b : Bool) → (a && b) ≡ true → (a ≡ true) × (b ≡ true)
-both_on true b on = (refl, on)
-both_on false b on = absurd cc
-
 ascii_at : (bs : List ℕ) → list_all (λ b. nat_lt b 128) bs ≡ true → (i : ℕ) → slice_index bs i < 128
 ascii_at [] all i = omega arith
-ascii_at (b ∷ bs) all zero = let low = (both_on (nat_lt b 128) _ all).0 in grind (arith, nat_tests)
-ascii_at (b ∷ bs) all (suc i) = ascii_at bs (both_on (nat_lt b 128) _ all).1 i
+ascii_at (b ∷ bs) all zero = let low = (and_parts (nat_lt b 128) _ all).0 in grind (arith, nat_tests)
+ascii_at (b ∷ bs) all (suc i) = ascii_at bs (and_parts (nat_lt b 128) _ all).1 i
 
 ascii : (bs : List ℕ) → list_all (λ b. nat_lt b 128) bs ≡ true → IsUtf8 bs
 ascii bs all = IsUtf8-from_ascii bs (ascii_at bs all)
@@ -61,7 +58,7 @@ record IsAllowed (before : Schema) (text : List ℕ) (table : Table) : Type 0 wh
 
 module _ (before after : Schema) (text : List ℕ) (adds : AddsTable before text after) (allowed : IsAllowed before text adds.table) where
   same : (table : Table) → table_defined_by text ≡ Ok table → adds.table ≡ table
-  same table defined = same_value (sym adds.defined ∙ defined)
+  same table defined = same_ok (sym adds.defined ∙ defined)
 
   allows : (table : Table) → table_defined_by text ≡ Ok table → IsAllowed before text table
   allows table defined = subst (IsAllowed before text) (same table defined) allowed
@@ -111,11 +108,11 @@ keeps_none P (t ∷ ts) db none = (subst (AllByRecursion (P t)) (sym none.0) tt,
 
 module _ (before after : Schema) (text : List ℕ) (adds : AddsIndex before text after) (allowed : IsAllowedIndex before text adds.table adds.index) where
   allows_index : (index : Index) → index_defined_by adds.table text ≡ Ok index → IsAllowedIndex before text adds.table index
-  allows_index index defined = subst (IsAllowedIndex before text adds.table) (same_value (sym adds.defined ∙ defined)) allowed
+  allows_index index defined = subst (IsAllowedIndex before text adds.table) (same_ok (sym adds.defined ∙ defined)) allowed
 
   index_taken : (db : Trees) → AllByRecursion (λ t. db t.tree ≡ []) before.tables → (reason : Refusal) → ¬ RefusesIndex before db adds.table text reason
   index_taken db none (why.Invalid e) h = let it = sym adds.defined ∙ h in cc
-  index_taken db none why.NameTaken (index, defined, used) = let same : adds.index ≡ index = same_value (sym adds.defined ∙ defined) in never_both _ (ap (λ (i : Index). is_used before i.name) same ∙ used) adds.free
+  index_taken db none why.NameTaken (index, defined, used) = let same : adds.index ≡ index = same_ok (sym adds.defined ∙ defined) in never_both _ (ap (λ (i : Index). is_used before i.name) same ∙ used) adds.free
   index_taken db none why.BadName (index, defined, inl (inl utf8)) = utf8 (allows_index index defined).named
   index_taken db none why.BadName (index, defined, inl (inr reserved)) = never_both (is_reserved index.name) reserved.0 (allows_index index defined).unreserved
   index_taken db none why.BadName (index, defined, inr utf8) = utf8 (allows_index index defined).owner

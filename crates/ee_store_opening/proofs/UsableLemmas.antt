@@ -9,6 +9,7 @@ use Rattle.std.specs.FinMap.Entries.{is_sorted, below_all}
 use Rattle.std.proofs.lemmas.Bool.Decides.{nat_tests}
 use Rattle.std.proofs.lemmas.Int.{ints}
 use Rattle.std.proofs.lemmas.List.Elements.{All-from_recursion}
+use Rattle.std.proofs.Math.Facts.{and_yes}
 use Rattle.sqlite.specs.declared.types.Value.TheVariants.{Int}
 use Rattle.sqlite.specs.Term.{Term}
 use Rattle.sqlite_value.specs.Order.{Row, column}
@@ -20,13 +21,13 @@ use Rattle.sqlite_value.proofs.OrderLemmas.{value_cmp-Int, then-Equal}
 use Rattle.sqlite_keyed.proofs.ListLemmas.{map-map, map_same, map_back, all_weaker, ascending-map, ascending_weaker, filter_all, all_of}
 use Rattle.ee_store_tables.specs.Keyed.{pair_cmp, row_of, stored, ReadAlike, HoldsMap, HoldsPairs}
 use Rattle.ee_store_tables.specs.Rows.{ReplyRow, reply_columns}
-use Rattle.ee_store_tables.proofs.Lemmas.Rows.{no_limit, by_column, both_parts, cmp_pos, rows_that_match, keyed_same, keys_rise, rows_in_order}
+use Rattle.ee_store_tables.proofs.Lemmas.Rows.{no_limit, by_column, cmp_pos, rows_that_match, keyed_same, keys_rise, rows_in_order, int_in, number_in}
 use Rattle.ee_store_opening.specs.Reading.{rises, whole_table, CanBeRead}
 use Rattle.ee_store_opening.specs.Shown.{pair_lt, keyed_shown, pair_shown, IsKeyed, IsPaired, IsReply, IsRowid, IsWritten, AreWritten}
 use Rattle.ee_store_opening.specs.declared.entries.Rowid.{Rowid}
 use Rattle.ee_store_opening.proofs.FoundLemmas.{alls, AllApart, apart_permuted}
 use Rattle.ee_store_opening.proofs.QuestionLemmas.{rowid_terms}
-use Rattle.ee_store_opening.proofs.TableLemmas.{rises_same, number_below, pair_below, int_in, number_in}
+use Rattle.ee_store_opening.proofs.TableLemmas.{rises_same, number_below, pair_below}
 
 -- ---- lists in order
 
@@ -42,7 +43,7 @@ module _ {A K X : Type 0} (R : K → K → Ordering) (entry : A → K × X) wher
   rises_if_sorted : (list : List A) → T (is_sorted R (map entry list)) → rises (λ a b. is_lt (R (entry a).0 (entry b).0)) list ≡ true
   rises_if_sorted [] h = refl
   rises_if_sorted (a ∷ []) h = refl
-  rises_if_sorted (a ∷ b ∷ rest) h = let two = both_parts _ _ h in join _ _ (both_parts _ _ two.0).0 (rises_if_sorted (b ∷ rest) two.1)
+  rises_if_sorted (a ∷ b ∷ rest) h = let two = and_yes _ _ h in join _ _ (and_yes _ _ two.0).0 (rises_if_sorted (b ∷ rest) two.1)
 
 -- ---- tables whose key is a number
 
@@ -95,7 +96,7 @@ all_keyed columns es = All-from_recursion _ _ (are_keyed columns es)
 
 entry_found : {X : Type 0} (es : List (ℕ × X)) → T (is_sorted nat_cmp es) → AllByRecursion (λ e. find nat_cmp e.0 es ≡ Some e.1) es
 entry_found [] h = tt
-entry_found {X} (e ∷ es) h = let two = both_parts _ _ h in (ap (λ b. cond b (Some e.1) (find nat_cmp e.0 es)) (itself e.0), later es two.0 (entry_found es two.1))
+entry_found {X} (e ∷ es) h = let two = and_yes _ _ h in (ap (λ b. cond b (Some e.1) (find nat_cmp e.0 es)) (itself e.0), later es two.0 (entry_found es two.1))
   where
     itself : (n : ℕ) → is_eq (nat_cmp n n) ≡ true
     itself n = grind (arith, nat_tests)
@@ -105,7 +106,7 @@ entry_found {X} (e ∷ es) h = let two = both_parts _ _ h in (ap (λ b. cond b (
 
     later : (fs : List (ℕ × X)) → T (below_all nat_cmp e.0 fs) → AllByRecursion (λ f. find nat_cmp f.0 es ≡ Some f.1) fs → AllByRecursion (λ f. find nat_cmp f.0 (e ∷ es) ≡ Some f.1) fs
     later [] below all = tt
-    later (f ∷ fs) below all = let two = both_parts _ _ below in (ap (λ b. cond b (Some e.1) (find nat_cmp f.0 es)) (apart e.0 f.0 (truth _ two.0)) ∙ all.0, later fs two.1 all.1)
+    later (f ∷ fs) below all = let two = and_yes _ _ below in (ap (λ b. cond b (Some e.1) (find nat_cmp f.0 es)) (apart e.0 f.0 (truth _ two.0)) ∙ all.0, later fs two.1 all.1)
 
 are_replies : (es : List (ℕ × ReplyRow)) → AllByRecursion (λ e. IsWritten e.1) es → AllByRecursion IsReply (map (keyed_shown reply_columns) es)
 are_replies [] all = tt

@@ -5,8 +5,8 @@ use Rattle.ee_store_tables.specs.Statements.{HasCause}
 use Rattle.sqlite.specs.declared.error.Error.{Error}
 use Rattle.sqlite.specs.declared.error.Error.TheVariants.{SqliteFailure, SqlInputError, InvalidColumnIndex, InvalidColumnType, IntegralValueOutOfRange, Utf8Error}
 use Rattle.sqlite.specs.declared.error.ErrorCode.TheVariants.{OutOfMemory, NameTaken}
-use Rattle.ee_store_opening.specs.declared.making.OpenFault.{OpenFault}
-use Rattle.ee_store_opening.specs.declared.making.OpenFault.TheVariants.{NoMemory, StoreFailed, Unusable}
+use Rattle.ee_store_opening.specs.declared.faults.OpenFault.{OpenFault}
+use Rattle.ee_store_opening.specs.declared.faults.OpenFault.TheVariants.{NoMemory, StoreFailed, Unusable}
 
 -- A statement that the tables refuse and a value that can't be read tell of another store than ours.
 abbrev pub fault_of : Error → OpenFault

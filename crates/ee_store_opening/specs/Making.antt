@@ -1,5 +1,5 @@
 -- A store with no tables, and the tables of version 1 as they are made in it.
-use Rattle.std.specs.Prelude.{◌≡◌, IsTrue, List, ℕ, [], ◌∷◌, Some, None, Ok, Err, Result, true, false, not, slice_get}
+use Rattle.std.specs.Prelude.{◌≡◌, IsTrue, List, ℕ, [], ◌∷◌, Some, None, Ok, Err, Result, true, false, not, slice_get, codes}
 use Rattle.std.specs.List.{AllByRecursion, list_all}
 use Rattle.std.specs.FinMap.{empty, insert}
 use Rattle.sqlite.specs.Table.{Table}
@@ -19,7 +19,6 @@ use Rattle.sqlite.specs.Does.{lacks_sequence}
 use Rattle.sqlite.specs.Listing.{understood}
 use Rattle.sqlite.specs.State.{State, text_of}
 use Rattle.sqlite_catalog.specs.Listing.{automatic}
-use Rattle.std.specs.Prelude.{codes}
 use Rattle.ee_store_tables.specs.Tables.{desk, rates, bonds, tickets, paid, index_on}
 use Rattle.ee_store_tables.specs.Rows.{Rows, DeskRow}
 use Rattle.ee_store_opening.specs.Reading.{IsOneStatement}

@@ -8,7 +8,7 @@ ghost use Rattle.sqlite.specs.declared.types.Value.TheVariants.{Int};
 ghost use Rattle.ee_store_tables.specs.Rows.{desk_columns, rate_columns, bond_columns, ticket_columns, paid_columns, batch_columns};
 ghost use Rattle.ee_store_opening.specs.Shown as spec;
 
-use crate::making::OpenFault;
+use crate::faults::OpenFault;
 use crate::reading::Record;
 use sqlite::Row;
 

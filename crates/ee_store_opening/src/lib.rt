@@ -2,6 +2,7 @@
 #![tactic(auto)]
 
 mod entries;
+mod faults;
 mod making;
 mod opening;
 mod ours;
@@ -13,7 +14,7 @@ mod whole;
 pub use entries::{
     StoredBatch, StoredBond, StoredDesk, StoredLine, StoredRate, StoredReply, StoredTicket,
 };
-pub use making::OpenFault;
+pub use faults::OpenFault;
 pub use opening::open_rows;
 pub use version::STORE_VERSION;
 pub use whole::AllRows;

@@ -9,50 +9,22 @@ ghost use Rattle.sqlite.specs.Effect.{IsDatabase};
 ghost use Rattle.ee_store_tables.specs.Rows.{Stores, Sees, Has};
 ghost use Rattle.ee_store_tables.specs.Tables.{counter_schema};
 ghost use Rattle.ee_store_opening.specs.Faults.{FailsForCause};
-ghost use Rattle.ee_store_opening.specs.Making.{IsBlank, first_rows, SeesTables, IsAmid, AddsTable, AddsIndex, TakesTable, TakesIndex, no_tables, register_tables, payment_tables};
+ghost use Rattle.ee_store_opening.specs.Making.{
+  IsBlank,
+  first_rows,
+  SeesTables,
+  IsAmid,
+  AddsTable,
+  AddsIndex,
+  TakesTable,
+  TakesIndex,
+  no_tables,
+  register_tables,
+  payment_tables,
+};
 
-use sqlite::{Alter, Connection, Error, ErrorCode, Transaction};
-use thiserror::Error as Fault;
-
-/// Why a store isn't opened.
-#[derive(Clone, Copy, Debug, PartialEq, Eq, Fault)]
-pub enum OpenFault {
-    /// There was not enough memory.
-    #[error("out of memory")]
-    NoMemory,
-    /// The store failed, or it isn't one that `sqlite` opens.
-    #[error("the store failed, or it is none that can be opened")]
-    StoreFailed,
-    /// The tables are of another version.
-    #[error("the tables of the store are of another version")]
-    WrongVersion,
-    /// The tables aren't those of this program, or their rows stand for no books.
-    #[error("the store has no tables and rows of books")]
-    Unusable,
-}
-
-impl From<Error> for OpenFault {
-    ghost use Rattle.std.specs.Prelude.{◌≡◌};
-    ghost use Rattle.ee_store_opening.specs.Faults.{fault_of};
-
-    ghost from_gives = { λ error fault. fault ≡ fault_of error };
-
-    fn from(error: Error) -> OpenFault {
-        match error {
-            Error::SqliteFailure(ErrorCode::OutOfMemory) => OpenFault::NoMemory,
-            // The tables are others than a statement takes them to be.
-            Error::SqlInputError(_) | Error::SqliteFailure(ErrorCode::NameTaken) => {
-                OpenFault::Unusable
-            }
-            // A row has a value that no row of this program has.
-            Error::InvalidColumnIndex(_)
-            | Error::InvalidColumnType(_, _)
-            | Error::IntegralValueOutOfRange(_)
-            | Error::Utf8Error(_) => OpenFault::Unusable,
-            _ => OpenFault::StoreFailed,
-        }
-    }
-}
+use crate::faults::OpenFault;
+use sqlite::{Alter, Connection, Transaction};
 
 /// Makes a table.
 fn define_table<S: Alter>(tx: &mut Transaction<'_, S>, sql: &str) -> Result<(), OpenFault>
@@ -61,9 +33,11 @@ fn define_table<S: Alter>(tx: &mut Transaction<'_, S>, sql: &str) -> Result<(), 
     ensures open { HasCleanDisk (state S.Store tx.new.conn.now) → OnOk result (IsTrue (state S.Store tx.new.conn.now).is_open) }
     ensures added { HasCleanDisk (state S.Store tx.new.conn.now) → OnOk result ((before after : Schema) → AddsTable before sql.now after
         → SeesTables (state S.Store tx.old.conn.now) before → SeesTables (state S.Store tx.new.conn.now) after) }
-    ensures usable { HasCleanDisk (state S.Store tx.new.conn.now) → IfErr result (λ e. (before after : Schema) → AddsTable before sql.now after → SeesTables (state S.Store tx.old.conn.now) before → IsTrue (state S.Store tx.old.conn.now).is_open → e ≢ OpenFault.Unusable) }
+    ensures usable { HasCleanDisk (state S.Store tx.new.conn.now) → IfErr result (λ e. (before after : Schema) → AddsTable before sql.now after
+        → SeesTables (state S.Store tx.old.conn.now) before → IsTrue (state S.Store tx.old.conn.now).is_open → e ≢ OpenFault.Unusable) }
     ensures other { IfErr result (λ e. e ≢ OpenFault.WrongVersion) }
-    ensures cause { (before after : Schema) → AddsTable before sql.now after → TakesTable before sql.now → FailsForCause (IsAmid before) (state S.Store tx.old.conn.now) (state S.Store tx.new.conn.now) result }
+    ensures cause { (before after : Schema) → AddsTable before sql.now after → TakesTable before sql.now
+        → FailsForCause (IsAmid before) (state S.Store tx.old.conn.now) (state S.Store tx.new.conn.now) result }
     ensures commit { HasCleanDisk (state S.Store tx.new.conn.now) → KeepsCommit (state S.Store tx.old.conn.now) (state S.Store tx.new.conn.now) }
     ensures crash { Survives (state S.Store tx.old.conn.now) (state S.Store tx.new.conn.now) (λ _. ⊥) }
 {
@@ -78,9 +52,11 @@ fn define_index<S: Alter>(tx: &mut Transaction<'_, S>, sql: &str) -> Result<(), 
     ensures open { HasCleanDisk (state S.Store tx.new.conn.now) → OnOk result (IsTrue (state S.Store tx.new.conn.now).is_open) }
     ensures added { HasCleanDisk (state S.Store tx.new.conn.now) → OnOk result ((before after : Schema) → AddsIndex before sql.now after
         → SeesTables (state S.Store tx.old.conn.now) before → SeesTables (state S.Store tx.new.conn.now) after) }
-    ensures usable { HasCleanDisk (state S.Store tx.new.conn.now) → IfErr result (λ e. (before after : Schema) → AddsIndex before sql.now after → SeesTables (state S.Store tx.old.conn.now) before → IsTrue (state S.Store tx.old.conn.now).is_open → e ≢ OpenFault.Unusable) }
+    ensures usable { HasCleanDisk (state S.Store tx.new.conn.now) → IfErr result (λ e. (before after : Schema) → AddsIndex before sql.now after
+        → SeesTables (state S.Store tx.old.conn.now) before → IsTrue (state S.Store tx.old.conn.now).is_open → e ≢ OpenFault.Unusable) }
     ensures other { IfErr result (λ e. e ≢ OpenFault.WrongVersion) }
-    ensures cause { (before after : Schema) (adds : AddsIndex before sql.now after) → TakesIndex before sql.now adds.table → FailsForCause (IsAmid before) (state S.Store tx.old.conn.now) (state S.Store tx.new.conn.now) result }
+    ensures cause { (before after : Schema) (adds : AddsIndex before sql.now after) → TakesIndex before sql.now adds.table
+        → FailsForCause (IsAmid before) (state S.Store tx.old.conn.now) (state S.Store tx.new.conn.now) result }
     ensures commit { HasCleanDisk (state S.Store tx.new.conn.now) → KeepsCommit (state S.Store tx.old.conn.now) (state S.Store tx.new.conn.now) }
     ensures crash { Survives (state S.Store tx.old.conn.now) (state S.Store tx.new.conn.now) (λ _. ⊥) }
 {
@@ -93,8 +69,10 @@ fn make_register<S: Alter>(tx: &mut Transaction<'_, S>) -> Result<(), OpenFault>
     ensures same_reference { tx.new.conn.ghost_name ≡ tx.old.conn.ghost_name }
     ensures inside { HasCleanDisk (state S.Store tx.new.conn.now) → OnOk result (IsTrue (state S.Store tx.new.conn.now).in_transaction) }
     ensures open { HasCleanDisk (state S.Store tx.new.conn.now) → OnOk result (IsTrue (state S.Store tx.new.conn.now).is_open) }
-    ensures added { HasCleanDisk (state S.Store tx.new.conn.now) → OnOk result (SeesTables (state S.Store tx.old.conn.now) no_tables → SeesTables (state S.Store tx.new.conn.now) register_tables) }
-    ensures usable { HasCleanDisk (state S.Store tx.new.conn.now) → IfErr result (λ e. SeesTables (state S.Store tx.old.conn.now) no_tables → IsTrue (state S.Store tx.old.conn.now).is_open → e ≢ OpenFault.Unusable) }
+    ensures added { HasCleanDisk (state S.Store tx.new.conn.now) → OnOk result (SeesTables (state S.Store tx.old.conn.now) no_tables
+        → SeesTables (state S.Store tx.new.conn.now) register_tables) }
+    ensures usable { HasCleanDisk (state S.Store tx.new.conn.now) → IfErr result (λ e. SeesTables (state S.Store tx.old.conn.now) no_tables
+        → IsTrue (state S.Store tx.old.conn.now).is_open → e ≢ OpenFault.Unusable) }
     ensures other { IfErr result (λ e. e ≢ OpenFault.WrongVersion) }
     ensures cause { FailsForCause (IsAmid no_tables) (state S.Store tx.old.conn.now) (state S.Store tx.new.conn.now) result }
     ensures commit { HasCleanDisk (state S.Store tx.new.conn.now) → KeepsCommit (state S.Store tx.old.conn.now) (state S.Store tx.new.conn.now) }
@@ -123,8 +101,10 @@ fn make_payments<S: Alter>(tx: &mut Transaction<'_, S>) -> Result<(), OpenFault>
     ensures same_reference { tx.new.conn.ghost_name ≡ tx.old.conn.ghost_name }
     ensures inside { HasCleanDisk (state S.Store tx.new.conn.now) → OnOk result (IsTrue (state S.Store tx.new.conn.now).in_transaction) }
     ensures open { HasCleanDisk (state S.Store tx.new.conn.now) → OnOk result (IsTrue (state S.Store tx.new.conn.now).is_open) }
-    ensures added { HasCleanDisk (state S.Store tx.new.conn.now) → OnOk result (SeesTables (state S.Store tx.old.conn.now) register_tables → SeesTables (state S.Store tx.new.conn.now) payment_tables) }
-    ensures usable { HasCleanDisk (state S.Store tx.new.conn.now) → IfErr result (λ e. SeesTables (state S.Store tx.old.conn.now) register_tables → IsTrue (state S.Store tx.old.conn.now).is_open → e ≢ OpenFault.Unusable) }
+    ensures added { HasCleanDisk (state S.Store tx.new.conn.now) → OnOk result (SeesTables (state S.Store tx.old.conn.now) register_tables
+        → SeesTables (state S.Store tx.new.conn.now) payment_tables) }
+    ensures usable { HasCleanDisk (state S.Store tx.new.conn.now) → IfErr result (λ e. SeesTables (state S.Store tx.old.conn.now) register_tables
+        → IsTrue (state S.Store tx.old.conn.now).is_open → e ≢ OpenFault.Unusable) }
     ensures other { IfErr result (λ e. e ≢ OpenFault.WrongVersion) }
     ensures cause { FailsForCause (IsAmid register_tables) (state S.Store tx.old.conn.now) (state S.Store tx.new.conn.now) result }
     ensures commit { HasCleanDisk (state S.Store tx.new.conn.now) → KeepsCommit (state S.Store tx.old.conn.now) (state S.Store tx.new.conn.now) }
@@ -146,9 +126,12 @@ fn add_desk<S: Alter>(tx: &mut Transaction<'_, S>) -> Result<(), OpenFault>
     ensures same_reference { tx.new.conn.ghost_name ≡ tx.old.conn.ghost_name }
     ensures inside { HasCleanDisk (state S.Store tx.new.conn.now) → OnOk result (IsTrue (state S.Store tx.new.conn.now).in_transaction) }
     ensures open { HasCleanDisk (state S.Store tx.new.conn.now) → OnOk result (IsTrue (state S.Store tx.new.conn.now).is_open) }
-    ensures added { HasCleanDisk (state S.Store tx.new.conn.now) → OnOk result (SeesTables (state S.Store tx.old.conn.now) counter_schema → Sees (state S.Store tx.new.conn.now) first_rows) }
-    ensures sound { HasCleanDisk (state S.Store tx.new.conn.now) → OnOk result (SeesTables (state S.Store tx.old.conn.now) counter_schema → IsTrue (state S.Store tx.new.conn.now).is_open → IsDatabase (state S.Store tx.new.conn.now).now) }
-    ensures usable { HasCleanDisk (state S.Store tx.new.conn.now) → IfErr result (λ e. SeesTables (state S.Store tx.old.conn.now) counter_schema → IsTrue (state S.Store tx.old.conn.now).is_open → e ≢ OpenFault.Unusable) }
+    ensures added { HasCleanDisk (state S.Store tx.new.conn.now) → OnOk result (SeesTables (state S.Store tx.old.conn.now) counter_schema
+        → Sees (state S.Store tx.new.conn.now) first_rows) }
+    ensures sound { HasCleanDisk (state S.Store tx.new.conn.now) → OnOk result (SeesTables (state S.Store tx.old.conn.now) counter_schema
+        → IsTrue (state S.Store tx.new.conn.now).is_open → IsDatabase (state S.Store tx.new.conn.now).now) }
+    ensures usable { HasCleanDisk (state S.Store tx.new.conn.now) → IfErr result (λ e. SeesTables (state S.Store tx.old.conn.now) counter_schema
+        → IsTrue (state S.Store tx.old.conn.now).is_open → e ≢ OpenFault.Unusable) }
     ensures other { IfErr result (λ e. e ≢ OpenFault.WrongVersion) }
     ensures cause { FailsForCause (IsAmid counter_schema) (state S.Store tx.old.conn.now) (state S.Store tx.new.conn.now) result }
     ensures commit { HasCleanDisk (state S.Store tx.new.conn.now) → KeepsCommit (state S.Store tx.old.conn.now) (state S.Store tx.new.conn.now) }
@@ -166,9 +149,12 @@ fn make_records<S: Alter>(tx: &mut Transaction<'_, S>) -> Result<(), OpenFault>
     ensures same_reference { tx.new.conn.ghost_name ≡ tx.old.conn.ghost_name }
     ensures inside { HasCleanDisk (state S.Store tx.new.conn.now) → OnOk result (IsTrue (state S.Store tx.new.conn.now).in_transaction) }
     ensures open { HasCleanDisk (state S.Store tx.new.conn.now) → OnOk result (IsTrue (state S.Store tx.new.conn.now).is_open) }
-    ensures added { HasCleanDisk (state S.Store tx.new.conn.now) → OnOk result (SeesTables (state S.Store tx.old.conn.now) payment_tables → Sees (state S.Store tx.new.conn.now) first_rows) }
-    ensures sound { HasCleanDisk (state S.Store tx.new.conn.now) → OnOk result (SeesTables (state S.Store tx.old.conn.now) payment_tables → IsTrue (state S.Store tx.new.conn.now).is_open → IsDatabase (state S.Store tx.new.conn.now).now) }
-    ensures usable { HasCleanDisk (state S.Store tx.new.conn.now) → IfErr result (λ e. SeesTables (state S.Store tx.old.conn.now) payment_tables → IsTrue (state S.Store tx.old.conn.now).is_open → e ≢ OpenFault.Unusable) }
+    ensures added { HasCleanDisk (state S.Store tx.new.conn.now) → OnOk result (SeesTables (state S.Store tx.old.conn.now) payment_tables
+        → Sees (state S.Store tx.new.conn.now) first_rows) }
+    ensures sound { HasCleanDisk (state S.Store tx.new.conn.now) → OnOk result (SeesTables (state S.Store tx.old.conn.now) payment_tables
+        → IsTrue (state S.Store tx.new.conn.now).is_open → IsDatabase (state S.Store tx.new.conn.now).now) }
+    ensures usable { HasCleanDisk (state S.Store tx.new.conn.now) → IfErr result (λ e. SeesTables (state S.Store tx.old.conn.now) payment_tables
+        → IsTrue (state S.Store tx.old.conn.now).is_open → e ≢ OpenFault.Unusable) }
     ensures other { IfErr result (λ e. e ≢ OpenFault.WrongVersion) }
     ensures cause { FailsForCause (IsAmid payment_tables) (state S.Store tx.old.conn.now) (state S.Store tx.new.conn.now) result }
     ensures commit { HasCleanDisk (state S.Store tx.new.conn.now) → KeepsCommit (state S.Store tx.old.conn.now) (state S.Store tx.new.conn.now) }
@@ -190,9 +176,12 @@ fn make_in<S: Alter>(tx: &mut Transaction<'_, S>) -> Result<(), OpenFault>
     ensures same_reference { tx.new.conn.ghost_name ≡ tx.old.conn.ghost_name }
     ensures inside { HasCleanDisk (state S.Store tx.new.conn.now) → OnOk result (IsTrue (state S.Store tx.new.conn.now).in_transaction) }
     ensures open { HasCleanDisk (state S.Store tx.new.conn.now) → OnOk result (IsTrue (state S.Store tx.new.conn.now).is_open) }
-    ensures added { HasCleanDisk (state S.Store tx.new.conn.now) → OnOk result (SeesTables (state S.Store tx.old.conn.now) no_tables → Sees (state S.Store tx.new.conn.now) first_rows) }
-    ensures sound { HasCleanDisk (state S.Store tx.new.conn.now) → OnOk result (SeesTables (state S.Store tx.old.conn.now) no_tables → IsTrue (state S.Store tx.new.conn.now).is_open → IsDatabase (state S.Store tx.new.conn.now).now) }
-    ensures usable { HasCleanDisk (state S.Store tx.new.conn.now) → IfErr result (λ e. SeesTables (state S.Store tx.old.conn.now) no_tables → IsTrue (state S.Store tx.old.conn.now).is_open → e ≢ OpenFault.Unusable) }
+    ensures added { HasCleanDisk (state S.Store tx.new.conn.now) → OnOk result (SeesTables (state S.Store tx.old.conn.now) no_tables
+        → Sees (state S.Store tx.new.conn.now) first_rows) }
+    ensures sound { HasCleanDisk (state S.Store tx.new.conn.now) → OnOk result (SeesTables (state S.Store tx.old.conn.now) no_tables
+        → IsTrue (state S.Store tx.new.conn.now).is_open → IsDatabase (state S.Store tx.new.conn.now).now) }
+    ensures usable { HasCleanDisk (state S.Store tx.new.conn.now) → IfErr result (λ e. SeesTables (state S.Store tx.old.conn.now) no_tables
+        → IsTrue (state S.Store tx.old.conn.now).is_open → e ≢ OpenFault.Unusable) }
     ensures other { IfErr result (λ e. e ≢ OpenFault.WrongVersion) }
     ensures cause { FailsForCause (IsAmid no_tables) (state S.Store tx.old.conn.now) (state S.Store tx.new.conn.now) result }
     ensures commit { HasCleanDisk (state S.Store tx.new.conn.now) → KeepsCommit (state S.Store tx.old.conn.now) (state S.Store tx.new.conn.now) }
@@ -215,15 +204,18 @@ fn make_in<S: Alter>(tx: &mut Transaction<'_, S>) -> Result<(), OpenFault>
 /// there, and else `StoreFailed`, as where the connection is in a transaction.
 pub(crate) fn make_tables<S: Alter>(conn: &mut Connection<S>) -> Result<(), OpenFault>
     ensures made { HasCleanDisk (state S.Store conn.new) → OnOk result (IsBlank (state S.Store conn.old) → Has (state S.Store conn.new) first_rows) }
-    ensures stored { HasCleanDisk (state S.Store conn.new) → OnOk result (IsBlank (state S.Store conn.old) → Stores (state S.Store conn.new).committed.trees first_rows) }
+    ensures stored { HasCleanDisk (state S.Store conn.new) → OnOk result (IsBlank (state S.Store conn.old)
+        → Stores (state S.Store conn.new).committed.trees first_rows) }
     ensures failed { HasCleanDisk (state S.Store conn.new) → OnErr result (KeepsCommit (state S.Store conn.old) (state S.Store conn.new)) }
-    ensures usable { HasCleanDisk (state S.Store conn.new) → IfErr result (λ e. IsBlank (state S.Store conn.old) → IsTrue (state S.Store conn.old).is_open → e ≢ OpenFault.Unusable) }
+    ensures usable { HasCleanDisk (state S.Store conn.new) → IfErr result (λ e. IsBlank (state S.Store conn.old) → IsTrue (state S.Store conn.old).is_open
+        → e ≢ OpenFault.Unusable) }
     ensures other { IfErr result (λ e. e ≢ OpenFault.WrongVersion) }
     ensures cause { FailsForCause (λ s. (s.in_transaction ≡ false) × IsBlank s) (state S.Store conn.old) (state S.Store conn.new) result }
     ensures ended { OnOk result ((state S.Store conn.new).in_transaction ≡ false) }
     ensures crash { Survives (state S.Store conn.old) (state S.Store conn.new) (λ db. IsBlank (state S.Store conn.old) → Stores db first_rows) }
     ensures open { HasCleanDisk (state S.Store conn.new) → OnOk result (IsTrue (state S.Store conn.old).is_open × IsTrue (state S.Store conn.new).is_open) }
-    ensures durable { HasCleanDisk (state S.Store conn.new) → OnOk result ((db : Trees) → (state S.Store conn.new).may_leave db → db ≡ (state S.Store conn.new).committed.trees) }
+    ensures durable { HasCleanDisk (state S.Store conn.new) → OnOk result ((db : Trees) → (state S.Store conn.new).may_leave db
+        → db ≡ (state S.Store conn.new).committed.trees) }
 {
     if !conn.is_autocommit() {
         return Err(OpenFault::StoreFailed);

@@ -4,7 +4,22 @@ ghost use Rattle.std.specs.Prelude.{◌≡◌, ◌↔◌, true, false, [], ◌�
 ghost use Rattle.sqlite_value.specs.declared.value.Value.TheVariants.{Null};
 ghost use Rattle.sqlite_value.specs.declared.keys.Collation.TheVariants.{Binary};
 ghost use Rattle.sqlite_value.specs.Keys.{plain};
-ghost use Rattle.ee_store_tables.specs.Tables.{counter_schema, number_column, optional_column, text_column, keyed_table, pair_table, index_on, desk, rates, bonds, tickets, paid, batches, replies};
+ghost use Rattle.ee_store_tables.specs.Tables.{
+  counter_schema,
+  number_column,
+  optional_column,
+  text_column,
+  keyed_table,
+  pair_table,
+  index_on,
+  desk,
+  rates,
+  bonds,
+  tickets,
+  paid,
+  batches,
+  replies,
+};
 ghost use Rattle.ee_store_opening.specs.Making.{no_tables};
 
 use sqlite_items::Items;
@@ -21,7 +36,8 @@ fn is_name(name: &Bytes, wanted: &str) -> bool
 
 /// Whether it is a column of a STRICT table, without a default.
 fn is_column(column: &Column, name: &str, kind: Kind, not_null: bool) -> bool
-    ensures { (result ≡ true) ↔ (column.now ≡ record { name = name.now; kind = kind; is_strict = true; not_null = not_null; default = Null; collation = Binary }) }
+    ensures { (result ≡ true) ↔ (column.now
+        ≡ record { name = name.now; kind = kind; is_strict = true; not_null = not_null; default = Null; collation = Binary }) }
 {
     is_name(&column.name, name)
         && column.kind == kind
@@ -72,7 +88,8 @@ fn has_no_stamps(stamps: &Stamps) -> bool
 
 /// Whether a table has this name and tree, and no rules but those of its columns and keys.
 fn is_plain_table(table: &Table, name: &str, tree: u32) -> bool
-    ensures { (result ≡ true) ↔ (table.now ≡ record (keyed_table name.now tree table.now.columns) { key = table.now.key; primary = table.now.primary; uniques = table.now.uniques; orders = table.now.orders }) }
+    ensures { (result ≡ true) ↔ (table.now
+        ≡ record (keyed_table name.now tree table.now.columns) { key = table.now.key; primary = table.now.primary; uniques = table.now.uniques; orders = table.now.orders }) }
 {
     is_name(&table.name, name)
         && table.tree == tree
@@ -243,7 +260,8 @@ fn is_replies(table: &Table) -> bool
 
 /// Whether an index has this name, tree and table, and each of its columns ascends.
 fn is_index(index: &Index, name: &str, tree: u32, table: u32, columns: &[usize]) -> bool
-    ensures { (result ≡ true) ↔ (index.now ≡ record { name = name.now; tree = tree; table = table; columns = columns.now; order = plain; is_unique = index.now.is_unique }) }
+    ensures { (result ≡ true) ↔ (index.now
+        ≡ record { name = name.now; tree = tree; table = table; columns = columns.now; order = plain; is_unique = index.now.is_unique }) }
 {
     is_name(&index.name, name)
         && index.tree == tree

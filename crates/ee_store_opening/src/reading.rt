@@ -11,7 +11,7 @@ ghost use Rattle.ee_store_tables.specs.Tables.{counter_schema};
 ghost use Rattle.ee_store_opening.specs.Faults.{FailsForCause};
 ghost use Rattle.ee_store_opening.specs.Reading.{rises, whole_table, AsksForAll, IsNeverRefused, ShowsAll, ShowsUnreadable, CanBeRead, HasOurTables, OnlyAsks};
 
-use crate::making::OpenFault;
+use crate::faults::OpenFault;
 use sqlite::{Alter, Connection, Row};
 use std::alloc::Global;
 
@@ -61,8 +61,10 @@ fn read_rows<S: Alter, T: Record + Drop>(
     sql: &str,
 ) -> Result<Vec<T>, OpenFault>
     requires { OnlyAsks sql.now }
-    ensures shown { HasCleanDisk (state S.Store conn.new) → IfOk result (λ found. Shown sql.now [] (state S.Store conn.old) (state S.Store conn.new) (map T.shown found.items)) }
-    ensures usable { HasCleanDisk (state S.Store conn.new) → IfErr result (λ e. e ≡ OpenFault.Unusable → IsPlain (understood (state S.Store conn.old).now.schema sql.now)
+    ensures shown { HasCleanDisk (state S.Store conn.new)
+        → IfOk result (λ found. Shown sql.now [] (state S.Store conn.old) (state S.Store conn.new) (map T.shown found.items)) }
+    ensures usable { HasCleanDisk (state S.Store conn.new) → IfErr result (λ e. e ≡ OpenFault.Unusable
+        → IsPlain (understood (state S.Store conn.old).now.schema sql.now)
         → ShowsUnreadable T.is_readable sql.now (state S.Store conn.old)) }
     ensures same { HasCleanDisk (state S.Store conn.new) → OnOk result (IsUnchanged (state S.Store conn.old) (state S.Store conn.new)) }
     ensures kept { HasCleanDisk (state S.Store conn.new) → KeepsCommit (state S.Store conn.old) (state S.Store conn.new) }
@@ -93,9 +95,11 @@ pub(crate) fn read_table<S: Alter, T: Record + Drop>(
 ) -> Result<Vec<T>, OpenFault>
     requires { OnlyAsks sql.now }
     ensures found { HasCleanDisk (state S.Store conn.new) → IfOk result (λ found. (tree : ℕ) (terms : List Term) → AsksForAll counter_schema sql.now tree terms
-        → HasOurTables (state S.Store conn.old) → IsTrue (state S.Store conn.old).is_open × ShowsAll (state S.Store conn.old).now.trees tree terms (map T.shown found.items)) }
+        → HasOurTables (state S.Store conn.old) → IsTrue (state S.Store conn.old).is_open
+        × ShowsAll (state S.Store conn.old).now.trees tree terms (map T.shown found.items)) }
     ensures rises { IfOk result (λ found. rises T.stands_before found.items ≡ true) }
-    ensures usable { HasCleanDisk (state S.Store conn.new) → IfErr result (λ e. e ≡ OpenFault.Unusable → (tree : ℕ) (terms : List Term) (asks : AsksForAll counter_schema sql.now tree terms)
+    ensures usable { HasCleanDisk (state S.Store conn.new) → IfErr result (λ e. e ≡ OpenFault.Unusable
+        → (tree : ℕ) (terms : List Term) (asks : AsksForAll counter_schema sql.now tree terms)
         → HasOurTables (state S.Store conn.old) → IsTrue (state S.Store conn.old).is_open
         → ¬ CanBeRead T.is_readable T.shown T.stands_before (state S.Store conn.old).now.trees (whole_table tree terms asks.order)) }
     ensures same { HasCleanDisk (state S.Store conn.new) → OnOk result (IsUnchanged (state S.Store conn.old) (state S.Store conn.new)) }

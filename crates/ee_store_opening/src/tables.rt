@@ -6,15 +6,45 @@ ghost use Rattle.std.specs.Ordering.{nat_cmp};
 ghost use Rattle.sqlite.specs.State.{HasCleanDisk, IsUnchanged, KeepsCommit, Survives};
 ghost use Rattle.sqlite.specs.Held.{state};
 ghost use Rattle.ee_store_tables.specs.Keyed.{pair_cmp, HoldsMap, HoldsPairs};
-ghost use Rattle.ee_store_tables.specs.Rows.{DeskRow, BondRow, TicketRow, PaidRow, BatchRow, ReplyRow, desk_columns, rate_columns, bond_columns, ticket_columns, paid_columns, batch_columns, reply_columns};
+ghost use Rattle.ee_store_tables.specs.Rows.{
+  DeskRow,
+  BondRow,
+  TicketRow,
+  PaidRow,
+  BatchRow,
+  ReplyRow,
+  desk_columns,
+  rate_columns,
+  bond_columns,
+  ticket_columns,
+  paid_columns,
+  batch_columns,
+  reply_columns,
+};
 ghost use Rattle.ee_store_opening.specs.Faults.{FailsForCause};
 ghost use Rattle.ee_store_opening.specs.Reading.{IsSoundNow, HasOurTables};
-ghost use Rattle.ee_store_opening.specs.Shown.{AreWritten, desk_map, rate_map, bond_map, ticket_map, line_map, batch_map, reply_map, desk_entry, rate_entry, bond_entry, ticket_entry, line_entry, batch_entry, reply_entry};
+ghost use Rattle.ee_store_opening.specs.Shown.{
+  AreWritten,
+  desk_map,
+  rate_map,
+  bond_map,
+  ticket_map,
+  line_map,
+  batch_map,
+  reply_map,
+  desk_entry,
+  rate_entry,
+  bond_entry,
+  ticket_entry,
+  line_entry,
+  batch_entry,
+  reply_entry,
+};
 
 use crate::entries::{
     Rowid, StoredBatch, StoredBond, StoredDesk, StoredLine, StoredRate, StoredReply, StoredTicket,
 };
-use crate::making::OpenFault;
+use crate::faults::OpenFault;
 use crate::reading::read_table;
 use sqlite::{Alter, Connection};
 use std::alloc::Global;
@@ -24,9 +54,11 @@ pub(crate) fn read_desk<S: Alter>(
     conn: &mut Connection<S>,
     alloc: Global,
 ) -> Result<Vec<StoredDesk>, OpenFault>
-    ensures found { HasCleanDisk (state S.Store conn.new) → HasOurTables (state S.Store conn.old) → IsSoundNow (state S.Store conn.old) → IfOk result (λ found. HoldsMap desk_columns ((state S.Store conn.old).now.trees 0) (desk_map found.items)) }
+    ensures found { HasCleanDisk (state S.Store conn.new) → HasOurTables (state S.Store conn.old) → IsSoundNow (state S.Store conn.old)
+        → IfOk result (λ found. HoldsMap desk_columns ((state S.Store conn.old).now.trees 0) (desk_map found.items)) }
     ensures listed { IfOk result (λ found. entries (desk_map found.items) ≡ map desk_entry found.items) }
-    ensures usable { HasCleanDisk (state S.Store conn.new) → IfErr result (λ e. e ≡ OpenFault.Unusable → HasOurTables (state S.Store conn.old) → IsTrue (state S.Store conn.old).is_open → (m : FinMap nat_cmp DeskRow) → ¬ HoldsMap desk_columns ((state S.Store conn.old).now.trees 0) m) }
+    ensures usable { HasCleanDisk (state S.Store conn.new) → IfErr result (λ e. e ≡ OpenFault.Unusable → HasOurTables (state S.Store conn.old)
+        → IsTrue (state S.Store conn.old).is_open → (m : FinMap nat_cmp DeskRow) → ¬ HoldsMap desk_columns ((state S.Store conn.old).now.trees 0) m) }
     ensures same { HasCleanDisk (state S.Store conn.new) → OnOk result (IsUnchanged (state S.Store conn.old) (state S.Store conn.new)) }
     ensures kept { HasCleanDisk (state S.Store conn.new) → KeepsCommit (state S.Store conn.old) (state S.Store conn.new) }
     ensures other { IfErr result (λ e. e ≢ OpenFault.WrongVersion) }
@@ -45,9 +77,11 @@ pub(crate) fn read_rates<S: Alter>(
     conn: &mut Connection<S>,
     alloc: Global,
 ) -> Result<Vec<StoredRate>, OpenFault>
-    ensures found { HasCleanDisk (state S.Store conn.new) → HasOurTables (state S.Store conn.old) → IsSoundNow (state S.Store conn.old) → IfOk result (λ found. HoldsMap rate_columns ((state S.Store conn.old).now.trees 1) (rate_map found.items)) }
+    ensures found { HasCleanDisk (state S.Store conn.new) → HasOurTables (state S.Store conn.old) → IsSoundNow (state S.Store conn.old)
+        → IfOk result (λ found. HoldsMap rate_columns ((state S.Store conn.old).now.trees 1) (rate_map found.items)) }
     ensures listed { IfOk result (λ found. entries (rate_map found.items) ≡ map rate_entry found.items) }
-    ensures usable { HasCleanDisk (state S.Store conn.new) → IfErr result (λ e. e ≡ OpenFault.Unusable → HasOurTables (state S.Store conn.old) → IsTrue (state S.Store conn.old).is_open → (m : FinMap nat_cmp ℕ) → ¬ HoldsMap rate_columns ((state S.Store conn.old).now.trees 1) m) }
+    ensures usable { HasCleanDisk (state S.Store conn.new) → IfErr result (λ e. e ≡ OpenFault.Unusable → HasOurTables (state S.Store conn.old)
+        → IsTrue (state S.Store conn.old).is_open → (m : FinMap nat_cmp ℕ) → ¬ HoldsMap rate_columns ((state S.Store conn.old).now.trees 1) m) }
     ensures same { HasCleanDisk (state S.Store conn.new) → OnOk result (IsUnchanged (state S.Store conn.old) (state S.Store conn.new)) }
     ensures kept { HasCleanDisk (state S.Store conn.new) → KeepsCommit (state S.Store conn.old) (state S.Store conn.new) }
     ensures other { IfErr result (λ e. e ≢ OpenFault.WrongVersion) }
@@ -66,9 +100,11 @@ pub(crate) fn read_tickets<S: Alter>(
     conn: &mut Connection<S>,
     alloc: Global,
 ) -> Result<Vec<StoredTicket>, OpenFault>
-    ensures found { HasCleanDisk (state S.Store conn.new) → HasOurTables (state S.Store conn.old) → IsSoundNow (state S.Store conn.old) → IfOk result (λ found. HoldsMap ticket_columns ((state S.Store conn.old).now.trees 5) (ticket_map found.items)) }
+    ensures found { HasCleanDisk (state S.Store conn.new) → HasOurTables (state S.Store conn.old) → IsSoundNow (state S.Store conn.old)
+        → IfOk result (λ found. HoldsMap ticket_columns ((state S.Store conn.old).now.trees 5) (ticket_map found.items)) }
     ensures listed { IfOk result (λ found. entries (ticket_map found.items) ≡ map ticket_entry found.items) }
-    ensures usable { HasCleanDisk (state S.Store conn.new) → IfErr result (λ e. e ≡ OpenFault.Unusable → HasOurTables (state S.Store conn.old) → IsTrue (state S.Store conn.old).is_open → (m : FinMap nat_cmp TicketRow) → ¬ HoldsMap ticket_columns ((state S.Store conn.old).now.trees 5) m) }
+    ensures usable { HasCleanDisk (state S.Store conn.new) → IfErr result (λ e. e ≡ OpenFault.Unusable → HasOurTables (state S.Store conn.old)
+        → IsTrue (state S.Store conn.old).is_open → (m : FinMap nat_cmp TicketRow) → ¬ HoldsMap ticket_columns ((state S.Store conn.old).now.trees 5) m) }
     ensures same { HasCleanDisk (state S.Store conn.new) → OnOk result (IsUnchanged (state S.Store conn.old) (state S.Store conn.new)) }
     ensures kept { HasCleanDisk (state S.Store conn.new) → KeepsCommit (state S.Store conn.old) (state S.Store conn.new) }
     ensures other { IfErr result (λ e. e ≢ OpenFault.WrongVersion) }
@@ -87,9 +123,11 @@ pub(crate) fn read_batches<S: Alter>(
     conn: &mut Connection<S>,
     alloc: Global,
 ) -> Result<Vec<StoredBatch>, OpenFault>
-    ensures found { HasCleanDisk (state S.Store conn.new) → HasOurTables (state S.Store conn.old) → IsSoundNow (state S.Store conn.old) → IfOk result (λ found. HoldsMap batch_columns ((state S.Store conn.old).now.trees 10) (batch_map found.items)) }
+    ensures found { HasCleanDisk (state S.Store conn.new) → HasOurTables (state S.Store conn.old) → IsSoundNow (state S.Store conn.old)
+        → IfOk result (λ found. HoldsMap batch_columns ((state S.Store conn.old).now.trees 10) (batch_map found.items)) }
     ensures listed { IfOk result (λ found. entries (batch_map found.items) ≡ map batch_entry found.items) }
-    ensures usable { HasCleanDisk (state S.Store conn.new) → IfErr result (λ e. e ≡ OpenFault.Unusable → HasOurTables (state S.Store conn.old) → IsTrue (state S.Store conn.old).is_open → (m : FinMap nat_cmp BatchRow) → ¬ HoldsMap batch_columns ((state S.Store conn.old).now.trees 10) m) }
+    ensures usable { HasCleanDisk (state S.Store conn.new) → IfErr result (λ e. e ≡ OpenFault.Unusable → HasOurTables (state S.Store conn.old)
+        → IsTrue (state S.Store conn.old).is_open → (m : FinMap nat_cmp BatchRow) → ¬ HoldsMap batch_columns ((state S.Store conn.old).now.trees 10) m) }
     ensures same { HasCleanDisk (state S.Store conn.new) → OnOk result (IsUnchanged (state S.Store conn.old) (state S.Store conn.new)) }
     ensures kept { HasCleanDisk (state S.Store conn.new) → KeepsCommit (state S.Store conn.old) (state S.Store conn.new) }
     ensures other { IfErr result (λ e. e ≢ OpenFault.WrongVersion) }
@@ -108,9 +146,12 @@ pub(crate) fn read_replies<S: Alter>(
     conn: &mut Connection<S>,
     alloc: Global,
 ) -> Result<Vec<StoredReply>, OpenFault>
-    ensures found { HasCleanDisk (state S.Store conn.new) → HasOurTables (state S.Store conn.old) → IsSoundNow (state S.Store conn.old) → IfOk result (λ found. HoldsMap reply_columns ((state S.Store conn.old).now.trees 11) (reply_map found.items)) }
+    ensures found { HasCleanDisk (state S.Store conn.new) → HasOurTables (state S.Store conn.old) → IsSoundNow (state S.Store conn.old)
+        → IfOk result (λ found. HoldsMap reply_columns ((state S.Store conn.old).now.trees 11) (reply_map found.items)) }
     ensures listed { IfOk result (λ found. entries (reply_map found.items) ≡ map reply_entry found.items) }
-    ensures usable { HasCleanDisk (state S.Store conn.new) → IfErr result (λ e. e ≡ OpenFault.Unusable → HasOurTables (state S.Store conn.old) → IsTrue (state S.Store conn.old).is_open → (m : FinMap nat_cmp ReplyRow) → AreWritten m → ¬ HoldsMap reply_columns ((state S.Store conn.old).now.trees 11) m) }
+    ensures usable { HasCleanDisk (state S.Store conn.new) → IfErr result (λ e. e ≡ OpenFault.Unusable → HasOurTables (state S.Store conn.old)
+        → IsTrue (state S.Store conn.old).is_open → (m : FinMap nat_cmp ReplyRow) → AreWritten m
+        → ¬ HoldsMap reply_columns ((state S.Store conn.old).now.trees 11) m) }
     ensures same { HasCleanDisk (state S.Store conn.new) → OnOk result (IsUnchanged (state S.Store conn.old) (state S.Store conn.new)) }
     ensures kept { HasCleanDisk (state S.Store conn.new) → KeepsCommit (state S.Store conn.old) (state S.Store conn.new) }
     ensures other { IfErr result (λ e. e ≢ OpenFault.WrongVersion) }
@@ -129,9 +170,11 @@ pub(crate) fn read_bonds<S: Alter>(
     conn: &mut Connection<S>,
     alloc: Global,
 ) -> Result<Vec<StoredBond>, OpenFault>
-    ensures found { HasCleanDisk (state S.Store conn.new) → HasOurTables (state S.Store conn.old) → IsSoundNow (state S.Store conn.old) → IfOk result (λ found. HoldsPairs bond_columns ((state S.Store conn.old).now.trees 2) (bond_map found.items)) }
+    ensures found { HasCleanDisk (state S.Store conn.new) → HasOurTables (state S.Store conn.old) → IsSoundNow (state S.Store conn.old)
+        → IfOk result (λ found. HoldsPairs bond_columns ((state S.Store conn.old).now.trees 2) (bond_map found.items)) }
     ensures listed { IfOk result (λ found. entries (bond_map found.items) ≡ map bond_entry found.items) }
-    ensures usable { HasCleanDisk (state S.Store conn.new) → IfErr result (λ e. e ≡ OpenFault.Unusable → HasOurTables (state S.Store conn.old) → IsTrue (state S.Store conn.old).is_open → (m : FinMap pair_cmp BondRow) → ¬ HoldsPairs bond_columns ((state S.Store conn.old).now.trees 2) m) }
+    ensures usable { HasCleanDisk (state S.Store conn.new) → IfErr result (λ e. e ≡ OpenFault.Unusable → HasOurTables (state S.Store conn.old)
+        → IsTrue (state S.Store conn.old).is_open → (m : FinMap pair_cmp BondRow) → ¬ HoldsPairs bond_columns ((state S.Store conn.old).now.trees 2) m) }
     ensures same { HasCleanDisk (state S.Store conn.new) → OnOk result (IsUnchanged (state S.Store conn.old) (state S.Store conn.new)) }
     ensures kept { HasCleanDisk (state S.Store conn.new) → KeepsCommit (state S.Store conn.old) (state S.Store conn.new) }
     ensures other { IfErr result (λ e. e ≢ OpenFault.WrongVersion) }
@@ -152,9 +195,11 @@ pub(crate) fn read_lines<S: Alter>(
     conn: &mut Connection<S>,
     alloc: Global,
 ) -> Result<Vec<StoredLine>, OpenFault>
-    ensures found { HasCleanDisk (state S.Store conn.new) → HasOurTables (state S.Store conn.old) → IsSoundNow (state S.Store conn.old) → IfOk result (λ found. HoldsPairs paid_columns ((state S.Store conn.old).now.trees 7) (line_map found.items)) }
+    ensures found { HasCleanDisk (state S.Store conn.new) → HasOurTables (state S.Store conn.old) → IsSoundNow (state S.Store conn.old)
+        → IfOk result (λ found. HoldsPairs paid_columns ((state S.Store conn.old).now.trees 7) (line_map found.items)) }
     ensures listed { IfOk result (λ found. entries (line_map found.items) ≡ map line_entry found.items) }
-    ensures usable { HasCleanDisk (state S.Store conn.new) → IfErr result (λ e. e ≡ OpenFault.Unusable → HasOurTables (state S.Store conn.old) → IsTrue (state S.Store conn.old).is_open → (m : FinMap pair_cmp PaidRow) → ¬ HoldsPairs paid_columns ((state S.Store conn.old).now.trees 7) m) }
+    ensures usable { HasCleanDisk (state S.Store conn.new) → IfErr result (λ e. e ≡ OpenFault.Unusable → HasOurTables (state S.Store conn.old)
+        → IsTrue (state S.Store conn.old).is_open → (m : FinMap pair_cmp PaidRow) → ¬ HoldsPairs paid_columns ((state S.Store conn.old).now.trees 7) m) }
     ensures same { HasCleanDisk (state S.Store conn.new) → OnOk result (IsUnchanged (state S.Store conn.old) (state S.Store conn.new)) }
     ensures kept { HasCleanDisk (state S.Store conn.new) → KeepsCommit (state S.Store conn.old) (state S.Store conn.new) }
     ensures other { IfErr result (λ e. e ≢ OpenFault.WrongVersion) }

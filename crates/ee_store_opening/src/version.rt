@@ -11,7 +11,7 @@ ghost use Rattle.ee_store_opening.specs.Faults.{FailsForCause};
 ghost use Rattle.ee_store_opening.specs.Reading.{HasOurTables};
 ghost use Rattle.ee_store_opening.specs.Opening.{version_shown, versions_in, IsFirstVersion, IsOtherVersion};
 
-use crate::making::OpenFault;
+use crate::faults::OpenFault;
 use sqlite::types::ValueRef;
 use sqlite::{Alter, Connection, Row};
 
@@ -23,7 +23,8 @@ fn version_rows<S: Alter>(conn: &mut Connection<S>) -> Result<Vec<Row>, OpenFaul
     ensures found { Finds (state S.Store conn.old) (state S.Store conn.new) result (λ rows found. found.items ≡ versions_in rows) }
     ensures same { HasCleanDisk (state S.Store conn.new) → OnOk result (IsUnchanged (state S.Store conn.old) (state S.Store conn.new)) }
     ensures kept { HasCleanDisk (state S.Store conn.new) → KeepsCommit (state S.Store conn.old) (state S.Store conn.new) }
-    ensures usable { HasCleanDisk (state S.Store conn.new) → IfErr result (λ e. HasOurTables (state S.Store conn.old) → IsTrue (state S.Store conn.old).is_open → e ≢ OpenFault.Unusable) }
+    ensures usable { HasCleanDisk (state S.Store conn.new) → IfErr result (λ e. HasOurTables (state S.Store conn.old)
+        → IsTrue (state S.Store conn.old).is_open → e ≢ OpenFault.Unusable) }
     ensures other { IfErr result (λ e. e ≢ OpenFault.WrongVersion) }
     ensures cause { FailsForCause HasOurTables (state S.Store conn.old) (state S.Store conn.new) result }
     ensures crash { LeavesNoMore (state S.Store conn.old) (state S.Store conn.new) }
@@ -37,8 +38,10 @@ fn version_rows<S: Alter>(conn: &mut Connection<S>) -> Result<Vec<Row>, OpenFaul
 
 /// The version that the query showed.
 fn read_version(rows: &[Row]) -> Result<i64, OpenFault>
-    ensures found { IfOk result (λ version. (desk : Option DeskRow) → rows.now ≡ option_to_list (option_map version_shown desk) → option_map (λ d. pos d.version) desk ≡ Some version) }
-    ensures usable { IfErr result (λ e. e ≡ OpenFault.Unusable → (desk : Option DeskRow) → rows.now ≡ option_to_list (option_map version_shown desk) → desk ≡ None) }
+    ensures found { IfOk result (λ version. (desk : Option DeskRow) → rows.now ≡ option_to_list (option_map version_shown desk)
+        → option_map (λ d. pos d.version) desk ≡ Some version) }
+    ensures usable { IfErr result (λ e. e ≡ OpenFault.Unusable → (desk : Option DeskRow) → rows.now ≡ option_to_list (option_map version_shown desk)
+        → desk ≡ None) }
     ensures other { IfErr result (λ e. e ≢ OpenFault.WrongVersion) }
     ensures cause { IfErr result (λ e. e ≢ OpenFault.StoreFailed) }
 {
@@ -51,8 +54,10 @@ fn read_version(rows: &[Row]) -> Result<i64, OpenFault>
 /// Tests that the tables are of version 1.
 pub(crate) fn check_version<S: Alter>(conn: &mut Connection<S>) -> Result<(), OpenFault>
     ensures first { HasCleanDisk (state S.Store conn.new) → OnOk result ((rows : Rows) → Sees (state S.Store conn.old) rows → IsFirstVersion rows) }
-    ensures other { HasCleanDisk (state S.Store conn.new) → IfErr result (λ e. e ≡ OpenFault.WrongVersion → (rows : Rows) → Sees (state S.Store conn.old) rows → IsOtherVersion rows) }
-    ensures usable { HasCleanDisk (state S.Store conn.new) → IfErr result (λ e. e ≡ OpenFault.Unusable → (rows : Rows) → HasOurTables (state S.Store conn.old) → Sees (state S.Store conn.old) rows → IsTrue (state S.Store conn.old).is_open → get rows.desk 1 ≡ None) }
+    ensures other { HasCleanDisk (state S.Store conn.new) → IfErr result (λ e. e ≡ OpenFault.WrongVersion → (rows : Rows)
+        → Sees (state S.Store conn.old) rows → IsOtherVersion rows) }
+    ensures usable { HasCleanDisk (state S.Store conn.new) → IfErr result (λ e. e ≡ OpenFault.Unusable → (rows : Rows)
+        → HasOurTables (state S.Store conn.old) → Sees (state S.Store conn.old) rows → IsTrue (state S.Store conn.old).is_open → get rows.desk 1 ≡ None) }
     ensures same { HasCleanDisk (state S.Store conn.new) → OnOk result (IsUnchanged (state S.Store conn.old) (state S.Store conn.new)) }
     ensures kept { HasCleanDisk (state S.Store conn.new) → KeepsCommit (state S.Store conn.old) (state S.Store conn.new) }
     ensures cause { FailsForCause HasOurTables (state S.Store conn.old) (state S.Store conn.new) result }

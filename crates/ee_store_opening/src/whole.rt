@@ -8,12 +8,23 @@ ghost use Rattle.ee_store_opening.specs.Opening.{IsFirstVersion, IsOtherVersion,
 ghost use Rattle.ee_store_opening.specs.Shown.{AreWritten};
 ghost use Rattle.ee_store_opening.specs.Faults.{FailsForCause};
 ghost use Rattle.ee_store_opening.specs.Reading.{IsSoundNow, HasOurTables};
-ghost use Rattle.ee_store_opening.specs.Whole.{rows_of, HoldsRegister, HoldsPayments, HoldsRecords, IsOurs, AreInOrder, ListsAll, ListsRegister, ListsPayments, ListsRecords};
+ghost use Rattle.ee_store_opening.specs.Whole.{
+  rows_of,
+  HoldsRegister,
+  HoldsPayments,
+  HoldsRecords,
+  IsOurs,
+  AreInOrder,
+  ListsAll,
+  ListsRegister,
+  ListsPayments,
+  ListsRecords,
+};
 
 use crate::entries::{
     StoredBatch, StoredBond, StoredDesk, StoredLine, StoredRate, StoredReply, StoredTicket,
 };
-use crate::making::OpenFault;
+use crate::faults::OpenFault;
 use crate::tables::{
     read_batches, read_bonds, read_desk, read_lines, read_rates, read_replies, read_tickets,
 };
@@ -64,9 +75,11 @@ pub(crate) struct Records {
 
 /// Reads the desk, the rates and the bonds.
 fn read_register<S: Alter>(conn: &mut Connection<S>, alloc: Global) -> Result<Register, OpenFault>
-    ensures found { HasCleanDisk (state S.Store conn.new) → HasOurTables (state S.Store conn.old) → IsSoundNow (state S.Store conn.old) → IfOk result (λ found. HoldsRegister (state S.Store conn.old).now.trees found) }
+    ensures found { HasCleanDisk (state S.Store conn.new) → HasOurTables (state S.Store conn.old) → IsSoundNow (state S.Store conn.old)
+        → IfOk result (λ found. HoldsRegister (state S.Store conn.old).now.trees found) }
     ensures listed { IfOk result ListsRegister }
-    ensures usable { HasCleanDisk (state S.Store conn.new) → IfErr result (λ e. e ≡ OpenFault.Unusable → HasOurTables (state S.Store conn.old) → IsTrue (state S.Store conn.old).is_open → (rows : Rows) → ¬ Holds (state S.Store conn.old).now.trees rows) }
+    ensures usable { HasCleanDisk (state S.Store conn.new) → IfErr result (λ e. e ≡ OpenFault.Unusable → HasOurTables (state S.Store conn.old)
+        → IsTrue (state S.Store conn.old).is_open → (rows : Rows) → ¬ Holds (state S.Store conn.old).now.trees rows) }
     ensures same { HasCleanDisk (state S.Store conn.new) → OnOk result (IsUnchanged (state S.Store conn.old) (state S.Store conn.new)) }
     ensures kept { HasCleanDisk (state S.Store conn.new) → KeepsCommit (state S.Store conn.old) (state S.Store conn.new) }
     ensures other { IfErr result (λ e. e ≢ OpenFault.WrongVersion) }
@@ -81,9 +94,11 @@ fn read_register<S: Alter>(conn: &mut Connection<S>, alloc: Global) -> Result<Re
 
 /// Reads the tickets and their lines.
 fn read_payments<S: Alter>(conn: &mut Connection<S>, alloc: Global) -> Result<Payments, OpenFault>
-    ensures found { HasCleanDisk (state S.Store conn.new) → HasOurTables (state S.Store conn.old) → IsSoundNow (state S.Store conn.old) → IfOk result (λ found. HoldsPayments (state S.Store conn.old).now.trees found) }
+    ensures found { HasCleanDisk (state S.Store conn.new) → HasOurTables (state S.Store conn.old) → IsSoundNow (state S.Store conn.old)
+        → IfOk result (λ found. HoldsPayments (state S.Store conn.old).now.trees found) }
     ensures listed { IfOk result ListsPayments }
-    ensures usable { HasCleanDisk (state S.Store conn.new) → IfErr result (λ e. e ≡ OpenFault.Unusable → HasOurTables (state S.Store conn.old) → IsTrue (state S.Store conn.old).is_open → (rows : Rows) → ¬ Holds (state S.Store conn.old).now.trees rows) }
+    ensures usable { HasCleanDisk (state S.Store conn.new) → IfErr result (λ e. e ≡ OpenFault.Unusable → HasOurTables (state S.Store conn.old)
+        → IsTrue (state S.Store conn.old).is_open → (rows : Rows) → ¬ Holds (state S.Store conn.old).now.trees rows) }
     ensures same { HasCleanDisk (state S.Store conn.new) → OnOk result (IsUnchanged (state S.Store conn.old) (state S.Store conn.new)) }
     ensures kept { HasCleanDisk (state S.Store conn.new) → KeepsCommit (state S.Store conn.old) (state S.Store conn.new) }
     ensures other { IfErr result (λ e. e ≢ OpenFault.WrongVersion) }
@@ -97,9 +112,11 @@ fn read_payments<S: Alter>(conn: &mut Connection<S>, alloc: Global) -> Result<Pa
 
 /// Reads the batches and the replies.
 fn read_records<S: Alter>(conn: &mut Connection<S>, alloc: Global) -> Result<Records, OpenFault>
-    ensures found { HasCleanDisk (state S.Store conn.new) → HasOurTables (state S.Store conn.old) → IsSoundNow (state S.Store conn.old) → IfOk result (λ found. HoldsRecords (state S.Store conn.old).now.trees found) }
+    ensures found { HasCleanDisk (state S.Store conn.new) → HasOurTables (state S.Store conn.old) → IsSoundNow (state S.Store conn.old)
+        → IfOk result (λ found. HoldsRecords (state S.Store conn.old).now.trees found) }
     ensures listed { IfOk result ListsRecords }
-    ensures usable { HasCleanDisk (state S.Store conn.new) → IfErr result (λ e. e ≡ OpenFault.Unusable → HasOurTables (state S.Store conn.old) → IsTrue (state S.Store conn.old).is_open → (rows : Rows) → AreWritten rows.replies → ¬ Holds (state S.Store conn.old).now.trees rows) }
+    ensures usable { HasCleanDisk (state S.Store conn.new) → IfErr result (λ e. e ≡ OpenFault.Unusable → HasOurTables (state S.Store conn.old)
+        → IsTrue (state S.Store conn.old).is_open → (rows : Rows) → AreWritten rows.replies → ¬ Holds (state S.Store conn.old).now.trees rows) }
     ensures same { HasCleanDisk (state S.Store conn.new) → OnOk result (IsUnchanged (state S.Store conn.old) (state S.Store conn.new)) }
     ensures kept { HasCleanDisk (state S.Store conn.new) → KeepsCommit (state S.Store conn.old) (state S.Store conn.new) }
     ensures other { IfErr result (λ e. e ≢ OpenFault.WrongVersion) }
@@ -113,9 +130,11 @@ fn read_records<S: Alter>(conn: &mut Connection<S>, alloc: Global) -> Result<Rec
 
 /// Reads all tables.
 fn read_in<S: Alter>(conn: &mut Connection<S>, alloc: Global) -> Result<AllRows, OpenFault>
-    ensures found { HasCleanDisk (state S.Store conn.new) → HasOurTables (state S.Store conn.old) → IsSoundNow (state S.Store conn.old) → IfOk result (λ found. Holds (state S.Store conn.old).now.trees (rows_of found)) }
+    ensures found { HasCleanDisk (state S.Store conn.new) → HasOurTables (state S.Store conn.old) → IsSoundNow (state S.Store conn.old)
+        → IfOk result (λ found. Holds (state S.Store conn.old).now.trees (rows_of found)) }
     ensures listed { IfOk result ListsAll }
-    ensures usable { HasCleanDisk (state S.Store conn.new) → IfErr result (λ e. e ≡ OpenFault.Unusable → HasOurTables (state S.Store conn.old) → IsTrue (state S.Store conn.old).is_open → (rows : Rows) → AreWritten rows.replies → ¬ Holds (state S.Store conn.old).now.trees rows) }
+    ensures usable { HasCleanDisk (state S.Store conn.new) → IfErr result (λ e. e ≡ OpenFault.Unusable → HasOurTables (state S.Store conn.old)
+        → IsTrue (state S.Store conn.old).is_open → (rows : Rows) → AreWritten rows.replies → ¬ Holds (state S.Store conn.old).now.trees rows) }
     ensures same { HasCleanDisk (state S.Store conn.new) → OnOk result (IsUnchanged (state S.Store conn.old) (state S.Store conn.new)) }
     ensures kept { HasCleanDisk (state S.Store conn.new) → KeepsCommit (state S.Store conn.old) (state S.Store conn.new) }
     ensures other { IfErr result (λ e. e ≢ OpenFault.WrongVersion) }
@@ -138,12 +157,16 @@ fn read_in<S: Alter>(conn: &mut Connection<S>, alloc: Global) -> Result<AllRows,
 
 /// Tests the version, and then reads all tables.
 fn read_current<S: Alter>(conn: &mut Connection<S>, alloc: Global) -> Result<AllRows, OpenFault>
-    ensures found { HasCleanDisk (state S.Store conn.new) → HasOurTables (state S.Store conn.old) → IsSoundNow (state S.Store conn.old) → IfOk result (λ found. Holds (state S.Store conn.old).now.trees (rows_of found)) }
+    ensures found { HasCleanDisk (state S.Store conn.new) → HasOurTables (state S.Store conn.old) → IsSoundNow (state S.Store conn.old)
+        → IfOk result (λ found. Holds (state S.Store conn.old).now.trees (rows_of found)) }
     ensures listed { IfOk result ListsAll }
     ensures first { HasCleanDisk (state S.Store conn.new) → OnOk result ((rows : Rows) → Sees (state S.Store conn.old) rows → IsFirstVersion rows) }
-    ensures other { HasCleanDisk (state S.Store conn.new) → IfErr result (λ e. e ≡ OpenFault.WrongVersion → (rows : Rows) → Sees (state S.Store conn.old) rows → IsOtherVersion rows) }
-    ensures usable { HasCleanDisk (state S.Store conn.new) → IfErr result (λ e. e ≡ OpenFault.Unusable → HasOurTables (state S.Store conn.old) → IsTrue (state S.Store conn.old).is_open → (rows : Rows) → Sees (state S.Store conn.old) rows → ¬ AreReadable rows) }
-    ensures tested { HasCleanDisk (state S.Store conn.new) → IfErr result (λ e. e ≡ OpenFault.Unusable → HasOurTables (state S.Store conn.old) → IsTrue (state S.Store conn.old).is_open → (rows : Rows) → Sees (state S.Store conn.old) rows → ¬ IsOtherVersion rows) }
+    ensures other { HasCleanDisk (state S.Store conn.new) → IfErr result (λ e. e ≡ OpenFault.WrongVersion → (rows : Rows)
+        → Sees (state S.Store conn.old) rows → IsOtherVersion rows) }
+    ensures usable { HasCleanDisk (state S.Store conn.new) → IfErr result (λ e. e ≡ OpenFault.Unusable → HasOurTables (state S.Store conn.old)
+        → IsTrue (state S.Store conn.old).is_open → (rows : Rows) → Sees (state S.Store conn.old) rows → ¬ AreReadable rows) }
+    ensures tested { HasCleanDisk (state S.Store conn.new) → IfErr result (λ e. e ≡ OpenFault.Unusable → HasOurTables (state S.Store conn.old)
+        → IsTrue (state S.Store conn.old).is_open → (rows : Rows) → Sees (state S.Store conn.old) rows → ¬ IsOtherVersion rows) }
     ensures same { HasCleanDisk (state S.Store conn.new) → OnOk result (IsUnchanged (state S.Store conn.old) (state S.Store conn.new)) }
     ensures kept { HasCleanDisk (state S.Store conn.new) → KeepsCommit (state S.Store conn.old) (state S.Store conn.new) }
     ensures cause { FailsForCause HasOurTables (state S.Store conn.old) (state S.Store conn.new) result }
@@ -168,12 +191,16 @@ pub(crate) fn read_all<S: Alter>(
     alloc: Global,
 ) -> Result<AllRows, OpenFault>
     ensures found { HasCleanDisk (state S.Store conn.new) → IfOk result (λ all. IsOurs (state S.Store conn.old) → Has (state S.Store conn.new) (rows_of all)) }
-    ensures those { HasCleanDisk (state S.Store conn.new) → IfOk result (λ all. (rows : Rows) → Has (state S.Store conn.old) rows → IsTrue (state S.Store conn.old).is_open → rows_of all ≡ rows) }
+    ensures those { HasCleanDisk (state S.Store conn.new) → IfOk result (λ all. (rows : Rows) → Has (state S.Store conn.old) rows
+        → IsTrue (state S.Store conn.old).is_open → rows_of all ≡ rows) }
     ensures order { IfOk result AreInOrder }
     ensures first { HasCleanDisk (state S.Store conn.new) → OnOk result ((rows : Rows) → Has (state S.Store conn.old) rows → IsFirstVersion rows) }
-    ensures version { HasCleanDisk (state S.Store conn.new) → IfErr result (λ e. e ≡ OpenFault.WrongVersion → (rows : Rows) → Has (state S.Store conn.old) rows → IsOtherVersion rows) }
-    ensures tested { HasCleanDisk (state S.Store conn.new) → IfErr result (λ e. e ≡ OpenFault.Unusable → (rows : Rows) → Has (state S.Store conn.old) rows → IsTrue (state S.Store conn.old).is_open → ¬ IsOtherVersion rows) }
-    ensures usable { HasCleanDisk (state S.Store conn.new) → IfErr result (λ e. e ≡ OpenFault.Unusable → (rows : Rows) → Has (state S.Store conn.old) rows → IsTrue (state S.Store conn.old).is_open → ¬ AreReadable rows) }
+    ensures version { HasCleanDisk (state S.Store conn.new) → IfErr result (λ e. e ≡ OpenFault.WrongVersion → (rows : Rows)
+        → Has (state S.Store conn.old) rows → IsOtherVersion rows) }
+    ensures tested { HasCleanDisk (state S.Store conn.new) → IfErr result (λ e. e ≡ OpenFault.Unusable → (rows : Rows) → Has (state S.Store conn.old) rows
+        → IsTrue (state S.Store conn.old).is_open → ¬ IsOtherVersion rows) }
+    ensures usable { HasCleanDisk (state S.Store conn.new) → IfErr result (λ e. e ≡ OpenFault.Unusable → (rows : Rows) → Has (state S.Store conn.old) rows
+        → IsTrue (state S.Store conn.old).is_open → ¬ AreReadable rows) }
     ensures open { HasCleanDisk (state S.Store conn.new) → OnOk result (IsTrue (state S.Store conn.old).is_open × IsTrue (state S.Store conn.new).is_open) }
     ensures kept { HasCleanDisk (state S.Store conn.new) → KeepsCommit (state S.Store conn.old) (state S.Store conn.new) }
     ensures cause { FailsForCause (λ s. (s.in_transaction ≡ false) × IsOurs s) (state S.Store conn.old) (state S.Store conn.new) result }

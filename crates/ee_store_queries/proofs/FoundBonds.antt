@@ -6,6 +6,7 @@ use Rattle.std.specs.Ordering.{is_lt}
 use Rattle.std.specs.FinMap.{FinMap, entries, is_sorted, entries_sorted}
 use Rattle.std.specs.FinMap.Entries.{below_all}
 use Rattle.ee_units.specs.Spelling.{SerialNumber}
+use Rattle.ee_units.proofs.Lemmas.{same_denom}
 use Rattle.ee_calculator.specs.declared.bonds.Bond.{Bond}
 use Rattle.ee_desk_acts.specs.declared.replies.Ticket.{Ticket}
 use Rattle.ee_desk_acts.specs.Serials.{serial_cmp}
@@ -16,7 +17,7 @@ use Rattle.ee_desk_acts.specs.Repeats.{Content}
 use Rattle.ee_desk_acts.proofs.Lemmas.Maps.{serials_total, serials_exact}
 use Rattle.ee_desk_parts.proofs.Lemmas.{all_entries}
 use Rattle.ee_store_tables.proofs.Lemmas.Rows.{pair_total, pair_same}
-use Rattle.ee_store_contents.proofs.Lemmas.{sorted_entries, right_bond_is_keyed, same_denom, head_of, tail_of}
+use Rattle.ee_store_contents.proofs.Lemmas.{sorted_entries, right_bond_is_keyed, head_of, tail_of}
 use Rattle.ee_store_tables.specs.declared.records.UnpaidBond.{UnpaidBond}
 use Rattle.ee_store_tables.specs.AsRows.{unpaid_bond_of}
 use Rattle.ee_store_tables.specs.Keyed.{pair_cmp}

@@ -68,7 +68,8 @@ pub fn ticket_shown(
 ) -> Result<Ticket, Failure>
     ensures ticket { IfOk result (λ ticket. (ticket.ticket ≡ number) × (ticket.day ≡ row.day) × (ticket.payee ≡ row.payee) × (ticket.total.0 ≡ row.total)) }
     ensures lines { IfOk result (λ ticket. map paid_row ticket.lines ≡ map row_of_placed lines.now) }
-    ensures read { IsDay row.day → IsCustomer row.payee → All (λ line. IsSerial (record { letter = line.letter; number = line.number })) lines.now → IfErr result (λ e. e ≡ Failure.NoMemory) }
+    ensures read { IsDay row.day → IsCustomer row.payee → All (λ line. IsSerial (record { letter = line.letter; number = line.number })) lines.now
+        → IfErr result (λ e. e ≡ Failure.NoMemory) }
 {
     let Some(day) = Day::new(row.day) else {
         return Err(Failure::StoreFailed);

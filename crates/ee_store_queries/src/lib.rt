@@ -2,7 +2,7 @@
 #![tactic(auto)]
 
 mod from_rows;
+mod periods;
 mod queries;
-mod sheets;
 
 pub use queries::{ask_batch, ask_bonds, ask_inventory, ask_quote, ask_ticket};

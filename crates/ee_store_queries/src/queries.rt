@@ -12,8 +12,9 @@ ghost use Rattle.ee_store_lookups.specs.Seen.{FindsIn, LeavesRows};
 ghost use Rattle.ee_store_queries.specs.Asking.{AnswersOrFails, ShowsContent, KeepsContent};
 
 use crate::from_rows::{batch_shown, bonds_shown, ticket_shown};
-use crate::sheets::{periods_in, quote, rows_of};
+use crate::periods::periods_in;
 use ee_calculator::{Bond, Row, Sheet, sheet};
+use ee_desk::{quote, rows_of};
 use ee_desk_acts::{Batch, Ticket, UnitTables};
 use ee_store_lookups::{find_terms, terms_in, tickets_in};
 use ee_store_tables::{Failure, bonds_of_owner, find_batch, find_ticket, ticket_lines};
@@ -42,7 +43,8 @@ fn find_numbered<S: Alter>(
 ) -> Result<Option<Ticket>, Failure>
     requires { Fits number }
     ensures same_reference { tx.new.conn.ghost_name ≡ tx.old.conn.ghost_name }
-    ensures found { FindsIn (state S.Store tx.old.conn.now) (state S.Store tx.new.conn.now) result (λ content ticket. ticket ≡ ticket_numbered content.books number) }
+    ensures found { FindsIn (state S.Store tx.old.conn.now) (state S.Store tx.new.conn.now) result
+        (λ content ticket. ticket ≡ ticket_numbered content.books number) }
     ensures commit { CommitsNothing (state S.Store tx.old.conn.now) (state S.Store tx.new.conn.now) }
     ensures crash { LeavesNoMore (state S.Store tx.old.conn.now) (state S.Store tx.new.conn.now) }
     ensures cause { FailsByCause (state S.Store tx.old.conn.now) (state S.Store tx.new.conn.now) result (λ _. ⊤) }
@@ -62,7 +64,8 @@ fn none_beyond<S: Alter>(
     number: u64,
 ) -> Result<Option<Ticket>, Failure>
     ensures same_reference { tx.new.conn.ghost_name ≡ tx.old.conn.ghost_name }
-    ensures found { FindsIn (state S.Store tx.old.conn.now) (state S.Store tx.new.conn.now) result (λ content ticket. ticket ≡ ticket_numbered content.books number) }
+    ensures found { FindsIn (state S.Store tx.old.conn.now) (state S.Store tx.new.conn.now) result
+        (λ content ticket. ticket ≡ ticket_numbered content.books number) }
     ensures commit { CommitsNothing (state S.Store tx.old.conn.now) (state S.Store tx.new.conn.now) }
     ensures crash { LeavesNoMore (state S.Store tx.old.conn.now) (state S.Store tx.new.conn.now) }
     ensures cause { FailsByCause (state S.Store tx.old.conn.now) (state S.Store tx.new.conn.now) result (λ _. 9223372036854775807 < number) }
@@ -82,7 +85,8 @@ pub fn ticket_in<S: Alter>(
     number: u64,
 ) -> Result<Option<Ticket>, Failure>
     ensures same_reference { tx.new.conn.ghost_name ≡ tx.old.conn.ghost_name }
-    ensures found { FindsIn (state S.Store tx.old.conn.now) (state S.Store tx.new.conn.now) result (λ content ticket. ticket ≡ ticket_numbered content.books number) }
+    ensures found { FindsIn (state S.Store tx.old.conn.now) (state S.Store tx.new.conn.now) result
+        (λ content ticket. ticket ≡ ticket_numbered content.books number) }
     ensures commit { CommitsNothing (state S.Store tx.old.conn.now) (state S.Store tx.new.conn.now) }
     ensures crash { LeavesNoMore (state S.Store tx.old.conn.now) (state S.Store tx.new.conn.now) }
     ensures cause { FailsByCause (state S.Store tx.old.conn.now) (state S.Store tx.new.conn.now) result (λ _. ⊤) }
@@ -104,13 +108,14 @@ pub fn quote_in<S: Alter>(
     month: Month,
 ) -> Result<Option<Row>, Failure>
     ensures same_reference { tx.new.conn.ghost_name ≡ tx.old.conn.ghost_name }
-    ensures found { FindsIn (state S.Store tx.old.conn.now) (state S.Store tx.new.conn.now) result (λ content row. IsQuote content.books denom issued month row) }
+    ensures found { FindsIn (state S.Store tx.old.conn.now) (state S.Store tx.new.conn.now) result
+        (λ content row. IsQuote content.books denom issued month row) }
     ensures commit { CommitsNothing (state S.Store tx.old.conn.now) (state S.Store tx.new.conn.now) }
     ensures crash { LeavesNoMore (state S.Store tx.old.conn.now) (state S.Store tx.new.conn.now) }
     ensures cause { FailsByCause (state S.Store tx.old.conn.now) (state S.Store tx.new.conn.now) result (λ _. ⊤) }
 {
     let terms = find_terms(tx, alloc, tables, period_of(issued))?;
-    Ok(quote(terms, denom, issued, month))
+    Ok(quote(terms.as_ref(), denom, issued, month))
 }
 
 /// The unpaid bonds whose owner is this customer, in order of serial.
@@ -121,7 +126,8 @@ pub fn bonds_in<S: Alter>(
 ) -> Result<Vec<Bond>, Failure>
     ensures same_reference { tx.new.conn.ghost_name ≡ tx.old.conn.ghost_name }
     ensures inside { StaysInside (state S.Store tx.old.conn.now) (state S.Store tx.new.conn.now) result }
-    ensures found { FindsIn (state S.Store tx.old.conn.now) (state S.Store tx.new.conn.now) result (λ content bonds. bonds.items ≡ bonds_of content.books customer) }
+    ensures found { FindsIn (state S.Store tx.old.conn.now) (state S.Store tx.new.conn.now) result
+        (λ content bonds. bonds.items ≡ bonds_of content.books customer) }
     ensures rows { LeavesRows (state S.Store tx.old.conn.now) (state S.Store tx.new.conn.now) result }
     ensures commit { CommitsNothing (state S.Store tx.old.conn.now) (state S.Store tx.new.conn.now) }
     ensures crash { LeavesNoMore (state S.Store tx.old.conn.now) (state S.Store tx.new.conn.now) }
@@ -141,7 +147,8 @@ fn rows_in<S: Alter>(
     month: Month,
 ) -> Result<Vec<Row>, Failure>
     ensures same_reference { tx.new.conn.ghost_name ≡ tx.old.conn.ghost_name }
-    ensures found { FindsIn (state S.Store tx.old.conn.now) (state S.Store tx.new.conn.now) result (λ content rows. map shown_in_row rows.items ≡ filter_map (row_of content.books.rates month) bonds.now) }
+    ensures found { FindsIn (state S.Store tx.old.conn.now) (state S.Store tx.new.conn.now) result
+        (λ content rows. map shown_in_row rows.items ≡ filter_map (row_of content.books.rates month) bonds.now) }
     ensures commit { CommitsNothing (state S.Store tx.old.conn.now) (state S.Store tx.new.conn.now) }
     ensures crash { LeavesNoMore (state S.Store tx.old.conn.now) (state S.Store tx.new.conn.now) }
     ensures cause { FailsByCause (state S.Store tx.old.conn.now) (state S.Store tx.new.conn.now) result (λ _. ⊤) }
@@ -162,7 +169,8 @@ pub fn inventory_in<S: Alter>(
     month: Month,
 ) -> Result<Sheet, Failure>
     ensures same_reference { tx.new.conn.ghost_name ≡ tx.old.conn.ghost_name }
-    ensures found { FindsIn (state S.Store tx.old.conn.now) (state S.Store tx.new.conn.now) result (λ content sheet. IsInventory content.books customer month sheet) }
+    ensures found { FindsIn (state S.Store tx.old.conn.now) (state S.Store tx.new.conn.now) result
+        (λ content sheet. IsInventory content.books customer month sheet) }
     ensures commit { CommitsNothing (state S.Store tx.old.conn.now) (state S.Store tx.new.conn.now) }
     ensures crash { LeavesNoMore (state S.Store tx.old.conn.now) (state S.Store tx.new.conn.now) }
     ensures cause { FailsByCause (state S.Store tx.old.conn.now) (state S.Store tx.new.conn.now) result (λ _. ⊤) }

@@ -1,9 +1,10 @@
 -- INSERT .. ON CONFLICT (..) DO NOTHING of one row.
-use Rattle.std.proofs.Common.{◌≡◌, ◌⊎◌, inl, inr, ℕ, ℤ, pos, List, [], ◌∷◌, map, Bool, true, false, Some, None, Option, Ok, refl, sym, ap, ◌∙◌, nat_cmp}
-use Rattle.std.specs.Prelude.{◌&&◌, ◌||◌}
+use Rattle.std.proofs.Common.{◌≡◌, ◌⊎◌, inl, inr, ℕ, ℤ, pos, List, [], ◌∷◌, map, Bool, true, Some, None, Option, Ok, refl, sym, ap, ◌∙◌, nat_cmp}
+use Rattle.std.specs.Prelude.{◌||◌}
 use Rattle.std.specs.List.{list_any}
 use Rattle.std.specs.FinMap.{FinMap, get, nat_cmp-IsAntisymmetric}
 use Rattle.std.proofs.lemmas.Cmp.{nat_cmp_total}
+use Rattle.std.proofs.Math.Bool.{and-true, or-true}
 use Rattle.sqlite.specs.declared.types.Value.TheVariants.{Int}
 use Rattle.sqlite.specs.Order.{Row}
 use Rattle.sqlite.specs.Ops.{binary}
@@ -51,19 +52,11 @@ module _ (task : Task) (target : Option (List ℕ)) (new : Row) (db : Trees) (on
 any_of : {A : Type 0} (q : A → Bool) (xs : List A) (x : A) → Has xs x → q x ≡ true → list_any q xs ≡ true
 any_of q [] x h good = absurd h
 any_of q (y ∷ ys) x (inl same) good = ap (λ b. b || list_any q ys) (ap q (sym same) ∙ good)
-any_of q (y ∷ ys) x (inr later) good = ap (λ b. q y || b) (any_of q ys x later good) ∙ either_way (q y)
-  where
-    either_way : (b : Bool) → (b || true) ≡ true
-    either_way true = refl
-    either_way false = refl
+any_of q (y ∷ ys) x (inr later) good = ap (λ b. q y || b) (any_of q ys x later good) ∙ or-true (q y)
 
 some_or_none : {X : Type 0} (o : Option X) → (o ≡ None → ⊥) → (x : X) × (o ≡ Some x)
 some_or_none None h = absurd (h refl)
 some_or_none (Some x) h = (x, refl)
-
-alone : (b : Bool) → (b && true) ≡ b
-alone true = refl
-alone false = refl
 
 -- a row that has the rowid of a key
 pub number_there : {X : Type 0} (columns : X → Row) (n : ℕ) (rows : List Row) (m : FinMap nat_cmp X) (h : HoldsMap columns rows m) (new : Row) → new ≡ new → (r : Row) → Has rows r
@@ -71,7 +64,7 @@ pub number_there : {X : Type 0} (columns : X → Row) (n : ℕ) (rows : List Row
 unfolding binary first_key
 number_there columns n rows m h new _ r has agrees =
     some_or_none (get m n) (λ none. never_tied nat_cmp_total nat_cmp-IsAntisymmetric (row_of columns) (λ _. refl) n rows m h.table none
-    (sym (any_alike (λ e. row_of columns (pos e.0, e)) (λ r. agree plain (0 ∷ []) r (0 ∷ []) (Int (pos n) ∷ new)) (tied nat_cmp nat_cmp_total n) (λ r e one. rw (one 0, equals_holds e.0 n) (alone _))
+    (sym (any_alike (λ e. row_of columns (pos e.0, e)) (λ r. agree plain (0 ∷ []) r (0 ∷ []) (Int (pos n) ∷ new)) (tied nat_cmp nat_cmp_total n) (λ r e one. rw (one 0, equals_holds e.0 n) (and-true _))
     rows _ (keyed_rows columns rows h.table.numbered h.keyed h.table.are)) ∙ any_of _ rows r has agrees))
 
 -- a row that has the two columns of a key

@@ -11,6 +11,7 @@ use Rattle.std.proofs.lemmas.Cmp.{nat_cmp_total}
 use Rattle.std.specs.FinMap.{IsAntisymmetric, nat_cmp-IsAntisymmetric, FinMap, entries, get, insert, get-entries, entries_sorted, entries-insert}
 use Rattle.std.proofs.lemmas.List.{nil_from_length}
 use Rattle.std.proofs.lemmas.List.Sorted.{IsPermutation-sym, IsPermutation-trans, IsPermutation-cons, IsPermutation-map, length_permutation}
+use Rattle.std.proofs.Math.Bool.{or-true}
 use Rattle.sqlite.specs.declared.types.Value.TheVariants.{Int}
 use Rattle.sqlite.specs.Order.{Row}
 use Rattle.sqlite.specs.Tree.{put_row, without_rowid, rowid}
@@ -43,10 +44,6 @@ none_from_map : {A B : Type 0} (f : A → B) (xs : List A) → map f xs ≡ [] �
 none_from_map f [] e = refl
 none_from_map f (x ∷ xs) e = absurd cc
 
-pub either_way : (b : Bool) → (b || true) ≡ true
-either_way true = refl
-either_way false = refl
-
 pub none_pass : {A : Type 0} (test : A → Bool) (xs : List A) → filter test xs ≡ [] → list_any test xs ≡ false
 none_pass test [] h = refl
 none_pass test (x ∷ xs) h =
@@ -61,7 +58,7 @@ any_hit test q h [] e good = absurd cc
 any_hit test q h (x ∷ xs) e good =
     elim (cases_Bool (test x)) [
       | inl hit ↦ let two = rw hit at e in let same : x ≡ h = cc in rw (same, good) refl
-      | inr miss ↦ let rest = rw miss at e in ap (λ b. q x || b) (any_hit test q h xs rest good) ∙ either_way (q x)
+      | inr miss ↦ let rest = rw miss at e in ap (λ b. q x || b) (any_hit test q h xs rest good) ∙ or-true (q x)
     ]
 
 seconds_of : {K X : Type 0} (k : K) (o : Option X) → map (λ (e : K × X). e.1) (option_to_list (option_map (λ x. (k, x)) o)) ≡ option_to_list o

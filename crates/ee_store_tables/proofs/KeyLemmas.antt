@@ -8,7 +8,7 @@ use Rattle.std.specs.FinMap.{FinMap, get, entries}
 use Rattle.std.proofs.lemmas.Cmp.{nat_cmp_total, int_cmp_total}
 use Rattle.std.proofs.lemmas.List.Sorted.{IsPermutation-sym}
 use Rattle.sqlite_trees.proofs.ListLemmas.{all-permutation}
-use Rattle.std.proofs.lemmas.Bool.{cases_Bool}
+use Rattle.std.proofs.lemmas.Bool.{cases_Bool, or_parts}
 use Rattle.std.proofs.lemmas.Bool.Decides.{nat_tests}
 use Rattle.sqlite.specs.declared.types.Value.TheVariants.{Int}
 use Rattle.sqlite.specs.Order.{Row, value_cmp}
@@ -27,10 +27,6 @@ use Rattle.ee_store_tables.proofs.PairLemmas.{tied}
 use Rattle.ee_store_tables.proofs.HoldsLemmas.{pair_total, pair_same, never_tied}
 use Rattle.ee_store_tables.proofs.SelectLemmas.{truth_of, equals_holds}
 use Rattle.ee_store_tables.proofs.WriteLemmas.{not_so}
-
-or_parts : (a b : Bool) → (a || b) ≡ false → (a ≡ false) × (b ≡ false)
-or_parts true b h = absurd cc
-or_parts false b h = (refl, h)
 
 neither : (a b : Bool) → a ≡ false → b ≡ false → (a || b) ≡ false
 neither true b h k = absurd cc
@@ -138,13 +134,6 @@ alike_both row P Q next (r ∷ rows) (x ∷ xs) are all = (next r x are.0 all.0,
 
 pub untied_differs : (k j : ℕ × ℕ) → is_eq (pair_cmp k j) ≡ false → ¬ ((j.0 ≡ k.0) × (j.1 ≡ k.1))
 untied_differs k j untied same = true≢false (sym (rw (same.0, same.1, tied_itself nat_cmp_total k.0, tied_itself nat_cmp_total k.1) refl) ∙ untied)
-
-pub filter_passes : {A : Type 0} (p : A → Bool) (xs : List A) → AllByRecursion (λ x. p x ≡ true) (filter p xs)
-filter_passes p [] = tt
-filter_passes p (x ∷ xs) = elim (cases_Bool (p x)) [
-  | inl hit ↦ rw hit (hit, filter_passes p xs)
-  | inr miss ↦ rw miss (filter_passes p xs)
-]
 
 -- a key that has no entry is that of no row
 pub keys_differ : {X : Type 0} (columns : X → Row) (k : ℕ × ℕ) (rows : List Row) (m : FinMap pair_cmp X) (h : HoldsPairs columns rows m) → get m k ≡ None → AllByRecursion (λ p. ¬ ((p.1.0.0 ≡ k.0) × (p.1.0.1 ≡ k.1))) h.numbered

@@ -1,9 +1,10 @@
 -- What a query shows in order.
-use Rattle.std.proofs.Common.{◌≡◌, ℕ, List, [], ◌∷◌, ◌++◌, map, filter, Bool, true, false, refl, sym, ap, subst, ◌∙◌, Ordering, Less}
+use Rattle.std.proofs.Common.{◌≡◌, ℕ, List, [], ◌∷◌, ◌++◌, map, filter, Bool, refl, sym, ap, subst, ◌∙◌, Ordering, Less}
 use Rattle.std.specs.Prelude.{flat_map, T, IsPermutation}
 use Rattle.std.specs.List.{list_all, AllByRecursion}
 use Rattle.std.specs.FinMap.Entries.{below_all, is_sorted}
 use Rattle.std.proofs.lemmas.List.Sorted.{IsPermutation-refl, IsPermutation-sym, IsPermutation-trans, IsPermutation-cons, IsPermutation-map, IsPermutation-append_comm}
+use Rattle.std.proofs.Math.Facts.{and_yes}
 use Rattle.sqlite.specs.Order.{Row}
 use Rattle.sqlite.specs.Term.{Term}
 use Rattle.sqlite_sql.specs.Term.{holds}
@@ -16,25 +17,17 @@ use Rattle.sqlite_keyed.proofs.ListLemmas.{map-map, filter-map, IsPermutation-fi
 use Rattle.sqlite_keyed.proofs.SortLemmas.{sorted_unique}
 use Rattle.ee_store_tables.specs.Keyed.{ReadAlike, AreRows}
 use Rattle.ee_store_tables.proofs.Meaning.{ordered_query}
-use Rattle.ee_store_tables.proofs.PairLemmas.{both_parts, is_less}
+use Rattle.ee_store_tables.proofs.PairLemmas.{is_less}
 use Rattle.ee_store_tables.proofs.SelectLemmas.{matched}
 
 -- the entries of a map rise
 pub keys_rise : {K X : Type 0} (R : K → K → Ordering) (es : List (K × X)) → T (is_sorted R es) → IsAscending (λ e f. R e.0 f.0 ≡ Less) es
 keys_rise R [] h = tt
-keys_rise {K} {X} R (e ∷ es) h = let two = both_parts _ _ h in (all_above es two.0, keys_rise R es two.1)
+keys_rise {K} {X} R (e ∷ es) h = let two = and_yes _ _ h in (all_above es two.0, keys_rise R es two.1)
   where
     all_above : (fs : List (K × X)) → T (below_all R e.0 fs) → AllByRecursion (λ f. R e.0 f.0 ≡ Less) fs
     all_above [] b = tt
-    all_above (f ∷ fs) b = let two = both_parts _ _ b in (is_less _ two.0, all_above fs two.1)
-
-pub all_pass : {A : Type 0} (test : A → Bool) (xs : List A) → AllByRecursion (λ x. test x ≡ true) (filter test xs)
-all_pass test [] = tt
-all_pass test (x ∷ xs) =
-    elim (test x) as (λ b. test x ≡ b → AllByRecursion (λ x. test x ≡ true) (Rattle.std.proofs.Common.cond b (x ∷ filter test xs) (filter test xs))) [
-      | true ↦ λ is. (is, all_pass test xs)
-      | false ↦ λ is. all_pass test xs
-    ] refl
+    all_above (f ∷ fs) b = let two = and_yes _ _ b in (is_less _ two.0, all_above fs two.1)
 
 -- what rises one way rises another, among those that pass a test
 pub rise_among : {A : Type 0} (P : A → Type 0) (R S : A → A → Type 0) → ((a b : A) → P a → P b → R a b → S a b) → (xs : List A) → AllByRecursion P xs → IsAscending R xs → IsAscending S xs

@@ -1,15 +1,16 @@
 -- Lists of entries, and rows that stand under their rowids.
 use Rattle.std.proofs.Common.{◌≡◌, ◌≢◌, inl, inr, ℤ, List, [], ◌∷◌, filter, Bool, true, false, cond, not, None, refl, sym, ap, ap₂, subst, ◌∙◌, arith, Ordering, Less, Equal, Greater, int_cmp}
-use Rattle.std.specs.Prelude.{◌||◌, ◌&&◌, option_map, T, IsPermutation}
+use Rattle.std.specs.Prelude.{◌||◌, option_map, T, IsPermutation}
 use Rattle.std.specs.List.{AllByRecursion, list_any}
 use Rattle.std.specs.Option.{option_to_list}
-use Rattle.std.proofs.lemmas.Bool.{cases_Bool}
+use Rattle.std.proofs.lemmas.Bool.{cases_Bool, or_parts}
 use Rattle.std.specs.Ordering.{is_eq, is_lt, match_ordering, int_eq}
-use Rattle.std.specs.Cmp.{IsTotalOrder}
+use Rattle.std.specs.Cmp.{IsTotalOrder, Equal-is}
 use Rattle.std.specs.FinMap.{IsAntisymmetric}
 use Rattle.std.specs.FinMap.Entries.{put, find, by_order, below_all, is_sorted}
 use Rattle.std.proofs.lemmas.List.Sorted.{IsPermutation-refl, IsPermutation-trans, IsPermutation-cons, IsPermutation-append_left, IsPermutation-append_comm}
 use Rattle.std.proofs.lemmas.Int.{ints}
+use Rattle.std.proofs.Math.Facts.{and_yes}
 use Rattle.sqlite.specs.declared.types.Value.TheVariants.{Int}
 use Rattle.sqlite.specs.Order.{Row, value_cmp}
 use Rattle.sqlite.specs.Tree.{put_row, rowid, without_rowid}
@@ -21,19 +22,10 @@ use Rattle.ee_store_tables.specs.Keyed.{ReadAlike, AreRows, AreApart}
 pub exchanged : {X : Type 0} (x y : X) (zs : List X) → IsPermutation (x ∷ y ∷ zs) (y ∷ x ∷ zs)
 exchanged x y zs = IsPermutation-append_left zs (x ∷ y ∷ []) (y ∷ x ∷ []) (IsPermutation-append_comm (x ∷ []) (y ∷ []))
 
-pub both_parts : (a b : Bool) → T (a && b) → T a × T b
-both_parts true b h = (tt, h)
-both_parts false b h = absurd h
-
 pub is_less : (o : Ordering) → T (is_lt o) → o ≡ Less
 is_less Less h = refl
 is_less Equal h = absurd h
 is_less Greater h = absurd h
-
-is_equal : (o : Ordering) → is_eq o ≡ true → o ≡ Equal
-is_equal Less h = cc
-is_equal Equal h = refl
-is_equal Greater h = cc
 
 -- ---- lists of entries
 
@@ -51,20 +43,20 @@ module _ {K X : Type 0} (R : K → K → Ordering) (o : IsTotalOrder R) (k : K) 
   keeps_above : (h : K) → R k h ≡ Equal → (es : List (K × X)) → T (below_all R h es) → filter (λ e. not (tied e)) es ≡ es
   keeps_above h same [] b = refl
   keeps_above h same (e ∷ es) b =
-      let two = both_parts _ _ b in
+      let two = and_yes _ _ b in
       rw (untied_above R o k h e.0 same (is_less (R h e.0) two.0)) (ap (λ xs. e ∷ xs) (keeps_above h same es two.1))
 
   keeps_past : (h : K) → R k h ≡ Less → (es : List (K × X)) → T (below_all R h es) → filter (λ e. not (tied e)) es ≡ es
   keeps_past h low [] b = refl
   keeps_past h low (e ∷ es) b =
-      let two = both_parts _ _ b in
+      let two = and_yes _ _ b in
       rw (untied_past R o k h e.0 low (is_less (R h e.0) two.0)) (ap (λ xs. e ∷ xs) (keeps_past h low es two.1))
 
   -- the map with an entry is that entry, and those of the other keys
   pub put_permutes : IsAntisymmetric R → (x : X) (es : List (K × X)) → T (is_sorted R es) → IsPermutation ((k, x) ∷ filter (λ e. not (tied e)) es) (put R k x es)
   put_permutes same x [] s = IsPermutation-refl _
   put_permutes same x (e ∷ es) s =
-      let two = both_parts _ _ s in
+      let two = and_yes _ _ s in
       elim (R k e.0) as (λ r. R k e.0 ≡ r → IsPermutation ((k, x) ∷ cond (not (is_eq r)) (e ∷ filter (λ e. not (tied e)) es) (filter (λ e. not (tied e)) es)) (by_order r ((k, x) ∷ e ∷ es) ((e.0, x) ∷ es) (e ∷ put R k x es))) [
         | Less ↦ λ p. rw (keeps_past e.0 p es two.0) (IsPermutation-refl _)
         | Equal ↦ λ p. rw (keeps_above e.0 p es two.0, same k e.0 p) (IsPermutation-refl _)
@@ -83,15 +75,15 @@ module _ {K X : Type 0} (R : K → K → Ordering) (o : IsTotalOrder R) (k : K) 
   pub tied_entry : IsAntisymmetric R → (es : List (K × X)) → T (is_sorted R es) → filter tied es ≡ option_to_list (option_map (λ x. (k, x)) (find R k es))
   tied_entry same [] s = refl
   tied_entry same (e ∷ es) s =
-      let two = both_parts _ _ s in
+      let two = and_yes _ _ s in
       elim (cases_Bool (is_eq (R k e.0))) [
-        | inl is ↦ let eq = is_equal _ is in rw (is, none_tied e.0 eq es two.0) (ap (λ q. (q, e.1) ∷ []) (sym (same k e.0 eq)))
+        | inl is ↦ let eq = (Equal-is _).0 is in rw (is, none_tied e.0 eq es two.0) (ap (λ q. (q, e.1) ∷ []) (sym (same k e.0 eq)))
         | inr apart ↦ rw apart (tied_entry same es two.1)
       ]
     where
       none_tied : (h : K) → R k h ≡ Equal → (es : List (K × X)) → T (below_all R h es) → filter tied es ≡ []
       none_tied h eq [] b = refl
-      none_tied h eq (f ∷ fs) b = let two = both_parts _ _ b in rw (untied_above R o k h f.0 eq (is_less (R h f.0) two.0)) (none_tied h eq fs two.1)
+      none_tied h eq (f ∷ fs) b = let two = and_yes _ _ b in rw (untied_above R o k h f.0 eq (is_less (R h f.0) two.0)) (none_tied h eq fs two.1)
 
 -- ---- rows under their rowids
 
@@ -110,10 +102,6 @@ number_apart i j apart = grind (arith, ints)
 
 pub apart_number : (i j : ℤ) → int_eq i j ≡ false → i ≢ j
 apart_number i j differ same = absurd (let e : int_eq i j ≡ true = grind (arith, ints) in cc)
-
-or_parts : (a b : Bool) → (a || b) ≡ false → (a ≡ false) × (b ≡ false)
-or_parts true b h = absurd cc
-or_parts false b h = (refl, h)
 
 abbrev pub Numbered : Type 0 → Type 0
 Numbered E = ℤ × E

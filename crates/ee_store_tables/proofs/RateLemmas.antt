@@ -1,7 +1,7 @@
 -- What an insertion into `rates` does.
-use Rattle.std.proofs.Common.{◌≡◌, inl, inr, ℕ, ℤ, pos, List, [], ◌∷◌, Bool, true, false, Some, None, Ok, refl, sym, ap, subst, ◌∙◌}
-use Rattle.std.specs.Prelude.{◌||◌}
+use Rattle.std.proofs.Common.{◌≡◌, inl, inr, ℕ, ℤ, pos, List, [], ◌∷◌, true, false, Some, None, Ok, refl, sym, ap, subst, ◌∙◌}
 use Rattle.std.specs.FinMap.{insert}
+use Rattle.std.proofs.Math.Bool.{or-false}
 use Rattle.sqlite.specs.declared.types.Value.TheVariants.{Null, Int}
 use Rattle.sqlite.specs.Order.{Row}
 use Rattle.sqlite.specs.Term.{Term, lit, col}
@@ -40,16 +40,12 @@ terms = col 0 0 ∷ lit Null ∷ col 0 1 ∷ []
 abbrev task_of : State → Row → Task
 task_of old params = record { limit = old.step_limit; keys = Enforced; schema = counter_schema; table = rates; params = params }
 
-or_nothing : (b : Bool) → (b || false) ≡ b
-or_nothing true = refl
-or_nothing false = refl
-
 module _ (old : State) (n x : ℕ) (one : Written) (rows : Rows) (stands : Holds old.now.trees rows) where
   abbrev row : Row
   row = row_of rate_columns (pos n, (n, x))
 
   conflicts_is : (r : Row) → conflicts (Some (0 ∷ [])) counter_schema.indexes rates row r ≡ agree plain (0 ∷ []) r (0 ∷ []) row
-  conflicts_is r = or_nothing _
+  conflicts_is r = or-false _
 
   -- the rate goes in, or its period has one
   pub rate_written : MeetsOrPuts (task_of old (given_rate n x)) (Some (0 ∷ [])) row old.now.trees one → Holds one.trees (with_rate rows (n, x))

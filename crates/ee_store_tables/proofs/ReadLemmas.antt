@@ -1,10 +1,11 @@
 -- What a query of one table shows of the map that the table holds.
-use Rattle.std.proofs.Common.{◌≡◌, ℕ, ℤ, pos, List, [], ◌∷◌, map, filter, Bool, true, false, Some, None, Option, refl, ap, subst, ◌∙◌, nat_cmp}
-use Rattle.std.specs.Prelude.{option_map, flat_map, IsPermutation, ◌&&◌}
+use Rattle.std.proofs.Common.{◌≡◌, ℕ, ℤ, pos, List, [], ◌∷◌, map, filter, true, Some, None, Option, refl, ap, subst, ◌∙◌, nat_cmp}
+use Rattle.std.specs.Prelude.{option_map, flat_map, IsPermutation}
 use Rattle.std.specs.Option.{option_to_list}
 use Rattle.std.specs.List.{list_all, AllByRecursion}
 use Rattle.std.specs.FinMap.{FinMap, get, nat_cmp-IsAntisymmetric}
 use Rattle.std.proofs.lemmas.Cmp.{nat_cmp_total}
+use Rattle.std.proofs.Math.Bool.{and-true}
 use Rattle.sqlite.specs.declared.types.Value.TheVariants.{Int}
 use Rattle.sqlite.specs.Order.{Row}
 use Rattle.sqlite.specs.Term.{Term}
@@ -33,14 +34,10 @@ keyed_same columns [] (p ∷ ps) keyed h = absurd h
 keyed_same columns (r ∷ rows) [] keyed h = absurd h
 keyed_same columns (r ∷ rows) (p ∷ ps) keyed h = (subst (λ i. ReadAlike r (row_of columns (i, p.1))) keyed.0 h.0, keyed_same columns rows ps keyed.1 h.1)
 
-pub and_true : (b : Bool) → (b && true) ≡ b
-and_true true = refl
-and_true false = refl
-
 module _ {X : Type 0} (columns : X → Row) (tree : ℕ) (project : List Term) (n : ℕ) (more : Row) (show : ℕ × X → Row)
     (shows : (r : Row) (e : ℕ × X) → ReadAlike r (row_of columns (pos e.0, e)) → eval_all project ((Int (pos n) ∷ more) ∷ r ∷ []) ≡ show e) where
   number_agrees : (r : Row) (e : ℕ × X) → ReadAlike r (row_of columns (pos e.0, e)) → list_all (holds ((Int (pos n) ∷ more) ∷ r ∷ [])) (by_number tree project).filter ≡ tied nat_cmp nat_cmp_total n e
-  number_agrees r e one = rw (one 0, equals_holds e.0 n) (and_true _)
+  number_agrees r e one = rw (one 0, equals_holds e.0 n) (and-true _)
 
   -- exactly the row of the key, if there is one
   pub found_by_number : (db : Trees) (m : FinMap nat_cmp X) (found : List Row) → overlay db [] tree ≡ db tree → HoldsMap columns (db tree) m → IsAnswer (by_number tree project) (overlay db []) (Int (pos n) ∷ more) found

@@ -1,6 +1,5 @@
 -- What an insertion into `bonds` does.
-use Rattle.std.proofs.Common.{◌≡◌, ◌⊎◌, inl, inr, ℕ, ℤ, pos, List, [], ◌∷◌, Bool, true, false, Some, None, Ok, refl, sym, ap, subst, ◌∙◌}
-use Rattle.std.specs.Prelude.{◌||◌}
+use Rattle.std.proofs.Common.{◌≡◌, ◌⊎◌, inl, inr, ℕ, ℤ, pos, List, [], ◌∷◌, true, false, Some, None, Ok, refl, sym, ap, subst, ◌∙◌}
 use Rattle.std.specs.FinMap.{insert}
 use Rattle.sqlite.specs.declared.types.Value.TheVariants.{Null, Int}
 use Rattle.sqlite.specs.Order.{Row}
@@ -29,6 +28,7 @@ use Rattle.ee_store_tables.specs.Rows.{Rows, Holds, BondRow, bond_columns, optio
 use Rattle.ee_store_tables.proofs.Meaning.{add_bond_text, add_bond_is, add_bond_plain}
 use Rattle.std.specs.Prelude.{◌++◌}
 use Rattle.std.specs.List.{AllByRecursion}
+use Rattle.std.proofs.Math.Bool.{or-false}
 use Rattle.sqlite_keyed.proofs.RuleLemmas.{first_of_both}
 use Rattle.sqlite_schema.specs.declared.schema.Constraint.TheVariants.{Unique}
 use Rattle.ee_store_tables.proofs.PairLemmas.{alike_itself}
@@ -47,10 +47,6 @@ terms = lit Null ∷ col 0 0 ∷ col 0 1 ∷ col 0 2 ∷ col 0 3 ∷ col 0 4 ∷
 abbrev task_of : State → Row → Task
 task_of old params = record { limit = old.step_limit; keys = Enforced; schema = counter_schema; table = bonds; params = params }
 
-or_nothing : (b : Bool) → (b || false) ≡ b
-or_nothing true = refl
-or_nothing false = refl
-
 module _ (old : State) (k : ℕ × ℕ) (bond : BondRow) (one : Written) (rows : Rows) (stands : Holds old.now.trees rows) where
   abbrev pub unpaid : BondRow
   unpaid = record bond { ticket = None }
@@ -59,7 +55,7 @@ module _ (old : State) (k : ℕ × ℕ) (bond : BondRow) (one : Written) (rows :
   row = stored bond_columns (next_rowid (old.now.trees 2), (k, unpaid))
 
   conflicts_is : (r : Row) → conflicts (Some (1 ∷ 2 ∷ [])) counter_schema.indexes bonds row r ≡ agree plain (1 ∷ 2 ∷ []) r (1 ∷ 2 ∷ []) row
-  conflicts_is r = or_nothing _
+  conflicts_is r = or-false _
 
   -- the bond goes in, or its serial number has one
   pub bond_written : MeetsOrPuts (task_of old (given_bond k bond)) (Some (1 ∷ 2 ∷ [])) row old.now.trees one → Holds one.trees (with_bond rows (k, unpaid))

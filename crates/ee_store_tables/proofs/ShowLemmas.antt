@@ -6,6 +6,8 @@ use Rattle.std.specs.Ordering.{is_eq, ordering_then}
 use Rattle.std.proofs.lemmas.Bool.Decides.{nat_tests}
 use Rattle.std.specs.FinMap.{FinMap, entries, entries_sorted}
 use Rattle.std.proofs.lemmas.List.Sorted.{IsPermutation-trans}
+use Rattle.std.proofs.Math.Bool.{and-true}
+use Rattle.std.proofs.lemmas.List.Elements.{filter_passes, recursion_from_All}
 use Rattle.sqlite.specs.declared.types.Value.TheVariants.{Null, Int}
 use Rattle.sqlite.specs.Order.{Row, value_cmp}
 use Rattle.sqlite.specs.Ops.{binary, is_true}
@@ -22,9 +24,9 @@ use Rattle.ee_store_tables.specs.Keyed.{pair_cmp, row_of, stored, ReadAlike, Hol
 use Rattle.ee_store_tables.specs.Rows.{number, optional, TicketRow, ticket_columns, PaidRow, paid_columns, BondRow, bond_columns, first_number, last_number}
 use Rattle.ee_store_tables.specs.AsRows.{sum_of, sum_columns, placed_of, placed_columns, unpaid_bond_of, unpaid_columns}
 use Rattle.ee_store_tables.proofs.Meaning.{last_ticket_text, last_ticket_query, last_ticket_is, last_ticket_plain, day_tickets_text, day_tickets_query, day_tickets_is, day_tickets_plain, first_ticket_text, first_ticket_query, first_ticket_is, first_ticket_plain, ticket_lines_text, ticket_lines_query, ticket_lines_is, ticket_lines_plain, bonds_of_owner_text, bonds_of_owner_query, bonds_of_owner_is, bonds_of_owner_plain}
-use Rattle.ee_store_tables.proofs.ReadLemmas.{keyed_same, and_true}
+use Rattle.ee_store_tables.proofs.ReadLemmas.{keyed_same}
 use Rattle.ee_store_tables.proofs.SelectLemmas.{cmp_pos, equals_holds}
-use Rattle.ee_store_tables.proofs.OrderLemmas.{keys_rise, all_pass, rise_among, in_order, backward, backward_permutes, backward_rises}
+use Rattle.ee_store_tables.proofs.OrderLemmas.{keys_rise, rise_among, in_order, backward, backward_permutes, backward_rises}
 
 test_is : (m n : ℕ) → is_eq (nat_cmp n m) ≡ (m == n)
 test_is m n = grind (arith, nat_tests)
@@ -41,7 +43,7 @@ null_holds (Some n) = refl
 
 module _ (day : ℕ) where
   day_agrees : (r : Row) (p : ℤ × (ℕ × TicketRow)) → ReadAlike r (row_of ticket_columns (pos p.1.0, p.1)) → Rattle.std.specs.List.list_all (Rattle.sqlite_sql.specs.Term.holds ((Int (pos day) ∷ []) ∷ r ∷ [])) day_tickets_query.filter ≡ (p.1.1.day == day)
-  day_agrees r p one = rw (one 2, equals_holds p.1.1.day day) (and_true _ ∙ test_is p.1.1.day day)
+  day_agrees r p one = rw (one 2, equals_holds p.1.1.day day) (and-true _ ∙ test_is p.1.1.day day)
 
   abbrev day_out : ℕ × TicketRow → Output
   day_out e = (Int (pos e.0) ∷ [], sum_columns (sum_of e))
@@ -123,7 +125,7 @@ finds_last old new m rows has stands shown =
 
 module _ (ticket : ℕ) where
   line_agrees : (r : Row) (p : ℤ × ((ℕ × ℕ) × PaidRow)) → ReadAlike r (stored paid_columns p) → Rattle.std.specs.List.list_all (Rattle.sqlite_sql.specs.Term.holds ((Int (pos ticket) ∷ []) ∷ r ∷ [])) ticket_lines_query.filter ≡ (p.1.0.0 == ticket)
-  line_agrees r p one = rw (one 1, equals_holds p.1.0.0 ticket) (and_true _ ∙ test_is p.1.0.0 ticket)
+  line_agrees r p one = rw (one 1, equals_holds p.1.0.0 ticket) (and-true _ ∙ test_is p.1.0.0 ticket)
 
   abbrev line_out : (ℕ × ℕ) × PaidRow → Output
   line_out e = (Int (pos e.0.1) ∷ [], placed_columns (placed_of e))
@@ -139,7 +141,7 @@ module _ (ticket : ℕ) where
   finds_lines old new m rows has stands shown =
       in_order (stored paid_columns) (λ p. p.1) 7 ticket_lines_query.filter ticket_lines_query.project ticket_lines_query.order ticket_lines_query.limit (Int (pos ticket) ∷ []) (λ e. e.0.0 == ticket) line_out line_agrees line_shows
       old.now.trees rows stands.numbered (entries m) refl stands.are stands.same
-      (rise_among _ _ _ line_rises _ (all_pass (λ e. e.0.0 == ticket) (entries m)) (ascending-filter _ (λ e. e.0.0 == ticket) (entries m) (keys_rise pair_cmp (entries m) (entries_sorted m))))
+      (rise_among _ _ _ line_rises _ (recursion_from_All _ _ (filter_passes (λ e. e.0.0 == ticket) (entries m))) (ascending-filter _ (λ e. e.0.0 == ticket) (entries m) (keys_rise pair_cmp (entries m) (entries_sorted m))))
       ((reads_as ticket_lines_text (Int (pos ticket) ∷ []) old new counter_schema has _ ticket_lines_is.0 ticket_lines_plain ticket_lines_is.1 rows shown).answer Null)
       ∙ map-map (λ (o : Output). o.1) line_out _ ∙ sym (map-map placed_columns placed_of _)
 
@@ -150,7 +152,7 @@ module _ (owner : ℕ) where
   is_own e = (e.1.owner == owner) && is_none e.1.ticket
 
   own_agrees : (r : Row) (p : ℤ × ((ℕ × ℕ) × BondRow)) → ReadAlike r (stored bond_columns p) → Rattle.std.specs.List.list_all (Rattle.sqlite_sql.specs.Term.holds ((Int (pos owner) ∷ []) ∷ r ∷ [])) bonds_of_owner_query.filter ≡ is_own p.1
-  own_agrees r p one = rw (one 5, one 7, equals_holds p.1.1.owner owner, null_holds p.1.1.ticket) (ap₂ ◌&&◌ (test_is p.1.1.owner owner) (and_true _))
+  own_agrees r p one = rw (one 5, one 7, equals_holds p.1.1.owner owner, null_holds p.1.1.ticket) (ap₂ ◌&&◌ (test_is p.1.1.owner owner) (and-true _))
 
   abbrev own_out : (ℕ × ℕ) × BondRow → Output
   own_out e = (Int (pos e.0.0) ∷ Int (pos e.0.1) ∷ [], unpaid_columns (unpaid_bond_of e))

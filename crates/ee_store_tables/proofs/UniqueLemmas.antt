@@ -8,6 +8,7 @@ use Rattle.std.proofs.lemmas.Cmp.{nat_cmp_total}
 use Rattle.std.proofs.lemmas.Bool.{cases_Bool}
 use Rattle.std.proofs.lemmas.List.Sorted.{list_any-IsPermutation}
 use Rattle.std.specs.FinMap.{FinMap, get}
+use Rattle.std.proofs.Math.Bool.{or-true}
 use Rattle.sqlite.specs.Order.{Row, value_cmp}
 use Rattle.sqlite_value.specs.Keys.{plain, first_key}
 use Rattle.sqlite.specs.Ops.{binary}
@@ -16,7 +17,7 @@ use Rattle.sqlite_rules.specs.Edit.{is_taken}
 use Rattle.sqlite.specs.Tree.{put_row, rowid}
 use Rattle.ee_store_tables.specs.Keyed.{pair_cmp, stored, ReadAlike, HoldsPairs}
 use Rattle.ee_store_tables.proofs.PairLemmas.{alike_itself, any_alike, new_number, put_numbered, with_is_more}
-use Rattle.ee_store_tables.proofs.HoldsLemmas.{pair_total, pair_same, has_key, hit_row, any_hit, either_way}
+use Rattle.ee_store_tables.proofs.HoldsLemmas.{pair_total, pair_same, has_key, hit_row, any_hit}
 use Rattle.ee_store_tables.proofs.SelectLemmas.{equals_holds, differs}
 
 module _ {X : Type 0} (columns : X → Row) (k : ℕ × ℕ) (x : X) (rows : List Row) (m : FinMap pair_cmp X) (h : HoldsPairs columns rows m) (id : ℤ) where
@@ -50,7 +51,7 @@ module _ {X : Type 0} (columns : X → Row) (k : ℕ × ℕ) (x : X) (rows : Lis
           let found : list_any clash (put_row row rows) ≡ true =
           any_alike (stored columns) clash (λ q. clash (stored columns q)) clash_alike (put_row row rows) _ (put_numbered (stored columns) (λ _. refl) row p (alike_itself row) rows h.numbered h.are)
           ∙ sym (list_any-IsPermutation (λ q. clash (stored columns q)) (p ∷ h.numbered) _ (with_is_more p h.numbered free))
-          ∙ ap (λ b. clash row || b) (there (λ q. clash (stored columns q)) here) ∙ either_way (clash row) in
+          ∙ ap (λ b. clash row || b) (there (λ q. clash (stored columns q)) here) ∙ or-true (clash row) in
           absurd (let a = sym found ∙ apart in cc)
 
 pub all_put : (P : Row → Type 0) (new : Row) (rows : List Row) → AllByRecursion P (put_row new rows) → P new

@@ -3,6 +3,7 @@ use Rattle.std.proofs.Common.{◌≡◌, ◌⊎◌, inl, inr, ◌++◌, ℕ, ℤ
 use Rattle.std.specs.Prelude.{◌&&◌}
 use Rattle.std.specs.List.{AllByRecursion, list_all}
 use Rattle.std.specs.FinMap.{get}
+use Rattle.std.proofs.lemmas.List.Elements.{filter_passes, recursion_from_All}
 use Rattle.sqlite.specs.declared.types.Value.TheVariants.{Null, Int}
 use Rattle.sqlite.specs.declared.error.Error.{Error}
 use Rattle.sqlite.specs.Order.{Row}
@@ -10,8 +11,8 @@ use Rattle.sqlite.specs.Query.{IsAnswer}
 use Rattle.sqlite.specs.Program.{overlay}
 use Rattle.sqlite.specs.Tree.{Trees, has_rowid, without_rowid, with_tree}
 use Rattle.sqlite.specs.Command.TheVariants.{Update}
-use Rattle.sqlite.specs.Rows.{Edited}
-use Rattle.sqlite.specs.Effect.{RefusesQuery}
+use Rattle.sqlite.specs.Rows.{Edited, Task, Written, shown}
+use Rattle.sqlite.specs.Effect.{RefusesQuery, RefusesSource}
 use Rattle.sqlite_rules.specs.Edit.{Edit, edit_of, edited}
 use Rattle.sqlite_rules.specs.Calls.{ids_of}
 use Rattle.sqlite.specs.Rowids.TheVariants.{Given}
@@ -20,24 +21,21 @@ use Rattle.sqlite_schema.specs.declared.schema.Keys.TheVariants.{Enforced}
 use Rattle.sqlite_schema.specs.declared.schema.Constraint.TheVariants.{Datatype, Unique}
 use Rattle.sqlite_schema.specs.Rules.{Keeps, passes}
 use Rattle.ee_store_tables.specs.Tables.{counter_schema, desk, bonds}
-use Rattle.ee_store_tables.specs.Rows.{Rows, Holds, DeskRow, BondRow, optional, Rises}
+use Rattle.ee_store_tables.specs.Rows.{Rows, Holds, DeskRow, BondRow, optional, Rises, bond_columns}
 use Rattle.ee_store_tables.proofs.Meaning.{set_day_query, mark_bond_query}
 use Rattle.ee_store_tables.proofs.DeskLemmas.{given_days, sets_none, sets_one}
-use Rattle.sqlite.specs.Rows.{Task, Written, shown}
 use Rattle.sqlite.specs.Does.{Shows, Concludes}
-use Rattle.sqlite.specs.Effect.{RefusesSource}
 use Rattle.sqlite_schema.specs.declared.schema.Among.TheVariants as among
 use Rattle.sqlite_keyed.proofs.RuleLemmas.{first_of_both}
 use Rattle.sqlite_keyed.proofs.ListLemmas.{all_weaker}
 use Rattle.ee_store_tables.specs.Keyed.{stored, AreRows}
-use Rattle.ee_store_tables.specs.Rows.{bond_columns}
 use Rattle.ee_store_tables.proofs.PairLemmas.{without_numbered, others_fail}
 use Rattle.ee_store_tables.proofs.HoldsLemmas.{pair_total, pair_same, has_key}
 use Rattle.ee_store_tables.proofs.BondLemmas.{key_params}
 use Rattle.ee_store_tables.proofs.WriteLemmas.{went, same_value, not_so}
 use Rattle.ee_store_tables.proofs.MarkLemmas.{mark_what, marks_none, marks_one, bond_there, bond_has_rowid}
 use Rattle.ee_store_tables.proofs.RoomLemmas.{whole_rowid}
-use Rattle.ee_store_tables.proofs.KeyLemmas.{IsOther, put_apart, same_rowid, left_apart, bonds_apart, bonds_unique, other_key, all_alike, untied_differs, filter_passes}
+use Rattle.ee_store_tables.proofs.KeyLemmas.{IsOther, put_apart, same_rowid, left_apart, bonds_apart, bonds_unique, other_key, all_alike, untied_differs}
 use Rattle.ee_store_tables.proofs.CauseLemmas.{NeverStops, changing, never_false, never_refused, no_sums}
 use Rattle.ee_store_tables.proofs.RefusalLemmas.{passed, no_stop, never_so, never_source, never_sourced, never_queried, IsAllowed, never_edited, is_bare, bare_storable, one_fits, no_references, task_on, never_concluded, all_unique, number_fits, taken_out}
 
@@ -147,7 +145,7 @@ module _ (k : ℕ × ℕ) (t : ℕ) (db : Trees) (rows : Rows) (stands : Holds d
         subst (AreRows (stored bond_columns) (without_rowid i (db 2))) (others_fail hits (i, (k, x)) stands.bonds.numbered stands.bonds.apart one) (without_numbered (stored bond_columns) (λ _. refl) i (db 2) stands.bonds.numbered stands.bonds.are)
 
     left_other : AllByRecursion (λ p. ¬ ((p.1.0.0 ≡ k.0) × (p.1.0.1 ≡ k.1))) (filter (λ p. not (hits p)) stands.bonds.numbered)
-    left_other = all_weaker (λ p. not (hits p) ≡ true) (λ p. ¬ ((p.1.0.0 ≡ k.0) × (p.1.0.1 ≡ k.1))) (λ p miss same. untied_differs k p.1.0 (not_so _ miss) same) _ (filter_passes (λ p. not (hits p)) stands.bonds.numbered)
+    left_other = all_weaker (λ p. not (hits p) ≡ true) (λ p. ¬ ((p.1.0.0 ≡ k.0) × (p.1.0.1 ≡ k.1))) (λ p miss same. untied_differs k p.1.0 (not_so _ miss) same) _ (recursion_from_All _ _ (filter_passes (λ p. not (hits p)) stands.bonds.numbered))
 
     others_left : AllByRecursion (IsOther (1 ∷ 2 ∷ []) new_row (without_rowid i (db 2))) (without_rowid i (db 2))
     others_left = all_alike (stored bond_columns) (IsOther (1 ∷ 2 ∷ []) new_row (without_rowid i (db 2))) (λ p. ¬ ((p.1.0.0 ≡ k.0) × (p.1.0.1 ≡ k.1)))

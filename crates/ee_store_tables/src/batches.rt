@@ -7,7 +7,20 @@ ghost use Rattle.sqlite.specs.Held.{state};
 ghost use Rattle.ee_store_tables.specs.AsRows.{Fits, FitsBatch, row_of_batch};
 ghost use Rattle.ee_store_tables.specs.Rows as table;
 ghost use Rattle.ee_store_tables.specs.Rows.{batch_columns, with_batch, HasRoom};
-ghost use Rattle.ee_store_tables.specs.Statements.{LeavesOpen, StaysInside, CommitsNothing, LeavesNoMore, Makes, Finds, ChangesNothing, FailsAlone, FailsByCause, QueryFailsByCause, IsMemory, KeepsRoom};
+ghost use Rattle.ee_store_tables.specs.Statements.{
+  LeavesOpen,
+  StaysInside,
+  CommitsNothing,
+  LeavesNoMore,
+  Makes,
+  Finds,
+  ChangesNothing,
+  FailsAlone,
+  FailsByCause,
+  QueryFailsByCause,
+  IsMemory,
+  KeepsRoom,
+};
 
 use crate::failures::Failure;
 use crate::records::BatchRow;
@@ -28,7 +41,8 @@ pub fn add_batch<S: Alter>(
     ensures added { Makes (state S.Store tx.old.conn.now) (state S.Store tx.new.conn.now) result (λ rows. with_batch rows day (row_of_batch batch)) }
     ensures room { KeepsRoom (state S.Store tx.old.conn.now) (state S.Store tx.new.conn.now) result }
     ensures commit { CommitsNothing (state S.Store tx.old.conn.now) (state S.Store tx.new.conn.now) }
-    ensures cause { FailsByCause (state S.Store tx.old.conn.now) (state S.Store tx.new.conn.now) result (λ rows. HasRoom 0 (state S.Store tx.old.conn.now) × (get rows.batches day ≡ None)) }
+    ensures cause { FailsByCause (state S.Store tx.old.conn.now) (state S.Store tx.new.conn.now) result
+        (λ rows. HasRoom 0 (state S.Store tx.old.conn.now) × (get rows.batches day ≡ None)) }
     ensures crash { LeavesNoMore (state S.Store tx.old.conn.now) (state S.Store tx.new.conn.now) }
 {
     tx.execute(
@@ -48,7 +62,8 @@ fn batch_rows<S: Alter>(tx: &mut Transaction<'_, S>, day: u64) -> Result<Vec<Row
     requires { Fits day }
     ensures same_reference { tx.new.conn.ghost_name ≡ tx.old.conn.ghost_name }
     ensures open { LeavesOpen (state S.Store tx.new.conn.now) result }
-    ensures found { Finds (state S.Store tx.old.conn.now) (state S.Store tx.new.conn.now) result (λ rows found. found.items ≡ option_to_list (option_map batch_columns (get rows.batches day))) }
+    ensures found { Finds (state S.Store tx.old.conn.now) (state S.Store tx.new.conn.now) result
+        (λ rows found. found.items ≡ option_to_list (option_map batch_columns (get rows.batches day))) }
     ensures same { ChangesNothing (state S.Store tx.old.conn.now) (state S.Store tx.new.conn.now) result }
     ensures err { FailsAlone (state S.Store tx.old.conn.now) (state S.Store tx.new.conn.now) result }
     ensures cause { QueryFailsByCause (state S.Store tx.old.conn.now) (state S.Store tx.new.conn.now) result }
@@ -62,7 +77,8 @@ fn batch_rows<S: Alter>(tx: &mut Transaction<'_, S>, day: u64) -> Result<Vec<Row
 
 /// The batch that a look-up showed.
 fn read_batch(rows: &[Row]) -> Result<Option<BatchRow>, Error>
-    ensures found { IfOk result (λ found. (batch : Option table.BatchRow) → rows.now ≡ option_to_list (option_map batch_columns batch) → option_map row_of_batch found ≡ batch) }
+    ensures found { IfOk result
+        (λ found. (batch : Option table.BatchRow) → rows.now ≡ option_to_list (option_map batch_columns batch) → option_map row_of_batch found ≡ batch) }
     ensures memory { IfErr result (λ e. (batch : Option table.BatchRow) → rows.now ≡ option_to_list (option_map batch_columns batch) → IsMemory e) }
 {
     match rows.first() {
@@ -83,7 +99,8 @@ pub fn find_batch<S: Alter>(
     requires { Fits day }
     ensures same_reference { tx.new.conn.ghost_name ≡ tx.old.conn.ghost_name }
     ensures open { LeavesOpen (state S.Store tx.new.conn.now) result }
-    ensures found { Finds (state S.Store tx.old.conn.now) (state S.Store tx.new.conn.now) result (λ rows found. option_map row_of_batch found ≡ get rows.batches day) }
+    ensures found { Finds (state S.Store tx.old.conn.now) (state S.Store tx.new.conn.now) result
+        (λ rows found. option_map row_of_batch found ≡ get rows.batches day) }
     ensures same { ChangesNothing (state S.Store tx.old.conn.now) (state S.Store tx.new.conn.now) result }
     ensures err { FailsAlone (state S.Store tx.old.conn.now) (state S.Store tx.new.conn.now) result }
     ensures cause { FailsByCause (state S.Store tx.old.conn.now) (state S.Store tx.new.conn.now) result (λ _. ⊤) }

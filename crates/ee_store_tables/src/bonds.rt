@@ -7,7 +7,21 @@ ghost use Rattle.sqlite.specs.Held.{state};
 ghost use Rattle.ee_store_tables.specs.AsRows.{Fits, FitsSerial, FitsUnpaid, key_of, row_of_bond, entry_of_unpaid, unpaid_bond_of, unpaid_columns};
 ghost use Rattle.ee_store_tables.specs.Rows as table;
 ghost use Rattle.ee_store_tables.specs.Rows.{bond_columns, marked, with_bond, unpaid_of, HasRoom};
-ghost use Rattle.ee_store_tables.specs.Statements.{LeavesOpen, StaysInside, CommitsNothing, LeavesNoMore, Makes, Finds, ChangesNothing, FailsAlone, FailsByCause, QueryFailsByCause, IsMemory, KeepsRoom, TakesRoom};
+ghost use Rattle.ee_store_tables.specs.Statements.{
+  LeavesOpen,
+  StaysInside,
+  CommitsNothing,
+  LeavesNoMore,
+  Makes,
+  Finds,
+  ChangesNothing,
+  FailsAlone,
+  FailsByCause,
+  QueryFailsByCause,
+  IsMemory,
+  KeepsRoom,
+  TakesRoom,
+};
 
 use crate::failures::Failure;
 use crate::reading::{Record, read_each};
@@ -71,7 +85,8 @@ fn bond_rows<S: Alter>(tx: &mut Transaction<'_, S>, serial: Serial) -> Result<Ve
     requires { FitsSerial serial }
     ensures same_reference { tx.new.conn.ghost_name ≡ tx.old.conn.ghost_name }
     ensures open { LeavesOpen (state S.Store tx.new.conn.now) result }
-    ensures found { Finds (state S.Store tx.old.conn.now) (state S.Store tx.new.conn.now) result (λ rows found. found.items ≡ option_to_list (option_map bond_columns (get rows.bonds (key_of serial)))) }
+    ensures found { Finds (state S.Store tx.old.conn.now) (state S.Store tx.new.conn.now) result
+        (λ rows found. found.items ≡ option_to_list (option_map bond_columns (get rows.bonds (key_of serial)))) }
     ensures same { ChangesNothing (state S.Store tx.old.conn.now) (state S.Store tx.new.conn.now) result }
     ensures err { FailsAlone (state S.Store tx.old.conn.now) (state S.Store tx.new.conn.now) result }
     ensures cause { QueryFailsByCause (state S.Store tx.old.conn.now) (state S.Store tx.new.conn.now) result }
@@ -85,7 +100,8 @@ fn bond_rows<S: Alter>(tx: &mut Transaction<'_, S>, serial: Serial) -> Result<Ve
 
 /// The bond that a look-up showed.
 fn read_bond(rows: &[Row]) -> Result<Option<BondRow>, Error>
-    ensures found { IfOk result (λ found. (bond : Option table.BondRow) → rows.now ≡ option_to_list (option_map bond_columns bond) → option_map row_of_bond found ≡ bond) }
+    ensures found { IfOk result
+        (λ found. (bond : Option table.BondRow) → rows.now ≡ option_to_list (option_map bond_columns bond) → option_map row_of_bond found ≡ bond) }
     ensures memory { IfErr result (λ e. (bond : Option table.BondRow) → rows.now ≡ option_to_list (option_map bond_columns bond) → IsMemory e) }
 {
     match rows.first() {
@@ -108,7 +124,8 @@ pub fn find_bond<S: Alter>(
     requires { FitsSerial serial }
     ensures same_reference { tx.new.conn.ghost_name ≡ tx.old.conn.ghost_name }
     ensures open { LeavesOpen (state S.Store tx.new.conn.now) result }
-    ensures found { Finds (state S.Store tx.old.conn.now) (state S.Store tx.new.conn.now) result (λ rows found. option_map row_of_bond found ≡ get rows.bonds (key_of serial)) }
+    ensures found { Finds (state S.Store tx.old.conn.now) (state S.Store tx.new.conn.now) result
+        (λ rows found. option_map row_of_bond found ≡ get rows.bonds (key_of serial)) }
     ensures same { ChangesNothing (state S.Store tx.old.conn.now) (state S.Store tx.new.conn.now) result }
     ensures err { FailsAlone (state S.Store tx.old.conn.now) (state S.Store tx.new.conn.now) result }
     ensures cause { FailsByCause (state S.Store tx.old.conn.now) (state S.Store tx.new.conn.now) result (λ _. ⊤) }
@@ -142,7 +159,8 @@ fn owner_rows<S: Alter>(tx: &mut Transaction<'_, S>, owner: u64) -> Result<Vec<R
     requires { Fits owner }
     ensures same_reference { tx.new.conn.ghost_name ≡ tx.old.conn.ghost_name }
     ensures open { LeavesOpen (state S.Store tx.new.conn.now) result }
-    ensures found { Finds (state S.Store tx.old.conn.now) (state S.Store tx.new.conn.now) result (λ rows found. found.items ≡ map unpaid_columns (map unpaid_bond_of (unpaid_of rows owner))) }
+    ensures found { Finds (state S.Store tx.old.conn.now) (state S.Store tx.new.conn.now) result
+        (λ rows found. found.items ≡ map unpaid_columns (map unpaid_bond_of (unpaid_of rows owner))) }
     ensures same { ChangesNothing (state S.Store tx.old.conn.now) (state S.Store tx.new.conn.now) result }
     ensures err { FailsAlone (state S.Store tx.old.conn.now) (state S.Store tx.new.conn.now) result }
     ensures cause { QueryFailsByCause (state S.Store tx.old.conn.now) (state S.Store tx.new.conn.now) result }
@@ -163,7 +181,8 @@ pub fn bonds_of_owner<S: Alter>(
     requires { Fits owner }
     ensures same_reference { tx.new.conn.ghost_name ≡ tx.old.conn.ghost_name }
     ensures open { LeavesOpen (state S.Store tx.new.conn.now) result }
-    ensures found { Finds (state S.Store tx.old.conn.now) (state S.Store tx.new.conn.now) result (λ rows found. found.items ≡ map unpaid_bond_of (unpaid_of rows owner)) }
+    ensures found { Finds (state S.Store tx.old.conn.now) (state S.Store tx.new.conn.now) result
+        (λ rows found. found.items ≡ map unpaid_bond_of (unpaid_of rows owner)) }
     ensures same { ChangesNothing (state S.Store tx.old.conn.now) (state S.Store tx.new.conn.now) result }
     ensures err { FailsAlone (state S.Store tx.old.conn.now) (state S.Store tx.new.conn.now) result }
     ensures cause { FailsByCause (state S.Store tx.old.conn.now) (state S.Store tx.new.conn.now) result (λ _. ⊤) }

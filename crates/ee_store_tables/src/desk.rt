@@ -7,7 +7,20 @@ ghost use Rattle.sqlite.specs.Held.{state};
 ghost use Rattle.ee_store_tables.specs.AsRows.{Fits, row_of_desk};
 ghost use Rattle.ee_store_tables.specs.Rows as table;
 ghost use Rattle.ee_store_tables.specs.Rows.{desk_columns, with_day, HasRoom};
-ghost use Rattle.ee_store_tables.specs.Statements.{LeavesOpen, StaysInside, CommitsNothing, LeavesNoMore, Makes, Finds, ChangesNothing, FailsAlone, FailsByCause, QueryFailsByCause, IsMemory, KeepsRoom};
+ghost use Rattle.ee_store_tables.specs.Statements.{
+  LeavesOpen,
+  StaysInside,
+  CommitsNothing,
+  LeavesNoMore,
+  Makes,
+  Finds,
+  ChangesNothing,
+  FailsAlone,
+  FailsByCause,
+  QueryFailsByCause,
+  IsMemory,
+  KeepsRoom,
+};
 
 use crate::failures::Failure;
 use crate::records::DeskRow;
@@ -42,7 +55,8 @@ pub fn set_day<S: Alter>(
 fn desk_rows<S: Alter>(tx: &mut Transaction<'_, S>) -> Result<Vec<Row>, Error>
     ensures same_reference { tx.new.conn.ghost_name ≡ tx.old.conn.ghost_name }
     ensures open { LeavesOpen (state S.Store tx.new.conn.now) result }
-    ensures found { Finds (state S.Store tx.old.conn.now) (state S.Store tx.new.conn.now) result (λ rows found. found.items ≡ option_to_list (option_map desk_columns (get rows.desk 1))) }
+    ensures found { Finds (state S.Store tx.old.conn.now) (state S.Store tx.new.conn.now) result
+        (λ rows found. found.items ≡ option_to_list (option_map desk_columns (get rows.desk 1))) }
     ensures same { ChangesNothing (state S.Store tx.old.conn.now) (state S.Store tx.new.conn.now) result }
     ensures err { FailsAlone (state S.Store tx.old.conn.now) (state S.Store tx.new.conn.now) result }
     ensures cause { QueryFailsByCause (state S.Store tx.old.conn.now) (state S.Store tx.new.conn.now) result }
@@ -56,7 +70,8 @@ fn desk_rows<S: Alter>(tx: &mut Transaction<'_, S>) -> Result<Vec<Row>, Error>
 
 /// The desk that a look-up showed.
 fn read_desk(rows: &[Row]) -> Result<Option<DeskRow>, Error>
-    ensures found { IfOk result (λ found. (desk : Option table.DeskRow) → rows.now ≡ option_to_list (option_map desk_columns desk) → option_map row_of_desk found ≡ desk) }
+    ensures found { IfOk result
+        (λ found. (desk : Option table.DeskRow) → rows.now ≡ option_to_list (option_map desk_columns desk) → option_map row_of_desk found ≡ desk) }
     ensures memory { IfErr result (λ e. (desk : Option table.DeskRow) → rows.now ≡ option_to_list (option_map desk_columns desk) → IsMemory e) }
 {
     match rows.first() {
@@ -73,7 +88,8 @@ fn read_desk(rows: &[Row]) -> Result<Option<DeskRow>, Error>
 pub fn find_desk<S: Alter>(tx: &mut Transaction<'_, S>) -> Result<Option<DeskRow>, Failure>
     ensures same_reference { tx.new.conn.ghost_name ≡ tx.old.conn.ghost_name }
     ensures open { LeavesOpen (state S.Store tx.new.conn.now) result }
-    ensures found { Finds (state S.Store tx.old.conn.now) (state S.Store tx.new.conn.now) result (λ rows found. option_map row_of_desk found ≡ get rows.desk 1) }
+    ensures found { Finds (state S.Store tx.old.conn.now) (state S.Store tx.new.conn.now) result
+        (λ rows found. option_map row_of_desk found ≡ get rows.desk 1) }
     ensures same { ChangesNothing (state S.Store tx.old.conn.now) (state S.Store tx.new.conn.now) result }
     ensures err { FailsAlone (state S.Store tx.old.conn.now) (state S.Store tx.new.conn.now) result }
     ensures cause { FailsByCause (state S.Store tx.old.conn.now) (state S.Store tx.new.conn.now) result (λ _. ⊤) }

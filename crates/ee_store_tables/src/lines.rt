@@ -4,7 +4,20 @@ ghost use Rattle.std.specs.Prelude.{◌≡◌, ◌+◌, length, map, All, ⊤};
 ghost use Rattle.sqlite.specs.Held.{state};
 ghost use Rattle.ee_store_tables.specs.AsRows.{Fits, FitsLine, row_of_line, placed_of, placed_columns};
 ghost use Rattle.ee_store_tables.specs.Rows.{with_paid, with_line, with_lines, lines_on, CanPay, CanPayAll, HasRoom};
-ghost use Rattle.ee_store_tables.specs.Statements.{LeavesOpen, StaysOpen, StaysInside, CommitsNothing, LeavesNoMore, Makes, Finds, ChangesNothing, FailsAlone, FailsByCause, QueryFailsByCause, TakesRoom};
+ghost use Rattle.ee_store_tables.specs.Statements.{
+  LeavesOpen,
+  StaysOpen,
+  StaysInside,
+  CommitsNothing,
+  LeavesNoMore,
+  Makes,
+  Finds,
+  ChangesNothing,
+  FailsAlone,
+  FailsByCause,
+  QueryFailsByCause,
+  TakesRoom,
+};
 
 use crate::bonds::mark_bond;
 use crate::failures::Failure;
@@ -30,7 +43,8 @@ pub fn add_paid<S: Alter>(
     ensures added { Makes (state S.Store tx.old.conn.now) (state S.Store tx.new.conn.now) result (λ rows. with_paid rows (ticket, place) (row_of_line line)) }
     ensures room { TakesRoom (state S.Store tx.old.conn.now) (state S.Store tx.new.conn.now) result 1 }
     ensures commit { CommitsNothing (state S.Store tx.old.conn.now) (state S.Store tx.new.conn.now) }
-    ensures cause { FailsByCause (state S.Store tx.old.conn.now) (state S.Store tx.new.conn.now) result (λ rows. HasRoom 1 (state S.Store tx.old.conn.now) × CanPay rows ticket place (row_of_line line)) }
+    ensures cause { FailsByCause (state S.Store tx.old.conn.now) (state S.Store tx.new.conn.now) result
+        (λ rows. HasRoom 1 (state S.Store tx.old.conn.now) × CanPay rows ticket place (row_of_line line)) }
     ensures crash { LeavesNoMore (state S.Store tx.old.conn.now) (state S.Store tx.new.conn.now) }
 {
     tx.execute(
@@ -62,7 +76,8 @@ pub fn pay_line<S: Alter>(
     ensures added { Makes (state S.Store tx.old.conn.now) (state S.Store tx.new.conn.now) result (λ rows. with_line rows ticket place (row_of_line line)) }
     ensures room { TakesRoom (state S.Store tx.old.conn.now) (state S.Store tx.new.conn.now) result 1 }
     ensures commit { CommitsNothing (state S.Store tx.old.conn.now) (state S.Store tx.new.conn.now) }
-    ensures cause { FailsByCause (state S.Store tx.old.conn.now) (state S.Store tx.new.conn.now) result (λ rows. HasRoom 1 (state S.Store tx.old.conn.now) × CanPay rows ticket place (row_of_line line)) }
+    ensures cause { FailsByCause (state S.Store tx.old.conn.now) (state S.Store tx.new.conn.now) result
+        (λ rows. HasRoom 1 (state S.Store tx.old.conn.now) × CanPay rows ticket place (row_of_line line)) }
     ensures crash { LeavesNoMore (state S.Store tx.old.conn.now) (state S.Store tx.new.conn.now) }
 {
     add_paid(tx, ticket, place, line)?;
@@ -86,10 +101,12 @@ pub fn pay_lines<S: Alter>(
     ensures same_reference { tx.new.conn.ghost_name ≡ tx.old.conn.ghost_name }
     ensures open { StaysOpen (state S.Store tx.old.conn.now) (state S.Store tx.new.conn.now) result }
     ensures inside { StaysInside (state S.Store tx.old.conn.now) (state S.Store tx.new.conn.now) result }
-    ensures added { Makes (state S.Store tx.old.conn.now) (state S.Store tx.new.conn.now) result (λ rows. with_lines rows ticket place (map row_of_line lines.now)) }
+    ensures added { Makes (state S.Store tx.old.conn.now) (state S.Store tx.new.conn.now) result
+        (λ rows. with_lines rows ticket place (map row_of_line lines.now)) }
     ensures room { TakesRoom (state S.Store tx.old.conn.now) (state S.Store tx.new.conn.now) result (length lines.now) }
     ensures commit { CommitsNothing (state S.Store tx.old.conn.now) (state S.Store tx.new.conn.now) }
-    ensures cause { FailsByCause (state S.Store tx.old.conn.now) (state S.Store tx.new.conn.now) result (λ rows. HasRoom (length lines.now) (state S.Store tx.old.conn.now) × CanPayAll rows ticket place (map row_of_line lines.now)) }
+    ensures cause { FailsByCause (state S.Store tx.old.conn.now) (state S.Store tx.new.conn.now) result
+        (λ rows. HasRoom (length lines.now) (state S.Store tx.old.conn.now) × CanPayAll rows ticket place (map row_of_line lines.now)) }
     ensures crash { LeavesNoMore (state S.Store tx.old.conn.now) (state S.Store tx.new.conn.now) }
 {
     match lines.split_first() {
@@ -122,7 +139,8 @@ fn line_rows<S: Alter>(tx: &mut Transaction<'_, S>, ticket: u64) -> Result<Vec<R
     requires { Fits ticket }
     ensures same_reference { tx.new.conn.ghost_name ≡ tx.old.conn.ghost_name }
     ensures open { LeavesOpen (state S.Store tx.new.conn.now) result }
-    ensures found { Finds (state S.Store tx.old.conn.now) (state S.Store tx.new.conn.now) result (λ rows found. found.items ≡ map placed_columns (map placed_of (lines_on rows ticket))) }
+    ensures found { Finds (state S.Store tx.old.conn.now) (state S.Store tx.new.conn.now) result
+        (λ rows found. found.items ≡ map placed_columns (map placed_of (lines_on rows ticket))) }
     ensures same { ChangesNothing (state S.Store tx.old.conn.now) (state S.Store tx.new.conn.now) result }
     ensures err { FailsAlone (state S.Store tx.old.conn.now) (state S.Store tx.new.conn.now) result }
     ensures cause { QueryFailsByCause (state S.Store tx.old.conn.now) (state S.Store tx.new.conn.now) result }
@@ -143,7 +161,8 @@ pub fn ticket_lines<S: Alter>(
     requires { Fits ticket }
     ensures same_reference { tx.new.conn.ghost_name ≡ tx.old.conn.ghost_name }
     ensures open { LeavesOpen (state S.Store tx.new.conn.now) result }
-    ensures found { Finds (state S.Store tx.old.conn.now) (state S.Store tx.new.conn.now) result (λ rows found. found.items ≡ map placed_of (lines_on rows ticket)) }
+    ensures found { Finds (state S.Store tx.old.conn.now) (state S.Store tx.new.conn.now) result
+        (λ rows found. found.items ≡ map placed_of (lines_on rows ticket)) }
     ensures same { ChangesNothing (state S.Store tx.old.conn.now) (state S.Store tx.new.conn.now) result }
     ensures err { FailsAlone (state S.Store tx.old.conn.now) (state S.Store tx.new.conn.now) result }
     ensures cause { FailsByCause (state S.Store tx.old.conn.now) (state S.Store tx.new.conn.now) result (λ _. ⊤) }

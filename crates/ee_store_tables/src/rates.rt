@@ -1,14 +1,27 @@
 //! The table `rates`: the fixed rate of each period.
 
-ghost use Rattle.std.specs.Prelude.{◌≡◌, ℕ, Option, option_map, IfOk, ⊤, IfErr};
+ghost use Rattle.std.specs.Prelude.{◌≡◌, option_map, ⊤};
 ghost use Rattle.std.specs.Option.{option_to_list};
 ghost use Rattle.std.specs.FinMap.{get};
 ghost use Rattle.sqlite.specs.Held.{state};
 ghost use Rattle.ee_store_tables.specs.AsRows.{Fits, FitsRate, entry_of_rate};
 ghost use Rattle.ee_store_tables.specs.Rows.{rate_columns, with_rate, HasRoom};
-ghost use Rattle.ee_store_tables.specs.Statements.{LeavesOpen, StaysInside, CommitsNothing, LeavesNoMore, Makes, Finds, ChangesNothing, FailsAlone, FailsByCause, QueryFailsByCause, IsMemory, KeepsRoom};
+ghost use Rattle.ee_store_tables.specs.Statements.{
+  LeavesOpen,
+  StaysInside,
+  CommitsNothing,
+  LeavesNoMore,
+  Makes,
+  Finds,
+  ChangesNothing,
+  FailsAlone,
+  FailsByCause,
+  QueryFailsByCause,
+  KeepsRoom,
+};
 
 use crate::failures::Failure;
+use crate::reading::read_number;
 use crate::records::RateRow;
 use crate::values::whole;
 use sqlite::{Alter, Error, Row, Transaction};
@@ -37,24 +50,14 @@ fn rate_rows<S: Alter>(tx: &mut Transaction<'_, S>, period: u64) -> Result<Vec<R
     requires { Fits period }
     ensures same_reference { tx.new.conn.ghost_name ≡ tx.old.conn.ghost_name }
     ensures open { LeavesOpen (state S.Store tx.new.conn.now) result }
-    ensures found { Finds (state S.Store tx.old.conn.now) (state S.Store tx.new.conn.now) result (λ rows found. found.items ≡ option_to_list (option_map rate_columns (get rows.rates period))) }
+    ensures found { Finds (state S.Store tx.old.conn.now) (state S.Store tx.new.conn.now) result
+        (λ rows found. found.items ≡ option_to_list (option_map rate_columns (get rows.rates period))) }
     ensures same { ChangesNothing (state S.Store tx.old.conn.now) (state S.Store tx.new.conn.now) result }
     ensures err { FailsAlone (state S.Store tx.old.conn.now) (state S.Store tx.new.conn.now) result }
     ensures cause { QueryFailsByCause (state S.Store tx.old.conn.now) (state S.Store tx.new.conn.now) result }
     ensures crash { LeavesNoMore (state S.Store tx.old.conn.now) (state S.Store tx.new.conn.now) }
 {
     tx.query_all("SELECT rate FROM rates WHERE period = ?1", &[whole(period)])
-}
-
-/// The rate that a look-up showed.
-fn read_rate(rows: &[Row]) -> Result<Option<u64>, Error>
-    ensures found { IfOk result (λ found. (rate : Option ℕ) → rows.now ≡ option_to_list (option_map rate_columns rate) → found ≡ rate) }
-    ensures memory { IfErr result (λ e. (rate : Option ℕ) → rows.now ≡ option_to_list (option_map rate_columns rate) → IsMemory e) }
-{
-    match rows.first() {
-        None => Ok(None),
-        Some(row) => Ok(Some(row.get(0)?)),
-    }
 }
 
 /// The rate of a period, in hundredths of a percent.
@@ -69,6 +72,6 @@ pub fn find_rate<S: Alter>(tx: &mut Transaction<'_, S>, period: u64) -> Result<O
     ensures crash { LeavesNoMore (state S.Store tx.old.conn.now) (state S.Store tx.new.conn.now) }
 {
     let rows = rate_rows(tx, period)?;
-    let found = read_rate(&rows)?;
+    let found = read_number(&rows)?;
     Ok(found)
 }

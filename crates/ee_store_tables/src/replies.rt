@@ -7,7 +7,21 @@ ghost use Rattle.sqlite.specs.Held.{state};
 ghost use Rattle.ee_store_tables.specs.AsRows.{Fits, row_of_reply};
 ghost use Rattle.ee_store_tables.specs.Rows as table;
 ghost use Rattle.ee_store_tables.specs.Rows.{IsText, reply_columns, with_reply, FitsRow, HasRoom};
-ghost use Rattle.ee_store_tables.specs.Statements.{LeavesOpen, StaysInside, CommitsNothing, LeavesNoMore, LeavesSound, Makes, Finds, ChangesNothing, FailsAlone, FailsByCause, QueryFailsByCause, IsMemory, KeepsRoom};
+ghost use Rattle.ee_store_tables.specs.Statements.{
+  LeavesOpen,
+  StaysInside,
+  CommitsNothing,
+  LeavesNoMore,
+  LeavesSound,
+  Makes,
+  Finds,
+  ChangesNothing,
+  FailsAlone,
+  FailsByCause,
+  QueryFailsByCause,
+  IsMemory,
+  KeepsRoom,
+};
 
 use crate::failures::Failure;
 use crate::records::ReplyRow;
@@ -29,7 +43,8 @@ pub fn add_reply<S: Alter>(
     ensures sound { LeavesSound (state S.Store tx.old.conn.now) (state S.Store tx.new.conn.now) result }
     ensures room { KeepsRoom (state S.Store tx.old.conn.now) (state S.Store tx.new.conn.now) result }
     ensures commit { CommitsNothing (state S.Store tx.old.conn.now) (state S.Store tx.new.conn.now) }
-    ensures cause { FailsByCause (state S.Store tx.old.conn.now) (state S.Store tx.new.conn.now) result (λ rows. HasRoom 0 (state S.Store tx.old.conn.now) × (get rows.replies number ≡ None) × FitsRow (row_of_reply entry.now)) }
+    ensures cause { FailsByCause (state S.Store tx.old.conn.now) (state S.Store tx.new.conn.now) result
+        (λ rows. HasRoom 0 (state S.Store tx.old.conn.now) × (get rows.replies number ≡ None) × FitsRow (row_of_reply entry.now)) }
     ensures crash { LeavesNoMore (state S.Store tx.old.conn.now) (state S.Store tx.new.conn.now) }
 {
     tx.execute(
@@ -44,7 +59,8 @@ fn reply_rows<S: Alter>(tx: &mut Transaction<'_, S>, number: u64) -> Result<Vec<
     requires { Fits number }
     ensures same_reference { tx.new.conn.ghost_name ≡ tx.old.conn.ghost_name }
     ensures open { LeavesOpen (state S.Store tx.new.conn.now) result }
-    ensures found { Finds (state S.Store tx.old.conn.now) (state S.Store tx.new.conn.now) result (λ rows found. found.items ≡ option_to_list (option_map reply_columns (get rows.replies number))) }
+    ensures found { Finds (state S.Store tx.old.conn.now) (state S.Store tx.new.conn.now) result
+        (λ rows found. found.items ≡ option_to_list (option_map reply_columns (get rows.replies number))) }
     ensures same { ChangesNothing (state S.Store tx.old.conn.now) (state S.Store tx.new.conn.now) result }
     ensures err { FailsAlone (state S.Store tx.old.conn.now) (state S.Store tx.new.conn.now) result }
     ensures cause { QueryFailsByCause (state S.Store tx.old.conn.now) (state S.Store tx.new.conn.now) result }
@@ -58,8 +74,10 @@ fn reply_rows<S: Alter>(tx: &mut Transaction<'_, S>, number: u64) -> Result<Vec<
 
 /// The entry that a look-up showed.
 fn read_entry(rows: &[Row]) -> Result<Option<ReplyRow>, Error>
-    ensures found { IfOk result (λ found. (kept : Option table.ReplyRow) → rows.now ≡ option_to_list (option_map reply_columns kept) → option_map row_of_reply found ≡ kept) }
-    ensures memory { IfErr result (λ e. (kept : Option table.ReplyRow) → IfSome kept IsText → rows.now ≡ option_to_list (option_map reply_columns kept) → IsMemory e) }
+    ensures found { IfOk result
+        (λ found. (kept : Option table.ReplyRow) → rows.now ≡ option_to_list (option_map reply_columns kept) → option_map row_of_reply found ≡ kept) }
+    ensures memory { IfErr result
+        (λ e. (kept : Option table.ReplyRow) → IfSome kept IsText → rows.now ≡ option_to_list (option_map reply_columns kept) → IsMemory e) }
 {
     match rows.first() {
         None => Ok(None),
@@ -78,7 +96,8 @@ pub fn find_reply<S: Alter>(
     requires { Fits number }
     ensures same_reference { tx.new.conn.ghost_name ≡ tx.old.conn.ghost_name }
     ensures open { LeavesOpen (state S.Store tx.new.conn.now) result }
-    ensures found { Finds (state S.Store tx.old.conn.now) (state S.Store tx.new.conn.now) result (λ rows found. option_map row_of_reply found ≡ get rows.replies number) }
+    ensures found { Finds (state S.Store tx.old.conn.now) (state S.Store tx.new.conn.now) result
+        (λ rows found. option_map row_of_reply found ≡ get rows.replies number) }
     ensures same { ChangesNothing (state S.Store tx.old.conn.now) (state S.Store tx.new.conn.now) result }
     ensures err { FailsAlone (state S.Store tx.old.conn.now) (state S.Store tx.new.conn.now) result }
     ensures cause { FailsByCause (state S.Store tx.old.conn.now) (state S.Store tx.new.conn.now) result (λ rows. IfSome (get rows.replies number) IsText) }

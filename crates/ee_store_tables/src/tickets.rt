@@ -7,7 +7,20 @@ ghost use Rattle.sqlite.specs.Held.{state};
 ghost use Rattle.ee_store_tables.specs.AsRows.{Fits, FitsTicket, row_of_ticket, sum_of, sum_columns};
 ghost use Rattle.ee_store_tables.specs.Rows as table;
 ghost use Rattle.ee_store_tables.specs.Rows.{number as number_in_store, ticket_columns, with_ticket, tickets_on, first_number, last_number, HasRoom};
-ghost use Rattle.ee_store_tables.specs.Statements.{LeavesOpen, StaysInside, CommitsNothing, LeavesNoMore, Makes, Finds, ChangesNothing, FailsAlone, FailsByCause, QueryFailsByCause, IsMemory, KeepsRoom};
+ghost use Rattle.ee_store_tables.specs.Statements.{
+  LeavesOpen,
+  StaysInside,
+  CommitsNothing,
+  LeavesNoMore,
+  Makes,
+  Finds,
+  ChangesNothing,
+  FailsAlone,
+  FailsByCause,
+  QueryFailsByCause,
+  IsMemory,
+  KeepsRoom,
+};
 
 use crate::failures::Failure;
 use crate::reading::{Record, read_each, read_number};
@@ -30,7 +43,8 @@ pub fn add_ticket<S: Alter>(
     ensures added { Makes (state S.Store tx.old.conn.now) (state S.Store tx.new.conn.now) result (λ rows. with_ticket rows number (row_of_ticket ticket)) }
     ensures room { KeepsRoom (state S.Store tx.old.conn.now) (state S.Store tx.new.conn.now) result }
     ensures commit { CommitsNothing (state S.Store tx.old.conn.now) (state S.Store tx.new.conn.now) }
-    ensures cause { FailsByCause (state S.Store tx.old.conn.now) (state S.Store tx.new.conn.now) result (λ rows. HasRoom 0 (state S.Store tx.old.conn.now) × (get rows.tickets number ≡ None)) }
+    ensures cause { FailsByCause (state S.Store tx.old.conn.now) (state S.Store tx.new.conn.now) result
+        (λ rows. HasRoom 0 (state S.Store tx.old.conn.now) × (get rows.tickets number ≡ None)) }
     ensures crash { LeavesNoMore (state S.Store tx.old.conn.now) (state S.Store tx.new.conn.now) }
 {
     tx.execute(
@@ -51,7 +65,8 @@ fn ticket_rows<S: Alter>(tx: &mut Transaction<'_, S>, number: u64) -> Result<Vec
     requires { Fits number }
     ensures same_reference { tx.new.conn.ghost_name ≡ tx.old.conn.ghost_name }
     ensures open { LeavesOpen (state S.Store tx.new.conn.now) result }
-    ensures found { Finds (state S.Store tx.old.conn.now) (state S.Store tx.new.conn.now) result (λ rows found. found.items ≡ option_to_list (option_map ticket_columns (get rows.tickets number))) }
+    ensures found { Finds (state S.Store tx.old.conn.now) (state S.Store tx.new.conn.now) result
+        (λ rows found. found.items ≡ option_to_list (option_map ticket_columns (get rows.tickets number))) }
     ensures same { ChangesNothing (state S.Store tx.old.conn.now) (state S.Store tx.new.conn.now) result }
     ensures err { FailsAlone (state S.Store tx.old.conn.now) (state S.Store tx.new.conn.now) result }
     ensures cause { QueryFailsByCause (state S.Store tx.old.conn.now) (state S.Store tx.new.conn.now) result }
@@ -65,7 +80,8 @@ fn ticket_rows<S: Alter>(tx: &mut Transaction<'_, S>, number: u64) -> Result<Vec
 
 /// The ticket that a look-up showed.
 fn read_ticket(rows: &[Row]) -> Result<Option<TicketRow>, Error>
-    ensures found { IfOk result (λ found. (ticket : Option table.TicketRow) → rows.now ≡ option_to_list (option_map ticket_columns ticket) → option_map row_of_ticket found ≡ ticket) }
+    ensures found { IfOk result
+        (λ found. (ticket : Option table.TicketRow) → rows.now ≡ option_to_list (option_map ticket_columns ticket) → option_map row_of_ticket found ≡ ticket) }
     ensures memory { IfErr result (λ e. (ticket : Option table.TicketRow) → rows.now ≡ option_to_list (option_map ticket_columns ticket) → IsMemory e) }
 {
     match rows.first() {
@@ -87,7 +103,8 @@ pub fn find_ticket<S: Alter>(
     requires { Fits number }
     ensures same_reference { tx.new.conn.ghost_name ≡ tx.old.conn.ghost_name }
     ensures open { LeavesOpen (state S.Store tx.new.conn.now) result }
-    ensures found { Finds (state S.Store tx.old.conn.now) (state S.Store tx.new.conn.now) result (λ rows found. option_map row_of_ticket found ≡ get rows.tickets number) }
+    ensures found { Finds (state S.Store tx.old.conn.now) (state S.Store tx.new.conn.now) result
+        (λ rows found. option_map row_of_ticket found ≡ get rows.tickets number) }
     ensures same { ChangesNothing (state S.Store tx.old.conn.now) (state S.Store tx.new.conn.now) result }
     ensures err { FailsAlone (state S.Store tx.old.conn.now) (state S.Store tx.new.conn.now) result }
     ensures cause { FailsByCause (state S.Store tx.old.conn.now) (state S.Store tx.new.conn.now) result (λ _. ⊤) }
@@ -118,7 +135,8 @@ fn day_rows<S: Alter>(tx: &mut Transaction<'_, S>, day: u64) -> Result<Vec<Row>,
     requires { Fits day }
     ensures same_reference { tx.new.conn.ghost_name ≡ tx.old.conn.ghost_name }
     ensures open { LeavesOpen (state S.Store tx.new.conn.now) result }
-    ensures found { Finds (state S.Store tx.old.conn.now) (state S.Store tx.new.conn.now) result (λ rows found. found.items ≡ map sum_columns (map sum_of (tickets_on rows day))) }
+    ensures found { Finds (state S.Store tx.old.conn.now) (state S.Store tx.new.conn.now) result
+        (λ rows found. found.items ≡ map sum_columns (map sum_of (tickets_on rows day))) }
     ensures same { ChangesNothing (state S.Store tx.old.conn.now) (state S.Store tx.new.conn.now) result }
     ensures err { FailsAlone (state S.Store tx.old.conn.now) (state S.Store tx.new.conn.now) result }
     ensures cause { QueryFailsByCause (state S.Store tx.old.conn.now) (state S.Store tx.new.conn.now) result }
@@ -139,7 +157,8 @@ pub fn day_tickets<S: Alter>(
     requires { Fits day }
     ensures same_reference { tx.new.conn.ghost_name ≡ tx.old.conn.ghost_name }
     ensures open { LeavesOpen (state S.Store tx.new.conn.now) result }
-    ensures found { Finds (state S.Store tx.old.conn.now) (state S.Store tx.new.conn.now) result (λ rows found. found.items ≡ map sum_of (tickets_on rows day)) }
+    ensures found { Finds (state S.Store tx.old.conn.now) (state S.Store tx.new.conn.now) result
+        (λ rows found. found.items ≡ map sum_of (tickets_on rows day)) }
     ensures same { ChangesNothing (state S.Store tx.old.conn.now) (state S.Store tx.new.conn.now) result }
     ensures err { FailsAlone (state S.Store tx.old.conn.now) (state S.Store tx.new.conn.now) result }
     ensures cause { FailsByCause (state S.Store tx.old.conn.now) (state S.Store tx.new.conn.now) result (λ _. ⊤) }
@@ -154,7 +173,8 @@ fn first_rows<S: Alter>(tx: &mut Transaction<'_, S>, day: u64) -> Result<Vec<Row
     requires { Fits day }
     ensures same_reference { tx.new.conn.ghost_name ≡ tx.old.conn.ghost_name }
     ensures open { LeavesOpen (state S.Store tx.new.conn.now) result }
-    ensures found { Finds (state S.Store tx.old.conn.now) (state S.Store tx.new.conn.now) result (λ rows found. found.items ≡ option_to_list (option_map (λ n. number_in_store n ∷ []) (first_number (tickets_on rows day)))) }
+    ensures found { Finds (state S.Store tx.old.conn.now) (state S.Store tx.new.conn.now) result
+        (λ rows found. found.items ≡ option_to_list (option_map (λ n. number_in_store n ∷ []) (first_number (tickets_on rows day)))) }
     ensures same { ChangesNothing (state S.Store tx.old.conn.now) (state S.Store tx.new.conn.now) result }
     ensures err { FailsAlone (state S.Store tx.old.conn.now) (state S.Store tx.new.conn.now) result }
     ensures cause { QueryFailsByCause (state S.Store tx.old.conn.now) (state S.Store tx.new.conn.now) result }
@@ -186,7 +206,8 @@ pub fn first_ticket<S: Alter>(tx: &mut Transaction<'_, S>, day: u64) -> Result<O
 fn last_rows<S: Alter>(tx: &mut Transaction<'_, S>) -> Result<Vec<Row>, Error>
     ensures same_reference { tx.new.conn.ghost_name ≡ tx.old.conn.ghost_name }
     ensures open { LeavesOpen (state S.Store tx.new.conn.now) result }
-    ensures found { Finds (state S.Store tx.old.conn.now) (state S.Store tx.new.conn.now) result (λ rows found. found.items ≡ option_to_list (option_map (λ n. number_in_store n ∷ []) (last_number (entries rows.tickets)))) }
+    ensures found { Finds (state S.Store tx.old.conn.now) (state S.Store tx.new.conn.now) result
+        (λ rows found. found.items ≡ option_to_list (option_map (λ n. number_in_store n ∷ []) (last_number (entries rows.tickets)))) }
     ensures same { ChangesNothing (state S.Store tx.old.conn.now) (state S.Store tx.new.conn.now) result }
     ensures err { FailsAlone (state S.Store tx.old.conn.now) (state S.Store tx.new.conn.now) result }
     ensures cause { QueryFailsByCause (state S.Store tx.old.conn.now) (state S.Store tx.new.conn.now) result }

@@ -1,6 +1,7 @@
 -- A denomination's text reads back, and so does its number of dollars.
-use Rattle.std.proofs.Common.{◌≡◌, ◌<◌, ◌^◌, refl, Some, lit<}
+use Rattle.std.proofs.Common.{◌≡◌, ◌<◌, ◌^◌, refl, sym, ap, ◌∙◌, Some, lit<}
 use Rattle.std.specs.Fmt.{decimal, digits}
+use Rattle.std.proofs.lemmas.Option.{same_Some}
 use Rattle.ee_units.specs.Denoms.{dollars, denom_of, denom_with}
 use Rattle.ee_units.specs.declared.denoms.Denom.{Denom}
 use Rattle.ee_units.specs.declared.denoms.Denom.TheVariants as denom
@@ -25,6 +26,9 @@ denom_with-dollars denom.FiveHundred = refl
 denom_with-dollars denom.Thousand = refl
 denom_with-dollars denom.FiveThousand = refl
 denom_with-dollars denom.TenThousand = refl
+
+pub same_denom : (a b : Denom) → dollars a ≡ dollars b → a ≡ b
+same_denom a b e = same_Some a b (sym (denom_with-dollars a) ∙ ap denom_with e ∙ denom_with-dollars b)
 
 pub dollars_small : (d : Denom) → dollars d < 2 ^ 64
 dollars_small denom.Fifty = lit< tt

@@ -74,6 +74,10 @@ denom_back = DenomTexts.denom_back
 pub denom_with-dollars : (d : Denom) → denom_with (dollars d) ≡ Some d
 denom_with-dollars = DenomTexts.denom_with-dollars
 
+-- denominations of the same dollars are one
+pub same_denom : (a b : Denom) → dollars a ≡ dollars b → a ≡ b
+same_denom = DenomTexts.same_denom
+
 -- a denomination's dollars fit 64 bits
 pub dollars_small : (d : Denom) → dollars d < 2 ^ 64
 dollars_small = DenomTexts.dollars_small

@@ -1,25 +1,19 @@
 -- The month of a day, and its place there, are those of its date.
-use Rattle.std.proofs.Common.{◌≡◌, ◌∙◌, ℕ, zero, suc, ◌<◌, ◌≤◌, ◌+◌, ◌-◌, ◌*◌, true, false, Bool, length, get_or, refl, sym, ap, arith, inl, inr, ℤ, pos, negsuc, ◌≤ℤ◌, unsigned_abs, ltb-true, nat_lt, add-one, true≢false, neg_ℤ, ◌+ℤ◌}
+use Rattle.std.proofs.Common.{◌≡◌, ◌∙◌, ℕ, zero, suc, ◌<◌, ◌≤◌, ◌+◌, ◌-◌, ◌*◌, true, false, Bool, length, get_or, refl, sym, ap, arith, inl, inr, ℤ, pos, negsuc, ◌≤ℤ◌, unsigned_abs, ltb-true, nat_lt, add-one, true≢false, neg_ℤ, ◌+ℤ◌, subst, to_z, of_z, w16}
 use Rattle.std.specs.List.{position_or_len, range_with_len}
-use Rattle.std.proofs.lemmas.Bool.{cases_lt}
-use Rattle.std.proofs.lemmas.List.Sums.{position_or_len_is}
+use Rattle.std.proofs.lemmas.Bool.{cases_lt, lt-ltb, le-ltb, le-leb}
+use Rattle.std.proofs.lemmas.List.Sums.{position_or_len_is, passes_at_first, fails_before_first}
 use Rattle.std.proofs.lemmas.List.FromFn.{get_or-range_with_len, length-range_with_len}
 use Rattle.std.proofs.lemmas.Bool.Decides.{nat_tests}
 use Rattle.jiff_core.specs.Calendar.{IsCivilDate, day_count, days_from_civil, days_in_month}
 use Rattle.jiff_core.proofs.SignedLemmas.{signed_arith, one_part}
-use Rattle.std.proofs.lemmas.Int.{by_lt_z}
-use Rattle.std.proofs.Common.{subst}
-use Rattle.jiff_core.proofs.CalendarLemmas.{days_from_civil-day_count, day_count-lt_year, day_count-lt_month, day_count-day, days_in_month_bounds}
+use Rattle.std.proofs.lemmas.Int.{by_lt_z, to_z_pos}
+use Rattle.jiff_core.proofs.CalendarLemmas.{days_from_civil-day_count, day_count-lt_year, day_count-lt_month, day_count-day, days_in_month_bounds, day_count-next_month, day_count-next_year, day_count-last_of_year}
 use Rattle.jiff_core.proofs.MarchLemmas.{day_count-late, day_count-early}
 use Rattle.jiff_core.specs.declared.civil.date.Date.{Date}
 use Rattle.jiff_core.specs.Date.{epoch_day}
 use Rattle.jiff_core.proofs.DateLemmas.{civil}
-use Rattle.std.proofs.lemmas.Int.{to_z_pos}
-use Rattle.std.proofs.Common.{to_z, of_z, w16}
 use Rattle.ee_units.specs.Calendar.{year_of, month_of_year, first_day, month_of_day, day_of_month, is_date}
-use Rattle.std.proofs.lemmas.Bool.{le-leb}
-use Rattle.std.proofs.lemmas.List.Sums.{passes_at_first, fails_before_first}
-use Rattle.jiff_core.proofs.CalendarLemmas.{day_count-next_month, day_count-next_year, day_count-last_of_year}
 
 abbrev count_first : ℕ → ℕ
 count_first m = day_count (pos (year_of m)) (month_of_year m) 1
@@ -124,12 +118,6 @@ pub record IsMonthOf (n year m d : ℕ) : Type 0 where
   pub day_is : d ≡ day_of_month n
   pub bound : month_of_day n ≤ 2335
 
-is_later : (n f : ℕ) → n < f → nat_lt n f ≡ true
-is_later n f lt = grind (arith, nat_tests)
-
-not_later : (n f : ℕ) → f ≤ n → nat_lt n f ≡ false
-not_later n f le = grind (arith, nat_tests)
-
 earlier : (n k d : ℕ) → 1 ≤ d → first_day k + d ≡ n + 1 → k ≤ 2335 → (j : ℕ) → j ≤ k → first_day j ≤ n
 earlier n k d some starts few j le = elim (cases_lt j k) [
   | inl before ↦ omega (arith, first_day-count j (omega arith), first_day-count k (omega arith), month_order j k 1 (first_date j (omega arith)) before)
@@ -162,8 +150,8 @@ month_is n year m d is low high =
     let here : day_count (pos (year_of k)) (month_of_year k) d ≡ n + 4371953 = rw (y, mm) count in
     let starts : first_day k + d ≡ n + 1 = omega (arith, here, first_day-count k (omega arith), day_count-day (pos (year_of k)) (month_of_year k) d 1 (date.2.0) (omega arith)) in
     let at : month_of_day n ≡ k = month_of_day-is n k (omega arith)
-    (λ j before. not_later n (first_day (j + 1)) (earlier n k d (date.2.0) starts few (j + 1) (omega arith)))
-    (is_later n (first_day (k + 1)) (omega (arith, here, first_day-count (k + 1) (omega arith), month_order k (k + 1) d date (omega arith)))) in
+    (λ j before. le-ltb n (first_day (j + 1)) (earlier n k d (date.2.0) starts few (j + 1) (omega arith)))
+    (lt-ltb n (first_day (k + 1)) (omega (arith, here, first_day-count (k + 1) (omega arith), month_order k (k + 1) d date (omega arith)))) in
     record { year_is = rw at (sym y); month_is = rw at (sym mm); day_is = rw at (omega (arith, starts)); bound = rw at few }
 
 -- a date that the calendar has
@@ -218,7 +206,7 @@ after_last n high = omega (arith, first_day-count 2336 (omega arith), count_end)
 
 month_first : (n : ℕ) → n ≤ 84005 → IsFirst (λ m. nat_lt n (first_day (m + 1))) 2336 (month_of_day n)
 unfolding month_of_day
-month_first n high = first_of_all (λ m. nat_lt n (first_day (m + 1))) 2336 2335 (omega arith) (is_later n (first_day 2336) (after_last n high))
+month_first n high = first_of_all (λ m. nat_lt n (first_day (m + 1))) 2336 2335 (omega arith) (lt-ltb n (first_day 2336) (after_last n high))
 
 pub month_bound : (n : ℕ) → n ≤ 84005 → month_of_day n ≤ 2335
 month_bound n high = omega (arith, (month_first n high).bound)

@@ -1,11 +1,10 @@
 -- Two digits, as a hole `{:02}` and as two holes print them.
-use Rattle.std.proofs.Common.{◌≡◌, ◌∙◌, ℕ, ◌+◌, ◌-◌, ◌/◌, ◌%◌, ◌<◌, ◌^◌, [], ◌∷◌, ◌++◌, refl, sym, ap, ap₂, arith, inl, inr, lit<}
+use Rattle.std.proofs.Common.{◌≡◌, ◌∙◌, ℕ, ◌+◌, ◌-◌, ◌/◌, ◌%◌, ◌<◌, ◌^◌, [], ◌∷◌, ◌++◌, refl, sym, ap, ap₂, arith, inl, inr, lit<, append_assoc}
 use Rattle.std.specs.Fmt.{char_count, decimal, styled_decimal, format_spec, padded_integral}
 use Rattle.std.proofs.lemmas.Bool.{cases_lt}
 use Rattle.std.proofs.lemmas.Fmt.{decimal_digit, decimal_step}
 use Rattle.ee_units.specs.Texts.{two_digits, decimal_text, rate_text, month_text, day_text}
 use Rattle.ee_units.specs.Calendar.{year_of, month_of_year, month_of_day, day_of_month}
-use Rattle.std.proofs.Common.{append_assoc}
 
 pub two_padded : (n : ℕ) → n < 100 → styled_decimal (format_spec 32 0 4 2 (2 ^ 64 - 1)) n ≡ two_digits n
 unfolding padded_integral char_count

@@ -1,12 +1,11 @@
 -- Digits, and the parts of a text round a byte that is no digit.
-use Rattle.std.proofs.Common.{◌≡◌, ◌∙◌, ℕ, suc, ◌<◌, true, false, List, ◌∷◌, ◌++◌, length, get_or, Some, None, Bool, refl, sym, ap, ap₂, arith, inl, inr, length-append, true≢false}
+use Rattle.std.proofs.Common.{◌≡◌, ◌∙◌, ℕ, suc, ◌<◌, true, false, List, ◌∷◌, ◌++◌, length, get_or, Some, None, Bool, refl, sym, ap, ap₂, arith, inl, inr, length-append, true≢false, eqb-true, ltb-true}
 use Rattle.std.specs.Prelude.{◌==◌, nat_lt}
 use Rattle.std.specs.Char.{is_ascii_digit}
 use Rattle.std.specs.List.{position_or_len}
 use Rattle.std.specs.Str.Parse.{digits_value}
-use Rattle.std.proofs.lemmas.Bool.{cases_Bool, le-leb}
+use Rattle.std.proofs.lemmas.Bool.{cases_Bool, le-leb, lt-ltb}
 use Rattle.std.proofs.lemmas.Option.{none-some, same_Some}
-use Rattle.std.proofs.Common.{eqb-true, ltb-true}
 use Rattle.std.proofs.lemmas.List.Folds.{list_all_at}
 use Rattle.std.proofs.lemmas.List.Sums.{position_or_len_is, split_at_first, passes_at_first}
 use Rattle.std.proofs.Math.Seq.{take-append_seam, get_or-append_seam, drop-append-add}
@@ -31,9 +30,6 @@ number_of-only most ds n e = elim (cases_Bool (is_number most ds)) [
       let none : None ≡ Some n = rw fails at e in
       absurd (none-some n none)
 ]
-
-lt-leb-true : (a b : ℕ) → a < b → nat_lt a b ≡ true
-lt-leb-true a b h = grind (arith, nat_tests)
 
 -- a digit is no other byte
 pub digit_is_not : (c b : ℕ) → is_ascii_digit c ≡ false → is_ascii_digit b ≡ true → (b == c) ≡ false
@@ -69,7 +65,7 @@ parts_at-joined c xs ys other digits =
     position_or_len_is p (xs ++ c ∷ ys) (length xs) 0 (omega arith)
     (λ k under. rw (get_or_append_left xs (c ∷ ys) 0 k under) (digit_is_not c (get_or xs k 0) other (digit_at xs k digits under)))
     (λ _. rw (get_or-append_seam xs c ys 0) same) in
-    rw (at, lt-leb-true (length xs) (length (xs ++ c ∷ ys)) below) (ap₂ (λ a b. Some (a, b)) (take-append_seam xs (c ∷ ys)) (drop-append-add xs (c ∷ ys) 1))
+    rw (at, lt-ltb (length xs) (length (xs ++ c ∷ ys)) below) (ap₂ (λ a b. Some (a, b)) (take-append_seam xs (c ∷ ys)) (drop-append-add xs (c ∷ ys) 1))
 
 pub parts_at-split : (c : ℕ) (ds xs ys : List ℕ) → parts_at c ds ≡ Some (xs, ys) → ds ≡ xs ++ c ∷ ys
 unfolding parts_at

@@ -1,14 +1,12 @@
 -- `rate_of` finds just the rates that the grammar has.
-use Rattle.std.proofs.Common.{◌≡◌, ◌∙◌, ℕ, ◌<◌, ◌≤◌, ◌+◌, ◌-◌, ◌*◌, true, false, List, [], ◌∷◌, ◌++◌, length, get_or, take, Option, Some, None, refl, sym, ap, ap₂, arith, subst, inl, inr, length-append, true≢false, append_assoc, ◌&&◌}
+use Rattle.std.proofs.Common.{◌≡◌, ◌∙◌, ℕ, ◌<◌, ◌≤◌, ◌+◌, ◌-◌, ◌*◌, true, false, List, [], ◌∷◌, ◌++◌, length, get_or, take, Option, Some, None, refl, sym, ap, ap₂, arith, subst, inl, inr, length-append, true≢false, append_assoc, ◌&&◌, eqb-true, ltb-true}
 use Rattle.std.specs.Prelude.{◌==◌, nat_le, if◌then◌else◌, option_and_then}
 use Rattle.std.specs.Char.{is_ascii_digit}
 use Rattle.std.specs.Io.BufRead.{strip_last, ends_with_byte}
 use Rattle.std.proofs.lemmas.Bool.{cases_Bool, and_parts, leb-true, le-leb}
-use Rattle.std.proofs.Common.{eqb-true, ltb-true}
 use Rattle.std.proofs.lemmas.Option.{none-some, same_Some, option_and_then_some}
-use Rattle.std.proofs.lemmas.List.{append-nil}
+use Rattle.std.proofs.lemmas.List.{append-nil, get_or-append-add}
 use Rattle.std.proofs.Math.Seq.{get_or-append_seam}
-use Rattle.std.proofs.lemmas.List.{get_or-append-add}
 use Rattle.std.proofs.lemmas.Bool.Decides.{nat_tests}
 use Rattle.ee_units.specs.Spelling.{number_of, parts_at, hundredths_of, decimal_from, decimal_of, rate_of, in_range}
 use Rattle.ee_units.specs.Grammar.{WritesNumber, Fraction, no_fraction, tenths, hundredths, Sign, no_sign, percent, IsRateText}

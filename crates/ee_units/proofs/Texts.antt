@@ -1,18 +1,14 @@
-use Rattle.std.proofs.Common.{◌≡◌, ◌≢◌, ◌∙◌, ℕ, ◌<◌, ◌≤◌, ◌-◌, ◌&&◌, ◌++◌, true, false, List, [], ◌∷◌, length, take, drop, get_or, Option, Some, None, Bor, arith, refl, sym, ap, length-append, drop-cons, suc}
-use Rattle.std.specs.Prelude.{MatchOption, unwrap_or, ◌==◌}
+use Rattle.std.proofs.Common.{◌≡◌, ◌≢◌, ◌∙◌, ℕ, ◌<◌, ◌≤◌, ◌-◌, ◌&&◌, ◌++◌, true, false, List, [], ◌∷◌, length, take, drop, get_or, Option, Some, None, Bor, arith, refl, sym, ap, length-append, drop-cons, suc, ltb-true, eqb-true, inl, inr}
+use Rattle.std.specs.Prelude.{MatchOption, unwrap_or, ◌==◌, nat_le, IsUtf8, option_map}
 use Rattle.std.specs.Io.BufRead.{strip_last, ends_with_byte}
 use Rattle.std.proofs.lemmas.List.{take-append-drop}
 use Rattle.std.proofs.Math.Seq.{take-append_seam, get_or-append_seam, drop-length}
-use Rattle.std.proofs.lemmas.Bool.{and_parts, leb-true}
-use Rattle.std.specs.Prelude.{nat_le, IsUtf8}
+use Rattle.std.proofs.lemmas.Bool.{and_parts, leb-true, cases_Bool}
 use Rattle.std.specs.Str.{IsCharBoundary}
 use Rattle.std.proofs.lemmas.Str.{IsCharBoundary-after_ascii}
 use Rattle.std.proofs.lemmas.Str.Pattern.{ends_text}
 use Rattle.std.specs.Str.Pattern.{FindsTextSuffix, HasSuffixMatch, StripsSuffix}
-use Rattle.std.specs.Prelude.{option_map}
 use Rattle.ee_units.specs.Spelling.{strip_first, serial_of, serial_from, before_end}
-use Rattle.std.proofs.Common.{ltb-true, eqb-true, inl, inr}
-use Rattle.std.proofs.lemmas.Bool.{cases_Bool}
 use Rattle.std.proofs.lemmas.Bool.Decides.{nat_tests}
 
 -- a text with c at its end, without it

@@ -1,10 +1,9 @@
 -- How values are spelled (this project's rule): each function reads a text, and answers the value that it spells, or None.
-use Rattle.std.specs.Prelude.{ℕ, ◌+◌, ◌*◌, ◌-◌, ◌==◌, ◌&&◌, Bool, List, [], ◌∷◌, length, nat_le, nat_lt, if◌then◌else◌, Option, Some, None, option_and_then, take, nat_eq, codes}
+use Rattle.std.specs.Prelude.{ℕ, ◌+◌, ◌*◌, ◌-◌, ◌==◌, ◌&&◌, Bool, List, [], ◌∷◌, length, nat_le, nat_lt, if◌then◌else◌, Option, Some, None, option_and_then, take, nat_eq, codes, pos}
 use Rattle.std.specs.Char.{is_ascii_digit}
 use Rattle.std.specs.Str.Parse.{digits_value}
 use Rattle.std.specs.List.{before_first, after_first, list_all, position_or_len, ends_with}
 use Rattle.std.specs.Io.BufRead.{strip_last}
-use Rattle.std.specs.Prelude.{pos}
 use Rattle.jiff_core.specs.Calendar.{days_from_civil}
 use Rattle.ee_units.specs.Calendar.{is_date, day_in_range}
 

@@ -1,7 +1,7 @@
 //! The calendar: ages, rate periods, and the months of days.
 
 ghost use Rattle.std.specs.Prelude.{◌≡◌};
-ghost use Rattle.ee_units.specs.Calendar.{IsPeriod, age_of, month_of_day, period_start};
+ghost use Rattle.ee_units.specs.Calendar.{IsPeriod, age_of, is_announcement, month_of_day, period_start};
 
 use crate::ages::Age;
 use crate::days::{Day, parts_of};
@@ -23,6 +23,14 @@ pub fn period_of(issued: IssueMonth) -> IssueMonth
 {
     let count = issued.count();
     IssueMonth::from_count(count - count % 6)
+}
+
+/// Whether Treasury announces rates in a month: each May and November (31 CFR Part 351).
+pub fn is_announcement(month: IssueMonth) -> bool
+    ensures { result ≡ is_announcement month }
+{
+    let month = (month.count() + 4) % 12 + 1;
+    month == 5 || month == 11
 }
 
 /// The month of a day.

@@ -2,7 +2,7 @@
 
 ghost use Rattle.std.specs.Prelude.{◌≡◌, ℕ, ◌≤◌, ◌*◌, List, Some};
 ghost use Rattle.std.specs.Fmt.{decimal};
-ghost use Rattle.ee_units.specs.Calendar.{IsPeriod, period_start, is_announcement};
+ghost use Rattle.ee_units.specs.Calendar.{IsPeriod, period_start};
 ghost use Rattle.ee_units.specs.Denoms.{dollars, units_of, price_of, denom_of};
 ghost use Rattle.ee_units.specs.Grammar.{IsRateText, IsMonthText, IsDayText, IsSerialText};
 ghost use Rattle.ee_units.specs.Spelling.{rate_of, month_of, issue_of, day_of, customer_of, serial_of, SerialNumber};

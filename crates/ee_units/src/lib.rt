@@ -11,7 +11,7 @@ mod faults;
 mod laws;
 mod money;
 mod months;
-mod pieces;
+pub mod pieces;
 mod precision;
 mod rates;
 mod serials;

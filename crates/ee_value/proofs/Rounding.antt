@@ -6,6 +6,7 @@ use Rattle.std.specs.Prelude.{if◌then◌else◌}
 use Rattle.std.proofs.Math.Pow.{pow_mono}
 use Rattle.std.proofs.lemmas.Bool.{cases_lt, le-leb, lt-leb, leb-true}
 use Rattle.ee_value.specs.Rounding.{Rounds, greatest, grown}
+use Rattle.ee_roots.proofs.Lemmas.{sixth_lt}
 
 -- ---- the greatest number that passes a test
 
@@ -23,9 +24,6 @@ greatest-is test (suc n) p h passes fails =
     ]
 
 -- ---- Rounds has at most one answer, and `grown` is it
-
-sixth_lt : (m n : ℕ) → m < n → m ^ 6 < n ^ 6
-sixth_lt m n h = let some : 6 ≢ 0 = omega arith in pow-lt-pow_left h some
 
 sixth_le : (m n : ℕ) → m ≤ n → m ^ 6 ≤ n ^ 6
 sixth_le m n h = pow-le-pow_left h 6

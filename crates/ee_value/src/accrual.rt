@@ -1,3 +1,5 @@
+//! The value of one unit at an age.
+
 ghost use Rattle.std.specs.Prelude.{◌≡◌, ◌/◌, ◌%◌, true, false, min, MatchResult, IfOk, IfErr};
 ghost use Rattle.ee_value.specs.Rounding.{Rounds};
 ghost use Rattle.ee_value.specs.Chain.{rate_in, start};

@@ -1,3 +1,5 @@
+//! What a bond pays at an age.
+
 ghost use Rattle.ee_units.specs.Denoms.{units_of};
 ghost use Rattle.ee_value.specs.Payment.{IsQuoteOf};
 

@@ -1,3 +1,5 @@
+//! Why there is no value.
+
 use ee_units::Age;
 use std::alloc::{AllocError, AllocFailed};
 use thiserror::Error;

@@ -1,6 +1,6 @@
 //! Laws of the definitions: a body does nothing, and the clauses are the laws.
 
-ghost use Rattle.std.specs.Prelude.{◌≡◌, ◌≢◌, ◌↔◌, ℕ, ◌+◌, ◌-◌, ◌*◌, ◌/◌, ◌%◌, ◌^◌, ◌<◌, ◌≤◌, max, min, true, false, map, [], ◌∷◌, Some, None};
+ghost use Rattle.std.specs.Prelude.{◌≡◌, ◌≢◌, ◌↔◌, ℕ, ◌+◌, ◌-◌, ◌*◌, ◌/◌, ◌%◌, ◌^◌, ◌<◌, ◌≤◌, max, true, false, map, [], ◌∷◌, Some, None};
 ghost use Rattle.std.specs.List.{range_with_len};
 ghost use Rattle.ee_roots.specs.Roots.{IsLow, IsHigh};
 ghost use Rattle.ee_value.specs.declared.rates.Rates.{Rates};

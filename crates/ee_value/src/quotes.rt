@@ -1,3 +1,5 @@
+//! What a bond pays to its payee.
+
 use ee_units::Cents;
 
 /// What a bond pays to its payee.

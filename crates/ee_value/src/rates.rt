@@ -1,3 +1,5 @@
+//! The rates that bonds earn by.
+
 use ee_units::{IssueMonth, Rate};
 
 /// The terms that a bond earns by: a fixed yearly rate, for each half-year of its life.

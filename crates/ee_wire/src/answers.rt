@@ -1,9 +1,12 @@
+//! Answers, their status and the kind of their body.
+
 ghost use Rattle.std.specs.Prelude.{◌≡◌};
-ghost use Rattle.ee_wire.specs.Answers.{status_of, kind_of, ends_connection};
+ghost use Rattle.ee_wire.specs.Answers.{status_of, status_of_fault, kind_of, ends_connection};
 
 use ee_calculator::{Row, Sheet};
 use ee_desk_acts::{Batch, Reply, Ticket, Unserved};
 use ee_wire_calls::WireFault;
+use ee_wire_framing::FramingFault;
 use thiserror::Error;
 
 /// What a message is answered by.
@@ -54,10 +57,6 @@ pub enum Kind {
     Json,
     Text,
 }
-
-ghost use Rattle.ee_wire.specs.Answers.{status_of_fault};
-
-use ee_wire_framing::FramingFault;
 
 fn status_of_fault(fault: WireFault) -> Status
     ensures { result ≡ status_of_fault fault }

@@ -1,3 +1,5 @@
+//! Writing the bytes of an answer.
+
 ghost use Rattle.std.specs.Prelude.{◌≡◌, ◌≢◌, IfOk, Err, is_some, true};
 ghost use Rattle.ee_wire.specs.Answers.{status_of, kind_of, body_of, whole_text, answer_text, unserved_in, WritesAnswer};
 ghost use Rattle.ee_wire.specs.declared.answers.Answer.TheVariants as answer;

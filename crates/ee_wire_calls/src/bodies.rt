@@ -1,7 +1,20 @@
 //! Bodies of POST.
-ghost use Rattle.std.specs.Prelude.{◌≡◌, codes};
+ghost use Rattle.std.specs.Prelude.{◌≡◌};
 ghost use Rattle.serde_json.specs.View.{view, items_view};
-ghost use Rattle.ee_wire_calls.specs.Bodies.{rate_row, rate_rows, bond_of, bonds_of, serials_of, add_rates, add_bonds, open_day, close_day, redeem, request_of, Gives};
+ghost use Rattle.ee_wire_calls.specs.Bodies.{
+  rate_row,
+  rate_rows,
+  bond_of,
+  bonds_of,
+  serials_of,
+  add_rates,
+  add_bonds,
+  open_day,
+  close_day,
+  redeem,
+  request_of,
+  Gives,
+};
 
 use crate::faults::{BodyFault, Field};
 use crate::fields::{

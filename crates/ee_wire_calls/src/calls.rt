@@ -1,3 +1,5 @@
+//! What a message may ask for.
+
 use ee_desk_acts::Request;
 use ee_units::{Customer, Day, Denom, IssueMonth, Month};
 

@@ -1,3 +1,5 @@
+//! Why a message asks for nothing.
+
 ghost use Rattle.std.specs.Prelude.{◌≡◌};
 ghost use Rattle.ee_wire_calls.specs.Faults.{code_of, name_of, field_name};
 

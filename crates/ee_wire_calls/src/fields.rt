@@ -4,7 +4,7 @@ ghost use Rattle.std.specs.BTreeMap as tree;
 ghost use Rattle.std.specs.List.{list_all, list_any};
 ghost use Rattle.serde_json.specs.View.{view, items_view};
 ghost use Rattle.ee_wire_calls.specs.Kinds.{number_in, day_in, issue_in, rate_in, serial_in, denom_in, customer_in};
-ghost use Rattle.ee_wire_calls.specs.Fields.{field, optional, no_other, an_object};
+ghost use Rattle.ee_wire_calls.specs.Fields.{field, optional, or_null, no_other, an_object};
 ghost use Rattle.ee_wire_calls.specs.Views.{map_ok, view_at, text_at};
 ghost use Rattle.serde_json.specs.Find.{as_array};
 
@@ -25,54 +25,63 @@ pub fn an_object(value: &Value, fault: Field) -> Result<&Value, Field>
     }
 }
 
+/// The request number in the field `number`; the fault where it is missing, of the wrong kind or out of range.
 pub fn number_field(body: &Value) -> Result<Number, Field>
     ensures { result ≡ field (codes "number") number_in Field.Number (view body.now) }
 {
     body.get("number").and_then(number_in).ok_or(Field::Number)
 }
 
+/// The day in the field `day`; the fault where it is missing, of the wrong kind or out of range.
 pub fn day_field(body: &Value) -> Result<Day, Field>
     ensures { result ≡ field (codes "day") day_in Field.Day (view body.now) }
 {
     body.get("day").and_then(day_in).ok_or(Field::Day)
 }
 
+/// The month of issue from which rates hold in the field `from`; the fault where it is missing, of the wrong kind or out of range.
 pub fn from_field(row: &Value) -> Result<IssueMonth, Field>
     ensures { result ≡ field (codes "from") issue_in Field.From (view row.now) }
 {
     row.get("from").and_then(issue_in).ok_or(Field::From)
 }
 
+/// The rate in the field `rate`; the fault where it is missing, of the wrong kind or out of range.
 pub fn rate_field(row: &Value) -> Result<Rate, Field>
     ensures { result ≡ field (codes "rate") rate_in Field.Rate (view row.now) }
 {
     row.get("rate").and_then(rate_in).ok_or(Field::Rate)
 }
 
+/// The serial number in the field `serial`; the fault where it is missing, of the wrong kind or out of range.
 pub fn serial_field(row: &Value) -> Result<Serial, Field>
     ensures { result ≡ field (codes "serial") serial_in Field.Serial (view row.now) }
 {
     row.get("serial").and_then(serial_in).ok_or(Field::Serial)
 }
 
+/// The denomination in the field `denom`; the fault where it is missing, of the wrong kind or out of range.
 pub fn denom_field(row: &Value) -> Result<Denom, Field>
     ensures { result ≡ field (codes "denom") denom_in Field.Denom (view row.now) }
 {
     row.get("denom").and_then(denom_in).ok_or(Field::Denom)
 }
 
+/// The month of issue in the field `issued`; the fault where it is missing, of the wrong kind or out of range.
 pub fn issued_field(row: &Value) -> Result<IssueMonth, Field>
     ensures { result ≡ field (codes "issued") issue_in Field.Issued (view row.now) }
 {
     row.get("issued").and_then(issue_in).ok_or(Field::Issued)
 }
 
+/// The owner in the field `owner`; the fault where it is missing, of the wrong kind or out of range.
 pub fn owner_field(row: &Value) -> Result<Customer, Field>
     ensures { result ≡ field (codes "owner") customer_in Field.Owner (view row.now) }
 {
     row.get("owner").and_then(customer_in).ok_or(Field::Owner)
 }
 
+/// The payee in the field `payee`; the fault where it is missing, of the wrong kind or out of range.
 pub fn payee_field(row: &Value) -> Result<Customer, Field>
     ensures { result ≡ field (codes "payee") customer_in Field.Payee (view row.now) }
 {
@@ -88,8 +97,6 @@ pub fn coowner_field(row: &Value) -> Result<Option<Customer>, Field>
         Some(value) => optional_customer(value),
     }
 }
-
-ghost use Rattle.ee_wire_calls.specs.Fields.{or_null};
 
 fn optional_customer(value: &Value) -> Result<Option<Customer>, Field>
     ensures { result ≡ or_null customer_in Field.Coowner (view value.now) }

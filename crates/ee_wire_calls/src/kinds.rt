@@ -16,36 +16,42 @@ pub fn number_in(value: &Value) -> Option<Number>
     Number::new(value.as_u64()?)
 }
 
+/// A customer: a whole number from 1 to 999,999,999.
 pub fn customer_in(value: &Value) -> Option<Customer>
     ensures { result ≡ customer_in (view value.now) }
 {
     Customer::new(value.as_u64()?)
 }
 
+/// A denomination: its dollars, as a whole number.
 pub fn denom_in(value: &Value) -> Option<Denom>
     ensures { result ≡ denom_in (view value.now) }
 {
     Denom::with_dollars(value.as_u64()?)
 }
 
+/// A day: its text.
 pub fn day_in(value: &Value) -> Option<Day>
     ensures { result ≡ day_in (view value.now) }
 {
     read_day(value.as_str()?).ok()
 }
 
+/// A month of issue: its text.
 pub fn issue_in(value: &Value) -> Option<IssueMonth>
     ensures { result ≡ issue_in (view value.now) }
 {
     read_issue(value.as_str()?).ok()
 }
 
+/// A yearly rate: its text, in per cent.
 pub fn rate_in(value: &Value) -> Option<Rate>
     ensures { result ≡ rate_in (view value.now) }
 {
     read_rate(value.as_str()?).ok()
 }
 
+/// A serial number: its text.
 pub fn serial_in(value: &Value) -> Option<Serial>
     ensures { result ≡ serial_in (view value.now) }
 {

@@ -1,6 +1,6 @@
 //! What a message asks for.
-ghost use Rattle.std.specs.Prelude.{◌≡◌, ◌≢◌};
-ghost use Rattle.ee_wire_calls.specs.Calls.{decoded, posted, json_of, IsUnlessMemory};
+ghost use Rattle.std.specs.Prelude.{◌≡◌};
+ghost use Rattle.ee_wire_calls.specs.Calls.{decoded, posted, asked, routed, called, json_of, IsUnlessMemory};
 
 use crate::bodies::request_of;
 use crate::calls::Call;
@@ -20,8 +20,6 @@ fn posted(alloc: Global, post: Post, body: &[u8]) -> Result<Call, WireFault>
     }
 }
 
-ghost use Rattle.ee_wire_calls.specs.Calls.{asked};
-
 fn asked(get: Get, path: &str) -> Result<Call, WireFault>
     ensures { result ≡ asked get path.now }
 {
@@ -39,8 +37,6 @@ fn routed(alloc: Global, path: &str) -> Result<Route, WireFault>
     };
     route_of(&router, path).ok_or(WireFault::NoRoute)
 }
-
-ghost use Rattle.ee_wire_calls.specs.Calls.{routed, called};
 
 fn called(
     alloc: Global,

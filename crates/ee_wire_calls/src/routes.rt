@@ -5,6 +5,7 @@ ghost use Rattle.ee_wire_calls.specs.Routes.{routes, route_of};
 use matchit::{InsertError, Router};
 use std::alloc::Global;
 
+/// A route of requests, which are posted.
 #[derive(Clone, Copy, Debug, PartialEq, Eq)]
 pub enum Post {
     Rates,
@@ -14,6 +15,7 @@ pub enum Post {
     Redeem,
 }
 
+/// A route of queries.
 #[derive(Clone, Copy, Debug, PartialEq, Eq)]
 pub enum Get {
     Inventory,
@@ -22,6 +24,7 @@ pub enum Get {
     Value,
 }
 
+/// A route of the counter.
 #[derive(Clone, Copy, Debug, PartialEq, Eq)]
 pub enum Route {
     Post(Post),

@@ -1,16 +1,14 @@
 -- The fields of a head, one more at a time.
-use Rattle.std.proofs.Common.{◌≡◌, ℕ, ◌+◌, ◌*◌, ◌<◌, ◌≤◌, ◌⊎◌, Bool, true, false, cond, ◌&&◌, List, [], ◌∷◌, ◌++◌, map, take, get_or, length, refl, sym, ap, subst, ◌∙◌, arith, append-nil, length-append, bytes_eq}
+use Rattle.std.proofs.Common.{◌≡◌, ℕ, ◌+◌, ◌*◌, ◌<◌, ◌≤◌, ◌⊎◌, Bool, true, false, cond, ◌&&◌, List, [], ◌∷◌, ◌++◌, map, take, get_or, length, refl, sym, ap, subst, ◌∙◌, arith, append-nil, length-append, bytes_eq, leb}
 use Rattle.std.specs.Bool.{Decides}
 use Rattle.std.specs.Char.{to_ascii_lowercase, is_ascii_digit, digit_value}
 use Rattle.std.specs.List.{list_all}
 use Rattle.std.specs.Str.Parse.{digits_value}
-use Rattle.std.proofs.lemmas.Bool.Decides.{same_from_decides}
+use Rattle.std.proofs.lemmas.Bool.Decides.{same_from_decides, nat_tests}
 use Rattle.std.proofs.lemmas.Slice.Eq.{bytes_eq-Decides}
 use Rattle.std.proofs.lemmas.Int.Digits.{digits_value_push}
-use Rattle.std.proofs.lemmas.Bool.Decides.{nat_tests}
-use Rattle.std.proofs.Common.{leb}
 use Rattle.httparse.specs.declared.spans.Span.{Span}
-use Rattle.httparse.specs.Spans.{IsWithin, span_bytes}
+use Rattle.httparse.specs.Spans.{IsWithin, span_bytes, IsHeaderWithin, header_bytes}
 use Rattle.ee_wire_framing.specs.declared.fields.Values.{Values}
 use Rattle.ee_wire_framing.specs.declared.fields.Values.TheVariants as values
 use Rattle.std.specs.Prelude.{All, codes}
@@ -18,7 +16,6 @@ use Rattle.std.proofs.lemmas.List.{map_more, get_or-map, length-map, take_more}
 use Rattle.std.proofs.lemmas.List.Elements.{All-get_or}
 use Rattle.std.proofs.lemmas.List.Folds.{list_any_at, list_all-append}
 use Rattle.httparse.specs.declared.spans.HeaderSpan.{HeaderSpan}
-use Rattle.httparse.specs.Spans.{IsHeaderWithin, header_bytes}
 use Rattle.ee_wire_framing.specs.Framing.{Pair, same_word, values_of, has_close}
 use Rattle.ee_wire_framing.specs.Heads.{AreValues, next}
 

@@ -1,6 +1,5 @@
 //! Messages out of a reader, however it cuts the bytes.
-ghost use Rattle.std.specs.Prelude.{◌≡◌, ◌≤◌, ◌<◌, ◌++◌, ◌+◌, ℕ, List, [], length, take, drop, slice_range, IfOk, IfErr, IfSome, OnErr, Some, None};
-ghost use Rattle.std.specs.Io.KnownBytes.{Consumes, Keeps, IsAtEnd};
+ghost use Rattle.std.specs.Prelude.{◌≡◌, ◌≤◌, ◌<◌, ◌+◌, [], length, take, drop, slice_range, IfSome, Some, None};
 ghost use Rattle.ee_wire_framing.specs.Framing.{most_head, most_body, most_held};
 ghost use Rattle.ee_wire_framing.specs.Reading.{Answers, Takes, Settles, IsFront, ReadsMore, NeedsMore, EndsAt, stop_of, answer_of};
 

@@ -1,5 +1,5 @@
 //! What the fields of a head say of the body and the connection.
-ghost use Rattle.std.specs.Prelude.{◌≡◌, ◌+◌, length, map, take, All, if◌then◌else◌, true, nat_le, ◌≤◌, ◌*◌};
+ghost use Rattle.std.specs.Prelude.{◌≡◌, ◌+◌, length, map, All, if◌then◌else◌, true, nat_le, ◌≤◌, ◌*◌};
 ghost use Rattle.std.specs.Char.{is_ascii_digit, digit_value};
 ghost use Rattle.httparse.specs.Spans.{IsHeaderWithin, header_bytes};
 ghost use Rattle.ee_wire_framing.specs.Framing.{most_body, same_word, values_of, checked_length, body_length, has_close};

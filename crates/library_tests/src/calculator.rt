@@ -1,32 +1,34 @@
+//! Tests of the calculator.
+
 ghost use Rattle.std.specs.Prelude.{◌≡◌, IfSome};
 
-use crate::comparing::same;
-use ee_calculator::{Bond, Row, Sheet, WriteFailed, plain_row, row, sheet, write_sheet};
+use crate::comparing::{Cases, add_times, compare, same};
+use ee_calculator::{Bond, Row, Sheet, plain_row, row, sheet, write_sheet};
 use ee_files::read_inventory;
 use ee_units::{Bits, Total};
 use ee_value::{Rates, UnitTable, unit_table};
+use std::alloc::Global;
 use std::io::{self, ErrorKind, Write};
 use std::test::Fail;
 
-fn table_of(rt: &HostRuntime, rates: Rates) -> Option<UnitTable>
+fn table_of(alloc: Global, rates: Rates) -> Option<UnitTable>
     ensures { IfSome result (λ table. table ≡ rates) }
 {
-    unit_table(rt.alloc(), rates, Bits::from_places(62)).ok()
+    unit_table(alloc, rates, Bits::from_places(62)).ok()
+}
+
+fn rates_of(rate: &str) -> Option<Rates> {
+    Some(Rates {
+        fixed: rate.parse().ok()?,
+    })
 }
 
 /// The row of no bond of the register: a denomination, an issue month, a rate and a month.
-fn plain(rt: &HostRuntime, denom: &str, issued: &str, rate: &str, month: &str) -> Option<Row> {
-    let rates = Rates {
-        fixed: rate.parse().ok()?,
-    };
-    let table = table_of(rt, rates)?;
-    Some(plain_row(
-        denom.parse().ok()?,
-        issued.parse().ok()?,
-        rates,
-        &table,
-        month.parse().ok()?,
-    ))
+fn plain(alloc: Global, denom: &str, issued: &str, rate: &str, month: &str) -> Option<Row> {
+    let rates = rates_of(rate)?;
+    let table = table_of(alloc, rates)?;
+    let (denom, issued) = (denom.parse().ok()?, issued.parse().ok()?);
+    Some(plain_row(denom, issued, rates, &table, month.parse().ok()?))
 }
 
 /// Denominations, issue months, rates and months, and the value and note: some values, the last month before
@@ -58,22 +60,25 @@ const ROWS: &str = "\
 ";
 
 /// The row that a line `DENOM ISSUED RATE MONTH` asks for.
-fn row_of(rt: &HostRuntime, line: &str) -> Option<Row> {
+fn row_of(alloc: Global, line: &str) -> Option<Row> {
     let (denom, line) = line.split_once(' ')?;
     let (issued, line) = line.split_once(' ')?;
     let (rate, month) = line.split_once(' ')?;
-    plain(rt, denom, issued, rate, month)
+    plain(alloc, denom, issued, rate, month)
+}
+
+struct RowCases;
+
+impl Cases for RowCases {
+    fn told(alloc: Global, case: &str) -> Result<String, Fail> {
+        let row = row_of(alloc, case).ok_or("no row")?;
+        Ok(format!(in alloc; "{} [{}]", row.value, row.note)?)
+    }
 }
 
 #[test]
 fn rows_show_value_and_note(rt: HostRuntime) -> Result<(), Fail> {
-    for line in ROWS.lines() {
-        let (asked, want) = line.split_once(" => ").ok_or("row")?;
-        let row = row_of(&rt, asked).ok_or("no row")?;
-        let text = format!(in rt.alloc(); "{} [{}]", row.value, row.note)?;
-        same(&rt, text.as_str(), want, asked);
-    }
-    Ok(())
+    compare::<RowCases>(&rt, rt.alloc(), ROWS)
 }
 
 /// Takes a byte at a time, and none once it has `room` bytes.
@@ -101,19 +106,17 @@ impl Write for Device {
 const INVENTORY: &str =
     "serial,denom,issued,owner,coowner\nK2EE,75,2010-10,7,8\nL1EE,50,2010-11,7,\nM3EE,10000,2011-02,7,\n";
 
-fn dated(rt: &HostRuntime, bond: &Bond, rate: &str) -> Option<Row> {
-    let rates = Rates {
-        fixed: rate.parse().ok()?,
-    };
-    let table = table_of(rt, rates)?;
+fn dated(alloc: Global, bond: &Bond, rate: &str) -> Option<Row> {
+    let rates = rates_of(rate)?;
+    let table = table_of(alloc, rates)?;
     Some(row(bond, rates, &table, "2012-02".parse().ok()?))
 }
 
-fn three_bonds(rt: &HostRuntime) -> Result<Sheet, Fail> {
-    let bonds = read_inventory(rt.alloc(), &mut INVENTORY.as_bytes())?;
-    let mut rows = Vec::new(rt.alloc());
+fn three_bonds(alloc: Global) -> Result<Sheet, Fail> {
+    let bonds = read_inventory(alloc, &mut INVENTORY.as_bytes())?;
+    let mut rows = Vec::new(alloc);
     for (bond, rate) in bonds.iter().zip(["2.00", "3.50", "3.50"]) {
-        rows.push(dated(rt, bond, rate).ok_or("no row")?)?;
+        rows.push(dated(alloc, bond, rate).ok_or("no row")?)?;
     }
     Ok(sheet(rows))
 }
@@ -126,23 +129,26 @@ M3EE          EE      10000 02/2011 03/2012 02/2041      5000.00         132.00 
 Total                                                    5062.50         133.72               5196.22
 ";
 
+/// How writing a sheet to a device of so many bytes ends, and what the device has.
+fn told_in(alloc: Global, sheet: &Sheet, room: usize) -> Result<String, Fail> {
+    let bytes = Vec::new(alloc);
+    let mut device = Device { bytes, room };
+    let end = write_sheet(sheet, &mut device);
+    Ok(format!(in alloc; "{end:?} {}", str::from_utf8(&device.bytes)?)?)
+}
+
 #[test]
 fn writes_the_sheet_or_a_front_of_it(rt: HostRuntime) -> Result<(), Fail> {
-    let sheet = three_bonds(&rt)?;
-    let mut text = Vec::new(rt.alloc());
-    assert!(rt; write_sheet(&sheet, &mut text) == Ok(()));
-    assert!(rt; &text[..] == THREE_BONDS.as_bytes());
-    for room in 0..=text.len() {
-        let bytes = Vec::new(rt.alloc());
-        let mut device = Device { bytes, room };
-        let want = if room < text.len() {
-            Err(WriteFailed)
-        } else {
-            Ok(())
-        };
-        assert!(rt; write_sheet(&sheet, &mut device) == want, "{room} bytes");
-        assert!(rt; &device.bytes[..] == &text[..room], "{room} bytes");
+    let sheet = three_bonds(rt.alloc())?;
+    for room in 0..THREE_BONDS.len() {
+        let front = THREE_BONDS.get(..room).ok_or("front")?;
+        let wanted = format!(in rt.alloc(); "Err(WriteFailed) {front}")?;
+        let told = told_in(rt.alloc(), &sheet, room)?;
+        same(&rt, told.as_str(), wanted.as_str(), "a front");
     }
+    let told = told_in(rt.alloc(), &sheet, THREE_BONDS.len())?;
+    let wanted = format!(in rt.alloc(); "Ok(()) {THREE_BONDS}")?;
+    same(&rt, told.as_str(), wanted.as_str(), "all");
     Ok(())
 }
 
@@ -159,38 +165,35 @@ Serial        Series  Denom Issued  Next    Final          Price       Interest 
 Total                                                    5000.00     1517468.00            1522468.00
 ";
 
-fn rows_of(rt: &HostRuntime, lines: &[&str]) -> Result<Vec<Row>, Fail> {
-    let mut rows = Vec::new(rt.alloc());
-    for line in lines {
-        rows.push(row_of(rt, line).ok_or("no row")?)?;
+/// The sheet of lines, each ended by a line feed.
+fn sheet_of(alloc: Global, lines: &str) -> Result<Sheet, Fail> {
+    let mut rows = Vec::new(alloc);
+    for line in lines.lines() {
+        rows.push(row_of(alloc, line).ok_or("no row")?)?;
     }
-    Ok(rows)
-}
-
-fn text_of(rt: &HostRuntime, lines: &[&str]) -> Result<Vec<u8>, Fail> {
-    let sheet = sheet(rows_of(rt, lines)?);
-    let mut text = Vec::new(rt.alloc());
-    write_sheet(&sheet, &mut text)?;
-    Ok(text)
+    Ok(sheet(rows))
 }
 
 #[test]
 fn writes_empty_columns(rt: HostRuntime) -> Result<(), Fail> {
-    let text = text_of(&rt, &[])?;
-    assert!(rt; &text[..] == EMPTY.as_bytes());
-    let lines = ["50 2010-05 3.50 2010-04", "10000 2005-05 20.00 2035-05"];
-    let text = text_of(&rt, &lines)?;
-    assert!(rt; &text[..] == BEFORE_AND_AFTER.as_bytes());
+    let told = told_in(rt.alloc(), &sheet_of(rt.alloc(), "")?, 1_000)?;
+    let wanted = format!(in rt.alloc(); "Ok(()) {EMPTY}")?;
+    same(&rt, told.as_str(), wanted.as_str(), "no rows");
+    let lines = "50 2010-05 3.50 2010-04\n10000 2005-05 20.00 2035-05\n";
+    let told = told_in(rt.alloc(), &sheet_of(rt.alloc(), lines)?, 1_000)?;
+    let wanted = format!(in rt.alloc(); "Ok(()) {BEFORE_AND_AFTER}")?;
+    same(&rt, told.as_str(), wanted.as_str(), "empty columns");
     Ok(())
 }
 
 #[test]
 fn sums_the_largest_values(rt: HostRuntime) -> Result<(), Fail> {
-    let lines = ["10000 2005-05 20.00 2035-05"; 500];
-    let sheet = sheet(rows_of(&rt, &lines)?);
-    assert!(rt; sheet.rows.len() == 500);
-    assert!(rt; sheet.price == Total(250_000_000));
-    assert!(rt; sheet.value == Total(76_123_400_000));
-    assert!(rt; sheet.interest == Total(75_873_400_000));
+    let mut lines = String::new(rt.alloc());
+    add_times(&mut lines, "10000 2005-05 20.00 2035-05\n", 500)?;
+    let sheet = sheet_of(rt.alloc(), lines.as_str())?;
+    assert_eq!(rt; sheet.rows.len(), 500);
+    assert_eq!(rt; sheet.price, Total(250_000_000));
+    assert_eq!(rt; sheet.value, Total(76_123_400_000));
+    assert_eq!(rt; sheet.interest, Total(75_873_400_000));
     Ok(())
 }

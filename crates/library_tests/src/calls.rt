@@ -1,7 +1,8 @@
-use crate::comparing::{same, shown};
+//! Tests of what messages ask for.
+
+use crate::comparing::{Cases, add_times, compare, is_refused, shown};
 use ee_wire_calls::{WireFault, decode};
 use std::alloc::Global;
-use std::process::Abort;
 use std::test::Fail;
 
 /// What a message asks for, as `Debug` shows it; of a fault its code and its field or name.
@@ -20,15 +21,15 @@ fn fault_told(alloc: Global, fault: WireFault) -> Result<String, Fail> {
     Ok(format!(in alloc; "{} {name}", fault.code())?)
 }
 
-/// Compares what the messages of a table ask for: rows `METHOD PATH BODY => ANSWER`.
-fn are_read(rt: &impl Abort, alloc: Global, table: &str) -> Result<(), Fail> {
-    for row in table.lines() {
-        let (message, want) = row.split_once(" => ").ok_or("row")?;
-        let (method, rest) = message.split_once(' ').ok_or("method")?;
+/// Messages `METHOD PATH BODY`.
+struct CallCases;
+
+impl Cases for CallCases {
+    fn told(alloc: Global, case: &str) -> Result<String, Fail> {
+        let (method, rest) = case.split_once(' ').ok_or("method")?;
         let (path, body) = rest.split_once(' ').ok_or("path")?;
-        same(rt, told(alloc, path, method, body)?.as_str(), want, row);
+        told(alloc, path, method, body)
     }
-    Ok(())
 }
 
 /// What bodies ask for, or their first fault: bodies that are read, the last of a repeated key, no JSON, no
@@ -88,7 +89,7 @@ POST /bonds {"number":1,"bonds":[{"serial":"L1EE","denom":50,"issued":"2010-11",
 
 #[test]
 fn bodies_are_read(rt: HostRuntime) -> Result<(), Fail> {
-    are_read(&rt, rt.alloc(), BODIES)
+    compare::<CallCases>(&rt, rt.alloc(), BODIES)
 }
 
 /// What paths ask for, or the leftmost part at fault. The route is tested before the method, and the method
@@ -125,36 +126,34 @@ HEAD /ticket/1 { => 67 BadMethod
 
 #[test]
 fn paths_are_read(rt: HostRuntime) -> Result<(), Fail> {
-    are_read(&rt, rt.alloc(), PATHS)?;
+    compare::<CallCases>(&rt, rt.alloc(), PATHS)?;
     let no_text = decode(rt.alloc(), b"/\xff", b"GET", b"");
     assert!(rt; matches!(&no_text, Err(WireFault::NoRoute)));
     Ok(())
 }
 
+/// How many brackets a body opens and closes, and what is told of it.
+const DEPTHS: &str = "\
+127 127 => 65 body
+127 0 => 64 BadJson
+128 0 => 64 BadJson
+";
+
+struct DepthCases;
+
+impl Cases for DepthCases {
+    fn told(alloc: Global, case: &str) -> Result<String, Fail> {
+        let (opened, closed) = case.split_once(' ').ok_or("closed")?;
+        let mut body = String::new(alloc);
+        add_times(&mut body, "[", opened.parse()?)?;
+        add_times(&mut body, "]", closed.parse()?)?;
+        told(alloc, "/day/open", "POST", body.as_str())
+    }
+}
+
 #[test]
 fn deep_bodies(rt: HostRuntime) -> Result<(), Fail> {
-    let mut body = Vec::new(rt.alloc());
-    for _ in 0..127 {
-        body.push(b'[')?;
-    }
-    let mut closed = Vec::from_slice(rt.alloc(), &body)?;
-    for _ in 0..127 {
-        closed.push(b']')?;
-    }
-    let cases = [
-        ("127 levels", &closed[..], "BadField"),
-        ("cut", &body[..], "BadJson"),
-    ];
-    for (name, bytes, want) in cases {
-        let Err(fault) = decode(rt.alloc(), b"/day/open", b"POST", bytes) else {
-            return Err("no fault".into());
-        };
-        same(&rt, fault.name(), want, name);
-    }
-    body.push(b'[')?;
-    let deeper = decode(rt.alloc(), b"/day/open", b"POST", &body);
-    assert!(rt; matches!(&deeper, Err(WireFault::BadJson)), "128 brackets");
-    Ok(())
+    compare::<DepthCases>(&rt, rt.alloc(), DEPTHS)
 }
 
 /// Bodies, and what they ask for.
@@ -174,10 +173,8 @@ fn refused_memory(rt: HostRuntime) -> Result<(), Fail> {
         let (message, want) = row.split_once(" => ").ok_or("row")?;
         let (path, body) = message.split_once(' ').ok_or("path")?;
         let told = told(rt.alloc(), path, "POST", body)?;
-        if told.as_str() == "1 NoMemory" {
+        if is_refused(&rt, told.as_str(), want, "1 NoMemory") {
             println!(rt; "refused: {body}")?;
-        } else {
-            same(&rt, told.as_str(), want, row);
         }
     }
     Ok(())

@@ -1,4 +1,6 @@
-use crate::comparing::same;
+//! Tests of reading and writing whole.
+
+use crate::comparing::{Cases, compare, same};
 use ee_device::{ReadFault, read_whole, write_whole};
 use std::alloc::Global;
 use std::io::{self, ErrorKind, Read, Write};
@@ -69,28 +71,31 @@ fn written(alloc: Global, step: usize, trouble: Option<(usize, Trouble)>) -> Res
 
 /// Steps, troubles, and what is then written. Only the one call is in trouble: a second try would write on.
 const WRITES: &str = "\
-100|=>true|abcdef|1
-1|=>true|abcdef|6
-4|=>true|abcdef|2
-100|1 fails=>false||1
-2|2 fails=>false|ab|2
-1|6 fails=>false|abcde|6
-2|1 interrupted=>false||1
-2|3 interrupted=>false|abcd|3
-1|4 takes none=>false|abc|4
-1|7 fails=>true|abcdef|6
-0|=>false||1
+100| => true|abcdef|1
+1| => true|abcdef|6
+4| => true|abcdef|2
+100|1 fails => false||1
+2|2 fails => false|ab|2
+1|6 fails => false|abcde|6
+2|1 interrupted => false||1
+2|3 interrupted => false|abcd|3
+1|4 takes none => false|abc|4
+1|7 fails => true|abcdef|6
+0| => false||1
 ";
+
+struct WriteCases;
+
+impl Cases for WriteCases {
+    fn told(alloc: Global, case: &str) -> Result<String, Fail> {
+        let (step, trouble) = case.split_once('|').ok_or("trouble")?;
+        written(alloc, step.parse()?, trouble_of(trouble))
+    }
+}
 
 #[test]
 fn writes_all_or_the_bytes_before_the_trouble(rt: HostRuntime) -> Result<(), Fail> {
-    for row in WRITES.lines() {
-        let (case, wanted) = row.split_once("=>").ok_or("row")?;
-        let (step, trouble) = case.split_once('|').ok_or("trouble")?;
-        let told = written(rt.alloc(), step.parse()?, trouble_of(trouble))?;
-        same(&rt, told.as_str(), wanted, case);
-    }
-    Ok(())
+    compare::<WriteCases>(&rt, rt.alloc(), WRITES)
 }
 
 #[test]
@@ -109,11 +114,22 @@ fn writes_nothing_of_an_empty_text(rt: HostRuntime) {
 
 /// Gives at most `step` bytes a read; one read is in trouble, and a second try would read on.
 #[derive(Drop)]
-struct Source<'a> {
+pub struct Source<'a> {
     bytes: &'a [u8],
     step: usize,
     calls: usize,
     trouble: Option<(usize, ErrorKind)>,
+}
+
+impl<'a> Source<'a> {
+    pub fn of(bytes: &'a [u8], step: usize, trouble: Option<(usize, ErrorKind)>) -> Source<'a> {
+        Source {
+            bytes,
+            step,
+            calls: 0,
+            trouble,
+        }
+    }
 }
 
 impl Read for Source<'_> {
@@ -152,44 +168,42 @@ fn read_of(alloc: Global, mut source: Source, most: usize) -> Result<String, Fai
 
 /// Texts, the most bytes, steps and troubles; and what is read, and what is left.
 const READS: &str = "\
-|0|9|=>all |
-|6|9|=>all |
-abcdef|6|9|=>all abcdef|
-abcdef|6|1|=>all abcdef|
-abcdef|18446744073709551615|4|=>all abcdef|
-abcdef|5|9|=>too many bytes|
-abcdef|5|1|=>too many bytes|
-abcdef|3|9|=>too many bytes|ef
-abcdef|0|9|=>too many bytes|bcdef
-abcdef|6|9|1 other=>the reader failed|abcdef
-abcdef|6|9|2 other=>the reader failed|
-abcdef|6|1|1 interrupted=>the reader failed|abcdef
-abcdef|6|2|2 interrupted=>the reader failed|cdef
-abcdef|6|1|3 other=>the reader failed|cdef
-abcdef|6|1|4 other=>the reader failed|def
-abcdef|6|1|5 other=>the reader failed|ef
-abcdef|6|1|6 other=>the reader failed|f
-abcdef|6|1|7 other=>the reader failed|
-abcdef|6|1|8 other=>all abcdef|
+|0|9| => all |
+|6|9| => all |
+abcdef|6|9| => all abcdef|
+abcdef|6|1| => all abcdef|
+abcdef|18446744073709551615|4| => all abcdef|
+abcdef|5|9| => too many bytes|
+abcdef|5|1| => too many bytes|
+abcdef|3|9| => too many bytes|ef
+abcdef|0|9| => too many bytes|bcdef
+abcdef|6|9|1 other => the reader failed|abcdef
+abcdef|6|9|2 other => the reader failed|
+abcdef|6|1|1 interrupted => the reader failed|abcdef
+abcdef|6|2|2 interrupted => the reader failed|cdef
+abcdef|6|1|3 other => the reader failed|cdef
+abcdef|6|1|4 other => the reader failed|def
+abcdef|6|1|5 other => the reader failed|ef
+abcdef|6|1|6 other => the reader failed|f
+abcdef|6|1|7 other => the reader failed|
+abcdef|6|1|8 other => all abcdef|
 ";
 
-#[test]
-fn reads_all_or_says_why_not(rt: HostRuntime) -> Result<(), Fail> {
-    for row in READS.lines() {
-        let (case, wanted) = row.split_once("=>").ok_or("row")?;
+struct ReadCases;
+
+impl Cases for ReadCases {
+    fn told(alloc: Global, case: &str) -> Result<String, Fail> {
         let (text, rest) = case.split_once('|').ok_or("text")?;
         let (most, rest) = rest.split_once('|').ok_or("most")?;
         let (step, trouble) = rest.split_once('|').ok_or("step")?;
-        let source = Source {
-            bytes: text.as_bytes(),
-            step: step.parse()?,
-            calls: 0,
-            trouble: failure_of(trouble),
-        };
-        let told = read_of(rt.alloc(), source, most.parse()?)?;
-        same(&rt, told.as_str(), wanted, case);
+        let source = Source::of(text.as_bytes(), step.parse()?, failure_of(trouble));
+        read_of(alloc, source, most.parse()?)
     }
-    Ok(())
+}
+
+#[test]
+fn reads_all_or_says_why_not(rt: HostRuntime) -> Result<(), Fail> {
+    compare::<ReadCases>(&rt, rt.alloc(), READS)
 }
 
 #[test]
@@ -205,14 +219,10 @@ fn reads_more_than_a_chunk(rt: HostRuntime) -> Result<(), Fail> {
     Ok(())
 }
 
+/// The text of the one fault that no row shows.
 #[test]
-fn texts_of_faults(rt: HostRuntime) -> Result<(), Fail> {
-    for (fault, text) in [
-        (ReadFault::TooLong, "too many bytes"),
-        (ReadFault::ReadFailed, "the reader failed"),
-        (ReadFault::NoMemory, "out of memory"),
-    ] {
-        same(&rt, fault.to_string(rt.alloc())?.as_str(), text, "fault");
-    }
+fn text_of_a_fault(rt: HostRuntime) -> Result<(), Fail> {
+    let text = ReadFault::NoMemory.to_string(rt.alloc())?;
+    same(&rt, text.as_str(), "out of memory", "fault");
     Ok(())
 }

@@ -1,6 +1,11 @@
-use crate::comparing::same;
-use ee_wire_framing::{Buffer, Next, WireEnd, next_message};
+//! Tests of messages in a stream of bytes.
+
+use crate::comparing::{Cases, add_times, alike, bytes_of, compare, same};
+use ee_wire_framing::{Buffer, Message, Next, WireEnd, next_message};
+use std::alloc::Global;
+use std::fmt::Write;
 use std::io::{self, ErrorKind, Read};
+use std::process::Abort;
 use std::test::Fail;
 
 /// Hands out `first` bytes, then at most `step` a read, and is in trouble at one call.
@@ -45,31 +50,34 @@ impl<'a> Read for Pieces<'a> {
     }
 }
 
-/// What a stream tells: each message as `METHOD TARGET BODY;`, then how it ends.
-fn told(rt: &HostRuntime, reader: &mut Pieces) -> Result<String, Fail> {
-    let mut buffer = Buffer::new(rt.alloc());
-    let mut text = String::new(rt.alloc());
+/// Adds a message as `METHOD TARGET BODY;`.
+fn add_message(text: &mut String, buffer: &Buffer, message: Message) -> Result<(), Fail> {
+    for part in [message.method, message.target, message.body] {
+        write!(text, "{} ", str::from_utf8(buffer.part(part))?)?;
+    }
+    text.push_str(if message.closes { "and closes; " } else { "; " })?;
+    Ok(())
+}
+
+fn add_end(text: &mut String, end: Result<Next, WireEnd>) -> Result<(), Fail> {
+    match end {
+        Ok(_) => write!(text, "End")?,
+        Err(WireEnd::Fault(fault)) => write!(text, "{fault:?}")?,
+        Err(end) => write!(text, "{end:?}")?,
+    }
+    Ok(())
+}
+
+/// What a stream tells: its messages, then how it ends. Where memory was refused the call is made again.
+fn told(alloc: Global, reader: &mut Pieces) -> Result<String, Fail> {
+    let mut buffer = Buffer::new(alloc);
+    let mut text = String::new(alloc);
     for _ in 0..100 {
         match next_message(reader, &mut buffer) {
-            Ok(Next::Message(message)) => {
-                for part in [message.method, message.target, message.body] {
-                    text.push_str(str::from_utf8(buffer.part(part)).map_err(|_| "no text")?)?;
-                    text.push_str(" ")?;
-                }
-                text.push_str(if message.closes { "and closes; " } else { "; " })?;
-            }
-            Ok(Next::End) => {
-                text.push_str("End")?;
-                return Ok(text);
-            }
-            Err(WireEnd::Fault(fault)) => {
-                text.push_str(format!(in rt.alloc(); "{fault:?}")?.as_str())?;
-                return Ok(text);
-            }
-            // The call is made again.
-            Err(WireEnd::NoMemory) => println!(rt; "refused: a read")?,
-            Err(end) => {
-                text.push_str(format!(in rt.alloc(); "{end:?}")?.as_str())?;
+            Ok(Next::Message(message)) => add_message(&mut text, &buffer, message)?,
+            Err(WireEnd::NoMemory) => {}
+            end => {
+                add_end(&mut text, end)?;
                 return Ok(text);
             }
         }
@@ -77,27 +85,37 @@ fn told(rt: &HostRuntime, reader: &mut Pieces) -> Result<String, Fail> {
     Err("no end".into())
 }
 
-const RATES: &[u8] =
-    b"POST /rates HTTP/1.1\r\nContent-Length: 55\r\n\r\n{\"number\":1,\"rates\":[{\"from\":\"2010-11\",\"rate\":\"3.50\"}]}";
+/// Compares what a stream tells that comes in pieces of one size, after a first one of another.
+fn pieces_tell(
+    rt: &impl Abort,
+    alloc: Global,
+    stream: &str,
+    first: usize,
+    step: usize,
+) -> Result<(), Fail> {
+    let told = told(alloc, &mut Pieces::of(stream.as_bytes(), first, step))?;
+    same(rt, told.as_str(), TOLD, "in pieces");
+    Ok(())
+}
 
-const VALUE: &[u8] = b"GET /value/50/2010-11/2012-02 HTTP/1.1\r\n\r\n";
+const RATES: &str =
+    "POST /rates HTTP/1.1\r\nContent-Length: 55\r\n\r\n{\"number\":1,\"rates\":[{\"from\":\"2010-11\",\"rate\":\"3.50\"}]}";
+
+const VALUE: &str = "GET /value/50/2010-11/2012-02 HTTP/1.1\r\n\r\n";
 
 const TOLD: &str =
     "POST /rates {\"number\":1,\"rates\":[{\"from\":\"2010-11\",\"rate\":\"3.50\"}]} ; GET /value/50/2010-11/2012-02  ; Truncated";
 
+/// Two messages, and the first again without its last byte.
 #[test]
 fn cuts_change_nothing(rt: HostRuntime) -> Result<(), Fail> {
-    let mut stream = Vec::new(rt.alloc());
-    stream.extend_from_slice(RATES)?;
-    stream.extend_from_slice(VALUE)?;
-    stream.extend_from_slice(&RATES[..RATES.len() - 1])?;
+    let front = RATES.strip_suffix("}").ok_or("front")?;
+    let stream = format!(in rt.alloc(); "{RATES}{VALUE}{front}")?;
     for first in 1..=stream.len() {
-        let mut reader = Pieces::of(&stream, first, 4_096);
-        same(&rt, told(&rt, &mut reader)?.as_str(), TOLD, "cut");
+        pieces_tell(&rt, rt.alloc(), &stream, first, 4_096)?;
     }
     for step in [1, 2, 3, 7, 4_096] {
-        let mut reader = Pieces::of(&stream, step, step);
-        same(&rt, told(&rt, &mut reader)?.as_str(), TOLD, "in pieces");
+        pieces_tell(&rt, rt.alloc(), &stream, step, step)?;
     }
     Ok(())
 }
@@ -106,154 +124,176 @@ fn cuts_change_nothing(rt: HostRuntime) -> Result<(), Fail> {
 #[test]
 fn refused_memory(rt: HostRuntime) -> Result<(), Fail> {
     let stream =
-        b"POST /rates HTTP/1.1\r\nContent-Length: 55\r\n\r\n{\"number\":1,\"rates\":[{\"from\":\"2010-11\",\"rate\":\"3.50\"}]}GET /value/50/2010-11/2012-02 HTTP/1.1\r\n\r\nPOST";
+        "POST /rates HTTP/1.1\r\nContent-Length: 55\r\n\r\n{\"number\":1,\"rates\":[{\"from\":\"2010-11\",\"rate\":\"3.50\"}]}GET /value/50/2010-11/2012-02 HTTP/1.1\r\n\r\nPOST";
     for step in [1, 64, 4_096] {
-        let mut reader = Pieces::of(stream, step, step);
-        same(&rt, told(&rt, &mut reader)?.as_str(), TOLD, "in pieces");
+        pieces_tell(&rt, rt.alloc(), stream, step, step)?;
     }
     Ok(())
 }
 
-/// Streams, and what they tell; each row ends with a percent sign. Without a line feed nothing is decided.
-const HEADS: &str = " => End%\
-GET / HTTP/1.1\n\n => GET /  ; End%\
-\r\n\r\nGET / HTTP/1.1\r\nHost: a\r\n\r\n => GET /  ; End%\
-GET / HTTP/1.0\r\n\r\n => GET /  and closes; End%\
-GET / HTTP/1.1\r\ncoNNection: CLOSE\r\n\r\n => GET /  and closes; End%\
-GET / HTTP/1.1\r\nConnection: keep-alive, close\r\n\r\n => GET /  ; End%\
-GET / HTTP/1.1\r\nConnection: a\r\nConnection: close\r\n\r\n => GET /  and closes; End%\
-GET / HTTP/2.0\r\n\r\n => BadHead%\
-GET /\r\n => BadHead%\
-GET / HTTP/1.1\r\na b: c\r\n => BadHead%\
-GET / HTTP/1.1\r\na: b\r\n c\r\n => BadHead%\
-\r\n\n\r\n\nGET / HTTP/1.1\na:\n\n\n => GET /  ; Truncated%\
-\r\r\n => BadHead%\
-\n\n \n => BadHead%\
-\n\nGET / HTTP/1.1\n:\n => BadHead%\
-\n\n => Truncated%\
-GET /\u{ff} HTTP/1.1\r\n\r\n => GET /\u{ff}  ; End%\
-GET / HTTP/2.0 => Truncated%\
-\r => Truncated%\
-GET / HTTP/1.1\r\n\r => Truncated%\
-A / HTTP/1.1\r\nContent-Length: 0\r\n\r\nB / HTTP/1.1\n\nC => A /  ; B /  ; Truncated%\
-A / HTTP/1.1\r\nContent-Length: 3\r\n\r\nabc => A / abc ; End%\
-A / HTTP/1.1\r\nContent-Length: 3\r\n\r\nab => Truncated%\
-A / HTTP/1.1\r\nContent-Length: 1048576\r\n\r\nab => Truncated%\
-A / HTTP/1.1\r\nContent-Length: 1048577\r\n\r\n => BodyTooLong%\
-A / HTTP/1.1\r\nContent-Length: 999999999999999999999999999999\r\n\r\n => BodyTooLong%\
-A / HTTP/1.1\r\nContent-Length: 000000000000000000000000000003\r\n\r\nabc => A / abc ; End%\
-A / HTTP/1.1\r\nContent-Length: 1x\r\n\r\na => BadLength%\
-A / HTTP/1.1\r\nContent-Length: +1\r\n\r\na => BadLength%\
-A / HTTP/1.1\r\nContent-Length:\r\n\r\n => BadLength%\
-A / HTTP/1.1\r\nContent-Length: 1\r\ncontent-length: 1\r\n\r\na => BadLength%\
-A / HTTP/1.1\r\nContent-Length: 1048577\r\nContent-Length: 1\r\n\r\na => BadLength%\
-A / HTTP/1.1\r\nTransfer-Encoding: chunked\r\n\r\n => BadLength%\
-A / HTTP/1.1\r\nContent-Length: 1048577\r\nTransfer-Encoding: chunked\r\n\r\n => BadLength%\
+/// What bytes tell, whole and in pieces of one byte.
+fn told_in_pieces(alloc: Global, bytes: &[u8]) -> Result<String, Fail> {
+    let whole = told(alloc, &mut Pieces::of(bytes, 4_096, 4_096))?;
+    let pieces = told(alloc, &mut Pieces::of(bytes, 1, 1))?;
+    alike(alloc, whole, pieces.as_str())
+}
+
+/// Streams, and what they tell; `|` stands for a line feed, `^` for a carriage return and `~` for the byte FF. Without
+/// a line feed nothing is decided.
+const HEADS: &str = "\
+GET / HTTP/1.1|| => GET /  ; End
+ => End
+^|^|GET / HTTP/1.1^|Host: a^|^| => GET /  ; End
+GET / HTTP/1.0^|^| => GET /  and closes; End
+GET / HTTP/1.1^|coNNection: CLOSE^|^| => GET /  and closes; End
+GET / HTTP/1.1^|Connection: keep-alive, close^|^| => GET /  ; End
+GET / HTTP/1.1^|Connection: a^|Connection: close^|^| => GET /  and closes; End
+GET / HTTP/2.0^|^| => BadHead
+GET /^| => BadHead
+GET / HTTP/1.1^|a b: c^| => BadHead
+GET / HTTP/1.1^|a: b^| c^| => BadHead
+^||^||GET / HTTP/1.1|a:||| => GET /  ; Truncated
+^^| => BadHead
+|| | => BadHead
+||GET / HTTP/1.1|:| => BadHead
+|| => Truncated
+GET /\u{ff} HTTP/1.1^|^| => GET /\u{ff}  ; End
+GET / HTTP/2.0 => Truncated
+^ => Truncated
+GET / HTTP/1.1^|^ => Truncated
+A / HTTP/1.1^|Content-Length: 0^|^|B / HTTP/1.1||C => A /  ; B /  ; Truncated
+A / HTTP/1.1^|Content-Length: 3^|^|abc => A / abc ; End
+A / HTTP/1.1^|Content-Length: 3^|^|ab => Truncated
+A / HTTP/1.1^|Content-Length: 1048576^|^|ab => Truncated
+A / HTTP/1.1^|Content-Length: 1048577^|^| => BodyTooLong
+A / HTTP/1.1^|Content-Length: 999999999999999999999999999999^|^| => BodyTooLong
+A / HTTP/1.1^|Content-Length: 000000000000000000000000000003^|^|abc => A / abc ; End
+A / HTTP/1.1^|Content-Length: 1x^|^|a => BadLength
+A / HTTP/1.1^|Content-Length: +1^|^|a => BadLength
+A / HTTP/1.1^|Content-Length:^|^| => BadLength
+A / HTTP/1.1^|Content-Length: 1^|content-length: 1^|^|a => BadLength
+A / HTTP/1.1^|Content-Length: 1048577^|Content-Length: 1^|^|a => BadLength
+A / HTTP/1.1^|Transfer-Encoding: chunked^|^| => BadLength
+A / HTTP/1.1^|Content-Length: 1048577^|Transfer-Encoding: chunked^|^| => BadLength
+GET /~ HTTP/1.1^| => BadHead
 ";
+
+struct HeadCases;
+
+impl Cases for HeadCases {
+    fn told(alloc: Global, case: &str) -> Result<String, Fail> {
+        told_in_pieces(alloc, &bytes_of(alloc, case)?)
+    }
+}
 
 #[test]
 fn heads_are_judged(rt: HostRuntime) -> Result<(), Fail> {
-    for row in HEADS.split_terminator('%') {
-        let (stream, want) = row.split_once(" => ").ok_or("row")?;
-        for step in [4_096, 1] {
-            let mut reader = Pieces::of(stream.as_bytes(), step, step);
-            same(&rt, told(&rt, &mut reader)?.as_str(), want, row);
-        }
-    }
-    let mut reader = Pieces::of(b"GET /\xff HTTP/1.1\r\n", 4_096, 4_096);
-    same(&rt, told(&rt, &mut reader)?.as_str(), "BadHead", "no text");
-    Ok(())
+    compare::<HeadCases>(&rt, rt.alloc(), HEADS)
 }
 
 /// A head of so many lines `a:`, and of so many bytes by one more line, where that is longer.
-fn head_of(rt: &HostRuntime, lines: usize, len: usize) -> Result<Vec<u8>, Fail> {
-    let mut head = Vec::new(rt.alloc());
-    head.extend_from_slice(b"GET / HTTP/1.1\n")?;
-    for _ in 0..lines {
-        head.extend_from_slice(b"a:\n")?;
+fn head_of(alloc: Global, lines: usize, len: usize) -> Result<String, Fail> {
+    let mut head = String::from_str(alloc, "GET / HTTP/1.1\n")?;
+    add_times(&mut head, "a:\n", lines)?;
+    let more = len.saturating_sub(head.len());
+    if more > 4 {
+        head.push_str("b:")?;
+        add_times(&mut head, "c", more - 4)?;
+        head.push_str("\n")?;
     }
-    if head.len() + 4 < len {
-        head.extend_from_slice(b"b:")?;
-        for _ in head.len() + 2..len {
-            head.push(b'c')?;
-        }
-        head.push(b'\n')?;
-    }
-    head.push(b'\n')?;
+    head.push_str("\n")?;
     Ok(head)
+}
+
+/// Header lines and bytes of heads, and what they tell: 32 headers and 33; 32 headers of 16,384 bytes and of a byte
+/// more; a line feed at every third byte, and the same, too long.
+const LIMITS: &str = "\
+32 0 => GET /  ; End
+33 0 => BadHead
+31 16384 => GET /  ; End
+31 16385 => HeadTooLong
+5456 0 => BadHead
+5457 0 => HeadTooLong
+";
+
+struct LimitCases;
+
+impl Cases for LimitCases {
+    fn told(alloc: Global, case: &str) -> Result<String, Fail> {
+        let (lines, len) = case.split_once(' ').ok_or("bytes")?;
+        let head = head_of(alloc, lines.parse()?, len.parse()?)?;
+        told_in_pieces(alloc, head.as_bytes())
+    }
 }
 
 #[test]
 fn limits_of_heads(rt: HostRuntime) -> Result<(), Fail> {
-    let table = [
-        ("32 headers", 32, 0, "GET /  ; End"),
-        ("33 headers", 33, 0, "BadHead"),
-        ("32 headers of 16,384 bytes", 31, 16_384, "GET /  ; End"),
-        ("a byte more", 31, 16_385, "HeadTooLong"),
-        ("a line feed at every third byte", 5_456, 0, "BadHead"),
-        ("the same, too long", 5_457, 0, "HeadTooLong"),
-    ];
-    for (name, lines, len, want) in table {
-        let head = head_of(&rt, lines, len)?;
-        for step in [1, 4_096] {
-            let mut reader = Pieces::of(&head, step, step);
-            same(&rt, told(&rt, &mut reader)?.as_str(), want, name);
-        }
-    }
+    compare::<LimitCases>(&rt, rt.alloc(), LIMITS)
+}
+
+/// One read has the whole message, which closes: nothing more is read.
+#[test]
+fn reads_only_while_undecided(rt: HostRuntime) -> Result<(), Fail> {
+    let first = "A / HTTP/1.1\r\nConnection: close\r\n\r\n";
+    let stream = format!(in rt.alloc(); "{first}{VALUE}")?;
+    let mut reader = Pieces::of(stream.as_bytes(), first.len(), 4_096);
+    let next = next_message(&mut reader, &mut Buffer::new(rt.alloc()));
+    assert!(rt; matches!(next, Ok(Next::Message(Message { closes: true, .. }))));
+    assert_eq!(rt; reader.calls, 1);
     Ok(())
 }
 
-#[test]
-fn reads_only_while_undecided(rt: HostRuntime) -> Result<(), Fail> {
-    let first = b"A / HTTP/1.1\r\nConnection: close\r\n\r\n";
-    let mut stream = Vec::new(rt.alloc());
-    stream.extend_from_slice(first)?;
-    stream.extend_from_slice(VALUE)?;
-    let mut reader = Pieces::of(&stream, first.len(), 4_096);
-    let mut buffer = Buffer::new(rt.alloc());
-    let next = next_message(&mut reader, &mut buffer);
-    let Ok(Next::Message(message)) = next else {
-        return Err("no message".into());
-    };
-    assert!(rt; message.closes);
-    assert_eq!(rt; reader.calls, 1);
+/// Three calls over a message that comes a byte at a time, in trouble at one read: whether the first has the message,
+/// what the others answer, and how often was read.
+fn told_in_trouble(alloc: Global, call: usize, kind: ErrorKind) -> Result<String, Fail> {
+    let mut reader = Pieces::of(RATES.as_bytes(), 1, 1);
+    reader.trouble = Some((call, kind));
+    let mut buffer = Buffer::new(alloc);
+    let first = next_message(&mut reader, &mut buffer).is_ok();
+    let second = next_message(&mut reader, &mut buffer);
+    let third = next_message(&mut reader, &mut buffer);
+    Ok(format!(in alloc; "{first}, {second:?}, {third:?}, {} reads", reader.calls)?)
+}
+
+fn fails_at_each_read(rt: &impl Abort, alloc: Global, kind: ErrorKind) -> Result<(), Fail> {
+    for call in 1..=RATES.len().saturating_add(1) {
+        let told = told_in_trouble(alloc, call, kind)?;
+        let first = call > RATES.len();
+        let wanted = format!(in alloc; "{first}, Err(ReadFailed), Err(ReadFailed), {call} reads")?;
+        same(rt, told.as_str(), wanted.as_str(), "in trouble");
+    }
     Ok(())
 }
 
 // Only the one call is in trouble: a later read would bring the rest.
 #[test]
 fn a_failed_read_is_final(rt: HostRuntime) -> Result<(), Fail> {
-    for kind in [ErrorKind::Other, ErrorKind::Interrupted] {
-        for call in 1..=RATES.len() + 1 {
-            let mut reader = Pieces::of(RATES, 1, 1);
-            reader.trouble = Some((call, kind));
-            let mut buffer = Buffer::new(rt.alloc());
-            let mut next = next_message(&mut reader, &mut buffer);
-            if call > RATES.len() {
-                assert!(rt; next.is_ok(), "call {call}");
-                next = next_message(&mut reader, &mut buffer);
-            }
-            assert_eq!(rt; next, Err(WireEnd::ReadFailed), "call {call}");
-            assert_eq!(rt;
-                next_message(&mut reader, &mut buffer),
-                Err(WireEnd::ReadFailed)
-            );
-            assert_eq!(rt; reader.calls, call, "reads again after call {call}");
-        }
+    fails_at_each_read(&rt, rt.alloc(), ErrorKind::Other)?;
+    fails_at_each_read(&rt, rt.alloc(), ErrorKind::Interrupted)
+}
+
+/// Streams without a message, whether they end in order, and that a second call answers the same and reads nothing.
+const ENDS: &str = "\
+GET => false, true, true
+ => true, true, true
+x| => false, true, true
+";
+
+struct EndCases;
+
+impl Cases for EndCases {
+    fn told(alloc: Global, case: &str) -> Result<String, Fail> {
+        let bytes = bytes_of(alloc, case)?;
+        let mut reader = Pieces::of(&bytes, 4_096, 4_096);
+        let mut buffer = Buffer::new(alloc);
+        let next = next_message(&mut reader, &mut buffer);
+        let calls = reader.calls;
+        let stays = next_message(&mut reader, &mut buffer) == next;
+        Ok(format!(in alloc; "{}, {stays}, {}", next.is_ok(), reader.calls == calls)?)
     }
-    Ok(())
 }
 
 #[test]
 fn an_end_is_final(rt: HostRuntime) -> Result<(), Fail> {
-    for (stream, want) in [(&b"GET"[..], false), (&b""[..], true), (&b"x\n"[..], false)] {
-        let mut reader = Pieces::of(stream, 4_096, 4_096);
-        let mut buffer = Buffer::new(rt.alloc());
-        let next = next_message(&mut reader, &mut buffer);
-        let calls = reader.calls;
-        assert_eq!(rt; next.is_ok(), want, "{stream:?}");
-        assert_eq!(rt; next_message(&mut reader, &mut buffer), next, "{stream:?}");
-        assert_eq!(rt; reader.calls, calls, "{stream:?}");
-    }
-    Ok(())
+    compare::<EndCases>(&rt, rt.alloc(), ENDS)
 }

@@ -17,8 +17,6 @@ mod framing;
 #[cfg(test)]
 mod roots;
 #[cfg(test)]
-mod tables;
-#[cfg(test)]
 mod texts;
 #[cfg(test)]
 mod units;

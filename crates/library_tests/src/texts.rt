@@ -1,8 +1,10 @@
 //! The text of each act and of each shape of reply, and texts that are none. The expected texts are
 //! written by hand from the rules for texts.
 
-use crate::comparing::{same, shown};
+use crate::comparing::{Cases, compare, same, shown};
 use ee_desk_texts::{canonical, read_act, read_reply, reply_text};
+use std::alloc::Global;
+use std::fmt::Debug;
 use std::test::Fail;
 
 /// The canonical text of each act, and the act as `Debug` shows it.
@@ -15,16 +17,29 @@ const ACTS: &str =
 {"act":"close","day":"2012-02-06"} => CloseDay(Day { count: 15376 })
 "#;
 
+/// A value as `Debug` shows it, and its text where that isn't the one that it was read from.
+fn read_back<T: Debug>(alloc: Global, value: &T, text: &str, from: &str) -> Result<String, Fail> {
+    if text == from {
+        return shown(alloc, value);
+    }
+    Ok(format!(in alloc; "{value:?}, written {text}")?)
+}
+
+struct ActCases;
+
+impl Cases for ActCases {
+    fn told(alloc: Global, case: &str) -> Result<String, Fail> {
+        let Some(act) = read_act(alloc, case)? else {
+            return Ok(String::from_str(alloc, "none")?);
+        };
+        let text = canonical(alloc, &act)?;
+        read_back(alloc, &act, text.as_str(), case)
+    }
+}
+
 #[test]
 fn texts_of_acts(rt: HostRuntime) -> Result<(), Fail> {
-    let alloc = rt.alloc();
-    for row in ACTS.lines() {
-        let (text, wanted) = row.split_once(" => ").ok_or("row")?;
-        let act = read_act(alloc, text)?.ok_or("act")?;
-        same(&rt, shown(alloc, &act)?.as_str(), wanted, text);
-        same(&rt, canonical(alloc, &act)?.as_str(), text, wanted);
-    }
-    Ok(())
+    compare::<ActCases>(&rt, rt.alloc(), ACTS)
 }
 
 /// The text of each shape of reply and of each refusal, and the reply as `Debug` shows it.
@@ -56,75 +71,72 @@ const REPLIES: &str = r#"{"new":2,"same":0} => Added { new: 2, same: 0 }
 {"code":54,"refused":"NotEligible","serial":"L1EE"} => Refused(NotEligible(Serial { letter: 12, number: 1 }))
 "#;
 
+struct ReplyCases;
+
+impl Cases for ReplyCases {
+    fn told(alloc: Global, case: &str) -> Result<String, Fail> {
+        let Some(reply) = read_reply(alloc, case)? else {
+            return Ok(String::from_str(alloc, "none")?);
+        };
+        let text = reply_text(alloc, &reply)?;
+        read_back(alloc, &reply, text.as_str(), case)
+    }
+}
+
 #[test]
 fn texts_of_replies(rt: HostRuntime) -> Result<(), Fail> {
-    let alloc = rt.alloc();
-    for row in REPLIES.lines() {
-        let (text, wanted) = row.split_once(" => ").ok_or("row")?;
-        let reply = read_reply(alloc, text)?.ok_or("reply")?;
-        same(&rt, shown(alloc, &reply)?.as_str(), wanted, text);
-        same(&rt, reply_text(alloc, &reply)?.as_str(), text, wanted);
-    }
-    Ok(())
+    compare::<ReplyCases>(&rt, rt.alloc(), REPLIES)
 }
 
 /// Texts of no act, each on a line; the first is empty.
-const NO_ACTS: &str = r#"
-null
-[]
-{"day":"2012-02-06"}
-{"act":"pay","day":"2012-02-06"}
-{"act": "open","day":"2012-02-06"}
-{"day":"2012-02-06","act":"open"}
-{"act":"open","act":"open","day":"2012-02-06"}
-{"act":"open","day":"2012-02-06","x":0}
-{"act":"open","day":"2012-02-30"}
-{"act":"open","day":"\u0032012-02-06"}
-{"act":"redeem","day":"2012-02-06","payee":7,"serials":["L01EE"]}
-{"act":"redeem","day":"2012-02-06","payee":7,"serials":["L-1-EE"]}
-{"act":"redeem","day":"2012-02-06","payee":"7","serials":["L1EE"]}
-{"act":"redeem","day":"2012-02-06","payee":7.0,"serials":["L1EE"]}
-{"act":"redeem","day":"2012-02-06","payee":4294967303,"serials":["L1EE"]}
-{"act":"rates","rates":[{"from":"2010-05","rate":"2.00"}]}
-{"act":"rates","rates":[{"from":"05/2010","rate":"2.00%"}]}
-{"act":"rates","rates":[{"from":"2010-05","rate":"2.00%","x":0}]}
-{"act":"bonds","bonds":[{"denom":51,"issued":"2010-11","owner":7,"serial":"L1EE"}]}
-{"act":"bonds","bonds":[{"coowner":null,"denom":50,"issued":"2010-11","owner":7,"serial":"L1EE"}]}
+const NO_ACTS: &str = r#" => none
+null => none
+[] => none
+{"day":"2012-02-06"} => none
+{"act":"pay","day":"2012-02-06"} => none
+{"act": "open","day":"2012-02-06"} => none
+{"day":"2012-02-06","act":"open"} => none
+{"act":"open","act":"open","day":"2012-02-06"} => none
+{"act":"open","day":"2012-02-06","x":0} => none
+{"act":"open","day":"2012-02-30"} => none
+{"act":"open","day":"\u0032012-02-06"} => none
+{"act":"redeem","day":"2012-02-06","payee":7,"serials":["L01EE"]} => none
+{"act":"redeem","day":"2012-02-06","payee":7,"serials":["L-1-EE"]} => none
+{"act":"redeem","day":"2012-02-06","payee":"7","serials":["L1EE"]} => none
+{"act":"redeem","day":"2012-02-06","payee":7.0,"serials":["L1EE"]} => none
+{"act":"redeem","day":"2012-02-06","payee":4294967303,"serials":["L1EE"]} => none
+{"act":"rates","rates":[{"from":"2010-05","rate":"2.00"}]} => none
+{"act":"rates","rates":[{"from":"05/2010","rate":"2.00%"}]} => none
+{"act":"rates","rates":[{"from":"2010-05","rate":"2.00%","x":0}]} => none
+{"act":"bonds","bonds":[{"denom":51,"issued":"2010-11","owner":7,"serial":"L1EE"}]} => none
+{"act":"bonds","bonds":[{"coowner":null,"denom":50,"issued":"2010-11","owner":7,"serial":"L1EE"}]} => none
 "#;
 
 #[test]
 fn other_texts_are_of_no_act(rt: HostRuntime) -> Result<(), Fail> {
-    let alloc = rt.alloc();
-    for text in NO_ACTS.lines() {
-        assert!(rt; read_act(alloc, text)?.is_none(), "{text}");
-    }
-    let ended = read_act(alloc, "{\"act\":\"open\",\"day\":\"2012-02-06\"}\n")?;
-    assert!(rt; ended.is_none());
-    Ok(())
+    let ended = ActCases::told(rt.alloc(), "{\"act\":\"open\",\"day\":\"2012-02-06\"}\n")?;
+    same(&rt, ended.as_str(), "none", "a line's end");
+    compare::<ActCases>(&rt, rt.alloc(), NO_ACTS)
 }
 
 /// Texts of no reply, each on a line; the first is empty.
-const NO_REPLIES: &str = r#"
-{}
-{"new":2, "same":0}
-{"same":0,"new":2}
-{"new":2,"same":0,"x":0}
-{"new":"2","same":0}
-{"bonds":0,"day":"2012-02-07","tickets":0,"total":"00.00"}
-{"bonds":0,"day":"2012-02-07","tickets":0,"total":"0.0"}
-{"bonds":0,"day":"2012-02-07","tickets":0,"total":"184467440737095516.16"}
-{"code":11,"refused":"TooMany"}
-{"code":30,"refused":"NoRate"}
-{"code":51,"refused":"NotPayee","serial":"N04EE"}
-{"code":52,"refused":"AlreadyPaid","serial":"L1EE"}
-{"code":69,"fault":"NotFound"}
+const NO_REPLIES: &str = r#" => none
+{} => none
+{"new":2, "same":0} => none
+{"same":0,"new":2} => none
+{"new":2,"same":0,"x":0} => none
+{"new":"2","same":0} => none
+{"bonds":0,"day":"2012-02-07","tickets":0,"total":"00.00"} => none
+{"bonds":0,"day":"2012-02-07","tickets":0,"total":"0.0"} => none
+{"bonds":0,"day":"2012-02-07","tickets":0,"total":"184467440737095516.16"} => none
+{"code":11,"refused":"TooMany"} => none
+{"code":30,"refused":"NoRate"} => none
+{"code":51,"refused":"NotPayee","serial":"N04EE"} => none
+{"code":52,"refused":"AlreadyPaid","serial":"L1EE"} => none
+{"code":69,"fault":"NotFound"} => none
 "#;
 
 #[test]
 fn other_texts_are_of_no_reply(rt: HostRuntime) -> Result<(), Fail> {
-    let alloc = rt.alloc();
-    for text in NO_REPLIES.lines() {
-        assert!(rt; read_reply(alloc, text)?.is_none(), "{text}");
-    }
-    Ok(())
+    compare::<ReplyCases>(&rt, rt.alloc(), NO_REPLIES)
 }

@@ -1,10 +1,21 @@
 //! Spellings, good and bad, of every reader, and printed texts. The expected values are those of the
 //! rules for spellings, not of this crate. Values stand as `Debug` shows them.
 
-use crate::comparing::{same, shown};
+use crate::comparing::{Cases, alike, compare, shown};
 use ee_units::*;
 use std::alloc::Global;
+use std::fmt::{Debug, Display};
 use std::test::Fail;
+
+/// What a reader reads, and what parsing gives where that is another.
+fn read_alike<T: Debug>(
+    alloc: Global,
+    read: &Result<T, UnitFault>,
+    parsed: &Result<T, UnitFault>,
+) -> Result<String, Fail> {
+    let parsed = shown(alloc, parsed)?;
+    alike(alloc, shown(alloc, read)?, parsed.as_str())
+}
 
 /// Spellings of rates, and what is read.
 const RATES: &str = "\
@@ -31,16 +42,17 @@ const RATES: &str = "\
 3.5é => Err(BadRate)
 ";
 
+struct RateCases;
+
+impl Cases for RateCases {
+    fn told(alloc: Global, case: &str) -> Result<String, Fail> {
+        read_alike(alloc, &read_rate(case), &case.parse::<Rate>())
+    }
+}
+
 #[test]
 fn rates(rt: HostRuntime) -> Result<(), Fail> {
-    for row in RATES.lines() {
-        let (text, wanted) = row.split_once(" => ").ok_or("row")?;
-        let read = shown(rt.alloc(), &read_rate(text))?;
-        same(&rt, read.as_str(), wanted, text);
-        let parsed = shown(rt.alloc(), &text.parse::<Rate>())?;
-        same(&rt, parsed.as_str(), wanted, text);
-    }
-    Ok(())
+    compare::<RateCases>(&rt, rt.alloc(), RATES)
 }
 
 /// Spellings of months, what is read as a month, and what as an issue month.
@@ -67,21 +79,19 @@ const MONTHS: &str = "\
 2010-0é => Err(BadMonth) and Err(BadMonth)
 ";
 
+struct MonthCases;
+
+impl Cases for MonthCases {
+    fn told(alloc: Global, case: &str) -> Result<String, Fail> {
+        let month = read_alike(alloc, &read_month(case), &case.parse::<Month>())?;
+        let issue = read_alike(alloc, &read_issue(case), &case.parse::<IssueMonth>())?;
+        Ok(format!(in alloc; "{month} and {issue}")?)
+    }
+}
+
 #[test]
 fn months(rt: HostRuntime) -> Result<(), Fail> {
-    for row in MONTHS.lines() {
-        let (text, row) = row.split_once(" => ").ok_or("row")?;
-        let (month, issue) = row.split_once(" and ").ok_or("issue")?;
-        let read = shown(rt.alloc(), &read_month(text))?;
-        same(&rt, read.as_str(), month, text);
-        let parsed = shown(rt.alloc(), &text.parse::<Month>())?;
-        same(&rt, parsed.as_str(), month, text);
-        let read = shown(rt.alloc(), &read_issue(text))?;
-        same(&rt, read.as_str(), issue, text);
-        let parsed = shown(rt.alloc(), &text.parse::<IssueMonth>())?;
-        same(&rt, parsed.as_str(), issue, text);
-    }
-    Ok(())
+    compare::<MonthCases>(&rt, rt.alloc(), MONTHS)
 }
 
 /// Spellings of days, and what is read.
@@ -104,16 +114,17 @@ const DAYS: &str = "\
 2012-02-0é => Err(BadDay)
 ";
 
+struct DayCases;
+
+impl Cases for DayCases {
+    fn told(alloc: Global, case: &str) -> Result<String, Fail> {
+        read_alike(alloc, &read_day(case), &case.parse::<Day>())
+    }
+}
+
 #[test]
 fn days(rt: HostRuntime) -> Result<(), Fail> {
-    for row in DAYS.lines() {
-        let (text, wanted) = row.split_once(" => ").ok_or("row")?;
-        let read = shown(rt.alloc(), &read_day(text))?;
-        same(&rt, read.as_str(), wanted, text);
-        let parsed = shown(rt.alloc(), &text.parse::<Day>())?;
-        same(&rt, parsed.as_str(), wanted, text);
-    }
-    Ok(())
+    compare::<DayCases>(&rt, rt.alloc(), DAYS)
 }
 
 /// Spellings of serial numbers, and what is read.
@@ -142,16 +153,17 @@ C12EEE => Err(BadSerial)
 É12EE => Err(BadSerial)
 ";
 
+struct SerialCases;
+
+impl Cases for SerialCases {
+    fn told(alloc: Global, case: &str) -> Result<String, Fail> {
+        read_alike(alloc, &read_serial(case), &case.parse::<Serial>())
+    }
+}
+
 #[test]
 fn serials(rt: HostRuntime) -> Result<(), Fail> {
-    for row in SERIALS.lines() {
-        let (text, wanted) = row.split_once(" => ").ok_or("row")?;
-        let read = shown(rt.alloc(), &read_serial(text))?;
-        same(&rt, read.as_str(), wanted, text);
-        let parsed = shown(rt.alloc(), &text.parse::<Serial>())?;
-        same(&rt, parsed.as_str(), wanted, text);
-    }
-    Ok(())
+    compare::<SerialCases>(&rt, rt.alloc(), SERIALS)
 }
 
 /// Spellings of denominations, and what is read.
@@ -172,16 +184,17 @@ $50 => Err(BadDenom)
 50é => Err(BadDenom)
 ";
 
+struct DenomCases;
+
+impl Cases for DenomCases {
+    fn told(alloc: Global, case: &str) -> Result<String, Fail> {
+        read_alike(alloc, &read_denom(case), &case.parse::<Denom>())
+    }
+}
+
 #[test]
 fn denominations(rt: HostRuntime) -> Result<(), Fail> {
-    for row in DENOMS.lines() {
-        let (text, wanted) = row.split_once(" => ").ok_or("row")?;
-        let read = shown(rt.alloc(), &read_denom(text))?;
-        same(&rt, read.as_str(), wanted, text);
-        let parsed = shown(rt.alloc(), &text.parse::<Denom>())?;
-        same(&rt, parsed.as_str(), wanted, text);
-    }
-    Ok(())
+    compare::<DenomCases>(&rt, rt.alloc(), DENOMS)
 }
 
 /// Spellings of customers, and what is read.
@@ -198,20 +211,21 @@ const CUSTOMERS: &str = "\
 7é => Err(BadCustomer)
 ";
 
-#[test]
-fn customers(rt: HostRuntime) -> Result<(), Fail> {
-    for row in CUSTOMERS.lines() {
-        let (text, wanted) = row.split_once(" => ").ok_or("row")?;
-        let read = shown(rt.alloc(), &read_customer(text))?;
-        same(&rt, read.as_str(), wanted, text);
-        let parsed = shown(rt.alloc(), &text.parse::<Customer>())?;
-        same(&rt, parsed.as_str(), wanted, text);
+struct CustomerCases;
+
+impl Cases for CustomerCases {
+    fn told(alloc: Global, case: &str) -> Result<String, Fail> {
+        read_alike(alloc, &read_customer(case), &case.parse::<Customer>())
     }
-    Ok(())
 }
 
-/// Values by their kind and number or spelling, and their printed text.
-const PRINTED: &str = "\
+#[test]
+fn customers(rt: HostRuntime) -> Result<(), Fail> {
+    compare::<CustomerCases>(&rt, rt.alloc(), CUSTOMERS)
+}
+
+/// Values by their kind and number, and their printed text.
+const PRINTED_NUMBERS: &str = "\
 cents 0 => 0.00
 cents 7 => 0.07
 cents 2588 => 25.88
@@ -226,6 +240,10 @@ rate 2000 => 20.00%
 month 60 => 2010-05
 month 2335 => 2199-12
 issue 0 => 2005-05
+";
+
+/// Values by their kind and spelling, and their printed text.
+const PRINTED_SPELLINGS: &str = "\
 day 2012-02-06 => 2012-02-06
 serial C-0012-EE => C12EE
 denom 10000 => 10000
@@ -233,44 +251,55 @@ customer 007 => 7
 fault 25 => bad denomination
 ";
 
+fn printed<T: Display + Drop>(alloc: Global, value: Option<T>) -> Result<String, Fail> {
+    Ok(value.ok_or("value")?.to_string(alloc)?)
+}
+
 /// The printed text of a value that is told by a number.
-fn printed_number(alloc: Global, kind: &str, text: &str) -> Result<Option<String>, Fail> {
-    Ok(Some(match kind {
-        "cents" => Cents(text.parse()?).to_string(alloc)?,
-        "total" => Total(text.parse()?).to_string(alloc)?,
-        "rate" => Rate::new(text.parse()?).ok_or("rate")?.to_string(alloc)?,
-        "month" => Month::new(text.parse()?).ok_or("month")?.to_string(alloc)?,
-        "issue" => IssueMonth::new(text.parse()?)
-            .ok_or("issue")?
-            .to_string(alloc)?,
-        _ => return Ok(None),
-    }))
+fn printed_number(alloc: Global, kind: &str, text: &str) -> Result<String, Fail> {
+    let number = text.parse().ok();
+    match kind {
+        "cents" => printed(alloc, number.map(Cents)),
+        "rate" => printed(alloc, number.and_then(Rate::new)),
+        "month" => printed(alloc, number.and_then(Month::new)),
+        "issue" => printed(alloc, number.and_then(IssueMonth::new)),
+        _ => printed(alloc, text.parse().ok().map(Total)),
+    }
 }
 
 /// The printed text of a value that is told by its spelling.
 fn printed_spelling(alloc: Global, kind: &str, text: &str) -> Result<String, Fail> {
-    Ok(match kind {
-        "day" => read_day(text)?.to_string(alloc)?,
-        "serial" => read_serial(text)?.to_string(alloc)?,
-        "denom" => read_denom(text)?.to_string(alloc)?,
-        "customer" => read_customer(text)?.to_string(alloc)?,
-        _ => read_denom(text).err().ok_or("fault")?.to_string(alloc)?,
-    })
+    match kind {
+        "day" => printed(alloc, read_day(text).ok()),
+        "serial" => printed(alloc, read_serial(text).ok()),
+        "denom" => printed(alloc, read_denom(text).ok()),
+        "customer" => printed(alloc, read_customer(text).ok()),
+        _ => printed(alloc, read_denom(text).err()),
+    }
+}
+
+struct NumberCases;
+
+impl Cases for NumberCases {
+    fn told(alloc: Global, case: &str) -> Result<String, Fail> {
+        let (kind, text) = case.split_once(' ').ok_or("kind")?;
+        printed_number(alloc, kind, text)
+    }
+}
+
+struct SpellingCases;
+
+impl Cases for SpellingCases {
+    fn told(alloc: Global, case: &str) -> Result<String, Fail> {
+        let (kind, text) = case.split_once(' ').ok_or("kind")?;
+        printed_spelling(alloc, kind, text)
+    }
 }
 
 #[test]
 fn printed_texts(rt: HostRuntime) -> Result<(), Fail> {
-    let alloc = rt.alloc();
-    for row in PRINTED.lines() {
-        let (value, wanted) = row.split_once(" => ").ok_or("row")?;
-        let (kind, text) = value.split_once(' ').ok_or("kind")?;
-        let printed = match printed_number(alloc, kind, text)? {
-            Some(printed) => printed,
-            None => printed_spelling(alloc, kind, text)?,
-        };
-        same(&rt, printed.as_str(), wanted, value);
-    }
-    Ok(())
+    compare::<NumberCases>(&rt, rt.alloc(), PRINTED_NUMBERS)?;
+    compare::<SpellingCases>(&rt, rt.alloc(), PRINTED_SPELLINGS)
 }
 
 /// Issue months, months, and the age in months.
@@ -281,61 +310,87 @@ const AGES: &str = "\
 2005-05 2199-12 => Some(Age { months: 2335 })
 ";
 
+struct AgeCases;
+
+impl Cases for AgeCases {
+    fn told(alloc: Global, case: &str) -> Result<String, Fail> {
+        let (issued, month) = case.split_once(' ').ok_or("month")?;
+        let age = calendar::age(read_issue(issued)?, read_month(month)?);
+        shown(alloc, &age)
+    }
+}
+
 #[test]
 fn ages(rt: HostRuntime) -> Result<(), Fail> {
-    for row in AGES.lines() {
-        let (months, wanted) = row.split_once(" => ").ok_or("row")?;
-        let (issued, month) = months.split_once(' ').ok_or("month")?;
-        let age = calendar::age(read_issue(issued)?, read_month(month)?);
-        same(&rt, shown(rt.alloc(), &age)?.as_str(), wanted, months);
+    compare::<AgeCases>(&rt, rt.alloc(), AGES)
+}
+
+/// Issue months, and the first month of their rate's period.
+const PERIODS: &str = "\
+2005-05 => 2005-05
+2005-10 => 2005-05
+2005-11 => 2005-11
+2010-04 => 2009-11
+2099-12 => 2099-11
+";
+
+struct PeriodCases;
+
+impl Cases for PeriodCases {
+    fn told(alloc: Global, case: &str) -> Result<String, Fail> {
+        printed(alloc, Some(calendar::period_of(read_issue(case)?)))
     }
-    Ok(())
 }
 
 #[test]
 fn periods(rt: HostRuntime) -> Result<(), Fail> {
-    for (issued, wanted) in [
-        ("2005-05", "2005-05"),
-        ("2005-10", "2005-05"),
-        ("2005-11", "2005-11"),
-        ("2010-04", "2009-11"),
-        ("2099-12", "2099-11"),
-    ] {
-        let period = calendar::period_of(read_issue(issued)?);
-        assert!(rt; period == read_issue(wanted)?, "{issued}");
+    compare::<PeriodCases>(&rt, rt.alloc(), PERIODS)
+}
+
+/// Days, and their month.
+const MONTHS_OF_DAYS: &str = "\
+2005-05-01 => 2005-05
+2012-02-29 => 2012-02
+2012-03-01 => 2012-03
+2199-12-31 => 2199-12
+";
+
+struct MonthOfDayCases;
+
+impl Cases for MonthOfDayCases {
+    fn told(alloc: Global, case: &str) -> Result<String, Fail> {
+        printed(alloc, Some(calendar::month_of(read_day(case)?)))
     }
-    Ok(())
 }
 
 #[test]
 fn months_of_days(rt: HostRuntime) -> Result<(), Fail> {
-    for (day, wanted) in [
-        ("2005-05-01", "2005-05"),
-        ("2012-02-29", "2012-02"),
-        ("2012-03-01", "2012-03"),
-        ("2199-12-31", "2199-12"),
-    ] {
-        let month = calendar::month_of(read_day(day)?);
-        assert!(rt; month == read_month(wanted)?, "{day}");
+    compare::<MonthOfDayCases>(&rt, rt.alloc(), MONTHS_OF_DAYS)
+}
+
+/// Denominations, their units and their price in cents.
+const UNITS: &str = "\
+50 => 2 2500
+75 => 3 3750
+100 => 4 5000
+200 => 8 10000
+500 => 20 25000
+1000 => 40 50000
+5000 => 200 250000
+10000 => 400 500000
+";
+
+struct UnitCases;
+
+impl Cases for UnitCases {
+    fn told(alloc: Global, case: &str) -> Result<String, Fail> {
+        let denom = read_denom(case)?;
+        let (count, price) = (units(denom), price(denom).0);
+        Ok(format!(in alloc; "{count} {price}")?)
     }
-    Ok(())
 }
 
 #[test]
 fn units_and_prices(rt: HostRuntime) -> Result<(), Fail> {
-    for (denom, count, cents) in [
-        ("50", 2, 2500),
-        ("75", 3, 3750),
-        ("100", 4, 5000),
-        ("200", 8, 10_000),
-        ("500", 20, 25_000),
-        ("1000", 40, 50_000),
-        ("5000", 200, 250_000),
-        ("10000", 400, 500_000),
-    ] {
-        let denom = read_denom(denom)?;
-        assert!(rt; units(denom) == count, "{denom}");
-        assert!(rt; price(denom).0 == cents, "{denom}");
-    }
-    Ok(())
+    compare::<UnitCases>(&rt, rt.alloc(), UNITS)
 }

@@ -1,8 +1,9 @@
 //! Worked values. Each was found from the rules of value, and not by this crate.
 
-use crate::comparing::{same, shown};
+use crate::comparing::{Cases, compare, same, shown};
 use ee_units::{Age, Bits, Rate};
 use ee_value::*;
+use std::alloc::Global;
 use std::test::Fail;
 
 fn rates(hundredths: u16) -> Rates {
@@ -25,31 +26,59 @@ fn starts(table: &UnitTable, half_year: u8) -> [u64; 5] {
     [months, months + 6, months + 12, months + 18, months + 24].map(|months| table.at(age(months)))
 }
 
-#[test]
-fn exact_quarters(rt: HostRuntime) {
-    for places in 8..=62 {
-        for (hundredths, unit) in [(402, 1263), (808, 1275), (1218, 1288), (1632, 1300)] {
-            let found = unit_at(rates(hundredths), age(3), bits(places));
-            assert_eq!(rt; found, Ok(unit), "{hundredths} at {places} bits");
+/// Rates in hundredths, and the unit after 3 months, which is exact: so it is found at each precision.
+const QUARTERS: &str = "\
+402 => 1263 at 55 precisions
+808 => 1275 at 55 precisions
+1218 => 1288 at 55 precisions
+1632 => 1300 at 55 precisions
+";
+
+struct QuarterCases;
+
+impl Cases for QuarterCases {
+    fn told(alloc: Global, case: &str) -> Result<String, Fail> {
+        let rates = rates(case.parse()?);
+        let unit = unit_at(rates, age(3), bits(8))?;
+        let mut count: u64 = 0;
+        for places in 8..=62 {
+            if unit_at(rates, age(3), bits(places)) == Ok(unit) {
+                count = count.saturating_add(1);
+            }
         }
+        Ok(format!(in alloc; "{unit} at {count} precisions")?)
+    }
+}
+
+#[test]
+fn exact_quarters(rt: HostRuntime) -> Result<(), Fail> {
+    compare::<QuarterCases>(&rt, rt.alloc(), QUARTERS)
+}
+
+/// Rates in hundredths, ages in months, binary places, and the unit.
+const MONTHS: &str = "\
+350 9 62 => Ok(1283)
+350 1 62 => Ok(1254)
+350 1 8 => Err(Unsettled { month: Age { months: 1 } })
+2000 1 8 => Err(Unsettled { month: Age { months: 1 } })
+2000 9 62 => Ok(1442)
+2000 6 8 => Ok(1375)
+";
+
+struct MonthCases;
+
+impl Cases for MonthCases {
+    fn told(alloc: Global, case: &str) -> Result<String, Fail> {
+        let (rate, case) = case.split_once(' ').ok_or("months")?;
+        let (months, places) = case.split_once(' ').ok_or("places")?;
+        let (rates, age) = (rates(rate.parse()?), age(months.parse()?));
+        shown(alloc, &unit_at(rates, age, bits(places.parse()?)))
     }
 }
 
 #[test]
 fn months(rt: HostRuntime) -> Result<(), Fail> {
-    for (hundredths, months, places, unit) in [
-        (350, 9, 62, Some(1283)),
-        (350, 1, 62, Some(1254)),
-        (350, 1, 8, None),
-        (2000, 1, 8, None),
-        (2000, 9, 62, Some(1442)),
-        (2000, 6, 8, Some(1375)),
-    ] {
-        let found = unit_at(rates(hundredths), age(months), bits(places));
-        let wanted = unit.ok_or(Unsettled { month: age(months) });
-        assert_eq!(rt; found, wanted, "{hundredths} at {months}");
-    }
-    Ok(())
+    compare::<MonthCases>(&rt, rt.alloc(), MONTHS)
 }
 
 #[test]
@@ -64,46 +93,64 @@ fn texts_of_faults(rt: HostRuntime) -> Result<(), Fail> {
     Ok(())
 }
 
+/// Rates in hundredths, half-years, and the unit at the start of these and of the four after each.
+const CHAINS: &str = "\
+350 0 => [1250, 1272, 1294, 1317, 1340]
+350 5 => [1363, 1387, 1411, 1436, 1461]
+350 6 => [1387, 1411, 1436, 1461, 1487]
+350 36 => [2332, 2373, 2415, 2457, 2500]
+340 36 => [2292, 2331, 2371, 2411, 2500]
+360 0 => [1250, 1273, 1296, 1319, 1343]
+360 36 => [2376, 2419, 2463, 2507, 2552]
+2000 0 => [1250, 1375, 1513, 1664, 1830]
+2000 4 => [1830, 2013, 2214, 2435, 2679]
+2000 56 => [259966, 285963, 314559, 346015, 380617]
+";
+
+struct ChainCases;
+
+impl Cases for ChainCases {
+    fn told(alloc: Global, case: &str) -> Result<String, Fail> {
+        let (rate, first) = case.split_once(' ').ok_or("half-year")?;
+        let table = unit_table(alloc, rates(rate.parse()?), bits(62))?;
+        shown(alloc, &starts(&table, first.parse()?))
+    }
+}
+
 #[test]
 fn chains(rt: HostRuntime) -> Result<(), Fail> {
-    for (hundredths, first, units) in [
-        (350, 0, [1250, 1272, 1294, 1317, 1340]),
-        (350, 5, [1363, 1387, 1411, 1436, 1461]),
-        (350, 6, [1387, 1411, 1436, 1461, 1487]),
-        (350, 36, [2332, 2373, 2415, 2457, 2500]),
-        (340, 36, [2292, 2331, 2371, 2411, 2500]),
-        (360, 0, [1250, 1273, 1296, 1319, 1343]),
-        (360, 36, [2376, 2419, 2463, 2507, 2552]),
-        (2000, 0, [1250, 1375, 1513, 1664, 1830]),
-        (2000, 4, [1830, 2013, 2214, 2435, 2679]),
-        (2000, 56, [259_966, 285_963, 314_559, 346_015, 380_617]),
-    ] {
-        let table = unit_table(rt.alloc(), rates(hundredths), bits(62))?;
-        assert_eq!(rt; starts(&table, first), units, "{hundredths} from {first}");
+    compare::<ChainCases>(&rt, rt.alloc(), CHAINS)
+}
+
+/// Rates in hundredths, ages in months, and the unit in the table and alone.
+const AGES: &str = "\
+350 56 => 1469 Ok(1469)
+350 60 => 1487 Ok(1487)
+2000 359 => 374618 Ok(374618)
+2000 360 => 380617 Ok(380617)
+2000 361 => 380617 Ok(380617)
+2000 2335 => 380617 Ok(380617)
+0 0 => 1250 Ok(1250)
+0 239 => 1250 Ok(1250)
+0 240 => 2500 Ok(2500)
+0 2335 => 2500 Ok(2500)
+";
+
+struct AgeCases;
+
+impl Cases for AgeCases {
+    fn told(alloc: Global, case: &str) -> Result<String, Fail> {
+        let (rate, months) = case.split_once(' ').ok_or("months")?;
+        let (rates, age) = (rates(rate.parse()?), age(months.parse()?));
+        let unit = unit_table(alloc, rates, bits(62))?.at(age);
+        let alone = unit_at(rates, age, bits(62));
+        Ok(format!(in alloc; "{unit} {alone:?}")?)
     }
-    Ok(())
 }
 
 #[test]
 fn ages(rt: HostRuntime) -> Result<(), Fail> {
-    for (hundredths, months, unit) in [
-        (350, 56, 1469),
-        (350, 60, 1487),
-        (2000, 359, 374_618),
-        (2000, 360, 380_617),
-        (2000, 361, 380_617),
-        (2000, 2335, 380_617),
-        (0, 0, 1250),
-        (0, 239, 1250),
-        (0, 240, 2500),
-        (0, 2335, 2500),
-    ] {
-        let table = unit_table(rt.alloc(), rates(hundredths), bits(62))?;
-        assert_eq!(rt; table.at(age(months)), unit, "{hundredths} at {months}");
-        let found = unit_at(rates(hundredths), age(months), bits(62));
-        assert_eq!(rt; found, Ok(unit), "{hundredths} at {months}");
-    }
-    Ok(())
+    compare::<AgeCases>(&rt, rt.alloc(), AGES)
 }
 
 /// Rates in hundredths, denominations, ages in months, and what is paid, as `Debug` shows it.
@@ -133,17 +180,23 @@ const QUOTES: &str = "\
 0 10000 360 => Pays { cents: Cents(1000000), penalty: false, matured: true }
 ";
 
+struct QuoteCases;
+
+impl Cases for QuoteCases {
+    fn told(alloc: Global, case: &str) -> Result<String, Fail> {
+        let (rate, case) = case.split_once(' ').ok_or("denom")?;
+        let (denom, months) = case.split_once(' ').ok_or("months")?;
+        let table = unit_table(alloc, rates(rate.parse()?), bits(62))?;
+        shown(
+            alloc,
+            &bond_value(&table, denom.parse()?, age(months.parse()?)),
+        )
+    }
+}
+
 #[test]
 fn quotes(rt: HostRuntime) -> Result<(), Fail> {
-    for row in QUOTES.lines() {
-        let (bond, wanted) = row.split_once(" => ").ok_or("row")?;
-        let (rate, bond) = bond.split_once(' ').ok_or("rate")?;
-        let (denom, months) = bond.split_once(' ').ok_or("denom")?;
-        let table = unit_table(rt.alloc(), rates(rate.parse()?), bits(62))?;
-        let quote = bond_value(&table, denom.parse()?, age(months.parse()?));
-        same(&rt, shown(rt.alloc(), &quote)?.as_str(), wanted, row);
-    }
-    Ok(())
+    compare::<QuoteCases>(&rt, rt.alloc(), QUOTES)
 }
 
 /// At 62 binary places no rate is open at any age.

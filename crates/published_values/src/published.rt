@@ -1,3 +1,5 @@
+//! The values that the Treasury published.
+
 use anyhow::{Context, Result};
 use csv::StringRecord;
 use ee_units::{Cents, IssueMonth, Month};

@@ -1,22 +1,25 @@
 -- Sound books, refusals, and what an act sees.
-use Rattle.std.proofs.Common.{Bool, List, None, Option, Some, [], cond, false, length, true, ℕ, ◌≡◌, ◌≤◌}
-use Rattle.std.specs.List.{AllByRecursion, sum_by}
-use Rattle.std.specs.Option.{IfSome, is_none, option_map, option_or}
+use Rattle.std.proofs.Common.{Bool, List, None, Option, Some, [], cond, false, length, nat_eq, true, ℕ, ◌++◌, ◌∷◌, ◌≡◌, ◌≤◌}
+use Rattle.std.specs.List.{AllByRecursion, list_any, sum_by}
+use Rattle.std.specs.Option.{IfSome, is_none, is_some, option_eq, option_map, option_or}
 use Rattle.ee_desk_acts.specs.Acts.{applied, books_after, done}
 use Rattle.ee_desk_acts.specs.Conserved.{IsConserved}
 use Rattle.ee_desk_acts.specs.Effects.{accepted, effects_of}
-use Rattle.ee_desk_acts.specs.Paid.{ArePaidRight}
-use Rattle.ee_desk_acts.specs.PlainBooks.{PlainBooks, bonds_on, no_books, of_day, ticket_of, total_of}
+use Rattle.ee_desk_acts.specs.Paid.{ArePaidRight, paid_lines}
+use Rattle.ee_desk_acts.specs.PlainBooks.{PlainBooks, bonds_on, cents_of, names, no_books, of_day, ticket_of, total_of}
 use Rattle.ee_desk_acts.specs.Ranges.{IsInRange}
 use Rattle.ee_desk_acts.specs.Refusals.{first, first_of, refusal_of, refusal_of_held, length_refusal}
 use Rattle.ee_desk_acts.specs.Seen.{Seen, held_as, shown}
-use Rattle.ee_desk_acts.specs.Sound.{IsSound}
+use Rattle.ee_desk_acts.specs.Serials.{same_serial}
+use Rattle.ee_desk_acts.specs.Sound.{IsRightLine, IsSound, last_of}
 use Rattle.ee_desk_acts.specs.Values.{value_of}
 use Rattle.ee_desk_acts.specs.Views.{shown_by, view_of, needed_of}
 use Rattle.ee_desk_acts.specs.declared.acts.Act.{Act}
 use Rattle.ee_desk_acts.specs.declared.acts.Act.TheVariants.{OpenDay, Redeem}
 use Rattle.ee_desk_acts.specs.declared.changes.Held.{Held}
 use Rattle.ee_desk_acts.specs.declared.refusals.Refusal.{Refusal}
+use Rattle.ee_desk_acts.specs.declared.replies.Batch.{Batch}
+use Rattle.ee_desk_acts.specs.declared.replies.Line.{Line}
 use Rattle.ee_desk_acts.specs.declared.replies.Reply.TheVariants.{Refused}
 use Rattle.ee_desk_acts.specs.declared.replies.Ticket.{Ticket}
 use Rattle.ee_calculator.specs.declared.bonds.Bond.{Bond}
@@ -27,8 +30,10 @@ use Rattle.std.specs.FinMap as finite
 use Rattle.ee_desk_acts.proofs.Bounds
 use Rattle.ee_desk_acts.proofs.Conservation
 use Rattle.ee_desk_acts.proofs.PaidRight
+use Rattle.ee_desk_acts.proofs.SameActs
 use Rattle.ee_desk_acts.proofs.Seeing
 use Rattle.ee_desk_acts.proofs.Soundness
+use Rattle.ee_desk_acts.proofs.Tickets
 pub use Rattle.ee_desk_acts.proofs.Soundness.{IsPayable}
 
 -- ---- what sound books bound
@@ -47,6 +52,11 @@ few_tickets_on = Bounds.few_on
 -- a day's tickets pay at most 100,000 bonds
 pub few_bonds_on : (books : PlainBooks) (sound : IsSound books) (day : ℕ) → sum_by bonds_on (of_day day books.tickets) ≤ 100000
 few_bonds_on = Bounds.bonds_small
+
+-- a line pays at most 3,044,936 dollars
+pub line_le : (books : PlainBooks) → IsSound books → (ticket : Ticket) (line : Line) → IsRightLine books.rates books.bonds ticket line
+    → cents_of line ≤ 304493600
+line_le = Bounds.line_le
 
 -- a day's tickets pay at most 304,493,600,000 dollars
 pub small_total_on : (books : PlainBooks) (sound : IsSound books) (day : ℕ) → sum_by total_of (of_day day books.tickets) ≤ 30449360000000
@@ -142,7 +152,35 @@ pub redeem_on_open_day : (books : PlainBooks) (day payee : ℕ) (ss : List Seria
     → books.day ≡ Some day
 redeem_on_open_day = Soundness.redeem_opened
 
--- ---- options that are none
+-- ---- one ticket more
+-- a serial number is paid by the ticket that paid it, else by the new one where that names it
+pub ticket_of_push : (tickets : List Ticket) (t : Ticket) (q : SerialNumber)
+    → ticket_of (tickets ++ t ∷ []) q ≡ option_or (ticket_of tickets q) (cond (names q t) (Some t.ticket) None)
+ticket_of_push = Tickets.ticket_of_push
+
+-- a serial number that one of unpaid lines names is unpaid
+pub named_unpaid : (tickets : List Ticket) (q : SerialNumber) (lines : List Line) → AllByRecursion (λ line. ticket_of tickets line.serial ≡ None) lines
+    → list_any (λ line. same_serial q line.serial) lines ≡ true → ticket_of tickets q ≡ None
+named_unpaid = Tickets.unpaid_of
+
+-- the lines paid are those of before, and then the new ticket's
+pub paid_lines_push : (tickets : List Ticket) (t : Ticket) → paid_lines (tickets ++ t ∷ []) ≡ paid_lines tickets ++ t.lines
+paid_lines_push = Soundness.paid_append
+
+-- ---- one batch more
+-- the last closed day is the new batch's
+pub last_of_push : (batches : List Batch) (b : Batch) → last_of (batches ++ b ∷ []) ≡ Some b.day
+last_of_push = Soundness.last_pushed
+
+-- ---- options
+-- optional numbers that compare as the same are equal
+pub option_eq-is : (a b : Option ℕ) → option_eq nat_eq a b ≡ true → a ≡ b
+option_eq-is = SameActs.coowner_is
+
+-- an option that is told to be some has its value
+pub some_from_is_some : {A : Type 0} (o : Option A) → is_some o ≡ true → (x : A) × (o ≡ Some x)
+some_from_is_some = Soundness.some_is
+
 -- an option that is told to be none is none
 pub none_from_is_none : {A : Type 0} (o : Option A) → is_none o ≡ true → o ≡ None
 none_from_is_none = Soundness.none_is

@@ -1,8 +1,8 @@
 -- Orders of serial numbers and of requests' numbers; lists; finite maps.
-use Rattle.std.proofs.Common.{Bool, List, None, Option, Some, [], cond, drop, get_or, length, map, take, true, ℕ, ◌++◌, ◌+◌, ◌<◌, ◌∷◌, ◌≡◌}
+use Rattle.std.proofs.Common.{Bool, List, None, Option, Some, [], cond, drop, get_or, length, map, take, true, ℕ, ◌*◌, ◌++◌, ◌+◌, ◌<◌, ◌∷◌, ◌≡◌, ◌≤◌}
 use Rattle.std.specs.BTreeMap.{is_at}
 use Rattle.std.specs.Cmp.{IsTotalOrder}
-use Rattle.std.specs.List.{AllByRecursion, filter, list_any}
+use Rattle.std.specs.List.{AllByRecursion, filter, list_any, sum_by}
 use Rattle.std.specs.Map.{lookup}
 use Rattle.std.specs.Ordering.{eq_by_cmp}
 use Rattle.std.specs.declared.cmp.Ordering.{Ordering}
@@ -16,9 +16,11 @@ use Rattle.ee_desk_acts.specs.declared.refusals.Refusal.TheVariants.{Repeated}
 use Rattle.ee_calculator.specs.declared.bonds.Bond.{Bond}
 use Rattle.ee_units.specs.Spelling.{SerialNumber}
 use Rattle.std.specs.FinMap as finite
+use Rattle.ee_desk_acts.proofs.Bounds
 use Rattle.ee_desk_acts.proofs.Maps
 use Rattle.ee_desk_acts.proofs.Orders
 use Rattle.ee_desk_acts.proofs.RequestNumbers
+use Rattle.ee_desk_acts.proofs.SameActs
 
 -- ---- serial numbers
 -- serial numbers have a total order
@@ -40,6 +42,10 @@ same_serial-swap = Maps.serials_swap
 -- serial numbers that are the same are equal
 pub same_serial-is : (s q : SerialNumber) → same_serial s q ≡ true → s ≡ q
 same_serial-is = Maps.serial_is
+
+-- each serial number is the same as itself
+pub same_serial-self : (s : SerialNumber) → same_serial s s ≡ true
+same_serial-self = SameActs.serial_self
 
 -- ---- numbers of requests
 -- the numbers of requests have a total order
@@ -63,6 +69,10 @@ same_number-self = RequestNumbers.number_self
 pub all_weaker : {A : Type 0} (P Q : A → Type 0) → ((x : A) → P x → Q x) → (xs : List A) → AllByRecursion P xs → AllByRecursion Q xs
 all_weaker = Maps.all_map
 
+-- where all elements have one property and another, they have both
+pub all_both : {A : Type 0} (P Q : A → Type 0) (xs : List A) → AllByRecursion P xs → AllByRecursion Q xs → AllByRecursion (λ x. P x × Q x) xs
+all_both = Maps.all_both
+
 -- what the elements of two lists have, those of the two joined have
 pub all_append : {A : Type 0} (P : A → Type 0) (xs ys : List A) → AllByRecursion P xs → AllByRecursion P ys → AllByRecursion P (xs ++ ys)
 all_append = Orders.all_append
@@ -78,6 +88,14 @@ all_passed = Orders.all_passed
 -- what all elements have at a function, the elements of the list's image have
 pub all_mapped : {A B : Type 0} (P : B → Type 0) (f : A → B) (xs : List A) → AllByRecursion (λ x. P (f x)) xs → AllByRecursion P (map f xs)
 all_mapped = Orders.all_mapped
+
+-- what the elements of a list's image have, all elements have at the function
+pub all_unmapped : {A B : Type 0} (P : B → Type 0) (f : A → B) (xs : List A) → AllByRecursion P (map f xs) → AllByRecursion (λ x. P (f x)) xs
+all_unmapped = Orders.all_unmapped
+
+-- numbers of at most k each sum to at most k times their count
+pub sum_by_le : {A : Type 0} (f : A → ℕ) (k : ℕ) (xs : List A) → AllByRecursion (λ x. f x ≤ k) xs → sum_by f xs ≤ length xs * k
+sum_by_le = Bounds.sum_le
 
 -- in a rising list each element is below the last
 pub rising_below : (ds : List ℕ) (d : ℕ) → Rising (ds ++ d ∷ []) → AllByRecursion (λ x. x < d) ds

@@ -3,10 +3,14 @@ use Rattle.std.proofs.Common.{ℕ, ◌+◌, ◌≤◌, ◌^◌, false, IsTrue, [
 use Rattle.sqlite.specs.Effect.{Database, IsDatabase}
 use Rattle.sqlite.specs.State.{State, Shows, IsUnchanged}
 use Rattle.sqlite.specs.Tree.{Trees}
+use Rattle.sqlite_schema.specs.Rules.{Refers}
+use Rattle.sqlite_schema.specs.declared.schema.Among.{Among}
+use Rattle.ee_store_tables.specs.Tables.{counter_schema}
 use Rattle.ee_store_tables.specs.declared.failures.Failure.{Failure}
 use Rattle.ee_store_tables.specs.Rows.{Rises, HasRoomIn, HasRoom}
 use Rattle.ee_store_tables.specs.Statements.{IsExcused}
 use Rattle.ee_store_tables.proofs.CauseLemmas
+use Rattle.ee_store_tables.proofs.RefusalLemmas
 use Rattle.ee_store_tables.proofs.RoomLemmas
 use Rattle.ee_store_tables.proofs.TransactionLemmas.{begun}
 
@@ -22,6 +26,10 @@ excused_after = CauseLemmas.excused_after
 -- the cause of a failure that came before another statement
 pub excused_before : (old middle new : State) → middle.faults ≤ new.faults → (failure : Failure) → IsExcused old middle failure → IsExcused old new failure
 excused_before = CauseLemmas.excused_before
+
+-- no table refers to another
+pub no_references : (among : Among) (db : Trees) → Refers among counter_schema db
+no_references = RefusalLemmas.no_references
 
 -- ---- room
 -- an empty table has room for all rowids but one

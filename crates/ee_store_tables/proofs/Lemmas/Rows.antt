@@ -1,11 +1,11 @@
 -- Rows of tables as finite maps: how they are found and written.
-use Rattle.std.proofs.Common.{Bool, Err, Less, List, Ok, Option, Ordering, Result, [], false, filter, map, nat_cmp, pos, ℕ, ℤ, ◌∷◌, ◌≡◌, ◌⊎◌}
+use Rattle.std.proofs.Common.{Bool, Err, Less, List, Ok, Option, Ordering, Result, [], false, filter, map, nat_cmp, pos, ℕ, ℤ, ◌∷◌, ◌≡◌, ◌≢◌, ◌⊎◌}
 use Rattle.std.specs.Cmp.{IsTotalOrder}
 use Rattle.std.specs.FinMap.{FinMap, IsAntisymmetric, get, insert}
 use Rattle.std.specs.FinMap.Entries.{find, is_sorted}
 use Rattle.std.specs.List.{AllByRecursion, list_all}
 use Rattle.std.specs.Option.{option_to_list}
-use Rattle.std.specs.Prelude.{IsPermutation, T, flat_map, if◌then◌else◌, option_map, ◌&&◌}
+use Rattle.std.specs.Prelude.{IsPermutation, MatchOption, T, flat_map, if◌then◌else◌, option_map}
 use Rattle.sqlite.specs.Cast.{cast}
 use Rattle.sqlite.specs.Kind.TheVariants.{Integer}
 use Rattle.sqlite.specs.Order.{Row, value_cmp}
@@ -13,20 +13,25 @@ use Rattle.sqlite.specs.Program.{overlay}
 use Rattle.sqlite.specs.Query.{IsAnswer, Output, output, output_cmp, page}
 use Rattle.sqlite.specs.Term.{Term}
 use Rattle.sqlite.specs.Tree.{IsAscending, Trees, put_row}
+use Rattle.sqlite.specs.declared.types.Value.{Value}
 use Rattle.sqlite.specs.declared.types.Value.TheVariants.{Int, Null}
 use Rattle.sqlite_rules.specs.Edit.{is_taken}
 use Rattle.sqlite_sql.specs.Term.{Env, eval_all, holds}
 use Rattle.sqlite_value.specs.declared.keys.Key.{Key}
 use Rattle.ee_store_tables.specs.Keyed.{AreRows, HoldsMap, ReadAlike, pair_cmp, row_of}
+use Rattle.ee_store_tables.specs.Rows.{optional}
+use Rattle.ee_store_tables.proofs.ColumnLemmas
 use Rattle.ee_store_tables.proofs.HoldsLemmas
 use Rattle.ee_store_tables.proofs.KeyedLemmas
 use Rattle.ee_store_tables.proofs.OrderLemmas
 use Rattle.ee_store_tables.proofs.PairLemmas
 use Rattle.ee_store_tables.proofs.ReadLemmas
+use Rattle.ee_store_tables.proofs.SameLemmas
 use Rattle.ee_store_tables.proofs.SelectLemmas
 use Rattle.ee_store_tables.proofs.WriteLemmas
 pub use Rattle.ee_store_tables.proofs.Meaning.{by_number, by_column, no_limit, ordered_query}
 pub use Rattle.ee_store_tables.proofs.PairLemmas.{tied}
+pub use Rattle.ee_store_tables.proofs.SameLemmas.{int_in, natural, number_in, optional_in}
 
 -- ---- queries of one table
 -- the rows that a condition keeps, as they are shown
@@ -98,10 +103,6 @@ at_most_one = HoldsLemmas.at_most_one
 pub first_two_exchanged : {X : Type 0} (x y : X) (zs : List X) → IsPermutation (x ∷ y ∷ zs) (y ∷ x ∷ zs)
 first_two_exchanged = PairLemmas.exchanged
 
--- where both hold, each does
-pub both_parts : (a b : Bool) → T (a && b) → T a × T b
-both_parts = PairLemmas.both_parts
-
 -- ---- values as they are written
 -- a whole number stays as it is in a column of whole numbers
 pub cast_int : (n : ℕ) → cast Integer (Int (pos n)) ≡ Int (pos n)
@@ -110,6 +111,14 @@ cast_int = WriteLemmas.cast_int
 -- an absent value stays absent
 pub cast_null : cast Integer Null ≡ Null
 cast_null = WriteLemmas.cast_null
+
+-- an optional number is read back from its value
+pub optional_back : (o : Option ℕ) → optional_in (optional o) ≡ o
+optional_back = SameLemmas.optional_back
+
+-- a value that is told to be no number, or this number, is that of the option
+pub reads_optional : (v : Value) (o : Option ℕ) → MatchOption o (v ≡ Null) (λ n. (v ≢ Null) × (v ≡ Int (pos n))) → v ≡ optional o
+reads_optional = ColumnLemmas.reads_optional
 
 -- a part that gave a value did not stop on the way
 pub went_on : {B E R : Type 0} {b : B} {Stops : E → Type 0} → ((stop : E) × Stops stop × (Ok b ≡ Err stop)) ⊎ R → R

@@ -1,36 +1,14 @@
-use std::io::{self, ErrorKind, Read, Write};
+//! Devices that cut and fail.
 
-/// Gives at most `step` bytes a read; one read is in trouble, and a second try would read on.
-#[derive(Drop)]
-pub struct Source<'a> {
-    pub bytes: &'a [u8],
-    pub step: usize,
-    pub calls: usize,
-    pub trouble: Option<(usize, ErrorKind)>,
-}
-
-impl Read for Source<'_> {
-    fn read(&mut self, buf: &mut [u8]) -> io::Result<usize> {
-        self.calls = self.calls.saturating_add(1);
-        if let Some((call, kind)) = self.trouble
-            && self.calls == call
-        {
-            return Err(kind.into());
-        }
-        let count = buf.len().min(self.step).min(self.bytes.len());
-        buf[..count].copy_from_slice(&self.bytes[..count]);
-        self.bytes = &self.bytes[count..];
-        Ok(count)
-    }
-}
+use std::io::{self, ErrorKind, Write};
 
 /// Takes a byte at a time, 200 at most, and takes no memory. One write is in trouble.
 #[derive(Drop)]
 pub struct Page {
-    pub bytes: [u8; 200],
-    pub len: usize,
-    pub calls: usize,
-    pub trouble: Option<(usize, ErrorKind)>,
+    bytes: [u8; 200],
+    len: usize,
+    calls: usize,
+    trouble: Option<(usize, ErrorKind)>,
 }
 
 impl Page {

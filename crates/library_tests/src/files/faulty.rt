@@ -1,197 +1,212 @@
-//! Files that are broken, too long, or can't be read.
+//! Files that are broken, too long, or can't be read. In the tables `|` stands for a line feed, `^` for a carriage
+//! return and `~` for the byte FF.
 
-use super::devices::Source;
-use super::samples::{INVENTORY, RATES, bonds_of, rates_of};
-use ee_files::{Column, FileCode, FileFault, MOST_BYTES, read_inventory, read_rates};
+use super::samples::{INVENTORY, RATES, THREE_BONDS, TWO_RATES, bonds_told, rates_told, rows_told};
+use crate::comparing::{Cases, bytes_of, compare, same};
+use crate::device::Source;
+use ee_files::{FileFault, MOST_BYTES, read_inventory, read_rates};
+use std::alloc::Global;
 use std::io::ErrorKind;
+use std::process::Abort;
 use std::test::Fail;
 
+/// Row and code of the fault, or how many rows were read.
+fn fault_told<T: Drop>(alloc: Global, rows: Result<Vec<T>, FileFault>) -> Result<String, Fail> {
+    match rows {
+        Ok(rows) => Ok(format!(in alloc; "{} rows", rows.len())?),
+        Err(fault) => Ok(format!(in alloc; "{} {:?}", fault.row, fault.code)?),
+    }
+}
+
+fn rate_fault(alloc: Global, mut file: &[u8]) -> Result<String, Fail> {
+    fault_told(alloc, read_rates(alloc, &mut file))
+}
+
+fn bond_fault(alloc: Global, mut file: &[u8]) -> Result<String, Fail> {
+    fault_told(alloc, read_inventory(alloc, &mut file))
+}
+
+/// Files of rates, and their first fault.
+const RATE_FAULTS: &str = "\
+from;rate|2010-05;2.00| => 1 BadHeader
+rate,from| => 1 BadHeader
+from,rate,| => 1 BadHeader
+from| => 1 BadHeader
+From,rate| => 1 BadHeader
+from, rate| => 1 BadHeader
+~| => 1 BadHeader
+from,rate|2010-05| => 2 WrongFieldCount
+from,rate|2010-05,2.00,| => 2 WrongFieldCount
+from,rate|\"2010-05,2.00\"| => 2 WrongFieldCount
+from,rate|2010-05,20.01| => 2 BadValue(Rate)
+from,rate|2010-05, 2.00| => 2 BadValue(Rate)
+from,rate|2010-05 ,2.00| => 2 BadValue(From)
+from,rate|2100-01,2.00| => 2 BadValue(From)
+from,rate|,| => 2 BadValue(From)
+from,rate|\"2010,05\",2.00| => 2 BadValue(From)
+from,rate|2010-05,\"2|.00\"| => 2 BadValue(Rate)
+from,rate|2010-05,2.00||\"2010^|05\",2| => 3 BadValue(From)
+from,rate|~,2.00| => 2 BadValue(From)
+from,rate|2010-05,2.00~| => 2 BadValue(Rate)
+from,rate|2010-05,2.00|x,y|2010-11| => 3 BadValue(From)
+from,rate|2010-05,2.00|2010-11|x,y| => 3 WrongFieldCount
+";
+
+struct RateFaultCases;
+
+impl Cases for RateFaultCases {
+    fn told(alloc: Global, case: &str) -> Result<String, Fail> {
+        rate_fault(alloc, &bytes_of(alloc, case)?)
+    }
+}
+
 #[test]
-fn first_fault_of_a_rate_file(rt: HostRuntime) {
-    let from = FileCode::BadValue(Column::From);
-    let rate = FileCode::BadValue(Column::Rate);
-    for (file, row, code) in [
-        (
-            b"from;rate\n2010-05;2.00\n".as_slice(),
-            1,
-            FileCode::BadHeader,
-        ),
-        (b"rate,from\n".as_slice(), 1, FileCode::BadHeader),
-        (b"from,rate,\n".as_slice(), 1, FileCode::BadHeader),
-        (b"from\n".as_slice(), 1, FileCode::BadHeader),
-        (b"From,rate\n".as_slice(), 1, FileCode::BadHeader),
-        (b"from, rate\n".as_slice(), 1, FileCode::BadHeader),
-        (b"\xff\n".as_slice(), 1, FileCode::BadHeader),
-        (
-            b"from,rate\n2010-05\n".as_slice(),
-            2,
-            FileCode::WrongFieldCount,
-        ),
-        (
-            b"from,rate\n2010-05,2.00,\n".as_slice(),
-            2,
-            FileCode::WrongFieldCount,
-        ),
-        (
-            b"from,rate\n\"2010-05,2.00\"\n".as_slice(),
-            2,
-            FileCode::WrongFieldCount,
-        ),
-        (b"from,rate\n2010-05,20.01\n".as_slice(), 2, rate),
-        (b"from,rate\n2010-05, 2.00\n".as_slice(), 2, rate),
-        (b"from,rate\n2010-05 ,2.00\n".as_slice(), 2, from),
-        (b"from,rate\n2100-01,2.00\n".as_slice(), 2, from),
-        (b"from,rate\n,\n".as_slice(), 2, from),
-        (b"from,rate\n\"2010,05\",2.00\n".as_slice(), 2, from),
-        (b"from,rate\n2010-05,\"2\n.00\"\n".as_slice(), 2, rate),
-        (
-            b"from,rate\n2010-05,2.00\n\n\"2010\r\n05\",2\n".as_slice(),
-            3,
-            from,
-        ),
-        (b"from,rate\n\xff,2.00\n".as_slice(), 2, from),
-        (b"from,rate\n2010-05,2.00\xff\n".as_slice(), 2, rate),
-        (
-            b"from,rate\n2010-05,2.00\nx,y\n2010-11\n".as_slice(),
-            3,
-            from,
-        ),
-        (
-            b"from,rate\n2010-05,2.00\n2010-11\nx,y\n".as_slice(),
-            3,
-            FileCode::WrongFieldCount,
-        ),
-    ] {
-        let wanted = Some(FileFault { row, code });
-        assert_eq!(rt; rates_of(&rt, file).err(), wanted, "{file:?}");
+fn first_fault_of_a_rate_file(rt: HostRuntime) -> Result<(), Fail> {
+    compare::<RateFaultCases>(&rt, rt.alloc(), RATE_FAULTS)
+}
+
+/// Lines after the sample's three, and the fault.
+const BOND_FAULTS: &str = "\
+l1EE,50,2010-11,7,| => 5 BadValue(Serial)
+~,50,2010-11,7,| => 5 BadValue(Serial)
+L1EE,60,2010-11,7,| => 5 BadValue(Denom)
+L1EE,50~,2010-11,7,| => 5 BadValue(Denom)
+L1EE,50,2005-04,7,| => 5 BadValue(Issued)
+L1EE,50,~2010-11,7,| => 5 BadValue(Issued)
+L1EE,50,2010-11,0,| => 5 BadValue(Owner)
+L1EE,50,2010-11,,| => 5 BadValue(Owner)
+L1EE,50,2010-11,~,| => 5 BadValue(Owner)
+L1EE,50,2010-11,7,0| => 5 BadValue(Coowner)
+L1EE,50,2010-11,7, | => 5 BadValue(Coowner)
+L1EE,50,2010-11,7,~| => 5 BadValue(Coowner)
+L1EE,50,2010-11,x,y| => 5 BadValue(Owner)
+";
+
+struct BondFaultCases;
+
+impl Cases for BondFaultCases {
+    fn told(alloc: Global, case: &str) -> Result<String, Fail> {
+        let mut file = Vec::from_slice(alloc, INVENTORY.as_bytes())?;
+        file.extend_from_slice(&bytes_of(alloc, case)?)?;
+        bond_fault(alloc, &file)
     }
 }
 
 #[test]
 fn first_fault_of_an_inventory(rt: HostRuntime) -> Result<(), Fail> {
     let cut = INVENTORY.strip_suffix(",7,\n").ok_or("no end")?;
-    let fault = FileFault {
-        row: 4,
-        code: FileCode::WrongFieldCount,
-    };
-    assert_eq!(rt; bonds_of(&rt, cut.as_bytes()).err(), Some(fault));
-    for (line, column) in [
-        (b"l1EE,50,2010-11,7,\n".as_slice(), Column::Serial),
-        (b"\xff,50,2010-11,7,\n".as_slice(), Column::Serial),
-        (b"L1EE,60,2010-11,7,\n".as_slice(), Column::Denom),
-        (b"L1EE,50\xff,2010-11,7,\n".as_slice(), Column::Denom),
-        (b"L1EE,50,2005-04,7,\n".as_slice(), Column::Issued),
-        (b"L1EE,50,\xff2010-11,7,\n".as_slice(), Column::Issued),
-        (b"L1EE,50,2010-11,0,\n".as_slice(), Column::Owner),
-        (b"L1EE,50,2010-11,,\n".as_slice(), Column::Owner),
-        (b"L1EE,50,2010-11,\xff,\n".as_slice(), Column::Owner),
-        (b"L1EE,50,2010-11,7,0\n".as_slice(), Column::Coowner),
-        (b"L1EE,50,2010-11,7, \n".as_slice(), Column::Coowner),
-        (b"L1EE,50,2010-11,7,\xff\n".as_slice(), Column::Coowner),
-        (b"L1EE,50,2010-11,x,y\n".as_slice(), Column::Owner),
-    ] {
-        let mut file = Vec::new(rt.alloc());
-        file.extend_from_slice(INVENTORY.as_bytes())?;
-        file.extend_from_slice(line)?;
-        let fault = FileFault {
-            row: 5,
-            code: FileCode::BadValue(column),
-        };
-        assert_eq!(rt; bonds_of(&rt, &file).err(), Some(fault), "{line:?}");
+    let told = bond_fault(rt.alloc(), cut.as_bytes())?;
+    same(&rt, told.as_str(), "4 WrongFieldCount", "cut");
+    compare::<BondFaultCases>(&rt, rt.alloc(), BOND_FAULTS)
+}
+
+/// How many good rows and which last ones a file has, and what is told of one of rates and of an inventory: what comes
+/// after the first 501 rows isn't read.
+const LONG_FILES: &str = "\
+500| => 500 rows, 500 rows
+501| => 501 rows, 501 rows
+502| => 501 rows, 501 rows
+501|x| => 501 rows, 501 rows
+500|x| => 502 WrongFieldCount, 502 WrongFieldCount
+";
+
+/// A header, a row so many times, and the last ones.
+fn long_file(
+    alloc: Global,
+    header: &str,
+    row: &str,
+    count: u64,
+    last: &[u8],
+) -> Result<Vec<u8>, Fail> {
+    let mut file = Vec::from_slice(alloc, header.as_bytes())?;
+    for _ in 0..count {
+        file.extend_from_slice(row.as_bytes())?;
     }
-    Ok(())
+    file.extend_from_slice(last)?;
+    Ok(file)
+}
+
+struct LongFileCases;
+
+impl Cases for LongFileCases {
+    fn told(alloc: Global, case: &str) -> Result<String, Fail> {
+        let (count, last) = case.split_once('|').ok_or("count")?;
+        let (count, last) = (count.parse()?, bytes_of(alloc, last)?);
+        let rates = long_file(alloc, "from,rate\n", "2010-05,2.00\n", count, &last)?;
+        let header = "serial,denom,issued,owner,coowner\n";
+        let bonds = long_file(alloc, header, "L1EE,50,2010-11,7,\n", count, &last)?;
+        let (rates, bonds) = (rate_fault(alloc, &rates)?, bond_fault(alloc, &bonds)?);
+        Ok(format!(in alloc; "{rates}, {bonds}")?)
+    }
 }
 
 #[test]
 fn rows_beyond_the_first_501_are_not_read(rt: HostRuntime) -> Result<(), Fail> {
-    for (good, last, wanted) in [
-        (500, "", Ok(500)),
-        (501, "", Ok(501)),
-        (502, "", Ok(501)),
-        (501, "x\n", Ok(501)),
-        (500, "x\n", Err((502, 71))),
-    ] {
-        let mut rates = Vec::new(rt.alloc());
-        rates.extend_from_slice(b"from,rate\n")?;
-        let mut bonds = Vec::new(rt.alloc());
-        bonds.extend_from_slice(b"serial,denom,issued,owner,coowner\n")?;
-        for _ in 0..good {
-            rates.extend_from_slice(b"2010-05,2.00\n")?;
-            bonds.extend_from_slice(b"L1EE,50,2010-11,7,\n")?;
-        }
-        rates.extend_from_slice(last.as_bytes())?;
-        bonds.extend_from_slice(last.as_bytes())?;
-        let case = (good, last);
-        let rows = rates_of(&rt, &rates).map(|rows| rows.len());
-        let rows = rows.map_err(|fault| (fault.row, fault.code.code()));
-        assert_eq!(rt; rows, wanted, "{case:?}");
-        let rows = bonds_of(&rt, &bonds).map(|rows| rows.len());
-        let rows = rows.map_err(|fault| (fault.row, fault.code.code()));
-        assert_eq!(rt; rows, wanted, "{case:?}");
-    }
-    Ok(())
+    compare::<LongFileCases>(&rt, rt.alloc(), LONG_FILES)
 }
 
-// Lines that are empty make a file long, and are no records.
+/// First bytes and how many line feeds come after them, and what is told of them as rates and as an inventory: empty
+/// lines make a file long, and are no records.
+const EMPTY_LINES: &str = "\
+1048576 => 0 rows, 0 rows
+1048577 => 1 FileTooLong, 1 FileTooLong
+x 1048576 => 1 FileTooLong, 1 FileTooLong
+";
+
+struct EmptyLineCases;
+
+impl Cases for EmptyLineCases {
+    fn told(alloc: Global, case: &str) -> Result<String, Fail> {
+        let (first, count) = case.split_once(' ').unwrap_or(("", case));
+        let file = long_file(alloc, first, "\n", count.parse()?, b"")?;
+        let (rates, bonds) = (rate_fault(alloc, &file)?, bond_fault(alloc, &file)?);
+        Ok(format!(in alloc; "{rates}, {bonds}")?)
+    }
+}
+
 #[test]
 fn too_long_before_its_records(rt: HostRuntime) -> Result<(), Fail> {
-    let too_long = FileFault {
-        row: 1,
-        code: FileCode::FileTooLong,
-    };
     assert_eq!(rt; MOST_BYTES, 1_048_576);
-    let mut file = vec![in rt.alloc(); b'\n'; 1_048_577]?;
-    assert_eq!(rt; rates_of(&rt, &file[1..])?.len(), 0);
-    assert_eq!(rt; rates_of(&rt, &file).err(), Some(too_long));
-    assert_eq!(rt; bonds_of(&rt, &file).err(), Some(too_long));
-    file[0] = b'x';
-    assert_eq!(rt; rates_of(&rt, &file).err(), Some(too_long));
+    compare::<EmptyLineCases>(&rt, rt.alloc(), EMPTY_LINES)
+}
+
+/// What is told of a sample that is read a byte at a time, in trouble at one read.
+fn told_in_trouble(
+    alloc: Global,
+    file: &str,
+    call: usize,
+    kind: ErrorKind,
+) -> Result<String, Fail> {
+    let mut source = Source::of(file.as_bytes(), 1, Some((call, kind)));
+    if file == RATES {
+        return rows_told(alloc, read_rates(alloc, &mut source));
+    }
+    rows_told(alloc, read_inventory(alloc, &mut source))
+}
+
+/// A sample in trouble at each read in turn; the last read finds the end.
+fn fails_at_each_read(
+    rt: &impl Abort,
+    alloc: Global,
+    file: &str,
+    rows: &str,
+    kind: ErrorKind,
+) -> Result<(), Fail> {
+    let last = file.len().saturating_add(1);
+    for call in 1..=last {
+        let told = told_in_trouble(alloc, file, call, kind)?;
+        same(rt, told.as_str(), "row 1 code 73", "in trouble");
+    }
+    let told = told_in_trouble(alloc, file, last.saturating_add(1), kind)?;
+    same(rt, told.as_str(), rows, "after the end");
     Ok(())
 }
 
-fn source(file: &str, call: usize, kind: ErrorKind) -> Source<'_> {
-    Source {
-        bytes: file.as_bytes(),
-        step: 1,
-        calls: 0,
-        trouble: Some((call, kind)),
-    }
-}
-
-// One byte at a time, in trouble at each read in turn; the last read finds the end.
 #[test]
 fn a_failed_read_is_not_tried_again(rt: HostRuntime) -> Result<(), Fail> {
-    let failed = FileFault {
-        row: 1,
-        code: FileCode::ReadFailed,
-    };
-    let rates = rates_of(&rt, RATES.as_bytes())?;
-    let bonds = bonds_of(&rt, INVENTORY.as_bytes())?;
     for kind in [ErrorKind::Other, ErrorKind::Interrupted] {
-        for call in 1..=RATES.len() + 2 {
-            match read_rates(rt.alloc(), &mut source(RATES, call, kind)) {
-                Ok(rows) => {
-                    assert!(rt; call > RATES.len() + 1, "{call}");
-                    assert_eq!(rt; &rows[..], &rates[..]);
-                }
-                Err(fault) => {
-                    assert!(rt; call <= RATES.len() + 1, "{call}");
-                    assert_eq!(rt; fault, failed, "{call}");
-                }
-            }
-        }
-        for call in 1..=INVENTORY.len() + 2 {
-            match read_inventory(rt.alloc(), &mut source(INVENTORY, call, kind)) {
-                Ok(rows) => {
-                    assert!(rt; call > INVENTORY.len() + 1, "{call}");
-                    assert_eq!(rt; &rows[..], &bonds[..]);
-                }
-                Err(fault) => {
-                    assert!(rt; call <= INVENTORY.len() + 1, "{call}");
-                    assert_eq!(rt; fault, failed, "{call}");
-                }
-            }
-        }
+        fails_at_each_read(&rt, rt.alloc(), RATES, TWO_RATES, kind)?;
+        fails_at_each_read(&rt, rt.alloc(), INVENTORY, THREE_BONDS, kind)?;
     }
     Ok(())
 }

@@ -1,8 +1,9 @@
-//! Files that are good.
+//! Files that are good. In the tables `|` stands for a line feed and `^` for a carriage return.
 
-use ee_calculator::Bond;
+use crate::comparing::{Cases, bytes_of, compare, shown};
 use ee_files::{FileFault, read_inventory, read_rates};
-use ee_value::{RateRow, Rates};
+use std::alloc::Global;
+use std::fmt::Debug;
 use std::test::Fail;
 
 pub const RATES: &str = "from,rate\n2010-05,2.00\n2010-11,3.50%\n";
@@ -10,92 +11,90 @@ pub const RATES: &str = "from,rate\n2010-05,2.00\n2010-11,3.50%\n";
 pub const INVENTORY: &str =
     "serial,denom,issued,owner,coowner\nL1EE,50,2010-11,7,\nK-0002-EE,75,10/2010,7,8\nM3EE,10000,2011-02,7,\n";
 
-pub fn rates_of(rt: &HostRuntime, mut file: &[u8]) -> Result<Vec<RateRow>, FileFault> {
-    read_rates(rt.alloc(), &mut file)
+/// The rows of `RATES`, as `Debug` shows them.
+pub const TWO_RATES: &str =
+    "[RateRow { from: IssueMonth { count: 60 }, rates: Rates { fixed: Rate { hundredths: 200 } } }, RateRow { from: IssueMonth { count: 66 }, rates: Rates { fixed: Rate { hundredths: 350 } } }]";
+
+/// The bonds of `INVENTORY`, as `Debug` shows them.
+pub const THREE_BONDS: &str =
+    "[Bond { serial: Serial { letter: 12, number: 1 }, denom: Fifty, issued: IssueMonth { count: 66 }, owner: Customer { number: 7 }, coowner: None }, Bond { serial: Serial { letter: 11, number: 2 }, denom: SeventyFive, issued: IssueMonth { count: 65 }, owner: Customer { number: 7 }, coowner: Some(Customer { number: 8 }) }, Bond { serial: Serial { letter: 13, number: 3 }, denom: TenThousand, issued: IssueMonth { count: 69 }, owner: Customer { number: 7 }, coowner: None }]";
+
+/// The rows that were read as `Debug` shows them, or the text of the fault.
+pub fn rows_told<T: Debug + Drop>(
+    alloc: Global,
+    rows: Result<Vec<T>, FileFault>,
+) -> Result<String, Fail> {
+    match rows {
+        Ok(rows) => shown(alloc, &rows),
+        Err(fault) => Ok(fault.to_string(alloc)?),
+    }
 }
 
-pub fn bonds_of(rt: &HostRuntime, mut file: &[u8]) -> Result<Vec<Bond>, FileFault> {
-    read_inventory(rt.alloc(), &mut file)
+/// What is told of a file of rates.
+pub fn rates_told(alloc: Global, mut file: &[u8]) -> Result<String, Fail> {
+    rows_told(alloc, read_rates(alloc, &mut file))
 }
 
-pub fn rate_row(from: &str, rate: &str) -> Result<RateRow, Fail> {
-    Ok(RateRow {
-        from: from.parse()?,
-        rates: Rates {
-            fixed: rate.parse()?,
-        },
-    })
+/// What is told of an inventory.
+pub fn bonds_told(alloc: Global, mut file: &[u8]) -> Result<String, Fail> {
+    rows_told(alloc, read_inventory(alloc, &mut file))
 }
 
-pub fn bond(serial: &str, denom: &str, issued: &str, coowner: Option<&str>) -> Result<Bond, Fail> {
-    Ok(Bond {
-        serial: serial.parse()?,
-        denom: denom.parse()?,
-        issued: issued.parse()?,
-        owner: "7".parse()?,
-        coowner: match coowner {
-            Some(coowner) => Some(coowner.parse()?),
-            None => None,
-        },
-    })
+/// `what` where the text is the known one, else the text.
+fn named(alloc: Global, text: String, known: &str, what: &str) -> Result<String, Fail> {
+    if text.as_str() == known {
+        return Ok(String::from_str(alloc, what)?);
+    }
+    Ok(text)
 }
 
-/// The bonds of `INVENTORY`.
-pub fn three_bonds() -> Result<[Bond; 3], Fail> {
-    Ok([
-        bond("L1EE", "50", "2010-11", None)?,
-        bond("K2EE", "75", "2010-10", Some("8"))?,
-        bond("M3EE", "10000", "2011-02", None)?,
-    ])
+/// Files of rates: the sample, files without rows, and the sample as spreadsheets write it: other line ends, no
+/// last one, a byte order mark, quotes, empty lines and other spellings.
+const RATE_FILES: &str = "\
+from,rate|2010-05,2.00|2010-11,3.50%| => the sample
+ => []
+|^| => []
+\u{feff} => []
+from,rate => []
+from,rate^| => []
+from,rate^|2010-05,2.00^|2010-11,3.50%^| => the sample
+from,rate^2010-05,2.00^2010-11,3.50%^ => the sample
+from,rate|2010-05,2.00|2010-11,3.50% => the sample
+\u{feff}from,rate|2010-05,2.00|2010-11,3.50%| => the sample
+\"from\",\"rate\"|\"2010-05\",\"2.00\"|\"2010-11\",\"3.50%\"| => the sample
+\u{feff}\"from\",\"rate\"^|\"2010-05\",2.00^|2010-11,\"3.50%\"^| => the sample
+||from,rate||2010-05,2.00^|^|^|2010-11,3.50%|| => the sample
+from,rate|05/2010,2|11/2010,03.5| => the sample
+";
+
+struct RateFileCases;
+
+impl Cases for RateFileCases {
+    fn told(alloc: Global, case: &str) -> Result<String, Fail> {
+        let text = rates_told(alloc, &bytes_of(alloc, case)?)?;
+        named(alloc, text, TWO_RATES, "the sample")
+    }
+}
+
+/// Inventories: the sample, files without rows, and another spelling.
+const BOND_FILES: &str = "\
+serial,denom,issued,owner,coowner|L1EE,50,2010-11,7,|K-0002-EE,75,10/2010,7,8|M3EE,10000,2011-02,7,| => the sample
+ => []
+serial,denom,issued,owner,coowner| => []
+serial,denom,issued,owner,coowner^|\"C-0012-EE\",\"100\",\"05/2010\",\"007\",\"9\"^| => [Bond { serial: Serial { letter: 3, number: 12 }, denom: Hundred, issued: IssueMonth { count: 60 }, owner: Customer { number: 7 }, coowner: Some(Customer { number: 9 }) }]
+";
+
+struct BondFileCases;
+
+impl Cases for BondFileCases {
+    fn told(alloc: Global, case: &str) -> Result<String, Fail> {
+        let text = bonds_told(alloc, &bytes_of(alloc, case)?)?;
+        named(alloc, text, THREE_BONDS, "the sample")
+    }
 }
 
 #[test]
 fn files_give_their_rows(rt: HostRuntime) -> Result<(), Fail> {
-    let wanted = [rate_row("2010-05", "2.00")?, rate_row("2010-11", "3.50")?];
-    let rows = rates_of(&rt, RATES.as_bytes())?;
-    assert_eq!(rt; &rows[..], &wanted[..]);
-    let wanted = three_bonds()?;
-    let bonds = bonds_of(&rt, INVENTORY.as_bytes())?;
-    assert_eq!(rt; &bonds[..], &wanted[..]);
-    for file in ["", "\n\r\n", "\u{feff}", "from,rate", "from,rate\r\n"] {
-        assert_eq!(rt; rates_of(&rt, file.as_bytes())?.len(), 0, "{file:?}");
-    }
-    for file in ["", "serial,denom,issued,owner,coowner\n"] {
-        assert_eq!(rt; bonds_of(&rt, file.as_bytes())?.len(), 0, "{file:?}");
-    }
-    Ok(())
-}
-
-// As spreadsheets write them.
-#[test]
-fn other_spellings_give_the_same_rows(rt: HostRuntime) -> Result<(), Fail> {
-    let wanted = [rate_row("2010-05", "2.00")?, rate_row("2010-11", "3.50")?];
-    for (name, file) in [
-        ("CR LF", "from,rate\r\n2010-05,2.00\r\n2010-11,3.50%\r\n"),
-        ("CR", "from,rate\r2010-05,2.00\r2010-11,3.50%\r"),
-        ("no end", "from,rate\n2010-05,2.00\n2010-11,3.50%"),
-        ("mark", "\u{feff}from,rate\n2010-05,2.00\n2010-11,3.50%\n"),
-        (
-            "quotes",
-            "\"from\",\"rate\"\n\"2010-05\",\"2.00\"\n\"2010-11\",\"3.50%\"\n",
-        ),
-        (
-            "mark, quotes",
-            "\u{feff}\"from\",\"rate\"\r\n\"2010-05\",2.00\r\n2010-11,\"3.50%\"\r\n",
-        ),
-        (
-            "empty lines",
-            "\n\nfrom,rate\n\n2010-05,2.00\r\n\r\n\r\n2010-11,3.50%\n\n",
-        ),
-        ("spellings", "from,rate\n05/2010,2\n11/2010,03.5\n"),
-    ] {
-        let rows = rates_of(&rt, file.as_bytes())?;
-        assert_eq!(rt; &rows[..], &wanted[..], "{name}");
-    }
-    let wanted = [bond("C12EE", "100", "2010-05", Some("9"))?];
-    let file =
-        "serial,denom,issued,owner,coowner\r\n\"C-0012-EE\",\"100\",\"05/2010\",\"007\",\"9\"\r\n";
-    let bonds = bonds_of(&rt, file.as_bytes())?;
-    assert_eq!(rt; &bonds[..], &wanted[..]);
-    Ok(())
+    compare::<RateFileCases>(&rt, rt.alloc(), RATE_FILES)?;
+    compare::<BondFileCases>(&rt, rt.alloc(), BOND_FILES)
 }

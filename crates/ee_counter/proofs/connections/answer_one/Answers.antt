@@ -1,4 +1,4 @@
-use Rattle.std.proofs.Common.{◌∙◌, refl, sym, subst, List, ℕ, Some, Err}
+use Rattle.std.proofs.Common.{◌∙◌, refl, sym, subst, arith, List, ℕ, Some, Err}
 use Rattle.std.specs.Io.KnownBytes.{Appends}
 use Rattle.ee_wire_framing.specs.Reading.{message_in}
 use Rattle.ee_wire.specs.Answers.{answer_text, WritesAnswer}
@@ -69,3 +69,12 @@ returns-in-Err-WriteFailed-clause-failed g c = λ yes.
 pub returns-clause-failed : goal.returns-clause-failed
 returns-clause-failed g c = λ yes.
     either (tells_failure c.answer_to-answer.result) c.args.store_failed g.K.Keeper.may_fail c.answer_to-answer.ensures.failed c.requires.failed (sym c.has_failed-store_failed.ensures ∙ yes)
+
+pub returns-in-Ok-clause-few : goal.returns-in-Ok-clause-few
+returns-in-Ok-clause-few g c = omega (arith, c.requires.few)
+
+pub returns-in-Err-WriteFailed-clause-few : goal.returns-in-Err-WriteFailed-clause-few
+returns-in-Err-WriteFailed-clause-few g c = omega (arith, c.requires.few)
+
+pub returns-clause-few : goal.returns-clause-few
+returns-clause-few g c = omega (arith, c.requires.few)

@@ -46,3 +46,6 @@ returns-in-Err-NoMemory-clause-turns g c = λ clean d has.
     turn_starved c.args.buffer.now c.next_message.new.buffer before after (g.W.Write.contents c.args.writer.now) d c.args.messages c.args.store_failed (g.K.Keeper.has c.args.keeper.now)
     (c.next_message.ensures.takes c.requires.open)
     (subst (λ (x : WireEnd). Settles (Err x) c.next_message.new.buffer after) c.in-Err-NoMemory.field-0-is (c.in-Err-NoMemory.ensures.settles c.requires.open)) has
+
+pub returns-in-Err-Fault-clause-open : goal.returns-in-Err-Fault-clause-open
+returns-in-Err-Fault-clause-open g c = tt

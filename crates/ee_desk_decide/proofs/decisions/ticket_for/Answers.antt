@@ -1,4 +1,5 @@
-use Rattle.std.proofs.Common.{ap, ◌∙◌}
+use Rattle.std.proofs.Common.{ap, ◌∙◌, arith}
+use Rattle.std.proofs.lemmas.Grind.{common_steps}
 use Rattle.ee_desk_acts.specs.Views.{shown_by}
 use Rattle.ee_desk_acts.specs.Refusals.{refusal_of_serial}
 use Rattle.ee_desk_decide.proofs.Payable.{none_at}
@@ -8,3 +9,6 @@ pub line_for-line-requires : goal.line_for-line-requires
 line_for-line-requires c =
     ap (λ m. refusal_of_serial (shown_by c.args.view.now) m c.args.payee c.serial-item.result) c.month_of-month.ensures
     ∙ none_at _ c.args.serials.now c.loop-serial.serial-index c.serial-item.result c.requires.payable c.loop-serial-test.true c.serial-item.is
+
+pub loop-serial-preserved : goal.loop-serial-preserved
+loop-serial-preserved c = grind (arith, common_steps)

@@ -1,14 +1,15 @@
 use Rattle.std.proofs.Common.{◌≡◌, true, refl, rules}
 use Rattle.std.specs.Result.{IfErr}
+use Rattle.std.proofs.lemmas.Result.{IfErr-weaker}
 use Rattle.ee_desk_parts.specs.declared.parts.PartsFault.TheVariants.{Unsound}
 use Rattle.ee_desk_parts.specs.Checks.{parts_in, IsRegister, AreClosed}
-use Rattle.ee_desk_parts.proofs.Making.{if_err, unmarked, small, made_is, not_paid, not_register, not_closed}
+use Rattle.ee_desk_parts.proofs.Making.{unmarked, small, made_is, not_paid, not_register, not_closed}
 use Rattle.ee_desk_parts.proofs.checks.checked_lists.Goals as goal
 
 pub returns-in_err-maps-clause-unsound : goal.returns-in_err-maps-clause-unsound
 returns-in_err-maps-clause-unsound c =
     let never : IfErr c.from_residual.result (λ fault. fault ≡ Unsound → IsRegister c.args.rates.now c.args.bonds.now → ⊥) = search rules in
-    if_err c.from_residual.result (λ fault h e. not_register (parts_in c.args.rates.now c.args.bonds.now c.args.day c.args.last c.args.tickets.now c.args.batches.now) (h e)) never
+    IfErr-weaker c.from_residual.result _ _ (λ fault h e. not_register (parts_in c.args.rates.now c.args.bonds.now c.args.day c.args.last c.args.tickets.now c.args.batches.now) (h e)) never
 
 pub pay-requires : goal.pay-requires
 pay-requires c =
@@ -26,7 +27,7 @@ closed-requires c =
 pub returns-in_err-counts-clause-unsound : goal.returns-in_err-counts-clause-unsound
 returns-in_err-counts-clause-unsound c =
     let never : IfErr c.from_residual-in_err-counts.result (λ fault. fault ≡ Unsound → AreClosed c.args.tickets.now c.args.batches.now c.args.day c.args.last → ⊥) = search rules in
-    if_err c.from_residual-in_err-counts.result (λ fault h e. not_closed (parts_in c.args.rates.now c.args.bonds.now c.args.day c.args.last c.args.tickets.now c.args.batches.now) (h e)) never
+    IfErr-weaker c.from_residual-in_err-counts.result _ _ (λ fault h e. not_closed (parts_in c.args.rates.now c.args.bonds.now c.args.day c.args.last c.args.tickets.now c.args.batches.now) (h e)) never
 
 pub returns-clause-ok : goal.returns-clause-ok
 returns-clause-ok c =

@@ -6,7 +6,7 @@ use Rattle.std.specs.Ordering.{nat_cmp}
 use Rattle.std.specs.Cmp.{nat_cmp_total}
 use Rattle.ee_units.specs.Calendar.{period_start}
 use Rattle.ee_desk_acts.proofs.Lemmas.Maps.{get_lookup}
-use Rattle.ee_desk_acts.specs.PlainBooks.{is_payee}
+use Rattle.ee_calculator.specs.Bonds.{is_payee}
 use Rattle.ee_desk_parts.proofs.LinePays.{pays_if, no_terms}
 use Rattle.ee_desk_parts.proofs.lines.pays_bond.Goals as goal
 

@@ -10,3 +10,9 @@ returns-then-is_err-clause-taken g c = grind (arith, common_steps)
 
 pub loop-chunk-preserved : goal.loop-chunk-preserved
 loop-chunk-preserved g c = grind (arith, common_steps)
+
+pub returns-then-count-eq0-clause-whole : goal.returns-then-count-eq0-clause-whole
+returns-then-count-eq0-clause-whole g c = grind (arith, common_steps)
+
+pub returns-then-count-eq0-clause-taken : goal.returns-then-count-eq0-clause-taken
+returns-then-count-eq0-clause-taken g c = grind (arith, common_steps)

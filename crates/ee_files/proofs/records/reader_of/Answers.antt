@@ -1,8 +1,7 @@
-use Rattle.std.proofs.Common.{sym, inr, rules}
+use Rattle.std.proofs.Common.{sym, inr, rules, subst}
 use Rattle.csv.specs.Reading.{AreRecords, default_config, records, strip_bom}
 use Rattle.ee_files.proofs.Fuel.{all_records}
 use Rattle.csv.specs.declared.parser.State.{State}
-use Rattle.std.proofs.Common.{subst}
 use Rattle.ee_files.proofs.records.reader_of.Goals as goal
 
 pub returns : goal.returns

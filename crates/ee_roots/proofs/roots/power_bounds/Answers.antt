@@ -1,6 +1,5 @@
-use Rattle.std.proofs.Common.{◌-◌, arith}
+use Rattle.std.proofs.Common.{◌-◌, arith, rules, ◌+◌, ◌*◌, ◌^◌, ◌≤◌}
 use Rattle.std.proofs.lemmas.Nat.{mul-le}
-use Rattle.std.proofs.Common.{◌+◌, ◌*◌, ◌^◌, ◌≤◌}
 use Rattle.ee_roots.specs.Products.{power_up}
 use Rattle.ee_roots.proofs.Directed.{power_up-near, power_down-le-up, power_up-mono}
 use Rattle.ee_roots.proofs.Bounds.{powers_apart}
@@ -35,3 +34,6 @@ returns-clause-order c =
       c.raise_down-low.ensures,
       c.raise_up-high.ensures,
     )
+
+pub returns-clause-high : goal.returns-clause-high
+returns-clause-high c = search rules

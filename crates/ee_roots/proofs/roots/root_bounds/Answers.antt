@@ -1,4 +1,4 @@
-use Rattle.std.proofs.Common.{arith}
+use Rattle.std.proofs.Common.{arith, rules}
 use Rattle.ee_roots.proofs.Bounds.{Encloses-from_root, high-le, low-le_high}
 use Rattle.ee_roots.proofs.roots.root_bounds.Goals as goal
 
@@ -13,3 +13,9 @@ returns-clause-encloses c = Encloses-from_root _ _ _ _ c.low_root-low.ensures.lo
 pub returns-clause-narrow : goal.returns-clause-narrow
 returns-clause-narrow c =
     omega (arith, high-le _ _ _ _ c.low_root-low.ensures.low c.high_root-high.ensures.high)
+
+pub returns-clause-low : goal.returns-clause-low
+returns-clause-low c = search rules
+
+pub returns-clause-high : goal.returns-clause-high
+returns-clause-high c = search rules

@@ -3,7 +3,7 @@ use Rattle.std.proofs.lemmas.Result.{IfErr-weaker}
 use Rattle.std.specs.List.{AllByRecursion}
 use Rattle.ee_store.specs.Adopted.{IsSettledRow}
 use Rattle.ee_store.proofs.SettledRates.{rates_settled}
-use Rattle.ee_store_opening.specs.declared.making.OpenFault.TheVariants.{NoMemory, StoreFailed}
+use Rattle.ee_store_opening.specs.declared.faults.OpenFault.TheVariants.{NoMemory, StoreFailed}
 use Rattle.ee_store.proofs.adopting.prepared.Goals as goal
 
 pub returns-clause-ok : goal.returns-clause-ok

@@ -33,7 +33,7 @@ returns-clause-decides g c clean inside S sees none =
     let are : c.as_slice.result.now ≡ effects.changes = search rules in
     let row : ReplyRow = record { act = string_bytes c.args.act; reply = string_bytes c.in_ok-words.words } in
     let words : row ≡ record { act = act_text q.act; reply = reply_text effects.reply } = λ i. record { act = c.requires.text i; reply = c.in_ok-words.ensures.text i } in
-    let written = c.in_ok-write_changes.ensures.written clean_b (rows_of S) (c.in_ok-effects.ensures.rows clean_a inside (rows_of S) sees.rows).0 in
+    let written = c.in_ok-write_changes.ensures.written clean_b (rows_of S) (c.in_ok-effects.ensures.only_reads.rows clean_a inside (rows_of S) sees.rows).0 in
     let kept = c.in_ok-add_reply.ensures.added clean (applied_rows last (rows_of S) c.as_slice.result.now) written in
     is_decided new q S effects.changes effects.reply last row sees.right none c.requires.fits (c.value.ensures.low, c.value.ensures.high) c.reply_text.ensures.fits found.0 found.1 words
     (subst (λ (d : ℕ × List Change). Sees new (with_reply (applied_rows last (rows_of S) d.1) d.0 row)) (λ i. (c.value.ensures.value i, are i)) kept)
@@ -50,13 +50,13 @@ returns-in_err-write_changes-clause-cause g c clean inside unlimited S sees any 
     let new = state g.S.Store c.write_changes.new.tx.conn.now in
     let clean_a = clean_before a new c.write_changes.ensures.crash clean in
     let found = c.in_ok-effects.ensures.found clean_a inside S sees in
-    let stays = c.in_ok-effects.ensures.rows clean_a inside (rows_of S) sees.rows in
+    let stays = c.in_ok-effects.ensures.only_reads.rows clean_a inside (rows_of S) sees.rows in
     let are : c.as_slice.result.now ≡ c.in_ok-effects.effects.changes = search rules in
     let can = subst (CanWriteAll c.in_ok-effects.last_day (rows_of S)) (sym are) (can_write S q.act c.in_ok-effects.effects c.in_ok-effects.last_day sees.right c.requires.fits found.0 found.1) in
     let few = subst (λ changes. all_added_rows changes ≤ 500) (sym (are ∙ ap (λ (e : Effects). e.changes) found.0)) (few_rows (shown S.books) q.act) in
     handed_on _ c.from_residual-in_err-write_changes.result c.in_err-write_changes.field-0.0 c.from_residual-in_err-write_changes.ensures.1
-    (excused_later old a new clean c.effects_in.ensures.crash c.write_changes.ensures.crash _
-    (c.in_err-write_changes.ensures.cause clean (c.in_ok-effects.ensures.inside clean_a inside) (c.effects_in.ensures.crash.limit ∙ unlimited) (rows_of S) stays.0
+    (excused_later old a new clean c.effects_in.ensures.only_reads.crash c.write_changes.ensures.crash _
+    (c.in_err-write_changes.ensures.cause clean (c.in_ok-effects.ensures.only_reads.inside clean_a inside) (c.effects_in.ensures.only_reads.crash.limit ∙ unlimited) (rows_of S) stays.0
     (can, room_less a _ 500 few (stays.1 500 any.2))))
 
 pub returns-in_err-add_reply-clause-cause : goal.returns-in_err-add_reply-clause-cause
@@ -70,9 +70,9 @@ returns-in_err-add_reply-clause-cause g c clean inside unlimited S sees any =
     let new = state g.S.Store c.add_reply.new.tx.conn.now in
     let clean_b = clean_before b new c.add_reply.ensures.crash clean in
     let clean_a = clean_before a b c.write_changes.ensures.crash clean_b in
-    let inside_a = c.in_ok-effects.ensures.inside clean_a inside in
+    let inside_a = c.in_ok-effects.ensures.only_reads.inside clean_a inside in
     let found = c.in_ok-effects.ensures.found clean_a inside S sees in
-    let stays = c.in_ok-effects.ensures.rows clean_a inside (rows_of S) sees.rows in
+    let stays = c.in_ok-effects.ensures.only_reads.rows clean_a inside (rows_of S) sees.rows in
     let changes = c.as_slice.result.now in
     let are : changes ≡ effects.changes = search rules in
     let few = subst (λ changes. all_added_rows changes ≤ 500) (sym (are ∙ ap (λ (e : Effects). e.changes) found.0)) (few_rows (shown S.books) q.act) in
@@ -83,7 +83,7 @@ returns-in_err-add_reply-clause-cause g c clean inside unlimited S sees any =
     let row : ReplyRow = record { act = string_bytes c.args.act; reply = string_bytes c.in_ok-words.words } in
     let words : row ≡ record { act = act_text q.act; reply = reply_text effects.reply } = λ i. record { act = c.requires.text i; reply = c.in_ok-words.ensures.text i } in
     let own = words ∙ ap (λ (e : Effects). record { act = act_text q.act; reply = reply_text e.reply }) found.0 in
-    let crash = leaves_then old a b c.effects_in.ensures.crash c.write_changes.ensures.crash in
+    let crash = leaves_then old a b c.effects_in.ensures.only_reads.crash c.write_changes.ensures.crash in
     handed_on _ c.from_residual-in_err-add_reply.result c.in_err-add_reply.field-0.0 c.from_residual-in_err-add_reply.ensures.1
     (excused_later old b new clean crash c.add_reply.ensures.crash _ (c.in_err-add_reply.ensures.cause clean (c.in_ok-write_changes.ensures.inside clean_b inside_a) (crash.limit ∙ unlimited) (applied_rows last (rows_of S) changes) written
     (room, none, subst FitsRow (sym own) any.1)))
@@ -96,9 +96,9 @@ returns-clause-room g c clean inside S sees n room =
     let new = state g.S.Store c.add_reply.new.tx.conn.now in
     let clean_b = clean_before b new c.add_reply.ensures.crash clean in
     let clean_a = clean_before a b c.write_changes.ensures.crash clean_b in
-    let inside_a = c.in_ok-effects.ensures.inside clean_a inside in
+    let inside_a = c.in_ok-effects.ensures.only_reads.inside clean_a inside in
     let found = c.in_ok-effects.ensures.found clean_a inside S sees in
-    let stays = c.in_ok-effects.ensures.rows clean_a inside (rows_of S) sees.rows in
+    let stays = c.in_ok-effects.ensures.only_reads.rows clean_a inside (rows_of S) sees.rows in
     let are : c.as_slice.result.now ≡ c.in_ok-effects.effects.changes = search rules in
     let few = subst (λ changes. all_added_rows changes ≤ 500) (sym (are ∙ ap (λ (e : Effects). e.changes) found.0)) (few_rows (shown S.books) q.act) in
     let written = c.in_ok-write_changes.ensures.written clean_b (rows_of S) stays.0 in

@@ -10,10 +10,9 @@ use Rattle.ee_store_tables.proofs.Lemmas.Transactions.{clean_before, unchanged_s
 use Rattle.ee_store_contents.specs.Standing.{rows_of, IsKept}
 use Rattle.ee_store_lookups.specs.Seen.{SeesContent}
 use Rattle.ee_store_delivery.proofs.Served.{is_again, is_new, is_first, kept_by}
-use Rattle.ee_store_contents.proofs.Lemmas.{get_reply_row}
+use Rattle.ee_store_contents.proofs.Lemmas.{get_reply_row, kept_texts}
 use Rattle.ee_store_tables.proofs.Lemmas.Causes.{room_less, unchanged_room}
 use Rattle.ee_store_lookups.proofs.Lemmas.{statement_failed, memory_handed_on, handed_on, excused_later}
-use Rattle.ee_store_contents.proofs.Lemmas.{kept_texts}
 use Rattle.ee_store_delivery.proofs.delivery.serve_in.Goals as goal
 
 pub returns-in-Some-clause-serves : goal.returns-in-Some-clause-serves

@@ -1,4 +1,4 @@
-use Rattle.std.proofs.Common.{◌∙◌}
+use Rattle.std.proofs.Common.{rules, ◌∙◌}
 use Rattle.sqlite.specs.Held.{state}
 use Rattle.std.proofs.lemmas.Result.{IfOk-weaker}
 use Rattle.ee_store_contents.proofs.Lemmas.{get_desk_row, parts_in_range}
@@ -12,9 +12,15 @@ returns-clause-found g c clean inside =
     shown (record { version = 1; day = S.books.day; last_day = S.books.last_day }) (c.in_ok-found.ensures.found clean (rows_of S) sees.rows ∙ get_desk_row S.books.day S.books.last_day))
     c.days_shown.ensures.value
 
-pub returns-clause-rows : goal.returns-clause-rows
-returns-clause-rows g c clean inside =
-    always c.days_shown.result (λ rows sees. unchanged_rows (state g.S.Store c.args.tx.now.conn.now) (state g.S.Store c.find_desk.new.tx.conn.now) (c.in_ok-found.ensures.same clean inside) rows sees)
+pub returns-clause-only_reads : goal.returns-clause-only_reads
+returns-clause-only_reads g c = record {
+  still_open = search rules;
+  inside = search rules;
+  rows = λ clean inside.
+      always c.days_shown.result (λ rows sees. unchanged_rows (state g.S.Store c.args.tx.now.conn.now) (state g.S.Store c.find_desk.new.tx.conn.now) (c.in_ok-found.ensures.same clean inside) rows sees);
+  commit = search rules;
+  crash = search rules;
+}
 
 pub returns-in_err-found-clause-cause : goal.returns-in_err-found-clause-cause
 returns-in_err-found-clause-cause g c clean inside unlimited S sees any =

@@ -1,4 +1,4 @@
-use Rattle.std.proofs.Common.{◌∙◌}
+use Rattle.std.proofs.Common.{rules, ◌∙◌}
 use Rattle.std.specs.FinMap as finite
 use Rattle.sqlite.specs.Held.{state}
 use Rattle.std.proofs.lemmas.Result.{IfOk-weaker}
@@ -17,9 +17,15 @@ returns-clause-found g c clean inside =
     ∙ (λ i. finite.get (rows_of content).bonds (c.letter.ensures.value i, c.number.ensures.value i))))
     c.held_shown.ensures.shown
 
-pub returns-clause-rows : goal.returns-clause-rows
-returns-clause-rows g c clean inside =
-    always c.held_shown.result (λ rows sees. unchanged_rows (state g.S.Store c.args.tx.now.conn.now) (state g.S.Store c.find_bond.new.tx.conn.now) (c.in_ok-found.ensures.same clean inside) rows sees)
+pub returns-clause-only_reads : goal.returns-clause-only_reads
+returns-clause-only_reads g c = record {
+  still_open = search rules;
+  inside = search rules;
+  rows = λ clean inside.
+      always c.held_shown.result (λ rows sees. unchanged_rows (state g.S.Store c.args.tx.now.conn.now) (state g.S.Store c.find_bond.new.tx.conn.now) (c.in_ok-found.ensures.same clean inside) rows sees);
+  commit = search rules;
+  crash = search rules;
+}
 
 pub returns-in_err-found-clause-cause : goal.returns-in_err-found-clause-cause
 returns-in_err-found-clause-cause g c clean inside unlimited S sees any =

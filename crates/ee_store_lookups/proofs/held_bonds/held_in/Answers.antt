@@ -23,12 +23,12 @@ loop-serial-preserved g c =
     let was = c.loop-serial.invariant in
     record {
       same_reference = c.find_held.ensures.same_reference ∙ was.same_reference;
-      stays = done_then old middle new was.stays c.find_held.ensures.crash c.find_held.ensures.commit c.in_ok-held.ensures.open c.in_ok-held.ensures.inside;
+      stays = done_then old middle new was.stays c.find_held.ensures.only_reads.crash c.find_held.ensures.only_reads.commit c.in_ok-held.ensures.only_reads.still_open c.in_ok-held.ensures.only_reads.inside;
       rows = λ clean inside rows sees.
-          let before = clean_before middle new c.find_held.ensures.crash clean in
-          seen_then old middle new rows (was.rows before inside rows sees) (c.in_ok-held.ensures.rows clean (was.stays.inside before inside) rows);
+          let before = clean_before middle new c.find_held.ensures.only_reads.crash clean in
+          seen_then old middle new rows (was.rows before inside rows sees) (c.in_ok-held.ensures.only_reads.rows clean (was.stays.inside before inside) rows);
       found = λ clean inside S sees.
-          let before = clean_before middle new c.find_held.ensures.crash clean in
+          let before = clean_before middle new c.find_held.ensures.only_reads.crash clean in
           let still : SeesContent middle S = record { right = sees.right; rows = (was.rows before inside (rows_of S) sees.rows).0 } in
           let held = c.in_ok-held.ensures.found clean (was.stays.inside before inside) S still in
           c.in_ok-note_held.ensures
@@ -42,8 +42,8 @@ returns-in_err-held-clause-cause g c clean inside unlimited S sees any =
     let middle = state g.S.Store c.loop-serial.tx.conn.now in
     let new = state g.S.Store c.find_held.new.tx.conn.now in
     let was = c.loop-serial.invariant in
-    let before = clean_before middle new c.find_held.ensures.crash clean in
+    let before = clean_before middle new c.find_held.ensures.only_reads.crash clean in
     let still : SeesContent middle S = record { right = sees.right; rows = (was.rows before inside (rows_of S) sees.rows).0 } in
     handed_on _ c.from_residual.result c.in_err-held.field-0.0 c.from_residual.ensures.1
-    (excused_later old middle new clean was.stays.crash c.find_held.ensures.crash _
+    (excused_later old middle new clean was.stays.crash c.find_held.ensures.only_reads.crash _
     (c.in_err-held.ensures.cause clean (was.stays.inside before inside) (was.stays.crash.limit ∙ unlimited) S still tt))

@@ -1,4 +1,4 @@
-use Rattle.std.proofs.Common.{ap, ◌∙◌}
+use Rattle.std.proofs.Common.{rules, ap, ◌∙◌}
 use Rattle.std.specs.FinMap as finite
 use Rattle.sqlite.specs.Held.{state}
 use Rattle.std.proofs.lemmas.Result.{IfOk-weaker}
@@ -16,9 +16,15 @@ returns-clause-found g c clean inside =
     (shown ∙ c.in_ok-found.ensures.found clean (rows_of content) sees.rows ∙ ap (finite.get (rows_of content).rates) c.count.ensures.value))
     c.terms_shown.ensures.value
 
-pub returns-clause-rows : goal.returns-clause-rows
-returns-clause-rows g c clean inside =
-    always c.terms_shown.result (λ rows sees. unchanged_rows (state g.S.Store c.args.tx.now.conn.now) (state g.S.Store c.find_rate.new.tx.conn.now) (c.in_ok-found.ensures.same clean inside) rows sees)
+pub returns-clause-only_reads : goal.returns-clause-only_reads
+returns-clause-only_reads g c = record {
+  still_open = search rules;
+  inside = search rules;
+  rows = λ clean inside.
+      always c.terms_shown.result (λ rows sees. unchanged_rows (state g.S.Store c.args.tx.now.conn.now) (state g.S.Store c.find_rate.new.tx.conn.now) (c.in_ok-found.ensures.same clean inside) rows sees);
+  commit = search rules;
+  crash = search rules;
+}
 
 pub returns-in_err-found-clause-cause : goal.returns-in_err-found-clause-cause
 returns-in_err-found-clause-cause g c clean inside endless S sees _ =

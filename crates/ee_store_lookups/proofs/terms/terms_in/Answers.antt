@@ -24,12 +24,12 @@ loop-period-preserved g c =
     let was = c.loop-period.invariant in
     record {
       same_reference = c.find_terms.ensures.same_reference ∙ was.same_reference;
-      stays = done_then old middle new was.stays c.find_terms.ensures.crash c.find_terms.ensures.commit c.in_ok-terms.ensures.open c.in_ok-terms.ensures.inside;
+      stays = done_then old middle new was.stays c.find_terms.ensures.only_reads.crash c.find_terms.ensures.only_reads.commit c.in_ok-terms.ensures.only_reads.still_open c.in_ok-terms.ensures.only_reads.inside;
       rows = λ clean inside rows sees.
-          let before = clean_before middle new c.find_terms.ensures.crash clean in
-          seen_then old middle new rows (was.rows before inside rows sees) (c.in_ok-terms.ensures.rows clean (was.stays.inside before inside) rows);
+          let before = clean_before middle new c.find_terms.ensures.only_reads.crash clean in
+          seen_then old middle new rows (was.rows before inside rows sees) (c.in_ok-terms.ensures.only_reads.rows clean (was.stays.inside before inside) rows);
       found = λ clean inside S sees.
-          let before = clean_before middle new c.find_terms.ensures.crash clean in
+          let before = clean_before middle new c.find_terms.ensures.only_reads.crash clean in
           let still : SeesContent middle S = record { right = sees.right; rows = (was.rows before inside (rows_of S) sees.rows).0 } in
           let terms = c.in_ok-terms.ensures.found clean (was.stays.inside before inside) S still in
           c.in_ok-note_terms.ensures
@@ -43,8 +43,8 @@ returns-in_err-terms-clause-cause g c clean inside endless S sees _ =
     let middle = state g.S.Store c.loop-period.tx.conn.now in
     let new = state g.S.Store c.find_terms.new.tx.conn.now in
     let was = c.loop-period.invariant in
-    let before = clean_before middle new c.find_terms.ensures.crash clean in
+    let before = clean_before middle new c.find_terms.ensures.only_reads.crash clean in
     let still : SeesContent middle S = record { right = sees.right; rows = (was.rows before inside (rows_of S) sees.rows).0 } in
     handed_on _ c.from_residual.result c.in_err-terms.field-0.0 c.from_residual.ensures.1
-    (excused_later old middle new clean was.stays.crash c.find_terms.ensures.crash _
+    (excused_later old middle new clean was.stays.crash c.find_terms.ensures.only_reads.crash _
     (c.in_err-terms.ensures.cause clean (was.stays.inside before inside) (was.stays.crash.limit ∙ endless) S still tt))

@@ -32,9 +32,15 @@ returns-clause-found g c clean inside =
     ))
     (all_three _ _ _ c.counts_of.result c.counts_of.ensures.tickets c.counts_of.ensures.bonds c.counts_of.ensures.total)
 
-pub returns-clause-rows : goal.returns-clause-rows
-returns-clause-rows g c clean inside =
-    always c.counts_of.result (λ rows sees. unchanged_rows (state g.S.Store c.args.tx.now.conn.now) (state g.S.Store c.day_tickets.new.tx.conn.now) (c.in_ok-sums.ensures.same clean inside) rows sees)
+pub returns-clause-only_reads : goal.returns-clause-only_reads
+returns-clause-only_reads g c = record {
+  still_open = search rules;
+  inside = search rules;
+  rows = λ clean inside.
+      always c.counts_of.result (λ rows sees. unchanged_rows (state g.S.Store c.args.tx.now.conn.now) (state g.S.Store c.day_tickets.new.tx.conn.now) (c.in_ok-sums.ensures.same clean inside) rows sees);
+  commit = search rules;
+  crash = search rules;
+}
 
 pub returns-in_err-sums-clause-cause : goal.returns-in_err-sums-clause-cause
 returns-in_err-sums-clause-cause g c clean inside unlimited S sees any =

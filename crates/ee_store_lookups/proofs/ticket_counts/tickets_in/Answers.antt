@@ -1,4 +1,4 @@
-use Rattle.std.proofs.Common.{ap, ◌∙◌}
+use Rattle.std.proofs.Common.{rules, ap, ◌∙◌}
 use Rattle.std.specs.Option.{unwrap_or}
 use Rattle.sqlite.specs.Held.{state}
 use Rattle.ee_store_contents.specs.Standing.{rows_of}
@@ -11,9 +11,15 @@ pub returns-clause-found : goal.returns-clause-found
 returns-clause-found g c clean inside S sees =
     c.or_zero.ensures ∙ ap (λ o. unwrap_or o 0) (c.in_ok-last.ensures.found clean (rows_of S) sees.rows) ∙ last_is_count S sees.right
 
-pub returns-clause-rows : goal.returns-clause-rows
-returns-clause-rows g c clean inside rows sees =
-    unchanged_rows (state g.S.Store c.args.tx.now.conn.now) (state g.S.Store c.last_ticket.new.tx.conn.now) (c.in_ok-last.ensures.same clean inside) rows sees
+pub returns-clause-only_reads : goal.returns-clause-only_reads
+returns-clause-only_reads g c = record {
+  still_open = search rules;
+  inside = search rules;
+  rows = λ clean inside rows sees.
+      unchanged_rows (state g.S.Store c.args.tx.now.conn.now) (state g.S.Store c.last_ticket.new.tx.conn.now) (c.in_ok-last.ensures.same clean inside) rows sees;
+  commit = search rules;
+  crash = search rules;
+}
 
 pub returns-in_err-last-clause-cause : goal.returns-in_err-last-clause-cause
 returns-in_err-last-clause-cause g c clean inside unlimited S sees any =

@@ -54,4 +54,7 @@ returns-else-has_our_tables-clause-crash g c =
     survives_weaker old (state g.S.Store c.refusal.new.conn) (λ _. ⊥) (λ db. IsBlank old → Stores db first_rows) (λ _ db h. absurd h) c.refusal.ensures.crash
 
 pub returns-then-not-is_autocommit-clause-blank : goal.returns-then-not-is_autocommit-clause-blank
-returns-then-not-is_autocommit-clause-blank g c = search rules
+returns-then-not-is_autocommit-clause-blank g c clean blank is_open = ((λ told. absurd (cc)), (λ told. absurd (cc)))
+
+pub returns-then-not-is_autocommit-clause-version : goal.returns-then-not-is_autocommit-clause-version
+returns-then-not-is_autocommit-clause-version g c clean told = absurd (cc)

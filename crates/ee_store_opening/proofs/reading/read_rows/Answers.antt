@@ -98,7 +98,7 @@ rows-preserved g c =
     )
 
 pub returns-clause-shown : goal.returns-clause-shown
-returns-clause-shown g c = search rules
+returns-clause-shown g c clean = tt
 
 pub returns-in_err-rows-clause-cause : goal.returns-in_err-rows-clause-cause
 returns-in_err-rows-clause-cause g c clean never limit =
@@ -125,3 +125,6 @@ returns-in_err-row-clause-cause g c clean never limit =
 
 pub returns-clause-cause : goal.returns-clause-cause
 returns-clause-cause g c clean never limit told = absurd (omega arith)
+
+pub returns-then-is_err-clause-cause : goal.returns-then-is_err-clause-cause
+returns-then-is_err-clause-cause g c clean never limit told = absurd (cc)

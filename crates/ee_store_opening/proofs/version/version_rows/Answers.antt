@@ -4,7 +4,7 @@ use Rattle.sqlite.proofs.Callers.{IsPlain}
 use Rattle.sqlite.proofs.InsideLemmas.{unchanged_keeps}
 use Rattle.sqlite.specs.Held.{state}
 use Rattle.ee_store_opening.specs.Reading.{HasOurTables, IsNeverRefused}
-use Rattle.ee_store_opening.specs.declared.making.OpenFault.TheVariants.{Unusable}
+use Rattle.ee_store_opening.specs.declared.faults.OpenFault.TheVariants.{Unusable}
 use Rattle.ee_store_tables.proofs.Lemmas.Transactions.{query_keeps, shown_open}
 use Rattle.ee_store_opening.proofs.AskLemmas.{only_version, commits_nothing, shown_same}
 use Rattle.ee_store_opening.specs.Faults.{IsExcused}

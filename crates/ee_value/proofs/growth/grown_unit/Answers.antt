@@ -5,8 +5,7 @@ use Rattle.ee_value.proofs.Rounding.{grown-none, grown-is}
 use Rattle.ee_value.proofs.Settled.{Rounds-zero, Rounds-by_root}
 use Rattle.ee_value.proofs.OpenAges.{unsettled-none, unsettled-zero, unsettled-exact, unsettled-bounds}
 use Rattle.ee_value.proofs.growth.grown_unit.Goals as goal
-use Rattle.ee_value.proofs.growth.grown_unit.Goals.{then-months-eq0-via-then-months-eq0, then-months-eq0-via-else-months-eq0+then-hundredths-eq0}
-use Rattle.ee_value.proofs.growth.grown_unit.Goals.{then-months-eq-QUARTER+in_default, else-months-eq-QUARTER}
+use Rattle.ee_value.proofs.growth.grown_unit.Goals.{then-months-eq0-via-then-months-eq0, then-months-eq0-via-else-months-eq0+then-hundredths-eq0, then-months-eq-QUARTER+in_default, else-months-eq-QUARTER}
 
 pub returns-then-months-eq0 : goal.returns-then-months-eq0
 returns-then-months-eq0 c =

@@ -150,3 +150,6 @@ returns-in-Err-Failed-clause-settles g c = λ _.
       ap (λ (s : Stream). s.shown) same ∙ ap (λ (s : Stream). s.shown) here ∙ c.loop-message.invariant.shown,
       subst NeedsMore (sym (ap (λ (s : Stream). s.held) same ∙ ap (λ (s : Stream). s.held) here)) (more_needed c.loop-message.buffer.held c.in-More.ensures.front),
     )
+
+pub returns-in-Fault-clause-ended : goal.returns-in-Fault-clause-ended
+returns-in-Fault-clause-ended g c = λ _. ap (λ (s : Stream). s.ended) c.stop.ensures

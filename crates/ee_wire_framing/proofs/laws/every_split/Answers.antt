@@ -1,11 +1,8 @@
-use Rattle.std.proofs.Common.{◌≡◌, ℕ, List, ◌-◌, ◌<◌, length, drop, take, arith, rules, length-drop}
-use Rattle.std.proofs.lemmas.List.{take_all}
+use Rattle.std.proofs.Common.{◌-◌, ◌<◌, length, drop, take, arith, rules}
 use Rattle.std.proofs.lemmas.Bool.Decides.{nat_tests}
 use Rattle.ee_wire_framing.proofs.Messages.{cut_at, fault_at, message_at}
+use Rattle.ee_wire_framing.proofs.WholeLines.{rest_is}
 use Rattle.ee_wire_framing.proofs.laws.every_split.Goals as goal
-
-rest_is : (bytes : List ℕ) (at : ℕ) → take (length bytes - at) (drop at bytes) ≡ drop at bytes
-rest_is bytes at = take_all (length bytes - at) (drop at bytes) (omega (arith, length-drop at bytes))
 
 pub loop-len-preserved : goal.loop-len-preserved
 loop-len-preserved c =

@@ -12,3 +12,6 @@ returns-clause-books c =
     c.in_ok-apply.ensures.ok
     ∙ ap (λ (e : Effects). applied c.args.self.now e.changes) c.in_ok-effects.ensures
     ∙ applied_are_books_after c.args.self.now c.args.act.now
+
+pub apply-requires : goal.apply-requires
+apply-requires c = (c.args.act.now, c.in_ok-effects.ensures)

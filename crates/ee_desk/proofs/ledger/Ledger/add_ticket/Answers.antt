@@ -19,3 +19,6 @@ invariant_of-self-2 c =
           (record { tickets = c.self.inside.counts.tickets + 1; bonds = c.self.inside.counts.bonds + length c.as_slice-2.result.now; total = record { 0 = c.self.inside.counts.total.0 + c.args.ticket.now.total.0 } })
           c.self.invariant.1 next.1 (search rules) refl (ap (λ ls. c.self.inside.counts.bonds + length ls) c.as_slice-2.ensures) refl,
     )
+
+pub returns-clause-ok : goal.returns-clause-ok
+returns-clause-ok c = search rules

@@ -1,4 +1,4 @@
-use Rattle.std.proofs.Common.{refl, sym, ap, ◌∙◌, subst}
+use Rattle.std.proofs.Common.{refl, sym, ap, ◌∙◌, subst, rules}
 use Rattle.std.specs.FinMap as finite
 use Rattle.ee_desk_acts.specs.UnitTables.{tables_in, AreOwn}
 use Rattle.ee_desk_acts.proofs.KeptTables.{kept_again, own_more, there}
@@ -13,3 +13,6 @@ pub invariant_of-self-2 : goal.invariant_of-self-2
 invariant_of-self-2 c =
     subst AreOwn (sym (c.in_ok-put.ensures.ok ∙ ap (finite.insert (tables_in c.self.inside.kept.entries) c.args.rates) (c.in_ok-share.ensures ∙ c.in_ok-terms-2.ensures.0)))
     (own_more (tables_in c.self.inside.kept.entries) c.args.rates c.self.invariant)
+
+pub returns-clause-ok : goal.returns-clause-ok
+returns-clause-ok c = search rules

@@ -1,6 +1,5 @@
 use Rattle.std.proofs.Common.{◌≡◌, length, arith, ap}
-use Rattle.ee_desk_acts.specs.Views.{PlainView}
-use Rattle.ee_desk_acts.specs.Views.{needed_of}
+use Rattle.ee_desk_acts.specs.Views.{PlainView, needed_of}
 use Rattle.ee_desk_acts.proofs.Lemmas.Books.{few_tickets, needed_few}
 use Rattle.ee_desk_decide.proofs.views.View.from_parts.Goals as goal
 

@@ -1,10 +1,19 @@
-use Rattle.std.proofs.Common.{[], ◌∷◌, inl, inr}
+use Rattle.std.proofs.Common.{◌≡◌, [], ◌∷◌, inl, inr, refl, sym, subst, ◌∙◌}
 use Rattle.sqlite.specs.Held.{state}
 use Rattle.ee_desk_acts.specs.Contents.{content_after}
+use Rattle.ee_desk_acts.specs.declared.refusals.Unserved.TheVariants as unserved
+use Rattle.ee_store_tables.specs.Statements.{IsExcused}
+use Rattle.ee_store_tables.specs.declared.failures.Failure.{Failure}
+use Rattle.ee_store_tables.specs.declared.failures.Failure.TheVariants.{NoMemory, StoreFailed}
 use Rattle.ee_store_lookups.proofs.Lemmas.{stands_committed}
+use Rattle.ee_store.specs.Served.{unserved_as}
 use Rattle.ee_store.proofs.Following.{follows_decided}
 use Rattle.ee_store.proofs.History.{goes_decided, goes_lost, goes_unserved}
 use Rattle.ee_store.proofs.keeper.SqlKeeper.deliver.Goals as goal
+
+was_failed : (failure : Failure) → unserved_as failure ≡ unserved.StoreFailed → failure ≡ StoreFailed
+was_failed NoMemory told = absurd (cc)
+was_failed StoreFailed told = refl
 
 pub returns-in-Ok-clause-durable : goal.returns-in-Ok-clause-durable
 returns-in-Ok-clause-durable g c clean S has none db may =
@@ -44,3 +53,8 @@ returns-in-Ok-clause-goes g c clean =
 pub returns-in-Err-clause-goes : goal.returns-in-Err-clause-goes
 returns-in-Err-clause-goes g c clean =
     goes_unserved (state g.S.Store c.args.self.now.conn) (state g.S.Store c.deliver_on.new.conn) c.args.request.now (returns-in-Err-clause-unserved g c clean)
+
+pub returns-in-Err-clause-cause : goal.returns-in-Err-clause-cause
+returns-in-Err-clause-cause g c clean content can told =
+    subst (IsExcused (state g.S.Store c.args.self.now.conn) (state g.S.Store c.deliver_on.new.conn)) (was_failed c.in-Err.failure (sym c.unserved.ensures ∙ told))
+    (c.in-Err.ensures.cause clean content can)

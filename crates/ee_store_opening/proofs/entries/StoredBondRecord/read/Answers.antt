@@ -1,5 +1,6 @@
 use Rattle.std.proofs.Common.{arith}
-use Rattle.ee_store_opening.proofs.RowLemmas.{seven_columns, reads_optional}
+use Rattle.ee_store_opening.proofs.RowLemmas.{seven_columns}
+use Rattle.ee_store_tables.proofs.Lemmas.Rows.{reads_optional}
 use Rattle.ee_store_opening.proofs.entries.StoredBondRecord.read.Goals as goal
 
 pub returns-clause-exact : goal.returns-clause-exact

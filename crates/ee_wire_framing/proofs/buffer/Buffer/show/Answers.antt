@@ -1,4 +1,4 @@
-use Rattle.std.proofs.Common.{◌≡◌, ◌+◌, ◌++◌, take, drop, sym, ap, ◌∙◌}
+use Rattle.std.proofs.Common.{◌≡◌, ◌+◌, ◌++◌, take, drop, sym, ap, ◌∙◌, rules}
 use Rattle.std.proofs.Math.Seq.{take-add}
 use Rattle.std.proofs.lemmas.List.{drop-drop}
 use Rattle.ee_wire_framing.specs.Stream.{Stream}
@@ -16,3 +16,6 @@ returns c =
     let held : drop (from + len) items ≡ drop len c.args.self.now.held =
     sym (drop-drop len from items) ∙ ap (λ (s : Stream). drop len s.held) c.self.view_is in
     λ i. record { shown = shown i; held = held i; ended = (c.self.view_is i).ended }
+
+pub invariant_of-self : goal.invariant_of-self
+invariant_of-self c = search rules

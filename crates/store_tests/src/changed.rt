@@ -1,0 +1,90 @@
+//! Stores that are changed by other statements than this program's.
+
+use crate::five::{FIVE, rows_told, served};
+use sqlite::{Alter, Connection, MemStore};
+use std::alloc::Global;
+use std::process::Abort;
+use std::test::Fail;
+
+/// A change of the rows after that day, how it is undone, the answer to the changed store, and a row that
+/// the change made.
+const CHANGES: &str =
+    r#"UPDATE desk SET version = 7 => UPDATE desk SET version = 1 => WrongVersion => desk 1 7 - 15376
+UPDATE bonds SET ticket = 2 WHERE letter = 12 => UPDATE bonds SET ticket = 1 => Unusable => bonds 12 1 50 66 7 - 2
+UPDATE replies SET reply = '{"code":10,"refused":"NumberReused"}' WHERE number = 3 => UPDATE replies SET reply = '{"opened":"2012-02-06"}' WHERE number = 3 => Unusable => replies 3 {"act":"open","day":"2012-02-06"} {"code":10,"refused":"NumberReused"}
+UPDATE replies SET reply = 'none' WHERE number = 3 => UPDATE replies SET reply = '{"opened":"2012-02-06"}' WHERE number = 3 => Unusable => replies 3 {"act":"open","day":"2012-02-06"} none
+UPDATE paid SET cents = 2589 WHERE place = 1 => UPDATE paid SET cents = 2588 WHERE place = 1 => Unusable => paid 1 1 12 1 2589
+"#;
+
+/// Changes of the tables after that day, each on top of those before, and the answer to the changed store: a
+/// table less, the same tables in another order, a table more, another version beside that, and no version.
+const OTHER_TABLES: &str = r#"DROP TABLE batches => Unusable
+CREATE TABLE batches (day INTEGER NOT NULL PRIMARY KEY, tickets INTEGER NOT NULL, bonds INTEGER NOT NULL, total INTEGER NOT NULL) STRICT; INSERT INTO batches VALUES (15376, 1, 3, 519622) => Unusable
+CREATE TABLE notes (note TEXT) => Unusable
+UPDATE desk SET version = 2 => WrongVersion
+DROP TABLE desk => Unusable
+"#;
+
+/// Runs statements.
+fn change<S: Alter>(conn: &mut Connection<S>, statements: &str) -> Result<(), Fail> {
+    conn.execute_batch(statements)?;
+    Ok(())
+}
+
+/// Changes a store, which is then refused and keeps all its rows; the change undone, it gives the first
+/// replies.
+fn is_refused(
+    rt: &impl Abort,
+    alloc: Global,
+    mut conn: Connection<MemStore>,
+    case: &str,
+) -> Result<Connection<MemStore>, Fail> {
+    let (statements, case) = case.split_once(" => ").ok_or("change")?;
+    let (undo, case) = case.split_once(" => ").ok_or("undo")?;
+    let (fault, row) = case.split_once(" => ").ok_or("fault")?;
+    change(&mut conn, statements)?;
+    let before = rows_told(alloc, &mut conn)?;
+    let line = format!(in alloc; "{row}\n")?;
+    assert!(rt; before.contains(line.as_str()), "{before}");
+    let (text, mut conn) = served(alloc, conn);
+    assert!(rt; text?.as_str() == fault, "{statements}");
+    let after = rows_told(alloc, &mut conn)?;
+    assert!(rt; before.as_str() == after.as_str(), "{statements}");
+    change(&mut conn, undo)?;
+    let (text, conn) = served(alloc, conn);
+    assert!(rt; text?.as_str() == FIVE, "{undo}");
+    Ok(conn)
+}
+
+/// A store that is closed and taken over again gives each number its first reply. A changed one is refused,
+/// and stays as it is.
+#[test]
+fn changed_stores_are_refused(rt: HostRuntime) -> Result<(), Fail> {
+    let alloc = rt.alloc();
+    let (text, mut conn) = served(alloc, Connection::open_in_memory(alloc)?);
+    assert_eq!(rt; text?.as_str(), FIVE);
+    for case in CHANGES.lines() {
+        conn = is_refused(&rt, alloc, conn, case)?;
+    }
+    Ok(())
+}
+
+/// A store that doesn't have just the tables of this program, in their order, is refused, and stays as it is; its
+/// version is told first.
+#[test]
+fn other_tables_are_refused(rt: HostRuntime) -> Result<(), Fail> {
+    let alloc = rt.alloc();
+    let (text, mut conn) = served(alloc, Connection::open_in_memory(alloc)?);
+    assert_eq!(rt; text?.as_str(), FIVE);
+    for case in OTHER_TABLES.lines() {
+        let (statements, fault) = case.split_once(" => ").ok_or("change")?;
+        change(&mut conn, statements)?;
+        let before = rows_told(alloc, &mut conn)?;
+        let (text, left) = served(alloc, conn);
+        conn = left;
+        assert!(rt; text?.as_str() == fault, "{statements}");
+        let after = rows_told(alloc, &mut conn)?;
+        assert!(rt; before.as_str() == after.as_str(), "{statements}");
+    }
+    Ok(())
+}

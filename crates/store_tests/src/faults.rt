@@ -1,0 +1,171 @@
+//! Calls at fault, bytes that are no message, and streams that end anywhere, by the command `apply`: each
+//! has its answer and its end.
+
+use crate::talk::{applied, json, message};
+use ee_keeper::Keeper;
+use std::alloc::Global;
+use std::process::Abort;
+use std::test::Fail;
+
+/// Calls at fault, after each of which the connection goes on; and a body that a query ignores.
+pub const CALLS: &str = r#"> POST /day/open
+400 {"code":64,"fault":"BadJson"}
+> POST /day/open {"number":4,
+400 {"code":64,"fault":"BadJson"}
+> POST /rates [[[[[[[[[[[[[[[[[[[[[[[[[[[[[[[[[[[[[[[[[[[[[[[[[[[[[[[[[[[[[[[[[[[[[[[[[[[[[[[[[[[[[[[[[[[[[[[[[[[[[[[[[[[[[[[[[[[[[[[[[[[[[[[[
+400 {"code":64,"fault":"BadJson"}
+> POST /day/open []
+400 {"code":65,"fault":"BadField","field":"body"}
+> POST /day/open {"day":"2012-02-06"}
+400 {"code":65,"fault":"BadField","field":"number"}
+> POST /day/open {"number":9223372036854775808,"day":"2012-02-06"}
+400 {"code":65,"fault":"BadField","field":"number"}
+> POST /day/open {"number":4,"day":"2012-02-30"}
+400 {"code":65,"fault":"BadField","field":"day"}
+> POST /day/open {"number":4,"day":"2012-02-06","x":0}
+400 {"code":65,"fault":"BadField","field":"other"}
+> POST /day/close {"number":4}
+400 {"code":65,"fault":"BadField","field":"day"}
+> POST /rates {"number":4,"rates":[7]}
+400 {"code":65,"fault":"BadField","field":"rates"}
+> POST /rates {"number":4,"rates":[{"from":"2010-13","rate":"2.00"}]}
+400 {"code":65,"fault":"BadField","field":"from"}
+> POST /rates {"number":4,"rates":[{"from":"2010-05","rate":"20.01"}]}
+400 {"code":65,"fault":"BadField","field":"rate"}
+> POST /rates {"number":4,"rates":[{"from":"2010-05","rate":"2.00","x":0}]}
+400 {"code":65,"fault":"BadField","field":"other"}
+> POST /bonds {"number":4,"bonds":{}}
+400 {"code":65,"fault":"BadField","field":"bonds"}
+> POST /bonds {"number":4,"bonds":[{"serial":"L1"}]}
+400 {"code":65,"fault":"BadField","field":"serial"}
+> POST /bonds {"number":4,"bonds":[{"serial":"L1EE","denom":51}]}
+400 {"code":65,"fault":"BadField","field":"denom"}
+> POST /bonds {"number":4,"bonds":[{"serial":"L1EE","denom":50,"issued":"2005-04"}]}
+400 {"code":65,"fault":"BadField","field":"issued"}
+> POST /bonds {"number":4,"bonds":[{"serial":"L1EE","denom":50,"issued":"2010-11","owner":0}]}
+400 {"code":65,"fault":"BadField","field":"owner"}
+> POST /bonds {"number":4,"bonds":[{"serial":"L1EE","denom":50,"issued":"2010-11","owner":7,"coowner":"8"}]}
+400 {"code":65,"fault":"BadField","field":"coowner"}
+> POST /redeem {"number":4,"payee":7,"serials":["L1EE"]}
+400 {"code":65,"fault":"BadField","field":"day"}
+> POST /redeem {"number":4,"day":"2012-02-06","payee":1000000000,"serials":["L1EE"]}
+400 {"code":65,"fault":"BadField","field":"payee"}
+> POST /redeem {"number":4,"day":"2012-02-06","payee":7,"serials":["L1EE",7]}
+400 {"code":65,"fault":"BadField","field":"serials"}
+> GET /inventory/0/2012-02
+400 {"code":65,"fault":"BadField","field":"customer"}
+> GET /inventory/7/2012-13
+400 {"code":65,"fault":"BadField","field":"month"}
+> GET /ticket/0
+400 {"code":65,"fault":"BadField","field":"ticket"}
+> GET /batch/2012-02-30
+400 {"code":65,"fault":"BadField","field":"day"}
+> GET /value/51/2010/2012-02
+400 {"code":65,"fault":"BadField","field":"denom"}
+> GET /value/50/2010/2012-02
+400 {"code":65,"fault":"BadField","field":"issued"}
+> GET /value/50/2010-11/2012
+400 {"code":65,"fault":"BadField","field":"month"}
+> POST /nothing {"number":4}
+404 {"code":66,"fault":"NoRoute"}
+> GET /day/open
+405 {"code":67,"fault":"BadMethod"}
+> POST /ticket/1
+405 {"code":67,"fault":"BadMethod"}
+> GET /ticket/1
+404 {"code":69,"fault":"NotFound"}
+> GET /batch/2012-02-06 [
+404 {"code":69,"fault":"NotFound"}
+> POST /redeem {"number":4,"day":"2012-02-06","payee":7,"serials":[]}
+409 {"code":11,"refused":"Empty"}
+"#;
+
+/// Streams at fault, and the answer that ends each.
+pub const STREAMS: &str = r#"~ GET /ticket/1 HTTP/1.1|no header||
+Refused HTTP/1.1 400 Bad Request|Content-Type: application/json|Content-Length: 29|Connection: close||{"code":60,"fault":"BadHead"}|
+~ GET /ticket/1 HTTP/2.0||
+Refused HTTP/1.1 400 Bad Request|Content-Type: application/json|Content-Length: 29|Connection: close||{"code":60,"fault":"BadHead"}|
+~ ~~~~|
+Refused HTTP/1.1 400 Bad Request|Content-Type: application/json|Content-Length: 29|Connection: close||{"code":60,"fault":"BadHead"}|
+~ POST /rates HTTP/1.1|Content-Length: 1048577||
+Refused HTTP/1.1 413 Content Too Large|Content-Type: application/json|Content-Length: 33|Connection: close||{"code":62,"fault":"BodyTooLong"}|
+~ POST /rates HTTP/1.1|Content-Length: 999999999999999999999999999999||
+Refused HTTP/1.1 413 Content Too Large|Content-Type: application/json|Content-Length: 33|Connection: close||{"code":62,"fault":"BodyTooLong"}|
+~ POST /rates HTTP/1.1|Content-Length: 1x||
+Refused HTTP/1.1 400 Bad Request|Content-Type: application/json|Content-Length: 31|Connection: close||{"code":63,"fault":"BadLength"}|
+~ POST /rates HTTP/1.1|Content-Length: ||
+Refused HTTP/1.1 400 Bad Request|Content-Type: application/json|Content-Length: 31|Connection: close||{"code":63,"fault":"BadLength"}|
+~ POST /rates HTTP/1.1|Content-Length: 1|Content-Length: 1||
+Refused HTTP/1.1 400 Bad Request|Content-Type: application/json|Content-Length: 31|Connection: close||{"code":63,"fault":"BadLength"}|
+~ POST /rates HTTP/1.1|Transfer-Encoding: chunked||
+Refused HTTP/1.1 400 Bad Request|Content-Type: application/json|Content-Length: 31|Connection: close||{"code":63,"fault":"BadLength"}|
+~ POST /rates HTTP/1.1|Content-Length: 55
+Refused HTTP/1.1 400 Bad Request|Content-Type: application/json|Content-Length: 31|Connection: close||{"code":68,"fault":"Truncated"}|
+~ POST /rates HTTP/1.1|Content-Length: 55||{"number":4,
+Refused HTTP/1.1 400 Bad Request|Content-Type: application/json|Content-Length: 31|Connection: close||{"code":68,"fault":"Truncated"}|
+~ ~
+Refused HTTP/1.1 400 Bad Request|Content-Type: application/json|Content-Length: 31|Connection: close||{"code":68,"fault":"Truncated"}|
+"#;
+
+/// Heads of 32 headers and 16,384 bytes, of 33 headers, and of a byte more: the first is served.
+pub const HEADS: &str =
+    r#"~ GET /ticket/1 HTTP/1.1|a:|a:|a:|a:|a:|a:|a:|a:|a:|a:|a:|a:|a:|a:|a:|a:|a:|a:|a:|a:|a:|a:|a:|a:|a:|a:|a:|a:|a:|a:|a:|c:(*16230 d*)||
+Done HTTP/1.1 404 Not Found|Content-Type: application/json|Content-Length: 30||{"code":69,"fault":"NotFound"}|
+~ GET /ticket/1 HTTP/1.1|(*33 a: b|*)|
+Refused HTTP/1.1 400 Bad Request|Content-Type: application/json|Content-Length: 29|Connection: close||{"code":60,"fault":"BadHead"}|
+~ GET /ticket/1 HTTP/1.1|a:|a:|a:|a:|a:|a:|a:|a:|a:|a:|a:|a:|a:|a:|a:|a:|a:|a:|a:|a:|a:|a:|a:|a:|a:|a:|a:|a:|a:|a:|a:|c:(*16231 d*)||
+Refused HTTP/1.1 413 Content Too Large|Content-Type: application/json|Content-Length: 33|Connection: close||{"code":61,"fault":"HeadTooLong"}|
+"#;
+
+/// Two messages.
+const FIRST: &str = r#"POST /rates {"number":1,"rates":[{"from":"2010-11","rate":"3.50"}]}"#;
+
+const SECOND: &str = "GET /value/50/2010-11/2012-02";
+
+/// Their answers, and that to a front of a message.
+const ADDED: &str = r#"{"new":1,"same":0}"#;
+
+const ROW: &str =
+    r#"{"denom":50,"final":"2040-11","interest":"0.88","issued":"2010-11","next":"2012-03","note":"P5","price":"25.00","rate":"3.50%","value":"25.88"}"#;
+
+const CUT: &str = r#"{"code":68,"fault":"Truncated"}"#;
+
+/// What `apply` tells after so many of the two messages, and after a front of another.
+fn wanted(alloc: Global, messages: usize, is_cut: bool) -> Result<String, Fail> {
+    let end = if is_cut { "Refused" } else { "Done" };
+    let mut text = format!(in alloc; "{end} ")?;
+    if messages > 0 {
+        text.push_str(json(alloc, "200 OK", "", ADDED)?.as_str())?;
+    }
+    if messages > 1 {
+        text.push_str(json(alloc, "200 OK", "", ROW)?.as_str())?;
+    }
+    if is_cut {
+        let cut = json(alloc, "400 Bad Request", "Connection: close\r\n", CUT)?;
+        text.push_str(cut.as_str())?;
+    }
+    Ok(text)
+}
+
+/// Two messages whose stream ends after each byte in turn.
+pub fn ends<K: Keeper>(rt: &impl Abort, alloc: Global, keeper: &mut K) -> Result<(), Fail> {
+    let mut stream = message(alloc, FIRST)?;
+    let first = stream.len();
+    stream.push_str(message(alloc, SECOND)?.as_str())?;
+    for end in 0..=stream.len() {
+        let messages = usize::from(end >= first).saturating_add(usize::from(end == stream.len()));
+        let is_cut = end != 0 && end != first && end != stream.len();
+        let wanted = wanted(alloc, messages, is_cut)?;
+        let told = applied(alloc, keeper, &stream.as_bytes()[..end])?;
+        assert!(rt; told.as_str() == wanted.as_str(), "{told} and not {wanted}");
+    }
+    Ok(())
+}
+
+/// The first of the two messages again: its number was taken once, by the whole message.
+pub fn ended<K: Keeper>(rt: &impl Abort, alloc: Global, keeper: &mut K) -> Result<(), Fail> {
+    let wanted = wanted(alloc, 1, false)?;
+    let told = applied(alloc, keeper, message(alloc, FIRST)?.as_bytes())?;
+    assert!(rt; told.as_str() == wanted.as_str(), "{told} and not {wanted}");
+    Ok(())
+}

@@ -1,0 +1,158 @@
+//! Stores in files: days in a file that is closed and opened again, and stops at each call of a file.
+
+use crate::days::{DAY, LAST};
+use crate::five::{FIVE, fault_told, served};
+use crate::lists::LISTS;
+use crate::refusals::{DAYS, IMPORTS};
+use crate::talk::answers;
+use ee_keeper::ListKeeper;
+use ee_store::SqlKeeper;
+use sqlite::{Connection, Files, Options};
+use sqlite_disk::{Crash, Disk, Fuse, Memory};
+use std::alloc::Global;
+use std::fs;
+use std::process::Abort;
+use std::test::Fail;
+
+/// Days that are told as transcripts.
+const TALKS: [&str; 5] = [DAY, IMPORTS, DAYS, LAST, LISTS];
+
+/// A path for a file of this test alone; no file is there.
+fn fresh(rt: &HostRuntime, name: &str) -> Result<String, Fail> {
+    let folder = std::env::temp_dir(rt)?;
+    let folder = folder.as_path().to_str().ok_or("a folder's name")?;
+    let path = format!(in rt.alloc(); "{folder}/store_tests_{name}")?;
+    forget(rt, &path)?;
+    Ok(path)
+}
+
+/// Removes the file of a path, and the log beside it.
+fn forget(rt: &HostRuntime, path: &str) -> Result<(), Fail> {
+    let log = format!(in rt.alloc(); "{path}-wal")?;
+    let _gone = fs::remove_file(rt, path);
+    let _gone = fs::remove_file(rt, log.as_str());
+    Ok(())
+}
+
+/// The answers to a talk over the store in a file, which is opened for it and closed.
+fn in_file(rt: &HostRuntime, path: &str, talk: &str) -> Result<String, Fail> {
+    match SqlKeeper::open(rt, path) {
+        Ok(mut keeper) => {
+            let text = answers(rt.alloc(), &mut keeper, talk);
+            let _closed = keeper.close();
+            text
+        }
+        Err(not) => fault_told(rt.alloc(), not.fault),
+    }
+}
+
+/// The days over a keeper in memory and over a file, which is closed and opened again for the same once
+/// more: the answers are the same, byte for byte.
+#[test]
+fn days_in_a_file(rt: HostRuntime) -> Result<(), Fail> {
+    let path = fresh(&rt, "days.db")?;
+    for talk in TALKS {
+        forget(&rt, &path)?;
+        let mut list = ListKeeper::empty(rt.alloc());
+        for _ in 0..2 {
+            let wanted = answers(rt.alloc(), &mut list, talk)?;
+            let told = in_file(&rt, &path, talk)?;
+            assert!(rt; told.as_str() == wanted.as_str(), "{told} and not {wanted}");
+        }
+    }
+    forget(&rt, &path)
+}
+
+/// A file that is closed and opened again gives each number the bytes of its first answer.
+#[test]
+fn a_file_keeps_its_replies(rt: HostRuntime) -> Result<(), Fail> {
+    let path = fresh(&rt, "replies.db")?;
+    let wanted = answers(rt.alloc(), &mut ListKeeper::empty(rt.alloc()), FIVE)?;
+    for _ in 0..3 {
+        let told = in_file(&rt, &path, FIVE)?;
+        assert!(rt; told.as_str() == wanted.as_str(), "{told} and not {wanted}");
+    }
+    forget(&rt, &path)
+}
+
+/// Serves the five requests over files, and hands them back; with no text where they don't open.
+fn served_on<D: Disk + Drop>(
+    alloc: Global,
+    files: Files<D>,
+) -> (Result<String, Fail>, bool, Files<D>) {
+    if !files.may_be_used() {
+        return (Ok(String::new(alloc)), false, files);
+    }
+    match Connection::open_files(alloc, files, Options::new(1)) {
+        Ok(conn) => {
+            let (text, conn) = served(alloc, conn);
+            match conn.close_files() {
+                Ok(files) => (text, true, files),
+                Err((_, store)) => (text, false, store.close()),
+            }
+        }
+        Err((_, left)) => (Ok(String::new(alloc)), false, left.into_files()),
+    }
+}
+
+/// Whether `apply` ended by `StoreFailed` on each message that was answered so, and on no other.
+fn ends_by_failures(talk: &str) -> bool {
+    talk.lines().all(|line| line.starts_with("StoreFailed 503 ")
+        == line.ends_with("\"StoreFailed\"}"))
+}
+
+/// What two runs tell, the first over files that stop, the second after a crash; and whether the first went to its end.
+#[derive(Drop)]
+struct Runs {
+    first: String,
+    second: String,
+    is_whole: bool,
+}
+
+/// The five requests over files of which the log stops at one call and the other at another; then again over what a
+/// crash leaves.
+fn stopped(alloc: Global, log: u64, db: u64) -> Result<Runs, Fail> {
+    let log = Fuse::new(Memory::new(alloc), log);
+    let db = Fuse::new(Memory::new(alloc), db);
+    let (first, closed, mut files) = served_on(alloc, Files { log, db });
+    let first = first?;
+    files.log.crash();
+    files.db.crash();
+    let (second, _, _left) = served_on(alloc, files);
+    let second = second?;
+    let is_whole = closed && first.as_str() == FIVE;
+    Ok(Runs {
+        first,
+        second,
+        is_whole,
+    })
+}
+
+/// One file stops at each of its calls in turn. Where the store fails, `apply` ends by that, also where the store still
+/// answers queries. After a crash the files are opened again and the five requests are sent again: each has its one
+/// reply. Whether a request failed is told.
+fn stops_at_each_call(rt: &impl Abort, alloc: Global, on_log: bool) -> Result<bool, Fail> {
+    let mut failed = false;
+    for k in 0..10_000 {
+        let runs = if on_log {
+            stopped(alloc, k, u64::MAX)?
+        } else {
+            stopped(alloc, u64::MAX, k)?
+        };
+        assert!(rt; ends_by_failures(&runs.first), "{}", runs.first);
+        assert_eq!(rt; runs.second.as_str(), FIVE, "after {k}");
+        failed |= runs.first.contains("\nStoreFailed 503 ");
+        if runs.is_whole {
+            break;
+        }
+    }
+    Ok(failed)
+}
+
+#[test]
+fn a_stop_at_each_call(rt: HostRuntime) -> Result<(), Fail> {
+    let on_log = stops_at_each_call(&rt, rt.alloc(), true)?;
+    let on_file = stops_at_each_call(&rt, rt.alloc(), false)?;
+    assert!(rt; on_log || on_file, "no request failed");
+    Ok(())
+}

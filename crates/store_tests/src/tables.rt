@@ -1,0 +1,188 @@
+//! The statements on the tables of a store, each found by what was written.
+
+use ee_store_tables::{
+    BatchRow, Failure, PaidRow, RateRow, ReplyRow, Serial, TicketRow, UnpaidBond, add_batch,
+    add_bond, add_rate, add_reply, add_ticket, bonds_of_owner, day_tickets, find_batch, find_bond,
+    find_desk, find_rate, find_reply, find_ticket, first_ticket, last_ticket, pay_lines, set_day,
+    ticket_lines,
+};
+use sqlite::{Alter, Connection, Error, Transaction};
+use std::alloc::Global;
+use std::fmt::{Debug, Write};
+use std::test::Fail;
+
+/// 2015-05-04.
+const DAY: u64 = 16_559;
+
+const A1: Serial = Serial {
+    letter: 1,
+    number: 1,
+};
+
+fn make_tables<S: Alter>(conn: &mut Connection<S>) -> Result<(), Error> {
+    conn.execute_batch(
+        "CREATE TABLE desk (id INTEGER NOT NULL PRIMARY KEY, version INTEGER NOT NULL, day INTEGER, last_day INTEGER) STRICT;
+        CREATE TABLE rates (period INTEGER NOT NULL PRIMARY KEY, rate INTEGER NOT NULL) STRICT;
+        CREATE TABLE bonds (letter INTEGER NOT NULL, number INTEGER NOT NULL, denom INTEGER NOT NULL, issued INTEGER NOT NULL, owner INTEGER NOT NULL, coowner INTEGER, ticket INTEGER, PRIMARY KEY (letter, number)) STRICT;
+        CREATE INDEX bonds_owner ON bonds (owner, letter, number);
+        CREATE TABLE tickets (ticket INTEGER NOT NULL PRIMARY KEY, day INTEGER NOT NULL, payee INTEGER NOT NULL, bonds INTEGER NOT NULL, total INTEGER NOT NULL) STRICT;
+        CREATE INDEX tickets_day ON tickets (day, ticket);
+        CREATE TABLE paid (ticket INTEGER NOT NULL, place INTEGER NOT NULL, letter INTEGER NOT NULL, number INTEGER NOT NULL, cents INTEGER NOT NULL, PRIMARY KEY (ticket, place), UNIQUE (letter, number)) STRICT;
+        CREATE TABLE batches (day INTEGER NOT NULL PRIMARY KEY, tickets INTEGER NOT NULL, bonds INTEGER NOT NULL, total INTEGER NOT NULL) STRICT;
+        CREATE TABLE replies (number INTEGER NOT NULL PRIMARY KEY, act TEXT NOT NULL, reply TEXT NOT NULL) STRICT;
+        INSERT INTO desk (id, version) VALUES (1, 1)",
+    )
+}
+
+/// Rates and bonds; a second rate for a period and a second bond of a serial number change nothing.
+fn register<S: Alter>(tx: &mut Transaction<'_, S>) -> Result<(), Failure> {
+    let period = 60;
+    add_rate(tx, RateRow { period, rate: 350 })?;
+    add_rate(tx, RateRow { period, rate: 200 })?;
+    let first = UnpaidBond {
+        letter: 1,
+        number: 1,
+        denom: 50,
+        issued: 60,
+        owner: 7,
+        coowner: None,
+    };
+    let last = UnpaidBond {
+        letter: 26,
+        number: 9_999_999_999,
+        denom: 10_000,
+        issued: 60,
+        owner: 7,
+        coowner: Some(8),
+    };
+    add_bond(tx, last)?;
+    add_bond(tx, first)?;
+    add_bond(tx, UnpaidBond { denom: 75, ..first })?;
+    set_day(tx, Some(DAY), Some(DAY - 1))
+}
+
+/// A ticket of one bond, the batch of its day, and a reply.
+fn redeem<S: Alter>(tx: &mut Transaction<'_, S>, entry: &ReplyRow) -> Result<(), Failure> {
+    let ticket = TicketRow {
+        day: DAY,
+        payee: 7,
+        bonds: 1,
+        total: 2974,
+    };
+    add_ticket(tx, 1, ticket)?;
+    let lines = [PaidRow {
+        letter: 1,
+        number: 1,
+        cents: 2974,
+    }];
+    pay_lines(tx, 1, 1, &lines)?;
+    let batch = BatchRow {
+        tickets: 1,
+        bonds: 1,
+        total: 9_223_372_036_854_775_807,
+    };
+    add_batch(tx, DAY, batch)?;
+    add_reply(tx, 9_223_372_036_854_775_807, entry)
+}
+
+/// Adds a line: a name, and a value as `Debug` shows it.
+fn add<T: Debug>(text: &mut String, name: &str, value: &T) -> Result<(), Fail> {
+    writeln!(text, "{name}: {value:?}")?;
+    Ok(())
+}
+
+/// Adds what is registered.
+fn add_register<S: Alter>(text: &mut String, tx: &mut Transaction<'_, S>) -> Result<(), Fail> {
+    add(text, "desk", &find_desk(tx))?;
+    add(text, "rate of 60", &find_rate(tx, 60))?;
+    add(text, "rate of 66", &find_rate(tx, 66))
+}
+
+/// Adds the bonds, the one on its ticket and the other unpaid.
+fn add_bonds<S: Alter>(
+    alloc: Global,
+    text: &mut String,
+    tx: &mut Transaction<'_, S>,
+) -> Result<(), Fail> {
+    add(text, "bond", &find_bond(tx, A1))?;
+    add(text, "of 7", &bonds_of_owner(tx, alloc, 7))?;
+    add(text, "of 8", &bonds_of_owner(tx, alloc, 8))
+}
+
+/// Adds the ticket, alone and among those of its day.
+fn add_tickets<S: Alter>(
+    alloc: Global,
+    text: &mut String,
+    tx: &mut Transaction<'_, S>,
+) -> Result<(), Fail> {
+    add(text, "ticket", &find_ticket(tx, 1))?;
+    add(text, "first", &first_ticket(tx, DAY))?;
+    add(text, "first after", &first_ticket(tx, DAY + 1))?;
+    add(text, "last", &last_ticket(tx))?;
+    add(text, "of the day", &day_tickets(tx, alloc, DAY))
+}
+
+/// Adds the ticket's lines, the batch and the reply.
+fn add_rest<S: Alter>(
+    alloc: Global,
+    text: &mut String,
+    tx: &mut Transaction<'_, S>,
+) -> Result<(), Fail> {
+    add(text, "lines", &ticket_lines(tx, alloc, 1))?;
+    add(text, "batch", &find_batch(tx, DAY))?;
+    let Ok(Some(entry)) = find_reply(tx, 9_223_372_036_854_775_807) else {
+        return Err("the reply was not found".into());
+    };
+    add(text, "reply", &entry.reply)
+}
+
+/// What is found of all that.
+const FOUND: &str =
+    r#"desk: Ok(Some(DeskRow { version: 1, day: Some(16559), last_day: Some(16558) }))
+rate of 60: Ok(Some(350))
+rate of 66: Ok(None)
+bond: Ok(Some(BondRow { denom: 50, issued: 60, owner: 7, coowner: None, ticket: Some(1) }))
+of 7: Ok([UnpaidBond { letter: 26, number: 9999999999, denom: 10000, issued: 60, owner: 7, coowner: Some(8) }])
+of 8: Ok([])
+ticket: Ok(Some(TicketRow { day: 16559, payee: 7, bonds: 1, total: 2974 }))
+first: Ok(Some(1))
+first after: Ok(None)
+last: Ok(Some(1))
+of the day: Ok([TicketSum { ticket: 1, bonds: 1, total: 2974 }])
+lines: Ok([PlacedLine { place: 1, letter: 1, number: 1, cents: 2974 }])
+batch: Ok(Some(BatchRow { tickets: 1, bonds: 1, total: 9223372036854775807 }))
+reply: "paid"
+again: Err(StoreFailed)
+"#;
+
+/// What is found after a ticket was redeemed, whose reply is written once.
+fn found<S: Alter>(alloc: Global, tx: &mut Transaction<'_, S>) -> Result<String, Fail> {
+    let entry = ReplyRow {
+        act: String::from_str(alloc, "redeem")?,
+        reply: String::from_str(alloc, "paid")?,
+    };
+    redeem(tx, &entry)?;
+    let mut text = String::new(alloc);
+    add_register(&mut text, tx)?;
+    add_bonds(alloc, &mut text, tx)?;
+    add_tickets(alloc, &mut text, tx)?;
+    add_rest(alloc, &mut text, tx)?;
+    add(&mut text, "again", &redeem(tx, &entry))?;
+    Ok(text)
+}
+
+#[test]
+fn a_ticket_is_written_and_looked_up(rt: HostRuntime) -> Result<(), Fail> {
+    let mut conn = Connection::open_in_memory(rt.alloc())?;
+    make_tables(&mut conn)?;
+    if !conn.is_autocommit() {
+        return Err("a transaction was begun".into());
+    }
+    let mut tx = conn.transaction();
+    let mut before = String::new(rt.alloc());
+    add(&mut before, "last", &last_ticket(&mut tx))?;
+    assert_eq!(rt; before.as_str(), "last: Ok(None)\n");
+    register(&mut tx)?;
+    assert_eq!(rt; found(rt.alloc(), &mut tx)?.as_str(), FOUND);
+    Ok(())
+}

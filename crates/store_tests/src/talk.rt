@@ -1,0 +1,251 @@
+//! A transcript is a talk with a counter: a line for each thing that is done, and below it what is told.
+//!
+//! - `> METHOD PATH BODY` sends a message by the command `apply`: the status and the body of its answer.
+//! - `~ BYTES` sends bytes by `apply`: how it ends, and the whole answer. `|` stands for a line's end, and `~` for the
+//!   byte FF.
+//! - `+ NUMBER FILE` imports a file, which is one of rates where it begins with `from`: its reply, or the fault. `|`
+//!   stands for a line feed.
+//! - `- CUSTOMER ROOM` exports an inventory to a device of so many bytes: how it ends, and what the device has.
+//! - `% ROOM METHOD PATH BODY` serves a message to a device of so many bytes: how many messages were answered, why it
+//!   ended, and the status and the front of the body that the device has.
+//!
+//! `[*COUNT ITEM*]` is a list of so many items, `(*COUNT ITEM*)` so many items in a row, and `#` in the item is its
+//! place, from 1 on.
+
+use crate::devices::Narrow;
+use ee_cli_actions::{Outcome, RunFault, StoreFault, apply_to};
+use ee_counter::{export_inventory, import_inventory, import_rates, serve};
+use ee_desk_acts::Number;
+use ee_desk_texts::reply_text;
+use ee_keeper::Keeper;
+use std::alloc::Global;
+use std::fmt::Write;
+use std::process::Abort;
+use std::test::Fail;
+
+/// So many items, with a text between two.
+fn items(alloc: Global, count: u64, item: &str, between: &str) -> Result<String, Fail> {
+    let (front, back) = item.split_once('#').unwrap_or((item, ""));
+    let is_placed = item.contains("#");
+    let mut text = String::new(alloc);
+    for place in 1..=count {
+        text.push_str(if place > 1 { between } else { "" })?;
+        text.push_str(front)?;
+        if is_placed {
+            write!(text, "{place}{back}")?;
+        }
+    }
+    Ok(text)
+}
+
+/// A line with the items between two marks written out.
+fn between_marks(
+    alloc: Global,
+    line: &str,
+    marks: (&str, &str),
+    ends: (&str, &str),
+    between: &str,
+) -> Result<String, Fail> {
+    let (front, rest) = line.split_once(marks.0).ok_or("items")?;
+    let (list, back) = rest.split_once(marks.1).ok_or("their end")?;
+    let (count, item) = list.split_once(' ').ok_or("count")?;
+    let items = items(alloc, count.parse()?, item, between)?;
+    Ok(format!(in alloc; "{front}{}{items}{}{back}", ends.0, ends.1)?)
+}
+
+/// A line with its list or its items written out.
+fn written_out(alloc: Global, line: &str) -> Result<String, Fail> {
+    if line.contains("[*") {
+        return between_marks(alloc, line, ("[*", "*]"), ("[", "]"), ",");
+    }
+    if line.contains("(*") {
+        return between_marks(alloc, line, ("(*", "*)"), ("", ""), "");
+    }
+    Ok(String::from_str(alloc, line)?)
+}
+
+/// A transcript with its lists written out.
+fn whole(alloc: Global, transcript: &str) -> Result<String, Fail> {
+    let mut text = String::new(alloc);
+    for line in transcript.lines() {
+        text.push_str(written_out(alloc, line)?.as_str())?;
+        text.push_str("\n")?;
+    }
+    Ok(text)
+}
+
+/// The bytes of a text in which `|` stands for that end of a line, and `~` for the byte FF.
+fn bytes_of(alloc: Global, text: &str, end: &str) -> Result<Vec<u8>, Fail> {
+    let mut bytes = Vec::new(alloc);
+    for byte in text.as_bytes() {
+        match byte {
+            b'|' => bytes.extend_from_slice(end.as_bytes())?,
+            b'~' => bytes.push(0xff)?,
+            _ => bytes.push(*byte)?,
+        }
+    }
+    Ok(bytes)
+}
+
+/// The HTTP text of a message `METHOD PATH BODY`; the body may be missing.
+pub fn message(alloc: Global, line: &str) -> Result<String, Fail> {
+    let (method, rest) = line.split_once(' ').ok_or("method")?;
+    let (path, body) = rest.split_once(' ').unwrap_or((rest, ""));
+    let length = body.len();
+    Ok(format!(in alloc; "{method} {path} HTTP/1.1\r\nContent-Length: {length}\r\n\r\n{body}")?)
+}
+
+/// All messages of a transcript, one after another.
+pub fn stream(alloc: Global, transcript: &str) -> Result<String, Fail> {
+    let mut text = String::new(alloc);
+    for line in transcript.lines() {
+        if let Some(line) = line.strip_prefix("> ") {
+            text.push_str(message(alloc, line)?.as_str())?;
+        }
+    }
+    Ok(text)
+}
+
+/// Status and body of an answer.
+fn told(alloc: Global, answer: &str) -> Result<String, Fail> {
+    let (head, body) = answer.split_once("\r\n\r\n").ok_or("head")?;
+    let status = head.split_ascii_whitespace().nth(1).ok_or("status")?;
+    Ok(format!(in alloc; "{status} {body}")?)
+}
+
+/// An answer of JSON; `headers` stand after its length.
+pub fn json(alloc: Global, status: &str, headers: &str, body: &str) -> Result<String, Fail> {
+    let length = body.len();
+    Ok(format!(in alloc;
+        "HTTP/1.1 {status}\r\nContent-Type: application/json\r\nContent-Length: {length}\r\n{headers}\r\n{body}"
+    )?)
+}
+
+fn end_told(end: Result<Outcome, RunFault>) -> &'static str {
+    match end {
+        Ok(Outcome::Done) => "Done",
+        Ok(Outcome::Refused) => "Refused",
+        Err(RunFault::Store(StoreFault::StoreFailed)) => "StoreFailed",
+        _ => "Failed",
+    }
+}
+
+/// How the command `apply` ends on a stream, and what it answers.
+pub fn applied<K: Keeper>(alloc: Global, keeper: &mut K, stream: &[u8]) -> Result<String, Fail> {
+    let mut reader = stream;
+    let mut text = Vec::new(alloc);
+    let end = end_told(apply_to(alloc, keeper, &mut reader, &mut text));
+    Ok(format!(in alloc; "{end} {}", str::from_utf8(&text)?)?)
+}
+
+/// The answer to one message; after how `apply` ends on it, where it isn't done.
+fn ask<K: Keeper>(alloc: Global, keeper: &mut K, line: &str) -> Result<String, Fail> {
+    let message = message(alloc, line)?;
+    let text = applied(alloc, keeper, message.as_bytes())?;
+    let (end, answer) = text.split_once(' ').ok_or("end")?;
+    let answer = told(alloc, answer)?;
+    if end == "Done" {
+        return Ok(answer);
+    }
+    Ok(format!(in alloc; "{end} {answer}")?)
+}
+
+/// What is told of bytes, on a line.
+fn send<K: Keeper>(alloc: Global, keeper: &mut K, line: &str) -> Result<String, Fail> {
+    let bytes = bytes_of(alloc, line, "\r\n")?;
+    let told = applied(alloc, keeper, &bytes)?;
+    let mut text = String::new(alloc);
+    for part in told.as_str().split("\r\n") {
+        text.push_str(part)?;
+        text.push_str("|")?;
+    }
+    Ok(text)
+}
+
+/// What is told of a file.
+fn enter<K: Keeper>(alloc: Global, keeper: &mut K, line: &str) -> Result<String, Fail> {
+    let (number, file) = line.split_once(' ').ok_or("number")?;
+    let number = Number::new(number.parse()?).ok_or("number")?;
+    let file = bytes_of(alloc, file, "\n")?;
+    let mut reader = file.as_slice();
+    let reply = if file.starts_with(b"from") {
+        import_rates(alloc, keeper, number, &mut reader)
+    } else {
+        import_inventory(alloc, keeper, number, &mut reader)
+    };
+    match reply {
+        Ok(reply) => Ok(reply_text(alloc, &reply)?),
+        Err(fault) => Ok(fault.to_string(alloc)?),
+    }
+}
+
+/// What is told of an export.
+fn leave<K: Keeper>(alloc: Global, keeper: &mut K, line: &str) -> Result<String, Fail> {
+    let (customer, room) = line.split_once(' ').ok_or("room")?;
+    let mut writer = Narrow::new(alloc, room.parse()?);
+    let rows = export_inventory(alloc, keeper, customer.parse()?, &mut writer);
+    Ok(format!(in alloc; "{rows:?} {}", str::from_utf8(&writer.text)?)?)
+}
+
+/// What is told of a message whose answer is cut.
+fn lose<K: Keeper>(alloc: Global, keeper: &mut K, line: &str) -> Result<String, Fail> {
+    let (room, line) = line.split_once(' ').ok_or("room")?;
+    let message = message(alloc, line)?;
+    let mut writer = Narrow::new(alloc, room.parse()?);
+    let ended = serve(alloc, keeper, &mut message.as_bytes(), &mut writer);
+    let front = told(alloc, str::from_utf8(&writer.text)?)?;
+    Ok(format!(in alloc; "{} {:?} {front}", ended.messages, ended.why)?)
+}
+
+/// What is told of what a line does; None of a line that tells.
+fn line_told<K: Keeper>(alloc: Global, keeper: &mut K, line: &str) -> Result<Option<String>, Fail> {
+    let (sign, rest) = line.split_once(' ').unwrap_or(("", line));
+    match sign {
+        ">" => ask(alloc, keeper, rest).map(Some),
+        "~" => send(alloc, keeper, rest).map(Some),
+        "+" => enter(alloc, keeper, rest).map(Some),
+        "-" => leave(alloc, keeper, rest).map(Some),
+        "%" => lose(alloc, keeper, rest).map(Some),
+        _ => Ok(None),
+    }
+}
+
+/// What `apply` does on each message of a transcript, in all bytes.
+pub fn answers<K: Keeper>(alloc: Global, keeper: &mut K, transcript: &str) -> Result<String, Fail> {
+    let transcript = whole(alloc, transcript)?;
+    let mut text = String::new(alloc);
+    for line in transcript.lines() {
+        if let Some(line) = line.strip_prefix("> ") {
+            let message = message(alloc, line)?;
+            text.push_str(applied(alloc, keeper, message.as_bytes())?.as_str())?;
+        }
+    }
+    Ok(text)
+}
+
+/// The transcript that comes of doing the same again.
+pub fn replay<K: Keeper>(alloc: Global, keeper: &mut K, transcript: &str) -> Result<String, Fail> {
+    let mut text = String::new(alloc);
+    for line in transcript.lines() {
+        if let Some(told) = line_told(alloc, keeper, line)? {
+            write!(text, "{line}\n{told}\n")?;
+        }
+    }
+    Ok(text)
+}
+
+/// Does what a transcript does, and compares what is told.
+pub fn compare<K: Keeper>(
+    rt: &impl Abort,
+    alloc: Global,
+    keeper: &mut K,
+    transcript: &str,
+) -> Result<(), Fail> {
+    let wanted = whole(alloc, transcript)?;
+    let told = replay(alloc, keeper, wanted.as_str())?;
+    for (line, wanted) in told.lines().zip(wanted.lines()) {
+        assert_eq!(rt; line, wanted);
+    }
+    assert_eq!(rt; told.as_str(), wanted.as_str());
+    Ok(())
+}
