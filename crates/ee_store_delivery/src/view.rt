@@ -14,7 +14,6 @@ ghost use Rattle.ee_desk_acts.specs.Views as is;
 ghost use Rattle.ee_desk_acts.specs.Views.{picked};
 ghost use Rattle.ee_store_tables.specs.AsRows.{row_of_desk};
 ghost use Rattle.ee_store_tables.specs.Rows.{DeskRow};
-
 ghost use Rattle.ee_store_lookups.specs.Causes.{FailsByCause};
 ghost use Rattle.ee_store_lookups.specs.Found.{terms_found, bonds_found};
 ghost use Rattle.ee_store_lookups.specs.Seen.{FindsIn, OnlyReads};
