@@ -44,21 +44,9 @@ pub fn day(place: u64) -> Result<Day> {
 pub fn rates(alloc: Global) -> Result<Request> {
     let row = RateRow {
         from: "2010-05".parse()?,
-        rates: Rates {
-            fixed: Rate::from_hundredths(350),
-        },
+        rates: Rates::new(Rate::from_hundredths(350), None),
     };
     ask(1, Act::AddRates(Rows::new(vec![in alloc; row]?)))
-}
-
-fn bond(number: u64) -> Result<Bond> {
-    Ok(Bond {
-        serial: serial(number)?,
-        denom: "50".parse()?,
-        issued: "2010-05".parse()?,
-        owner: owner(number)?,
-        coowner: None,
-    })
 }
 
 /// How many imports enter so many bonds.
@@ -72,7 +60,13 @@ pub fn import(alloc: Global, bonds: u64, place: u64) -> Result<Request> {
     let end = first.saturating_add(ROWS).min(bonds.saturating_add(1));
     let mut items = Vec::new(alloc);
     for number in first..end {
-        items.push(bond(number)?)?;
+        items.push(Bond {
+            serial: serial(number)?,
+            denom: "50".parse()?,
+            issued: "2010-05".parse()?,
+            owner: owner(number)?,
+            coowner: None,
+        })?;
     }
     ask(place.saturating_add(2), Act::AddBonds(Rows::new(items)))
 }

@@ -113,7 +113,7 @@ impl Worded for RateRow {
         let fixed = fixed.parse()?;
         Ok(RateRow {
             from: from.parse()?,
-            rates: Rates { fixed },
+            rates: Rates::new(fixed, None),
         })
     }
 

@@ -98,11 +98,11 @@ fn a_message_is_answered(rt: HostRuntime) -> Result<(), Fail> {
 fn one_table_is_kept_for_equal_rates(rt: HostRuntime) -> Result<(), Fail> {
     let fixed = "3.50".parse()?;
     let mut tables = UnitTables::new(rt.alloc());
-    assert!(rt; tables.terms(Rates { fixed })?.is_none());
-    let made = tables.add(rt.alloc(), Rates { fixed })?;
+    assert!(rt; tables.terms(Rates::new(fixed, None))?.is_none());
+    let made = tables.add(rt.alloc(), Rates::new(fixed, None))?;
     let kept = tables.keep(&made)?;
     assert_eq!(rt; kept.rates().fixed, fixed);
-    assert!(rt; tables.terms(Rates { fixed })?.is_some());
+    assert!(rt; tables.terms(Rates::new(fixed, None))?.is_some());
     Ok(())
 }
 

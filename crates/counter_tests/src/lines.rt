@@ -1,12 +1,15 @@
 //! Command lines, and what they ask for.
 
 use ee_cli_commands::{Command, CommandFault, FileKind, read_command};
+use ee_units::Rate;
 use std::alloc::Global;
 use std::test::Fail;
 
 /// Lines, and in plain words what they ask for, or what is wrong with them.
 const LINES: &str = "\
 value 50 2010-05 05/2015 3.50 => value of 50 issued 2010-05 in 2015-05 at 3.50%
+value 50 2010-05 2030-11 3.40 4 => value of 50 issued 2010-05 in 2030-11 at 3.40%, then 4.00%
+value 50 2010-05 2030-11 3.50 3.50 => value of 50 issued 2010-05 in 2030-11 at 3.50%, then 3.50%
 apply --db a.db => apply to a.db
 import rates r.csv --db a.db --number 9223372036854775807 => import of rates r.csv to a.db under 9223372036854775807
 import --number 1 --db a.db inventory i.csv => import of inventory i.csv to a.db under 1
@@ -25,6 +28,9 @@ value 51 2010 2015 x => bad denom
 value 50 2010 2015 x => bad issued
 value 50 2010-05 2015 x => bad month
 value 50 2010-05 2015-05 x => bad rate
+value 50 2010-05 2015-05 x y => bad rate
+value 50 2010-05 2015-05 3.50 20.01 => bad extension
+value 50 2010-05 2015-05 3.50 4.00 5.00 => a bad line
 value 50 2010-05 2015-05 => a bad line
 apply => a bad line
 import rats r.csv --db a.db --number 1 => a bad line
@@ -46,12 +52,21 @@ fn kind_told(kind: FileKind) -> &'static str {
     }
 }
 
+/// A rate, and the extension where one is named.
+fn rates_told(alloc: Global, rate: Rate, extension: Option<Rate>) -> Result<String, Fail> {
+    match extension {
+        None => Ok(rate.to_string(alloc)?),
+        Some(extension) => Ok(format!(in alloc; "{rate}, then {extension}")?),
+    }
+}
+
 /// A command in plain words.
-fn command_told(alloc: Global, command: Command) -> Result<String, Fail> {
-    Ok(match command {
-        Command::Value(denom, issued, month, rate) => format!(in alloc;
-            "value of {denom} issued {issued} in {month} at {rate}"
-        )?,
+fn command_told(alloc: Global, command: &Command) -> Result<String, Fail> {
+    Ok(match *command {
+        Command::Value(denom, issued, month, rate, extension) => {
+            let rates = rates_told(alloc, rate, extension)?;
+            format!(in alloc; "value of {denom} issued {issued} in {month} at {rates}")?
+        }
         Command::Apply(store) => format!(in alloc; "apply to {store}")?,
         Command::Import(kind, file, store, number) => {
             let kind = kind_told(kind);
@@ -73,7 +88,7 @@ fn told(alloc: Global, line: &str) -> Result<String, Fail> {
     let line = format!(in alloc; "ee_cli {line}")?;
     let words: Vec<&str> = line.as_str().split_ascii_whitespace().collect(alloc)?;
     match read_command(alloc, words.as_slice()) {
-        Ok(command) => command_told(alloc, command),
+        Ok(command) => command_told(alloc, &command),
         Err(CommandFault::Help(_)) => Ok(String::from_str(alloc, "help")?),
         Err(CommandFault::Version) => Ok(String::from_str(alloc, "version")?),
         Err(CommandFault::Line(_)) => Ok(String::from_str(alloc, "a bad line")?),

@@ -1,8 +1,9 @@
 -- The rows of the calculator: what its columns show under each note (this project's rule, over the
 -- columns and notes of TreasuryDirect's Savings Bond Calculator).
-use Rattle.std.specs.Prelude.{ℕ, ◌+◌, ◌-◌, ◌*◌, Option, Some, None}
+use Rattle.std.specs.Prelude.{ℕ, ◌+◌, ◌-◌, ◌*◌, ◌/◌, Option, Some, None}
 use Rattle.ee_units.specs.Calendar.{age_of}
 use Rattle.ee_value.specs.declared.rates.Rates.{Rates}
+use Rattle.ee_value.specs.Chain.{rate_in}
 use Rattle.ee_value.specs.Value.{redemption}
 use Rattle.ee_calculator.specs.Notes.{note_at}
 use Rattle.ee_calculator.specs.declared.notes.Note.{Note}
@@ -44,10 +45,12 @@ shown note.P5 price value rate next last = columns_with note.P5 price (value - p
 shown note.Plain price value rate next last = columns_with note.Plain price (value - price) value (Some rate) (Some next) (Some last)
 shown note.Ma price value rate next last = columns_with note.Ma price (value - price) value None None (Some last)
 
--- the columns in a month of a bond of so many units, with a price of 12.50 dollars a unit and 30 years of interest
+-- the columns in a month of a bond of so many units, with a price of 12.50 dollars a unit, the rate in force in that
+-- month and 30 years of interest
 unfoldable pub columns_of : ℕ → ℕ → Rates → ℕ → Columns
 columns_of units issued rates month =
-    shown (note_at (age_of issued month)) (1250 * units) (value_in units issued rates month) rates.fixed (month + 1) (issued + 360)
+    shown (note_at (age_of issued month)) (1250 * units) (value_in units issued rates month)
+    (rate_in rates ((month - issued) / 6)) (month + 1) (issued + 360)
 
 -- the same columns of a row
 abbrev pub columns_in : Row → Columns

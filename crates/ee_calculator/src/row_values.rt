@@ -43,14 +43,15 @@ pub fn plain_row(
     };
     let note = Note::at(Some(age));
     let price = price(denom);
+    let rate = rates.rate_in(age.months() / 6);
     match bond_value(table, denom, age) {
-        Quote::NotEligible => earning(denom, issued, rates.fixed, month, price, price, note),
+        Quote::NotEligible => earning(denom, issued, rate, month, price, price, note),
         Quote::Pays {
             cents,
             matured: true,
             ..
         } => matured(denom, issued, price, cents),
-        Quote::Pays { cents, .. } => earning(denom, issued, rates.fixed, month, price, cents, note),
+        Quote::Pays { cents, .. } => earning(denom, issued, rate, month, price, cents, note),
     }
 }
 

@@ -4,6 +4,7 @@ use Rattle.std.specs.Fmt.{decimal}
 use Rattle.ee_units.specs.Texts.{decimal_text}
 use Rattle.ee_units.specs.Denoms.{units_of}
 use Rattle.ee_units.specs.declared.denoms.Denom.{Denom}
+use Rattle.ee_value.specs.declared.rates.Rates.{Rates}
 use Rattle.ee_calculator.specs.Notes.{note_text}
 use Rattle.ee_calculator.specs.Rows.{columns_of}
 use Rattle.ee_calculator.specs.declared.notes.Note.{Note}
@@ -24,10 +25,10 @@ noted (b ∷ bs) = 32 ∷ b ∷ bs
 abbrev pub line_of : ℕ → Note → List ℕ
 line_of cents note = decimal_text cents ++ (noted (note_text note) ++ 10 ∷ [])
 
--- the line of a bond's value in a month, of its denomination, issue month and fixed rate
-abbrev pub value_line : Denom → ℕ → ℕ → ℕ → List ℕ
-value_line denom issued month rate =
-    let shown = columns_of (units_of denom) issued (record { fixed = rate }) month in line_of shown.value shown.note
+-- the line of a bond's value in a month, of its denomination, issue month and rates
+abbrev pub value_line : Denom → ℕ → ℕ → Rates → List ℕ
+value_line denom issued month rates =
+    let shown = columns_of (units_of denom) issued rates month in line_of shown.value shown.note
 
 -- the text of a reply, on a line
 abbrev pub reply_line : Reply → List ℕ

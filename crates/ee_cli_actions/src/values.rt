@@ -10,7 +10,7 @@ ghost use Rattle.ee_cli_actions.specs.Values.{PrintsValue};
 use crate::faults::{Outcome, RunFault};
 use crate::printing::print;
 use ee_calculator::{Note, plain_row};
-use ee_units::{Bits, Cents, Denom, IssueMonth, Month, Rate, calendar};
+use ee_units::{Bits, Cents, Denom, IssueMonth, Month, calendar};
 use ee_value::{Rates, ValueFault, unit_table};
 use std::alloc::{AllocError, Global};
 use std::io::Write;
@@ -18,20 +18,20 @@ use std::io::Write;
 /// The precision of the program's values: 62 binary places.
 const PRECISION: u8 = 62;
 
-/// Prints the value in a month of a bond of that denomination and issue month, at that rate: the value,
-/// then a space and the note where there is one. A month before issue needs no table of the rate; from
-/// issue on, the rate's least unsettled age is answered where it has one.
+/// Prints the value in a month of a bond of that denomination and issue month, at those rates: the value,
+/// then a space and the note where there is one. A month before issue needs no table of the rates; from
+/// issue on, the rates' least unsettled age is answered where they have one.
 pub fn print_value<W: Write>(
     alloc: Global,
     denom: Denom,
     issued: IssueMonth,
     month: Month,
-    rate: Rate,
+    rates: Rates,
     output: &mut W,
 ) -> Result<Outcome, RunFault>
-    ensures { PrintsValue denom issued month rate (W.contents output.old) (W.contents output.new) result }
+    ensures { PrintsValue denom issued month rates (W.contents output.old) (W.contents output.new) result }
 {
-    match value_text(alloc, denom, issued, month, rate) {
+    match value_text(alloc, denom, issued, month, rates) {
         Ok(text) => {
             print(&text, output)?;
             Ok(Outcome::Done)
@@ -57,15 +57,14 @@ fn value_text(
     denom: Denom,
     issued: IssueMonth,
     month: Month,
-    rate: Rate,
+    rates: Rates,
 ) -> Result<String, ValueFault>
-    ensures text { IfOk result (λ text. string_bytes text ≡ value_line denom issued month rate) }
-    ensures fault { IfErr result (IsFaultOf (record { fixed = rate }) 62) }
+    ensures text { IfOk result (λ text. string_bytes text ≡ value_line denom issued month rates) }
+    ensures fault { IfErr result (IsFaultOf rates 62) }
 {
     if calendar::age(issued, month).is_none() {
         return Ok(line(alloc, Cents(0), Note::Ni)?);
     }
-    let rates = Rates { fixed: rate };
     let table = unit_table(alloc, rates, Bits::from_places(PRECISION))?;
     let row = plain_row(denom, issued, rates, &table, month);
     Ok(line(alloc, row.value, row.note)?)

@@ -12,7 +12,7 @@ use Rattle.ee_cli_commands.specs.declared.commands.CommandFault.TheVariants as f
 
 -- a command, as what it asks for
 abbrev pub view_of : Command → Asked
-view_of (command.Value denom issued month rate) = value denom issued month rate
+view_of (command.Value denom issued month rate extension) = value denom issued month rate extension
 view_of (command.Apply db) = apply db.now
 view_of (command.Import kind file db number) = imports kind file.now db.now number
 view_of (command.Export customer db) = export customer db.now

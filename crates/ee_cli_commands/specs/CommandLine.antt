@@ -17,6 +17,10 @@ use Rattle.ee_cli_commands.specs.declared.commands.FileKind.TheVariants as kind
 abbrev pub positional : Text → Rule
 positional id = record (new_rule id) { required = true }
 
+-- the same, which may be left out
+abbrev pub optional_positional : Text → Rule
+optional_positional id = record (positional id) { required = false }
+
 -- `--id VALUE`, which has to be there
 abbrev pub option : Text → Rule
 option id = record (new_rule id) { long = Some id; required = true }
@@ -46,10 +50,10 @@ most_connections = 1000
 abbrev pub unlimited : ℕ
 unlimited = 18446744073709551615
 
--- value DENOM ISSUED MONTH RATE
+-- value DENOM ISSUED MONTH RATE [EXTENSION]
 abbrev pub value_row : App
-value_row = with_rule (with_rule (with_rule (with_rule (new_app (codes "value")) (positional (codes "denom")))
-    (positional (codes "issued"))) (positional (codes "month"))) (positional (codes "rate"))
+value_row = with_rule (with_rule (with_rule (with_rule (with_rule (new_app (codes "value")) (positional (codes "denom")))
+    (positional (codes "issued"))) (positional (codes "month"))) (positional (codes "rate"))) (optional_positional (codes "extension"))
 
 -- apply --db DB
 abbrev pub apply_row : App
@@ -88,7 +92,7 @@ program kinds = with_subcommand (with_subcommand (with_subcommand (with_subcomma
 
 -- what a line asks for
 pub data Asked : Type 0 where
-  value : Denom → ℕ → ℕ → ℕ → Asked
+  value : Denom → ℕ → ℕ → ℕ → Option ℕ → Asked
   apply : Text → Asked
   imports : FileKind → Text → Text → ℕ → Asked
   export : ℕ → Text → Asked
@@ -103,6 +107,10 @@ abbrev pub ◌>>=◌ : {A B : Type 0} → Result A Text → (A → Result B Text
 -- the value that the word of this name spells, or the name
 abbrev pub spelled : {A : Type 0} → Text → (Text → Option A) → List Row → Result A Text
 spelled name read rows = ok_or (option_and_then read (first_of name rows)) name
+
+-- the same, or none where there is no such word
+abbrev pub spelled_or_none : {A : Type 0} → Text → (Text → Option A) → List Row → Result (Option A) Text
+spelled_or_none name read rows = option_map_or (λ word. ok_or (option_map Some (read word)) name) (first_of name rows) (Ok None)
 
 abbrev pub text_of : Text → Option Text
 text_of word = Some word
@@ -128,7 +136,8 @@ value_asked rows = do
   issued ← spelled (codes "issued") issue_of rows
   month ← spelled (codes "month") month_of rows
   rate ← spelled (codes "rate") rate_of rows
-  Ok (value denom issued month rate)
+  extension ← spelled_or_none (codes "extension") rate_of rows
+  Ok (value denom issued month rate extension)
 
 unfoldable pub apply_asked : List Row → Result Asked Text
 apply_asked rows = do

@@ -26,8 +26,9 @@ pub enum FileKind {
 /// What a command line asks for.
 #[derive(Clone, Copy, Debug, PartialEq, Eq)]
 pub enum Command<'a> {
-    /// The value in a month of a bond of that denomination and issue month, at that rate.
-    Value(Denom, IssueMonth, Month, Rate),
+    /// The value in a month of a bond of that denomination and issue month, at that fixed rate and that
+    /// extension: the rate from original to final maturity, where the line names one.
+    Value(Denom, IssueMonth, Month, Rate, Option<Rate>),
     /// To serve the messages of standard input over the store of that path.
     Apply(&'a str),
     /// To import a file of that kind and path into the store of that path, under that request number.

@@ -6,7 +6,7 @@ ghost use Rattle.ee_cli_commands.specs.Answer.{Gives, view_of};
 
 use crate::commands::{Command, CommandFault};
 use crate::words::{
-    customer, denom, issue, kind, month, number_or, port, rate, request_number, text,
+    customer, denom, issue, kind, month, number_or, port, rate, rate_or_none, request_number, text,
 };
 use clap::ArgMatches;
 
@@ -24,6 +24,7 @@ pub fn value_line<'a>(matches: &ArgMatches<'a>) -> Result<Command<'a>, CommandFa
         issue(matches, "issued")?,
         month(matches, "month")?,
         rate(matches, "rate")?,
+        rate_or_none(matches, "extension")?,
     ))
 }
 

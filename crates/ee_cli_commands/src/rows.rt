@@ -28,6 +28,11 @@ Limits:
 
 One process at a time uses a store.";
 
+const VALUE_EXAMPLES: &str = "\
+Examples:
+  ee_cli value 50 2010-05 2015-05 3.50
+  ee_cli value 50 2010-05 2030-11 3.40 4.00";
+
 const IMPORT_EXAMPLES: &str = "\
 Examples:
   ee_cli import rates samples/rates.csv --db day.db --number 1
@@ -72,7 +77,7 @@ fn value_command<'a>(alloc: Global) -> Result<Command<'a>, AllocError>
         alloc,
         "value",
         "Print the value of a bond in a month",
-        "Example:\n  ee_cli value 50 2010-05 2015-05 3.50",
+        VALUE_EXAMPLES,
     );
     let row = with(
         row,
@@ -86,10 +91,11 @@ fn value_command<'a>(alloc: Global) -> Result<Command<'a>, AllocError>
         row,
         positional(alloc, "month", "Month of the value, as 2015-05"),
     )?;
-    with(
+    let row = with(
         row,
         positional(alloc, "rate", "Fixed rate in percent, as 3.50"),
-    )
+    )?;
+    with(row, extension(alloc))
 }
 
 fn apply_command<'a>(alloc: Global) -> Result<Command<'a>, AllocError>
@@ -190,6 +196,18 @@ fn positional<'a>(alloc: Global, id: &'a str, help: &'a str) -> Arg<'a>
     ensures local { result.global ≡ false }
 {
     Arg::new(alloc, id).required(true).help(help)
+}
+
+fn extension<'a>(alloc: Global) -> Arg<'a>
+    ensures rule { rule_of result ≡ is.optional_positional (codes "extension") }
+    ensures local { result.global ≡ false }
+{
+    positional(
+        alloc,
+        "extension",
+        "Rate in percent from 20 years on, as 4.00; the fixed rate where it is left out",
+    )
+    .required(false)
 }
 
 fn option<'a>(alloc: Global, id: &'a str, help: &'a str) -> Arg<'a>

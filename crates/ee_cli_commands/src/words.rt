@@ -4,7 +4,7 @@ ghost use Rattle.std.specs.Prelude.{◌≡◌, ◌≤◌, IfOk, option_and_then,
 ghost use Rattle.clap.specs.Words.{first_of, found_of, one_of, rows_of};
 ghost use Rattle.ee_units.specs.Denoms.{denom_of};
 ghost use Rattle.ee_units.specs.Spelling.{customer_of, in_range, issue_of, month_of, rate_of};
-ghost use Rattle.ee_cli_commands.specs.CommandLine.{kind_of_file, most_number, most_port, number_word, numbered, numbered_or, spelled, text_of};
+ghost use Rattle.ee_cli_commands.specs.CommandLine.{kind_of_file, most_number, most_port, number_word, numbered, numbered_or, spelled, spelled_or_none, text_of};
 ghost use Rattle.ee_cli_commands.specs.Answer.{Gives};
 
 use crate::commands::{CommandFault, FileKind};
@@ -69,6 +69,16 @@ pub fn rate(matches: &ArgMatches, name: &'static str) -> Result<Rate, CommandFau
     match word(matches, name) {
         Some(word) => read_rate(word).map_err(|_| CommandFault::Argument(name)),
         None => Err(CommandFault::Argument(name)),
+    }
+}
+
+/// A rate, or none where there is no such word.
+pub fn rate_or_none(matches: &ArgMatches, name: &'static str) -> Result<Option<Rate>, CommandFault>
+    ensures { Gives (λ v. v) result (spelled_or_none name.now rate_of (rows_of (found_of matches.now))) }
+{
+    match word(matches, name) {
+        Some(_) => Ok(Some(rate(matches, name)?)),
+        None => Ok(None),
     }
 }
 

@@ -3,6 +3,7 @@ use Rattle.std.proofs.Common.{◌≡◌, ◌⊎◌, ℕ, List, Option, Result, O
 use Rattle.std.specs.Io.KnownBytes.{Appends}
 use Rattle.clap.specs.Words.{Text}
 use Rattle.ee_units.specs.declared.denoms.Denom.{Denom}
+use Rattle.ee_value.specs.Chain.{rates_with}
 use Rattle.ee_cli_actions.specs.Printed.{value_line}
 use Rattle.ee_cli_actions.specs.declared.faults.Outcome.{Outcome}
 use Rattle.ee_cli_actions.specs.declared.faults.Outcome.TheVariants as outcome
@@ -140,7 +141,8 @@ refused_line words Carried status bad (inr three) = is_failed words Carried stat
 
 -- of a value that was asked for, status 0 says that its line was printed
 pub value_printed : (words : List Text) (old new : Option (List ℕ)) (status : ℕ) → IsRun words (Carries old new) status
-    → (denom : Denom) (issued month rate : ℕ) → IsAsked words (Ok (value denom issued month rate)) → status ≡ 0 → Appends old new (value_line denom issued month rate)
-value_printed words old new status run denom issued month rate is zero =
-    let line = (run.ends (value denom issued month rate) is).done zero in
+    → (denom : Denom) (issued month rate : ℕ) (extension : Option ℕ) → IsAsked words (Ok (value denom issued month rate extension)) → status ≡ 0
+    → Appends old new (value_line denom issued month (rates_with rate extension))
+value_printed words old new status run denom issued month rate extension is zero =
+    let line = (run.ends (value denom issued month rate extension) is).done zero in
     subst (Appends old new) (line.whole refl) line.written

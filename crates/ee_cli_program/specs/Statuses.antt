@@ -1,6 +1,7 @@
 -- What an exit status says of the words of a line, and of what was carried out.
 use Rattle.std.specs.Prelude.{◌≡◌, ◌≢◌, ◌≤◌, ◌⊎◌, ◌++◌, ◌∷◌, [], ℕ, List, codes, Option, Result, Ok, Err, IfOk, ⊤}
 use Rattle.clap.specs.Words.{Text}
+use Rattle.ee_value.specs.Chain.{rates_with}
 use Rattle.ee_cli_actions.specs.Values.{PrintsValue}
 use Rattle.ee_cli_actions.specs.declared.faults.Outcome.{Outcome}
 use Rattle.ee_cli_actions.specs.declared.faults.Outcome.TheVariants as outcome
@@ -10,7 +11,7 @@ use Rattle.ee_cli_commands.specs.Answer.{IsAsked, IsRefused, AsksForHelp, AsksFo
 
 -- whatever the store holds: a value is printed, and what shows or serves is never refused. A value needs no store.
 abbrev pub Carries : Option (List ℕ) → Option (List ℕ) → Asked → Result Outcome RunFault → Type 0
-Carries old new (value denom issued month rate) result = PrintsValue denom issued month rate old new result
+Carries old new (value denom issued month rate extension) result = PrintsValue denom issued month (rates_with rate extension) old new result
 Carries old new (apply db) result = ⊤
 Carries old new (imports kind file db number) result = ⊤
 Carries old new (export customer db) result = IfOk result (λ ended. ended ≡ outcome.Done)

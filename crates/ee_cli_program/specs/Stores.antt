@@ -38,7 +38,7 @@ Over rests old new result Carried = Works rests result Carried ⊎ (IsErr result
 -- a command over the store that its line names, where `contents` says what each store holds: the bytes of the input and what
 -- is left of them, those of the output before and after, and how it ended. Of a file that is imported nobody knows the bytes.
 abbrev pub CarriesOver : {S R : Type 0} → (S → Content → Type 0) → (S → R → Type 0) → (Text → Content) → Option (List ℕ) → Option (List ℕ) → Option (List ℕ) → Option (List ℕ) → Asked → Result Outcome RunFault → Type 0
-CarriesOver has rests contents input left old new (value denom issued month rate) result = ⊤
+CarriesOver has rests contents input left old new (value denom issued month rate extension) result = ⊤
 CarriesOver has rests contents input left old new (apply db) result =
     Over rests old new result (λ store ended. Applies input left old new (contents db) ended (has store))
 CarriesOver has rests contents input left old new (imports kind file db number) result =

@@ -15,24 +15,26 @@ use ee_cli_actions::{Outcome, RunFault, apply_to, export_from, print_value, shee
 use ee_cli_commands::{Command, FileKind};
 use ee_desk_acts::Number;
 use ee_units::{Customer, Month};
+use ee_value::Rates;
 use std::io::{Read, Write};
 
 /// Carries out a command. A store is opened before a file or a port is.
 pub fn carry_out<O: Stores, R: Read, W: Write>(
     rt: &HostRuntime,
     stores: &O,
-    command: Command,
+    command: &Command,
     input: &mut R,
     output: &mut W,
 ) -> Result<Outcome, RunFault>
-    ensures carries { Carries (W.contents output.old) (W.contents output.new) (view_of command.entry) result }
+    ensures carries { Carries (W.contents output.old) (W.contents output.new) (view_of command.now) result }
     ensures over { AreClean O.Store.is_clean → (contents : Text → Content) → ((path : Text) → O.holds stores.now path (contents path))
         → CarriesOver O.Store.has O.rests contents (R.remaining input.old) (R.remaining input.new) (W.contents output.old) (W.contents output.new)
-        (view_of command.entry) result }
+        (view_of command.now) result }
 {
-    match command {
-        Command::Value(denom, issued, month, rate) => {
-            print_value(rt.alloc(), denom, issued, month, rate, output)
+    match *command {
+        Command::Value(denom, issued, month, rate, extension) => {
+            let rates = Rates::new(rate, extension);
+            print_value(rt.alloc(), denom, issued, month, rates, output)
         }
         Command::Apply(db) => apply(rt, stores, db, input, output),
         Command::Import(kind, file, db, number) => {

@@ -1,6 +1,6 @@
 //! Running one command line.
 
-ghost use Rattle.std.specs.Prelude.{◌≡◌, ◌≢◌, ◌⊎◌, ℕ, Ok, IfOk, map, string_bytes};
+ghost use Rattle.std.specs.Prelude.{◌≡◌, ◌≢◌, ◌⊎◌, ℕ, Ok, IfOk, Option, map, string_bytes};
 ghost use Rattle.std.specs.Io.KnownBytes.{Appends};
 ghost use Rattle.std.specs.IoError.{error_kind};
 ghost use Rattle.clap.specs.Words.{Text};
@@ -9,6 +9,7 @@ ghost use Rattle.ee_cli_actions.specs.Printed.{value_line};
 ghost use Rattle.ee_cli_commands.specs.Answer.{AsksForVersion, IsAsked};
 ghost use Rattle.ee_cli_commands.specs.CommandLine.{value};
 ghost use Rattle.ee_units.specs.declared.denoms.Denom.{Denom};
+ghost use Rattle.ee_value.specs.Chain.{rates_with};
 ghost use Rattle.ee_cli_program.specs.Statuses.{Carries, IsRun, IsStatusFor, version_line};
 ghost use Rattle.ee_cli_program.specs.Stores.{AreClean, CarriesOver};
 
@@ -49,9 +50,9 @@ pub fn run_words<O: Stores, R: Read, W: Write, E: Write>(
     faults: &mut E,
 ) -> u8
     ensures status { IsRun (map (λ w. string_bytes w) words.now) (Carries (W.contents output.old) (W.contents output.new)) result }
-    ensures printed { (denom : Denom) (issued month rate : ℕ)
-        → IsAsked (map (λ w. string_bytes w) words.now) (Ok (value denom issued month rate)) → result ≡ 0
-        → Appends (W.contents output.old) (W.contents output.new) (value_line denom issued month rate) }
+    ensures printed { (denom : Denom) (issued month rate : ℕ) (extension : Option ℕ)
+        → IsAsked (map (λ w. string_bytes w) words.now) (Ok (value denom issued month rate extension)) → result ≡ 0
+        → Appends (W.contents output.old) (W.contents output.new) (value_line denom issued month (rates_with rate extension)) }
     ensures version { AsksForVersion (map (λ w. string_bytes w) words.now) → result ≡ 0
         → Appends (W.contents output.old) (W.contents output.new) version_line }
     ensures over { AreClean O.Store.is_clean → (contents : Text → Content) → ((path : Text) → O.holds stores.now path (contents path))
@@ -59,7 +60,7 @@ pub fn run_words<O: Stores, R: Read, W: Write, E: Write>(
         (CarriesOver O.Store.has O.rests contents (R.remaining input.old) (R.remaining input.new) (W.contents output.old) (W.contents output.new)) result }
 {
     match read_command(rt.alloc(), words) {
-        Ok(command) => match carry_out(rt, stores, command, input, output) {
+        Ok(command) => match carry_out(rt, stores, &command, input, output) {
             Ok(outcome) => conclude(outcome, faults),
             Err(fault) => report(fault, faults),
         },

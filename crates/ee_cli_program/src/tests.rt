@@ -93,25 +93,55 @@ fn assert_tells(rt: &impl Abort, ran: &Ran, wanted: &str, status: u8) {
     assert_eq!(rt; ran.status, status);
 }
 
+/// Lines that ask for a value, and what they print. Where an extension is named, the fixed rate grows the value
+/// up to the age of 240 months, at which it is at least doubled, and the extension grows it from there on.
+const VALUES: &str = "\
+value 50 05/2010 05/2015 3.5% => 29.74
+value 50 2010-05 2010-04 3.50 => 0.00 NI
+value 50 2010-05 2011-04 3.50 => 25.00 NE
+value 50 2010-05 2011-05 20 => 28.84 P5
+value 75 2010-05 2011-08 2.00 => 38.28 P5
+value 50 2010-05 2015-04 3.50 => 29.38 P5
+value 50 2010-05 2030-04 3.40 => 48.90
+value 50 2010-05 2030-05 3.40 => 50.00
+value 50 2010-05 2030-06 3.40 => 50.14
+value 50 2010-05 2030-05 3.60 => 51.04
+value 10000 2005-05 2035-04 20.00 => 1498472.00
+value 10000 2005-05 2199-12 20.00 => 1522468.00 MA
+value 10000 2005-05 2025-04 0 => 5000.00
+value 10000 2005-05 2025-05 0 => 10000.00
+value 50 2010-05 2010-04 3.40 4.00 => 0.00 NI
+value 50 2010-05 2015-05 3.50 9.99 => 29.74
+value 50 2010-05 2015-05 3.50 3.50 => 29.74
+value 50 2010-05 2030-04 3.40 4.00 => 48.90
+value 50 2010-05 2030-05 3.40 4.00 => 50.00
+value 50 2010-05 2030-06 3.40 4.00 => 50.16
+value 50 2010-05 2030-07 3.40 4.00 => 50.34
+value 50 2010-05 2030-08 3.40 4.00 => 50.50
+value 50 2010-05 2030-10 3.40 4.00 => 50.84
+value 50 2010-05 2030-11 3.40 4.00 => 51.00
+value 50 2010-05 2030-12 3.40 4.00 => 51.16
+value 50 2010-05 2040-04 3.40 4.00 => 74.04
+value 50 2010-05 2040-05 3.40 4.00 => 74.28 MA
+value 50 2010-05 2199-12 3.40 0.00 => 50.00 MA
+value 50 2010-05 2030-11 3.40 4.04 => 51.02
+value 50 2010-05 2030-08 3.50 4.02 => 50.50
+value 50 2010-05 2030-05 3.60 0.00 => 51.04
+value 50 2010-05 2040-04 3.60 0.00 => 51.04
+value 50 2010-05 2030-11 3.60 2.00 => 51.56
+value 10000 2005-05 2025-04 0.00 20.00 => 5000.00
+value 10000 2005-05 2025-05 0.00 20.00 => 10000.00
+value 10000 2005-05 2025-11 0.00 20.00 => 11000.00
+value 10000 2005-05 2035-05 0.00 20.00 => 67304.00 MA
+value 10000 2005-05 2199-12 20.00 0.00 => 226304.00 MA
+";
+
 #[test]
 fn values(rt: HostRuntime) -> Result<(), Fail> {
-    for (line, wanted) in [
-        ("value 50 05/2010 05/2015 3.5%", "29.74\n"),
-        ("value 50 2010-05 2010-04 3.50", "0.00 NI\n"),
-        ("value 50 2010-05 2011-04 3.50", "25.00 NE\n"),
-        ("value 50 2010-05 2011-05 20", "28.84 P5\n"),
-        ("value 75 2010-05 2011-08 2.00", "38.28 P5\n"),
-        ("value 50 2010-05 2015-04 3.50", "29.38 P5\n"),
-        ("value 50 2010-05 2030-04 3.40", "48.90\n"),
-        ("value 50 2010-05 2030-05 3.40", "50.00\n"),
-        ("value 50 2010-05 2030-06 3.40", "50.14\n"),
-        ("value 50 2010-05 2030-05 3.60", "51.04\n"),
-        ("value 10000 2005-05 2035-04 20.00", "1498472.00\n"),
-        ("value 10000 2005-05 2199-12 20.00", "1522468.00 MA\n"),
-        ("value 10000 2005-05 2025-04 0", "5000.00\n"),
-        ("value 10000 2005-05 2025-05 0", "10000.00\n"),
-    ] {
-        assert_prints(&rt, &run(&rt, line, "")?, wanted);
+    for row in VALUES.lines() {
+        let (line, value) = row.split_once(" => ").ok_or("row")?;
+        let wanted = format!(in rt.alloc(); "{value}\n")?;
+        assert_prints(&rt, &run(&rt, line, "")?, &wanted);
     }
     Ok(())
 }
@@ -123,6 +153,11 @@ fn bad_arguments(rt: HostRuntime) -> Result<(), Fail> {
         ("value 50 2005-04 2015-5 x", "bad argument: issued\n"),
         ("value 50 2010-05 2200-01 x", "bad argument: month\n"),
         ("value 50 2010-05 2015-05 20.01", "bad argument: rate\n"),
+        ("value 50 2010-05 2015-05 x y", "bad argument: rate\n"),
+        (
+            "value 50 2010-05 2015-05 3.50 20.01",
+            "bad argument: extension\n",
+        ),
         ("export 0 --db no/where", "bad argument: customer\n"),
         ("sheet 7 2012-13 --db no/where", "bad argument: month\n"),
     ] {
@@ -137,6 +172,7 @@ fn bad_lines(rt: HostRuntime) -> Result<(), Fail> {
         "",
         "help",
         "value 50 2010-05 2015-05",
+        "value 50 2010-05 2015-05 3.50 3.50 3.50",
         "apply",
         "import rats r.csv --db no/where --number 1",
         "import rates r.csv --db no/where --number 0",
@@ -158,6 +194,7 @@ fn help_is_no_fault(rt: HostRuntime) -> Result<(), Fail> {
         ("-h", "500 rows a request, 100 serial numbers a redemption"),
         ("--help", "One process at a time uses a store."),
         ("value --help", "ee_cli value 50 2010-05 2015-05 3.50"),
+        ("value --help", "<rate> [extension]"),
         ("serve --help", "ee_cli serve --db day.db --port 8377"),
     ] {
         let ran = run(&rt, line, "")?;

@@ -39,9 +39,9 @@ pub enum ExportFault {
     WriteFailed,
 }
 
-/// Enters the rates of a file under a request number, as one request: the file's rows, its first 501, or
-/// nothing. A file that was imported under the number before gets its first reply again. Of the reader
-/// at most 1,048,577 bytes are taken, one more than a file may have.
+/// Enters the rates of a file, with the extensions that it names, under a request number, as one request:
+/// the file's rows, its first 501, or nothing. A file that was imported under the number before gets its
+/// first reply again. Of the reader at most 1,048,577 bytes are taken, one more than a file may have.
 pub fn import_rates<K: Keeper, R: Read>(
     alloc: Global,
     keeper: &mut K,

@@ -19,7 +19,7 @@ use ee_units::{IssueMonth, Serial};
 use std::alloc::{AllocError, Global};
 use std::collections::BTreeMap;
 
-/// Notes the rate of a period, where there is one.
+/// Notes the terms of a period, where there are some.
 fn note_rate(
     found: &mut BTreeMap<IssueMonth, Terms>,
     ledger: &Ledger,
@@ -34,7 +34,7 @@ fn note_rate(
     Ok(())
 }
 
-/// Notes the rate of the issue period of a bond, where it is registered.
+/// Notes the terms of the issue period of a bond, where it is registered.
 fn note_rate_of(
     found: &mut BTreeMap<IssueMonth, Terms>,
     ledger: &Ledger,

@@ -1,22 +1,22 @@
 -- Tables that are kept under their rates.
-use Rattle.std.proofs.Common.{◌≡◌, Bool, true, false, cond, Option, Some, None, refl, sym, ap, ◌∙◌, subst}
+use Rattle.std.proofs.Common.{◌≡◌, ℕ, Bool, true, false, cond, Option, Some, None, refl, sym, ap, ◌∙◌, subst}
 use Rattle.std.specs.Option.{IfSome, option_copied}
 use Rattle.std.specs.Borrow.{Bor}
 use Rattle.std.specs.FinMap as finite
 use Rattle.std.specs.FinMap.{FinMap, get-empty, get-insert, same_map}
-use Rattle.std.specs.Ordering.{eq_by_cmp}
+use Rattle.std.specs.Ordering.{nat_cmp, eq_by_cmp}
 use Rattle.std.specs.Cmp.{IsTotalOrder, nat_cmp_total}
-use Rattle.std.proofs.lemmas.Cmp.{on_total}
-use Rattle.std.proofs.lemmas.Map.Lookups.{CmpEqualImpliesEq, exact_unsigned}
+use Rattle.std.proofs.lemmas.Cmp.{on_total, then_total}
+use Rattle.std.proofs.lemmas.Map.Lookups.{CmpEqualImpliesEq, exact_pairs, exact_unsigned}
 use Rattle.std.proofs.lemmas.Map.Views.{tells_apart}
 use Rattle.ee_value.specs.declared.rates.Rates.{Rates}
 use Rattle.ee_desk_acts.specs.UnitTables.{rates_cmp, AreOwn}
 
 pub rates_total : IsTotalOrder rates_cmp
-rates_total = on_total (λ (r : Rates). r.fixed) nat_cmp_total
+rates_total = then_total (on_total (λ (r : Rates). r.fixed) nat_cmp_total) (on_total (λ (r : Rates). r.extension) nat_cmp_total)
 
 pub exact_rates : CmpEqualImpliesEq rates_cmp
-exact_rates a b h = ap (λ n. record { fixed = n }) (exact_unsigned a.fixed b.fixed h)
+exact_rates a b h = ap (λ (p : ℕ × ℕ). record { fixed = p.0; extension = p.1 }) (exact_pairs nat_cmp nat_cmp exact_unsigned exact_unsigned (a.fixed, a.extension) (b.fixed, b.extension) h)
 
 -- the kept map is as it was where the rates were there
 pub kept_again : (kept : FinMap rates_cmp Rates) (rates : Rates) → finite.get kept rates ≡ Some rates → kept ≡ finite.insert kept rates rates

@@ -1,5 +1,5 @@
 -- Acts that compare as the same are equal.
-use Rattle.std.proofs.Common.{◌≡◌, ℕ, Bool, true, ◌&&◌, eqb, nat_eq, List, [], ◌∷◌, Option, Some, None, true≢false, refl, sym, ap}
+use Rattle.std.proofs.Common.{◌≡◌, ℕ, Bool, true, ◌&&◌, ◌==◌, eqb, nat_eq, List, [], ◌∷◌, Option, Some, None, true≢false, refl, sym, ap}
 use Rattle.std.specs.Option.{option_eq}
 use Rattle.std.specs.Cmp.Lexicographic.{pointwise}
 use Rattle.std.proofs.lemmas.Bool.{eqb-true, eq-eqb, and_parts, and_from}
@@ -9,6 +9,7 @@ use Rattle.ee_units.specs.declared.denoms.Denom.{Denom}
 use Rattle.ee_units.proofs.Lemmas as units
 use Rattle.ee_calculator.specs.declared.bonds.Bond.{Bond}
 use Rattle.ee_value.specs.declared.rates.RateRow.{RateRow}
+use Rattle.ee_value.specs.declared.rates.Rates.{Rates}
 use Rattle.ee_desk_acts.specs.declared.acts.Act.{Act}
 use Rattle.ee_desk_acts.specs.declared.acts.Act.TheVariants.{AddRates, AddBonds, OpenDay, Redeem, CloseDay}
 use Rattle.ee_desk_acts.specs.Serials.{same_serial}
@@ -35,8 +36,11 @@ coowner_self (Some n) = eq_self n
 bond_self : (b : Bond) → same_bond b b ≡ true
 bond_self b = and_from _ _ (and_from _ _ (and_from _ _ (and_from _ _ (serial_self b.serial) (eq_self (dollars b.denom))) (eq_self b.issued)) (eq_self b.owner)) (coowner_self b.coowner)
 
+rates_self : (rates : Rates) → same_rates rates rates ≡ true
+rates_self rates = and_from _ _ (eq_self rates.fixed) (eq_self rates.extension)
+
 pub act_self : (a : Act) → same_act a a ≡ true
-act_self (AddRates rows) = same_self _ (λ x. and_from _ _ (eq_self x.from) (eq_self x.rates.fixed)) rows
+act_self (AddRates rows) = same_self _ (λ x. and_from _ _ (eq_self x.from) (rates_self x.rates)) rows
 act_self (AddBonds bonds) = same_self same_bond bond_self bonds
 act_self (OpenDay day) = eq_self day
 act_self (Redeem day payee serials) = and_from _ _ (and_from _ _ (eq_self day) (eq_self payee)) (same_self same_serial serial_self serials)
@@ -73,10 +77,15 @@ bond_is a b e =
       coowner = coowner_is a.coowner b.coowner p.1 i;
     }
 
+rates_is : (a b : Rates) → same_rates a b ≡ true → a ≡ b
+rates_is a b e =
+    let p = and_parts (a.fixed == b.fixed) (a.extension == b.extension) e in
+    λ i. record { fixed = eqb-true a.fixed b.fixed p.0 i; extension = eqb-true a.extension b.extension p.1 i }
+
 row_is : (a b : RateRow) → (nat_eq a.from b.from && same_rates a.rates b.rates) ≡ true → a ≡ b
 row_is a b e =
     let p = and_parts (eqb a.from b.from) (same_rates a.rates b.rates) e in
-    λ i. record { from = eqb-true a.from b.from p.0 i; rates = record { fixed = eqb-true a.rates.fixed b.rates.fixed p.1 i } }
+    λ i. record { from = eqb-true a.from b.from p.0 i; rates = rates_is a.rates b.rates p.1 i }
 
 pub act_is : (a b : Act) → same_act a b ≡ true → a ≡ b
 act_is (AddRates xs) (AddRates ys) e = ap AddRates (same_is _ row_is xs ys e)

@@ -79,12 +79,10 @@ impl fmt::Debug for Terms {
 
 impl PartialEq for Terms {
     ghost use Rattle.std.proofs.Common.{rules};
-    ghost use Rattle.std.specs.Prelude.{nat_eq};
     ghost use Rattle.std.specs.Cmp.Rules.{comparing};
-    ghost use Rattle.std.specs.Ordering.{on};
-    ghost use Rattle.ee_value.specs.declared.rates.Rates.{Rates};
+    ghost use Rattle.ee_desk_acts.specs.Values.{same_rates};
 
-    ghost eq = { on (λ (r : Rates). r.fixed) nat_eq };
+    ghost eq = { same_rates };
 
     ghost laws = { Prim.search (comparing, rules) };
 

@@ -18,6 +18,8 @@ use Rattle.ee_units.specs.Calendar.{year_of, month_of_year}
 use Rattle.ee_units.specs.Texts.{two_digits, decimal_text, rate_text, month_text, day_text, serial_text}
 use Rattle.ee_units.proofs.Lemmas.{day_back, day_of-sound, dollars_small}
 use Rattle.ee_value.specs.declared.rates.RateRow.{RateRow}
+use Rattle.ee_value.specs.Chain.{named_extension}
+use Rattle.ee_value.proofs.Lemmas.{named-le}
 use Rattle.ee_calculator.specs.declared.bonds.Bond.{Bond}
 use Rattle.ee_desk_acts.specs.declared.acts.Act.{Act}
 use Rattle.ee_desk_acts.specs.declared.acts.Act.TheVariants as act
@@ -33,7 +35,7 @@ use Rattle.ee_desk_acts.specs.Sound.{IsDay, IsIssueMonth}
 use Rattle.ee_desk_texts.specs.declared.refusals.Named.{Named}
 use Rattle.ee_desk_texts.specs.declared.refusals.Named.TheVariants as named
 use Rattle.ee_desk_texts.specs.Texts.{act_text, reply_text}
-use Rattle.ee_desk_texts.specs.Data.{number_data, month_data, serial_data, rate_row_data, with_coowner, bond_data, act_data, line_data, ticket_data, batch_data, names, refused_data, reply_data}
+use Rattle.ee_desk_texts.specs.Data.{number_data, month_data, rate_data, serial_data, with_extension, rate_row_data, with_coowner, bond_data, act_data, line_data, ticket_data, batch_data, names, refused_data, reply_data}
 use Rattle.ee_desk_texts.specs.Ranges.{IsCustomer, IsSerial, RateRowFits, BondFits, ActFits, LineFits, TicketFits, BatchFits, NamedFits, ReplyFits}
 use Rattle.ee_desk_texts.proofs.Back.{code_small}
 
@@ -185,8 +187,15 @@ list_plain row Fits one [] all = tt
 list_plain row Fits one (x ∷ xs) all = (one x all.0, list_plain row Fits one xs all.1)
 
 rate_row_plain : (row : RateRow) → RateRowFits row → IsPlain (rate_row_data row)
-rate_row_plain row fits =
-    (tested (codes "from") refl, month_small row.from fits.0, (tested (codes "rate") refl, rate_small row.rates.fixed fits.1, tt))
+rate_row_plain row fits = by_extension (named_extension row.rates) (named-le row.rates fits.1)
+  where
+    own : HavePlain (member (codes "from") (month_data row.from) (member (codes "rate") (rate_data row.rates.fixed) no_members))
+    own = (tested (codes "from") refl, month_small row.from fits.0, (tested (codes "rate") refl, rate_small row.rates.fixed fits.1.0, tt))
+
+    by_extension : (o : Option ℕ) → IfSome o (λ n. n ≤ 2000) → HavePlain (with_extension o (member (codes "from") (month_data row.from)
+        (member (codes "rate") (rate_data row.rates.fixed) no_members)))
+    by_extension None small = own
+    by_extension (Some extension) small = (tested (codes "extension") refl, rate_small extension small, own)
 
 bond_plain : (bond : Bond) → BondFits bond → IsPlain (bond_data bond)
 bond_plain bond fits = by_coowner bond.coowner fits.coowner

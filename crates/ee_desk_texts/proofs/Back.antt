@@ -18,6 +18,7 @@ use Rattle.ee_units.specs.Spelling.{SerialNumber}
 use Rattle.ee_units.specs.Denoms.{dollars}
 use Rattle.ee_calculator.specs.declared.bonds.Bond.{Bond}
 use Rattle.ee_desk_acts.specs.Codes.{code_of, name_of}
+use Rattle.ee_value.specs.Chain.{named_extension}
 use Rattle.ee_value.specs.declared.rates.RateRow.{RateRow}
 use Rattle.ee_desk_acts.specs.declared.acts.Act.{Act}
 use Rattle.ee_desk_acts.specs.declared.acts.Act.TheVariants as act
@@ -30,7 +31,7 @@ use Rattle.ee_desk_acts.specs.declared.refusals.Refusal.{Refusal}
 use Rattle.ee_desk_acts.specs.declared.refusals.Refusal.TheVariants as refusal
 use Rattle.ee_desk_texts.specs.declared.refusals.Named.{Named}
 use Rattle.ee_desk_texts.specs.declared.refusals.Named.TheVariants as named
-use Rattle.ee_desk_texts.specs.Data.{number_data, month_data, serial_data, with_coowner, rate_row_data, bond_data, act_data, line_data, ticket_data, batch_data, names, refused_data, reply_data}
+use Rattle.ee_desk_texts.specs.Data.{number_data, month_data, rate_data, serial_data, with_extension, with_coowner, rate_row_data, bond_data, act_data, line_data, ticket_data, batch_data, names, refused_data, reply_data}
 use Rattle.ee_desk_texts.specs.Ranges.{IsCustomer, IsSerial, RateRowFits, BondFits, ActFits, LineFits, TicketFits, BatchFits, NamedFits, ReplyFits}
 use Rattle.ee_units.proofs.Lemmas.{dollars_small}
 
@@ -72,8 +73,13 @@ small customer fits = let wide : 999999999 < 2 ^ 64 = lit< tt in omega (arith, w
 
 -- ---- acts
 
+rate_object_back : (extension : Option ℕ) (from rate : ℕ)
+    → ReadsBack 1 (object (with_extension extension (member (codes "from") (month_data from) (member (codes "rate") (rate_data rate) no_members))))
+rate_object_back None from rate = record { numbers = (tt, (tt, tt)); same = refl; level = omega arith }
+rate_object_back (Some extension) from rate = record { numbers = (tt, (tt, (tt, tt))); same = refl; level = omega arith }
+
 rate_row_back : (row : RateRow) → RateRowFits row → ReadsBack 1 (rate_row_data row)
-rate_row_back row fits = record { numbers = (tt, (tt, tt)); same = refl; level = omega arith }
+rate_row_back row fits = rate_object_back (named_extension row.rates) row.from row.rates.fixed
 
 bond_object : Option ℕ → ℕ → ℕ → ℕ → SerialNumber → Data
 bond_object coowner denom issued owner serial =

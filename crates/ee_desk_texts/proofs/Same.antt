@@ -1,5 +1,5 @@
 -- The JSON of an act, and of a reply, is read as it; so what a text was written of is read from it, and nothing else.
-use Rattle.std.proofs.Common.{◌≡◌, ℕ, false, List, [], ◌∷◌, Some, None, Option, IfSome, refl, sym, ap, ◌∙◌, arith, map, option_and_then, bytes_eq}
+use Rattle.std.proofs.Common.{◌≡◌, ◌≤◌, ℕ, false, List, [], ◌∷◌, Some, None, Option, IfSome, refl, sym, ap, ◌∙◌, arith, map, option_and_then, bytes_eq}
 use Rattle.std.specs.List.{AllByRecursion}
 use Rattle.std.proofs.lemmas.Bool.{false≢true}
 use Rattle.std.proofs.lemmas.Slice.Eq.{bytes_eq-Decides}
@@ -10,6 +10,9 @@ use Rattle.ee_units.specs.Spelling.{SerialNumber, in_range, serial_of}
 use Rattle.ee_units.specs.Texts.{serial_text}
 use Rattle.ee_calculator.specs.declared.bonds.Bond.{Bond}
 use Rattle.ee_value.specs.declared.rates.RateRow.{RateRow}
+use Rattle.ee_value.specs.declared.rates.Rates.{Rates}
+use Rattle.ee_value.specs.Chain.{rates_with, named_extension}
+use Rattle.ee_value.proofs.Lemmas.{rates-back, named-le}
 use Rattle.ee_desk_acts.specs.declared.acts.Act.{Act}
 use Rattle.ee_desk_acts.specs.declared.acts.Act.TheVariants as act
 use Rattle.ee_desk_acts.specs.declared.replies.Line.{Line}
@@ -40,9 +43,18 @@ customer_same n fits = in_range_back 1 999999999 n fits.0 fits.1
 
 -- ---- acts
 
+rates_are : (rates : Rates) (o : Option ℕ) → named_extension rates ≡ o → rates_with rates.fixed o ≡ rates
+rates_are rates o is = ap (rates_with rates.fixed) (sym is) ∙ rates-back rates
+
 rate_row_same : (row : RateRow) → RateRowFits row → rate_row_of (rate_row_data row) ≡ Some row
 unfolding rate_row_of
-rate_row_same row fits = rw (issue_back row.from fits.0, rate_back row.rates.fixed fits.1) refl
+rate_row_same row fits = by_extension (named_extension row.rates) refl (named-le row.rates fits.1)
+  where
+    by_extension : (o : Option ℕ) → named_extension row.rates ≡ o → IfSome o (λ n. n ≤ 2000) → rate_row_of (rate_row_data row) ≡ Some row
+    by_extension None is small =
+        rw is (rw (issue_back row.from fits.0, rate_back row.rates.fixed fits.1.0) (ap (λ rates. Some (record { from = row.from; rates = rates })) (rates_are row.rates None is)))
+    by_extension (Some extension) is small =
+        rw is (rw (issue_back row.from fits.0, rate_back row.rates.fixed fits.1.0, rate_back extension small) (ap (λ rates. Some (record { from = row.from; rates = rates })) (rates_are row.rates (Some extension) is)))
 
 bond_same : (bond : Bond) → BondFits bond → bond_of (bond_data bond) ≡ Some bond
 unfolding bond_with

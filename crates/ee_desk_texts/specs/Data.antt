@@ -8,6 +8,7 @@ use Rattle.ee_units.specs.Texts.{decimal_text, rate_text, month_text, day_text, 
 use Rattle.ee_units.specs.Denoms.{dollars}
 use Rattle.ee_calculator.specs.declared.bonds.Bond.{Bond}
 use Rattle.ee_desk_acts.specs.Codes.{code_of, name_of}
+use Rattle.ee_value.specs.Chain.{named_extension}
 use Rattle.ee_value.specs.declared.rates.RateRow.{RateRow}
 use Rattle.ee_desk_acts.specs.declared.acts.Act.{Act}
 use Rattle.ee_desk_acts.specs.declared.acts.Act.TheVariants as act
@@ -47,9 +48,16 @@ list_data row rows = array (items_of (map row rows))
 
 -- ---- acts
 
+-- where the extension is the fixed rate, its key is missing
+abbrev pub with_extension : Option ℕ → Members → Members
+with_extension None members = members
+with_extension (Some extension) members = member (codes "extension") (rate_data extension) members
+
 -- the rates of a period
 abbrev pub rate_row_data : RateRow → Data
-rate_row_data row = object (member (codes "from") (month_data row.from) (member (codes "rate") (rate_data row.rates.fixed) no_members))
+rate_row_data row =
+    object (with_extension (named_extension row.rates) (member (codes "from") (month_data row.from)
+    (member (codes "rate") (rate_data row.rates.fixed) no_members)))
 
 -- without a coowner that key is missing
 abbrev pub with_coowner : Option ℕ → Members → Members

@@ -6,6 +6,7 @@ use Rattle.serde_json.specs.Find.{get, as_number, as_str, as_u64, as_array}
 use Rattle.ee_units.specs.Spelling.{◌>>=◌, SerialNumber, in_range, parts_at, number_of, digits_of, rate_of, issue_of, day_of, serial_of}
 use Rattle.ee_units.specs.Denoms.{denom_with}
 use Rattle.ee_calculator.specs.declared.bonds.Bond.{Bond}
+use Rattle.ee_value.specs.Chain.{rates_with}
 use Rattle.ee_value.specs.declared.rates.RateRow.{RateRow}
 use Rattle.ee_desk_acts.specs.declared.acts.Act.{Act}
 use Rattle.ee_desk_acts.specs.declared.acts.Act.TheVariants as act
@@ -43,6 +44,9 @@ customer_at key d = count_at key d >>= in_range 1 999999999
 abbrev pub day_at : List ℕ → Data → Option ℕ
 day_at key d = text_at key d >>= day_of
 
+abbrev pub rate_at : List ℕ → Data → Option ℕ
+rate_at key d = text_at key d >>= rate_of
+
 abbrev pub issue_at : List ℕ → Data → Option ℕ
 issue_at key d = text_at key d >>= issue_of
 
@@ -69,8 +73,8 @@ items_at key d = option_and_then as_array (get key d)
 unfoldable pub rate_row_of : Data → Option RateRow
 rate_row_of d = do
   from ← issue_at (codes "from") d
-  rate ← text_at (codes "rate") d >>= rate_of
-  Some (record { from = from; rates = record { fixed = rate } })
+  rate ← rate_at (codes "rate") d
+  Some (record { from = from; rates = rates_with rate (rate_at (codes "extension") d) })
 
 unfoldable pub bond_with : Option ℕ → Data → Option Bond
 bond_with coowner d = do

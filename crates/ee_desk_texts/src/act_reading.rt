@@ -18,10 +18,12 @@ ghost use Rattle.ee_desk_texts.specs.Reading.{
 };
 
 use crate::acts::canonical;
-use crate::fields::{count_at, customer_at, day_at, issue_at, items_at, serial_at, text_at};
+use crate::fields::{
+    count_at, customer_at, day_at, issue_at, items_at, rate_at, serial_at, text_at,
+};
 use ee_calculator::Bond;
 use ee_desk_acts::{Act, RateRow, Rows};
-use ee_units::{Customer, Denom, Serial, read_rate, read_serial};
+use ee_units::{Customer, Denom, Rate, Serial, read_serial};
 use ee_value::Rates;
 use serde_json::Value;
 use std::alloc::{AllocError, Global};
@@ -31,10 +33,11 @@ fn rate_row_of(value: &Value) -> Option<RateRow>
     ensures { result ≡ rate_row_of (view value.now) }
 {
     let from = issue_at(value, "from")?;
-    let fixed = read_rate(text_at(value, "rate")?).ok()?;
+    let fixed = rate_at(value, "rate")?;
+    let extension: Option<Rate> = rate_at(value, "extension");
     Some(RateRow {
         from,
-        rates: Rates { fixed },
+        rates: Rates::new(fixed, extension),
     })
 }
 

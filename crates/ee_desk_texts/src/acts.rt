@@ -27,6 +27,9 @@ impl Row for RateRow {
 
     fn write(&self, alloc: Global, out: &mut Writer) -> Result<(), AllocError> {
         out.begin_object()?;
+        if let Some(extension) = self.rates.named_extension() {
+            write_string_member(alloc, out, "extension", &extension)?;
+        }
         write_string_member(alloc, out, "from", &self.from)?;
         write_string_member(alloc, out, "rate", &self.rates.fixed)?;
         out.end_object()

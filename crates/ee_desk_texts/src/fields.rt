@@ -2,10 +2,12 @@
 
 ghost use Rattle.std.specs.Prelude.{◌≡◌, option_map};
 ghost use Rattle.serde_json.specs.View.{view, items_view};
-ghost use Rattle.ee_desk_texts.specs.Reading.{text_at, count_at, customer_at, day_at, issue_at, serial_at, cents_at, items_at};
+ghost use Rattle.ee_desk_texts.specs.Reading.{text_at, count_at, customer_at, day_at, rate_at, issue_at, serial_at, cents_at, items_at};
 
 use crate::money::cents_of;
-use ee_units::{Cents, Customer, Day, IssueMonth, Serial, read_day, read_issue, read_serial};
+use ee_units::{
+    Cents, Customer, Day, IssueMonth, Rate, Serial, read_day, read_issue, read_rate, read_serial,
+};
 use serde_json::Value;
 
 pub fn text_at<'a>(value: &'a Value, key: &str) -> Option<&'a str>
@@ -36,6 +38,12 @@ pub fn day_at(value: &Value, key: &str) -> Option<Day>
     ensures { result ≡ day_at key.now (view value.now) }
 {
     read_day(text_at(value, key)?).ok()
+}
+
+pub fn rate_at(value: &Value, key: &str) -> Option<Rate>
+    ensures { result ≡ rate_at key.now (view value.now) }
+{
+    read_rate(text_at(value, key)?).ok()
 }
 
 pub fn issue_at(value: &Value, key: &str) -> Option<IssueMonth>

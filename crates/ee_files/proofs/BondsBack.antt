@@ -95,13 +95,13 @@ all_back bonds =
     let rows = header_of bond_columns ∷ map bond_fields bonds in
     rows_back rows (length (flat_map (row_text default_writer) rows) + 1) (omega (arith, rows_long rows)) ∙ ap (λ t. header_of bond_columns ∷ t) (read_back-bonds bonds)
 
-with_header : (bonds : List Bond) → All IsBond bonds → length bonds ≤ 500 → rows_of_records bond_columns bond_entry (header_of bond_columns ∷ map bond_fields bonds) ≡ Ok bonds
+with_header : (bonds : List Bond) → All IsBond bonds → length bonds ≤ 500 → rows_of_records (bond_columns ∷ []) (λ _. bond_entry) (header_of bond_columns ∷ map bond_fields bonds) ≡ Ok bonds
 unfolding rows_of_records
 with_header bonds h few = entries_back 2 501 bonds h (omega arith)
 
-records_give : (bonds : List Bond) → All IsBond bonds → length bonds ≤ 500 → rows_of_records bond_columns bond_entry (records default_config (strip_bom (inventory_text bonds))) ≡ Ok bonds
+records_give : (bonds : List Bond) → All IsBond bonds → length bonds ≤ 500 → rows_of_records (bond_columns ∷ []) (λ _. bond_entry) (records default_config (strip_bom (inventory_text bonds))) ≡ Ok bonds
 records_give bonds h few =
-    ap (λ t. rows_of_records bond_columns bond_entry (records default_config t)) (no_mark bonds) ∙ ap (rows_of_records bond_columns bond_entry) (all_back bonds) ∙ with_header bonds h few
+    ap (λ t. rows_of_records (bond_columns ∷ []) (λ _. bond_entry) (records default_config t)) (no_mark bonds) ∙ ap (rows_of_records (bond_columns ∷ []) (λ _. bond_entry)) (all_back bonds) ∙ with_header bonds h few
 
 dollars_short : (d : Denom) → dollars d < 100000
 dollars_short denom.Fifty = lit< tt

@@ -1,10 +1,10 @@
 -- A file's rows, so far and still to come.
-use Rattle.std.proofs.Common.{◌≡◌, ◌∙◌, ℕ, zero, suc, ◌+◌, Bool, true, false, List, [], ◌∷◌, ◌++◌, Result, Ok, Err, refl, sym, ap, subst, append_assoc, true≢false}
+use Rattle.std.proofs.Common.{◌≡◌, ◌∙◌, ℕ, zero, suc, ◌+◌, Bool, true, false, List, [], ◌∷◌, ◌++◌, Result, Ok, Err, refl, sym, ap, subst, append_assoc, length, true≢false}
 use Rattle.std.proofs.lemmas.List.{append-nil}
 use Rattle.ee_files.specs.Answers.{Fails, Gives}
 use Rattle.ee_files.specs.Fields.{Bytes, ◌>>=◌}
 use Rattle.ee_files.specs.Left.{HasLeft, TakesNext, TextReader}
-use Rattle.ee_files.specs.Rows.{header_of, rows_from, rows_of_records, same_fields}
+use Rattle.ee_files.specs.Rows.{is_header, rows_from, rows_of_records}
 use Rattle.ee_files.specs.declared.columns.Column.{Column}
 use Rattle.ee_files.specs.declared.faults.FileCode.{FileCode}
 use Rattle.ee_files.specs.declared.faults.FileCode.TheVariants as code
@@ -72,16 +72,16 @@ pub gives_as : {X A : Type 0} (view : X → List A) (r : Result X FileFault) (a 
 gives_as view r a b is h = subst (Gives view r) (sym is) h
 
 -- a file with no record
-pub none_read : {A : Type 0} (columns : List Column) (entry : Entry A) (all : List (List Bytes)) (items : List A) → all ≡ [] → items ≡ [] → rows_of_records columns entry all ≡ Ok items
+pub none_read : {A : Type 0} (headers : List (List Column)) (entry : ℕ → Entry A) (all : List (List Bytes)) (items : List A) → all ≡ [] → items ≡ [] → rows_of_records headers entry all ≡ Ok items
 unfolding rows_of_records
-none_read columns entry all items none empty = ap (rows_of_records columns entry) none ∙ ap Ok (sym empty)
+none_read headers entry all items none empty = ap (rows_of_records headers entry) none ∙ ap Ok (sym empty)
 
 -- under its header
-pub good_header : {A : Type 0} (columns : List Column) (entry : Entry A) (all : List (List Bytes)) (fields : List Bytes) (rest : List (List Bytes)) → all ≡ fields ∷ rest → same_fields fields (header_of columns) ≡ true → rows_of_records columns entry all ≡ rows_from entry 2 501 rest
+pub good_header : {A : Type 0} (headers : List (List Column)) (entry : ℕ → Entry A) (all : List (List Bytes)) (fields : List Bytes) (rest : List (List Bytes)) → all ≡ fields ∷ rest → is_header headers fields ≡ true → rows_of_records headers entry all ≡ rows_from (entry (length fields)) 2 501 rest
 unfolding rows_of_records
-good_header columns entry all fields rest is e = ap (rows_of_records columns entry) is ∙ rw e refl
+good_header headers entry all fields rest is e = ap (rows_of_records headers entry) is ∙ rw e refl
 
 -- under another
-pub bad_header : {A : Type 0} (columns : List Column) (entry : Entry A) (all : List (List Bytes)) (fields : List Bytes) (rest : List (List Bytes)) → all ≡ fields ∷ rest → same_fields fields (header_of columns) ≡ false → rows_of_records columns entry all ≡ Err (record { row = 1; code = code.BadHeader })
+pub bad_header : {A : Type 0} (headers : List (List Column)) (entry : ℕ → Entry A) (all : List (List Bytes)) (fields : List Bytes) (rest : List (List Bytes)) → all ≡ fields ∷ rest → is_header headers fields ≡ false → rows_of_records headers entry all ≡ Err (record { row = 1; code = code.BadHeader })
 unfolding rows_of_records
-bad_header columns entry all fields rest is e = ap (rows_of_records columns entry) is ∙ rw e refl
+bad_header headers entry all fields rest is e = ap (rows_of_records headers entry) is ∙ rw e refl

@@ -7,7 +7,7 @@ use Rattle.csv.specs.Records.{field_at}
 use Rattle.ee_files.specs.BondFile.{bond_columns}
 use Rattle.ee_files.specs.Columns.{column_name}
 use Rattle.ee_files.specs.Fields.{Bytes}
-use Rattle.ee_files.specs.RateFile.{rate_columns}
+use Rattle.ee_files.specs.RateFile.{rate_columns, extended_columns}
 use Rattle.ee_files.specs.Rows.{header_of, name_at, same_fields}
 use Rattle.ee_files.specs.declared.columns.Column.{Column}
 use Rattle.ee_files.specs.declared.columns.Column.TheVariants as column
@@ -44,6 +44,20 @@ two_names [] = refl
 two_names (x ∷ []) = sym (and-false _)
 two_names (x ∷ y ∷ []) = ap (λ t. bytes_eq x (column_name column.From) && t) (sym (and-true _))
 two_names (x ∷ y ∷ z ∷ rest) = rw (not_two (length rest)) (none_of_two _ _)
+
+not_three : (n : ℕ) → suc (suc (suc (suc n))) == 3 ≡ false
+not_three n = ne_eqb _ _ (λ e. omega (arith, e))
+
+all_three : (a b c : Bool) → a && (b && c) ≡ a && (b && (c && true))
+all_three a b c = rw (and-true c) refl
+
+pub three_names : (fields : List Bytes) → (length fields == 3) && (name_at fields 0 column.From && (name_at fields 1 column.Rate && name_at fields 2 column.Extension)) ≡ same_fields fields (header_of extended_columns)
+unfolding field_at
+three_names [] = refl
+three_names (a ∷ []) = sym (and-false _)
+three_names (a ∷ b ∷ []) = none_of_two (is a column.From) (is b column.Rate)
+three_names (a ∷ b ∷ c ∷ []) = all_three (is a column.From) (is b column.Rate) (is c column.Extension)
+three_names (a ∷ b ∷ c ∷ d ∷ rest) = rw (not_three (length rest)) (none_of_three (is a column.From) (is b column.Rate) (is c column.Extension))
 
 pub five_names : (fields : List Bytes) → (length fields == 5) && ((name_at fields 0 column.Serial && (name_at fields 1 column.Denom && name_at fields 2 column.Issued)) && (name_at fields 3 column.Owner && name_at fields 4 column.Coowner)) ≡ same_fields fields (header_of bond_columns)
 unfolding field_at

@@ -36,7 +36,7 @@ bond_entry row fields = if length fields == 5 then (do
 
 -- the bonds of an inventory file, or its first fault
 abbrev pub bonds_of_file : Bytes → Result (List Bond) FileFault
-bonds_of_file bytes = rows_of_file bond_columns bond_entry bytes
+bonds_of_file bytes = rows_of_file (bond_columns ∷ []) (λ _. bond_entry) bytes
 
 -- no coowner is an empty field
 abbrev pub coowner_text : Option ℕ → Bytes

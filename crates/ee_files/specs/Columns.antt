@@ -7,6 +7,7 @@ use Rattle.ee_files.specs.declared.columns.Column.TheVariants as column
 abbrev pub column_name : Column → List ℕ
 column_name column.From = codes "from"
 column_name column.Rate = codes "rate"
+column_name column.Extension = codes "extension"
 column_name column.Serial = codes "serial"
 column_name column.Denom = codes "denom"
 column_name column.Issued = codes "issued"

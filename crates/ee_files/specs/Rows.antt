@@ -1,5 +1,6 @@
 -- The rows of a file (this project's rule): the records of its bytes by csv's default dialect.
 use Rattle.std.specs.Prelude.{ℕ, zero, suc, ◌+◌, Bool, List, [], ◌∷◌, Result, Ok, Err, length, map, nat_lt, unwrap_or, if◌then◌else◌}
+use Rattle.std.specs.List.{list_any}
 use Rattle.std.specs.Cmp.Lexicographic.{pointwise}
 use Rattle.std.specs.Str.{bytes_eq}
 use Rattle.csv.specs.Records.{field_at}
@@ -30,13 +31,20 @@ name_at fields place column = bytes_eq (unwrap_or (field_at fields place) []) (c
 abbrev pub header_of : List Column → List Bytes
 header_of columns = map column_name columns
 
--- the first 501 rows under the header; a file with no record has no rows
-unfoldable pub rows_of_records : {A : Type 0} → List Column → (ℕ → List Bytes → Result A FileFault) → List (List Bytes) → Result (List A) FileFault
-rows_of_records columns entry [] = Ok []
-rows_of_records columns entry (header ∷ rest) =
-    if same_fields header (header_of columns) then rows_from entry 2 501 rest else Err (record { row = 1; code = BadHeader })
+-- whether a record is one of the headers
+abbrev pub is_header : List (List Column) → List Bytes → Bool
+is_header headers fields = list_any (λ columns. same_fields fields (header_of columns)) headers
+
+-- the first 501 rows under one of the headers, whose count of fields decides what a record is read as; a file with no
+-- record has no rows
+unfoldable pub rows_of_records : {A : Type 0} → List (List Column) → (ℕ → ℕ → List Bytes → Result A FileFault) → List (List Bytes)
+    → Result (List A) FileFault
+rows_of_records headers entry [] = Ok []
+rows_of_records headers entry (header ∷ rest) =
+    if is_header headers header then rows_from (entry (length header)) 2 501 rest else Err (record { row = 1; code = BadHeader })
 
 -- the rows of a file: at most 1,048,576 bytes, and a byte order mark before the first record is dropped
-unfoldable pub rows_of_file : {A : Type 0} → List Column → (ℕ → List Bytes → Result A FileFault) → Bytes → Result (List A) FileFault
-rows_of_file columns entry bytes = if nat_lt 1048576 (length bytes) then Err (record { row = 1; code = FileTooLong })
-    else rows_of_records columns entry (records default_config (strip_bom bytes))
+unfoldable pub rows_of_file : {A : Type 0} → List (List Column) → (ℕ → ℕ → List Bytes → Result A FileFault)
+    → Bytes → Result (List A) FileFault
+rows_of_file headers entry bytes = if nat_lt 1048576 (length bytes) then Err (record { row = 1; code = FileTooLong })
+    else rows_of_records headers entry (records default_config (strip_bom bytes))

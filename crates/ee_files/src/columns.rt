@@ -9,6 +9,8 @@ pub enum Column {
     From,
     /// The fixed rate.
     Rate,
+    /// The extension, or nothing.
+    Extension,
     /// A bond's serial number.
     Serial,
     /// Its denomination.
@@ -32,6 +34,7 @@ impl Column {
         match self {
             Column::From => "from",
             Column::Rate => "rate",
+            Column::Extension => "extension",
             Column::Serial => "serial",
             Column::Denom => "denom",
             Column::Issued => "issued",

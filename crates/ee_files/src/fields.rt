@@ -5,6 +5,7 @@ ghost use Rattle.std.specs.Option.{ok_or};
 ghost use Rattle.ee_units.specs.Denoms.{denom_of};
 ghost use Rattle.ee_units.specs.Spelling.{customer_of, issue_of, rate_of, serial_of};
 ghost use Rattle.ee_files.specs.BondFile.{coowner_of};
+ghost use Rattle.ee_files.specs.RateFile.{extension_of};
 ghost use Rattle.ee_files.specs.Fields.{field_value, text_of};
 
 use crate::columns::Column;
@@ -64,6 +65,19 @@ pub fn customer_in(field: Option<&[u8]>) -> Option<Customer>
     ensures { result ≡ field_value customer_of (option_map (λ f. f.now) field.entry) }
 {
     read_customer(text_in(field)?).ok()
+}
+
+/// The extension that a field spells, where an empty field names none; none where there is no field or
+/// it spells no rate.
+pub fn extension_in(field: Option<&[u8]>) -> Option<Option<Rate>>
+    ensures { result ≡ field_value extension_of (option_map (λ f. f.now) field.entry) }
+{
+    let rate = text_in(field)?;
+    if rate.is_empty() {
+        Some(None)
+    } else {
+        Some(Some(read_rate(rate).ok()?))
+    }
 }
 
 /// The coowner that a field spells, where an empty field is no coowner; none where there is no field or

@@ -1,6 +1,6 @@
 //! Inventory files.
 
-ghost use Rattle.std.specs.Prelude.{◌≡◌, ℕ, List, Some};
+ghost use Rattle.std.specs.Prelude.{◌≡◌, ℕ, List, [], ◌∷◌, Some};
 ghost use Rattle.csv.specs.Records.{fields_of};
 ghost use Rattle.ee_device.specs.ReadWhole.{TakesAtMost};
 ghost use Rattle.ee_files.specs.Answers.{Gives};
@@ -31,15 +31,15 @@ pub fn read_inventory<R: Read>(alloc: Global, reader: &mut R) -> Result<Vec<Bond
 }
 
 impl FileRow for Bond {
-    ghost columns = { bond_columns };
+    ghost headers = { bond_columns ∷ [] };
 
-    ghost entry = { bond_entry };
+    ghost entry = { λ _. bond_entry };
 
     fn is_header(fields: &ByteRecord) -> bool {
         is_bond_header(fields)
     }
 
-    fn from_record(fields: &ByteRecord, row: u64) -> Result<Bond, FileFault> {
+    fn from_record(fields: &ByteRecord, _width: usize, row: u64) -> Result<Bond, FileFault> {
         bond_row(fields, row)
     }
 }

@@ -11,7 +11,8 @@ ghost use Rattle.ee_files.specs.Rows.{rows_from, same_fields};
 /// The rows under a header are those of the first 501 records, each read by itself, where none is at
 /// fault; else the answer is the first fault. Records are numbered from 2.
 pub const fn rows_law()
-    ensures rates { (rest : List (List (List ℕ))) → AllOrFirstFault (each rate_entry 2 (take 501 rest)) (rows_from rate_entry 2 501 rest) }
+    ensures rates { (width : ℕ) (rest : List (List (List ℕ)))
+        → AllOrFirstFault (each (rate_entry width) 2 (take 501 rest)) (rows_from (rate_entry width) 2 501 rest) }
     ensures bonds { (rest : List (List (List ℕ))) → AllOrFirstFault (each bond_entry 2 (take 501 rest)) (rows_from bond_entry 2 501 rest) }
 {}
 

@@ -1,25 +1,27 @@
 //! Rate files.
 
-ghost use Rattle.std.specs.Prelude.{◌≡◌, ℕ, List, Some};
+ghost use Rattle.std.specs.Prelude.{◌≡◌, ℕ, List, [], ◌∷◌, Some};
 ghost use Rattle.csv.specs.Records.{fields_of};
 ghost use Rattle.ee_device.specs.ReadWhole.{TakesAtMost};
 ghost use Rattle.ee_files.specs.Answers.{Gives};
-ghost use Rattle.ee_files.specs.RateFile.{rate_columns, rate_entry, rates_of_file};
+ghost use Rattle.ee_files.specs.RateFile.{rate_columns, extended_columns, extension_at, rate_entry, rates_of_file};
 
 use crate::columns::Column;
 use crate::faults::{FileCode, FileFault};
-use crate::fields::{issue_in, rate_in, value_or_fault};
+use crate::fields::{extension_in, issue_in, rate_in, value_or_fault};
 use crate::headers::is_rate_header;
 use crate::records::{FileRow, read_rows};
 use csv::ByteRecord;
+use ee_units::Rate;
 use ee_value::{RateRow, Rates};
 use std::alloc::Global;
 use std::io::Read;
 
-/// The first 501 rows of a rate file, or its first fault: the header `from,rate`, and a record for each
-/// row. The file is read whole first; a failed or interrupted read is `ReadFailed`, and want of memory
-/// `NoMemory`. At most 1,048,577 bytes are taken from the reader, one more than a file may have; it keeps
-/// those that follow them.
+/// The first 501 rows of a rate file, or its first fault: the header `from,rate` or
+/// `from,rate,extension`, and a record for each row, where an empty extension is the rate. The file is
+/// read whole first; a failed or interrupted read is `ReadFailed`, and want of memory `NoMemory`. At most
+/// 1,048,577 bytes are taken from the reader, one more than a file may have; it keeps those that follow
+/// them.
 pub fn read_rates<R: Read>(alloc: Global, reader: &mut R) -> Result<Vec<RateRow>, FileFault>
     ensures gives { (source : List ℕ) → R.remaining reader.old ≡ Some source
         → Gives (λ v. v.items) result (rates_of_file source) }
@@ -30,7 +32,7 @@ pub fn read_rates<R: Read>(alloc: Global, reader: &mut R) -> Result<Vec<RateRow>
 }
 
 impl FileRow for RateRow {
-    ghost columns = { rate_columns };
+    ghost headers = { rate_columns ∷ extended_columns ∷ [] };
 
     ghost entry = { rate_entry };
 
@@ -38,16 +40,16 @@ impl FileRow for RateRow {
         is_rate_header(fields)
     }
 
-    fn from_record(fields: &ByteRecord, row: u64) -> Result<RateRow, FileFault> {
-        rate_row(fields, row)
+    fn from_record(fields: &ByteRecord, width: usize, row: u64) -> Result<RateRow, FileFault> {
+        rate_row(fields, width, row)
     }
 }
 
 #[tactic(auto, unfolding(crate::specs::RateFile::rate_entry))]
-fn rate_row(fields: &ByteRecord, row: u64) -> Result<RateRow, FileFault>
-    ensures { Gives (λ row. row) result (rate_entry row (fields_of fields.now)) }
+fn rate_row(fields: &ByteRecord, width: usize, row: u64) -> Result<RateRow, FileFault>
+    ensures { Gives (λ row. row) result (rate_entry width row (fields_of fields.now)) }
 {
-    if fields.len() != 2 {
+    if fields.len() != width {
         return Err(FileFault {
             row,
             code: FileCode::WrongFieldCount,
@@ -55,8 +57,20 @@ fn rate_row(fields: &ByteRecord, row: u64) -> Result<RateRow, FileFault>
     }
     let from = value_or_fault(issue_in(fields.get(0)), row, Column::From)?;
     let fixed = value_or_fault(rate_in(fields.get(1)), row, Column::Rate)?;
+    let extension = extension(fields, width, row)?;
     Ok(RateRow {
         from,
-        rates: Rates { fixed },
+        rates: Rates::new(fixed, extension),
     })
+}
+
+// The extension of a record, under a header that has one.
+fn extension(fields: &ByteRecord, width: usize, row: u64) -> Result<Option<Rate>, FileFault>
+    ensures { result ≡ extension_at width row (fields_of fields.now) }
+{
+    if width == 3 {
+        value_or_fault(extension_in(fields.get(2)), row, Column::Extension)
+    } else {
+        Ok(None)
+    }
 }

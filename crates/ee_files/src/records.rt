@@ -6,7 +6,7 @@ ghost use Rattle.csv.specs.Records.{fields_of};
 ghost use Rattle.ee_device.specs.ReadWhole.{TakesAtMost};
 ghost use Rattle.ee_files.specs.Answers.{Gives, Unreadable};
 ghost use Rattle.ee_files.specs.Left.{HasLeft, TakesNext};
-ghost use Rattle.ee_files.specs.Rows.{header_of, rows_from, rows_of_file, rows_of_records, same_fields};
+ghost use Rattle.ee_files.specs.Rows.{is_header, rows_from, rows_of_file, rows_of_records};
 ghost use Rattle.ee_files.specs.declared.columns.Column.{Column};
 ghost use Rattle.ee_files.specs.declared.faults.FileFault.{FileFault};
 
@@ -21,17 +21,17 @@ pub const MOST_BYTES: usize = 1_048_576;
 
 /// What a record of a file is read as.
 pub trait FileRow: Copy + Drop {
-    ghost columns: { List Column };
+    ghost headers: { List (List Column) };
 
-    ghost entry: { ℕ → List (List ℕ) → Result Self FileFault };
+    ghost entry: { ℕ → ℕ → List (List ℕ) → Result Self FileFault };
 
-    /// Whether these are the names of the columns.
+    /// Whether these are the names of a header's columns.
     fn is_header(fields: &ByteRecord) -> bool
-        ensures { result ≡ same_fields (fields_of fields.now) (header_of columns) };
+        ensures { result ≡ is_header headers (fields_of fields.now) };
 
-    /// The row of one record, or the first fault from the left.
-    fn from_record(fields: &ByteRecord, row: u64) -> Result<Self, FileFault>
-        ensures { Gives (λ row. row) result (entry row (fields_of fields.now)) };
+    /// The row of one record under a header of so many fields, or the first fault from the left.
+    fn from_record(fields: &ByteRecord, width: usize, row: u64) -> Result<Self, FileFault>
+        ensures { Gives (λ row. row) result (entry width row (fields_of fields.now)) };
 }
 
 const fn unreadable(code: FileCode) -> FileFault
@@ -55,9 +55,10 @@ fn next_record(records: &mut Reader<&[u8]>, fields: &mut ByteRecord) -> Result<b
 fn rows_under_header<T: FileRow>(
     alloc: Global,
     records: &mut Reader<&[u8]>,
+    width: usize,
 ) -> Result<Vec<T>, FileFault>
     ensures { (rest : List (List (List ℕ))) → HasLeft records.old rest
-        → Gives (λ v. v.items) result (rows_from T.entry 2 501 rest) }
+        → Gives (λ v. v.items) result (rows_from (T.entry width) 2 501 rest) }
 {
     let mut rows = Vec::new(alloc);
     let mut fields = ByteRecord::new(alloc);
@@ -65,7 +66,7 @@ fn rows_under_header<T: FileRow>(
         if !next_record(records, &mut fields)? {
             return Ok(rows);
         }
-        let entry = T::from_record(&fields, row)?;
+        let entry = T::from_record(&fields, width, row)?;
         if rows.push(entry).is_err() {
             return Err(unreadable(FileCode::NoMemory));
         }
@@ -86,7 +87,7 @@ fn reader_of(alloc: Global, bytes: &[u8]) -> Reader<&[u8]>
 #[tactic(auto, unfolding(crate::specs::Rows::rows_of_records))]
 fn rows_in<T: FileRow>(alloc: Global, bytes: &[u8]) -> Result<Vec<T>, FileFault>
     ensures { Gives (λ v. v.items) result
-        (rows_of_records T.columns T.entry (records default_config (strip_bom bytes.now))) }
+        (rows_of_records T.headers T.entry (records default_config (strip_bom bytes.now))) }
 {
     let mut records = reader_of(alloc, bytes);
     let mut header = ByteRecord::new(alloc);
@@ -99,14 +100,14 @@ fn rows_in<T: FileRow>(alloc: Global, bytes: &[u8]) -> Result<Vec<T>, FileFault>
             code: FileCode::BadHeader,
         });
     }
-    rows_under_header(alloc, &mut records)
+    rows_under_header(alloc, &mut records, header.len())
 }
 
 /// The rows of a file, which is read whole first: one byte more than a file may have is taken at most.
 #[tactic(auto, unfolding(crate::specs::Rows::rows_of_file))]
 pub fn read_rows<T: FileRow, R: Read>(alloc: Global, reader: &mut R) -> Result<Vec<T>, FileFault>
     ensures gives { (source : List ℕ) → R.remaining reader.old ≡ Some source
-        → Gives (λ v. v.items) result (rows_of_file T.columns T.entry source) }
+        → Gives (λ v. v.items) result (rows_of_file T.headers T.entry source) }
     ensures takes { (source : List ℕ) → R.remaining reader.old ≡ Some source
         → TakesAtMost 1048577 source (R.remaining reader.new) }
 {

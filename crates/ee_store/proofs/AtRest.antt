@@ -17,7 +17,9 @@ use Rattle.ee_desk_laws.specs.Events.{begun}
 use Rattle.ee_store_tables.proofs.Lemmas.Meeting.{stored_has}
 use Rattle.ee_store_contents.specs.Standing.{rows_of}
 use Rattle.ee_store_lookups.specs.Seen.{HasContent, StandsFor}
+use Rattle.ee_store_opening.specs.declared.forms.Form.TheVariants.{Current}
 use Rattle.ee_store.specs.Adopted.{GoesOn}
+use Rattle.ee_store.proofs.Opened.{stood_now}
 use Rattle.ee_store.specs.Ended.{StandsAlone, IsAtRest}
 
 pub at_rest : {D : Type 0} {g : Ghosts D} (c : Held (FileStore D g)) (files : Files D) (content : Content)
@@ -39,5 +41,5 @@ pub found_alone : (start : Image) (was now : State) (content : Content) → Find
 found_alone start was now content found goes_on it =
     let same : was.committed.trees ≡ it.db = ∥∥₁_elim it.holds.both (Trees-set _ _) (found.holds _) in
     let stands = subst (λ trees. StandsFor trees content) (sym same) it.stands in
-    let (v, happens, is, follows) = goes_on (begun content) content (0, omega arith, refl) stands in
+    let (v, happens, is, follows) = goes_on Current (begun content) content (0, omega arith, refl) (stood_now was.committed.trees content stands) in
     subst (HasContent now) is follows.0

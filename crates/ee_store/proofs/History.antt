@@ -19,7 +19,9 @@ use Rattle.ee_desk_laws.specs.Events.{Event, World, Told, begun, decided, unserv
 use Rattle.ee_desk_laws.specs.Events.Event.{Deliver, Lose, Unserved, Stop_between, Reopen}
 use Rattle.ee_desk_laws.specs.Stops.{SurvivesStops, SettlesByRetries}
 use Rattle.ee_desk_laws.proofs.Lemmas.{in_tail}
+use Rattle.ee_store_opening.specs.declared.forms.Form.TheVariants.{Current}
 use Rattle.ee_store_lookups.specs.Seen.{StandsFor}
+use Rattle.ee_store.proofs.Opened.{stood_now}
 use Rattle.ee_store.specs.Served.{FollowsWorld}
 use Rattle.ee_store.specs.Ended.{RestsIn}
 use Rattle.ee_store.specs.NextRun.{FollowsInNextRun}
@@ -91,7 +93,7 @@ goes_through_rest g h old files now clean rests opened = goes_from (file_state o
     let was = file_state opened.was in
     let same : was.committed.trees ≡ seen.db = ∥∥₁_elim seen.holds.both (Trees-set _ _) (opened.found.holds _) in
     let stands = subst (λ trees. StandsFor trees w.now) (sym same) seen.stands in
-    let (v, happens, kept, follows) = opened.goes_on w w.now is.among stands in
+    let (v, happens, kept, follows) = opened.goes_on Current w w.now is.among (stood_now was.committed.trees w.now stands) in
     ∣ (v, happens, up_again w v happens, follows) ∣₁)
 
 pub has_history : {D : Type 0} (g : Ghosts D) → SurvivesStops → HasHistory g

@@ -1,8 +1,8 @@
 mod Following
 mod Opened
+mod Extended
 mod AtRest
 mod Meeting
 mod NextRun
 mod History
-mod SettledRates
 mod OpenedRoom

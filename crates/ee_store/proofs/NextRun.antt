@@ -10,7 +10,9 @@ use Rattle.sqlite.specs.Files.{file_state}
 use Rattle.sqlite.proofs.Theorems.{opens_again, next_run}
 use Rattle.ee_store_tables.specs.Tables.{counter_schema}
 use Rattle.ee_store_lookups.specs.Seen.{StandsFor}
+use Rattle.ee_store_opening.specs.declared.forms.Form.TheVariants.{Current}
 use Rattle.ee_store.specs.Adopted.{IsOpenedFrom}
+use Rattle.ee_store.proofs.Opened.{stood_now}
 use Rattle.ee_store.specs.NextRun.{IsNumbered, FollowsInNextRun, WaitsInNextRun, LeavesStanding, FollowsOn}
 
 pub follows_in_next_run : {D E : Type 0} (g : Ghosts D) (h : Ghosts E) → FollowsInNextRun g h
@@ -19,7 +21,7 @@ follows_in_next_run g h old w left now numbered follows may opened =
     let sound : AreDatabases (recovers old.store) = λ db may. let found = follows.1 db may in (counter_schema, found.2.stores.sound) in
     ∥∥₁_map (next_run old.store numbered sound left may was opened.found) (λ may.
     let (content, among, stands) = follows.1 was.committed.trees may in
-    let (v, happens, is, goes_on) = opened.goes_on w content among stands in
+    let (v, happens, is, goes_on) = opened.goes_on Current w content among (stood_now was.committed.trees content stands) in
     (v, happens, goes_on))
 
 pub waits_in_next_run : {D E : Type 0} (g : Ghosts D) (h : Ghosts E) → WaitsInNextRun g h
@@ -28,7 +30,7 @@ waits_in_next_run g h old w left fault now numbered follows may refused =
     let sound : AreDatabases (recovers old.store) = λ db may. let found = follows.1 db may in (counter_schema, found.2.stores.sound) in
     ∥∥₁_map (next_run old.store numbered sound left may was refused.found) (λ may.
     let (content, among, stands) = follows.1 was.committed.trees may in
-    let (v, happens, is, waits) = refused.waits refused.opened.0.is_open w content among stands in
+    let (v, happens, is, waits) = refused.waits refused.opened.0.is_open Current w content among (stood_now was.committed.trees content stands) in
     (v, happens, waits))
 
 pub leaves_standing : {D : Type 0} {g : Ghosts D} (old : Held (FileStore D g)) → IsNumbered old → LeavesStanding old
@@ -38,4 +40,5 @@ leaves_standing old numbered w left follows may =
 
 pub follows_on : {E : Type 0} {h : Ghosts E} (left : Image) (now : Held (FileStore E h)) → IsOpenedFrom left now → FollowsOn left now
 follows_on left now opened w content db among holds stands =
-    opened.goes_on w content among (subst (λ d. StandsFor d content) (sym (opened.found.holds db holds)) stands)
+    let found = file_state opened.was in
+    opened.goes_on Current w content among (stood_now found.committed.trees content (subst (λ d. StandsFor d content) (sym (opened.found.holds db holds)) stands))

@@ -1,8 +1,6 @@
 -- What a store that is opened has, and what it had.
 -- Of a store that a failing disk has shut nothing is said.
-use Rattle.std.specs.Prelude.{◌≡◌, ◌≤◌, ◌⊎◌, ◌+◌, ◌^◌, ℕ, None, false, List, [], ◌∷◌, Contains, Option, map, IsTrue, ⊤}
-use Rattle.std.specs.FinMap as finite
-use Rattle.std.specs.FinMap.{FinMap}
+use Rattle.std.specs.Prelude.{◌≡◌, ◌≤◌, ◌⊎◌, ◌+◌, ◌^◌, ℕ, None, false, [], ◌∷◌, Contains, Option, IsTrue, ⊤}
 use Rattle.sqlite_disk.specs.declared.Disk.{Ghosts}
 use Rattle.sqlite.specs.declared.FileStore.{FileStore}
 use Rattle.sqlite.specs.Tree.{Trees}
@@ -11,27 +9,57 @@ use Rattle.sqlite.specs.Files.{file_state, IsOpened}
 use Rattle.sqlite.specs.Recovery.{Image}
 use Rattle.sqlite.specs.Start.{FindsIn}
 use Rattle.sqlite.specs.State.{State, KeepsCommit, Survives}
-use Rattle.ee_value.specs.declared.rates.Rates.{Rates}
-use Rattle.ee_desk_acts.specs.Values.{unsettled}
-use Rattle.ee_desk_acts.specs.UnitTables.{rates_cmp}
 use Rattle.ee_desk_acts.specs.Repeats.{Content, nothing}
 use Rattle.ee_desk_laws.specs.Events.{World, Happens, begun}
 use Rattle.ee_desk_laws.specs.Events.Event.{Stop_between, Reopen}
 use Rattle.ee_desk_laws.specs.Ties.{Leaves}
-use Rattle.ee_store_opening.specs.declared.entries.StoredRate.{StoredRate}
+use Rattle.ee_store_opening.specs.declared.forms.Form.{Form}
+use Rattle.ee_store_opening.specs.declared.forms.Form.TheVariants.{Current, Earlier}
+use Rattle.ee_store_opening.specs.Forms.{StoresIn, HasForm, IsOurs, HadIn}
 use Rattle.ee_store_opening.specs.Making.{IsBlank}
-use Rattle.ee_store_tables.specs.Rows.{Rows, Has, HasRoomIn, HasRoom}
+use Rattle.ee_store_tables.specs.Rows.{Rows, HasRoomIn, HasRoom}
 use Rattle.ee_store_tables.specs.Statements.{HasCause}
 use Rattle.ee_store_opening.specs.Opening.{HasTables, IsOtherVersion}
-use Rattle.ee_store_opening.specs.Whole.{IsOurs}
 use Rattle.ee_store_opening.specs.declared.faults.OpenFault.{OpenFault}
 use Rattle.ee_store_opening.specs.declared.faults.OpenFault.TheVariants.{StoreFailed, WrongVersion, Unusable}
 use Rattle.ee_store.specs.declared.opening.Rest.{Rest}
 use Rattle.ee_store.specs.declared.opening.Rest.TheVariants.{Connection, Files}
+use Rattle.ee_store_contents.specs.Standing.{rows_of, IsRight}
 use Rattle.ee_store_lookups.specs.Seen.{StandsFor, HasContent}
 use Rattle.ee_store.specs.Served.{FollowsWorld}
 use Rattle.ee_store.specs.Ended.{StandsAlone}
 use Rattle.ee_store_lookups.specs.Causes.{IsReady}
+
+-- ---- what a store of an earlier form stands for
+
+-- trees with tables of this form stand for the content
+pub record StoodFor (form : Form) (db : Trees) (content : Content) : Type 0 where
+  pub right : IsRight content
+  pub stores : StoresIn form db (rows_of content)
+
+-- the last commit left tables of this form, whose rows stand for the content
+pub record HadContent (form : Form) (s : State) (content : Content) : Type 0 where
+  pub right : IsRight content
+  pub rows : HadIn form s (rows_of content)
+
+-- The store of this form has the world's content, and a crash leaves it what it may leave the world. Where a table is still to be
+-- made, a crash may leave the world its content too.
+abbrev pub FollowedWorld : Form → State → World → Type 0
+FollowedWorld Current s w = FollowsWorld s w
+FollowedWorld Earlier s w = HadContent Earlier s w.now × Contains w.may w.now × Leaves (StoodFor Earlier) s.may_leave w
+
+-- trees stand for the content in the form that they had, or in the present one
+abbrev pub StandsSince : Form → Trees → Content → Type 0
+StandsSince Current db content = StandsFor db content
+StandsSince Earlier db content = StoodFor Earlier db content ⊎ StandsFor db content
+
+-- the store lacked a table, and the trees, which have it, stand for the content that it had
+pub record IsExtended (old : State) (db : Trees) : Type 0 where
+  pub lacked : ¬ HasForm Current old
+  pub some : (content : Content) × HadContent Earlier old content
+  pub stands : (content : Content) → HadContent Earlier old content → StandsFor db content
+
+-- ---- what a store that is opened has
 
 -- a store without tables has come to have the empty content
 abbrev pub BeginsEmpty : State → State → Type 0
@@ -41,9 +69,9 @@ BeginsEmpty old new = IsBlank old → HasContent new nothing
 abbrev pub BeginsWorld : State → State → Type 0
 BeginsWorld old new = IsTrue new.is_open × (IsBlank old → FollowsWorld new (begun nothing))
 
--- whichever content the store had, it has
+-- whichever content the store had, in whichever form, it has
 abbrev pub KeepsContent : State → State → Type 0
-KeepsContent old new = (content : Content) → HasContent old content → HasContent new content
+KeepsContent old new = (form : Form) (content : Content) → HadContent form old content → HasContent new content
 
 -- the store had the tables and nothing else, or nothing at all, and has some content
 abbrev pub HasSome : State → State → Type 0
@@ -53,37 +81,42 @@ HasSome old new = (IsOurs old ⊎ IsBlank old) × ((content : Content) × HasCon
 abbrev pub KeepsWorld : State → State → Type 0
 KeepsWorld old new = (w : World) → FollowsWorld old w → FollowsWorld new w
 
+-- the same of a store in whichever form
+abbrev pub CarriesWorld : State → State → Type 0
+CarriesWorld old new = (form : Form) (w : World) → FollowedWorld form old w → FollowsWorld new w
+
 -- The store was opened over trees that stand for a content which a crash may leave of a world: it has just that content, and the
 -- world stops and goes on from there.
 abbrev pub GoesOn : State → State → Type 0
-GoesOn old new = (w : World) (left : Content) → Contains w.may left → StandsFor old.committed.trees left
+GoesOn old new = (form : Form) (w : World) (left : Content) → Contains w.may left → StoodFor form old.committed.trees left
     → (v : World) × Happens w (Stop_between ∷ Reopen ∷ []) v × (v.now ≡ left) × FollowsWorld new v
 
 -- The store over such trees isn't served from: a crash leaves what stands for the same, so a later open goes on from there.
 abbrev pub StaysStopped : State → State → Type 0
-StaysStopped old new = IsTrue old.is_open → (w : World) (left : Content) → Contains w.may left → StandsFor old.committed.trees left
-    → (v : World) × Happens w (Stop_between ∷ []) v × (v.now ≡ left) × Leaves StandsFor new.may_leave v
+StaysStopped old new = IsTrue old.is_open → (form : Form) (w : World) (left : Content) → Contains w.may left → StoodFor form old.committed.trees left
+    → (v : World) × Happens w (Stop_between ∷ []) v × (v.now ≡ left) × Leaves (StandsSince form) new.may_leave v
 
 -- Nothing was committed in a store that had a table, an index or a view, whatever they were; a store without any may have got
 -- the first rows.
 abbrev pub KeepsRows : State → State → Type 0
 KeepsRows old new = (HasTables old → KeepsCommit old new) × (IsBlank old → KeepsCommit old new ⊎ HasContent new nothing)
 
--- a store that was open had no content, and it had tables
+-- a store that was open had no content, in no form, and it had tables
 abbrev pub HadNone : State → Type 0
-HadNone old = IsTrue old.is_open → ((content : Content) → HasContent old content → ⊥) × (IsBlank old → ⊥)
+HadNone old = IsTrue old.is_open → ((form : Form) (content : Content) → HadContent form old content → ⊥) × (IsBlank old → ⊥)
 
 -- the rows of a store that was open are of another version
 abbrev pub HadOtherVersion : State → Type 0
-HadOtherVersion old = IsTrue old.is_open → (rows : Rows) → Has old rows → IsOtherVersion rows
+HadOtherVersion old = IsTrue old.is_open → (form : Form) (rows : Rows) → HadIn form old rows → IsOtherVersion rows
 
 -- the rows of a store that was open are of no other version
 abbrev pub HadNoOtherVersion : State → Type 0
-HadNoOtherVersion old = IsTrue old.is_open → (rows : Rows) → Has old rows → ¬ IsOtherVersion rows
+HadNoOtherVersion old = IsTrue old.is_open → (form : Form) (rows : Rows) → HadIn form old rows → ¬ IsOtherVersion rows
 
--- a crash of a store with any table leaves what it could leave before
+-- A crash of a store with any table leaves what it could leave before. Where it lacked a table that was made, a crash may also leave
+-- the content that it had, with that table.
 abbrev pub LeavesAsBefore : State → State → Type 0
-LeavesAsBefore old new = IsTrue old.is_open → HasTables old → (db : Trees) → new.may_leave db → old.may_leave db
+LeavesAsBefore old new = IsTrue old.is_open → HasTables old → (db : Trees) → new.may_leave db → old.may_leave db ⊎ IsExtended old db
 
 -- Of a connection in no transaction, with no limit on steps, over a store without tables or with just those of version 1:
 -- this fault has a cause.
@@ -105,7 +138,7 @@ pub record IsOpenedFrom {D : Type 0} {g : Ghosts D} (start : Image) (now : Held 
   pub begun : BeginsWorld (file_state was) (file_state now)
   pub keeps : KeepsContent (file_state was) (file_state now)
   pub some : HasSome (file_state was) (file_state now)
-  pub follows : KeepsWorld (file_state was) (file_state now)
+  pub follows : CarriesWorld (file_state was) (file_state now)
   pub goes_on : GoesOn (file_state was) (file_state now)
   pub crash : Survives (file_state was) (file_state now) (λ db. IsBlank (file_state was) → StandsFor db nothing)
   pub left : LeavesAsBefore (file_state was) (file_state now)
@@ -137,14 +170,3 @@ IfConnection (Files left) P = ⊤
 abbrev pub IfFiles : {S L : Type 0} → Rest S L → (Option L → Type 0) → Type 0
 IfFiles (Connection conn) P = ⊤
 IfFiles (Files left) P = P left
-
-abbrev pub rates_in_row : StoredRate → Rates
-rates_in_row row = record { fixed = row.rate }
-
--- its rates are in range, and leave no value unsettled
-abbrev pub IsSettledRow : StoredRate → Type 0
-IsSettledRow row = (row.rate ≤ 2000) × (unsettled (rates_in_row row) ≡ None)
-
--- a table for the rates of each row
-abbrev pub tables_for : List StoredRate → FinMap rates_cmp Rates
-tables_for rows = finite.from_entries (map (λ row. (rates_in_row row, rates_in_row row)) rows)

@@ -1,14 +1,12 @@
 //! Taking over a connection, and handing it back.
 
-ghost use Rattle.std.specs.Prelude.{◌≡◌, ◌≢◌, ◌≤◌, ◌⊎◌, None, false, IsTrue, IfOk, IfErr, OnOk, OnErr, MatchResult};
-ghost use Rattle.std.specs.List.{AllByRecursion};
-ghost use Rattle.std.specs.FinMap as finite;
+ghost use Rattle.std.specs.Prelude.{◌≡◌, ◌≢◌, false, IsTrue, IfOk, IfErr, OnOk, OnErr, MatchResult};
 ghost use Rattle.sqlite.specs.Held.{state};
 ghost use Rattle.sqlite.specs.State.{HasCleanDisk, IsLive, Survives};
-ghost use Rattle.ee_desk_acts.specs.Values.{unsettled};
 ghost use Rattle.ee_desk_acts.specs.Repeats.{Content, nothing};
 ghost use Rattle.ee_store_opening.specs.Making.{IsBlank};
 ghost use Rattle.ee_store_opening.specs.Whole.{rows_of, AreInOrder};
+ghost use Rattle.ee_store_contents.specs.Contents.{tables_for};
 ghost use Rattle.ee_store_contents.specs.Standing.{StandFor};
 ghost use Rattle.ee_store_lookups.specs.Seen.{StandsFor};
 ghost use Rattle.ee_store.specs.Adopted.{
@@ -17,7 +15,7 @@ ghost use Rattle.ee_store.specs.Adopted.{
   HasSome,
   HadNone,
   KeepsRows,
-  KeepsWorld,
+  CarriesWorld,
   BeginsWorld,
   GoesOn,
   StaysStopped,
@@ -26,17 +24,13 @@ ghost use Rattle.ee_store.specs.Adopted.{
   LeavesAsBefore,
   FailsToAdopt,
   OpensWithRoom,
-  IsSettledRow,
-  tables_for,
 };
 ghost use Rattle.ee_store_lookups.specs.Causes.{IsReady};
 
 use crate::keeper::SqlKeeper;
 use ee_desk_acts::UnitTables;
-use ee_store_contents::{ContentFault, content_of};
-use ee_store_opening::{AllRows, OpenFault, StoredRate, open_rows};
-use ee_units::Rate;
-use ee_value::{Rates, ValueFault};
+use ee_store_contents::{ContentFault, tables_of};
+use ee_store_opening::{AllRows, OpenFault, extend_tables, open_rows};
 use sqlite::{Alter, Connection};
 use std::alloc::Global;
 
@@ -49,69 +43,19 @@ pub struct NotAdopted<S: Alter> {
     pub conn: Connection<S>,
 }
 
-/// The table of a rate in hundredths of a percent, made where there is none.
-fn add_table(alloc: Global, tables: &mut UnitTables, hundredths: u64) -> Result<(), OpenFault>
-    ensures added { OnOk result (tables.new ≡ finite.insert tables.old (record { fixed = hundredths }) (record { fixed = hundredths })) }
-    ensures fault { IfErr result (λ fault. (fault ≡ OpenFault.NoMemory) ⊎ (fault ≡ OpenFault.StoreFailed)) }
-    ensures settled { hundredths ≤ 2000 → unsettled (record { fixed = hundredths }) ≡ None → IfErr result (λ fault. fault ≡ OpenFault.NoMemory) }
-{
-    let Some(fixed) = Rate::new(hundredths) else {
-        return Err(OpenFault::StoreFailed);
-    };
-    match tables.add(alloc, Rates { fixed }) {
-        Ok(_terms) => Ok(()),
-        Err(ValueFault::NoMemory) => Err(OpenFault::NoMemory),
-        Err(ValueFault::Unsettled { .. }) => Err(OpenFault::StoreFailed),
-    }
-}
-
-fn no_tables(alloc: Global) -> UnitTables
-    ensures { result ≡ finite.empty }
-{
-    UnitTables::new(alloc)
-}
-
-/// A table for the rates of each row.
-fn tables_of(alloc: Global, rows: &[StoredRate]) -> Result<UnitTables, OpenFault>
-    ensures made { IfOk result (λ tables. tables ≡ tables_for rows.now) }
-    ensures fault { IfErr result (λ fault. (fault ≡ OpenFault.NoMemory) ⊎ (fault ≡ OpenFault.StoreFailed)) }
-    ensures settled { AllByRecursion IsSettledRow rows.now → IfErr result (λ fault. fault ≡ OpenFault.NoMemory) }
-{
-    match rows.split_first() {
-        None => Ok(no_tables(alloc)),
-        Some((row, rest)) => {
-            let mut tables = tables_of(alloc, rest)?;
-            add_table(alloc, &mut tables, row.rate)?;
-            Ok(tables)
-        }
-    }
-}
-
-/// Tests that rows stand for books and kept replies.
-fn tested(alloc: Global, all: &AllRows) -> Result<(), OpenFault>
-    requires { AreInOrder all.now }
-    ensures ok { OnOk result ((content : Content) × StandFor (rows_of all.now) content) }
-    ensures unusable { IfErr result (λ fault. fault ≡ OpenFault.Unusable → (content : Content) → StandFor (rows_of all.now) content → ⊥) }
-    ensures version { IfErr result (λ fault. fault ≢ OpenFault.WrongVersion) }
-    ensures settled { IfErr result (λ fault. fault ≢ OpenFault.StoreFailed) }
-{
-    match content_of(alloc, all) {
-        Ok(_books) => Ok(()),
-        Err(ContentFault::Unusable) => Err(OpenFault::Unusable),
-        Err(ContentFault::NoMemory) => Err(OpenFault::NoMemory),
-    }
-}
-
 /// The tables of unit values for the rates of rows that stand for books and kept replies.
 fn prepared(alloc: Global, all: &AllRows) -> Result<UnitTables, OpenFault>
     requires { AreInOrder all.now }
-    ensures ok { IfOk result (λ tables. ((content : Content) × StandFor (rows_of all.now) content) × (tables ≡ tables_for all.now.rates.items)) }
+    ensures ok { IfOk result (λ tables. (content : Content) × (tables ≡ tables_for content.books.rates) × StandFor (rows_of all.now) content) }
     ensures unusable { IfErr result (λ fault. fault ≡ OpenFault.Unusable → (content : Content) → StandFor (rows_of all.now) content → ⊥) }
     ensures version { IfErr result (λ fault. fault ≢ OpenFault.WrongVersion) }
     ensures settled { IfErr result (λ fault. fault ≢ OpenFault.StoreFailed) }
 {
-    tested(alloc, all)?;
-    tables_of(alloc, &all.rates)
+    match tables_of(alloc, all) {
+        Ok(tables) => Ok(tables),
+        Err(ContentFault::Unusable) => Err(OpenFault::Unusable),
+        Err(ContentFault::NoMemory) => Err(OpenFault::NoMemory),
+    }
 }
 
 /// A connection sees a database, and outside a transaction its last commit. It does nothing.
@@ -124,14 +68,15 @@ fn settled<S: Alter>(conn: &Connection<S>)
     let _autocommit = conn.is_autocommit();
 }
 
-/// Finds the rows of a store, or makes its first ones, and tests that they stand for books and kept
-/// replies. It answers the tables of unit values for their rates.
+/// Finds the rows of a store, or makes its first ones, tests that they stand for books and kept replies,
+/// and then makes the table that a store made before lacks. It answers the tables of unit values for
+/// their rates.
 fn ready<S: Alter>(conn: &mut Connection<S>, alloc: Global) -> Result<UnitTables, OpenFault>
     ensures begins { HasCleanDisk (state S.Store conn.new) → OnOk result (BeginsEmpty (state S.Store conn.old) (state S.Store conn.new)) }
     ensures begun { HasCleanDisk (state S.Store conn.new) → OnOk result (BeginsWorld (state S.Store conn.old) (state S.Store conn.new)) }
     ensures found { HasCleanDisk (state S.Store conn.new) → OnOk result (KeepsContent (state S.Store conn.old) (state S.Store conn.new)) }
     ensures stands { HasCleanDisk (state S.Store conn.new) → OnOk result (HasSome (state S.Store conn.old) (state S.Store conn.new)) }
-    ensures follows { HasCleanDisk (state S.Store conn.new) → OnOk result (KeepsWorld (state S.Store conn.old) (state S.Store conn.new)) }
+    ensures follows { HasCleanDisk (state S.Store conn.new) → OnOk result (CarriesWorld (state S.Store conn.old) (state S.Store conn.new)) }
     ensures goes_on { HasCleanDisk (state S.Store conn.new) → OnOk result (GoesOn (state S.Store conn.old) (state S.Store conn.new)) }
     ensures kept { HasCleanDisk (state S.Store conn.new) → OnErr result (KeepsRows (state S.Store conn.old) (state S.Store conn.new)) }
     ensures version { HasCleanDisk (state S.Store conn.new) → IfErr result (λ fault. fault ≡ OpenFault.WrongVersion → HadNone (state S.Store conn.old)) }
@@ -147,19 +92,23 @@ fn ready<S: Alter>(conn: &mut Connection<S>, alloc: Global) -> Result<UnitTables
 {
     let _schema = conn.schema();
     let all = open_rows(conn, alloc)?;
+    let tables = prepared(alloc, &all)?;
+    extend_tables(conn)?;
     settled(conn);
-    prepared(alloc, &all)
+    Ok(tables)
 }
 
 impl<S: Alter> SqlKeeper<S> {
     /// Takes over a connection that is in no transaction. In a store without tables it makes them, in one
     /// transaction, and begins with nothing; in one that has just the tables of this program, in the order
-    /// in which it makes them, it reads all rows and tests them. Any other store is refused.
+    /// in which it makes them, it reads all rows and tests them. One that was made before extensions could be
+    /// named lacks just their table: it is read and tested alike, and then the table is made, in one
+    /// transaction. Any other store is refused.
     ///
     /// - `begins`: a store without tables gets the empty content.
     /// - `begun`: the connection is open, and of a store that had no tables a crash leaves the empty content
     ///   alone, so the events of the law of stops and retries begin there.
-    /// - `found`: a store that has a content keeps it.
+    /// - `found`: a store that has a content keeps it, in whichever form its tables are.
     /// - `stands`: so the keeper serves from a content, and never from rows that stand for none, nor from
     ///   other tables.
     /// - `follows`: the store follows the events of the law of stops and retries as it did.
@@ -177,7 +126,8 @@ impl<S: Alter> SqlKeeper<S> {
     /// - `waits`: of a store over trees that a crash left, which stand for a content, a refusal leaves what
     ///   stands for the same, so a later call goes on from there.
     /// - `crash`, `left`: whenever the call stops, a crash leaves what it could leave before. Of a
-    ///   store without tables it may also leave the empty content.
+    ///   store without tables it may also leave the empty content, and of one that lacked a table the content
+    ///   that it had, with that table.
     ///
     /// # Errors
     ///
@@ -193,7 +143,7 @@ impl<S: Alter> SqlKeeper<S> {
         ensures begun { IfOk result (λ keeper. HasCleanDisk (state S.Store keeper.conn) → BeginsWorld (state S.Store conn) (state S.Store keeper.conn)) }
         ensures found { IfOk result (λ keeper. HasCleanDisk (state S.Store keeper.conn) → KeepsContent (state S.Store conn) (state S.Store keeper.conn)) }
         ensures stands { IfOk result (λ keeper. HasCleanDisk (state S.Store keeper.conn) → HasSome (state S.Store conn) (state S.Store keeper.conn)) }
-        ensures follows { IfOk result (λ keeper. HasCleanDisk (state S.Store keeper.conn) → KeepsWorld (state S.Store conn) (state S.Store keeper.conn)) }
+        ensures follows { IfOk result (λ keeper. HasCleanDisk (state S.Store keeper.conn) → CarriesWorld (state S.Store conn) (state S.Store keeper.conn)) }
         ensures goes_on { IfOk result (λ keeper. HasCleanDisk (state S.Store keeper.conn) → GoesOn (state S.Store conn) (state S.Store keeper.conn)) }
         ensures kept { IfErr result (λ not. HasCleanDisk (state S.Store not.conn) → KeepsRows (state S.Store conn) (state S.Store not.conn)) }
         ensures version { IfErr result (λ not. HasCleanDisk (state S.Store not.conn) → not.fault ≡ OpenFault.WrongVersion → HadNone (state S.Store conn)) }

@@ -2,7 +2,7 @@
 use Rattle.std.proofs.Common.{List, Option, Some, map, ℕ, ◌≡◌, ◌≤◌, IfSome}
 use Rattle.std.specs.Cmp.{IsTotalOrder}
 use Rattle.std.specs.FinMap.{FinMap, IsAntisymmetric, entries, from_entries, is_sorted}
-use Rattle.std.specs.Option.{option_map}
+use Rattle.std.specs.Option.{option_and_then, option_map}
 use Rattle.std.specs.Ordering.{nat_cmp}
 use Rattle.std.specs.Prelude.{T, flat_map, IsSome}
 use Rattle.std.specs.declared.cmp.Ordering.{Ordering}
@@ -16,10 +16,11 @@ use Rattle.ee_calculator.specs.declared.bonds.Bond.{Bond}
 use Rattle.ee_store_contents.specs.Contents.{PartsFit}
 use Rattle.ee_desk_parts.specs.Parts.{parts_of}
 use Rattle.ee_desk_acts.specs.Repeats.{Content}
-use Rattle.ee_store_contents.specs.Standing.{bond_row, bond_rows, desk_rows, key_of, paid_rows, rate_rows, reply_row, reply_rows, ticket_rows, IsRight, rows_of}
+use Rattle.ee_store_contents.specs.Standing.{bond_row, bond_rows, desk_rows, extension_rows, key_of, paid_rows, rate_rows, reply_row, reply_rows, ticket_rows, IsRight, rows_of}
 use Rattle.ee_units.specs.Denoms.{dollars, denom_with}
 use Rattle.ee_units.specs.Spelling.{SerialNumber, ◌>>=◌, in_range, serial_at}
 use Rattle.ee_units.specs.declared.denoms.Denom.{Denom}
+use Rattle.ee_value.specs.Chain.{rates_with, named_extension}
 use Rattle.ee_value.specs.declared.rates.Rates.{Rates}
 use Rattle.std.specs.FinMap as finite
 use Rattle.ee_desk_texts.specs.Ranges.{IsSerial}
@@ -45,6 +46,16 @@ get_desk_row = Images.get_desk
 pub get_rate_row : (rates : FinMap nat_cmp Rates) (period : ℕ) → finite.get (rate_rows rates) period ≡ option_map (λ rates. rates.fixed)
     (finite.get rates period)
 get_rate_row = Images.get_rate
+
+-- the extension of a period is that which its rates name
+pub get_extension_row : (rates : FinMap nat_cmp Rates) (period : ℕ) → finite.get (extension_rows rates) period ≡ option_and_then named_extension
+    (finite.get rates period)
+get_extension_row = Images.get_extension
+
+-- the terms of a period are those of its fixed rate and its extension
+pub get_terms : (rates : FinMap nat_cmp Rates) (period : ℕ)
+    → finite.get rates period ≡ option_map (λ fixed. rates_with fixed (finite.get (extension_rows rates) period)) (finite.get (rate_rows rates) period)
+get_terms = Images.get_terms
 
 -- the row of a serial number is that of its bond, with its ticket
 pub get_bond_row : (bonds : FinMap serial_cmp Bond) (tickets : List Ticket) (serial : SerialNumber)

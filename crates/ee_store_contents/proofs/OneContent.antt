@@ -1,6 +1,6 @@
 -- Rows stand for one content at most.
 use Rattle.std.proofs.Common.{◌≡◌, ℕ, suc, ◌+◌, List, [], ◌∷◌, ◌++◌, map, length, arith, refl, sym, ap, ◌∙◌}
-use Rattle.std.specs.Prelude.{flat_map, Option, Some, None, IfSome, ⊤}
+use Rattle.std.specs.Prelude.{flat_map, Option, Some, None, IfSome, option_and_then}
 use Rattle.std.specs.Option.{option_map, unwrap_or}
 use Rattle.std.specs.Ordering.{nat_cmp}
 use Rattle.std.specs.Cmp.{nat_cmp_total}
@@ -9,6 +9,8 @@ use Rattle.std.specs.FinMap.{FinMap, nat_cmp-IsAntisymmetric, entries, same_map}
 use Rattle.ee_units.specs.Spelling.{SerialNumber}
 use Rattle.ee_units.proofs.Lemmas.{same_denom}
 use Rattle.ee_value.specs.declared.rates.Rates.{Rates}
+use Rattle.ee_value.specs.Chain.{rates_with, named_extension}
+use Rattle.ee_value.proofs.Lemmas.{rates-back}
 use Rattle.ee_calculator.specs.declared.bonds.Bond.{Bond}
 use Rattle.ee_desk_acts.specs.declared.changes.Kept.{Kept}
 use Rattle.ee_desk_acts.specs.declared.replies.Line.{Line}
@@ -22,8 +24,8 @@ use Rattle.ee_desk_acts.specs.Repeats.{Content}
 use Rattle.ee_desk_acts.proofs.Lemmas.Maps.{serials_total, serials_exact, numbers_total, numbers_exact}
 use Rattle.ee_desk_texts.proofs.Lemmas.{one_act, one_reply}
 use Rattle.ee_store_tables.specs.Rows.{Rows, DeskRow, PaidRow, BatchRow}
-use Rattle.ee_store_contents.specs.Standing.{rate_rows, bond_rows, bond_row, key_of, placed, reply_rows, reply_row, desk_rows, IsKept, StandFor}
-use Rattle.ee_store_contents.proofs.Images.{get_rate, get_reply, get_bond, get_desk}
+use Rattle.ee_store_contents.specs.Standing.{rate_rows, extension_rows, bond_rows, bond_row, key_of, placed, reply_rows, reply_row, desk_rows, IsKept, StandFor}
+use Rattle.ee_store_contents.proofs.Images.{get_rate, get_extension, get_reply, get_bond, get_desk}
 use Rattle.ee_store_contents.proofs.Orders.{ticket_entry, ticket_entries, ticket_lines, paid_entries, batch_entry, batch_entries, rising_front}
 
 -- what is the same in two forms is the same
@@ -34,16 +36,21 @@ same_some f g P one None (Some y) h k e = absurd (cc)
 same_some f g P one (Some x) None h k e = absurd (cc)
 same_some f g P one (Some x) (Some y) h k e = ap Some (one x y h k (ap (λ o. unwrap_or o (f x)) e))
 
-any_some : {A : Type 0} (o : Option A) (P : A → Type 0) → ((x : A) → P x) → IfSome o P
-any_some None P h = tt
-any_some (Some x) P h = h x
-
 -- ---- rates
-same_rates : (one other : FinMap nat_cmp Rates) → rate_rows one ≡ rate_rows other → one ≡ other
-same_rates one other e = same_map nat_cmp_total nat_cmp-IsAntisymmetric one other (λ q.
-    same_some (λ (r : Rates). r.fixed) (λ r. r.fixed) (λ _. ⊤) (λ x y _ _ is i. record { fixed = is i }) (finite.get one q) (finite.get other q)
-    (any_some _ _ (λ _. tt)) (any_some _ _ (λ _. tt))
-    (sym (get_rate one q) ∙ ap (λ m. finite.get m q) e ∙ get_rate other q))
+same_terms : (x y : Rates) → x.fixed ≡ y.fixed → named_extension x ≡ named_extension y → x ≡ y
+same_terms x y fixed extension = sym (rates-back x) ∙ (λ i. rates_with (fixed i) (extension i)) ∙ rates-back y
+
+same_at : (o p : Option Rates) → option_map (λ (r : Rates). r.fixed) o ≡ option_map (λ (r : Rates). r.fixed) p → option_and_then named_extension o ≡ option_and_then named_extension p → o ≡ p
+same_at None None fixed extension = refl
+same_at None (Some y) fixed extension = absurd (cc)
+same_at (Some x) None fixed extension = absurd (cc)
+same_at (Some x) (Some y) fixed extension = ap Some (same_terms x y (ap (λ o. unwrap_or o x.fixed) fixed) extension)
+
+same_rates : (one other : FinMap nat_cmp Rates) → rate_rows one ≡ rate_rows other → extension_rows one ≡ extension_rows other → one ≡ other
+same_rates one other fixed extensions = same_map nat_cmp_total nat_cmp-IsAntisymmetric one other (λ q.
+    same_at (finite.get one q) (finite.get other q)
+    (sym (get_rate one q) ∙ ap (λ m. finite.get m q) fixed ∙ get_rate other q)
+    (sym (get_extension one q) ∙ ap (λ m. finite.get m q) extensions ∙ get_extension other q))
 
 -- ---- bonds
 same_bond : (ts us : List Ticket) (s : SerialNumber) (x y : Bond) → x.serial ≡ s → y.serial ≡ s → bond_row (held_as ts s x) ≡ bond_row (held_as us s y) → x ≡ y
@@ -147,7 +154,7 @@ one_content rows one other h k =
     ∙ ap (λ (r : Rows). entries r.batches) same ∙ batch_entries other.books.batches (rising_front (map day_of_batch other.books.batches) (open_days other.books.day) b.rising) in
     let batches = sym (batches_back one.books.batches) ∙ ap (map batch_at) closed ∙ batches_back other.books.batches in
     let days = same_desk one.books.day one.books.last_day other.books.day other.books.last_day (ap (λ (r : Rows). r.desk) same) in
-    let rates = same_rates one.books.rates other.books.rates (ap (λ (r : Rows). r.rates) same) in
+    let rates = same_rates one.books.rates other.books.rates (ap (λ (r : Rows). r.rates) same) (ap (λ (r : Rows). r.extensions) same) in
     let bonds = same_bonds one.books.bonds other.books.bonds one.books.tickets other.books.tickets (λ s. keyed one.books.rates s _ (a.bonds s)) (λ s. keyed other.books.rates s _ (b.bonds s)) (ap (λ (r : Rows). r.bonds) same) in
     let kept = same_kept one.kept other.kept h.right.kept k.right.kept (ap (λ (r : Rows). r.replies) same) in
     λ i. record {

@@ -9,7 +9,6 @@ use Rattle.ee_units.specs.Spelling.{SerialNumber, in_range, serial_at, ◌>>=◌
 use Rattle.ee_units.specs.declared.denoms.Denom.{Denom}
 use Rattle.ee_units.specs.declared.denoms.Denom.TheVariants as denom
 use Rattle.ee_units.proofs.Lemmas.{in_range-is, in_range_back, denom_with-dollars}
-use Rattle.ee_value.specs.declared.rates.RateRow.{RateRow}
 use Rattle.ee_calculator.specs.declared.bonds.Bond.{Bond}
 use Rattle.ee_desk_acts.specs.declared.replies.Line.{Line}
 use Rattle.ee_desk_acts.specs.declared.replies.Ticket.{Ticket}
@@ -18,16 +17,15 @@ use Rattle.ee_desk_acts.specs.Sound.{IsDay}
 use Rattle.ee_desk_acts.specs.PlainBooks.{ticket_of}
 use Rattle.ee_desk_acts.proofs.Lemmas.Books.{option_eq-is}
 use Rattle.ee_units.specs.Denoms.{denom_with, dollars}
-use Rattle.ee_desk_texts.specs.Ranges.{IsSerial, IsCustomer, RateRowFits, BondFits, LineFits, TicketFits, BatchFits}
+use Rattle.ee_desk_texts.specs.Ranges.{IsSerial, IsCustomer, BondFits, LineFits, TicketFits, BatchFits}
 use Rattle.ee_store_contents.specs.declared.reading.Days.{Days}
 use Rattle.ee_store_opening.specs.declared.entries.StoredDesk.{StoredDesk}
-use Rattle.ee_store_opening.specs.declared.entries.StoredRate.{StoredRate}
 use Rattle.ee_store_opening.specs.declared.entries.StoredBond.{StoredBond}
 use Rattle.ee_store_opening.specs.declared.entries.StoredTicket.{StoredTicket}
 use Rattle.ee_store_opening.specs.declared.entries.StoredLine.{StoredLine}
 use Rattle.ee_store_opening.specs.declared.entries.StoredBatch.{StoredBatch}
-use Rattle.ee_store_contents.specs.Contents.{stored_desk, stored_rate, stored_held, stored_bond, stored_ticket, stored_line, placed_lines, stored_lines, stored_batch}
-use Rattle.ee_store_contents.specs.Reading.{each, optional_in, issue_in, day_in, rate_of, customer_in, days_of, days_in, rate_in, plain_bond_in, marked_right, bond_in, line_in, line_at, lines_at, ticket_with, ticket_in, tickets_in, batch_in}
+use Rattle.ee_store_contents.specs.Contents.{stored_desk, stored_held, stored_bond, stored_ticket, stored_line, placed_lines, stored_lines, stored_batch}
+use Rattle.ee_store_contents.specs.Reading.{each, optional_in, issue_in, day_in, customer_in, days_of, days_in, plain_bond_in, marked_right, bond_in, line_in, line_at, lines_at, ticket_with, ticket_in, tickets_in, batch_in}
 
 -- ---- what may be absent
 pub some_is : {A : Type 0} (x y : A) → Some x ≡ Some y → x ≡ y
@@ -44,11 +42,11 @@ cond_is : {A : Type 0} (b : Bool) (x : A) (o : Option A) (y : A) → cond b o No
 cond_is true x o y e = (refl, e)
 cond_is false x o y e = absurd (cc)
 
-optional_read : (read : ℕ → Option ℕ) (P : ℕ → Type 0) → ((n : ℕ) → P n → read n ≡ Some n) → (o : Option ℕ) → IfSome o P → optional_in read o ≡ Some o
+pub optional_read : (read : ℕ → Option ℕ) (P : ℕ → Type 0) → ((n : ℕ) → P n → read n ≡ Some n) → (o : Option ℕ) → IfSome o P → optional_in read o ≡ Some o
 optional_read read P h None p = refl
 optional_read read P h (Some n) p = ap (option_map Some) (h n p)
 
-map_is : (o : Option ℕ) (p : Option ℕ) → option_map Some o ≡ Some p → (m : ℕ) × (o ≡ Some m) × (p ≡ Some m)
+pub map_is : (o : Option ℕ) (p : Option ℕ) → option_map Some o ≡ Some p → (m : ℕ) × (o ≡ Some m) × (p ≡ Some m)
 map_is None p e = absurd (cc)
 map_is (Some m) p e = (m, refl, sym (some_is (Some m) p e))
 
@@ -88,7 +86,7 @@ day_is n m e = (in_range-is 12904 84005 n m e).0
 customer_is : (n m : ℕ) → customer_in n ≡ Some m → n ≡ m
 customer_is n m e = (in_range-is 1 999999999 n m e).0
 
-issue_is : (n m : ℕ) → issue_in n ≡ Some m → n ≡ m
+pub issue_is : (n m : ℕ) → issue_in n ≡ Some m → n ≡ m
 issue_is n m e = (in_range-is 0 1135 n m e).0
 
 choice_is : (n k : ℕ) (d : Denom) (o : Option Denom) (found : Denom) → k ≡ dollars d → (o ≡ Some found → n ≡ dollars found) → (b : Bool) → (n == k) ≡ b
@@ -142,21 +140,6 @@ days_is (row ∷ []) days e =
     let first = and_parts (row.id == 1) (row.version == 1) open_row.0 in
     let both = days_of_is row days open_row.1 in
     λ i. record { id = eqb-true row.id 1 first.0 i; version = eqb-true row.version 1 first.1 i; day = both.0 i; last_day = both.1 i } ∷ []
-
--- ---- rates
-pub rate_read : (row : RateRow) → RateRowFits row → rate_in (stored_rate row) ≡ Some row
-unfolding rate_in
-rate_read row h =
-    bind_some (issue_in row.from) row.from _ _ (in_range_back 0 1135 row.from (omega arith) h.0)
-    (bind_some (rate_of row.rates.fixed) row.rates.fixed _ _ (in_range_back 0 2000 row.rates.fixed (omega arith) h.1) refl)
-
-pub rate_is : (row : StoredRate) (rate : RateRow) → rate_in row ≡ Some rate → row ≡ stored_rate rate
-unfolding rate_in
-rate_is row rate e =
-    let from = bind_is (issue_in row.period) _ rate e in
-    let fixed = bind_is (rate_of row.rate) _ rate from.2 in
-    let is = some_is _ rate fixed.2 in
-    (λ i. record { period = issue_is row.period from.0 from.1 i; rate = (in_range-is 0 2000 row.rate fixed.0 fixed.1).0 i }) ∙ ap stored_rate is
 
 -- ---- bonds
 plain_bond_read : (ticket : Option ℕ) (bond : Bond) → BondFits bond → plain_bond_in bond.coowner (stored_held (record { bond = bond; ticket = ticket })) ≡ Some bond

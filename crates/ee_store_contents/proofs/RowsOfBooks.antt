@@ -1,7 +1,7 @@
 -- The rows that stand for books and kept replies are those of their parts.
 use Rattle.std.proofs.Common.{◌≡◌, ℕ, ◌+◌, ◌&&◌, List, [], ◌∷◌, ◌++◌, map, refl, sym, ap, ◌∙◌, subst}
-use Rattle.std.specs.Prelude.{T, flat_map, Option, Some, None, IfSome}
-use Rattle.std.specs.List.{AllByRecursion}
+use Rattle.std.specs.Prelude.{T, flat_map, filter_map, option_map, Option, Some, None, IfSome}
+use Rattle.std.specs.List.{AllByRecursion, cons_option}
 use Rattle.std.specs.Ordering.{nat_cmp, is_lt}
 use Rattle.std.specs.Cmp.{IsTotalOrder, nat_cmp_total}
 use Rattle.std.specs.declared.cmp.Ordering.{Ordering}
@@ -11,6 +11,7 @@ use Rattle.std.specs.FinMap.Entries.{below_all}
 use Rattle.std.proofs.lemmas.List.{map-append}
 use Rattle.ee_units.specs.Spelling.{SerialNumber}
 use Rattle.ee_value.specs.declared.rates.Rates.{Rates}
+use Rattle.ee_value.specs.Chain.{named_extension}
 use Rattle.ee_calculator.specs.declared.bonds.Bond.{Bond}
 use Rattle.ee_desk_acts.specs.declared.changes.Kept.{Kept}
 use Rattle.ee_desk_acts.specs.declared.replies.Line.{Line}
@@ -37,19 +38,20 @@ use Rattle.ee_store_opening.specs.declared.entries.StoredLine.{StoredLine}
 use Rattle.ee_store_opening.specs.declared.entries.StoredBatch.{StoredBatch}
 use Rattle.ee_store_opening.specs.declared.entries.StoredReply.{StoredReply}
 use Rattle.ee_store_opening.specs.declared.whole.AllRows.{AllRows}
-use Rattle.ee_store_contents.specs.Standing.{rate_rows, bond_rows, bond_row, key_of, ticket_rows, paid_rows, paid_row, placed, batch_rows, reply_rows, reply_row, desk_rows, IsKept, IsRight, StandFor}
+use Rattle.ee_store_contents.specs.Standing.{rate_rows, extension_entry, extension_rows, bond_rows, bond_row, key_of, ticket_rows, paid_rows, paid_row, placed, batch_rows, reply_rows, reply_row, desk_rows, IsKept, IsRight, StandFor}
 use Rattle.ee_store_opening.specs.Shown.{desk_entry, rate_entry, bond_entry, ticket_entry, line_entry, batch_entry, reply_entry}
 use Rattle.ee_store_opening.specs.Whole.{AreInOrder, rows_of}
-use Rattle.ee_store_contents.specs.Contents.{stored_desk, stored_rate, stored_bond, stored_ticket, placed_lines, stored_lines, stored_batch, AreRowsOf, PartsFit, KeepsReply}
-use Rattle.ee_store_contents.specs.Reading.{each, days_in, rate_in, bond_in, tickets_in, batch_in, parts_in}
-use Rattle.ee_store_contents.proofs.Images.{pair_total, pair_same, sorted_entries}
+use Rattle.ee_store_contents.specs.Contents.{stored_desk, stored_rate, extension_row, stored_extension, stored_bond, stored_ticket, placed_lines, stored_lines, stored_batch, AreRowsOf, PartsFit, KeepsReply}
+use Rattle.ee_store_contents.specs.Reading.{each, days_in, rates_in, bond_in, tickets_in, batch_in, parts_in}
+use Rattle.ee_store_contents.proofs.Images.{pair_total, pair_same, sorted_entries, extension_entries}
 use Rattle.ee_store_contents.proofs.Orders as orders
 use Rattle.ee_store_contents.proofs.Orders.{ticket_entries, ticket_lines, paid_entries, batch_entries, rising_front, all_front}
 use Rattle.ee_store_contents.proofs.OneContent.{keyed, head_of, tail_of}
-use Rattle.ee_store_contents.proofs.ReadBack.{some_is, bind_is, bind_some, each_read, each_is, days_read, days_is, rate_read, rate_is, bond_read, bond_is, tickets_read, tickets_is, batch_read, batch_is}
+use Rattle.ee_store_contents.proofs.RatesBack.{rates_read, rates_is}
+use Rattle.ee_store_contents.proofs.ReadBack.{some_is, bind_is, bind_some, each_read, each_is, days_read, days_is, bond_read, bond_is, tickets_read, tickets_is, batch_read, batch_is}
 
 -- ---- lists
-fuse : {A B C : Type 0} (f : B → C) (g : A → B) (h : A → C) → ((x : A) → f (g x) ≡ h x) → (xs : List A) → map f (map g xs) ≡ map h xs
+pub fuse : {A B C : Type 0} (f : B → C) (g : A → B) (h : A → C) → ((x : A) → f (g x) ≡ h x) → (xs : List A) → map f (map g xs) ≡ map h xs
 fuse f g h e [] = refl
 fuse f g h e (x ∷ xs) = λ i. e x i ∷ fuse f g h e xs i
 
@@ -57,7 +59,7 @@ fuse_all : {A C : Type 0} (P : A → Type 0) (f h : A → C) → ((x : A) → P 
 fuse_all P f h e [] all = refl
 fuse_all P f h e (x ∷ xs) all = λ i. e x all.0 i ∷ fuse_all P f h e xs all.1 i
 
-undone : {A B : Type 0} (f : A → B) (g : B → A) → ((x : A) → g (f x) ≡ x) → (xs : List A) → map g (map f xs) ≡ xs
+pub undone : {A B : Type 0} (f : A → B) (g : B → A) → ((x : A) → g (f x) ≡ x) → (xs : List A) → map g (map f xs) ≡ xs
 undone f g e [] = refl
 undone f g e (x ∷ xs) = λ i. e x i ∷ undone f g e xs i
 
@@ -100,6 +102,17 @@ closed_entries books sound = batch_entries books.batches (rising_front (map day_
 -- ---- the rows of parts, as entries
 rates_as : (rates : FinMap nat_cmp Rates) → map rate_entry (map stored_rate (map row_of_entry (entries rates))) ≡ entries (rate_rows rates)
 rates_as rates = ap (map rate_entry) (fuse stored_rate row_of_entry _ (λ e. refl) (entries rates)) ∙ fuse rate_entry (λ e. stored_rate (row_of_entry e)) _ (λ e. refl) (entries rates) ∙ sym (rate_entries rates)
+
+extensions_as_entries : (es : List (ℕ × Rates)) → map rate_entry (filter_map stored_extension (map row_of_entry es)) ≡ filter_map extension_entry es
+extensions_as_entries [] = refl
+extensions_as_entries (e ∷ es) =
+    elim (named_extension e.1) as (λ o. map rate_entry (cons_option (option_map (extension_row e.0) o) (filter_map stored_extension (map row_of_entry es))) ≡ cons_option (option_map (λ (x : ℕ). (e.0, x)) o) (filter_map extension_entry es)) [
+      | None ↦ extensions_as_entries es
+      | Some x ↦ ap (λ l. (e.0, x) ∷ l) (extensions_as_entries es)
+    ]
+
+extensions_as : (rates : FinMap nat_cmp Rates) → map rate_entry (filter_map stored_extension (map row_of_entry (entries rates))) ≡ entries (extension_rows rates)
+extensions_as rates = extensions_as_entries (entries rates) ∙ sym (extension_entries rates)
 
 all_keyed : (books : PlainBooks) → IsSound books → AllByRecursion (λ e. e.1.serial ≡ e.0) (entries books.bonds)
 all_keyed books sound = all_entries serials_total serials_exact (λ s (bond : Bond). bond.serial ≡ s) books.bonds (λ s. keyed books.rates s _ (sound.bonds s))
@@ -160,6 +173,7 @@ rows_of_parts stored content order stands =
     record {
       desk = same_lists desk_entry desk_back (λ x. refl) _ _ (entries_of _ _ order.desk (ap (λ (r : Rows). r.desk) stands.are) ∙ desk_entries books.day books.last_day);
       rates = same_lists rate_entry rate_back (λ x. refl) _ _ (entries_of _ _ order.rates (ap (λ (r : Rows). r.rates) stands.are) ∙ sym (rates_as books.rates));
+      extensions = same_lists rate_entry rate_back (λ x. refl) _ _ (entries_of _ _ order.extensions (ap (λ (r : Rows). r.extensions) stands.are) ∙ sym (extensions_as books.rates));
       bonds = same_lists bond_entry bond_back (λ x. refl) _ _ (entries_of _ _ order.bonds (ap (λ (r : Rows). r.bonds) stands.are) ∙ sym (bonds_as books sound));
       tickets = same_lists ticket_entry ticket_back (λ x. refl) _ _ (entries_of _ _ order.tickets (ap (λ (r : Rows). r.tickets) stands.are) ∙ ticket_entries books.tickets sound.numbered ∙ sym (tickets_as books.tickets));
       lines = same_lists line_entry line_back (λ x. refl) _ _ (entries_of _ _ order.lines (ap (λ (r : Rows). r.paid) stands.are) ∙ paid_entries books.tickets sound.numbered ∙ sym (lines_as books.tickets));
@@ -191,12 +205,13 @@ parts_in_range content right =
     }
 
 -- ---- reading the rows of parts
-pub parts_read : (parts : Parts) (stored : AllRows) → AreRowsOf parts stored → PartsFit parts → parts_in stored ≡ Some parts
+pub parts_read : (parts : Parts) (stored : AllRows) → AreRowsOf parts stored → PartsFit parts → T (is_sorted nat_cmp (map rate_entry stored.rates.items)) → parts_in stored ≡ Some parts
 unfolding parts_in
-parts_read parts stored are fit =
+parts_read parts stored are fit rising =
     bind_some (days_in stored.desk.items) (record { day = parts.day; last_day = parts.last_day }) _ _
     (ap days_in are.desk ∙ days_read (record { day = parts.day; last_day = parts.last_day }) fit.day fit.last_day)
-    (bind_some (each rate_in stored.rates.items) parts.rates _ _ (ap (each rate_in) are.rates ∙ each_read rate_in stored_rate RateRowFits rate_read parts.rates fit.rates)
+    (bind_some (rates_in stored.rates.items stored.extensions.items) parts.rates _ _
+    ((λ i. rates_in (are.rates i) (are.extensions i)) ∙ rates_read parts.rates fit.rates (subst (λ rows. T (is_sorted nat_cmp (map rate_entry rows))) are.rates rising))
     (bind_some (tickets_in stored.tickets.items stored.lines.items) parts.tickets _ _ ((λ i. tickets_in (are.tickets i) (are.lines i)) ∙ tickets_read parts.tickets fit.tickets)
     (bind_some (each (bond_in (ticket_of parts.tickets)) stored.bonds.items) parts.bonds _ _
     (ap (each (bond_in (ticket_of parts.tickets))) are.bonds ∙ each_read (bond_in (ticket_of parts.tickets)) (stored_bond parts.tickets) BondFits (bond_read parts.tickets) parts.bonds fit.bonds)
@@ -206,14 +221,16 @@ pub parts_are : (parts : Parts) (stored : AllRows) → parts_in stored ≡ Some 
 unfolding parts_in
 parts_are parts stored e =
     let days = bind_is (days_in stored.desk.items) _ parts e in
-    let rates = bind_is (each rate_in stored.rates.items) _ parts days.2 in
+    let rates = bind_is (rates_in stored.rates.items stored.extensions.items) _ parts days.2 in
     let tickets = bind_is (tickets_in stored.tickets.items stored.lines.items) _ parts rates.2 in
     let bonds = bind_is (each (bond_in (ticket_of tickets.0)) stored.bonds.items) _ parts tickets.2 in
     let batches = bind_is (each batch_in stored.batches.items) _ parts bonds.2 in
+    let terms = rates_is stored.rates.items stored.extensions.items rates.0 rates.1 in
     let paid = tickets_is stored.tickets.items stored.lines.items tickets.0 tickets.1 in
     subst (λ p. AreRowsOf p stored) (some_is _ parts batches.2) (record {
       desk = days_is stored.desk.items days.0 days.1;
-      rates = each_is rate_in stored_rate rate_is stored.rates.items rates.0 rates.1;
+      rates = terms.0;
+      extensions = terms.1;
       bonds = each_is (bond_in (ticket_of tickets.0)) (stored_bond tickets.0) (bond_is tickets.0) stored.bonds.items bonds.0 bonds.1;
       tickets = paid.0;
       lines = paid.1;
@@ -267,6 +284,7 @@ content_stands stored books order are fit sound all =
     let rows = stored.replies.items in
     let desk = map_of (map desk_entry stored.desk.items) (desk_rows books.day books.last_day) order.desk (ap (map desk_entry) are.desk ∙ sym (desk_entries books.day books.last_day)) in
     let rates = map_of (map rate_entry stored.rates.items) (rate_rows books.rates) order.rates (ap (map rate_entry) are.rates ∙ rates_as books.rates) in
+    let extensions = map_of (map rate_entry stored.extensions.items) (extension_rows books.rates) order.extensions (ap (map rate_entry) are.extensions ∙ extensions_as books.rates) in
     let bonds = map_of (map bond_entry stored.bonds.items) (bond_rows books.bonds books.tickets) order.bonds (ap (map bond_entry) are.bonds ∙ bonds_as books sound) in
     let tickets = map_of (map ticket_entry stored.tickets.items) (ticket_rows books.tickets) order.tickets (ap (map ticket_entry) are.tickets ∙ tickets_as books.tickets ∙ sym (ticket_entries books.tickets sound.numbered)) in
     let paid = map_of (map line_entry stored.lines.items) (paid_rows books.tickets) order.lines (ap (map line_entry) are.lines ∙ lines_as books.tickets ∙ sym (paid_entries books.tickets sound.numbered)) in
@@ -276,7 +294,7 @@ content_stands stored books order are fit sound all =
       record { books = books; kept = kept_of rows all },
       refl,
       record {
-        are = λ i. record { desk = desk i; rates = rates i; bonds = bonds i; tickets = tickets i; paid = paid i; batches = batches i; replies = replies i };
+        are = λ i. record { desk = desk i; rates = rates i; bonds = bonds i; tickets = tickets i; paid = paid i; batches = batches i; replies = replies i; extensions = extensions i };
         right = record {
           sound = sound;
           in_range = record { bonds = values_fit books fit.bonds; tickets = fit.tickets; batches = fit.batches };

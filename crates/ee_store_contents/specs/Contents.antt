@@ -1,8 +1,12 @@
 -- The rows of books and of kept replies.
-use Rattle.std.specs.Prelude.{◌≡◌, ℕ, ◌+◌, List, [], ◌∷◌, map, length, flat_map, Option, IfSome, string_bytes}
+use Rattle.std.specs.Prelude.{◌≡◌, ℕ, ◌+◌, List, [], ◌∷◌, map, length, flat_map, filter_map, Option, option_map, IfSome, string_bytes}
 use Rattle.std.specs.List.{AllByRecursion}
+use Rattle.std.specs.Ordering.{nat_cmp}
+use Rattle.std.specs.FinMap.{FinMap, entries, from_entries}
 use Rattle.ee_units.specs.Denoms.{dollars}
+use Rattle.ee_value.specs.declared.rates.Rates.{Rates}
 use Rattle.ee_value.specs.declared.rates.RateRow.{RateRow}
+use Rattle.ee_value.specs.Chain.{named_extension}
 use Rattle.ee_calculator.specs.declared.bonds.Bond.{Bond}
 use Rattle.ee_desk_acts.specs.declared.changes.Held.{Held}
 use Rattle.ee_desk_acts.specs.declared.changes.Kept.{Kept}
@@ -11,6 +15,7 @@ use Rattle.ee_desk_acts.specs.declared.replies.Ticket.{Ticket}
 use Rattle.ee_desk_acts.specs.declared.replies.Batch.{Batch}
 use Rattle.ee_desk_acts.specs.Seen.{held_as}
 use Rattle.ee_desk_acts.specs.Sound.{IsDay}
+use Rattle.ee_desk_acts.specs.UnitTables.{rates_cmp}
 use Rattle.ee_desk_parts.specs.declared.parts.Parts.{Parts}
 use Rattle.ee_desk_texts.specs.Texts.{act_text, reply_text}
 use Rattle.ee_desk_texts.specs.Ranges.{RateRowFits, BondFits, TicketFits, BatchFits}
@@ -29,6 +34,14 @@ stored_desk day last_day = record { id = 1; version = 1; day = day; last_day = l
 
 abbrev pub stored_rate : RateRow → StoredRate
 stored_rate row = record { period = row.from; rate = row.rates.fixed }
+
+-- the extension of a period, in hundredths of a percent
+abbrev pub extension_row : ℕ → ℕ → StoredRate
+extension_row period extension = record { period = period; rate = extension }
+
+-- its extension, where that is another rate than the fixed one
+abbrev pub stored_extension : RateRow → Option StoredRate
+stored_extension row = option_map (extension_row row.from) (named_extension row.rates)
 
 abbrev pub stored_held : Held → StoredBond
 stored_held held = record {
@@ -66,6 +79,7 @@ stored_batch batch = record { day = batch.day; tickets = batch.tickets; bonds = 
 pub record AreRowsOf (parts : Parts) (stored : AllRows) : Type 0 where
   pub desk : stored.desk.items ≡ stored_desk parts.day parts.last_day ∷ []
   pub rates : stored.rates.items ≡ map stored_rate parts.rates
+  pub extensions : stored.extensions.items ≡ filter_map stored_extension parts.rates
   pub bonds : stored.bonds.items ≡ map (stored_bond parts.tickets) parts.bonds
   pub tickets : stored.tickets.items ≡ map stored_ticket parts.tickets
   pub lines : stored.lines.items ≡ flat_map stored_lines parts.tickets
@@ -88,3 +102,7 @@ pub record IsReplyRow (row : StoredReply) (kept : Kept) : Type 0 where
 
 abbrev pub KeepsReply : StoredReply → Type 0
 KeepsReply row = (kept : Kept) × IsReplyRow row kept
+
+-- the tables of unit values for the rates of each period: one for each pair
+abbrev pub tables_for : FinMap nat_cmp Rates → FinMap rates_cmp Rates
+tables_for rates = from_entries (map (λ e. (e.1, e.1)) (entries rates))

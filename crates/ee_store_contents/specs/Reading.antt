@@ -5,6 +5,7 @@ use Rattle.std.specs.Map.{lookup}
 use Rattle.std.specs.BTreeMap.{is_at}
 use Rattle.ee_units.specs.Spelling.{SerialNumber, in_range, serial_at, ◌>>=◌}
 use Rattle.ee_value.specs.declared.rates.RateRow.{RateRow}
+use Rattle.ee_value.specs.Chain.{rates_with}
 use Rattle.ee_calculator.specs.declared.bonds.Bond.{Bond}
 use Rattle.ee_desk_acts.specs.declared.replies.Line.{Line}
 use Rattle.ee_desk_acts.specs.declared.replies.Ticket.{Ticket}
@@ -56,11 +57,34 @@ days_in [] = None
 days_in (row ∷ []) = if (row.id == 1) && (row.version == 1) then days_of row else None
 days_in (row ∷ other ∷ rows) = None
 
-unfoldable pub rate_in : StoredRate → Option RateRow
-rate_in row = do
+-- a rate that is another than the fixed one
+abbrev pub other_rate : ℕ → ℕ → Option ℕ
+other_rate fixed hundredths = rate_of hundredths >>= λ rate. if rate == fixed then None else Some rate
+
+-- a row with its extension, which may be absent
+unfoldable pub rate_in : Option ℕ → StoredRate → Option RateRow
+rate_in extension row = do
   from ← issue_in row.period
   fixed ← rate_of row.rate
-  Some (record { from = from; rates = record { fixed = fixed } })
+  other ← optional_in (other_rate fixed) extension
+  Some (record { from = from; rates = rates_with fixed other })
+
+-- the extension of a period, which is that of the first row where that has the period
+abbrev pub extension_of : ℕ → List StoredRate → Option ℕ
+extension_of period [] = None
+extension_of period (row ∷ rows) = if row.period == period then Some row.rate else None
+
+-- the rows after it
+abbrev pub after_extension : ℕ → List StoredRate → List StoredRate
+after_extension period [] = []
+after_extension period (row ∷ rows) = if row.period == period then rows else row ∷ rows
+
+-- rates, each with its extension, so that no extension is left over
+abbrev pub rates_in : List StoredRate → List StoredRate → Option (List RateRow)
+rates_in [] [] = Some []
+rates_in [] (extension ∷ extensions) = None
+rates_in (row ∷ rows) extensions =
+    rate_in (extension_of row.period extensions) row >>= λ rate. rates_in rows (after_extension row.period extensions) >>= λ rates. Some (rate ∷ rates)
 
 unfoldable pub plain_bond_in : Option ℕ → StoredBond → Option Bond
 plain_bond_in coowner row = do
@@ -127,7 +151,7 @@ mark_at marks serial = lookup (is_at (serial_cmp serial)) marks
 unfoldable pub parts_in : AllRows → Option Parts
 parts_in stored = do
   days ← days_in stored.desk.items
-  rates ← each rate_in stored.rates.items
+  rates ← rates_in stored.rates.items stored.extensions.items
   tickets ← tickets_in stored.tickets.items stored.lines.items
   bonds ← each (bond_in (ticket_of tickets)) stored.bonds.items
   batches ← each batch_in stored.batches.items

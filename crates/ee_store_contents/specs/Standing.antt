@@ -1,5 +1,5 @@
 -- Which books and kept replies the rows of the store's tables stand for (this project's rule: version 1 of the tables).
-use Rattle.std.specs.Prelude.{◌≡◌, ◌≢◌, ℕ, ◌+◌, ◌≤◌, Option, List, [], ◌∷◌, map, length, IfSome, flat_map}
+use Rattle.std.specs.Prelude.{◌≡◌, ◌≢◌, ℕ, ◌+◌, ◌≤◌, Option, List, [], ◌∷◌, map, length, IfSome, flat_map, filter_map, option_map}
 use Rattle.std.specs.List.{AllByRecursion}
 use Rattle.std.specs.FinMap as finite
 use Rattle.std.specs.FinMap.{FinMap, entries, from_entries}
@@ -7,6 +7,7 @@ use Rattle.std.specs.Ordering.{nat_cmp}
 use Rattle.ee_units.specs.Spelling.{SerialNumber}
 use Rattle.ee_units.specs.Denoms.{dollars}
 use Rattle.ee_value.specs.declared.rates.Rates.{Rates}
+use Rattle.ee_value.specs.Chain.{named_extension}
 use Rattle.ee_calculator.specs.declared.bonds.Bond.{Bond}
 use Rattle.ee_desk_acts.specs.declared.changes.Held.{Held}
 use Rattle.ee_desk_acts.specs.declared.changes.Kept.{Kept}
@@ -32,9 +33,16 @@ use Rattle.ee_store_tables.specs.Rows.{Rows, DeskRow, BondRow, TicketRow, PaidRo
 abbrev pub desk_rows : Option ℕ → Option ℕ → FinMap nat_cmp DeskRow
 desk_rows day last_day = from_entries ((1, record { version = 1; day = day; last_day = last_day }) ∷ [])
 
--- rates in hundredths of a percent, by period
+-- fixed rates in hundredths of a percent, by period
 abbrev pub rate_rows : FinMap nat_cmp Rates → FinMap nat_cmp ℕ
 rate_rows rates = from_entries (map (λ e. (e.0, e.1.fixed)) (entries rates))
+
+-- extensions by period, only where they are other rates than the fixed ones
+abbrev pub extension_entry : ℕ × Rates → Option (ℕ × ℕ)
+extension_entry e = option_map (λ extension. (e.0, extension)) (named_extension e.1)
+
+abbrev pub extension_rows : FinMap nat_cmp Rates → FinMap nat_cmp ℕ
+extension_rows rates = from_entries (filter_map extension_entry (entries rates))
 
 abbrev pub key_of : SerialNumber → ℕ × ℕ
 key_of serial = (serial.letter, serial.number)
@@ -89,6 +97,7 @@ abbrev pub rows_of : Content → Rows
 rows_of content = record {
   desk = desk_rows content.books.day content.books.last_day;
   rates = rate_rows content.books.rates;
+  extensions = extension_rows content.books.rates;
   bonds = bond_rows content.books.bonds content.books.tickets;
   tickets = ticket_rows content.books.tickets;
   paid = paid_rows content.books.tickets;

@@ -1,21 +1,25 @@
 //! The books that the rows of a store stand for.
 
-ghost use Rattle.std.specs.Prelude.{◌≡◌, IfOk, IfErr, IfSome};
+ghost use Rattle.std.specs.Prelude.{◌≡◌, ◌↔◌, Some, IfOk, IfErr, IfSome, OnOk};
+ghost use Rattle.std.specs.List.{AllByRecursion};
 ghost use Rattle.ee_desk_acts.specs.Repeats.{Content};
 ghost use Rattle.ee_desk_parts.specs.Parts.{parts_of, AreUnsound};
+ghost use Rattle.ee_desk_parts.specs.Made.{IsMadeOf};
 ghost use Rattle.ee_store_contents.specs.Reading.{parts_in};
 ghost use Rattle.ee_store_opening.specs.Whole.{AreInOrder, rows_of};
 ghost use Rattle.ee_store_contents.specs.Standing.{StandFor};
-ghost use Rattle.ee_store_contents.specs.Contents.{PartsFit};
+ghost use Rattle.ee_store_contents.specs.Contents.{PartsFit, KeepsReply, tables_for};
 
 use crate::marks::marks_of;
 use crate::ranges::parts_fit;
-use crate::reading::{batches_in, bonds_in, days_in, rates_in};
+use crate::rates::rates_in;
+use crate::reading::{batches_in, bonds_in, days_in};
 use crate::replies::keep_replies;
 use crate::tickets::tickets_in;
+use crate::unit_tables::kept_tables;
 use ee_desk::Books;
-use ee_desk_acts::Rows;
-use ee_desk_parts::{Parts, PartsFault};
+use ee_desk_acts::{Rows, UnitTables};
+use ee_desk_parts::{Indexes, Parts, PartsFault, checked};
 use ee_store_opening::AllRows;
 use std::alloc::{AllocError, Global};
 use thiserror::Error;
@@ -51,7 +55,7 @@ fn parts_in(alloc: Global, stored: &AllRows) -> Result<Option<Parts>, AllocError
     let Some(days) = days_in(&stored.desk) else {
         return Ok(None);
     };
-    let Some(rates) = rates_in(alloc, &stored.rates)? else {
+    let Some(rates) = rates_in(alloc, &stored.rates, &stored.extensions)? else {
         return Ok(None);
     };
     let Some(tickets) = tickets_in(alloc, &stored.tickets, &stored.lines)? else {
@@ -76,6 +80,33 @@ fn parts_in(alloc: Global, stored: &AllRows) -> Result<Option<Parts>, AllocError
     Ok(Some(parts))
 }
 
+/// The parts of the books that the rows of a store stand for, where each reply is one that is kept.
+fn right_parts(alloc: Global, stored: &AllRows) -> Result<Parts, ContentFault>
+    requires { AreInOrder stored.now }
+    ensures found { IfOk result (λ parts. Some parts ≡ parts_in stored.now) }
+    ensures fits { IfOk result PartsFit }
+    ensures kept { OnOk result (AllByRecursion KeepsReply stored.now.replies.items) }
+    ensures unusable { IfErr result (λ fault. fault ≡ ContentFault.Unusable → (content : Content) → StandFor (rows_of stored.now) content → ⊥) }
+{
+    let Some(parts) = parts_in(alloc, stored)? else {
+        return Err(ContentFault::Unusable);
+    };
+    if !keep_replies(alloc, &stored.replies)? {
+        return Err(ContentFault::Unusable);
+    }
+    Ok(parts)
+}
+
+/// Parts that no sound books have are unusable.
+fn fault_of(fault: PartsFault) -> ContentFault
+    ensures { (result ≡ ContentFault.Unusable) ↔ (fault ≡ PartsFault.Unsound) }
+{
+    match fault {
+        PartsFault::Unsound => ContentFault::Unusable,
+        PartsFault::NoMemory => ContentFault::NoMemory,
+    }
+}
+
 /// The books of these parts, or `Unusable` where no sound books have them.
 fn books_of(alloc: Global, parts: Parts) -> Result<Books, ContentFault>
     ensures ok { IfOk result (λ books. parts_of books ≡ parts) }
@@ -83,10 +114,18 @@ fn books_of(alloc: Global, parts: Parts) -> Result<Books, ContentFault>
 {
     match Books::from_parts(alloc, parts) {
         Ok(books) => Ok(books),
-        Err(fault) => Err(match fault {
-            PartsFault::Unsound => ContentFault::Unusable,
-            PartsFault::NoMemory => ContentFault::NoMemory,
-        }),
+        Err(fault) => Err(fault_of(fault)),
+    }
+}
+
+/// What books in memory keep beside these parts, or `Unusable` where no sound books have them.
+fn indexes_of(alloc: Global, parts: &Parts) -> Result<Indexes, ContentFault>
+    ensures ok { IfOk result (IsMadeOf parts.now) }
+    ensures unusable { IfErr result (λ fault. fault ≡ ContentFault.Unusable → AreUnsound parts.now) }
+{
+    match checked(alloc, parts) {
+        Ok(indexes) => Ok(indexes),
+        Err(fault) => Err(fault_of(fault)),
     }
 }
 
@@ -97,12 +136,7 @@ pub fn content_of(alloc: Global, stored: &AllRows) -> Result<Books, ContentFault
     ensures ok { IfOk result (λ books. (content : Content) × (content.books ≡ books) × StandFor (rows_of stored.now) content) }
     ensures unusable { IfErr result (λ fault. fault ≡ ContentFault.Unusable → (content : Content) → StandFor (rows_of stored.now) content → ⊥) }
 {
-    let Some(parts) = parts_in(alloc, stored)? else {
-        return Err(ContentFault::Unusable);
-    };
-    if !keep_replies(alloc, &stored.replies)? {
-        return Err(ContentFault::Unusable);
-    }
+    let parts = right_parts(alloc, stored)?;
     match books_of(alloc, parts) {
         Ok(books) => {
             books.known();
@@ -110,4 +144,18 @@ pub fn content_of(alloc: Global, stored: &AllRows) -> Result<Books, ContentFault
         }
         Err(fault) => Err(fault),
     }
+}
+
+/// The tables of unit values for the rates of the books that the rows of a store stand for, where they
+/// stand for books and kept replies: one for each pair of rates, which is the one that the test of the
+/// books made. It answers `Unusable` exactly where the rows stand for none.
+pub fn tables_of(alloc: Global, stored: &AllRows) -> Result<UnitTables, ContentFault>
+    requires { AreInOrder stored.now }
+    ensures ok { IfOk result (λ tables. (content : Content) × (tables ≡ tables_for content.books.rates) × StandFor (rows_of stored.now) content) }
+    ensures unusable { IfErr result (λ fault. fault ≡ ContentFault.Unusable → (content : Content) → StandFor (rows_of stored.now) content → ⊥) }
+{
+    let parts = right_parts(alloc, stored)?;
+    let indexes = indexes_of(alloc, &parts)?;
+    let tables = kept_tables(alloc, &indexes.terms)?;
+    Ok(tables)
 }

@@ -5,9 +5,11 @@ mod contents;
 mod laws;
 mod marks;
 mod ranges;
+mod rates;
 mod reading;
 mod replies;
 mod tickets;
+mod unit_tables;
 
-pub use contents::{ContentFault, content_of};
+pub use contents::{ContentFault, content_of, tables_of};
 pub use laws::one_content;

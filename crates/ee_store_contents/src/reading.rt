@@ -8,7 +8,6 @@ ghost use Rattle.ee_store_contents.specs.Reading.{
   customer_in,
   days_of,
   days_in,
-  rate_in,
   plain_bond_in,
   bond_with,
   bond_in,
@@ -17,10 +16,9 @@ ghost use Rattle.ee_store_contents.specs.Reading.{
 };
 
 use ee_calculator::Bond;
-use ee_desk_acts::{Batch, RateRow};
-use ee_store_opening::{StoredBatch, StoredBond, StoredDesk, StoredRate};
-use ee_units::{Cents, Customer, Day, Denom, IssueMonth, Rate, Serial};
-use ee_value::Rates;
+use ee_desk_acts::Batch;
+use ee_store_opening::{StoredBatch, StoredBond, StoredDesk};
+use ee_units::{Cents, Customer, Day, Denom, IssueMonth, Serial};
 use std::alloc::{AllocError, Global};
 use std::collections::BTreeMap;
 
@@ -79,32 +77,6 @@ pub fn days_in(rows: &[StoredDesk]) -> Option<Days>
     } else {
         None
     }
-}
-
-#[tactic(auto, unfolding(crate::specs::Reading::rate_in))]
-fn rate_in(row: &StoredRate) -> Option<RateRow>
-    ensures { result ≡ rate_in row.now }
-{
-    let from = IssueMonth::new(row.period)?;
-    let fixed = Rate::new(row.rate)?;
-    Some(RateRow {
-        from,
-        rates: Rates { fixed },
-    })
-}
-
-/// The rates of rows.
-pub fn rates_in(alloc: Global, rows: &[StoredRate]) -> Result<Option<Vec<RateRow>>, AllocError>
-    ensures { IfOk result (λ o. option_map (λ v. v.items) o ≡ each rate_in rows.now) }
-{
-    let mut rates = Vec::new(alloc);
-    for row in rows {
-        let Some(rate) = rate_in(row) else {
-            return Ok(None);
-        };
-        rates.push(rate)?;
-    }
-    Ok(Some(rates))
 }
 
 #[tactic(auto, unfolding(crate::specs::Reading::plain_bond_in))]

@@ -1,7 +1,7 @@
 -- Rows change as the books change.
 use Rattle.std.proofs.Common.{◌≡◌, ℕ, suc, ◌+◌, ◌<◌, ◌≤◌, eqb, Bool, true, false, cond, ◌||◌, List, [], ◌∷◌, ◌++◌, map, length, arith, refl, sym, ap, ◌∙◌, append-nil, append_assoc, Equal}
 use Rattle.std.specs.Prelude.{flat_map, Option, Some, None}
-use Rattle.std.specs.Option.{option_map, option_or}
+use Rattle.std.specs.Option.{option_map, option_and_then, option_or}
 use Rattle.std.specs.List.{AllByRecursion, list_any}
 use Rattle.std.specs.Ordering.{nat_cmp, eq_by_cmp}
 use Rattle.std.specs.declared.cmp.Ordering.{Ordering}
@@ -12,6 +12,7 @@ use Rattle.std.specs.FinMap as finite
 use Rattle.std.specs.FinMap.{FinMap, nat_cmp-IsAntisymmetric, find, insert, from_entries, get-insert, get-from_entries, from_entries_push, same_map}
 use Rattle.ee_units.specs.Spelling.{SerialNumber}
 use Rattle.ee_value.specs.declared.rates.Rates.{Rates}
+use Rattle.ee_value.specs.Chain.{named_extension}
 use Rattle.ee_calculator.specs.declared.bonds.Bond.{Bond}
 use Rattle.ee_desk_acts.specs.declared.changes.Kept.{Kept}
 use Rattle.ee_desk_acts.specs.declared.replies.Line.{Line}
@@ -24,12 +25,13 @@ use Rattle.ee_desk_acts.specs.Seen.{held_as}
 use Rattle.ee_desk_acts.specs.Sound.{NumberedFrom, day_of_batch}
 use Rattle.ee_desk_acts.proofs.Lemmas.Maps.{serials_total, serials_exact, serials_tied, numbers_total}
 use Rattle.ee_desk_acts.proofs.Lemmas.Books.{ticket_of_push, named_unpaid}
+use Rattle.std.proofs.lemmas.Map.Lookups.{exact_unsigned}
 use Rattle.std.proofs.lemmas.Map.Views.{tells_apart}
 use Rattle.ee_store_tables.proofs.Lemmas.Rows.{pair_total, pair_same}
-use Rattle.ee_store_contents.proofs.Lemmas.{get_rate_row, get_reply_row, get_bond_row, ticket_entry, ticket_lines, batch_entry}
+use Rattle.ee_store_contents.proofs.Lemmas.{get_rate_row, get_extension_row, get_reply_row, get_bond_row, ticket_entry, ticket_lines, batch_entry}
 use Rattle.ee_store_tables.specs.Keyed.{pair_cmp}
 use Rattle.ee_store_tables.specs.Rows.{Rows, BondRow, PaidRow, DeskRow, with_lines, marked_as}
-use Rattle.ee_store_contents.specs.Standing.{rate_rows, bond_rows, bond_row, key_of, ticket_rows, ticket_row, paid_rows, paid_row, placed, batch_rows, batch_row, reply_rows, reply_row, desk_rows}
+use Rattle.ee_store_contents.specs.Standing.{rate_rows, extension_rows, bond_rows, bond_row, key_of, ticket_rows, ticket_row, paid_rows, paid_row, placed, batch_rows, batch_row, reply_rows, reply_row, desk_rows}
 
 -- ---- rates
 rate_case : (b : Bool) (r : Rates) (o : Option Rates) → option_map (λ (r : Rates). r.fixed) (cond b (Some r) o) ≡ cond b (Some r.fixed) (option_map (λ r. r.fixed) o)
@@ -42,6 +44,34 @@ with_new_rate rates from r = same_map nat_cmp_total nat_cmp-IsAntisymmetric _ _ 
     ∙ rate_case (eq_by_cmp nat_cmp q from) r (finite.get rates q)
     ∙ ap (cond (eq_by_cmp nat_cmp q from) (Some r.fixed)) (sym (get_rate_row rates q))
     ∙ sym (get-insert nat_cmp_total (rate_rows rates) from r.fixed q))
+
+-- ---- extensions
+-- where none is named, under a period that had no terms
+extension_none : (b : Bool) (r : Rates) (o : Option Rates) → named_extension r ≡ None → (b ≡ true → o ≡ None)
+    → option_and_then named_extension (cond b (Some r) o) ≡ option_and_then named_extension o
+extension_none true r o same none = same ∙ ap (option_and_then named_extension) (sym (none refl))
+extension_none false r o same none = refl
+
+pub with_no_extension : (rates : FinMap nat_cmp Rates) (from : ℕ) (r : Rates) → finite.get rates from ≡ None → named_extension r ≡ None
+    → extension_rows (insert rates from r) ≡ extension_rows rates
+with_no_extension rates from r none same = same_map nat_cmp_total nat_cmp-IsAntisymmetric _ _ (λ q.
+    get_extension_row (insert rates from r) q ∙ ap (option_and_then named_extension) (get-insert nat_cmp_total rates from r q)
+    ∙ extension_none (eq_by_cmp nat_cmp q from) r (finite.get rates q) same (λ is. ap (finite.get rates) (tells_apart exact_unsigned q from is) ∙ none)
+    ∙ sym (get_extension_row rates q))
+
+-- where one is named
+extension_some : (b : Bool) (r : Rates) (e : ℕ) (o : Option Rates) → named_extension r ≡ Some e
+    → option_and_then named_extension (cond b (Some r) o) ≡ cond b (Some e) (option_and_then named_extension o)
+extension_some true r e o is = is
+extension_some false r e o is = refl
+
+pub with_new_extension : (rates : FinMap nat_cmp Rates) (from : ℕ) (r : Rates) (e : ℕ) → named_extension r ≡ Some e
+    → extension_rows (insert rates from r) ≡ insert (extension_rows rates) from e
+with_new_extension rates from r e is = same_map nat_cmp_total nat_cmp-IsAntisymmetric _ _ (λ q.
+    get_extension_row (insert rates from r) q ∙ ap (option_and_then named_extension) (get-insert nat_cmp_total rates from r q)
+    ∙ extension_some (eq_by_cmp nat_cmp q from) r e (finite.get rates q) is
+    ∙ ap (cond (eq_by_cmp nat_cmp q from) (Some e)) (sym (get_extension_row rates q))
+    ∙ sym (get-insert nat_cmp_total (extension_rows rates) from e q))
 
 -- ---- replies
 reply_case : (b : Bool) (k : Kept) (o : Option Kept) → option_map reply_row (cond b (Some k) o) ≡ cond b (Some (reply_row k)) (option_map reply_row o)

@@ -21,6 +21,7 @@ use Rattle.ee_desk_acts.specs.declared.acts.Act.{Act}
 use Rattle.ee_desk_acts.specs.declared.acts.Act.TheVariants.{AddRates, AddBonds, OpenDay, Redeem, CloseDay}
 use Rattle.ee_desk_acts.specs.declared.refusals.Refusal.{Refusal}
 use Rattle.ee_desk_acts.specs.declared.refusals.Refusal.TheVariants.{Empty, TooMany}
+use Rattle.ee_value.specs.Chain.{named_extension}
 use Rattle.ee_desk_acts.specs.declared.changes.Change.{Change}
 use Rattle.ee_desk_acts.specs.declared.changes.Change.TheVariants as change
 use Rattle.ee_desk_acts.specs.declared.changes.Effects.{Effects}
@@ -45,11 +46,11 @@ use Rattle.ee_desk.proofs.Lemmas.{decided_are_applicable}
 use Rattle.ee_desk_texts.specs.Ranges.{ActFits}
 use Rattle.ee_store_tables.specs.AsRows.{Fits}
 use Rattle.ee_store_tables.specs.Keyed.{pair_cmp}
-use Rattle.ee_store_tables.specs.Rows.{Rows, DeskRow, BondRow, PaidRow, day_set, marked_as, with_batch, with_ticket, with_paid, with_line, with_lines, IsUnpaid, CanPayAll}
+use Rattle.ee_store_tables.specs.Rows.{Rows, DeskRow, BondRow, PaidRow, day_set, marked_as, with_batch, with_ticket, with_paid, with_line, with_lines, IsUnpaid, CanPayAll, with_rate}
 use Rattle.ee_store_tables.proofs.Lemmas.Rows.{pair_total, pair_same}
 use Rattle.ee_store_contents.specs.Standing.{rows_of, key_of, ticket_row, paid_row, placed, batch_row, IsRight}
 use Rattle.ee_store_contents.proofs.Lemmas.{ticket_entry, ticket_lines, batch_entry, paid_entries}
-use Rattle.ee_store_delivery.specs.Written.{changed_rows, applied_rows, CanPayTicket, CanClose, CanWriteAll, all_added_rows}
+use Rattle.ee_store_delivery.specs.Written.{with_named, changed_rows, applied_rows, CanPayTicket, CanClose, CanWriteAll, all_added_rows}
 use Rattle.ee_store_delivery.proofs.Delivered.{changes_fit}
 
 -- ---- lists
@@ -334,8 +335,12 @@ lines_stay rows n place (line ∷ lines) =
     lines_stay (with_line rows n place line) n (place + 1) lines
     ∙ mark_stays (with_paid rows (n, place) line) (line.letter, line.number) n (finite.get rows.bonds (line.letter, line.number))
 
+named_stays : (rows : Rows) (from : ℕ) (extension : Option ℕ) → (with_named rows from extension).replies ≡ rows.replies
+named_stays rows from None = refl
+named_stays rows from (Some extension) = refl
+
 change_stays : (last : Option ℕ) (rows : Rows) (c : Change) → (changed_rows last rows c).replies ≡ rows.replies
-change_stays last rows (change.Rates from rates) = refl
+change_stays last rows (change.Rates from rates) = named_stays (with_rate rows (from, rates.fixed)) from (named_extension rates)
 change_stays last rows (change.Bond bond) = refl
 change_stays last rows (change.Day day) = day_stays rows (Some day) last (finite.get rows.desk 1)
 change_stays last rows (change.Ticket ticket) = lines_stay (with_ticket rows ticket.ticket (ticket_row ticket)) ticket.ticket 1 (map paid_row ticket.lines)

@@ -1,7 +1,7 @@
 -- The rows that a delivery writes are those of the content after it.
 use Rattle.std.proofs.Common.{◌≡◌, ℕ, suc, ◌+◌, List, [], ◌∷◌, ◌++◌, map, length, arith, refl, sym, ap, ◌∙◌, subst, append-nil}
 use Rattle.std.specs.Prelude.{Option, Some, None}
-use Rattle.std.specs.Option.{option_map}
+use Rattle.std.specs.Option.{option_map, option_and_then}
 use Rattle.std.specs.Ordering.{nat_cmp}
 use Rattle.ee_units.specs.Spelling.{SerialNumber}
 use Rattle.ee_desk_acts.specs.Serials.{serial_cmp}
@@ -9,6 +9,7 @@ use Rattle.std.specs.declared.cmp.Ordering.{Ordering}
 use Rattle.std.specs.FinMap as finite
 use Rattle.std.specs.FinMap.{FinMap, insert}
 use Rattle.ee_value.specs.declared.rates.Rates.{Rates}
+use Rattle.ee_value.specs.Chain.{named_extension}
 use Rattle.ee_calculator.specs.declared.bonds.Bond.{Bond}
 use Rattle.ee_desk_acts.specs.Seen.{held_as}
 use Rattle.std.specs.List.{AllByRecursion}
@@ -24,14 +25,14 @@ use Rattle.ee_desk_acts.specs.Sound.{IsSound, NumberedFrom, day_of_batch}
 use Rattle.ee_desk_acts.specs.Lists.{Rising}
 use Rattle.ee_desk_acts.specs.Repeats.{Content}
 use Rattle.ee_desk_acts.proofs.Lemmas.Maps.{rising_below}
-use Rattle.ee_store_contents.proofs.Lemmas.{get_rate_row, get_bond_row, get_desk_row}
+use Rattle.ee_store_contents.proofs.Lemmas.{get_rate_row, get_extension_row, get_bond_row, get_desk_row}
 use Rattle.ee_desk.specs.Added as added
 use Rattle.ee_desk.specs.Added.{AreNew}
 use Rattle.ee_desk.specs.Applicable.{IsRate, IsBond, IsUnpaid, AreApplicable}
-use Rattle.ee_store_tables.specs.Rows.{Rows, DeskRow, insert_new, day_set, with_batch, with_ticket}
-use Rattle.ee_store_contents.specs.Standing.{rate_rows, bond_rows, bond_row, key_of, ticket_row, batch_row, desk_rows, rows_of}
-use Rattle.ee_store_delivery.specs.Written.{applied_rows}
-use Rattle.ee_store_delivery.proofs.Changes.{with_new_rate, with_new_bond, with_other_days, with_new_ticket, with_new_lines, with_new_marks, with_new_batch, lines_parts}
+use Rattle.ee_store_tables.specs.Rows.{Rows, DeskRow, insert_new, day_set, with_rate, with_batch, with_ticket}
+use Rattle.ee_store_contents.specs.Standing.{rate_rows, extension_rows, bond_rows, bond_row, key_of, ticket_row, batch_row, desk_rows, rows_of}
+use Rattle.ee_store_delivery.specs.Written.{with_named, applied_rows}
+use Rattle.ee_store_delivery.proofs.Changes.{with_new_rate, with_no_extension, with_new_extension, with_new_bond, with_other_days, with_new_ticket, with_new_lines, with_new_marks, with_new_batch, lines_parts}
 
 abbrev pub with_books : Content → PlainBooks → Content
 with_books S books = record { books = books; kept = S.kept }
@@ -51,11 +52,24 @@ rate_written : (rates : FinMap nat_cmp Rates) (from : ℕ) (r : Rates) → finit
     → rate_rows (insert rates from r) ≡ insert_new (rate_rows rates) from r.fixed (finite.get (rate_rows rates) from)
 rate_written rates from r none = with_new_rate rates from r ∙ put_new (rate_rows rates) from r.fixed _ (no_rate rates from none)
 
+no_extension : (rates : FinMap nat_cmp Rates) (from : ℕ) → finite.get rates from ≡ None → finite.get (extension_rows rates) from ≡ None
+no_extension rates from none = get_extension_row rates from ∙ ap (option_and_then named_extension) none
+
+-- the rows of the books with the terms of a period that had none
+terms_written : (rows : Rows) (rates : FinMap nat_cmp Rates) (from : ℕ) (r : Rates) (o : Option ℕ) → named_extension r ≡ o → finite.get rates from ≡ None
+    → record rows { rates = rate_rows (insert rates from r); extensions = extension_rows (insert rates from r) }
+    ≡ with_named (with_rate (record rows { rates = rate_rows rates; extensions = extension_rows rates }) (from, r.fixed)) from o
+terms_written rows rates from r None is none = λ i. record rows { rates = rate_written rates from r none i; extensions = with_no_extension rates from r none is i }
+terms_written rows rates from r (Some e) is none = λ i. record rows {
+  rates = rate_written rates from r none i;
+  extensions = (with_new_extension rates from r e is ∙ put_new (extension_rows rates) from e _ (no_extension rates from none)) i;
+}
+
 rates_written : (S : Content) (cs : List Change) → AllByRecursion IsRate cs → AreNew added.rate_row S.books.rates cs → IsWritten S cs
 rates_written S [] h new = refl
 rates_written S (change.Rates from rates ∷ cs) h new =
     rates_written (with_books S (changed S.books (change.Rates from rates))) cs h.1 new.1
-    ∙ ap (λ rows. applied_rows S.books.last_day rows cs) (λ i. record (rows_of S) { rates = rate_written S.books.rates from rates new.0 i })
+    ∙ ap (λ rows. applied_rows S.books.last_day rows cs) (terms_written (rows_of S) S.books.rates from rates _ refl new.0)
 rates_written S (change.Bond bond ∷ cs) h new = absurd h.0
 rates_written S (change.Day day ∷ cs) h new = absurd h.0
 rates_written S (change.Ticket ticket ∷ cs) h new = absurd h.0

@@ -2,17 +2,23 @@
 use Rattle.std.specs.Prelude.{◌≡◌, ◌≤◌, ⊤, ℕ, ◌+◌, List, [], ◌∷◌, map, length, Option, Some, None, IfSome}
 use Rattle.std.specs.List.{AllByRecursion}
 use Rattle.std.specs.FinMap.{get}
+use Rattle.ee_value.specs.Chain.{named_extension}
 use Rattle.ee_desk_acts.specs.declared.changes.Change.{Change}
 use Rattle.ee_desk_acts.specs.declared.changes.Change.TheVariants as change
 use Rattle.ee_desk_acts.specs.declared.replies.Ticket.{Ticket}
 use Rattle.ee_desk_acts.specs.declared.replies.Batch.{Batch}
 use Rattle.ee_store_tables.specs.AsRows.{Fits}
-use Rattle.ee_store_tables.specs.Rows.{Rows, with_rate, with_bond, with_day, with_batch, with_ticket, with_lines, CanPayAll}
+use Rattle.ee_store_tables.specs.Rows.{Rows, with_rate, with_extension, with_bond, with_day, with_batch, with_ticket, with_lines, CanPayAll}
 use Rattle.ee_store_contents.specs.Standing.{key_of, bond_row, ticket_row, paid_row, batch_row}
+
+-- the rows with the extension of a period, where one is named
+abbrev pub with_named : Rows → ℕ → Option ℕ → Rows
+with_named rows from None = rows
+with_named rows from (Some extension) = with_extension rows (from, extension)
 
 -- the rows after one change, where this is the last closed day
 abbrev pub changed_rows : Option ℕ → Rows → Change → Rows
-changed_rows last_day rows (change.Rates from rates) = with_rate rows (from, rates.fixed)
+changed_rows last_day rows (change.Rates from rates) = with_named (with_rate rows (from, rates.fixed)) from (named_extension rates)
 changed_rows last_day rows (change.Bond bond) = with_bond rows (key_of bond.serial, bond_row (record { bond = bond; ticket = None }))
 changed_rows last_day rows (change.Day day) = with_day rows (Some day) last_day
 changed_rows last_day rows (change.Ticket ticket) = with_lines (with_ticket rows ticket.ticket (ticket_row ticket)) ticket.ticket 1 (map paid_row ticket.lines)

@@ -4,21 +4,46 @@ ghost use Rattle.std.specs.Prelude.{◌≡◌, IfSome, length, Some, None};
 ghost use Rattle.sqlite.specs.Held.{state};
 ghost use Rattle.ee_store_tables.specs.AsRows.{Fits};
 ghost use Rattle.ee_store_tables.specs.Rows.{HasRoom};
-ghost use Rattle.ee_store_tables.specs.Statements.{LeavesOpen, StaysOpen, StaysInside, CommitsNothing, LeavesNoMore, Makes, FailsByCause};
+ghost use Rattle.ee_store_tables.specs.Statements.{LeavesOpen, StaysOpen, StaysInside, CommitsNothing, LeavesNoMore, Makes, FailsByCause, KeepsRoom};
 ghost use Rattle.ee_store_delivery.specs.Causes.{LeavesRoom};
-ghost use Rattle.ee_store_delivery.specs.Written.{changed_rows, applied_rows, CanPayTicket, CanClose, CanWrite, CanWriteAll, added_rows, all_added_rows};
+ghost use Rattle.ee_store_delivery.specs.Written.{with_named, changed_rows, applied_rows, CanPayTicket, CanClose, CanWrite, CanWriteAll, added_rows, all_added_rows};
 
 use crate::to_rows::{batch_row, bond_row, line_rows, ticket_row, whole, whole_option};
 use ee_calculator::Bond;
 use ee_desk_acts::{Batch, Change, Terms, Ticket};
 use ee_store_tables::{
-    Failure, RateRow, add_batch, add_bond, add_rate, add_ticket, pay_lines, set_day,
+    Failure, RateRow, add_batch, add_bond, add_extension, add_rate, add_ticket, pay_lines, set_day,
 };
-use ee_units::{Day, IssueMonth};
+use ee_units::{Day, IssueMonth, Rate};
 use sqlite::{Alter, Transaction};
 use std::alloc::Global;
 
-/// Writes the terms of a period.
+/// Writes the extension of a period, where one is named.
+fn write_extension<S: Alter>(
+    tx: &mut Transaction<'_, S>,
+    period: u64,
+    extension: Option<Rate>,
+) -> Result<(), Failure>
+    requires { Fits period }
+    ensures same_reference { tx.new.conn.ghost_name ≡ tx.old.conn.ghost_name }
+    ensures open { StaysOpen (state S.Store tx.old.conn.now) (state S.Store tx.new.conn.now) result }
+    ensures inside { StaysInside (state S.Store tx.old.conn.now) (state S.Store tx.new.conn.now) result }
+    ensures written { Makes (state S.Store tx.old.conn.now) (state S.Store tx.new.conn.now) result (λ rows. with_named rows period extension) }
+    ensures commit { CommitsNothing (state S.Store tx.old.conn.now) (state S.Store tx.new.conn.now) }
+    ensures crash { LeavesNoMore (state S.Store tx.old.conn.now) (state S.Store tx.new.conn.now) }
+    ensures room { KeepsRoom (state S.Store tx.old.conn.now) (state S.Store tx.new.conn.now) result }
+    ensures cause { FailsByCause (state S.Store tx.old.conn.now) (state S.Store tx.new.conn.now) result (λ _. HasRoom 0 (state S.Store tx.old.conn.now)) }
+{
+    match extension {
+        None => Ok(()),
+        Some(extension) => {
+            let rate = extension.hundredths() as u64;
+            add_extension(tx, RateRow { period, rate })
+        }
+    }
+}
+
+/// Writes the terms of a period: its fixed rate, and its extension where one is named.
 fn write_terms<S: Alter>(
     tx: &mut Transaction<'_, S>,
     from: IssueMonth,
@@ -35,12 +60,13 @@ fn write_terms<S: Alter>(
     ensures cause { FailsByCause (state S.Store tx.old.conn.now) (state S.Store tx.new.conn.now) result (λ _. HasRoom 0 (state S.Store tx.old.conn.now)) }
 {
     let rates = terms.rates();
+    let period = from.count() as u64;
     let row = RateRow {
-        period: from.count() as u64,
+        period,
         rate: rates.fixed.hundredths() as u64,
     };
     add_rate(tx, row)?;
-    Ok(())
+    write_extension(tx, period, rates.named_extension())
 }
 
 /// Writes a new bond.

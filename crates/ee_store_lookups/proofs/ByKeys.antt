@@ -1,7 +1,7 @@
 -- What is found by keys is what an act sees of the books.
 use Rattle.std.proofs.Common.{◌≡◌, ℕ, ◌+◌, ◌<◌, List, [], ◌∷◌, length, take, get_or, Option, Some, None, refl, sym, ap, ◌∙◌}
 use Rattle.std.specs.Prelude.{IfSome, Result, Ok, Err, OnOk}
-use Rattle.std.specs.Option.{option_map, option_map_or, unwrap_or}
+use Rattle.std.specs.Option.{option_map, option_and_then, option_map_or, unwrap_or}
 use Rattle.std.specs.declared.cmp.Ordering.{Ordering}
 use Rattle.std.specs.Cmp.{IsTotalOrder}
 use Rattle.std.specs.List.{filter_map, cons_option, AllByRecursion}
@@ -21,7 +21,9 @@ use Rattle.ee_desk_texts.specs.Ranges.{BondFits}
 use Rattle.ee_store_contents.specs.Standing.{rows_of, bond_row, key_of, IsRight}
 use Rattle.ee_store_lookups.specs.Found.{with_found}
 use Rattle.ee_value.specs.declared.rates.Rates.{Rates}
-use Rattle.ee_store_contents.proofs.Lemmas.{get_bond_row, get_rate_row, same_denom}
+use Rattle.ee_value.specs.Chain.{rates_with, named_extension}
+use Rattle.ee_value.proofs.Lemmas.{rates-back}
+use Rattle.ee_store_contents.proofs.Lemmas.{get_bond_row, same_denom}
 
 -- one more key of those picked
 found_case : {K V : Type 0} {R : K → K → Ordering} (found : FinMap R V) (k : K) (v : Option V) → option_map_or (λ value. finite.insert found k value) v found ≡ with_found found k v
@@ -69,15 +71,14 @@ pub always : {X E Q : Type 0} (r : Result X E) → Q → OnOk r Q
 always (Ok x) q = q
 always (Err e) q = tt
 
--- rates that their row shows
-pub rates_found : (S : Content) (period : ℕ) (o : Option Rates) → option_map (λ rates. rates.fixed) o ≡ finite.get (rows_of S).rates period → o ≡ finite.get S.books.rates period
-rates_found S period o e = one o (finite.get S.books.rates period) (e ∙ get_rate_row S.books.rates period)
+-- rates that their rows show
+pub rates_found : (o : Option Rates) (fixed extension : Option ℕ) → fixed ≡ option_map (λ rates. rates.fixed) o → extension ≡ option_and_then named_extension o
+    → option_map (λ fixed. rates_with fixed extension) fixed ≡ o
+rates_found o fixed extension one other = (λ i. option_map (λ fixed. rates_with fixed (other i)) (one i)) ∙ both o
   where
-    one : (o p : Option Rates) → option_map (λ rates. rates.fixed) o ≡ option_map (λ rates. rates.fixed) p → o ≡ p
-    one None None e = refl
-    one None (Some y) e = absurd (cc)
-    one (Some x) None e = absurd (cc)
-    one (Some x) (Some y) e = λ i. Some (record { fixed = unwrap_or (e i) x.fixed })
+    both : (o : Option Rates) → option_map (λ fixed. rates_with fixed (option_and_then named_extension o)) (option_map (λ (rates : Rates). rates.fixed) o) ≡ o
+    both None = refl
+    both (Some rates) = ap Some (rates-back rates)
 
 -- what is found alike in each place
 pub same_found : {A B : Type 0} (f g : A → Option B) (xs : List A) → AllByRecursion (λ x. f x ≡ g x) xs → filter_map f xs ≡ filter_map g xs

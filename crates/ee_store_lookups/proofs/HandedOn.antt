@@ -1,12 +1,13 @@
 -- Errors that are handed on, and rates that can be read.
-use Rattle.std.proofs.Common.{◌≡◌, ℕ, ◌≤◌, Option, Some, None, Result, Ok, Err, IfErr, IsErrAnd, sym, ap, subst}
+use Rattle.std.proofs.Common.{◌≡◌, ℕ, Option, Some, None, Result, Ok, Err, IfErr, IsErrAnd, sym, subst}
 use Rattle.std.proofs.lemmas.Result.{IfErr-weaker}
 use Rattle.std.specs.Prelude.{IfSome}
-use Rattle.std.specs.Option.{option_map, unwrap_or}
+use Rattle.std.specs.Option.{option_map, option_and_then}
 use Rattle.std.specs.FinMap as finite
 use Rattle.sqlite.specs.State.{State}
 use Rattle.ee_value.specs.declared.rates.Rates.{Rates}
-use Rattle.ee_value.specs.Chain.{InRange}
+use Rattle.ee_value.specs.Chain.{InRange, rates_with, named_extension}
+use Rattle.ee_value.proofs.Lemmas.{rates-back}
 use Rattle.ee_desk_acts.specs.Repeats.{Content}
 use Rattle.ee_desk_acts.specs.Sound.{IsRightRate}
 use Rattle.ee_desk_acts.specs.Values.{unsettled}
@@ -41,9 +42,15 @@ pub rates_right : (S : Content) (period : ℕ) → IsRight S → IfSome (finite.
 rates_right S period right = right_rate period (finite.get S.books.rates period) (right.sound.rates period)
 
 -- what was found are such rates
-pub rates_read : (found : ℕ) (terms : Option Rates) → Some found ≡ option_map (λ rates. rates.fixed) terms → IfSome terms (λ rates. InRange rates × (unsettled rates ≡ None))
-    → (found ≤ 2000) × (unsettled (record { fixed = found }) ≡ None)
-rates_read found None is h = absurd (cc)
-rates_read found (Some rates) is h =
-    let same : rates.fixed ≡ found = sym (ap (λ o. unwrap_or o found) is) in
-    subst (λ n. (n ≤ 2000) × (unsettled (record { fixed = n }) ≡ None)) same h
+pub rates_read : (terms : Option Rates) (fixed extension : Option ℕ) → fixed ≡ option_map (λ rates. rates.fixed) terms → extension ≡ option_and_then named_extension terms
+    → IfSome terms (λ rates. InRange rates × (unsettled rates ≡ None))
+    → IfSome fixed (λ fixed. InRange (rates_with fixed extension) × (unsettled (rates_with fixed extension) ≡ None))
+rates_read terms fixed extension one other h = subst
+    (λ (shown : Option ℕ × Option ℕ). IfSome shown.0 (λ fixed. InRange (rates_with fixed shown.1) × (unsettled (rates_with fixed shown.1) ≡ None)))
+    (λ i. (sym one i, sym other i)) (both terms h)
+  where
+    both : (terms : Option Rates) → IfSome terms (λ rates. InRange rates × (unsettled rates ≡ None))
+        → IfSome (option_map (λ (rates : Rates). rates.fixed) terms)
+        (λ fixed. InRange (rates_with fixed (option_and_then named_extension terms)) × (unsettled (rates_with fixed (option_and_then named_extension terms)) ≡ None))
+    both None h = tt
+    both (Some rates) h = subst (λ r. InRange r × (unsettled r ≡ None)) (sym (rates-back rates)) h

@@ -1,11 +1,10 @@
 //! The terms of periods, read in a transaction.
 
-ghost use Rattle.std.specs.Prelude.{◌≡◌, Option, None, IfSome, IfOk, IfErr, OnOk, ⊤};
-ghost use Rattle.std.specs.Option.{option_map};
+ghost use Rattle.std.specs.Prelude.{◌≡◌, ◌≤◌, None, IfSome, IfOk, IfErr, OnOk, option_map, option_and_then, ⊤};
+ghost use Rattle.std.specs.Result.{IsOk};
 ghost use Rattle.std.specs.FinMap as finite;
 ghost use Rattle.sqlite.specs.Held.{state};
-ghost use Rattle.ee_value.specs.declared.rates.Rates.{Rates};
-ghost use Rattle.ee_value.specs.Chain.{InRange};
+ghost use Rattle.ee_value.specs.Chain.{InRange, rates_with, named_extension};
 ghost use Rattle.ee_desk_acts.specs.Values.{unsettled};
 ghost use Rattle.ee_desk_acts.specs.Views.{picked};
 ghost use Rattle.ee_store_lookups.specs.Causes.{FailsByCause};
@@ -13,7 +12,7 @@ ghost use Rattle.ee_store_lookups.specs.Found.{terms_found, with_found};
 ghost use Rattle.ee_store_lookups.specs.Seen.{FindsIn, OnlyReads};
 
 use ee_desk_acts::{Terms, UnitTables};
-use ee_store_tables::{Failure, find_rate};
+use ee_store_tables::{Failure, find_extension, find_rate};
 use ee_units::{IssueMonth, Rate};
 use ee_value::{Rates, ValueFault};
 use sqlite::{Alter, Transaction};
@@ -32,22 +31,64 @@ fn terms_of(alloc: Global, tables: &mut UnitTables, rates: Rates) -> Result<Term
     }
 }
 
-/// The terms that a look-up showed.
+/// The fixed rate of a period, in hundredths of a percent, and its extension where one is named.
+fn find_rates<S: Alter>(
+    tx: &mut Transaction<'_, S>,
+    period: IssueMonth,
+) -> Result<(Option<u64>, Option<u64>), Failure>
+    ensures same_reference { tx.new.conn.ghost_name ≡ tx.old.conn.ghost_name }
+    ensures only_reads { OnlyReads (state S.Store tx.old.conn.now) (state S.Store tx.new.conn.now) result }
+    ensures found { FindsIn (state S.Store tx.old.conn.now) (state S.Store tx.new.conn.now) result
+        (λ content found. (found.0 ≡ option_map (λ rates. rates.fixed) (finite.get content.books.rates period))
+        × (found.1 ≡ option_and_then named_extension (finite.get content.books.rates period))) }
+    ensures cause { FailsByCause (state S.Store tx.old.conn.now) (state S.Store tx.new.conn.now) result (λ _. ⊤) }
+{
+    let key = period.count() as u64;
+    let fixed = find_rate(tx, key)?;
+    let extension = find_extension(tx, key)?;
+    Ok((fixed, extension))
+}
+
+/// A rate that a row showed, in hundredths of a percent.
+fn rate_shown(hundredths: u64) -> Result<Rate, Failure>
+    ensures value { IfOk result (λ rate. rate ≡ hundredths) }
+    ensures read { hundredths ≤ 2000 → IsOk result }
+{
+    match Rate::new(hundredths) {
+        Some(rate) => Ok(rate),
+        None => Err(Failure::StoreFailed),
+    }
+}
+
+/// The rates that rows showed.
+fn rates_shown(fixed: u64, extension: Option<u64>) -> Result<Rates, Failure>
+    ensures value { IfOk result (λ rates. rates ≡ rates_with fixed extension) }
+    ensures read { InRange (rates_with fixed extension) → IsOk result }
+{
+    let fixed = rate_shown(fixed)?;
+    match extension {
+        None => Ok(Rates::new(fixed, None)),
+        Some(extension) => Ok(Rates::new(fixed, Some(rate_shown(extension)?))),
+    }
+}
+
+/// The terms that look-ups showed.
 fn terms_shown(
     alloc: Global,
     tables: &mut UnitTables,
-    found: Option<u64>,
+    found: (Option<u64>, Option<u64>),
 ) -> Result<Option<Terms>, Failure>
-    ensures value { IfOk result (λ terms. option_map (λ rates. rates.fixed) terms ≡ found) }
-    ensures read { (terms : Option Rates) → found ≡ option_map (λ rates. rates.fixed) terms → IfSome terms (λ rates. InRange rates
-        × (unsettled rates ≡ None)) → IfErr result (λ e. e ≡ Failure.NoMemory) }
+    ensures value { IfOk result (λ terms. terms ≡ option_map (λ fixed. rates_with fixed found.1) found.0) }
+    ensures read { IfSome found.0 (λ fixed. InRange (rates_with fixed found.1) × (unsettled (rates_with fixed found.1) ≡ None))
+        → IfErr result (λ e. e ≡ Failure.NoMemory) }
 {
-    match found {
+    let (fixed, extension) = found;
+    match fixed {
         None => Ok(None),
-        Some(hundredths) => match Rate::new(hundredths) {
-            Some(fixed) => Ok(Some(terms_of(alloc, tables, Rates { fixed })?)),
-            None => Err(Failure::StoreFailed),
-        },
+        Some(fixed) => {
+            let rates = rates_shown(fixed, extension)?;
+            Ok(Some(terms_of(alloc, tables, rates)?))
+        }
     }
 }
 
@@ -64,7 +105,7 @@ pub fn find_terms<S: Alter>(
         (λ content terms. terms ≡ finite.get content.books.rates period) }
     ensures cause { FailsByCause (state S.Store tx.old.conn.now) (state S.Store tx.new.conn.now) result (λ _. ⊤) }
 {
-    let found = find_rate(tx, period.count() as u64)?;
+    let found = find_rates(tx, period)?;
     terms_shown(alloc, tables, found)
 }
 

@@ -158,6 +158,13 @@ returns_replies schema base = refl
 pub only_replies : OnlyAsks (codes "SELECT number, act, reply FROM replies ORDER BY number")
 only_replies = understood_none _ returns_replies
 
+returns_extensions : ReturnsNone (first (codes "SELECT period, rate FROM extensions ORDER BY period"))
+unfolding first returning everything
+returns_extensions schema base = refl
+
+pub only_extensions : OnlyAsks (codes "SELECT period, rate FROM extensions ORDER BY period")
+only_extensions = understood_none _ returns_extensions
+
 -- ---- what asking keeps
 
 never_some : {X : Type 0} (o : Option X) → o ≡ None → ¬ IsSome o

@@ -96,7 +96,7 @@ no_rows P rows none = subst (AllByRecursion P) (sym none) tt
 
 module _ (db : Trees) (none : AllByRecursion (λ t. db t.tree ≡ []) counter_schema.tables) where
   keeps : (rows : List Row) → Keeps Unique counter_schema (with_tree db 0 rows)
-  keeps rows = (all_of _ (λ _. refl) _, (no_rows _ _ none.1.0, (no_rows _ _ none.1.1.0, (no_rows _ _ none.1.1.1.0, (no_rows _ _ none.1.1.1.1.0, (no_rows _ _ none.1.1.1.1.1.0, (no_rows _ _ none.1.1.1.1.1.1.0, tt)))))))
+  keeps rows = (all_of _ (λ _. refl) _, (no_rows _ _ none.1.0, (no_rows _ _ none.1.1.0, (no_rows _ _ none.1.1.1.0, (no_rows _ _ none.1.1.1.1.0, (no_rows _ _ none.1.1.1.1.1.0, (no_rows _ _ none.1.1.1.1.1.1.0, (no_rows _ _ none.1.1.1.1.1.1.1.0, tt))))))))
 
   module _ (edit : Edit) (table : edit.table ≡ desk) (gone : edit.gone ≡ []) (news : edit.news ≡ first_row ∷ []) where
     allowed : (reason : Refusal) → ¬ IsRefused counter_schema Enforced db edit reason

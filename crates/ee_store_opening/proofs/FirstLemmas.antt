@@ -58,7 +58,7 @@ no_rows R row rows none = record {
   same = subst (λ es. IsPermutation [] es) (sym (none_in R)) (IsPermutation-refl []);
 }
 
-no_map : {X : Type 0} (columns : X → Row) (rows : List Row) → rows ≡ [] → HoldsMap columns rows empty
+pub no_map : {X : Type 0} (columns : X → Row) (rows : List Row) → rows ≡ [] → HoldsMap columns rows empty
 unfolding no_rows
 no_map columns rows none = record { table = no_rows nat_cmp (row_of columns) rows none; keyed = tt }
 
@@ -91,6 +91,7 @@ adds_first old new count has none h =
         paid = no_rows pair_cmp _ (new.now.trees 7) (at 7 ∙ applied.tables.1.1.1.1.0 (λ e. omega (arith, e)) ∙ none.1.1.1.1.0);
         batches = no_map _ (new.now.trees 10) (at 10 ∙ applied.tables.1.1.1.1.1.0 (λ e. omega (arith, e)) ∙ none.1.1.1.1.1.0);
         replies = no_map _ (new.now.trees 11) (at 11 ∙ applied.tables.1.1.1.1.1.1.0 (λ e. omega (arith, e)) ∙ none.1.1.1.1.1.1.0);
+        extensions = no_map _ (new.now.trees 12) (at 12 ∙ applied.tables.1.1.1.1.1.1.1.0 (λ e. omega (arith, e)) ∙ none.1.1.1.1.1.1.1.0);
       },
     )
 

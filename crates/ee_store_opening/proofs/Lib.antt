@@ -1,7 +1,9 @@
 pub mod Lemmas
+mod FormLemmas
 mod DefineLemmas
 mod TextLemmas
 mod FirstLemmas
+mod ExtendLemmas
 mod BeginLemmas
 mod ScanLemmas
 mod AskLemmas

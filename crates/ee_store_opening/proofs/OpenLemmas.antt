@@ -1,26 +1,18 @@
 -- A store that has tables, and one that has none.
-use Rattle.std.proofs.Common.{ℕ, Some, nat_cmp, ◌≡◌, inl, inr, Ok, Err, Result, IfErr, OnOk, refl, sym, ap, subst, ◌∙◌}
+use Rattle.std.proofs.Common.{ℕ, Some, nat_cmp, ◌≡◌, inl, inr, Ok, Err, Result, IfErr, OnOk, refl, sym, ◌∙◌}
 use Rattle.std.specs.FinMap.{empty, get, get-empty, get-insert}
 use Rattle.std.proofs.lemmas.Cmp.{nat_cmp_total}
-use Rattle.sqlite.specs.Effect.{Database}
 use Rattle.sqlite.specs.Tree.{Trees}
-use Rattle.sqlite.specs.State.{State, HasCleanDisk, KeepsCommit, Survives}
-use Rattle.sqlite.specs.Schema.{Schema}
-use Rattle.ee_store_tables.specs.Rows.{Rows, ReplyRow, Holds, Has}
+use Rattle.sqlite.specs.State.{State, HasCleanDisk, Survives}
+use Rattle.ee_store_tables.specs.Rows.{ReplyRow}
+use Rattle.ee_store_opening.specs.Forms.{IsOurs}
 use Rattle.ee_store_opening.specs.Making.{first_desk, first_rows}
-use Rattle.ee_store_opening.specs.Whole.{IsOurs}
 use Rattle.ee_store_opening.specs.Opening.{HasTables, IsFirstVersion, AreReadable}
+use Rattle.ee_store_opening.proofs.FormLemmas.{some_tables}
 
 -- the tables of version 1 are some
 pub ours_tables : (s : State) → IsOurs s → HasTables s
-ours_tables s ours is_open none = let tables = ap (λ (t : Schema). t.tables) (sym (ours is_open) ∙ none) in cc
-
--- what a store has it has while nothing is committed
-pub kept_has : (old new : State) (rows : Rows) → KeepsCommit old new → Has old rows → Has new rows
-kept_has old new rows keeps has is_open =
-    let it = has (keeps.was_open is_open) in
-    let same = keeps.committed is_open in
-    (ap (λ (d : Database). d.schema) same ∙ it.0, subst (λ (d : Database). Holds d.trees rows) (sym same) it.1)
+ours_tables s ours is_open none = some_tables ours.0 (sym (ours.1 is_open) ∙ none)
 
 -- ---- what holds whatever the result is
 

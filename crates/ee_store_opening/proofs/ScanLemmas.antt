@@ -29,8 +29,8 @@ asked : (query : Query) (r : Result Compiled CompileError) (h : IsQuery query r)
 asked query (Ok c) h = (h.1, (h.2, h.3))
 asked query (Err e) h = absurd h
 
-pub is_plain : (schema : Schema) (text : List ℕ) (tree : ℕ) (terms : List Term) → AsksForAll schema text tree terms → IsPlain (understood schema text)
-is_plain schema text tree terms asks = (asked (whole_table tree terms asks.order) (understood schema text) asks.query).1
+pub is_plain : (schema : Schema) (text : List ℕ) (tree : ℕ) (terms : List Term) (order : List (Term × Key)) → AsksForAll schema text tree terms order → IsPlain (understood schema text)
+is_plain schema text tree terms order asks = (asked (whole_table tree terms order) (understood schema text) asks.query).1
 
 module _ (tree : ℕ) (terms : List Term) (order : List (Term × Key)) where
   abbrev query : Query
@@ -48,20 +48,20 @@ stored_tree db t = ap (λ o. unwrap_or o (db t)) (none_given (nat_le (2 ^ 31) t)
     none_given true = refl
     none_given false = refl
 
-pub answers : (old new : State) (schema : Schema) (text : List ℕ) (tree : ℕ) (terms : List Term) (rows : List Row) (asks : AsksForAll schema text tree terms) → old.now.schema ≡ schema → Shown text [] old new rows
-    → IsAnswer (whole_table tree terms asks.order) (overlay old.now.trees []) [] rows
-answers old new schema text tree terms rows asks has shown =
-    let is = asked (whole_table tree terms asks.order) (understood schema text) asks.query in
+pub answers : (old new : State) (schema : Schema) (text : List ℕ) (tree : ℕ) (terms : List Term) (order : List (Term × Key)) (rows : List Row) → AsksForAll schema text tree terms order → old.now.schema ≡ schema
+    → Shown text [] old new rows → IsAnswer (whole_table tree terms order) (overlay old.now.trees []) [] rows
+answers old new schema text tree terms order rows asks has shown =
+    let is = asked (whole_table tree terms order) (understood schema text) asks.query in
     (reads_as text [] old new schema has _ is.0 is.1 asks.unlisted rows shown).answer Null
 
-pub shows_all : (old new : State) (schema : Schema) (text : List ℕ) (tree : ℕ) (terms : List Term) (rows : List Row) → AsksForAll schema text tree terms → old.now.schema ≡ schema → Shown text [] old new rows
-    → ShowsAll old.now.trees tree terms rows
-shows_all old new schema text tree terms rows asks has shown =
-    let query = whole_table tree terms asks.order in
-    let a : IsAnswer query (overlay old.now.trees []) [] rows = answers old new schema text tree terms rows asks has shown in
+pub shows_all : (old new : State) (schema : Schema) (text : List ℕ) (tree : ℕ) (terms : List Term) (order : List (Term × Key)) (rows : List Row) → AsksForAll schema text tree terms order → old.now.schema ≡ schema
+    → Shown text [] old new rows → ShowsAll old.now.trees tree terms rows
+shows_all old new schema text tree terms order rows asks has shown =
+    let query = whole_table tree terms order in
+    let a : IsAnswer query (overlay old.now.trees []) [] rows = answers old new schema text tree terms order rows asks has shown in
     let kept : a.kept ≡ map (output query) (flat_map (λ r. ([] ∷ r ∷ []) ∷ []) (old.now.trees tree)) = a.distinct ∙ ap (map (output query)) (a.grouped ∙ ap (flat_map (λ r. ([] ∷ r ∷ []) ∷ [])) (stored_tree old.now.trees tree)) in
     let same = IsPermutation-map (λ (o : Output). o.1) a.kept a.ordered a.same in
-    subst (λ rs. IsPermutation rs rows) (ap (map (λ (o : Output). o.1)) kept ∙ each tree terms asks.order (old.now.trees tree)) (subst (IsPermutation (map (λ (o : Output). o.1) a.kept)) (sym a.shown) same)
+    subst (λ rs. IsPermutation rs rows) (ap (map (λ (o : Output). o.1)) kept ∙ each tree terms order (old.now.trees tree)) (subst (IsPermutation (map (λ (o : Output). o.1) a.kept)) (sym a.shown) same)
 
 -- ---- a row that can't be read
 
@@ -72,11 +72,11 @@ ends_alone : (body : Query) (names : List (List ℕ)) (command : Command) (db : 
 ends_alone body names command db params is = subst (λ k. EndsIn k db params) (sym is) tt
 
 -- where an answer begins with rows of which some can't be read, no whole answer can be
-pub unreadable : (IsReadable : Row → Type 0) (s : State) (schema : Schema) (text : List ℕ) (tree : ℕ) (terms : List Term) (asks : AsksForAll schema text tree terms) → s.now.schema ≡ schema → IsTrue s.is_open
-    → ShowsUnreadable IsReadable text s → ¬ ((rows : List Row) → IsAnswer (whole_table tree terms asks.order) (overlay s.now.trees []) [] rows → All IsReadable rows)
-unreadable IsReadable s schema text tree terms asks has is_open begins can =
-    let query = whole_table tree terms asks.order in
+pub unreadable : (IsReadable : Row → Type 0) (s : State) (schema : Schema) (text : List ℕ) (tree : ℕ) (terms : List Term) (order : List (Term × Key)) → AsksForAll schema text tree terms order → s.now.schema ≡ schema
+    → IsTrue s.is_open → ShowsUnreadable IsReadable text s → ¬ ((rows : List Row) → IsAnswer (whole_table tree terms order) (overlay s.now.trees []) [] rows → All IsReadable rows)
+unreadable IsReadable s schema text tree terms order asks has is_open begins can =
+    let query = whole_table tree terms order in
     let is = asked query (understood schema text) asks.query in
     let whole = begins_shown text [] s s begins.0 begins.1 (still s is_open) (λ c db it source.
     ends_alone query (named query (understood schema text) asks.query) c.command db _ (ap command_of (sym it.is ∙ ap (λ t. understood t text) has) ∙ is.0)) in
-    begins.2 (front_of IsReadable begins.0 whole.0 (can (begins.0 ++ whole.0) (answers s s schema text tree terms (begins.0 ++ whole.0) asks has whole.1)))
+    begins.2 (front_of IsReadable begins.0 whole.0 (can (begins.0 ++ whole.0) (answers s s schema text tree terms order (begins.0 ++ whole.0) asks has whole.1)))

@@ -28,11 +28,12 @@ use Rattle.sqlite_tied.specs.Compute.{everything}
 use Rattle.sqlite.specs.Listing.{understood}
 use Rattle.ee_store_tables.specs.Tables.{counter_schema}
 use Rattle.ee_store_tables.proofs.Lemmas.Rows.{same_ok}
+use Rattle.ee_store_opening.specs.Forms.{earlier_tables}
 use Rattle.ee_store_opening.specs.Making.{no_tables, register_tables, payment_tables, AddsTable, AddsIndex, TakesTable, TakesIndex}
 use Rattle.ee_store_opening.specs.Reading.{IsOneStatement}
 use Rattle.ee_store_opening.proofs.CauseLemmas.{never_both}
 use Rattle.ee_store_opening.proofs.MakeUsable.{has_free, name_free}
-use Rattle.ee_store_opening.proofs.TextLemmas.{desk_text, rates_text, bonds_text, owner_text, tickets_text, day_text, paid_text, batches_text, replies_text, with_desk, with_rates, with_bonds, with_tickets, with_days, with_batches, adds_desk, adds_rates, adds_bonds, adds_owner, adds_tickets, adds_day, adds_paid, adds_batches, adds_replies}
+use Rattle.ee_store_opening.proofs.TextLemmas.{desk_text, rates_text, bonds_text, owner_text, tickets_text, day_text, paid_text, batches_text, replies_text, extensions_text, with_desk, with_rates, with_bonds, with_tickets, with_days, with_batches, adds_desk, adds_rates, adds_bonds, adds_owner, adds_tickets, adds_day, adds_paid, adds_batches, adds_replies, adds_extensions}
 
 -- ---- tables
 
@@ -255,7 +256,27 @@ allows_replies = record {
 }
 
 pub takes_replies : TakesTable with_batches replies_text
-takes_replies = takes_table with_batches counter_schema replies_text adds_replies allows_replies
+takes_replies = takes_table with_batches earlier_tables replies_text adds_replies allows_replies
+
+allows_extensions : IsAllowed earlier_tables extensions_text adds_extensions.table
+unfolding adds_extensions understood everything fits_kind begins is_free_name same_name names.same_name value_cmp Ieee.lt Ieee.is_nan
+allows_extensions = record {
+  statement = (omega arith, refl, refl, refl);
+  named = ascii (codes "extensions") refl;
+  unreserved = refl;
+  formed = refl;
+  few = refl;
+  narrow = refl;
+  keys = refl;
+  listed = refl;
+  short = refl;
+}
+
+pub extensions_utf8 : IsUtf8 extensions_text
+extensions_utf8 = ascii extensions_text refl
+
+pub takes_extensions : TakesTable earlier_tables extensions_text
+takes_extensions = takes_table earlier_tables counter_schema extensions_text adds_extensions allows_extensions
 
 allows_owner : IsAllowedIndex with_bonds owner_text adds_owner.table adds_owner.index
 unfolding adds_owner understood everything fits_kind begins is_free_name same_name names.same_name value_cmp Ieee.lt Ieee.is_nan

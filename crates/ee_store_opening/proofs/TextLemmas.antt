@@ -4,7 +4,8 @@ use Rattle.sqlite.specs.Schema.{Schema}
 use Rattle.sqlite_catalog.specs.Listing.{automatic}
 use Rattle.sqlite_tied.specs.Compute.{everything}
 use Rattle.sqlite.specs.Listing.{understood}
-use Rattle.ee_store_tables.specs.Tables.{counter_schema, desk, rates, bonds, tickets, paid, batches, replies, index_on}
+use Rattle.ee_store_tables.specs.Tables.{counter_schema, desk, rates, bonds, tickets, paid, batches, replies, extensions, index_on}
+use Rattle.ee_store_opening.specs.Forms.{earlier_tables}
 use Rattle.ee_store_opening.specs.Making.{no_tables, register_tables, payment_tables, AddsTable, AddsIndex}
 
 abbrev pub desk_text : List ℕ
@@ -33,6 +34,9 @@ batches_text = codes "CREATE TABLE batches (day INTEGER NOT NULL PRIMARY KEY, ti
 
 abbrev pub replies_text : List ℕ
 replies_text = codes "CREATE TABLE replies (number INTEGER NOT NULL PRIMARY KEY, act TEXT NOT NULL, reply TEXT NOT NULL) STRICT"
+
+abbrev pub extensions_text : List ℕ
+extensions_text = codes "CREATE TABLE extensions (period INTEGER NOT NULL PRIMARY KEY, rate INTEGER NOT NULL) STRICT"
 
 -- ---- the tables between the groups
 
@@ -88,6 +92,10 @@ unfoldable pub adds_batches : AddsTable payment_tables batches_text with_batches
 unfolding understood everything
 adds_batches = record { command = (refl, refl, refl, refl); table = record batches { tree = 0 }; defined = refl; is = refl; uncounted = refl; free = refl; all_free = refl }
 
-unfoldable pub adds_replies : AddsTable with_batches replies_text counter_schema
+unfoldable pub adds_replies : AddsTable with_batches replies_text earlier_tables
 unfolding understood everything
 adds_replies = record { command = (refl, refl, refl, refl); table = record replies { tree = 0 }; defined = refl; is = refl; uncounted = refl; free = refl; all_free = refl }
+
+unfoldable pub adds_extensions : AddsTable earlier_tables extensions_text counter_schema
+unfolding understood everything
+adds_extensions = record { command = (refl, refl, refl, refl); table = record extensions { tree = 0 }; defined = refl; is = refl; uncounted = refl; free = refl; all_free = refl }

@@ -1,38 +1,67 @@
--- A store that is only read, and has the tables of version 1.
-use Rattle.std.proofs.Common.{◌≡◌, IsTrue, T, sym, ap, subst, ◌∙◌, nat_cmp}
-use Rattle.std.specs.FinMap.{entries_sorted, is_sorted}
+-- A store that is only read, and has the tables of version 1 in some form.
+use Rattle.std.proofs.Common.{◌≡◌, [], IsTrue, T, length, sym, ap, subst, ◌∙◌, nat_cmp}
+use Rattle.std.specs.FinMap.{empty, empty_of_len, entries-from_sorted, entries_sorted, is_sorted, len-entries}
 use Rattle.sqlite.specs.Effect.{Database}
+use Rattle.sqlite.specs.Tree.{Trees}
 use Rattle.sqlite.specs.State.{State, IsLive, IsUnchanged}
 use Rattle.ee_store_tables.specs.Keyed.{pair_cmp}
-use Rattle.ee_store_tables.specs.Rows.{Rows, Holds, Has, Sees}
-use Rattle.ee_store_opening.specs.Reading.{IsSoundNow, HasOurTables}
+use Rattle.ee_store_tables.specs.Rows.{Rows}
+use Rattle.ee_store_opening.specs.declared.forms.Form.{Form}
+use Rattle.ee_store_opening.specs.declared.forms.Form.TheVariants.{Current, Earlier}
+use Rattle.ee_store_opening.specs.Forms.{HoldsIn, SeesForm, HasForm, SeesIn, HadIn}
+use Rattle.ee_store_opening.specs.Reading.{IsSoundNow}
 use Rattle.ee_store_opening.specs.declared.whole.AllRows.{AllRows}
 use Rattle.ee_store_opening.specs.Shown.{desk_map, rate_map, bond_map, ticket_map, line_map, batch_map, reply_map}
-use Rattle.ee_store_opening.specs.Whole.{IsOurs, ListsAll, AreInOrder}
+use Rattle.ee_store_opening.specs.Whole.{rows_of, ListsAll, AreInOrder, HoldsExtensions}
+use Rattle.ee_store_opening.proofs.FormLemmas.{HoldsCommon, had_form}
 use Rattle.ee_store_opening.proofs.OneLemmas.{one_rows}
 
-module _ (old : State) (settled : IsTrue old.is_open → old.now ≡ old.committed) where
-  pub has_ours : IsOurs old → HasOurTables old
+pub sound_now : (old : State) → IsLive old → IsSoundNow old
+sound_now old live is_open = (live is_open).0
+
+module _ (form : Form) (old : State) (settled : IsTrue old.is_open → old.now ≡ old.committed) where
+  pub has_ours : HasForm form old → SeesForm form old
   has_ours ours is_open = ap (λ (d : Database). d.schema) (settled is_open) ∙ ours is_open
 
-  pub sound_now : IsLive old → IsSoundNow old
-  sound_now live is_open = (live is_open).0
-
-  pub is_ours : (rows : Rows) → Has old rows → IsOurs old
-  is_ours rows has is_open = (has is_open).0
-
-  pub sees_what_it_has : (rows : Rows) → Has old rows → Sees old rows
-  sees_what_it_has rows has is_open = (has_ours (is_ours rows has) is_open, subst (λ (d : Database). Holds d.trees rows) (sym (settled is_open)) (has is_open).1)
+  pub sees_what_it_has : (rows : Rows) → HadIn form old rows → SeesIn form old rows
+  sees_what_it_has rows has is_open = (has_ours (had_form form old rows has) is_open, subst (λ (d : Database). HoldsIn form d.trees rows) (sym (settled is_open)) (has is_open).1)
 
   -- the rows that were read are those that the store has
-  pub are_those : (all rows : Rows) → Holds old.now.trees all → Has old rows → IsTrue old.is_open → all ≡ rows
-  are_those all rows holds has is_open = one_rows old.now.trees all rows holds (sees_what_it_has rows has is_open).1
+  pub are_those : (all rows : Rows) → HoldsIn form old.now.trees all → HadIn form old rows → IsTrue old.is_open → all ≡ rows
+  are_those all rows holds has is_open = one_rows form old.now.trees all rows holds (sees_what_it_has rows has is_open).1
 
-  pub has_read : (new : State) → IsUnchanged old new → (rows : Rows) → IsOurs old → Holds old.now.trees rows → Has new rows
+  pub has_read : (new : State) → IsUnchanged old new → (rows : Rows) → HasForm form old → HoldsIn form old.now.trees rows → HadIn form new rows
   has_read new same rows ours holds is_open = (
     ap (λ (d : Database). d.schema) same.0.committed_is ∙ ours same.0.was_open,
-    subst (λ (d : Database). Holds d.trees rows) (settled same.0.was_open ∙ sym same.0.committed_is) holds,
+    subst (λ (d : Database). HoldsIn form d.trees rows) (settled same.0.was_open ∙ sym same.0.committed_is) holds,
   )
+
+-- ---- all rows together
+
+no_rates : rate_map [] ≡ empty
+no_rates = empty_of_len (rate_map []) (len-entries (rate_map []) ∙ ap length (entries-from_sorted nat_cmp [] tt))
+
+pub holds_all : (form : Form) (db : Trees) (all : AllRows) → HoldsCommon db (rows_of all) → HoldsExtensions form db all.extensions.items → HoldsIn form db (rows_of all)
+holds_all Current db all h extensions = record {
+  desk = h.desk;
+  rates = h.rates;
+  bonds = h.bonds;
+  tickets = h.tickets;
+  paid = h.paid;
+  batches = h.batches;
+  replies = h.replies;
+  extensions = extensions;
+}
+holds_all Earlier db all h none = record {
+  desk = h.desk;
+  rates = h.rates;
+  bonds = h.bonds;
+  tickets = h.tickets;
+  paid = h.paid;
+  batches = h.batches;
+  replies = h.replies;
+  none = ap rate_map none ∙ no_rates;
+}
 
 -- entries of maps are in order
 pub are_in_order : (all : AllRows) → ListsAll all → AreInOrder all
@@ -44,4 +73,5 @@ are_in_order all lists = record {
   lines = subst (λ es. T (is_sorted pair_cmp es)) lists.lines (entries_sorted (line_map all.lines.items));
   batches = subst (λ es. T (is_sorted nat_cmp es)) lists.batches (entries_sorted (batch_map all.batches.items));
   replies = subst (λ es. T (is_sorted nat_cmp es)) lists.replies (entries_sorted (reply_map all.replies.items));
+  extensions = subst (λ es. T (is_sorted nat_cmp es)) lists.extensions (entries_sorted (rate_map all.extensions.items));
 }

@@ -1,3 +1,4 @@
+pub mod Forms
 pub mod Making
 pub mod Reading
 pub mod Shown

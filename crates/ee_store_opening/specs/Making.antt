@@ -1,4 +1,4 @@
--- A store with no tables, and the tables of version 1 as they are made in it.
+-- A store with no tables, the tables of version 1 as they are made in it, and a store that comes to have a table that it lacked.
 use Rattle.std.specs.Prelude.{◌≡◌, IsTrue, List, ℕ, [], ◌∷◌, Some, None, Ok, Err, Result, true, false, not, slice_get, codes}
 use Rattle.std.specs.List.{AllByRecursion, list_all}
 use Rattle.std.specs.FinMap.{empty, insert}
@@ -20,7 +20,10 @@ use Rattle.sqlite.specs.Listing.{understood}
 use Rattle.sqlite.specs.State.{State, text_of}
 use Rattle.sqlite_catalog.specs.Listing.{automatic}
 use Rattle.ee_store_tables.specs.Tables.{desk, rates, bonds, tickets, paid, index_on}
-use Rattle.ee_store_tables.specs.Rows.{Rows, DeskRow}
+use Rattle.ee_store_tables.specs.Rows.{Rows, DeskRow, Stores}
+use Rattle.ee_store_opening.specs.declared.forms.Form.{Form}
+use Rattle.ee_store_opening.specs.declared.forms.Form.TheVariants.{Current}
+use Rattle.ee_store_opening.specs.Forms.{HasForm, HadIn}
 use Rattle.ee_store_opening.specs.Reading.{IsOneStatement}
 
 abbrev pub no_tables : Schema
@@ -53,7 +56,7 @@ first_desk = record { version = 1; day = None; last_day = None }
 
 -- the rows of a store that was just made
 abbrev pub first_rows : Rows
-first_rows = record { desk = insert empty 1 first_desk; rates = empty; bonds = empty; tickets = empty; paid = empty; batches = empty; replies = empty }
+first_rows = record { desk = insert empty 1 first_desk; rates = empty; bonds = empty; tickets = empty; paid = empty; batches = empty; replies = empty; extensions = empty }
 
 -- A transaction sees these tables, and no row in them.
 abbrev pub SeesTables : State → Schema → Type 0
@@ -101,3 +104,8 @@ pub record TakesIndex (before : Schema) (text : List ℕ) (table : Table) : Type
   pub statement : IsOneStatement text 0 (understood before text)
   pub taken : (db : Trees) → AllByRecursion (λ t. db t.tree ≡ []) before.tables → (reason : Refusal) → ¬ RefusesIndex before db table text reason
   pub short : (db : Trees) → AllByRecursion (λ t. db t.tree ≡ []) before.tables → ¬ IsLongIndex db table text
+
+-- The store lacked a table of the present form, and in the trees it stands beside the same rows.
+pub record Extends (old : State) (db : Trees) : Type 0 where
+  pub lacked : ¬ HasForm Current old
+  pub stores : (form : Form) (rows : Rows) → HadIn form old rows → Stores db rows

@@ -16,7 +16,6 @@ use Rattle.sqlite.specs.declared.error.Error.{Error}
 use Rattle.sqlite.specs.Effect.{IsDatabase, RefusesToRead}
 use Rattle.sqlite.specs.Listing.{understood, reads_listing}
 use Rattle.sqlite.specs.State.{State, Begins}
-use Rattle.ee_store_tables.specs.Tables.{counter_schema}
 
 -- each element comes before the next
 abbrev pub rises : {X : Type 0} → (X → X → Bool) → List X → Bool
@@ -42,9 +41,8 @@ abbrev pub IsQuery : Query → Result Compiled CompileError → Type 0
 IsQuery query (Ok c) = (names : List (List ℕ)) × (c.command ≡ Select (record { lets = []; body = query }) names) × (c.returning ≡ None) × (c.formats ≡ [])
 IsQuery query (Err e) = ⊥
 
--- the text asks for the whole table
-pub record AsksForAll (schema : Schema) (text : List ℕ) (tree : ℕ) (terms : List Term) : Type 0 where
-  pub order : List (Term × Key)
+-- over the schema the text asks for the whole table, in this order
+pub record AsksForAll (schema : Schema) (text : List ℕ) (tree : ℕ) (terms : List Term) (order : List (Term × Key)) : Type 0 where
   pub query : IsQuery (whole_table tree terms order) (understood schema text)
   pub unlisted : reads_listing schema text ≡ false
 
@@ -74,10 +72,6 @@ ShowsAll db tree terms rows = IsPermutation (map (shown_by terms) (db tree)) row
 -- the tables obey the schema, as `sqlite` keeps them
 abbrev pub IsSoundNow : State → Type 0
 IsSoundNow s = IsTrue s.is_open → IsDatabase s.now
-
--- the tables that are seen are the counter's
-abbrev pub HasOurTables : State → Type 0
-HasOurTables s = IsTrue s.is_open → s.now.schema ≡ counter_schema
 
 -- the text writes nothing, whatever tables there are
 abbrev pub OnlyAsks : List ℕ → Type 0

@@ -1,21 +1,18 @@
 -- What all rows of a store are together.
-use Rattle.std.specs.Prelude.{◌≡◌, IsTrue, T, map}
+use Rattle.std.specs.Prelude.{◌≡◌, List, [], T, map}
 use Rattle.std.specs.Ordering.{nat_cmp}
 use Rattle.std.specs.FinMap.{entries, is_sorted}
 use Rattle.sqlite.specs.Tree.{Trees}
-use Rattle.sqlite.specs.State.{State}
-use Rattle.ee_store_tables.specs.Tables.{counter_schema}
 use Rattle.ee_store_tables.specs.Keyed.{pair_cmp, HoldsMap, HoldsPairs}
 use Rattle.ee_store_tables.specs.Rows.{Rows, desk_columns, rate_columns, bond_columns, ticket_columns, paid_columns, batch_columns, reply_columns}
+use Rattle.ee_store_opening.specs.declared.forms.Form.{Form}
+use Rattle.ee_store_opening.specs.declared.forms.Form.TheVariants.{Current, Earlier}
+use Rattle.ee_store_opening.specs.declared.entries.StoredRate.{StoredRate}
 use Rattle.ee_store_opening.specs.declared.whole.AllRows.{AllRows}
 use Rattle.ee_store_opening.specs.declared.whole.Register.{Register}
 use Rattle.ee_store_opening.specs.declared.whole.Payments.{Payments}
 use Rattle.ee_store_opening.specs.declared.whole.Records.{Records}
 use Rattle.ee_store_opening.specs.Shown.{desk_map, rate_map, bond_map, ticket_map, line_map, batch_map, reply_map, desk_entry, rate_entry, bond_entry, ticket_entry, line_entry, batch_entry, reply_entry}
-
--- the last commit left the tables of version 1
-abbrev pub IsOurs : State → Type 0
-IsOurs s = IsTrue s.is_open → s.committed.schema ≡ counter_schema
 
 abbrev pub rows_of : AllRows → Rows
 rows_of all = record {
@@ -26,6 +23,7 @@ rows_of all = record {
   paid = line_map all.lines.items;
   batches = batch_map all.batches.items;
   replies = reply_map all.replies.items;
+  extensions = rate_map all.extensions.items;
 }
 
 -- Each table's rows are in order of their keys, and no key stands twice.
@@ -37,6 +35,7 @@ pub record AreInOrder (all : AllRows) : Type 0 where
   pub lines : T (is_sorted pair_cmp (map line_entry all.lines.items))
   pub batches : T (is_sorted nat_cmp (map batch_entry all.batches.items))
   pub replies : T (is_sorted nat_cmp (map reply_entry all.replies.items))
+  pub extensions : T (is_sorted nat_cmp (map rate_entry all.extensions.items))
 
 -- The entries of each map are the rows that were read, in their order.
 pub record ListsAll (all : AllRows) : Type 0 where
@@ -47,6 +46,7 @@ pub record ListsAll (all : AllRows) : Type 0 where
   pub lines : entries (line_map all.lines.items) ≡ map line_entry all.lines.items
   pub batches : entries (batch_map all.batches.items) ≡ map batch_entry all.batches.items
   pub replies : entries (reply_map all.replies.items) ≡ map reply_entry all.replies.items
+  pub extensions : entries (rate_map all.extensions.items) ≡ map rate_entry all.extensions.items
 
 -- ---- parts of the whole
 
@@ -75,3 +75,8 @@ pub record HoldsPayments (db : Trees) (part : Payments) : Type 0 where
 pub record HoldsRecords (db : Trees) (part : Records) : Type 0 where
   pub batches : HoldsMap batch_columns (db 10) (batch_map part.batches.items)
   pub replies : HoldsMap reply_columns (db 11) (reply_map part.replies.items)
+
+-- the rows of the table of extensions, and none where it is lacking
+abbrev pub HoldsExtensions : Form → Trees → List StoredRate → Type 0
+HoldsExtensions Current db all = HoldsMap rate_columns (db 12) (rate_map all)
+HoldsExtensions Earlier db all = all ≡ []

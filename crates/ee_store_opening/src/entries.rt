@@ -25,7 +25,7 @@ pub struct StoredDesk {
     pub last_day: Option<u64>,
 }
 
-/// The fixed rate of bonds that are issued in a period.
+/// A rate of bonds that are issued in a period: their fixed rate, or that of their extended maturity.
 #[derive(Clone, Copy, Debug, PartialEq, Eq)]
 pub struct StoredRate {
     /// The first month of the period.

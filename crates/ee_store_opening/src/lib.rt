@@ -1,8 +1,11 @@
-//! Opening a store: the tables of version 1 are made in an empty one, and all rows of another are read.
+//! Opening a store: the tables of version 1 are made in an empty one, all rows of another are read, and one that was made before
+//! gets the table that it lacks.
 #![tactic(auto)]
 
 mod entries;
+mod extending;
 mod faults;
+mod forms;
 mod making;
 mod opening;
 mod ours;
@@ -14,6 +17,7 @@ mod whole;
 pub use entries::{
     StoredBatch, StoredBond, StoredDesk, StoredLine, StoredRate, StoredReply, StoredTicket,
 };
+pub use extending::extend_tables;
 pub use faults::OpenFault;
 pub use opening::open_rows;
 pub use version::STORE_VERSION;

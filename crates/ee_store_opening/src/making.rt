@@ -6,9 +6,11 @@ ghost use Rattle.sqlite.specs.Held.{state};
 ghost use Rattle.sqlite.specs.Schema.{Schema};
 ghost use Rattle.sqlite.specs.Tree.{Trees};
 ghost use Rattle.sqlite.specs.Effect.{IsDatabase};
-ghost use Rattle.ee_store_tables.specs.Rows.{Stores, Sees, Has};
+ghost use Rattle.ee_store_tables.specs.Rows.{Rows, Stores, Sees, Has};
 ghost use Rattle.ee_store_tables.specs.Tables.{counter_schema};
+ghost use Rattle.ee_store_opening.specs.declared.forms.Form.TheVariants.{Current, Earlier};
 ghost use Rattle.ee_store_opening.specs.Faults.{FailsForCause};
+ghost use Rattle.ee_store_opening.specs.Forms.{earlier_tables, SeesForm, SeesIn};
 ghost use Rattle.ee_store_opening.specs.Making.{
   IsBlank,
   first_rows,
@@ -121,6 +123,33 @@ fn make_payments<S: Alter>(tx: &mut Transaction<'_, S>) -> Result<(), OpenFault>
     )
 }
 
+/// Makes the table of extensions, beside the other tables and their rows.
+pub(crate) fn define_extensions<S: Alter>(tx: &mut Transaction<'_, S>) -> Result<(), OpenFault>
+    ensures same_reference { tx.new.conn.ghost_name ≡ tx.old.conn.ghost_name }
+    ensures inside { HasCleanDisk (state S.Store tx.new.conn.now) → OnOk result (IsTrue (state S.Store tx.new.conn.now).in_transaction) }
+    ensures open { HasCleanDisk (state S.Store tx.new.conn.now) → OnOk result (IsTrue (state S.Store tx.new.conn.now).is_open) }
+    ensures added { HasCleanDisk (state S.Store tx.new.conn.now) → OnOk result (SeesTables (state S.Store tx.old.conn.now) earlier_tables
+        → SeesTables (state S.Store tx.new.conn.now) counter_schema) }
+    ensures current { HasCleanDisk (state S.Store tx.new.conn.now) → OnOk result (SeesForm Earlier (state S.Store tx.old.conn.now)
+        → SeesForm Current (state S.Store tx.new.conn.now)) }
+    ensures extended { HasCleanDisk (state S.Store tx.new.conn.now) → OnOk result ((rows : Rows) → SeesIn Earlier (state S.Store tx.old.conn.now) rows
+        → Sees (state S.Store tx.new.conn.now) rows) }
+    ensures sound { HasCleanDisk (state S.Store tx.new.conn.now) → OnOk result (SeesForm Earlier (state S.Store tx.old.conn.now)
+        → IsTrue (state S.Store tx.new.conn.now).is_open → IsDatabase (state S.Store tx.new.conn.now).now) }
+    ensures usable { HasCleanDisk (state S.Store tx.new.conn.now) → IfErr result (λ e. SeesForm Earlier (state S.Store tx.old.conn.now)
+        → IsTrue (state S.Store tx.old.conn.now).is_open → e ≢ OpenFault.Unusable) }
+    ensures other { IfErr result (λ e. e ≢ OpenFault.WrongVersion) }
+    ensures cause { FailsForCause (λ s. IsTrue s.in_transaction × SeesForm Earlier s) (state S.Store tx.old.conn.now) (state S.Store tx.new.conn.now) result }
+    ensures commit { HasCleanDisk (state S.Store tx.new.conn.now) → KeepsCommit (state S.Store tx.old.conn.now) (state S.Store tx.new.conn.now) }
+    ensures crash { Survives (state S.Store tx.old.conn.now) (state S.Store tx.new.conn.now) (λ _. ⊥) }
+{
+    tx.execute(
+        "CREATE TABLE extensions (period INTEGER NOT NULL PRIMARY KEY, rate INTEGER NOT NULL) STRICT",
+        &[],
+    )?;
+    Ok(())
+}
+
 /// Writes the one row of the desk, of version 1, on which nothing was done.
 fn add_desk<S: Alter>(tx: &mut Transaction<'_, S>) -> Result<(), OpenFault>
     ensures same_reference { tx.new.conn.ghost_name ≡ tx.old.conn.ghost_name }
@@ -144,7 +173,7 @@ fn add_desk<S: Alter>(tx: &mut Transaction<'_, S>) -> Result<(), OpenFault>
     Ok(())
 }
 
-/// Makes the tables of what is kept, the batches and the replies, and writes the desk's row.
+/// Makes the tables of what is kept, the batches and the replies, then that of extensions, and writes the desk's row.
 fn make_records<S: Alter>(tx: &mut Transaction<'_, S>) -> Result<(), OpenFault>
     ensures same_reference { tx.new.conn.ghost_name ≡ tx.old.conn.ghost_name }
     ensures inside { HasCleanDisk (state S.Store tx.new.conn.now) → OnOk result (IsTrue (state S.Store tx.new.conn.now).in_transaction) }
@@ -168,10 +197,11 @@ fn make_records<S: Alter>(tx: &mut Transaction<'_, S>) -> Result<(), OpenFault>
         tx,
         "CREATE TABLE replies (number INTEGER NOT NULL PRIMARY KEY, act TEXT NOT NULL, reply TEXT NOT NULL) STRICT",
     )?;
+    define_extensions(tx)?;
     add_desk(tx)
 }
 
-/// Makes the seven tables and writes the desk's row, inside a transaction.
+/// Makes the eight tables and writes the desk's row, inside a transaction.
 fn make_in<S: Alter>(tx: &mut Transaction<'_, S>) -> Result<(), OpenFault>
     ensures same_reference { tx.new.conn.ghost_name ≡ tx.old.conn.ghost_name }
     ensures inside { HasCleanDisk (state S.Store tx.new.conn.now) → OnOk result (IsTrue (state S.Store tx.new.conn.now).in_transaction) }

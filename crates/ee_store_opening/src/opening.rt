@@ -6,14 +6,18 @@ ghost use Rattle.sqlite.specs.Held.{state};
 ghost use Rattle.sqlite.specs.Tree.{Trees};
 ghost use Rattle.ee_store_tables.specs.Rows.{Rows, Has, Stores};
 ghost use Rattle.ee_store_tables.specs.Statements.{LeavesNoMore};
+ghost use Rattle.ee_store_opening.specs.declared.forms.Form.{Form};
+ghost use Rattle.ee_store_opening.specs.declared.forms.Form.TheVariants.{Current};
 ghost use Rattle.ee_store_opening.specs.Faults.{IsExcused, FailsForCause};
+ghost use Rattle.ee_store_opening.specs.Forms.{HasForm, IsOurs, HadIn};
 ghost use Rattle.ee_store_opening.specs.Making.{IsBlank, first_rows};
-ghost use Rattle.ee_store_opening.specs.Whole.{rows_of, IsOurs, AreInOrder};
+ghost use Rattle.ee_store_opening.specs.Whole.{rows_of, AreInOrder};
 ghost use Rattle.ee_store_opening.specs.Opening.{HasTables, IsFirstVersion, IsOtherVersion, AreReadable};
 
 use crate::faults::OpenFault;
+use crate::forms::Form;
 use crate::making::make_tables;
-use crate::ours::{has_no_tables, has_our_tables};
+use crate::ours::{form_of, has_no_tables};
 use crate::version::check_version;
 use crate::whole::{AllRows, read_all};
 use sqlite::{Alter, Connection};
@@ -36,7 +40,7 @@ fn open_blank<S: Alter>(conn: &mut Connection<S>, alloc: Global) -> Result<AllRo
     ensures crash { Survives (state S.Store conn.old) (state S.Store conn.new) (λ db. IsBlank (state S.Store conn.old) → Stores db first_rows) }
 {
     make_tables(conn)?;
-    read_all(conn, alloc)
+    read_all(conn, alloc, Form::Current)
 }
 
 /// Why a store with other tables isn't opened.
@@ -53,11 +57,13 @@ fn refusal<S: Alter>(conn: &mut Connection<S>) -> OpenFault
 /// The rows of a store; the tables of version 1 are made where it has none at all.
 ///
 /// A store is read where its tables are those of version 1, in the order in which they are made, with
-/// their indexes, and it has nothing else. Where it has no table, index or view they are made in one
+/// their indexes, and it has nothing else. One that was made before extensions could be named lacks just
+/// their table, the last: it is read without it, nothing is written into it, and its rows have no extension
+/// (`extend_tables` makes the table). Where a store has no table, index or view they are made in one
 /// transaction, with the desk's row: version 1, no open day and no last day. Any other store is
-/// refused, one with our tables in another order too, and nothing is committed in it. The version is
-/// tested before all else is read. Each table's rows come in order of their keys. It takes time and
-/// memory in proportion to the rows.
+/// refused, one with our tables in another order or with fewer of them too, and nothing is committed in it.
+/// The version is tested before all else is read. Each table's rows come in order of their keys. It takes
+/// time and memory in proportion to the rows.
 ///
 /// # Errors
 ///
@@ -69,24 +75,26 @@ fn refusal<S: Alter>(conn: &mut Connection<S>) -> OpenFault
 /// committed. Outside a transaction and with no limit on steps, a store with no tables or with those
 /// of version 1 gives `StoreFailed` only where its device fails during the call or it was shut before.
 pub fn open_rows<S: Alter>(conn: &mut Connection<S>, alloc: Global) -> Result<AllRows, OpenFault>
-    ensures found { HasCleanDisk (state S.Store conn.new) → IfOk result (λ all. Has (state S.Store conn.new) (rows_of all)) }
+    ensures found { HasCleanDisk (state S.Store conn.new) → IfOk result (λ all. (form : Form) × HadIn form (state S.Store conn.new) (rows_of all)) }
+    ensures current { HasCleanDisk (state S.Store conn.new) → IfOk result (λ all. HasForm Current (state S.Store conn.old) ⊎ IsBlank (state S.Store conn.old)
+        → Has (state S.Store conn.new) (rows_of all)) }
     ensures ours { HasCleanDisk (state S.Store conn.new) → OnOk result (IsOurs (state S.Store conn.old) ⊎ IsBlank (state S.Store conn.old)) }
     ensures made { HasCleanDisk (state S.Store conn.new) → IfOk result (λ all. IsBlank (state S.Store conn.old) → IsTrue (state S.Store conn.old).is_open
         → rows_of all ≡ first_rows) }
-    ensures those { HasCleanDisk (state S.Store conn.new) → IfOk result (λ all. (rows : Rows) → Has (state S.Store conn.old) rows
+    ensures those { HasCleanDisk (state S.Store conn.new) → IfOk result (λ all. (form : Form) (rows : Rows) → HadIn form (state S.Store conn.old) rows
         → IsTrue (state S.Store conn.old).is_open → rows_of all ≡ rows) }
     ensures order { IfOk result AreInOrder }
     ensures open { HasCleanDisk (state S.Store conn.new) → OnOk result (IsTrue (state S.Store conn.old).is_open × IsTrue (state S.Store conn.new).is_open) }
     ensures begun { HasCleanDisk (state S.Store conn.new) → OnOk result (IsBlank (state S.Store conn.old) → (db : Trees)
         → (state S.Store conn.new).may_leave db → Stores db first_rows) }
-    ensures first { HasCleanDisk (state S.Store conn.new) → OnOk result ((rows : Rows) → Has (state S.Store conn.old) rows
+    ensures first { HasCleanDisk (state S.Store conn.new) → OnOk result ((form : Form) (rows : Rows) → HadIn form (state S.Store conn.old) rows
         → IsTrue (state S.Store conn.old).is_open → IsFirstVersion rows) }
-    ensures version { HasCleanDisk (state S.Store conn.new) → IfErr result (λ e. e ≡ OpenFault.WrongVersion → (rows : Rows)
-        → Has (state S.Store conn.old) rows → IsTrue (state S.Store conn.old).is_open → IsOtherVersion rows) }
-    ensures tested { HasCleanDisk (state S.Store conn.new) → IfErr result (λ e. e ≡ OpenFault.Unusable → (rows : Rows) → Has (state S.Store conn.old) rows
-        → IsTrue (state S.Store conn.old).is_open → ¬ IsOtherVersion rows) }
-    ensures unusable { HasCleanDisk (state S.Store conn.new) → IfErr result (λ e. e ≡ OpenFault.Unusable → (rows : Rows)
-        → Has (state S.Store conn.old) rows → IsTrue (state S.Store conn.old).is_open → ¬ AreReadable rows) }
+    ensures version { HasCleanDisk (state S.Store conn.new) → IfErr result (λ e. e ≡ OpenFault.WrongVersion → (form : Form) (rows : Rows)
+        → HadIn form (state S.Store conn.old) rows → IsTrue (state S.Store conn.old).is_open → IsOtherVersion rows) }
+    ensures tested { HasCleanDisk (state S.Store conn.new) → IfErr result (λ e. e ≡ OpenFault.Unusable → (form : Form) (rows : Rows)
+        → HadIn form (state S.Store conn.old) rows → IsTrue (state S.Store conn.old).is_open → ¬ IsOtherVersion rows) }
+    ensures unusable { HasCleanDisk (state S.Store conn.new) → IfErr result (λ e. e ≡ OpenFault.Unusable → (form : Form) (rows : Rows)
+        → HadIn form (state S.Store conn.old) rows → IsTrue (state S.Store conn.old).is_open → ¬ AreReadable rows) }
     ensures blank { HasCleanDisk (state S.Store conn.new) → IfErr result (λ e. IsBlank (state S.Store conn.old) → IsTrue (state S.Store conn.old).is_open
         → (e ≢ OpenFault.Unusable) × (e ≢ OpenFault.WrongVersion)) }
     ensures failed { HasCleanDisk (state S.Store conn.new) → OnErr result ((HasTables (state S.Store conn.old)
@@ -108,10 +116,10 @@ pub fn open_rows<S: Alter>(conn: &mut Connection<S>, alloc: Global) -> Result<Al
         return Err(OpenFault::StoreFailed);
     }
     if has_no_tables(conn.schema()) {
-        open_blank(conn, alloc)
-    } else if has_our_tables(conn.schema()) {
-        read_all(conn, alloc)
-    } else {
-        Err(refusal(conn))
+        return open_blank(conn, alloc);
+    }
+    match form_of(conn.schema()) {
+        Some(form) => read_all(conn, alloc, form),
+        None => Err(refusal(conn)),
     }
 }

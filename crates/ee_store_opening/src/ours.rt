@@ -1,6 +1,6 @@
 //! Whether the tables of a store are those of version 1.
 
-ghost use Rattle.std.specs.Prelude.{◌≡◌, ◌↔◌, true, false, [], ◌∷◌};
+ghost use Rattle.std.specs.Prelude.{◌≡◌, ◌↔◌, true, false, [], ◌∷◌, Some};
 ghost use Rattle.sqlite_value.specs.declared.value.Value.TheVariants.{Null};
 ghost use Rattle.sqlite_value.specs.declared.keys.Collation.TheVariants.{Binary};
 ghost use Rattle.sqlite_value.specs.Keys.{plain};
@@ -19,9 +19,13 @@ ghost use Rattle.ee_store_tables.specs.Tables.{
   paid,
   batches,
   replies,
+  extensions,
 };
+ghost use Rattle.ee_store_opening.specs.declared.forms.Form.{Form};
+ghost use Rattle.ee_store_opening.specs.Forms.{earlier_tables, schema_of};
 ghost use Rattle.ee_store_opening.specs.Making.{no_tables};
 
+use crate::forms::Form;
 use sqlite_items::Items;
 use sqlite_schema::code::Terms;
 use sqlite_schema::schema::{Column, Index, Kind, Schema, Stamps, Table};
@@ -258,6 +262,15 @@ fn is_replies(table: &Table) -> bool
         && is_text(reply, "reply")
 }
 
+fn is_extensions(table: &Table) -> bool
+    ensures { (result ≡ true) ↔ (table.now ≡ extensions) }
+{
+    let [period, rate] = table.columns.as_slice() else {
+        return false;
+    };
+    is_keyed(table, "extensions", 12) && is_number(period, "period") && is_number(rate, "rate")
+}
+
 /// Whether an index has this name, tree and table, and each of its columns ascends.
 fn is_index(index: &Index, name: &str, tree: u32, table: u32, columns: &[usize]) -> bool
     ensures { (result ≡ true) ↔ (index.now
@@ -282,8 +295,9 @@ fn is_key(index: &Index, name: &str, tree: u32, table: u32, columns: &[usize]) -
     is_index(index, name, tree, table, columns) && index.is_unique
 }
 
-fn are_our_tables(tables: &[Table]) -> bool
-    ensures { (result ≡ true) ↔ (tables.now ≡ counter_schema.tables) }
+/// Whether these are the seven tables that each form has.
+fn are_common(tables: &[Table]) -> bool
+    ensures { (result ≡ true) ↔ (tables.now ≡ earlier_tables.tables) }
 {
     let [desk, rates, bonds, tickets, paid, batches, replies] = tables else {
         return false;
@@ -317,11 +331,34 @@ pub(crate) fn has_no_tables(schema: &Schema) -> bool
     schema.tables.is_empty() && schema.indexes.is_empty() && schema.views.is_empty()
 }
 
-/// Whether the tables of version 1 are there, in their order, and nothing else.
-pub(crate) fn has_our_tables(schema: &Schema) -> bool
-    ensures { (result ≡ true) ↔ (schema.now ≡ counter_schema) }
+/// The form of these tables: the seven that each form has, and then that of extensions or none.
+fn form_of_tables(tables: &[Table]) -> Option<Form>
+    ensures { (form : Form) → (result ≡ Some form) ↔ (tables.now ≡ (schema_of form).tables) }
 {
-    are_our_tables(schema.tables.as_slice())
-        && are_our_indexes(schema.indexes.as_slice())
-        && schema.views.is_empty()
+    let (common, more) = tables.split_at_checked(7)?;
+    if !are_common(common) {
+        return None;
+    }
+    match more {
+        [] => Some(Form::Earlier),
+        [last] => {
+            if is_extensions(last) {
+                Some(Form::Current)
+            } else {
+                None
+            }
+        }
+        _ => None,
+    }
+}
+
+/// The form of the tables of version 1, where they are there, in their order, and nothing else.
+pub(crate) fn form_of(schema: &Schema) -> Option<Form>
+    ensures { (form : Form) → (result ≡ Some form) ↔ (schema.now ≡ schema_of form) }
+{
+    if are_our_indexes(schema.indexes.as_slice()) && schema.views.is_empty() {
+        form_of_tables(schema.tables.as_slice())
+    } else {
+        None
+    }
 }

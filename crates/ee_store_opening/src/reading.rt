@@ -5,11 +5,13 @@ ghost use Rattle.sqlite.specs.State.{HasCleanDisk, IsUnchanged, KeepsCommit, Sur
 ghost use Rattle.sqlite.specs.Given.{IsPlain};
 ghost use Rattle.sqlite.specs.Held.{state};
 ghost use Rattle.sqlite.specs.Listing.{understood};
+ghost use Rattle.sqlite.specs.Schema.{Schema};
 ghost use Rattle.sqlite.specs.Term.{Term};
+ghost use Rattle.sqlite_value.specs.declared.keys.Key.{Key};
 ghost use Rattle.sqlite.specs.Order.{Row as Columns};
-ghost use Rattle.ee_store_tables.specs.Tables.{counter_schema};
 ghost use Rattle.ee_store_opening.specs.Faults.{FailsForCause};
-ghost use Rattle.ee_store_opening.specs.Reading.{rises, whole_table, AsksForAll, IsNeverRefused, ShowsAll, ShowsUnreadable, CanBeRead, HasOurTables, OnlyAsks};
+ghost use Rattle.ee_store_opening.specs.Forms.{SeesSchema};
+ghost use Rattle.ee_store_opening.specs.Reading.{rises, whole_table, AsksForAll, IsNeverRefused, ShowsAll, ShowsUnreadable, CanBeRead, OnlyAsks};
 
 use crate::faults::OpenFault;
 use sqlite::{Alter, Connection, Row};
@@ -94,18 +96,19 @@ pub(crate) fn read_table<S: Alter, T: Record + Drop>(
     sql: &str,
 ) -> Result<Vec<T>, OpenFault>
     requires { OnlyAsks sql.now }
-    ensures found { HasCleanDisk (state S.Store conn.new) → IfOk result (λ found. (tree : ℕ) (terms : List Term) → AsksForAll counter_schema sql.now tree terms
-        → HasOurTables (state S.Store conn.old) → IsTrue (state S.Store conn.old).is_open
+    ensures found { HasCleanDisk (state S.Store conn.new) → IfOk result (λ found. (schema : Schema) (tree : ℕ) (terms : List Term) (order : List (Term × Key))
+        → AsksForAll schema sql.now tree terms order → SeesSchema schema (state S.Store conn.old) → IsTrue (state S.Store conn.old).is_open
         × ShowsAll (state S.Store conn.old).now.trees tree terms (map T.shown found.items)) }
     ensures rises { IfOk result (λ found. rises T.stands_before found.items ≡ true) }
     ensures usable { HasCleanDisk (state S.Store conn.new) → IfErr result (λ e. e ≡ OpenFault.Unusable
-        → (tree : ℕ) (terms : List Term) (asks : AsksForAll counter_schema sql.now tree terms)
-        → HasOurTables (state S.Store conn.old) → IsTrue (state S.Store conn.old).is_open
-        → ¬ CanBeRead T.is_readable T.shown T.stands_before (state S.Store conn.old).now.trees (whole_table tree terms asks.order)) }
+        → (schema : Schema) (tree : ℕ) (terms : List Term) (order : List (Term × Key)) → AsksForAll schema sql.now tree terms order
+        → SeesSchema schema (state S.Store conn.old) → IsTrue (state S.Store conn.old).is_open
+        → ¬ CanBeRead T.is_readable T.shown T.stands_before (state S.Store conn.old).now.trees (whole_table tree terms order)) }
     ensures same { HasCleanDisk (state S.Store conn.new) → OnOk result (IsUnchanged (state S.Store conn.old) (state S.Store conn.new)) }
     ensures kept { HasCleanDisk (state S.Store conn.new) → KeepsCommit (state S.Store conn.old) (state S.Store conn.new) }
     ensures other { IfErr result (λ e. e ≢ OpenFault.WrongVersion) }
-    ensures cause { IsNeverRefused counter_schema sql.now [] → FailsForCause HasOurTables (state S.Store conn.old) (state S.Store conn.new) result }
+    ensures cause { (schema : Schema) → IsNeverRefused schema sql.now []
+        → FailsForCause (SeesSchema schema) (state S.Store conn.old) (state S.Store conn.new) result }
     ensures crash { Survives (state S.Store conn.old) (state S.Store conn.new) (λ _. ⊥) }
 {
     let found: Vec<T> = read_rows(conn, alloc, sql)?;

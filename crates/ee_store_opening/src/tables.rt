@@ -7,6 +7,7 @@ ghost use Rattle.sqlite.specs.State.{HasCleanDisk, IsUnchanged, KeepsCommit, Sur
 ghost use Rattle.sqlite.specs.Held.{state};
 ghost use Rattle.ee_store_tables.specs.Keyed.{pair_cmp, HoldsMap, HoldsPairs};
 ghost use Rattle.ee_store_tables.specs.Rows.{
+  Rows,
   DeskRow,
   BondRow,
   TicketRow,
@@ -22,7 +23,8 @@ ghost use Rattle.ee_store_tables.specs.Rows.{
   reply_columns,
 };
 ghost use Rattle.ee_store_opening.specs.Faults.{FailsForCause};
-ghost use Rattle.ee_store_opening.specs.Reading.{IsSoundNow, HasOurTables};
+ghost use Rattle.ee_store_opening.specs.Forms.{HasOurTables, SeesForm, HoldsIn};
+ghost use Rattle.ee_store_opening.specs.Reading.{IsSoundNow};
 ghost use Rattle.ee_store_opening.specs.Shown.{
   AreWritten,
   desk_map,
@@ -40,11 +42,13 @@ ghost use Rattle.ee_store_opening.specs.Shown.{
   batch_entry,
   reply_entry,
 };
+ghost use Rattle.ee_store_opening.specs.Whole.{HoldsExtensions};
 
 use crate::entries::{
     Rowid, StoredBatch, StoredBond, StoredDesk, StoredLine, StoredRate, StoredReply, StoredTicket,
 };
 use crate::faults::OpenFault;
+use crate::forms::Form;
 use crate::reading::read_table;
 use sqlite::{Alter, Connection};
 use std::alloc::Global;
@@ -213,4 +217,32 @@ pub(crate) fn read_lines<S: Alter>(
     )?;
     let _rowids: Vec<Rowid> = read_table(conn, alloc, "SELECT rowid FROM paid ORDER BY rowid")?;
     Ok(found)
+}
+
+/// The extensions, in order of their periods; none where the store lacks their table.
+pub(crate) fn read_extensions<S: Alter>(
+    conn: &mut Connection<S>,
+    alloc: Global,
+    form: Form,
+) -> Result<Vec<StoredRate>, OpenFault>
+    ensures found { HasCleanDisk (state S.Store conn.new) → SeesForm form (state S.Store conn.old) → IsSoundNow (state S.Store conn.old)
+        → IfOk result (λ found. HoldsExtensions form (state S.Store conn.old).now.trees found.items) }
+    ensures listed { IfOk result (λ found. entries (rate_map found.items) ≡ map rate_entry found.items) }
+    ensures usable { HasCleanDisk (state S.Store conn.new) → IfErr result (λ e. e ≡ OpenFault.Unusable → SeesForm form (state S.Store conn.old)
+        → IsTrue (state S.Store conn.old).is_open → (rows : Rows) → ¬ HoldsIn form (state S.Store conn.old).now.trees rows) }
+    ensures same { HasCleanDisk (state S.Store conn.new) → IsTrue (state S.Store conn.old).is_open
+        → OnOk result (IsUnchanged (state S.Store conn.old) (state S.Store conn.new)) }
+    ensures kept { HasCleanDisk (state S.Store conn.new) → KeepsCommit (state S.Store conn.old) (state S.Store conn.new) }
+    ensures other { IfErr result (λ e. e ≢ OpenFault.WrongVersion) }
+    ensures cause { FailsForCause (SeesForm form) (state S.Store conn.old) (state S.Store conn.new) result }
+    ensures crash { Survives (state S.Store conn.old) (state S.Store conn.new) (λ _. ⊥) }
+{
+    match form {
+        Form::Current => read_table(
+            conn,
+            alloc,
+            "SELECT period, rate FROM extensions ORDER BY period",
+        ),
+        Form::Earlier => Ok(Vec::new(alloc)),
+    }
 }

@@ -5,10 +5,11 @@ ghost use Rattle.std.specs.Option.{option_to_list};
 ghost use Rattle.std.specs.FinMap.{get};
 ghost use Rattle.sqlite.specs.Held.{state};
 ghost use Rattle.sqlite.specs.State.{HasCleanDisk, IsUnchanged, KeepsCommit};
-ghost use Rattle.ee_store_tables.specs.Rows.{Rows, DeskRow, Sees};
-ghost use Rattle.ee_store_tables.specs.Statements.{Finds, LeavesNoMore};
+ghost use Rattle.ee_store_tables.specs.Rows.{Rows, DeskRow};
+ghost use Rattle.ee_store_tables.specs.Statements.{LeavesNoMore};
+ghost use Rattle.ee_store_opening.specs.declared.forms.Form.{Form};
 ghost use Rattle.ee_store_opening.specs.Faults.{FailsForCause};
-ghost use Rattle.ee_store_opening.specs.Reading.{HasOurTables};
+ghost use Rattle.ee_store_opening.specs.Forms.{HasOurTables, SeesIn};
 ghost use Rattle.ee_store_opening.specs.Opening.{version_shown, versions_in, IsFirstVersion, IsOtherVersion};
 
 use crate::faults::OpenFault;
@@ -20,7 +21,8 @@ pub const STORE_VERSION: i64 = 1;
 
 /// The version in the desk's row, if that is there.
 fn version_rows<S: Alter>(conn: &mut Connection<S>) -> Result<Vec<Row>, OpenFault>
-    ensures found { Finds (state S.Store conn.old) (state S.Store conn.new) result (λ rows found. found.items ≡ versions_in rows) }
+    ensures found { HasCleanDisk (state S.Store conn.new) → IfOk result (λ found. (form : Form) (rows : Rows) → SeesIn form (state S.Store conn.old) rows
+        → found.items ≡ versions_in rows) }
     ensures same { HasCleanDisk (state S.Store conn.new) → OnOk result (IsUnchanged (state S.Store conn.old) (state S.Store conn.new)) }
     ensures kept { HasCleanDisk (state S.Store conn.new) → KeepsCommit (state S.Store conn.old) (state S.Store conn.new) }
     ensures usable { HasCleanDisk (state S.Store conn.new) → IfErr result (λ e. HasOurTables (state S.Store conn.old)
@@ -53,11 +55,13 @@ fn read_version(rows: &[Row]) -> Result<i64, OpenFault>
 
 /// Tests that the tables are of version 1.
 pub(crate) fn check_version<S: Alter>(conn: &mut Connection<S>) -> Result<(), OpenFault>
-    ensures first { HasCleanDisk (state S.Store conn.new) → OnOk result ((rows : Rows) → Sees (state S.Store conn.old) rows → IsFirstVersion rows) }
-    ensures other { HasCleanDisk (state S.Store conn.new) → IfErr result (λ e. e ≡ OpenFault.WrongVersion → (rows : Rows)
-        → Sees (state S.Store conn.old) rows → IsOtherVersion rows) }
-    ensures usable { HasCleanDisk (state S.Store conn.new) → IfErr result (λ e. e ≡ OpenFault.Unusable → (rows : Rows)
-        → HasOurTables (state S.Store conn.old) → Sees (state S.Store conn.old) rows → IsTrue (state S.Store conn.old).is_open → get rows.desk 1 ≡ None) }
+    ensures first { HasCleanDisk (state S.Store conn.new) → OnOk result ((form : Form) (rows : Rows) → SeesIn form (state S.Store conn.old) rows
+        → IsFirstVersion rows) }
+    ensures other { HasCleanDisk (state S.Store conn.new) → IfErr result (λ e. e ≡ OpenFault.WrongVersion → (form : Form) (rows : Rows)
+        → SeesIn form (state S.Store conn.old) rows → IsOtherVersion rows) }
+    ensures usable { HasCleanDisk (state S.Store conn.new) → IfErr result (λ e. e ≡ OpenFault.Unusable → (form : Form) (rows : Rows)
+        → HasOurTables (state S.Store conn.old) → SeesIn form (state S.Store conn.old) rows → IsTrue (state S.Store conn.old).is_open
+        → get rows.desk 1 ≡ None) }
     ensures same { HasCleanDisk (state S.Store conn.new) → OnOk result (IsUnchanged (state S.Store conn.old) (state S.Store conn.new)) }
     ensures kept { HasCleanDisk (state S.Store conn.new) → KeepsCommit (state S.Store conn.old) (state S.Store conn.new) }
     ensures cause { FailsForCause HasOurTables (state S.Store conn.old) (state S.Store conn.new) result }

@@ -3,17 +3,18 @@
 ghost use Rattle.std.specs.Prelude.{◌≡◌, ◌≢◌, false, IsTrue, IfOk, IfErr, OnOk};
 ghost use Rattle.sqlite.specs.State.{HasCleanDisk, IsUnchanged, KeepsCommit, Survives};
 ghost use Rattle.sqlite.specs.Held.{state};
-ghost use Rattle.ee_store_tables.specs.Rows.{Rows, Sees, Has, Holds};
+ghost use Rattle.ee_store_tables.specs.Rows.{Rows};
+ghost use Rattle.ee_store_opening.specs.declared.forms.Form.{Form};
+ghost use Rattle.ee_store_opening.specs.Forms.{HoldsIn, SeesForm, HasOurTables, SeesIn, HasForm, HadIn};
 ghost use Rattle.ee_store_opening.specs.Opening.{IsFirstVersion, IsOtherVersion, AreReadable};
 ghost use Rattle.ee_store_opening.specs.Shown.{AreWritten};
 ghost use Rattle.ee_store_opening.specs.Faults.{FailsForCause};
-ghost use Rattle.ee_store_opening.specs.Reading.{IsSoundNow, HasOurTables};
+ghost use Rattle.ee_store_opening.specs.Reading.{IsSoundNow};
 ghost use Rattle.ee_store_opening.specs.Whole.{
   rows_of,
   HoldsRegister,
   HoldsPayments,
   HoldsRecords,
-  IsOurs,
   AreInOrder,
   ListsAll,
   ListsRegister,
@@ -25,8 +26,10 @@ use crate::entries::{
     StoredBatch, StoredBond, StoredDesk, StoredLine, StoredRate, StoredReply, StoredTicket,
 };
 use crate::faults::OpenFault;
+use crate::forms::Form;
 use crate::tables::{
-    read_batches, read_bonds, read_desk, read_lines, read_rates, read_replies, read_tickets,
+    read_batches, read_bonds, read_desk, read_extensions, read_lines, read_rates, read_replies,
+    read_tickets,
 };
 use crate::version::check_version;
 use sqlite::{Alter, Connection};
@@ -37,7 +40,7 @@ use std::alloc::Global;
 pub struct AllRows {
     /// The row of the desk.
     pub desk: Vec<StoredDesk>,
-    /// The rates.
+    /// The fixed rates.
     pub rates: Vec<StoredRate>,
     /// The bonds.
     pub bonds: Vec<StoredBond>,
@@ -49,6 +52,8 @@ pub struct AllRows {
     pub batches: Vec<StoredBatch>,
     /// The kept acts and replies.
     pub replies: Vec<StoredReply>,
+    /// The extensions: the rates of extended maturity that are others than the fixed ones.
+    pub extensions: Vec<StoredRate>,
 }
 
 /// The rows of the register.
@@ -79,7 +84,7 @@ fn read_register<S: Alter>(conn: &mut Connection<S>, alloc: Global) -> Result<Re
         → IfOk result (λ found. HoldsRegister (state S.Store conn.old).now.trees found) }
     ensures listed { IfOk result ListsRegister }
     ensures usable { HasCleanDisk (state S.Store conn.new) → IfErr result (λ e. e ≡ OpenFault.Unusable → HasOurTables (state S.Store conn.old)
-        → IsTrue (state S.Store conn.old).is_open → (rows : Rows) → ¬ Holds (state S.Store conn.old).now.trees rows) }
+        → IsTrue (state S.Store conn.old).is_open → (form : Form) (rows : Rows) → ¬ HoldsIn form (state S.Store conn.old).now.trees rows) }
     ensures same { HasCleanDisk (state S.Store conn.new) → OnOk result (IsUnchanged (state S.Store conn.old) (state S.Store conn.new)) }
     ensures kept { HasCleanDisk (state S.Store conn.new) → KeepsCommit (state S.Store conn.old) (state S.Store conn.new) }
     ensures other { IfErr result (λ e. e ≢ OpenFault.WrongVersion) }
@@ -98,7 +103,7 @@ fn read_payments<S: Alter>(conn: &mut Connection<S>, alloc: Global) -> Result<Pa
         → IfOk result (λ found. HoldsPayments (state S.Store conn.old).now.trees found) }
     ensures listed { IfOk result ListsPayments }
     ensures usable { HasCleanDisk (state S.Store conn.new) → IfErr result (λ e. e ≡ OpenFault.Unusable → HasOurTables (state S.Store conn.old)
-        → IsTrue (state S.Store conn.old).is_open → (rows : Rows) → ¬ Holds (state S.Store conn.old).now.trees rows) }
+        → IsTrue (state S.Store conn.old).is_open → (form : Form) (rows : Rows) → ¬ HoldsIn form (state S.Store conn.old).now.trees rows) }
     ensures same { HasCleanDisk (state S.Store conn.new) → OnOk result (IsUnchanged (state S.Store conn.old) (state S.Store conn.new)) }
     ensures kept { HasCleanDisk (state S.Store conn.new) → KeepsCommit (state S.Store conn.old) (state S.Store conn.new) }
     ensures other { IfErr result (λ e. e ≢ OpenFault.WrongVersion) }
@@ -116,7 +121,8 @@ fn read_records<S: Alter>(conn: &mut Connection<S>, alloc: Global) -> Result<Rec
         → IfOk result (λ found. HoldsRecords (state S.Store conn.old).now.trees found) }
     ensures listed { IfOk result ListsRecords }
     ensures usable { HasCleanDisk (state S.Store conn.new) → IfErr result (λ e. e ≡ OpenFault.Unusable → HasOurTables (state S.Store conn.old)
-        → IsTrue (state S.Store conn.old).is_open → (rows : Rows) → AreWritten rows.replies → ¬ Holds (state S.Store conn.old).now.trees rows) }
+        → IsTrue (state S.Store conn.old).is_open → (form : Form) (rows : Rows) → AreWritten rows.replies
+        → ¬ HoldsIn form (state S.Store conn.old).now.trees rows) }
     ensures same { HasCleanDisk (state S.Store conn.new) → OnOk result (IsUnchanged (state S.Store conn.old) (state S.Store conn.new)) }
     ensures kept { HasCleanDisk (state S.Store conn.new) → KeepsCommit (state S.Store conn.old) (state S.Store conn.new) }
     ensures other { IfErr result (λ e. e ≢ OpenFault.WrongVersion) }
@@ -129,21 +135,26 @@ fn read_records<S: Alter>(conn: &mut Connection<S>, alloc: Global) -> Result<Rec
 }
 
 /// Reads all tables.
-fn read_in<S: Alter>(conn: &mut Connection<S>, alloc: Global) -> Result<AllRows, OpenFault>
-    ensures found { HasCleanDisk (state S.Store conn.new) → HasOurTables (state S.Store conn.old) → IsSoundNow (state S.Store conn.old)
-        → IfOk result (λ found. Holds (state S.Store conn.old).now.trees (rows_of found)) }
+fn read_in<S: Alter>(
+    conn: &mut Connection<S>,
+    alloc: Global,
+    form: Form,
+) -> Result<AllRows, OpenFault>
+    ensures found { HasCleanDisk (state S.Store conn.new) → SeesForm form (state S.Store conn.old) → IsSoundNow (state S.Store conn.old)
+        → IfOk result (λ found. HoldsIn form (state S.Store conn.old).now.trees (rows_of found)) }
     ensures listed { IfOk result ListsAll }
-    ensures usable { HasCleanDisk (state S.Store conn.new) → IfErr result (λ e. e ≡ OpenFault.Unusable → HasOurTables (state S.Store conn.old)
-        → IsTrue (state S.Store conn.old).is_open → (rows : Rows) → AreWritten rows.replies → ¬ Holds (state S.Store conn.old).now.trees rows) }
+    ensures usable { HasCleanDisk (state S.Store conn.new) → IfErr result (λ e. e ≡ OpenFault.Unusable → SeesForm form (state S.Store conn.old)
+        → IsTrue (state S.Store conn.old).is_open → (rows : Rows) → AreWritten rows.replies → ¬ HoldsIn form (state S.Store conn.old).now.trees rows) }
     ensures same { HasCleanDisk (state S.Store conn.new) → OnOk result (IsUnchanged (state S.Store conn.old) (state S.Store conn.new)) }
     ensures kept { HasCleanDisk (state S.Store conn.new) → KeepsCommit (state S.Store conn.old) (state S.Store conn.new) }
     ensures other { IfErr result (λ e. e ≢ OpenFault.WrongVersion) }
-    ensures cause { FailsForCause HasOurTables (state S.Store conn.old) (state S.Store conn.new) result }
+    ensures cause { FailsForCause (SeesForm form) (state S.Store conn.old) (state S.Store conn.new) result }
     ensures crash { Survives (state S.Store conn.old) (state S.Store conn.new) (λ _. ⊥) }
 {
     let register = read_register(conn, alloc)?;
     let payments = read_payments(conn, alloc)?;
     let records = read_records(conn, alloc)?;
+    let extensions = read_extensions(conn, alloc, form)?;
     Ok(AllRows {
         desk: register.desk,
         rates: register.rates,
@@ -152,31 +163,36 @@ fn read_in<S: Alter>(conn: &mut Connection<S>, alloc: Global) -> Result<AllRows,
         lines: payments.lines,
         batches: records.batches,
         replies: records.replies,
+        extensions,
     })
 }
 
 /// Tests the version, and then reads all tables.
-fn read_current<S: Alter>(conn: &mut Connection<S>, alloc: Global) -> Result<AllRows, OpenFault>
-    ensures found { HasCleanDisk (state S.Store conn.new) → HasOurTables (state S.Store conn.old) → IsSoundNow (state S.Store conn.old)
-        → IfOk result (λ found. Holds (state S.Store conn.old).now.trees (rows_of found)) }
+fn read_of_version<S: Alter>(
+    conn: &mut Connection<S>,
+    alloc: Global,
+    form: Form,
+) -> Result<AllRows, OpenFault>
+    ensures found { HasCleanDisk (state S.Store conn.new) → SeesForm form (state S.Store conn.old) → IsSoundNow (state S.Store conn.old)
+        → IfOk result (λ found. HoldsIn form (state S.Store conn.old).now.trees (rows_of found)) }
     ensures listed { IfOk result ListsAll }
-    ensures first { HasCleanDisk (state S.Store conn.new) → OnOk result ((rows : Rows) → Sees (state S.Store conn.old) rows → IsFirstVersion rows) }
+    ensures first { HasCleanDisk (state S.Store conn.new) → OnOk result ((rows : Rows) → SeesIn form (state S.Store conn.old) rows → IsFirstVersion rows) }
     ensures other { HasCleanDisk (state S.Store conn.new) → IfErr result (λ e. e ≡ OpenFault.WrongVersion → (rows : Rows)
-        → Sees (state S.Store conn.old) rows → IsOtherVersion rows) }
-    ensures usable { HasCleanDisk (state S.Store conn.new) → IfErr result (λ e. e ≡ OpenFault.Unusable → HasOurTables (state S.Store conn.old)
-        → IsTrue (state S.Store conn.old).is_open → (rows : Rows) → Sees (state S.Store conn.old) rows → ¬ AreReadable rows) }
-    ensures tested { HasCleanDisk (state S.Store conn.new) → IfErr result (λ e. e ≡ OpenFault.Unusable → HasOurTables (state S.Store conn.old)
-        → IsTrue (state S.Store conn.old).is_open → (rows : Rows) → Sees (state S.Store conn.old) rows → ¬ IsOtherVersion rows) }
+        → SeesIn form (state S.Store conn.old) rows → IsOtherVersion rows) }
+    ensures usable { HasCleanDisk (state S.Store conn.new) → IfErr result (λ e. e ≡ OpenFault.Unusable → SeesForm form (state S.Store conn.old)
+        → IsTrue (state S.Store conn.old).is_open → (rows : Rows) → SeesIn form (state S.Store conn.old) rows → ¬ AreReadable rows) }
+    ensures tested { HasCleanDisk (state S.Store conn.new) → IfErr result (λ e. e ≡ OpenFault.Unusable → SeesForm form (state S.Store conn.old)
+        → IsTrue (state S.Store conn.old).is_open → (rows : Rows) → SeesIn form (state S.Store conn.old) rows → ¬ IsOtherVersion rows) }
     ensures same { HasCleanDisk (state S.Store conn.new) → OnOk result (IsUnchanged (state S.Store conn.old) (state S.Store conn.new)) }
     ensures kept { HasCleanDisk (state S.Store conn.new) → KeepsCommit (state S.Store conn.old) (state S.Store conn.new) }
-    ensures cause { FailsForCause HasOurTables (state S.Store conn.old) (state S.Store conn.new) result }
+    ensures cause { FailsForCause (SeesForm form) (state S.Store conn.old) (state S.Store conn.new) result }
     ensures crash { Survives (state S.Store conn.old) (state S.Store conn.new) (λ _. ⊥) }
 {
     check_version(conn)?;
-    read_in(conn, alloc)
+    read_in(conn, alloc, form)
 }
 
-/// Reads all rows of a store that has the tables of version 1.
+/// Reads all rows of a store that has the tables of version 1, in this form.
 ///
 /// The version is tested first. The store keeps what was committed, and a stop leaves what it could
 /// leave before. It takes time and memory in proportion to the rows.
@@ -189,21 +205,23 @@ fn read_current<S: Alter>(conn: &mut Connection<S>, alloc: Global) -> Result<All
 pub(crate) fn read_all<S: Alter>(
     conn: &mut Connection<S>,
     alloc: Global,
+    form: Form,
 ) -> Result<AllRows, OpenFault>
-    ensures found { HasCleanDisk (state S.Store conn.new) → IfOk result (λ all. IsOurs (state S.Store conn.old) → Has (state S.Store conn.new) (rows_of all)) }
-    ensures those { HasCleanDisk (state S.Store conn.new) → IfOk result (λ all. (rows : Rows) → Has (state S.Store conn.old) rows
+    ensures found { HasCleanDisk (state S.Store conn.new) → IfOk result (λ all. HasForm form (state S.Store conn.old)
+        → HadIn form (state S.Store conn.new) (rows_of all)) }
+    ensures those { HasCleanDisk (state S.Store conn.new) → IfOk result (λ all. (rows : Rows) → HadIn form (state S.Store conn.old) rows
         → IsTrue (state S.Store conn.old).is_open → rows_of all ≡ rows) }
     ensures order { IfOk result AreInOrder }
-    ensures first { HasCleanDisk (state S.Store conn.new) → OnOk result ((rows : Rows) → Has (state S.Store conn.old) rows → IsFirstVersion rows) }
+    ensures first { HasCleanDisk (state S.Store conn.new) → OnOk result ((rows : Rows) → HadIn form (state S.Store conn.old) rows → IsFirstVersion rows) }
     ensures version { HasCleanDisk (state S.Store conn.new) → IfErr result (λ e. e ≡ OpenFault.WrongVersion → (rows : Rows)
-        → Has (state S.Store conn.old) rows → IsOtherVersion rows) }
-    ensures tested { HasCleanDisk (state S.Store conn.new) → IfErr result (λ e. e ≡ OpenFault.Unusable → (rows : Rows) → Has (state S.Store conn.old) rows
-        → IsTrue (state S.Store conn.old).is_open → ¬ IsOtherVersion rows) }
-    ensures usable { HasCleanDisk (state S.Store conn.new) → IfErr result (λ e. e ≡ OpenFault.Unusable → (rows : Rows) → Has (state S.Store conn.old) rows
-        → IsTrue (state S.Store conn.old).is_open → ¬ AreReadable rows) }
+        → HadIn form (state S.Store conn.old) rows → IsOtherVersion rows) }
+    ensures tested { HasCleanDisk (state S.Store conn.new) → IfErr result (λ e. e ≡ OpenFault.Unusable → (rows : Rows)
+        → HadIn form (state S.Store conn.old) rows → IsTrue (state S.Store conn.old).is_open → ¬ IsOtherVersion rows) }
+    ensures usable { HasCleanDisk (state S.Store conn.new) → IfErr result (λ e. e ≡ OpenFault.Unusable → (rows : Rows)
+        → HadIn form (state S.Store conn.old) rows → IsTrue (state S.Store conn.old).is_open → ¬ AreReadable rows) }
     ensures open { HasCleanDisk (state S.Store conn.new) → OnOk result (IsTrue (state S.Store conn.old).is_open × IsTrue (state S.Store conn.new).is_open) }
     ensures kept { HasCleanDisk (state S.Store conn.new) → KeepsCommit (state S.Store conn.old) (state S.Store conn.new) }
-    ensures cause { FailsForCause (λ s. (s.in_transaction ≡ false) × IsOurs s) (state S.Store conn.old) (state S.Store conn.new) result }
+    ensures cause { FailsForCause (λ s. (s.in_transaction ≡ false) × HasForm form s) (state S.Store conn.old) (state S.Store conn.new) result }
     ensures ended { HasCleanDisk (state S.Store conn.new) → OnOk result ((state S.Store conn.new).in_transaction ≡ false) }
     ensures crash { Survives (state S.Store conn.old) (state S.Store conn.new) (λ _. ⊥) }
 {
@@ -211,5 +229,5 @@ pub(crate) fn read_all<S: Alter>(
         return Err(OpenFault::StoreFailed);
     }
     let _schema = conn.schema();
-    read_current(conn, alloc)
+    read_of_version(conn, alloc, form)
 }

@@ -8,6 +8,7 @@ use Rattle.sqlite.specs.Collation.TheVariants.{Binary}
 use Rattle.sqlite.specs.Query.{Query, inner, end}
 use Rattle.sqlite_value.specs.declared.keys.Key.{Key}
 use Rattle.sqlite.specs.Source.TheVariants.{Values}
+use Rattle.sqlite.specs.Command.{Command}
 use Rattle.sqlite.specs.Command.TheVariants.{Insert, Select, Update, InsertOr}
 use Rattle.sqlite_schema.specs.declared.command.Returning.{Returning}
 use Rattle.sqlite_schema.specs.declared.command.Conflict.TheVariants.{Abort}
@@ -74,6 +75,10 @@ no_limit = lit (Int (negsuc 0))
 
 abbrev pub by_column : ℕ → Term × Key
 by_column at = (col 1 at, record { descending = false; collation = Binary })
+
+-- an insertion of a rate under its period, unless it has one, into the table at this place
+abbrev pub insert_rate : ℕ → Command
+insert_rate place = InsertOr place Abort (Values (col 0 0 ∷ lit Null ∷ col 0 1 ∷ []) 3) (record { target = Some (0 ∷ []); update = None } ∷ [])
 
 abbrev pub find_bond_text : List ℕ
 find_bond_text = codes "SELECT denom, issued, owner, coowner, ticket FROM bonds WHERE letter = ?1 AND number = ?2"
@@ -232,7 +237,7 @@ find_rate_plain = (refl, refl)
 abbrev pub add_rate_text : List ℕ
 add_rate_text = codes "INSERT INTO rates (period, rate) VALUES (?1, ?2) ON CONFLICT (period) DO NOTHING"
 
-pub add_rate_is : command_of (understood counter_schema add_rate_text) ≡ InsertOr 1 Abort (Values (col 0 0 ∷ lit Null ∷ col 0 1 ∷ []) 3) (record { target = Some (0 ∷ []); update = None } ∷ [])
+pub add_rate_is : command_of (understood counter_schema add_rate_text) ≡ insert_rate 1
 unfolding understood everything
 add_rate_is = refl
 
@@ -243,6 +248,39 @@ add_rate_whole = (refl, refl, refl)
 pub add_rate_plain : IsPlain (understood counter_schema add_rate_text)
 unfolding understood everything
 add_rate_plain = (refl, refl)
+
+abbrev pub find_extension_text : List ℕ
+find_extension_text = codes "SELECT rate FROM extensions WHERE period = ?1"
+
+abbrev pub find_extension_query : Query
+find_extension_query = by_number 12 (col 1 2 ∷ [])
+
+pub find_extension_is : (command_of (understood counter_schema find_extension_text) ≡ Select (record { lets = []; body = find_extension_query }) (codes "rate" ∷ [])) × (reads_listing counter_schema find_extension_text ≡ false)
+unfolding understood everything
+find_extension_is = (refl, refl)
+
+pub find_extension_whole : IsWhole find_extension_text 1 (understood counter_schema find_extension_text)
+unfolding understood everything
+find_extension_whole = (refl, refl, refl)
+
+pub find_extension_plain : IsPlain (understood counter_schema find_extension_text)
+unfolding understood everything
+find_extension_plain = (refl, refl)
+
+abbrev pub add_extension_text : List ℕ
+add_extension_text = codes "INSERT INTO extensions (period, rate) VALUES (?1, ?2) ON CONFLICT (period) DO NOTHING"
+
+pub add_extension_is : command_of (understood counter_schema add_extension_text) ≡ insert_rate 7
+unfolding understood everything
+add_extension_is = refl
+
+pub add_extension_whole : IsWhole add_extension_text 2 (understood counter_schema add_extension_text)
+unfolding understood everything
+add_extension_whole = (refl, refl, refl)
+
+pub add_extension_plain : IsPlain (understood counter_schema add_extension_text)
+unfolding understood everything
+add_extension_plain = (refl, refl)
 
 abbrev pub add_bond_text : List ℕ
 add_bond_text = codes "INSERT INTO bonds (letter, number, denom, issued, owner, coowner) VALUES (?1, ?2, ?3, ?4, ?5, ?6) ON CONFLICT (letter, number) DO NOTHING"

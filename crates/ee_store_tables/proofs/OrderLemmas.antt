@@ -1,5 +1,5 @@
 -- What a query shows in order.
-use Rattle.std.proofs.Common.{◌≡◌, ℕ, List, [], ◌∷◌, ◌++◌, map, filter, Bool, refl, sym, ap, subst, ◌∙◌, Ordering, Less}
+use Rattle.std.proofs.Common.{◌≡◌, ℕ, List, [], ◌∷◌, ◌++◌, map, filter, Bool, sym, ap, subst, ◌∙◌, Ordering, Less}
 use Rattle.std.specs.Prelude.{flat_map, T, IsPermutation}
 use Rattle.std.specs.List.{list_all, AllByRecursion}
 use Rattle.std.specs.FinMap.Entries.{below_all, is_sorted}

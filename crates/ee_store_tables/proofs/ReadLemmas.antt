@@ -1,5 +1,5 @@
 -- What a query of one table shows of the map that the table holds.
-use Rattle.std.proofs.Common.{◌≡◌, ℕ, ℤ, pos, List, [], ◌∷◌, map, filter, true, Some, None, Option, refl, ap, subst, ◌∙◌, nat_cmp}
+use Rattle.std.proofs.Common.{◌≡◌, ℕ, ℤ, pos, List, [], ◌∷◌, map, filter, Some, None, Option, refl, ap, subst, ◌∙◌, nat_cmp}
 use Rattle.std.specs.Prelude.{option_map, flat_map, IsPermutation}
 use Rattle.std.specs.Option.{option_to_list}
 use Rattle.std.specs.List.{list_all, AllByRecursion}

@@ -1,6 +1,6 @@
 -- Where nothing speaks against a write, it is not refused.
-use Rattle.std.proofs.Common.{◌≡◌, ◌⊎◌, inl, inr, ℕ, zero, suc, ◌<◌, ◌≤◌, ◌+◌, ℤ, pos, negsuc, List, [], ◌∷◌, length, Bool, true, false, Some, None, Option, Ok, Err, Result, refl, sym, ap, subst, ◌∙◌, arith, ◌^◌, nat_cmp, true≢false, mul-le-mul_right, length-append}
-use Rattle.std.specs.Prelude.{◌&&◌, IsSome}
+use Rattle.std.proofs.Common.{◌≡◌, ◌≢◌, ◌⊎◌, inl, inr, ℕ, zero, suc, ◌<◌, ◌≤◌, ◌+◌, ℤ, pos, negsuc, List, [], ◌∷◌, length, Bool, true, false, Some, None, Option, Ok, Err, Result, refl, sym, ap, subst, ◌∙◌, arith, ◌^◌, nat_cmp, true≢false, mul-le-mul_right, length-append}
+use Rattle.std.specs.Prelude.{◌&&◌, IsSome, if◌then◌else◌}
 use Rattle.std.specs.List.{AllByRecursion, list_all}
 use Rattle.std.specs.Float.{NotNan}
 use Rattle.std.specs.Float.Ieee
@@ -35,7 +35,7 @@ use Rattle.sqlite_schema.specs.declared.schema.Among.TheVariants as among
 use Rattle.sqlite_schema.specs.declared.schema.Keys.TheVariants.{Enforced}
 use Rattle.sqlite_keyed.proofs.RuleLemmas.{each_true}
 use Rattle.sqlite_keyed.proofs.ListLemmas.{all_weaker, all_from_test}
-use Rattle.std.proofs.lemmas.Bool.{cases_Bool}
+use Rattle.std.proofs.lemmas.Bool.{cases_Bool, ne_eqb}
 use Rattle.std.proofs.lemmas.Bool.Decides.{nat_tests}
 use Rattle.std.proofs.lemmas.Cmp.{nat_cmp_total}
 use Rattle.std.specs.Ordering.{is_eq}
@@ -164,7 +164,7 @@ one_fits schema table row fits entries r (inl same) (inr big) =
 
 -- no table refers to another
 pub no_references : (among : Among) (db : Trees) → Refers among counter_schema db
-no_references among db = (each_true _, (each_true _, (each_true _, (each_true _, (each_true _, (each_true _, (each_true _, tt)))))))
+no_references among db = (each_true _, (each_true _, (each_true _, (each_true _, (each_true _, (each_true _, (each_true _, (each_true _, tt))))))))
 
 abbrev pub task_on : Table → Row → Task
 task_on table params = record { limit = None; keys = Enforced; schema = counter_schema; table = table; params = params }
@@ -177,7 +177,17 @@ never_concluded table params w stop h =
 
 -- only bonds and lines have some
 pub all_unique : (db : Trees) → AllByRecursion (λ r. passes Unique counter_schema db bonds r ≡ true) (db 2) → AllByRecursion (λ r. passes Unique counter_schema db paid r ≡ true) (db 7) → Keeps Unique counter_schema db
-all_unique db of_bonds of_lines = (each_true _, (each_true _, (of_bonds, (each_true _, (of_lines, (each_true _, (each_true _, tt)))))))
+all_unique db of_bonds of_lines = (each_true _, (each_true _, (of_bonds, (each_true _, (of_lines, (each_true _, (each_true _, (each_true _, tt))))))))
+
+-- so a write of another table leaves them
+pub unique_beside : (db : Trees) (tree : ℕ) (next : List Row) → 2 ≢ tree → 7 ≢ tree → Keeps Unique counter_schema db → Keeps Unique counter_schema (with_tree db tree next)
+unique_beside db tree next not_bonds not_lines unique =
+    all_unique (with_tree db tree next)
+    (subst (λ rows. AllByRecursion (λ r. passes Unique counter_schema (λ _. rows) bonds r ≡ true) rows) (sym (kept 2 not_bonds)) unique.1.1.0)
+    (subst (λ rows. AllByRecursion (λ r. passes Unique counter_schema (λ _. rows) paid r ≡ true) rows) (sym (kept 7 not_lines)) unique.1.1.1.1.0)
+  where
+    kept : (t : ℕ) → t ≢ tree → with_tree db tree next t ≡ db t
+    kept t apart = ap (λ b. if b then next else db t) (ne_eqb t tree apart)
 
 -- a key without an entry is a rowid that no row has
 pub key_free : {X : Type 0} (columns : X → Row) (n : ℕ) (rows : List Row) (m : FinMap nat_cmp X) (h : HoldsMap columns rows m) (new : Row) → get m n ≡ None → is_taken rows (Int (pos n) ∷ new) ≡ false

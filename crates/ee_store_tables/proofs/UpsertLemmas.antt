@@ -1,8 +1,10 @@
 -- Why INSERT .. ON CONFLICT (..) DO NOTHING of one row is not refused.
 use Rattle.std.proofs.Common.{◌≡◌, inl, inr, ℕ, ◌<◌, ◌^◌, ℤ, pos, List, [], ◌∷◌, Bool, true, false, not, None, Some, Option, Err, refl, sym, ap, subst, ◌∙◌, arith, nat_cmp}
-use Rattle.std.specs.Prelude.{◌&&◌, ◌||◌, ◌++◌}
+use Rattle.std.specs.Prelude.{◌&&◌, ◌||◌, ◌++◌, codes}
 use Rattle.std.specs.List.{AllByRecursion, list_all}
 use Rattle.std.specs.Ordering.{is_eq}
+use Rattle.std.specs.FinMap.{FinMap}
+use Rattle.std.proofs.Math.Bool.{and-true}
 use Rattle.std.proofs.lemmas.Bool.{cases_Bool}
 use Rattle.std.proofs.lemmas.Cmp.{nat_cmp_total}
 use Rattle.sqlite.specs.declared.types.Value.TheVariants.{Null, Int}
@@ -31,18 +33,21 @@ use Rattle.sqlite_schema.specs.declared.command.Upsert.{Upsert}
 use Rattle.sqlite_schema.specs.declared.schema.Keys.TheVariants.{Enforced}
 use Rattle.sqlite_schema.specs.declared.schema.Constraint.TheVariants.{Datatype, NotNull, Check, PrimaryKey, Unique, ForeignKey}
 use Rattle.sqlite_schema.specs.Rules.{Keeps, agree, passes, passes_checks}
+use Rattle.sqlite.specs.Does.{AtPlace, OnRows}
 use Rattle.sqlite.specs.Effect.{RefusesSource}
 use Rattle.sqlite_keyed.proofs.RuleLemmas.{first_of_both}
 use Rattle.sqlite_keyed.proofs.ListLemmas.{any_from_none}
-use Rattle.ee_store_tables.specs.Tables.{counter_schema, rates, bonds}
-use Rattle.ee_store_tables.specs.Keyed.{row_of, stored, ReadAlike}
+use Rattle.ee_store_tables.specs.Tables.{counter_schema, bonds}
+use Rattle.ee_store_tables.specs.Keyed.{row_of, stored, ReadAlike, HoldsMap}
 use Rattle.ee_store_tables.specs.Rows.{Rows, Holds, rate_columns, BondRow, bond_columns, optional, Rises}
 use Rattle.ee_store_tables.proofs.PairLemmas.{tied, any_alike}
 use Rattle.ee_store_tables.proofs.ReadLemmas.{keyed_rows}
 use Rattle.ee_store_tables.proofs.SelectLemmas.{equals_holds, cmp_pos, turned_test}
 use Rattle.ee_store_tables.proofs.WriteLemmas.{cast_int, cast_integer, cast_null, cast_optional}
-use Rattle.ee_store_tables.proofs.CauseLemmas.{NeverStops, never_false}
-use Rattle.ee_store_tables.proofs.RefusalLemmas.{passed, no_stop, never_so, never_source, never_sourced, IsAllowed, never_edited, is_bare, bare_storable, one_fits, never_concluded, all_unique, number_fits, task_on}
+use Rattle.ee_store_tables.proofs.Meaning.{insert_rate}
+use Rattle.ee_store_tables.proofs.RateLemmas.{given_rate, rate_table, IsRateTable, rates_are, extensions_are, rates_conflict}
+use Rattle.ee_store_tables.proofs.CauseLemmas.{NeverStops, changing, never_false}
+use Rattle.ee_store_tables.proofs.RefusalLemmas.{passed, no_stop, never_so, never_source, never_sourced, IsAllowed, never_edited, is_bare, bare_storable, one_fits, never_concluded, all_unique, unique_beside, number_fits, task_on}
 use Rattle.ee_store_tables.proofs.KeyLemmas.{IsOther, put_apart, same_rowid, bonds_apart, bonds_unique, alike_both}
 use Rattle.ee_store_tables.proofs.RoomLemmas.{HasNext, has_next}
 
@@ -88,74 +93,77 @@ module _ (task : Task) (target : Option (List ℕ)) (new : Row) (db : Trees) (we
   never_tried stop (inl refused) = never_so well.fits refused.0
   never_tried stop (inr it) = judged it.0 stop it.1 it.2
 
--- ---- a rate
+-- ---- a rate or an extension
 
-module _ (db : Trees) (rows : Rows) (stands : Holds db rows) (unique : Keeps Unique counter_schema db) (n : ℕ) (low : n < 2 ^ 63) (x : ℕ) where
-  abbrev given_rate : Row
-  given_rate = Int (pos n) ∷ Int (pos x) ∷ []
-
+module _ (place : ℕ) (name : List ℕ) (tree : ℕ) (known : IsRateTable place name tree) (db : Trees) (m : FinMap nat_cmp ℕ) (stands : HoldsMap rate_columns (db tree) m) (unique : Keeps Unique counter_schema db) (n : ℕ) (low : n < 2 ^ 63) (x : ℕ) where
   abbrev rate_row : Row
   rate_row = row_of rate_columns (pos n, (n, x))
 
   abbrev rate_edit : List Row → Edit
-  rate_edit news = record { table = rates; gone = []; news = news }
+  rate_edit news = record { table = rate_table name tree; gone = []; news = news }
 
   abbrev rate_task : Task
-  rate_task = task_on rates given_rate
+  rate_task = task_on (rate_table name tree) (given_rate n x)
 
-  agrees : (r : Row) (e : ℕ × ℕ) → ReadAlike r (row_of rate_columns (pos e.0, e)) → (agree plain (0 ∷ []) r (0 ∷ []) rate_row || false) ≡ tied nat_cmp nat_cmp_total n e
+  agrees : (r : Row) (e : ℕ × ℕ) → ReadAlike r (row_of rate_columns (pos e.0, e)) → agree plain (0 ∷ []) r (0 ∷ []) rate_row ≡ tied nat_cmp nat_cmp_total n e
   unfolding binary first_key
-  agrees r e one = rw (one 0, equals_holds e.0 n) (whole _)
-    where
-      whole : (b : Bool) → ((b && true) || false) ≡ b
-      whole true = refl
-      whole false = refl
+  agrees r e one = rw (one 0, equals_holds e.0 n) (and-true _)
 
   -- a rowid that conflicts with none is new
-  rate_fresh : ((r : Row) → Has (db 1) r → conflicts (Some (0 ∷ [])) counter_schema.indexes rates rate_row r ≡ false) → is_taken (db 1) rate_row ≡ false
+  rate_fresh : ((r : Row) → Has (db tree) r → conflicts (Some (0 ∷ [])) counter_schema.indexes (rate_table name tree) rate_row r ≡ false) → is_taken (db tree) rate_row ≡ false
   rate_fresh none =
-      let are = keyed_rows rate_columns (db 1) stands.rates.table.numbered stands.rates.keyed stands.rates.table.are in
-      any_alike (λ e. row_of rate_columns (pos e.0, e)) (λ r. is_eq (value_cmp (rowid r) (Int (pos n)))) (tied nat_cmp nat_cmp_total n) (λ r e one. rw (one 0) (ap is_eq (cmp_pos e.0 n) ∙ turned_test e.0 n)) (db 1) _ are
-      ∙ sym (any_alike (λ e. row_of rate_columns (pos e.0, e)) (λ r. agree plain (0 ∷ []) r (0 ∷ []) rate_row || false) (tied nat_cmp nat_cmp_total n) agrees (db 1) _ are)
-      ∙ any_from_none _ (db 1) (all_from (λ r. (agree plain (0 ∷ []) r (0 ∷ []) rate_row || false) ≡ false) (db 1) none)
+      let are = keyed_rows rate_columns (db tree) stands.table.numbered stands.keyed stands.table.are in
+      any_alike (λ e. row_of rate_columns (pos e.0, e)) (λ r. is_eq (value_cmp (rowid r) (Int (pos n)))) (tied nat_cmp nat_cmp_total n) (λ r e one. rw (one 0) (ap is_eq (cmp_pos e.0 n) ∙ turned_test e.0 n)) (db tree) _ are
+      ∙ sym (any_alike (λ e. row_of rate_columns (pos e.0, e)) (λ r. agree plain (0 ∷ []) r (0 ∷ []) rate_row) (tied nat_cmp nat_cmp_total n) agrees (db tree) _ are)
+      ∙ any_from_none _ (db tree) (all_from (λ r. agree plain (0 ∷ []) r (0 ∷ []) rate_row ≡ false) (db tree) (λ r has. sym (rates_conflict place name tree known rate_row r) ∙ none r has))
 
-  rate_allowed : is_taken (db 1) rate_row ≡ false → IsAllowed counter_schema Enforced db (rate_edit (rate_row ∷ []))
+  rate_allowed : is_taken (db tree) rate_row ≡ false → IsAllowed counter_schema Enforced db (rate_edit (rate_row ∷ []))
   rate_allowed fresh = record {
     typed = refl;
     present = refl;
     checked = refl;
     fresh = ap (λ b. not b && true) fresh;
-    unique = all_unique (with_tree db 1 (edited db (rate_edit (rate_row ∷ [])))) unique.1.1.0 unique.1.1.1.1.0;
+    unique = unique_beside db tree (edited db (rate_edit (rate_row ∷ []))) known.unindexed.0 known.unindexed.1.1.1.0 unique;
     keyed = refl;
     fits = number_fits n low;
     referred = refl;
     acts = refl;
-    small = one_fits counter_schema rates rate_row (bare_storable rate_row refl (omega arith) (omega arith), omega arith)
-        (λ e. absurd (omega (arith, e)), (λ e. absurd (omega (arith, e)), (λ e. absurd (omega (arith, e)), (λ e. absurd (omega (arith, e)), (λ e. absurd (omega (arith, e)), tt)))));
+    small = one_fits counter_schema (rate_table name tree) rate_row (bare_storable rate_row refl (omega arith) (omega arith), omega arith) (
+      λ e. absurd (known.unindexed.0 e),
+      (λ e. absurd (known.unindexed.1.0 e), (λ e. absurd (known.unindexed.1.1.0 e), (λ e. absurd (known.unindexed.1.1.1.0 e), (λ e. absurd (known.unindexed.1.1.1.1.0 e), tt)))),
+    );
   }
 
-  rate_puts : ((r : Row) → Has (db 1) r → conflicts (Some (0 ∷ [])) counter_schema.indexes rates rate_row r ≡ false) → (stop : Option Error) → ¬ Puts rate_task rate_row db (Err stop)
+  rate_puts : ((r : Row) → Has (db tree) r → conflicts (Some (0 ∷ [])) counter_schema.indexes (rate_table name tree) rate_row r ≡ false) → (stop : Option Error) → ¬ Puts rate_task rate_row db (Err stop)
   rate_puts none stop h =
-      let same : edit_of db rates [] Given 0 (rate_row ∷ []) ≡ rate_edit (rate_row ∷ []) = ap rate_edit (rw (cast_null, cast_int n, cast_int x) refl) in
+      let same : edit_of db (rate_table name tree) [] Given 0 (rate_row ∷ []) ≡ rate_edit (rate_row ∷ []) = ap rate_edit (rw (cast_null, cast_int n, cast_int x) refl) in
       let put = passed h (λ s e. never_edited counter_schema Enforced db (rate_edit (rate_row ∷ [])) (rate_allowed (rate_fresh none)) s (subst (λ edit. Edited counter_schema Enforced db edit (Err s)) same e)) in
       no_stop put.2
 
   rate_tried : (stop : Option Error) → ¬ Tries rate_task Abort (record { target = Some (0 ∷ []); update = None } ∷ []) rate_row db (Err stop)
   rate_tried = never_tried rate_task (Some (0 ∷ [])) rate_row db (record { fits = first_of_both _ _ (number_fits n low); keyed = refl; typed = refl; present = refl; checked = refl }) rate_puts
 
-  pub add_rate_stays : NeverStops db given_rate None (InsertOr 1 Abort (Values (col 0 0 ∷ lit Null ∷ col 0 1 ∷ []) 3) (record { target = Some (0 ∷ []); update = None } ∷ []))
-  add_rate_stays text stop h =
+  rate_stays : NeverStops db (given_rate n x) None (insert_rate place)
+  rate_stays text stop h =
       let rules : List Upsert = record { target = Some (0 ∷ []); update = None } ∷ [] in
-      let new_is : with_rowid Chosen (db 1) (cast_row rates (Int (pos n) ∷ Null ∷ Int (pos x) ∷ [])) ≡ rate_row = rw (cast_null, cast_int n, cast_int x) refl in
-      let written = passed h (λ s w.
-      let given = passed w (never_sourced (record { schema = counter_schema; trees = db }) given_rate (Values (col 0 0 ∷ lit Null ∷ col 0 1 ∷ []) 3) (λ e r. never_source never_false r)) in
+      let does = subst (λ at. AtPlace (λ table. OnRows (task_on table (given_rate n x)) changing None (insert_rate place) db) at (Err stop)) known.there h in
+      let new_is : with_rowid Chosen (db tree) (cast_row (rate_table name tree) (Int (pos n) ∷ Null ∷ Int (pos x) ∷ [])) ≡ rate_row = rw (cast_null, cast_int n, cast_int x) refl in
+      let written = passed does (λ s w.
+      let given = passed w (never_sourced (record { schema = counter_schema; trees = db }) (given_rate n x) (Values (col 0 0 ∷ lit Null ∷ col 0 1 ∷ []) 3) (λ e r. never_source never_false r)) in
       let counter = passed given.2 (λ s e. no_stop e) in
       let each = passed counter.2 (λ s e.
       let one = passed (subst (λ sources. TriesEach rate_task Abort rules sources (count_of counter.0) (nothing db) (Err s)) given.1.1 e) (λ s t. rate_tried s (subst (λ r. Tries rate_task Abort rules r db (Err s)) new_is t)) in
       no_stop one.2) in
       let counted = passed each.2 (λ s e. no_stop e) in
       no_stop counted.2) in
-      never_concluded rates given_rate written.0 stop written.2
+      never_concluded (rate_table name tree) (given_rate n x) written.0 stop written.2
+
+module _ (db : Trees) (rows : Rows) (stands : Holds db rows) (unique : Keeps Unique counter_schema db) (n : ℕ) (low : n < 2 ^ 63) (x : ℕ) where
+  pub add_rate_stays : NeverStops db (given_rate n x) None (insert_rate 1)
+  add_rate_stays = rate_stays 1 (codes "rates") 1 rates_are db rows.rates stands.rates unique n low x
+
+  pub add_extension_stays : NeverStops db (given_rate n x) None (insert_rate 7)
+  add_extension_stays = rate_stays 7 (codes "extensions") 12 extensions_are db rows.extensions stands.extensions unique n low x
 
 -- ---- a bond
 

@@ -54,10 +54,10 @@ fresh_one false h = refl
 
 -- every table but this one has the rows that it had
 abbrev pub Same : ℕ → Trees → Trees → Type 0
-Same tree old new = AllByRecursion (λ t. (t ≢ tree) → new t ≡ old t) (0 ∷ 1 ∷ 2 ∷ 5 ∷ 7 ∷ 10 ∷ 11 ∷ [])
+Same tree old new = AllByRecursion (λ t. (t ≢ tree) → new t ≡ old t) (0 ∷ 1 ∷ 2 ∷ 5 ∷ 7 ∷ 10 ∷ 11 ∷ 12 ∷ [])
 
 pub unaltered : (tree : ℕ) (db : Trees) → Same tree db db
-unaltered tree db = (λ _. refl, (λ _. refl, (λ _. refl, (λ _. refl, (λ _. refl, (λ _. refl, (λ _. refl, tt)))))))
+unaltered tree db = (λ _. refl, (λ _. refl, (λ _. refl, (λ _. refl, (λ _. refl, (λ _. refl, (λ _. refl, (λ _. refl, tt))))))))
 
 pub not_so : (b : Bool) → not b ≡ true → b ≡ false
 not_so true h = cc
@@ -71,10 +71,10 @@ pub not_foreign : Unique ≢ ForeignKey
 unfolding is_foreign
 not_foreign e = absurd (let a : false ≡ true = ap is_foreign e in cc)
 
-moved : {X : Type 0} {columns : X → Row} {m : FinMap nat_cmp X} {old new : List Row} → new ≡ old → HoldsMap columns old m → HoldsMap columns new m
+pub moved : {X : Type 0} {columns : X → Row} {m : FinMap nat_cmp X} {old new : List Row} → new ≡ old → HoldsMap columns old m → HoldsMap columns new m
 moved {columns} {m} same held = subst (λ rs. HoldsMap columns rs m) (sym same) held
 
-moved_pairs : {X : Type 0} (columns : X → Row) {m : FinMap pair_cmp X} {old new : List Row} → new ≡ old → HoldsPairs columns old m → HoldsPairs columns new m
+pub moved_pairs : {X : Type 0} (columns : X → Row) {m : FinMap pair_cmp X} {old new : List Row} → new ≡ old → HoldsPairs columns old m → HoldsPairs columns new m
 moved_pairs columns {m} same held = subst (λ rs. HoldsPairs columns rs m) (sym same) held
 
 module _ (db new : Trees) (rows : Rows) (stands : Holds db rows) where
@@ -87,6 +87,7 @@ module _ (db new : Trees) (rows : Rows) (stands : Holds db rows) where
     paid = moved_pairs paid_columns (same.1.1.1.1.0 (λ e. omega (arith, e))) stands.paid;
     batches = moved (same.1.1.1.1.1.0 (λ e. omega (arith, e))) stands.batches;
     replies = moved (same.1.1.1.1.1.1.0 (λ e. omega (arith, e))) stands.replies;
+    extensions = moved (same.1.1.1.1.1.1.1.0 (λ e. omega (arith, e))) stands.extensions;
   }
 
   pub with_rates : (next : FinMap nat_cmp ℕ) → Same 1 db new → HoldsMap rate_columns (new 1) next → Holds new (record rows { rates = next })
@@ -98,6 +99,7 @@ module _ (db new : Trees) (rows : Rows) (stands : Holds db rows) where
     paid = moved_pairs paid_columns (same.1.1.1.1.0 (λ e. omega (arith, e))) stands.paid;
     batches = moved (same.1.1.1.1.1.0 (λ e. omega (arith, e))) stands.batches;
     replies = moved (same.1.1.1.1.1.1.0 (λ e. omega (arith, e))) stands.replies;
+    extensions = moved (same.1.1.1.1.1.1.1.0 (λ e. omega (arith, e))) stands.extensions;
   }
 
   pub with_bonds : (next : FinMap pair_cmp BondRow) → Same 2 db new → HoldsPairs bond_columns (new 2) next → Holds new (record rows { bonds = next })
@@ -109,6 +111,7 @@ module _ (db new : Trees) (rows : Rows) (stands : Holds db rows) where
     paid = moved_pairs paid_columns (same.1.1.1.1.0 (λ e. omega (arith, e))) stands.paid;
     batches = moved (same.1.1.1.1.1.0 (λ e. omega (arith, e))) stands.batches;
     replies = moved (same.1.1.1.1.1.1.0 (λ e. omega (arith, e))) stands.replies;
+    extensions = moved (same.1.1.1.1.1.1.1.0 (λ e. omega (arith, e))) stands.extensions;
   }
 
   pub with_tickets : (next : FinMap nat_cmp TicketRow) → Same 5 db new → HoldsMap ticket_columns (new 5) next → Holds new (record rows { tickets = next })
@@ -120,6 +123,7 @@ module _ (db new : Trees) (rows : Rows) (stands : Holds db rows) where
     paid = moved_pairs paid_columns (same.1.1.1.1.0 (λ e. omega (arith, e))) stands.paid;
     batches = moved (same.1.1.1.1.1.0 (λ e. omega (arith, e))) stands.batches;
     replies = moved (same.1.1.1.1.1.1.0 (λ e. omega (arith, e))) stands.replies;
+    extensions = moved (same.1.1.1.1.1.1.1.0 (λ e. omega (arith, e))) stands.extensions;
   }
 
   pub with_paid : (next : FinMap pair_cmp PaidRow) → Same 7 db new → HoldsPairs paid_columns (new 7) next → Holds new (record rows { paid = next })
@@ -131,6 +135,7 @@ module _ (db new : Trees) (rows : Rows) (stands : Holds db rows) where
     paid = held;
     batches = moved (same.1.1.1.1.1.0 (λ e. omega (arith, e))) stands.batches;
     replies = moved (same.1.1.1.1.1.1.0 (λ e. omega (arith, e))) stands.replies;
+    extensions = moved (same.1.1.1.1.1.1.1.0 (λ e. omega (arith, e))) stands.extensions;
   }
 
   pub with_batches : (next : FinMap nat_cmp BatchRow) → Same 10 db new → HoldsMap batch_columns (new 10) next → Holds new (record rows { batches = next })
@@ -142,6 +147,7 @@ module _ (db new : Trees) (rows : Rows) (stands : Holds db rows) where
     paid = moved_pairs paid_columns (same.1.1.1.1.0 (λ e. omega (arith, e))) stands.paid;
     batches = held;
     replies = moved (same.1.1.1.1.1.1.0 (λ e. omega (arith, e))) stands.replies;
+    extensions = moved (same.1.1.1.1.1.1.1.0 (λ e. omega (arith, e))) stands.extensions;
   }
 
   pub with_replies : (next : FinMap nat_cmp ReplyRow) → Same 11 db new → HoldsMap reply_columns (new 11) next → Holds new (record rows { replies = next })
@@ -153,4 +159,17 @@ module _ (db new : Trees) (rows : Rows) (stands : Holds db rows) where
     paid = moved_pairs paid_columns (same.1.1.1.1.0 (λ e. omega (arith, e))) stands.paid;
     batches = moved (same.1.1.1.1.1.0 (λ e. omega (arith, e))) stands.batches;
     replies = held;
+    extensions = moved (same.1.1.1.1.1.1.1.0 (λ e. omega (arith, e))) stands.extensions;
+  }
+
+  pub with_extensions : (next : FinMap nat_cmp ℕ) → Same 12 db new → HoldsMap rate_columns (new 12) next → Holds new (record rows { extensions = next })
+  with_extensions next same held = record {
+    desk = moved (same.0 (λ e. omega (arith, e))) stands.desk;
+    rates = moved (same.1.0 (λ e. omega (arith, e))) stands.rates;
+    bonds = moved_pairs bond_columns (same.1.1.0 (λ e. omega (arith, e))) stands.bonds;
+    tickets = moved (same.1.1.1.0 (λ e. omega (arith, e))) stands.tickets;
+    paid = moved_pairs paid_columns (same.1.1.1.1.0 (λ e. omega (arith, e))) stands.paid;
+    batches = moved (same.1.1.1.1.1.0 (λ e. omega (arith, e))) stands.batches;
+    replies = moved (same.1.1.1.1.1.1.0 (λ e. omega (arith, e))) stands.replies;
+    extensions = held;
   }

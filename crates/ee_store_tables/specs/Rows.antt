@@ -54,6 +54,7 @@ pub record Rows : Type 0 where
   pub paid : FinMap pair_cmp PaidRow
   pub batches : FinMap nat_cmp BatchRow
   pub replies : FinMap nat_cmp ReplyRow
+  pub extensions : FinMap nat_cmp ℕ
 
 abbrev pub number : ℕ → Value
 number n = Int (pos n)
@@ -91,6 +92,7 @@ pub record Holds (db : Trees) (rows : Rows) : Type 0 where
   pub paid : HoldsPairs paid_columns (db 7) rows.paid
   pub batches : HoldsMap batch_columns (db 10) rows.batches
   pub replies : HoldsMap reply_columns (db 11) rows.replies
+  pub extensions : HoldsMap rate_columns (db 12) rows.extensions
 
 -- the trees list the counter's tables and obey them, as `sqlite` keeps them, and hold these rows
 pub record Stores (db : Trees) (rows : Rows) : Type 0 where
@@ -144,6 +146,10 @@ with_day rows day last_day = day_set rows day last_day (get rows.desk 1)
 -- a rate for a period, unless it has one
 abbrev pub with_rate : Rows → ℕ × ℕ → Rows
 with_rate rows rate = record rows { rates = insert_new rows.rates rate.0 rate.1 (get rows.rates rate.0) }
+
+-- an extension for a period, unless it has one
+abbrev pub with_extension : Rows → ℕ × ℕ → Rows
+with_extension rows extension = record rows { extensions = insert_new rows.extensions extension.0 extension.1 (get rows.extensions extension.0) }
 
 -- a bond under its serial number, unless that has one
 abbrev pub with_bond : Rows → (ℕ × ℕ) × BondRow → Rows

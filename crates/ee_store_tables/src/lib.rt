@@ -1,9 +1,10 @@
-//! The seven tables of a counter's store: their rows, and the statements that read and write them.
+//! The eight tables of a counter's store: their rows, and the statements that read and write them.
 #![tactic(auto)]
 
 mod batches;
 mod bonds;
 mod desk;
+mod extensions;
 mod failures;
 mod lines;
 mod rates;
@@ -16,6 +17,7 @@ mod values;
 pub use batches::{add_batch, find_batch};
 pub use bonds::{add_bond, bonds_of_owner, find_bond, mark_bond};
 pub use desk::{find_desk, set_day};
+pub use extensions::{add_extension, find_extension};
 pub use failures::Failure;
 pub use lines::{add_paid, pay_line, pay_lines, ticket_lines};
 pub use rates::{add_rate, find_rate};

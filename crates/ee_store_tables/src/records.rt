@@ -14,7 +14,7 @@ pub struct DeskRow {
     pub last_day: Option<u64>,
 }
 
-/// The fixed rate of bonds that are issued in a period.
+/// A rate of bonds that are issued in a period: the fixed one, or that of extended maturity.
 #[derive(Clone, Copy, Debug, PartialEq, Eq)]
 pub struct RateRow {
     /// The first month of the period.

@@ -1,9 +1,19 @@
 -- Lemmas that the proofs of crates above use.
-use Rattle.std.proofs.Common.{ℕ, ◌≤◌}
-use Rattle.ee_value.specs.Chain.{InRange}
+use Rattle.std.proofs.Common.{◌≡◌, ℕ, ◌≤◌, IfSome}
+use Rattle.ee_value.specs.Chain.{InRange, rates_with, named_extension}
 use Rattle.ee_value.specs.Value.{accrued}
 use Rattle.ee_value.specs.declared.rates.Rates.{Rates}
 use Rattle.ee_value.proofs.Accruals
+use Rattle.ee_value.proofs.Extensions
+
+-- ---- terms
+-- what is named of terms gives them again
+pub rates-back : (rates : Rates) → rates_with rates.fixed (named_extension rates) ≡ rates
+rates-back = Extensions.rates-back
+
+-- what is named is in range
+pub named-le : (rates : Rates) → InRange rates → IfSome (named_extension rates) (λ n. n ≤ 2000)
+named-le = Extensions.named-le
 
 -- ---- accrued values
 -- what a unit of 25 dollars has accrued is at most 7,612.34 dollars

@@ -1,4 +1,5 @@
 mod Rounding
+mod Extensions
 mod Starts
 mod Settled
 mod OpenAges

@@ -1,8 +1,9 @@
 -- The starts of the half-years.
-use Rattle.std.proofs.Common.{◌≡◌, ◌≢◌, eq-eqb, ne_eqb, ℕ, zero, suc, ◌+◌, ◌-◌, ◌*◌, ◌≤◌, ◌==◌, max, true, false, arith, add-one, add-zero, refl, ap, ◌∙◌, List, [], ◌∷◌, map}
+use Rattle.std.proofs.Common.{◌≡◌, ◌≢◌, eq-eqb, ne_eqb, ℕ, zero, suc, ◌+◌, ◌-◌, ◌*◌, ◌<◌, ◌≤◌, ◌==◌, max, true, false, arith, add-one, add-zero, refl, sym, ap, ◌∙◌, inl, inr, List, [], ◌∷◌, map}
 use Rattle.std.specs.List.{range_with_len}
-use Rattle.std.specs.Prelude.{if◌then◌else◌}
+use Rattle.std.specs.Prelude.{if◌then◌else◌, nat_lt}
 use Rattle.std.proofs.lemmas.Nat.{mul-le}
+use Rattle.std.proofs.lemmas.Bool.{cases_lt, cases_eq, lt-ltb, le-ltb}
 use Rattle.ee_value.specs.declared.rates.Rates.{Rates}
 use Rattle.ee_value.specs.Rounding.{grown}
 use Rattle.ee_value.specs.Chain.{InRange, rate_in, start}
@@ -68,16 +69,34 @@ linear-start-le f k h few =
     let b : linear-start (λ j. 2000) (k + (60 - k)) ≡ 380617 = ap (λ n. linear-start (λ j. 2000) n) e ∙ linear-start-2000 in
     omega (arith, a, b, linear-start-mono f (λ j. 2000) k h)
 
--- ---- the same numbers by sixth powers
+-- ---- the rates in force
 
 pub rate-le : (rates : Rates) (k : ℕ) → InRange rates → rate_in rates k ≤ 2000
 unfolding rate_in
-rate-le rates k small = small
+rate-le rates k small =
+    elim (nat_lt k 40) as (λ b. (if b then rates.fixed else rates.extension) ≤ 2000) [ true ↦ small.0 | false ↦ small.1 ]
 
--- one rate is in force in all half-years
-pub rate-same : (rates : Rates) (j k : ℕ) → rate_in rates j ≡ rate_in rates k
+pub rate-original : (rates : Rates) (k : ℕ) → k < 40 → rate_in rates k ≡ rates.fixed
 unfolding rate_in
-rate-same rates j k = refl
+rate-original rates k h = rw (lt-ltb k 40 h) refl
+
+pub rate-extended : (rates : Rates) (k : ℕ) → 40 ≤ k → rate_in rates k ≡ rates.extension
+unfolding rate_in
+rate-extended rates k h = rw (le-ltb k 40 h) refl
+
+-- the rate stays from one half-year to the next, but at 20 years
+pub rate-kept : (rates : Rates) (k : ℕ) → (k ≡ 40 → rates.extension ≡ rates.fixed) → rate_in rates (k - 1) ≡ rate_in rates k
+rate-kept rates k same =
+    elim (cases_lt k 40) [
+      | inl before ↦ rate-original rates (k - 1) (omega arith) ∙ sym (rate-original rates k before)
+      | inr after ↦
+          elim (cases_eq k 40) [
+            | inl at ↦ rate-original rates (k - 1) (omega arith) ∙ sym (same at) ∙ sym (rate-extended rates k after)
+            | inr later ↦ rate-extended rates (k - 1) (omega arith) ∙ sym (rate-extended rates k after)
+          ]
+    ]
+
+-- ---- the same numbers by sixth powers
 
 pub start-is : (rates : Rates) (k : ℕ) → InRange rates → (start rates k ≡ linear-start (rate_in rates) k) × (1250 ≤ start rates k)
 unfolding start linear-start step
@@ -113,10 +132,6 @@ start-at_20_years rates k h =
 pub start-else : (rates : Rates) (k : ℕ) → k + 1 ≢ 40 → start rates (k + 1) ≡ grown (start rates k) (rate_in rates k) 6
 start-else rates k h =
     start-more rates k ∙ ap (λ b. if b then max (grown (start rates k) (rate_in rates k) 6) 2500 else grown (start rates k) (rate_in rates k) 6) (ne_eqb (k + 1) 40 h)
-
-pub rate-fixed : (rates : Rates) (k : ℕ) → rate_in rates k ≡ rates.fixed
-unfolding rate_in
-rate-fixed rates k = refl
 
 starts-of : (rates : Rates) → InRange rates → (ks : List ℕ) → map (start rates) ks ≡ map (linear-start (rate_in rates)) ks
 starts-of rates small [] = refl

@@ -4,14 +4,11 @@ ghost use Rattle.std.specs.Prelude.{◌≡◌, ◌+◌, ◌^◌, ◌<◌, ◌≤
 ghost use Rattle.ee_value.specs.Rounding.{grown};
 ghost use Rattle.ee_value.specs.Chain.{start};
 
-use crate::rates::Rates;
+use crate::rates::{ORIGINAL_MATURITY, Rates};
 use ee_units::Rate;
 
 /// The issue price of one unit, in cents.
 pub const PRICE: u64 = 1250;
-
-/// The half-years to original maturity, after 20 years.
-const ORIGINAL_MATURITY: u16 = 40;
 
 /// The value of one unit, a half-year later, to the nearest cent.
 fn next_unit(unit: u64, rate: Rate) -> u64

@@ -5,7 +5,7 @@ ghost use Rattle.std.specs.List.{range_with_len};
 ghost use Rattle.ee_roots.specs.Roots.{IsLow, IsHigh};
 ghost use Rattle.ee_value.specs.declared.rates.Rates.{Rates};
 ghost use Rattle.ee_value.specs.Rounding.{Rounds, grown};
-ghost use Rattle.ee_value.specs.Chain.{InRange, one_rate, rate_in, start};
+ghost use Rattle.ee_value.specs.Chain.{InRange, one_rate, rates_with, named_extension, rate_in, start};
 ghost use Rattle.ee_value.specs.Value.{accrued, redemption};
 ghost use Rattle.ee_value.specs.Open.{low_root, high_root, is_exact, is_open, first_open, NeverOpen, IsFirstOpen};
 
@@ -19,10 +19,20 @@ pub const fn rounding_law()
     ensures quarter_of_4_02_percent { Rounds 1250 402 3 1263 }
 {}
 
+/// Terms by a rate and, where it is another, an extension: what is named of terms gives them again, and
+/// an extension that is the rate isn't named.
+pub const fn rates_law()
+    ensures back { (rates : Rates) → rates_with rates.fixed (named_extension rates) ≡ rates }
+    ensures named { (r e : ℕ) → e ≢ r → named_extension (rates_with r (Some e)) ≡ Some e }
+    ensures same { (r : ℕ) → named_extension (rates_with r (Some r)) ≡ None }
+    ensures unnamed { (r : ℕ) → named_extension (rates_with r None) ≡ None }
+{}
+
 /// The chain of half-years: it begins at the unit's price, each start is the one before, grown for six
 /// months and rounded, and the start at 20 years is at least twice the price.
 pub const fn chain_law()
-    ensures rate { (rates : Rates) (k : ℕ) → rate_in rates k ≡ rates.fixed }
+    ensures original { (rates : Rates) (k : ℕ) → k < 40 → rate_in rates k ≡ rates.fixed }
+    ensures extended { (rates : Rates) (k : ℕ) → 40 ≤ k → rate_in rates k ≡ rates.extension }
     ensures first { (rates : Rates) → start rates 0 ≡ 1250 }
     ensures next { (rates : Rates) (k : ℕ) → InRange rates → k + 1 ≢ 40
         → Rounds (start rates k) (rate_in rates k) 6 (start rates (k + 1)) }
@@ -47,8 +57,8 @@ pub const fn value_law()
     ensures no_penalty { (rates : Rates) (a : ℕ) → 60 ≤ a → redemption rates a ≡ accrued rates a }
 {}
 
-/// Chains of four rates, in part: the half cents of 3.60 % and 20.00 % round up, and at 20 years 3.40 %
-/// is raised to 2500 while 3.60 % has more.
+/// Chains of four rates and of two pairs, in part: the half cents of 3.60 % and 20.00 % round up, and at
+/// 20 years 3.40 % is raised to 2500 while 3.60 % has more, whatever the extension.
 pub const fn examples_law()
     ensures begins_3_50 { map (start (one_rate 350)) (range_with_len 0 11)
         ≡ 1250 ∷ 1272 ∷ 1294 ∷ 1317 ∷ 1340 ∷ 1363 ∷ 1387 ∷ 1411 ∷ 1436 ∷ 1461 ∷ 1487 ∷ [] }
@@ -60,6 +70,10 @@ pub const fn examples_law()
         ≡ 1250 ∷ 1375 ∷ 1513 ∷ 1664 ∷ 1830 ∷ 2013 ∷ 2214 ∷ 2435 ∷ 2679 ∷ [] }
     ensures ends_20 { map (start (one_rate 2000)) (range_with_len 56 5)
         ≡ 259966 ∷ 285963 ∷ 314559 ∷ 346015 ∷ 380617 ∷ [] }
+    ensures extends_3_40_by_4 { map (start (rates_with 340 (Some 400))) (range_with_len 38 6)
+        ≡ 2371 ∷ 2411 ∷ 2500 ∷ 2550 ∷ 2601 ∷ 2653 ∷ [] }
+    ensures extends_3_60_by_0 { map (start (rates_with 360 (Some 0))) (range_with_len 39 4)
+        ≡ 2507 ∷ 2552 ∷ 2552 ∷ 2552 ∷ [] }
 {}
 
 /// Rates whose growth of three months is a fraction: up to 20 % these are 0.00, 4.02, 8.08, 12.18 and

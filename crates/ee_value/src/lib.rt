@@ -1,5 +1,6 @@
-//! The value of Series EE savings bonds that earn a fixed rate (31 CFR Part 351): what one unit,
-//! 12.50 dollars of issue price, has accrued to at an age, and what a bond pays.
+//! The value of Series EE savings bonds that earn a fixed rate and, after original maturity, perhaps
+//! another (31 CFR Part 351): what one unit, 12.50 dollars of issue price, has accrued to at an age, and
+//! what a bond pays.
 #![tactic(auto)]
 
 mod accrual;
@@ -15,7 +16,7 @@ mod tables;
 pub use accrual::unit_at;
 pub use bonds::bond_value;
 pub use faults::{Unsettled, ValueFault};
-pub use laws::{chain_law, exact_law, examples_law, open_law, rounding_law, value_law};
+pub use laws::{chain_law, exact_law, examples_law, open_law, rates_law, rounding_law, value_law};
 pub use quotes::Quote;
 pub use rates::{RateRow, Rates};
 pub use tables::{UnitTable, unit_table};

@@ -2,24 +2,62 @@
 
 use ee_units::{IssueMonth, Rate};
 
-/// The terms that a bond earns by: a fixed yearly rate, for each half-year of its life.
+/// The half-years to original maturity, after 20 years.
+pub const ORIGINAL_MATURITY: u16 = 40;
+
+/// The terms that a bond earns by: a yearly rate for its first 20 years, and one for the 10 years of
+/// extended maturity.
 #[derive(Clone, Copy, Debug, PartialEq, Eq, PartialOrd, Ord, Hash)]
 pub struct Rates {
-    /// The yearly rate.
+    /// The yearly rate to original maturity.
     pub fixed: Rate,
+    /// The yearly rate from original to final maturity.
+    pub extension: Rate,
 }
 
 impl Rates {
     ghost use Rattle.std.specs.Prelude.{◌≡◌};
-    ghost use Rattle.ee_value.specs.Chain.{InRange, rate_in};
+    ghost use Rattle.ee_value.specs.Chain.{InRange, rate_in, rates_with, named_extension};
 
-    /// The rate in force in a half-year from issue: the fixed rate, in each.
+    /// The terms of a fixed rate and an extension; where none is named, the rate stays the same.
+    pub const fn new(fixed: Rate, extension: Option<Rate>) -> Rates
+        ensures { result ≡ rates_with fixed extension }
+    {
+        match extension {
+            Some(extension) => Rates { fixed, extension },
+            None => Rates {
+                fixed,
+                extension: fixed,
+            },
+        }
+    }
+
+    /// The extension, where it is another rate than the fixed one.
+    #[tactic(auto, unfolding(crate::specs::Chain::named_extension))]
+    pub fn named_extension(&self) -> Option<Rate>
+        ensures { result ≡ named_extension self.now }
+    {
+        if self.extension == self.fixed {
+            None
+        } else {
+            Some(self.extension)
+        }
+    }
+
+    /// The rate in force in a half-year from issue: the fixed rate to original maturity, then the
+    /// extension.
     #[tactic(auto, unfolding(crate::specs::Chain::rate_in))]
-    pub fn rate_in(&self, _half_year: u16) -> Rate
-        ensures value { result ≡ rate_in self.now _half_year }
+    pub fn rate_in(&self, half_year: u16) -> Rate
+        ensures value { result ≡ rate_in self.now half_year }
         ensures range { InRange self.now }
     {
-        Rate::from_hundredths(self.fixed.hundredths())
+        let fixed = self.fixed.hundredths();
+        let extension = self.extension.hundredths();
+        Rate::from_hundredths(if half_year < ORIGINAL_MATURITY {
+            fixed
+        } else {
+            extension
+        })
     }
 }
 

@@ -1,6 +1,6 @@
 //! Tables of unit values, age by age.
 
-ghost use Rattle.std.specs.Prelude.{◌≡◌, ℕ, ◌+◌, ◌*◌, ◌<◌, ◌≤◌, map, false, MatchResult, None};
+ghost use Rattle.std.specs.Prelude.{◌≡◌, ℕ, ◌+◌, ◌-◌, ◌*◌, ◌<◌, ◌≤◌, map, false, MatchResult, None};
 ghost use Rattle.std.specs.List.{range_with_len};
 ghost use Rattle.ee_roots.specs.Roots.{IsLow, IsHigh};
 ghost use Rattle.ee_value.specs.Chain.{rate_in, start};
@@ -12,7 +12,7 @@ use crate::accrual::FINAL_MATURITY;
 use crate::faults::ValueFault;
 use crate::growth::grown_unit;
 use crate::halves::{PRICE, next_start};
-use crate::rates::Rates;
+use crate::rates::{ORIGINAL_MATURITY, Rates};
 use ee_roots::{Root, root_bounds};
 use ee_units::{Age, Bits};
 use std::alloc::Global;
@@ -47,6 +47,22 @@ impl UnitTable {
         ensures small { result ≤ 761234 }
     {
         self.units[usize::from(age.months().min(FINAL_MATURITY))]
+    }
+}
+
+/// The bounds of the root in a half-year, from those in the half-year before: they are found anew only
+/// where another rate comes into force.
+fn root_in(before: Root, half_year: u16, rates: &Rates) -> Root
+    requires of_low { IsLow before.bits (rate_in rates.now (half_year - 1)) before.low }
+    requires of_high { IsHigh before.bits (rate_in rates.now (half_year - 1)) before.high }
+    ensures bits { result.bits ≡ before.bits }
+    ensures low { IsLow before.bits (rate_in rates.now half_year) result.low }
+    ensures high { IsHigh before.bits (rate_in rates.now half_year) result.high }
+{
+    if half_year == ORIGINAL_MATURITY && rates.extension != rates.fixed {
+        root_bounds(rates.rate_in(half_year), before.bits())
+    } else {
+        before
     }
 }
 
@@ -93,10 +109,11 @@ pub fn unit_table(alloc: Global, rates: Rates, bits: Bits) -> Result<UnitTable, 
         (λ _. first_open rates bits ≡ None)
         (IsFaultAt (first_open rates bits)) }
 {
-    let root = root_bounds(rates.rate_in(0), bits);
+    let mut root = root_bounds(rates.rate_in(0), bits);
     let mut units = Vec::with_capacity(alloc, 361)?;
     let mut unit = PRICE;
     for half_year in 0..60 {
+        root = root_in(root, half_year, &rates);
         push_half_year(&mut units, unit, half_year, &rates, &root)?;
         unit = next_start(unit, half_year, &rates);
     }

@@ -16,7 +16,7 @@ pub enum Answer {
     Reply(Reply),
     /// The sheet of an owner's bonds.
     Sheet(Sheet),
-    /// The row of a bond, or none where no rate is held for its month of issue.
+    /// The row of a bond, or none where no rates are held for its month of issue.
     Row(Option<Row>),
     /// The ticket, or none of that number.
     Ticket(Option<Ticket>),

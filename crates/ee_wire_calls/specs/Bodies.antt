@@ -7,6 +7,7 @@ use Rattle.ee_wire_calls.specs.Kinds.{number_in, day_in, issue_in, rate_in, seri
 use Rattle.ee_wire_calls.specs.Fields.{◌>>=◌, field, optional, no_other, an_object}
 use Rattle.ee_wire_calls.specs.declared.faults.Field.{Field}
 use Rattle.ee_wire_calls.specs.declared.faults.Field.TheVariants as at
+use Rattle.ee_value.specs.Chain.{rates_with}
 use Rattle.ee_value.specs.declared.rates.RateRow.{RateRow}
 use Rattle.ee_calculator.specs.declared.bonds.Bond.{Bond}
 use Rattle.ee_desk_acts.specs.declared.acts.Request.{Request}
@@ -29,8 +30,9 @@ rate_row d = do
   o ← an_object at.Rates d
   from ← field (codes "from") issue_in at.From o
   rate ← field (codes "rate") rate_in at.Rate o
-  _ ← no_other (codes "from" ∷ codes "rate" ∷ []) o
-  Ok (record { from = from; rates = record { fixed = rate } })
+  extension ← optional (codes "extension") rate_in at.Extension o
+  _ ← no_other (codes "from" ∷ codes "rate" ∷ codes "extension" ∷ []) o
+  Ok (record { from = from; rates = rates_with rate extension })
 
 abbrev pub rate_rows : Items → Result (List RateRow) Field
 rate_rows ds = each rate_row ds

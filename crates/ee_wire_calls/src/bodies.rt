@@ -18,8 +18,8 @@ ghost use Rattle.ee_wire_calls.specs.Bodies.{
 
 use crate::faults::{BodyFault, Field};
 use crate::fields::{
-    an_object, coowner_field, day_field, denom_field, from_field, issued_field, list_field,
-    no_other, number_field, owner_field, payee_field, rate_field, serial_field,
+    an_object, coowner_field, day_field, denom_field, extension_field, from_field, issued_field,
+    list_field, no_other, number_field, owner_field, payee_field, rate_field, serial_field,
 };
 use crate::kinds::serial_in;
 use crate::routes::Post;
@@ -37,10 +37,11 @@ fn read_rate(value: &Value) -> Result<RateRow, Field>
     let row = an_object(value, Field::Rates)?;
     let from = from_field(row)?;
     let fixed = rate_field(row)?;
-    no_other(row, &["from", "rate"])?;
+    let extension = extension_field(row)?;
+    no_other(row, &["from", "rate", "extension"])?;
     Ok(RateRow {
         from,
-        rates: Rates { fixed },
+        rates: Rates::new(fixed, extension),
     })
 }
 

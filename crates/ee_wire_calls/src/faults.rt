@@ -17,6 +17,7 @@ pub enum Field {
     Rates,
     From,
     Rate,
+    Extension,
     /// The list, or a row of it that isn't an object.
     Bonds,
     Serial,
@@ -46,6 +47,7 @@ impl Field {
             Field::Rates => "rates",
             Field::From => "from",
             Field::Rate => "rate",
+            Field::Extension => "extension",
             Field::Bonds => "bonds",
             Field::Serial => "serial",
             Field::Denom => "denom",

@@ -107,6 +107,25 @@ fn optional_customer(value: &Value) -> Result<Option<Customer>, Field>
     customer_in(value).map(Some).ok_or(Field::Coowner)
 }
 
+/// The extension, which may be missing or null.
+pub fn extension_field(row: &Value) -> Result<Option<Rate>, Field>
+    ensures { result ≡ optional (codes "extension") rate_in Field.Extension (view row.now) }
+{
+    match row.get("extension") {
+        None => Ok(None),
+        Some(value) => optional_rate(value),
+    }
+}
+
+fn optional_rate(value: &Value) -> Result<Option<Rate>, Field>
+    ensures { result ≡ or_null rate_in Field.Extension (view value.now) }
+{
+    if value.is_null() {
+        return Ok(None);
+    }
+    rate_in(value).map(Some).ok_or(Field::Extension)
+}
+
 /// The list of this name.
 pub fn list_field<'a>(body: &'a Value, name: &str, fault: Field) -> Result<&'a Vec<Value>, Field>
     ensures { map_ok (λ v. items_view v.now.items) result ≡ field name.now as_array fault (view body.now) }

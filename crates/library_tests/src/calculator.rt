@@ -17,10 +17,12 @@ fn table_of(alloc: Global, rates: Rates) -> Option<UnitTable>
     unit_table(alloc, rates, Bits::from_places(62)).ok()
 }
 
-fn rates_of(rate: &str) -> Option<Rates> {
-    Some(Rates {
-        fixed: rate.parse().ok()?,
-    })
+/// A rate, and after a slash the extension where one is named.
+fn rates_of(text: &str) -> Option<Rates> {
+    let Some((fixed, extension)) = text.split_once('/') else {
+        return Some(Rates::new(text.parse().ok()?, None));
+    };
+    Some(Rates::new(fixed.parse().ok()?, Some(extension.parse().ok()?)))
 }
 
 /// The row of no bond of the register: a denomination, an issue month, a rate and a month.
@@ -165,6 +167,16 @@ Serial        Series  Denom Issued  Next    Final          Price       Interest 
 Total                                                    5000.00     1517468.00            1522468.00
 ";
 
+// The rate column shows the fixed rate to 20 years, the extension from then on, and nothing from 30 years on.
+const EXTENDED: &str = "\
+Serial        Series  Denom Issued  Next    Final          Price       Interest   Rate          Value Note
+              EE         50 05/2010 05/2030 05/2040        25.00          23.90  3.40%          48.90
+              EE         50 05/2010 06/2030 05/2040        25.00          25.00  4.00%          50.00
+              EE         50 05/2010 05/2040 05/2040        25.00          49.04  4.00%          74.04
+              EE         50 05/2010         05/2040        25.00          49.28                 74.28 MA
+Total                                                     100.00         147.22                247.22
+";
+
 /// The sheet of lines, each ended by a line feed.
 fn sheet_of(alloc: Global, lines: &str) -> Result<Sheet, Fail> {
     let mut rows = Vec::new(alloc);
@@ -183,6 +195,16 @@ fn writes_empty_columns(rt: HostRuntime) -> Result<(), Fail> {
     let told = told_in(rt.alloc(), &sheet_of(rt.alloc(), lines)?, 1_000)?;
     let wanted = format!(in rt.alloc(); "Ok(()) {BEFORE_AND_AFTER}")?;
     same(&rt, told.as_str(), wanted.as_str(), "empty columns");
+    Ok(())
+}
+
+#[test]
+fn shows_the_rate_in_force(rt: HostRuntime) -> Result<(), Fail> {
+    let lines =
+        "50 2010-05 3.40/4.00 2030-04\n50 2010-05 3.40/4.00 2030-05\n50 2010-05 3.40/4.00 2040-04\n50 2010-05 3.40/4.00 2040-05\n";
+    let told = told_in(rt.alloc(), &sheet_of(rt.alloc(), lines)?, 1_000)?;
+    let wanted = format!(in rt.alloc(); "Ok(()) {EXTENDED}")?;
+    same(&rt, told.as_str(), wanted.as_str(), "extended maturity");
     Ok(())
 }
 

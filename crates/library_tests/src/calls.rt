@@ -36,8 +36,11 @@ impl Cases for CallCases {
 /// object, the number before all other fields, then the fields in the order of the table, and then any other;
 /// a row's other field stands before later rows, and before other fields of the body.
 const BODIES: &str =
-    r#"POST /rates {"number":1,"rates":[{"from":"2010-11","rate":"3.50"}]} => Request(Request { number: Number { value: 1 }, act: AddRates(Rows { items: [RateRow { from: IssueMonth { count: 66 }, rates: Rates { fixed: Rate { hundredths: 350 } } }] }) })
-POST /rates {"rates":[{"rate":"2%","from":"05/2010"}],"number":1} => Request(Request { number: Number { value: 1 }, act: AddRates(Rows { items: [RateRow { from: IssueMonth { count: 60 }, rates: Rates { fixed: Rate { hundredths: 200 } } }] }) })
+    r#"POST /rates {"number":1,"rates":[{"from":"2010-11","rate":"3.50"}]} => Request(Request { number: Number { value: 1 }, act: AddRates(Rows { items: [RateRow { from: IssueMonth { count: 66 }, rates: Rates { fixed: Rate { hundredths: 350 }, extension: Rate { hundredths: 350 } } }] }) })
+POST /rates {"rates":[{"rate":"2%","from":"05/2010"}],"number":1} => Request(Request { number: Number { value: 1 }, act: AddRates(Rows { items: [RateRow { from: IssueMonth { count: 60 }, rates: Rates { fixed: Rate { hundredths: 200 }, extension: Rate { hundredths: 200 } } }] }) })
+POST /rates {"number":1,"rates":[{"from":"2010-05","rate":"3.40","extension":"4%"}]} => Request(Request { number: Number { value: 1 }, act: AddRates(Rows { items: [RateRow { from: IssueMonth { count: 60 }, rates: Rates { fixed: Rate { hundredths: 340 }, extension: Rate { hundredths: 400 } } }] }) })
+POST /rates {"number":1,"rates":[{"extension":null,"from":"2010-11","rate":"3.50"}]} => Request(Request { number: Number { value: 1 }, act: AddRates(Rows { items: [RateRow { from: IssueMonth { count: 66 }, rates: Rates { fixed: Rate { hundredths: 350 }, extension: Rate { hundredths: 350 } } }] }) })
+POST /rates {"number":1,"rates":[{"extension":"3.50%","from":"2010-11","rate":"3.50"}]} => Request(Request { number: Number { value: 1 }, act: AddRates(Rows { items: [RateRow { from: IssueMonth { count: 66 }, rates: Rates { fixed: Rate { hundredths: 350 }, extension: Rate { hundredths: 350 } } }] }) })
 POST /rates {"number":1,"rates":[]} => Request(Request { number: Number { value: 1 }, act: AddRates(Rows { items: [] }) })
 POST /bonds {"number":2,"bonds":[{"serial":"L1EE","denom":50,"issued":"2010-11","owner":7},{"coowner":8,"serial":"K-2-EE","denom":75,"issued":"2010-10","owner":7},{"coowner":null,"serial":"M3EE","denom":10000,"issued":"2011-02","owner":7}]} => Request(Request { number: Number { value: 2 }, act: AddBonds(Rows { items: [Bond { serial: Serial { letter: 12, number: 1 }, denom: Fifty, issued: IssueMonth { count: 66 }, owner: Customer { number: 7 }, coowner: None }, Bond { serial: Serial { letter: 11, number: 2 }, denom: SeventyFive, issued: IssueMonth { count: 65 }, owner: Customer { number: 7 }, coowner: Some(Customer { number: 8 }) }, Bond { serial: Serial { letter: 13, number: 3 }, denom: TenThousand, issued: IssueMonth { count: 69 }, owner: Customer { number: 7 }, coowner: None }] }) })
 POST /day/open {"number":3,"day":"2012-02-06"} => Request(Request { number: Number { value: 3 }, act: OpenDay(Day { count: 15376 }) })
@@ -75,6 +78,11 @@ POST /rates {"number":1,"rates":[{"rate":"3.50"}]} => 65 from
 POST /rates {"number":1,"rates":[{"from":"2100-01","rate":"3.50"}]} => 65 from
 POST /rates {"number":1,"rates":[{"from":"2010-11","rate":"20.01"}]} => 65 rate
 POST /rates {"number":1,"rates":[{"from":"2010-11","rate":3.5}]} => 65 rate
+POST /rates {"number":1,"rates":[{"from":"2010-11","rate":"3.50","extension":""}]} => 65 extension
+POST /rates {"number":1,"rates":[{"from":"2010-11","rate":"3.50","extension":"20.01"}]} => 65 extension
+POST /rates {"number":1,"rates":[{"from":"2010-11","rate":"3.50","extension":4,"x":0}]} => 65 extension
+POST /rates {"number":1,"rates":[{"from":"2010-11","rate":"x","extension":"x"}]} => 65 rate
+POST /rates {"number":1,"rates":[{"from":"2010-11","rate":"3.50","extension":"4","x":0}]} => 65 other
 POST /rates {"number":1,"rates":[{"from":"2010-11","rate":"3.50","x":0},{}],"y":1} => 65 other
 POST /rates {"number":1,"rates":[{"from":"2010-11","rate":"3.50"},{}],"y":1} => 65 from
 POST /bonds {"number":1,"bonds":[{}]} => 65 serial
@@ -158,7 +166,7 @@ fn deep_bodies(rt: HostRuntime) -> Result<(), Fail> {
 
 /// Bodies, and what they ask for.
 const SHORT: &str =
-    r#"/rates {"number":1,"rates":[{"from":"2010-11","rate":"3.50"}]} => Request(Request { number: Number { value: 1 }, act: AddRates(Rows { items: [RateRow { from: IssueMonth { count: 66 }, rates: Rates { fixed: Rate { hundredths: 350 } } }] }) })
+    r#"/rates {"number":1,"rates":[{"from":"2010-11","rate":"3.50"}]} => Request(Request { number: Number { value: 1 }, act: AddRates(Rows { items: [RateRow { from: IssueMonth { count: 66 }, rates: Rates { fixed: Rate { hundredths: 350 }, extension: Rate { hundredths: 350 } } }] }) })
 /bonds {"number":2,"bonds":[{"serial":"L1EE","denom":50,"issued":"2010-11","owner":7},{"serial":"K2EE","denom":75,"issued":"2010-10","owner":7},{"serial":"M3EE","denom":10000,"issued":"2011-02","owner":7}]} => Request(Request { number: Number { value: 2 }, act: AddBonds(Rows { items: [Bond { serial: Serial { letter: 12, number: 1 }, denom: Fifty, issued: IssueMonth { count: 66 }, owner: Customer { number: 7 }, coowner: None }, Bond { serial: Serial { letter: 11, number: 2 }, denom: SeventyFive, issued: IssueMonth { count: 65 }, owner: Customer { number: 7 }, coowner: None }, Bond { serial: Serial { letter: 13, number: 3 }, denom: TenThousand, issued: IssueMonth { count: 69 }, owner: Customer { number: 7 }, coowner: None }] }) })
 /day/open {"number":3,"day":"2012-02-06"} => Request(Request { number: Number { value: 3 }, act: OpenDay(Day { count: 15376 }) })
 /redeem {"number":4,"day":"2012-02-06","payee":7,"serials":["L1EE","K2EE"]} => Request(Request { number: Number { value: 4 }, act: Redeem { day: Day { count: 15376 }, payee: Customer { number: 7 }, serials: Rows { items: [Serial { letter: 12, number: 1 }, Serial { letter: 11, number: 2 }] } } })

@@ -9,7 +9,8 @@ use std::test::Fail;
 
 /// The canonical text of each act, and the act as `Debug` shows it.
 const ACTS: &str =
-    r#"{"act":"rates","rates":[{"from":"2010-05","rate":"2.00%"},{"from":"2010-11","rate":"3.50%"}]} => AddRates(Rows { items: [RateRow { from: IssueMonth { count: 60 }, rates: Rates { fixed: Rate { hundredths: 200 } } }, RateRow { from: IssueMonth { count: 66 }, rates: Rates { fixed: Rate { hundredths: 350 } } }] })
+    r#"{"act":"rates","rates":[{"from":"2010-05","rate":"2.00%"},{"from":"2010-11","rate":"3.50%"}]} => AddRates(Rows { items: [RateRow { from: IssueMonth { count: 60 }, rates: Rates { fixed: Rate { hundredths: 200 }, extension: Rate { hundredths: 200 } } }, RateRow { from: IssueMonth { count: 66 }, rates: Rates { fixed: Rate { hundredths: 350 }, extension: Rate { hundredths: 350 } } }] })
+{"act":"rates","rates":[{"extension":"4.00%","from":"2010-05","rate":"3.40%"}]} => AddRates(Rows { items: [RateRow { from: IssueMonth { count: 60 }, rates: Rates { fixed: Rate { hundredths: 340 }, extension: Rate { hundredths: 400 } } }] })
 {"act":"bonds","bonds":[{"denom":50,"issued":"2010-11","owner":7,"serial":"L1EE"},{"coowner":8,"denom":75,"issued":"2010-10","owner":7,"serial":"K2EE"},{"denom":10000,"issued":"2011-02","owner":7,"serial":"M3EE"}]} => AddBonds(Rows { items: [Bond { serial: Serial { letter: 12, number: 1 }, denom: Fifty, issued: IssueMonth { count: 66 }, owner: Customer { number: 7 }, coowner: None }, Bond { serial: Serial { letter: 11, number: 2 }, denom: SeventyFive, issued: IssueMonth { count: 65 }, owner: Customer { number: 7 }, coowner: Some(Customer { number: 8 }) }, Bond { serial: Serial { letter: 13, number: 3 }, denom: TenThousand, issued: IssueMonth { count: 69 }, owner: Customer { number: 7 }, coowner: None }] })
 {"act":"open","day":"2012-02-06"} => OpenDay(Day { count: 15376 })
 {"act":"redeem","day":"2012-02-06","payee":7,"serials":["L1EE","K2EE","M3EE"]} => Redeem { day: Day { count: 15376 }, payee: Customer { number: 7 }, serials: Rows { items: [Serial { letter: 12, number: 1 }, Serial { letter: 11, number: 2 }, Serial { letter: 13, number: 3 }] } }
@@ -108,6 +109,13 @@ null => none
 {"act":"rates","rates":[{"from":"2010-05","rate":"2.00"}]} => none
 {"act":"rates","rates":[{"from":"05/2010","rate":"2.00%"}]} => none
 {"act":"rates","rates":[{"from":"2010-05","rate":"2.00%","x":0}]} => none
+{"act":"rates","rates":[{"extension":"3.40%","from":"2010-05","rate":"3.40%"}]} => none
+{"act":"rates","rates":[{"extension":"4.00","from":"2010-05","rate":"3.40%"}]} => none
+{"act":"rates","rates":[{"extension":"20.01%","from":"2010-05","rate":"3.40%"}]} => none
+{"act":"rates","rates":[{"extension":null,"from":"2010-05","rate":"3.40%"}]} => none
+{"act":"rates","rates":[{"extension":4,"from":"2010-05","rate":"3.40%"}]} => none
+{"act":"rates","rates":[{"from":"2010-05","extension":"4.00%","rate":"3.40%"}]} => none
+{"act":"rates","rates":[{"from":"2010-05","rate":"3.40%","extension":"4.00%"}]} => none
 {"act":"bonds","bonds":[{"denom":51,"issued":"2010-11","owner":7,"serial":"L1EE"}]} => none
 {"act":"bonds","bonds":[{"coowner":null,"denom":50,"issued":"2010-11","owner":7,"serial":"L1EE"}]} => none
 "#;

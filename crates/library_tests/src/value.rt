@@ -6,10 +6,16 @@ use ee_value::*;
 use std::alloc::Global;
 use std::test::Fail;
 
-fn rates(hundredths: u16) -> Rates {
-    Rates {
-        fixed: Rate::from_hundredths(hundredths.min(2000)),
-    }
+fn rate(hundredths: u16) -> Rate {
+    Rate::from_hundredths(hundredths.min(2000))
+}
+
+/// Rates in hundredths: the fixed rate, and after a slash the extension where one is named.
+fn rates(text: &str) -> Result<Rates, Fail> {
+    let Some((fixed, extension)) = text.split_once('/') else {
+        return Ok(Rates::new(rate(text.parse()?), None));
+    };
+    Ok(Rates::new(rate(fixed.parse()?), Some(rate(extension.parse()?))))
 }
 
 fn age(months: u16) -> Age {
@@ -38,7 +44,7 @@ struct QuarterCases;
 
 impl Cases for QuarterCases {
     fn told(alloc: Global, case: &str) -> Result<String, Fail> {
-        let rates = rates(case.parse()?);
+        let rates = rates(case)?;
         let unit = unit_at(rates, age(3), bits(8))?;
         let mut count: u64 = 0;
         for places in 8..=62 {
@@ -63,6 +69,10 @@ const MONTHS: &str = "\
 2000 1 8 => Err(Unsettled { month: Age { months: 1 } })
 2000 9 62 => Ok(1442)
 2000 6 8 => Ok(1375)
+0/350 240 8 => Ok(2500)
+0/350 241 8 => Err(Unsettled { month: Age { months: 241 } })
+0/402 241 8 => Err(Unsettled { month: Age { months: 241 } })
+0/402 243 8 => Ok(2525)
 ";
 
 struct MonthCases;
@@ -71,7 +81,7 @@ impl Cases for MonthCases {
     fn told(alloc: Global, case: &str) -> Result<String, Fail> {
         let (rate, case) = case.split_once(' ').ok_or("months")?;
         let (months, places) = case.split_once(' ').ok_or("places")?;
-        let (rates, age) = (rates(rate.parse()?), age(months.parse()?));
+        let (rates, age) = (rates(rate)?, age(months.parse()?));
         shown(alloc, &unit_at(rates, age, bits(places.parse()?)))
     }
 }
@@ -86,7 +96,7 @@ fn texts_of_faults(rt: HostRuntime) -> Result<(), Fail> {
     let fault = Unsettled { month: age(1) };
     let text = fault.to_string(rt.alloc())?;
     same(&rt, text.as_str(), "unsettled at age 1", "fault");
-    let refused = unit_table(rt.alloc(), rates(350), bits(8)).err();
+    let refused = unit_table(rt.alloc(), rates("350")?, bits(8)).err();
     assert!(rt; refused == Some(ValueFault::from(fault)));
     let text = ValueFault::from(fault).to_string(rt.alloc())?;
     same(&rt, text.as_str(), "unsettled at age 1", "fault");
@@ -105,6 +115,14 @@ const CHAINS: &str = "\
 2000 0 => [1250, 1375, 1513, 1664, 1830]
 2000 4 => [1830, 2013, 2214, 2435, 2679]
 2000 56 => [259966, 285963, 314559, 346015, 380617]
+340/400 38 => [2371, 2411, 2500, 2550, 2601]
+340/400 41 => [2550, 2601, 2653, 2706, 2760]
+350/0 38 => [2415, 2457, 2500, 2500, 2500]
+360/2000 38 => [2463, 2507, 2552, 2807, 3088]
+360/2000 39 => [2507, 2552, 2807, 3088, 3397]
+0/2000 38 => [1250, 1250, 2500, 2750, 3025]
+0/2000 39 => [1250, 2500, 2750, 3025, 3328]
+2000/0 38 => [46757, 51433, 56576, 56576, 56576]
 ";
 
 struct ChainCases;
@@ -112,7 +130,7 @@ struct ChainCases;
 impl Cases for ChainCases {
     fn told(alloc: Global, case: &str) -> Result<String, Fail> {
         let (rate, first) = case.split_once(' ').ok_or("half-year")?;
-        let table = unit_table(alloc, rates(rate.parse()?), bits(62))?;
+        let table = unit_table(alloc, rates(rate)?, bits(62))?;
         shown(alloc, &starts(&table, first.parse()?))
     }
 }
@@ -134,6 +152,11 @@ const AGES: &str = "\
 0 239 => 1250 Ok(1250)
 0 240 => 2500 Ok(2500)
 0 2335 => 2500 Ok(2500)
+340/400 239 => 2445 Ok(2445)
+340/400 240 => 2500 Ok(2500)
+340/400 241 => 2508 Ok(2508)
+350/402 243 => 2525 Ok(2525)
+340/0 2335 => 2500 Ok(2500)
 ";
 
 struct AgeCases;
@@ -141,7 +164,7 @@ struct AgeCases;
 impl Cases for AgeCases {
     fn told(alloc: Global, case: &str) -> Result<String, Fail> {
         let (rate, months) = case.split_once(' ').ok_or("months")?;
-        let (rates, age) = (rates(rate.parse()?), age(months.parse()?));
+        let (rates, age) = (rates(rate)?, age(months.parse()?));
         let unit = unit_table(alloc, rates, bits(62))?.at(age);
         let alone = unit_at(rates, age, bits(62));
         Ok(format!(in alloc; "{unit} {alone:?}")?)
@@ -178,6 +201,25 @@ const QUOTES: &str = "\
 0 10000 239 => Pays { cents: Cents(500000), penalty: false, matured: false }
 0 10000 240 => Pays { cents: Cents(1000000), penalty: false, matured: false }
 0 10000 360 => Pays { cents: Cents(1000000), penalty: false, matured: true }
+340/400 50 239 => Pays { cents: Cents(4890), penalty: false, matured: false }
+340/400 50 240 => Pays { cents: Cents(5000), penalty: false, matured: false }
+340/400 50 241 => Pays { cents: Cents(5016), penalty: false, matured: false }
+340/400 50 242 => Pays { cents: Cents(5034), penalty: false, matured: false }
+340/400 50 243 => Pays { cents: Cents(5050), penalty: false, matured: false }
+340/400 50 245 => Pays { cents: Cents(5084), penalty: false, matured: false }
+340/400 50 246 => Pays { cents: Cents(5100), penalty: false, matured: false }
+340/400 50 247 => Pays { cents: Cents(5116), penalty: false, matured: false }
+340/400 50 359 => Pays { cents: Cents(7404), penalty: false, matured: false }
+340/400 50 360 => Pays { cents: Cents(7428), penalty: false, matured: true }
+340/404 50 246 => Pays { cents: Cents(5102), penalty: false, matured: false }
+360/0 50 359 => Pays { cents: Cents(5104), penalty: false, matured: false }
+360/200 50 246 => Pays { cents: Cents(5156), penalty: false, matured: false }
+0/2000 10000 239 => Pays { cents: Cents(500000), penalty: false, matured: false }
+0/2000 10000 240 => Pays { cents: Cents(1000000), penalty: false, matured: false }
+0/2000 10000 246 => Pays { cents: Cents(1100000), penalty: false, matured: false }
+0/2000 10000 360 => Pays { cents: Cents(6730400), penalty: false, matured: true }
+2000/0 10000 2335 => Pays { cents: Cents(22630400), penalty: false, matured: true }
+350/999 50 60 => Pays { cents: Cents(2974), penalty: false, matured: false }
 ";
 
 struct QuoteCases;
@@ -186,7 +228,7 @@ impl Cases for QuoteCases {
     fn told(alloc: Global, case: &str) -> Result<String, Fail> {
         let (rate, case) = case.split_once(' ').ok_or("denom")?;
         let (denom, months) = case.split_once(' ').ok_or("months")?;
-        let table = unit_table(alloc, rates(rate.parse()?), bits(62))?;
+        let table = unit_table(alloc, rates(rate)?, bits(62))?;
         shown(
             alloc,
             &bond_value(&table, denom.parse()?, age(months.parse()?)),
@@ -199,13 +241,52 @@ fn quotes(rt: HostRuntime) -> Result<(), Fail> {
     compare::<QuoteCases>(&rt, rt.alloc(), QUOTES)
 }
 
+/// Rates in hundredths, and at 8 places the fault of their table, which names the least open age.
+const LEAST_OPEN: &str = "\
+0/0 => None
+0/350 => Some(Unsettled { month: Age { months: 241 } })
+0/402 => Some(Unsettled { month: Age { months: 241 } })
+350 => Some(Unsettled { month: Age { months: 1 } })
+";
+
+struct LeastOpenCases;
+
+impl Cases for LeastOpenCases {
+    fn told(alloc: Global, case: &str) -> Result<String, Fail> {
+        let fault = unit_table(alloc, rates(case)?, bits(8)).err();
+        shown(alloc, &fault)
+    }
+}
+
+#[test]
+fn least_open_ages(rt: HostRuntime) -> Result<(), Fail> {
+    compare::<LeastOpenCases>(&rt, rt.alloc(), LEAST_OPEN)
+}
+
+/// A table is made of the rates at 62 places, and the unit has doubled at 30 years at least.
+fn is_settled(alloc: Global, rates: Rates) -> bool {
+    let table = unit_table(alloc, rates, bits(62)).ok();
+    table.is_some_and(|table| table.at(age(360)) >= 2500)
+}
+
 /// At 62 binary places no rate is open at any age.
 #[test]
 fn sweep(rt: HostRuntime) -> Result<(), Fail> {
     for hundredths in 0..=2000 {
-        let table = unit_table(rt.alloc(), rates(hundredths), bits(62)).ok();
-        let last = table.map(|table| table.at(age(360)) >= 2500);
-        assert_eq!(rt; last, Some(true), "{hundredths}");
+        let rates = Rates::new(rate(hundredths), None);
+        assert!(rt; is_settled(rt.alloc(), rates), "{hundredths}");
+    }
+    Ok(())
+}
+
+/// Nor is a pair of one of four fixed rates with any extension.
+#[test]
+fn sweep_of_extensions(rt: HostRuntime) -> Result<(), Fail> {
+    for fixed in [0, 350, 360, 2000] {
+        for extension in 0..=2000 {
+            let rates = Rates::new(rate(fixed), Some(rate(extension)));
+            assert!(rt; is_settled(rt.alloc(), rates), "{fixed}/{extension}");
+        }
     }
     Ok(())
 }

@@ -32,7 +32,7 @@ impl RateTables {
             let record = record.ok().context("rates.csv can't be read")?;
             let (from, rate) = period(&record)?;
             let bits = Bits::from_places(62);
-            let table = unit_table(rt.alloc(), Rates { fixed: rate }, bits)?;
+            let table = unit_table(rt.alloc(), Rates::new(rate, None), bits)?;
             periods.insert(from, table)?;
         }
         Ok(RateTables { periods })

@@ -14,6 +14,9 @@ UPDATE bonds SET ticket = 2 WHERE letter = 12 => UPDATE bonds SET ticket = 1 => 
 UPDATE replies SET reply = '{"code":10,"refused":"NumberReused"}' WHERE number = 3 => UPDATE replies SET reply = '{"opened":"2012-02-06"}' WHERE number = 3 => Unusable => replies 3 {"act":"open","day":"2012-02-06"} {"code":10,"refused":"NumberReused"}
 UPDATE replies SET reply = 'none' WHERE number = 3 => UPDATE replies SET reply = '{"opened":"2012-02-06"}' WHERE number = 3 => Unusable => replies 3 {"act":"open","day":"2012-02-06"} none
 UPDATE paid SET cents = 2589 WHERE place = 1 => UPDATE paid SET cents = 2588 WHERE place = 1 => Unusable => paid 1 1 12 1 2589
+INSERT INTO extensions VALUES (72, 400) => DELETE FROM extensions => Unusable => extensions 72 400
+INSERT INTO extensions VALUES (60, 200) => DELETE FROM extensions => Unusable => extensions 60 200
+INSERT INTO extensions VALUES (60, 2001) => DELETE FROM extensions => Unusable => extensions 60 2001
 "#;
 
 /// Changes of the tables after that day, each on top of those before, and the answer to the changed store: a
@@ -46,12 +49,12 @@ fn is_refused(
     let before = rows_told(alloc, &mut conn)?;
     let line = format!(in alloc; "{row}\n")?;
     assert!(rt; before.contains(line.as_str()), "{before}");
-    let (text, mut conn) = served(alloc, conn);
+    let (text, mut conn) = served(alloc, conn, FIVE);
     assert!(rt; text?.as_str() == fault, "{statements}");
     let after = rows_told(alloc, &mut conn)?;
     assert!(rt; before.as_str() == after.as_str(), "{statements}");
     change(&mut conn, undo)?;
-    let (text, conn) = served(alloc, conn);
+    let (text, conn) = served(alloc, conn, FIVE);
     assert!(rt; text?.as_str() == FIVE, "{undo}");
     Ok(conn)
 }
@@ -61,7 +64,7 @@ fn is_refused(
 #[test]
 fn changed_stores_are_refused(rt: HostRuntime) -> Result<(), Fail> {
     let alloc = rt.alloc();
-    let (text, mut conn) = served(alloc, Connection::open_in_memory(alloc)?);
+    let (text, mut conn) = served(alloc, Connection::open_in_memory(alloc)?, FIVE);
     assert_eq!(rt; text?.as_str(), FIVE);
     for case in CHANGES.lines() {
         conn = is_refused(&rt, alloc, conn, case)?;
@@ -74,13 +77,13 @@ fn changed_stores_are_refused(rt: HostRuntime) -> Result<(), Fail> {
 #[test]
 fn other_tables_are_refused(rt: HostRuntime) -> Result<(), Fail> {
     let alloc = rt.alloc();
-    let (text, mut conn) = served(alloc, Connection::open_in_memory(alloc)?);
+    let (text, mut conn) = served(alloc, Connection::open_in_memory(alloc)?, FIVE);
     assert_eq!(rt; text?.as_str(), FIVE);
     for case in OTHER_TABLES.lines() {
         let (statements, fault) = case.split_once(" => ").ok_or("change")?;
         change(&mut conn, statements)?;
         let before = rows_told(alloc, &mut conn)?;
-        let (text, left) = served(alloc, conn);
+        let (text, left) = served(alloc, conn, FIVE);
         conn = left;
         assert!(rt; text?.as_str() == fault, "{statements}");
         let after = rows_told(alloc, &mut conn)?;

@@ -59,6 +59,45 @@ Total                                                       0.00           0.00 
 409 {"code":30,"refused":"NoRate"}
 "#;
 
+/// Terms of two rates, from a file and in messages: what conflicts, what is the same, and a bond of 20 years and six
+/// months that is paid by the extension.
+pub const EXTENDED: &str = r#"+ 1 from,rate,extension|2010-05,3.40,4.00|2010-11,3.50,|
+{"new":2,"same":0}
++ 2 from,rate|2010-05,3.40|
+{"code":21,"month":"2010-05","refused":"RateConflict"}
++ 3 from,rate,extension|2010-11,3.50,3.50|
+{"new":0,"same":1}
++ 4 from,rate,extension|2010-11,3.50,3.51|
+{"code":21,"month":"2010-11","refused":"RateConflict"}
+> POST /rates {"number":5,"rates":[{"from":"2011-05","rate":"3.40","extension":"4.00"},{"from":"2011-05","rate":"3.40"}]}
+409 {"code":21,"month":"2011-05","refused":"RateConflict"}
+> POST /rates {"number":1,"rates":[{"extension":"4%","from":"05/2010","rate":"3.4"},{"from":"2010-11","rate":"3.50","extension":null}]}
+200 {"new":2,"same":0}
+> POST /rates {"number":1,"rates":[{"from":"2010-05","rate":"3.40"},{"from":"2010-11","rate":"3.50"}]}
+409 {"code":10,"refused":"NumberReused"}
+> POST /bonds {"number":6,"bonds":[{"serial":"L1EE","denom":50,"issued":"2010-05","owner":7}]}
+200 {"new":1,"same":0}
+> POST /day/open {"number":7,"day":"2030-11-04"}
+200 {"opened":"2030-11-04"}
+> GET /inventory/7/2030-11
+200 Serial        Series  Denom Issued  Next    Final          Price       Interest   Rate          Value Note
+L1EE          EE         50 05/2010 12/2030 05/2040        25.00          26.00  4.00%          51.00
+Total                                                      25.00          26.00                 51.00
+
+> POST /redeem {"number":8,"day":"2030-11-04","payee":7,"serials":["L1EE"]}
+200 {"day":"2030-11-04","lines":[{"paid":"51.00","serial":"L1EE"}],"payee":7,"ticket":1,"total":"51.00"}
+> POST /day/close {"number":9,"day":"2030-11-04"}
+200 {"bonds":1,"day":"2030-11-04","tickets":1,"total":"51.00"}
+> GET /value/50/2010-05/2030-04
+200 {"denom":50,"final":"2040-05","interest":"23.90","issued":"2010-05","next":"2030-05","note":"","price":"25.00","rate":"3.40%","value":"48.90"}
+> GET /value/50/2010-05/2030-05
+200 {"denom":50,"final":"2040-05","interest":"25.00","issued":"2010-05","next":"2030-06","note":"","price":"25.00","rate":"4.00%","value":"50.00"}
+> GET /value/50/2010-05/2040-04
+200 {"denom":50,"final":"2040-05","interest":"49.04","issued":"2010-05","next":"2040-05","note":"","price":"25.00","rate":"4.00%","value":"74.04"}
+> GET /value/50/2010-05/2040-05
+200 {"denom":50,"final":"2040-05","interest":"49.28","issued":"2010-05","next":"","note":"MA","price":"25.00","rate":"","value":"74.28"}
+"#;
+
 /// Rates, three bonds and an open day.
 pub const BEGUN: &str =
     r#"> POST /rates {"number":1,"rates":[{"from":"2010-05","rate":"2.00"},{"from":"2010-11","rate":"3.50"}]}

@@ -31,6 +31,7 @@ tickets: SELECT ticket, day, payee, bonds, total FROM tickets ORDER BY ticket
 paid: SELECT ticket, place, letter, number, cents FROM paid ORDER BY ticket, place
 batches: SELECT day, tickets, bonds, total FROM batches ORDER BY day
 replies: SELECT number, act, reply FROM replies ORDER BY number
+extensions: SELECT period, rate FROM extensions ORDER BY period
 ";
 
 /// Adds a row of a table as a line: the table's name, and the values; `-` stands for one that is missing.
@@ -75,14 +76,15 @@ pub fn rows_told<S: Alter>(alloc: Global, conn: &mut Connection<S>) -> Result<St
     Ok(text)
 }
 
-/// Serves the five requests over the store of a connection, and hands it back.
+/// Serves a talk over the store of a connection, and hands it back.
 pub fn served<S: Alter>(
     alloc: Global,
     conn: Connection<S>,
+    talk: &str,
 ) -> (Result<String, Fail>, Connection<S>) {
     match SqlKeeper::adopt(conn, alloc) {
         Ok(mut keeper) => {
-            let text = replay(alloc, &mut keeper, FIVE);
+            let text = replay(alloc, &mut keeper, talk);
             (text, keeper.close())
         }
         Err(NotAdopted { fault, conn }) => (fault_told(alloc, fault), conn),

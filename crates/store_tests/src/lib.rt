@@ -9,6 +9,8 @@ mod days;
 #[cfg(test)]
 mod devices;
 #[cfg(test)]
+mod earlier;
+#[cfg(test)]
 mod faults;
 #[cfg(test)]
 mod five;

@@ -1,6 +1,6 @@
 //! Days over a keeper in memory and over tables, which answer alike.
 
-use crate::days::{BEGUN, DAY, LAST, LOST, MERGES, ORDERS, SHOWN, TICKETS};
+use crate::days::{BEGUN, DAY, EXTENDED, LAST, LOST, MERGES, ORDERS, SHOWN, TICKETS};
 use crate::faults::{CALLS, HEADS, STREAMS, ended, ends};
 use crate::imports::{FILES, LONG_FILES};
 use crate::lists::LISTS;
@@ -35,12 +35,13 @@ enum Part {
 }
 
 /// Days, lists and files.
-const DAYS_AND_FILES: [Part; 8] = [
+const DAYS_AND_FILES: [Part; 9] = [
     Part::Talks(DAY, ""),
     Part::Talks(IMPORTS, ""),
     Part::Talks(DAYS, ""),
     Part::Talks(LAST, ""),
     Part::Talks(LISTS, ""),
+    Part::Talks(EXTENDED, ""),
     Part::Talks(MOST, LONG),
     Part::Talks(FILES, ""),
     Part::Talks(LONG_FILES, ""),

@@ -1,6 +1,6 @@
 //! Stores in files: days in a file that is closed and opened again, and stops at each call of a file.
 
-use crate::days::{DAY, LAST};
+use crate::days::{DAY, EXTENDED, LAST};
 use crate::five::{FIVE, fault_told, served};
 use crate::lists::LISTS;
 use crate::refusals::{DAYS, IMPORTS};
@@ -15,7 +15,7 @@ use std::process::Abort;
 use std::test::Fail;
 
 /// Days that are told as transcripts.
-const TALKS: [&str; 5] = [DAY, IMPORTS, DAYS, LAST, LISTS];
+const TALKS: [&str; 6] = [DAY, IMPORTS, DAYS, LAST, LISTS, EXTENDED];
 
 /// A path for a file of this test alone; no file is there.
 fn fresh(rt: &HostRuntime, name: &str) -> Result<String, Fail> {
@@ -75,17 +75,18 @@ fn a_file_keeps_its_replies(rt: HostRuntime) -> Result<(), Fail> {
     forget(&rt, &path)
 }
 
-/// Serves the five requests over files, and hands them back; with no text where they don't open.
-fn served_on<D: Disk + Drop>(
+/// Serves a talk over files, and hands them back; with no text where they don't open.
+pub fn served_on<D: Disk + Drop>(
     alloc: Global,
     files: Files<D>,
+    talk: &str,
 ) -> (Result<String, Fail>, bool, Files<D>) {
     if !files.may_be_used() {
         return (Ok(String::new(alloc)), false, files);
     }
     match Connection::open_files(alloc, files, Options::new(1)) {
         Ok(conn) => {
-            let (text, conn) = served(alloc, conn);
+            let (text, conn) = served(alloc, conn, talk);
             match conn.close_files() {
                 Ok(files) => (text, true, files),
                 Err((_, store)) => (text, false, store.close()),
@@ -114,11 +115,11 @@ struct Runs {
 fn stopped(alloc: Global, log: u64, db: u64) -> Result<Runs, Fail> {
     let log = Fuse::new(Memory::new(alloc), log);
     let db = Fuse::new(Memory::new(alloc), db);
-    let (first, closed, mut files) = served_on(alloc, Files { log, db });
+    let (first, closed, mut files) = served_on(alloc, Files { log, db }, FIVE);
     let first = first?;
     files.log.crash();
     files.db.crash();
-    let (second, _, _left) = served_on(alloc, files);
+    let (second, _, _left) = served_on(alloc, files, FIVE);
     let second = second?;
     let is_whole = closed && first.as_str() == FIVE;
     Ok(Runs {

@@ -1,10 +1,11 @@
 //! The statements on the tables of a store, each found by what was written.
 
+use crate::earlier::SEVEN_TABLES;
 use ee_store_tables::{
     BatchRow, Failure, PaidRow, RateRow, ReplyRow, Serial, TicketRow, UnpaidBond, add_batch,
-    add_bond, add_rate, add_reply, add_ticket, bonds_of_owner, day_tickets, find_batch, find_bond,
-    find_desk, find_rate, find_reply, find_ticket, first_ticket, last_ticket, pay_lines, set_day,
-    ticket_lines,
+    add_bond, add_extension, add_rate, add_reply, add_ticket, bonds_of_owner, day_tickets,
+    find_batch, find_bond, find_desk, find_extension, find_rate, find_reply, find_ticket,
+    first_ticket, last_ticket, pay_lines, set_day, ticket_lines,
 };
 use sqlite::{Alter, Connection, Error, Transaction};
 use std::alloc::Global;
@@ -20,25 +21,20 @@ const A1: Serial = Serial {
 };
 
 fn make_tables<S: Alter>(conn: &mut Connection<S>) -> Result<(), Error> {
+    conn.execute_batch(SEVEN_TABLES)?;
     conn.execute_batch(
-        "CREATE TABLE desk (id INTEGER NOT NULL PRIMARY KEY, version INTEGER NOT NULL, day INTEGER, last_day INTEGER) STRICT;
-        CREATE TABLE rates (period INTEGER NOT NULL PRIMARY KEY, rate INTEGER NOT NULL) STRICT;
-        CREATE TABLE bonds (letter INTEGER NOT NULL, number INTEGER NOT NULL, denom INTEGER NOT NULL, issued INTEGER NOT NULL, owner INTEGER NOT NULL, coowner INTEGER, ticket INTEGER, PRIMARY KEY (letter, number)) STRICT;
-        CREATE INDEX bonds_owner ON bonds (owner, letter, number);
-        CREATE TABLE tickets (ticket INTEGER NOT NULL PRIMARY KEY, day INTEGER NOT NULL, payee INTEGER NOT NULL, bonds INTEGER NOT NULL, total INTEGER NOT NULL) STRICT;
-        CREATE INDEX tickets_day ON tickets (day, ticket);
-        CREATE TABLE paid (ticket INTEGER NOT NULL, place INTEGER NOT NULL, letter INTEGER NOT NULL, number INTEGER NOT NULL, cents INTEGER NOT NULL, PRIMARY KEY (ticket, place), UNIQUE (letter, number)) STRICT;
-        CREATE TABLE batches (day INTEGER NOT NULL PRIMARY KEY, tickets INTEGER NOT NULL, bonds INTEGER NOT NULL, total INTEGER NOT NULL) STRICT;
-        CREATE TABLE replies (number INTEGER NOT NULL PRIMARY KEY, act TEXT NOT NULL, reply TEXT NOT NULL) STRICT;
+        "CREATE TABLE extensions (period INTEGER NOT NULL PRIMARY KEY, rate INTEGER NOT NULL) STRICT;
         INSERT INTO desk (id, version) VALUES (1, 1)",
     )
 }
 
-/// Rates and bonds; a second rate for a period and a second bond of a serial number change nothing.
+/// Rates and bonds; a second rate or extension for a period and a second bond of a serial number change nothing.
 fn register<S: Alter>(tx: &mut Transaction<'_, S>) -> Result<(), Failure> {
     let period = 60;
     add_rate(tx, RateRow { period, rate: 350 })?;
     add_rate(tx, RateRow { period, rate: 200 })?;
+    add_extension(tx, RateRow { period, rate: 400 })?;
+    add_extension(tx, RateRow { period, rate: 300 })?;
     let first = UnpaidBond {
         letter: 1,
         number: 1,
@@ -95,7 +91,9 @@ fn add<T: Debug>(text: &mut String, name: &str, value: &T) -> Result<(), Fail> {
 fn add_register<S: Alter>(text: &mut String, tx: &mut Transaction<'_, S>) -> Result<(), Fail> {
     add(text, "desk", &find_desk(tx))?;
     add(text, "rate of 60", &find_rate(tx, 60))?;
-    add(text, "rate of 66", &find_rate(tx, 66))
+    add(text, "rate of 66", &find_rate(tx, 66))?;
+    add(text, "extension of 60", &find_extension(tx, 60))?;
+    add(text, "extension of 66", &find_extension(tx, 66))
 }
 
 /// Adds the bonds, the one on its ticket and the other unpaid.
@@ -141,6 +139,8 @@ const FOUND: &str =
     r#"desk: Ok(Some(DeskRow { version: 1, day: Some(16559), last_day: Some(16558) }))
 rate of 60: Ok(Some(350))
 rate of 66: Ok(None)
+extension of 60: Ok(Some(400))
+extension of 66: Ok(None)
 bond: Ok(Some(BondRow { denom: 50, issued: 60, owner: 7, coowner: None, ticket: Some(1) }))
 of 7: Ok([UnpaidBond { letter: 26, number: 9999999999, denom: 10000, issued: 60, owner: 7, coowner: Some(8) }])
 of 8: Ok([])

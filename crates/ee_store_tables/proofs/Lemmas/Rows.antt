@@ -18,7 +18,7 @@ use Rattle.sqlite.specs.declared.types.Value.TheVariants.{Int, Null}
 use Rattle.sqlite_rules.specs.Edit.{is_taken}
 use Rattle.sqlite_sql.specs.Term.{Env, eval_all, holds}
 use Rattle.sqlite_value.specs.declared.keys.Key.{Key}
-use Rattle.ee_store_tables.specs.Keyed.{AreRows, HoldsMap, ReadAlike, pair_cmp, row_of}
+use Rattle.ee_store_tables.specs.Keyed.{AreRows, HoldsMap, HoldsPairs, ReadAlike, pair_cmp, row_of}
 use Rattle.ee_store_tables.specs.Rows.{optional}
 use Rattle.ee_store_tables.proofs.ColumnLemmas
 use Rattle.ee_store_tables.proofs.HoldsLemmas
@@ -76,6 +76,14 @@ pub keyed_same : {X : Type 0} (columns : X → Row) (rows : List Row) (numbered 
     → AreRows (row_of columns) rows numbered
     → AreRows (λ p. row_of columns (pos p.1.0, p.1)) rows numbered
 keyed_same = ReadLemmas.keyed_same
+
+-- rows that stay hold the map that they held
+pub kept_map : {X : Type 0} {columns : X → Row} {m : FinMap nat_cmp X} {old new : List Row} → new ≡ old → HoldsMap columns old m → HoldsMap columns new m
+kept_map = WriteLemmas.moved
+
+-- so do rows under pairs of numbers
+pub kept_pairs : {X : Type 0} (columns : X → Row) {m : FinMap pair_cmp X} {old new : List Row} → new ≡ old → HoldsPairs columns old m → HoldsPairs columns new m
+kept_pairs = WriteLemmas.moved_pairs
 
 -- ---- finite maps and lists
 -- pairs of numbers have a total order

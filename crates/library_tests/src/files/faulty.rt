@@ -50,6 +50,16 @@ from,rate|~,2.00| => 2 BadValue(From)
 from,rate|2010-05,2.00~| => 2 BadValue(Rate)
 from,rate|2010-05,2.00|x,y|2010-11| => 3 BadValue(From)
 from,rate|2010-05,2.00|2010-11|x,y| => 3 WrongFieldCount
+from,extension,rate| => 1 BadHeader
+from,rate,extension,| => 1 BadHeader
+from,rate,Extension| => 1 BadHeader
+from,rate,extension|2010-05,2.00| => 2 WrongFieldCount
+from,rate|2010-05,2.00,3.00| => 2 WrongFieldCount
+from,rate,extension|2010-05,2.00,20.01| => 2 BadValue(Extension)
+from,rate,extension|2010-05,2.00, | => 2 BadValue(Extension)
+from,rate,extension|2010-05,2.00,~| => 2 BadValue(Extension)
+from,rate,extension|2010-05,x,y| => 2 BadValue(Rate)
+from,rate,extension|x,y,z| => 2 BadValue(From)
 ";
 
 struct RateFaultCases;

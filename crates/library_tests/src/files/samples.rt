@@ -13,7 +13,7 @@ pub const INVENTORY: &str =
 
 /// The rows of `RATES`, as `Debug` shows them.
 pub const TWO_RATES: &str =
-    "[RateRow { from: IssueMonth { count: 60 }, rates: Rates { fixed: Rate { hundredths: 200 } } }, RateRow { from: IssueMonth { count: 66 }, rates: Rates { fixed: Rate { hundredths: 350 } } }]";
+    "[RateRow { from: IssueMonth { count: 60 }, rates: Rates { fixed: Rate { hundredths: 200 }, extension: Rate { hundredths: 200 } } }, RateRow { from: IssueMonth { count: 66 }, rates: Rates { fixed: Rate { hundredths: 350 }, extension: Rate { hundredths: 350 } } }]";
 
 /// The bonds of `INVENTORY`, as `Debug` shows them.
 pub const THREE_BONDS: &str =
@@ -49,7 +49,7 @@ fn named(alloc: Global, text: String, known: &str, what: &str) -> Result<String,
 }
 
 /// Files of rates: the sample, files without rows, and the sample as spreadsheets write it: other line ends, no
-/// last one, a byte order mark, quotes, empty lines and other spellings.
+/// last one, a byte order mark, quotes, empty lines and other spellings; and files with a column of extensions.
 const RATE_FILES: &str = "\
 from,rate|2010-05,2.00|2010-11,3.50%| => the sample
  => []
@@ -65,6 +65,9 @@ from,rate|2010-05,2.00|2010-11,3.50% => the sample
 \u{feff}\"from\",\"rate\"^|\"2010-05\",2.00^|2010-11,\"3.50%\"^| => the sample
 ||from,rate||2010-05,2.00^|^|^|2010-11,3.50%|| => the sample
 from,rate|05/2010,2|11/2010,03.5| => the sample
+from,rate,extension|2010-05,2.00,|2010-11,3.50%,3.5| => the sample
+from,rate,extension| => []
+\"from\",\"rate\",\"extension\"^|2010-05,3.40,\"4%\"^| => [RateRow { from: IssueMonth { count: 60 }, rates: Rates { fixed: Rate { hundredths: 340 }, extension: Rate { hundredths: 400 } } }]
 ";
 
 struct RateFileCases;

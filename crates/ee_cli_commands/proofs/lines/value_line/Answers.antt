@@ -10,6 +10,14 @@ pub returns-in_err-month : goal.returns-in_err-month
 unfolding value_asked
 returns-in_err-month c = search rules
 
+pub returns-in_err-rate : goal.returns-in_err-rate
+unfolding value_asked
+returns-in_err-rate c = search rules
+
+pub returns-in_err-rate_or_none : goal.returns-in_err-rate_or_none
+unfolding value_asked
+returns-in_err-rate_or_none c = search rules
+
 pub returns : goal.returns
 unfolding value_asked
 returns c = search rules

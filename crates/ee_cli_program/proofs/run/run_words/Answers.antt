@@ -24,7 +24,7 @@ pub returns-in-Err-Help-clause-status : goal.returns-in-Err-Help-clause-status
 returns-in-Err-Help-clause-status g c = shown _ _ _ (inl (rw c.in-Err-Help.field-0-is at c.in-Err-Help.ensures)) c.show.ensures.status
 
 pub returns-in-Err-Help-clause-printed : goal.returns-in-Err-Help-clause-printed
-returns-in-Err-Help-clause-printed g c = λ denom issued month rate is zero. absurd (asks_unrefused _ _ _ is (rw c.in-Err-Help.field-0-is at c.in-Err-Help.ensures))
+returns-in-Err-Help-clause-printed g c = λ denom issued month rate extension is zero. absurd (asks_unrefused _ _ _ is (rw c.in-Err-Help.field-0-is at c.in-Err-Help.ensures))
 
 pub returns-in-Err-Help-clause-over : goal.returns-in-Err-Help-clause-over
 returns-in-Err-Help-clause-over g c = λ clean contents holds. shown _ _ _ (inl (rw c.in-Err-Help.field-0-is at c.in-Err-Help.ensures)) c.show.ensures.status
@@ -53,7 +53,7 @@ pub returns-in-Err-Version-clause-status : goal.returns-in-Err-Version-clause-st
 returns-in-Err-Version-clause-status g c = shown _ _ _ (inr (rw c.in-Err-Version.field-0-is at c.in-Err-Version.ensures)) c.show_version.ensures.status
 
 pub returns-in-Err-Version-clause-printed : goal.returns-in-Err-Version-clause-printed
-returns-in-Err-Version-clause-printed g c = λ denom issued month rate is zero. absurd (asks_unrefused _ _ _ is (rw c.in-Err-Version.field-0-is at c.in-Err-Version.ensures))
+returns-in-Err-Version-clause-printed g c = λ denom issued month rate extension is zero. absurd (asks_unrefused _ _ _ is (rw c.in-Err-Version.field-0-is at c.in-Err-Version.ensures))
 
 pub returns-in-Err-Version-clause-version : goal.returns-in-Err-Version-clause-version
 returns-in-Err-Version-clause-version g c = λ version zero. c.show_version.ensures.printed zero

@@ -1,7 +1,7 @@
 use Rattle.std.proofs.Common.{◌≡◌, [], rules, true, false}
 use Rattle.csv.specs.Reading.{default_config, records, strip_bom}
 use Rattle.csv.specs.Records.{fields_of}
-use Rattle.ee_files.specs.Rows.{header_of, same_fields}
+use Rattle.ee_files.specs.Rows.{is_header}
 use Rattle.ee_files.proofs.Entries.{at_end, bad_header, gives_as, good_header, none_read, Took, took}
 use Rattle.ee_files.proofs.records.rows_in.Goals as goal
 
@@ -9,20 +9,20 @@ pub returns-then-not-branch : goal.returns-then-not-branch
 returns-then-not-branch g c =
     let takes = c.in_ok-next_record.ensures.ok _ c.reader_of-records.ensures in
     let none : records default_config (strip_bom c.args.bytes.now) ≡ [] = at_end c.next_record.new.records _ c.in_ok-next_record.field-0 (fields_of c.next_record.new.fields) takes (search rules) in
-    none_read g.T.FileRow.columns g.T.FileRow.entry _ _ none c.new.ensures.items
+    none_read g.T.FileRow.headers g.T.FileRow.entry _ _ none c.new.ensures.items
 
 pub returns : goal.returns
 returns g c =
     let takes = c.in_ok-next_record.ensures.ok _ c.reader_of-records.ensures in
     let fields = fields_of c.next_record.new.fields in
     let t : Took c.next_record.new.records (records default_config (strip_bom c.args.bytes.now)) fields = took c.next_record.new.records _ c.in_ok-next_record.field-0 fields takes (search rules) in
-    let good : same_fields fields (header_of g.T.FileRow.columns) ≡ true = search rules in
-    gives_as (λ v. v.items) c.rows_under_header.result _ _ (good_header g.T.FileRow.columns g.T.FileRow.entry _ fields t.rest t.is good) (c.rows_under_header.ensures t.rest t.left)
+    let good : is_header g.T.FileRow.headers fields ≡ true = search rules in
+    gives_as (λ v. v.items) c.rows_under_header.result _ _ (good_header g.T.FileRow.headers g.T.FileRow.entry _ fields t.rest t.is good) (rw c.len.ensures at (c.rows_under_header.ensures t.rest t.left))
 
 pub returns-then-not-is_header : goal.returns-then-not-is_header
 returns-then-not-is_header g c =
     let takes = c.in_ok-next_record.ensures.ok _ c.reader_of-records.ensures in
     let fields = fields_of c.next_record.new.fields in
     let t : Took c.next_record.new.records (records default_config (strip_bom c.args.bytes.now)) fields = took c.next_record.new.records _ c.in_ok-next_record.field-0 fields takes (search rules) in
-    let wrong : same_fields fields (header_of g.T.FileRow.columns) ≡ false = search rules in
-    bad_header g.T.FileRow.columns g.T.FileRow.entry _ fields t.rest t.is wrong
+    let wrong : is_header g.T.FileRow.headers fields ≡ false = search rules in
+    bad_header g.T.FileRow.headers g.T.FileRow.entry _ fields t.rest t.is wrong

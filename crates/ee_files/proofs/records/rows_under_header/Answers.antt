@@ -8,7 +8,7 @@ use Rattle.ee_files.proofs.records.rows_under_header.Goals as goal
 
 pub returns-then-not-branch : goal.returns-then-not-branch
 returns-then-not-branch g c = λ all h.
-    let entry = g.T.FileRow.entry in
+    let entry = g.T.FileRow.entry c.args.width in
     let (rest, left, whole) = c.loop-row.invariant all h in
     let takes = c.in_ok-next_record.ensures.ok rest left in
     let none : rest ≡ [] = at_end c.next_record.new.records rest c.in_ok-next_record.field-0 (fields_of c.next_record.new.fields) takes (search rules) in
@@ -17,7 +17,7 @@ returns-then-not-branch g c = λ all h.
 
 pub returns-in_err-entry : goal.returns-in_err-entry
 returns-in_err-entry g c = λ all h.
-    let entry = g.T.FileRow.entry in
+    let entry = g.T.FileRow.entry c.args.width in
     let (rest, left, whole) = c.loop-row.invariant all h in
     let takes = c.in_ok-next_record.ensures.ok rest left in
     let fields = fields_of c.next_record.new.fields in
@@ -35,7 +35,7 @@ returns-in_err-entry g c = λ all h.
 
 pub loop-row-preserved : goal.loop-row-preserved
 loop-row-preserved g c = λ all h.
-    let entry = g.T.FileRow.entry in
+    let entry = g.T.FileRow.entry c.args.width in
     let (rest, left, whole) = c.loop-row.invariant all h in
     let takes = c.in_ok-next_record.ensures.ok rest left in
     let fields = fields_of c.next_record.new.fields in
@@ -56,7 +56,7 @@ loop-row-preserved g c = λ all h.
 
 pub returns : goal.returns
 returns g c = λ all h.
-    let entry = g.T.FileRow.entry in
+    let entry = g.T.FileRow.entry c.args.width in
     let (rest, left, whole) = c.loop-row.invariant all h in
     let past = c.loop-row-test.false in
     let none : 503 - c.loop-row.row ≡ 0 = omega arith in

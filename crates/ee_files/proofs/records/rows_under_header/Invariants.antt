@@ -7,4 +7,4 @@ use Rattle.ee_files.proofs.records.rows_under_header.Given as goal
 -- the rows so far, and those of what is left, are those of the whole
 abbrev pub invariant-loop-row : goal.invariant-loop-row
 invariant-loop-row g l = (all : List (List (List ℕ))) → HasLeft l.fn.records all
-    → (rest : List (List (List ℕ))) × HasLeft l.records rest × (with_front l.rows.items (rows_from g.T.FileRow.entry l.row (503 - l.row) rest) ≡ rows_from g.T.FileRow.entry 2 501 all)
+    → (rest : List (List (List ℕ))) × HasLeft l.records rest × (with_front l.rows.items (rows_from (g.T.FileRow.entry l.fn.width) l.row (503 - l.row) rest) ≡ rows_from (g.T.FileRow.entry l.fn.width) 2 501 all)

@@ -5,7 +5,9 @@ use Rattle.ee_store_tables.specs.Rows.{Stores}
 use Rattle.ee_store_tables.proofs.Lemmas.Transactions.{clean_before, on_err_from}
 use Rattle.std.proofs.lemmas.Result.{IfOk-weaker}
 use Rattle.ee_store_opening.specs.Making.{IsBlank, first_rows}
-use Rattle.ee_store_opening.proofs.OpenLemmas.{kept_has, still_ok, leaves_less, two_faults, first_is_first, first_readable}
+use Rattle.ee_store_opening.proofs.OpenLemmas.{still_ok, leaves_less, two_faults, first_is_first, first_readable}
+use Rattle.ee_store_opening.specs.declared.forms.Form.TheVariants.{Current}
+use Rattle.ee_store_opening.proofs.FormLemmas.{had_form, kept_had}
 use Rattle.ee_store_opening.proofs.FaultLemmas.{handed_on}
 use Rattle.ee_store_opening.proofs.VersionLemmas.{one_version}
 use Rattle.ee_store_opening.proofs.opening.open_blank.Goals as goal
@@ -15,7 +17,7 @@ returns-clause-found g c clean =
     let middle = state g.S.Store c.make_tables.new.conn in
     let new = state g.S.Store c.read_all.new.conn in
     let made = c.in_ok-make_tables.ensures.made (clean_before middle new c.read_all.ensures.crash clean) in
-    IfOk-weaker c.read_all.result _ _ (λ all found blank. found (λ is_open. (made blank is_open).0)) (c.read_all.ensures.found clean)
+    IfOk-weaker c.read_all.result _ _ (λ all found blank. found (had_form Current middle first_rows (made blank))) (c.read_all.ensures.found clean)
 
 pub returns-clause-made : goal.returns-clause-made
 returns-clause-made g c clean =
@@ -31,7 +33,7 @@ returns-clause-failed g c clean =
     let new = state g.S.Store c.read_all.new.conn in
     let before = clean_before middle new c.read_all.ensures.crash clean in
     let made = c.in_ok-make_tables.ensures.made before in
-    on_err_from c.read_all.result (inr ((c.in_ok-make_tables.ensures.open before).0, λ blank. kept_has middle new first_rows (c.read_all.ensures.kept clean) (made blank)))
+    on_err_from c.read_all.result (inr ((c.in_ok-make_tables.ensures.open before).0, λ blank. kept_had Current middle new first_rows (c.read_all.ensures.kept clean) (made blank)))
 
 pub returns-clause-crash : goal.returns-clause-crash
 returns-clause-crash g c =

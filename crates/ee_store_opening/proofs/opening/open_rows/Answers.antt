@@ -1,57 +1,149 @@
-use Rattle.std.proofs.Common.{rules, inl}
+use Rattle.std.proofs.Common.{inl, inr, sym, ap, ◌∙◌}
+use Rattle.std.proofs.lemmas.Result.{on_ok_weaker}
+use Rattle.sqlite.specs.Effect.{Database}
 use Rattle.sqlite.specs.Held.{state}
 use Rattle.sqlite.proofs.StateLemmas.{survives_weaker}
 use Rattle.ee_store_tables.specs.Rows.{Stores}
+use Rattle.ee_store_tables.proofs.Lemmas.Transactions.{on_err_from}
 use Rattle.ee_store_opening.specs.Making.{IsBlank, first_rows}
+use Rattle.ee_store_opening.specs.Whole.{rows_of}
+use Rattle.ee_store_opening.proofs.CauseLemmas.{excused_if_open, never_both}
+use Rattle.ee_store_opening.proofs.FormLemmas.{form_found, found_current, had_as, none_found, not_blank}
 use Rattle.ee_store_opening.proofs.OpenLemmas.{leaves_less}
+use Rattle.ee_store_opening.proofs.ReadLemmas.{always, each_fault, each_ok}
 use Rattle.ee_store_opening.proofs.opening.open_rows.Goals as goal
 
-pub returns-then-has_our_tables-clause-found : goal.returns-then-has_our_tables-clause-found
-returns-then-has_our_tables-clause-found g c = search rules
+pub returns-in-Some-clause-found : goal.returns-in-Some-clause-found
+returns-in-Some-clause-found g c clean =
+    let old = state g.S.Store c.args.conn.now in
+    let form = c.in-Some.form in
+    let ours = form_found old (c.is_autocommit.ensures.settled c.if-not-is_autocommit.false) c.schema-2.result.now c.schema-2.ensures.value form ((c.form_of.ensures form).0 c.in-Some.is) in
+    each_ok c.read_all.result (λ all found. (form, found ours)) (c.read_all.ensures.found clean)
 
-pub returns-then-has_our_tables-clause-those : goal.returns-then-has_our_tables-clause-those
-returns-then-has_our_tables-clause-those g c = search rules
+pub returns-in-Some-clause-current : goal.returns-in-Some-clause-current
+returns-in-Some-clause-current g c clean =
+    let old = state g.S.Store c.args.conn.now in
+    let new = state g.S.Store c.read_all.new.conn in
+    let form = c.in-Some.form in
+    let ours = form_found old (c.is_autocommit.ensures.settled c.if-not-is_autocommit.false) c.schema-2.result.now c.schema-2.ensures.value form ((c.form_of.ensures form).0 c.in-Some.is) in
+    each_ok c.read_all.result (λ all found. found_current form old new (rows_of all) ours (c.read_all.ensures.kept clean) (found ours)) (c.read_all.ensures.found clean)
 
-pub returns-then-has_our_tables-clause-first : goal.returns-then-has_our_tables-clause-first
-returns-then-has_our_tables-clause-first g c = search rules
+pub returns-in-Some-clause-ours : goal.returns-in-Some-clause-ours
+returns-in-Some-clause-ours g c clean =
+    let old = state g.S.Store c.args.conn.now in
+    let form = c.in-Some.form in
+    let ours = form_found old (c.is_autocommit.ensures.settled c.if-not-is_autocommit.false) c.schema-2.result.now c.schema-2.ensures.value form ((c.form_of.ensures form).0 c.in-Some.is) in
+    always c.read_all.result (inl (form, ours))
 
-pub returns-then-has_our_tables-clause-version : goal.returns-then-has_our_tables-clause-version
-returns-then-has_our_tables-clause-version g c = search rules
+pub returns-in-Some-clause-made : goal.returns-in-Some-clause-made
+returns-in-Some-clause-made g c clean =
+    let old = state g.S.Store c.args.conn.now in
+    let form = c.in-Some.form in
+    let ours = form_found old (c.is_autocommit.ensures.settled c.if-not-is_autocommit.false) c.schema-2.result.now c.schema-2.ensures.value form ((c.form_of.ensures form).0 c.in-Some.is) in
+    each_ok c.read_all.result (λ all _ blank is_open. absurd (not_blank form old ours blank is_open)) c.read_all.ensures.order
 
-pub returns-then-has_our_tables-clause-tested : goal.returns-then-has_our_tables-clause-tested
-returns-then-has_our_tables-clause-tested g c = search rules
+pub returns-in-Some-clause-those : goal.returns-in-Some-clause-those
+returns-in-Some-clause-those g c clean =
+    let old = state g.S.Store c.args.conn.now in
+    let form = c.in-Some.form in
+    let ours = form_found old (c.is_autocommit.ensures.settled c.if-not-is_autocommit.false) c.schema-2.result.now c.schema-2.ensures.value form ((c.form_of.ensures form).0 c.in-Some.is) in
+    each_ok c.read_all.result (λ all those other rows had is_open. those rows (had_as form old rows other ours had) is_open) (c.read_all.ensures.those clean)
 
-pub returns-then-has_our_tables-clause-unusable : goal.returns-then-has_our_tables-clause-unusable
-returns-then-has_our_tables-clause-unusable g c = search rules
+pub returns-in-Some-clause-begun : goal.returns-in-Some-clause-begun
+returns-in-Some-clause-begun g c clean =
+    let old = state g.S.Store c.args.conn.now in
+    let form = c.in-Some.form in
+    let ours = form_found old (c.is_autocommit.ensures.settled c.if-not-is_autocommit.false) c.schema-2.result.now c.schema-2.ensures.value form ((c.form_of.ensures form).0 c.in-Some.is) in
+    on_ok_weaker c.read_all.result (λ both blank db may. absurd (not_blank form old ours blank both.0)) (c.read_all.ensures.open clean)
 
-pub returns-then-has_our_tables-clause-failed : goal.returns-then-has_our_tables-clause-failed
-returns-then-has_our_tables-clause-failed g c = search rules
+pub returns-in-Some-clause-first : goal.returns-in-Some-clause-first
+returns-in-Some-clause-first g c clean =
+    let old = state g.S.Store c.args.conn.now in
+    let form = c.in-Some.form in
+    let ours = form_found old (c.is_autocommit.ensures.settled c.if-not-is_autocommit.false) c.schema-2.result.now c.schema-2.ensures.value form ((c.form_of.ensures form).0 c.in-Some.is) in
+    on_ok_weaker c.read_all.result (λ first other rows had is_open. first rows (had_as form old rows other ours had)) (c.read_all.ensures.first clean)
 
-pub returns-then-has_our_tables-clause-kept : goal.returns-then-has_our_tables-clause-kept
-returns-then-has_our_tables-clause-kept g c = search rules
+pub returns-in-Some-clause-version : goal.returns-in-Some-clause-version
+returns-in-Some-clause-version g c clean =
+    let old = state g.S.Store c.args.conn.now in
+    let form = c.in-Some.form in
+    let ours = form_found old (c.is_autocommit.ensures.settled c.if-not-is_autocommit.false) c.schema-2.result.now c.schema-2.ensures.value form ((c.form_of.ensures form).0 c.in-Some.is) in
+    each_fault c.read_all.result (λ e version told other rows had is_open. version told rows (had_as form old rows other ours had)) (c.read_all.ensures.version clean)
 
-pub returns-then-has_our_tables-clause-stays : goal.returns-then-has_our_tables-clause-stays
-returns-then-has_our_tables-clause-stays g c = search rules
+pub returns-in-Some-clause-tested : goal.returns-in-Some-clause-tested
+returns-in-Some-clause-tested g c clean =
+    let old = state g.S.Store c.args.conn.now in
+    let form = c.in-Some.form in
+    let ours = form_found old (c.is_autocommit.ensures.settled c.if-not-is_autocommit.false) c.schema-2.result.now c.schema-2.ensures.value form ((c.form_of.ensures form).0 c.in-Some.is) in
+    each_fault c.read_all.result (λ e tested told other rows had is_open. tested told rows (had_as form old rows other ours had) is_open) (c.read_all.ensures.tested clean)
 
-pub returns-then-has_our_tables-clause-left : goal.returns-then-has_our_tables-clause-left
-returns-then-has_our_tables-clause-left g c = search rules
+pub returns-in-Some-clause-unusable : goal.returns-in-Some-clause-unusable
+returns-in-Some-clause-unusable g c clean =
+    let old = state g.S.Store c.args.conn.now in
+    let form = c.in-Some.form in
+    let ours = form_found old (c.is_autocommit.ensures.settled c.if-not-is_autocommit.false) c.schema-2.result.now c.schema-2.ensures.value form ((c.form_of.ensures form).0 c.in-Some.is) in
+    each_fault c.read_all.result (λ e usable told other rows had is_open. usable told rows (had_as form old rows other ours had) is_open) (c.read_all.ensures.usable clean)
 
-pub returns-else-has_our_tables-clause-found : goal.returns-else-has_our_tables-clause-found
-returns-else-has_our_tables-clause-found g c clean = tt
+pub returns-in-Some-clause-blank : goal.returns-in-Some-clause-blank
+returns-in-Some-clause-blank g c clean =
+    let old = state g.S.Store c.args.conn.now in
+    let form = c.in-Some.form in
+    let ours = form_found old (c.is_autocommit.ensures.settled c.if-not-is_autocommit.false) c.schema-2.result.now c.schema-2.ensures.value form ((c.form_of.ensures form).0 c.in-Some.is) in
+    each_fault c.read_all.result (λ e _ blank is_open. absurd (not_blank form old ours blank is_open)) (c.read_all.ensures.version clean)
 
-pub returns-else-has_our_tables-clause-ours : goal.returns-else-has_our_tables-clause-ours
-returns-else-has_our_tables-clause-ours g c clean = tt
+pub returns-in-Some-clause-failed : goal.returns-in-Some-clause-failed
+returns-in-Some-clause-failed g c clean =
+    on_err_from c.read_all.result ((λ tables. c.read_all.ensures.kept clean), (λ blank. inl (c.read_all.ensures.kept clean)))
 
-pub returns-else-has_our_tables-clause-failed : goal.returns-else-has_our_tables-clause-failed
-returns-else-has_our_tables-clause-failed g c clean = (λ tables. c.refusal.ensures.kept clean, λ blank. inl (c.refusal.ensures.kept clean))
+pub returns-in-Some-clause-kept : goal.returns-in-Some-clause-kept
+returns-in-Some-clause-kept g c clean =
+    always c.read_all.result (λ tables. c.read_all.ensures.kept clean)
 
-pub returns-else-has_our_tables-clause-left : goal.returns-else-has_our_tables-clause-left
-returns-else-has_our_tables-clause-left g c clean is_open tables = leaves_less (state g.S.Store c.args.conn.now) (state g.S.Store c.refusal.new.conn) c.refusal.ensures.crash clean
+pub returns-in-Some-clause-stays : goal.returns-in-Some-clause-stays
+returns-in-Some-clause-stays g c clean =
+    let old = state g.S.Store c.args.conn.now in
+    let new = state g.S.Store c.read_all.new.conn in
+    always c.read_all.result (λ tables db may. leaves_less old new c.read_all.ensures.crash clean db may)
 
-pub returns-else-has_our_tables-clause-crash : goal.returns-else-has_our_tables-clause-crash
-returns-else-has_our_tables-clause-crash g c =
+pub returns-in-Some-clause-left : goal.returns-in-Some-clause-left
+returns-in-Some-clause-left g c clean is_open tables =
+    let old = state g.S.Store c.args.conn.now in
+    let new = state g.S.Store c.read_all.new.conn in
+    leaves_less old new c.read_all.ensures.crash clean
+
+pub returns-in-Some-clause-cause : goal.returns-in-Some-clause-cause
+returns-in-Some-clause-cause g c clean outside limit which =
+    let old = state g.S.Store c.args.conn.now in
+    let form = c.in-Some.form in
+    let ours = form_found old (c.is_autocommit.ensures.settled c.if-not-is_autocommit.false) c.schema-2.result.now c.schema-2.ensures.value form ((c.form_of.ensures form).0 c.in-Some.is) in
+    c.read_all.ensures.cause clean (outside, ours) limit
+
+pub returns-in-Some-clause-crash : goal.returns-in-Some-clause-crash
+returns-in-Some-clause-crash g c =
+    let old = state g.S.Store c.args.conn.now in
+    let new = state g.S.Store c.read_all.new.conn in
+    survives_weaker old new (λ _. ⊥) (λ db. IsBlank old → Stores db first_rows) (λ _ db h. absurd h) c.read_all.ensures.crash
+
+pub returns-in-None-clause-failed : goal.returns-in-None-clause-failed
+returns-in-None-clause-failed g c clean = (λ tables. c.refusal.ensures.kept clean, λ blank. inl (c.refusal.ensures.kept clean))
+
+pub returns-in-None-clause-left : goal.returns-in-None-clause-left
+returns-in-None-clause-left g c clean is_open tables = leaves_less (state g.S.Store c.args.conn.now) (state g.S.Store c.refusal.new.conn) c.refusal.ensures.crash clean
+
+pub returns-in-None-clause-crash : goal.returns-in-None-clause-crash
+returns-in-None-clause-crash g c =
     let old = state g.S.Store c.args.conn.now in
     survives_weaker old (state g.S.Store c.refusal.new.conn) (λ _. ⊥) (λ db. IsBlank old → Stores db first_rows) (λ _ db h. absurd h) c.refusal.ensures.crash
+
+pub returns-in-None-clause-cause : goal.returns-in-None-clause-cause
+returns-in-None-clause-cause g c clean outside limit which =
+    let old = state g.S.Store c.args.conn.now in
+    let new = state g.S.Store c.refusal.new.conn in
+    let settled = c.is_autocommit.ensures.settled c.if-not-is_autocommit.false in
+    excused_if_open old new _ (λ is_open. absurd (elim which [
+      | inl blank ↦ never_both c.has_no_tables.result (c.has_no_tables.ensures.1 (c.schema.ensures.value ∙ ap (λ (d : Database). d.schema) (settled is_open) ∙ blank is_open)) c.if-has_no_tables.false
+      | inr ours ↦ none_found old settled c.schema-2.result.now c.schema-2.ensures.value (λ form is. let e = sym c.in-None.is ∙ (c.form_of.ensures form).1 is in cc) ours is_open
+    ]))
 
 pub returns-then-not-is_autocommit-clause-blank : goal.returns-then-not-is_autocommit-clause-blank
 returns-then-not-is_autocommit-clause-blank g c clean blank is_open = ((λ told. absurd (cc)), (λ told. absurd (cc)))

@@ -2,7 +2,6 @@ use Rattle.std.proofs.Common.{[], refl, sym, subst}
 use Rattle.sqlite.specs.Held.{state}
 use Rattle.sqlite.specs.Given.{IsPlain}
 use Rattle.sqlite.specs.Listing.{understood}
-use Rattle.ee_store_tables.specs.Tables.{counter_schema}
 use Rattle.ee_store_opening.specs.Faults.{IsExcused}
 use Rattle.ee_store_opening.specs.Reading.{IsNeverRefused}
 use Rattle.ee_store_opening.proofs.CauseLemmas.{excused_if_open}
@@ -11,24 +10,24 @@ use Rattle.ee_store_opening.proofs.ScanLemmas.{is_plain, answers, shows_all, unr
 use Rattle.ee_store_opening.proofs.reading.read_table.Goals as goal
 
 pub returns-clause-found : goal.returns-clause-found
-returns-clause-found g c clean tree terms asks ours =
+returns-clause-found g c clean schema tree terms order asks ours =
     let old = state g.S.Store c.args.conn.now in
     let new = state g.S.Store c.read_rows.new.conn in
     let is_open = (c.in_ok-found.ensures.same clean).0.was_open in
-    (is_open, shows_all old new counter_schema c.args.sql.now tree terms _ asks (ours is_open) (c.in_ok-found.ensures.shown clean))
+    (is_open, shows_all old new schema c.args.sql.now tree terms order _ asks (ours is_open) (c.in_ok-found.ensures.shown clean))
 
 pub returns-in_err-found-clause-usable : goal.returns-in_err-found-clause-usable
 returns-in_err-found-clause-usable g c clean =
     let old = state g.S.Store c.args.conn.now in
-    handed_on _ c.from_residual.result c.in_err-found.field-0.0 c.from_residual.ensures.1 (λ unusable tree terms asks ours is_open can.
-    let plain = subst (λ s. IsPlain (understood s c.args.sql.now)) (sym (ours is_open)) (is_plain counter_schema c.args.sql.now tree terms asks) in
-    unreadable g.T.Record.is_readable old counter_schema c.args.sql.now tree terms asks (ours is_open) is_open (c.in_err-found.ensures.usable clean unusable plain) (λ rows a. (can rows a).0))
+    handed_on _ c.from_residual.result c.in_err-found.field-0.0 c.from_residual.ensures.1 (λ unusable schema tree terms order asks ours is_open can.
+    let plain = subst (λ s. IsPlain (understood s c.args.sql.now)) (sym (ours is_open)) (is_plain schema c.args.sql.now tree terms order asks) in
+    unreadable g.T.Record.is_readable old schema c.args.sql.now tree terms order asks (ours is_open) is_open (c.in_err-found.ensures.usable clean unusable plain) (λ rows a. (can rows a).0))
 
 pub returns-then-not-keys_rise-clause-usable : goal.returns-then-not-keys_rise-clause-usable
-returns-then-not-keys_rise-clause-usable g c clean unusable tree terms asks ours is_open can =
+returns-then-not-keys_rise-clause-usable g c clean unusable schema tree terms order asks ours is_open can =
     let old = state g.S.Store c.args.conn.now in
     let new = state g.S.Store c.read_rows.new.conn in
-    let it = can _ (answers old new counter_schema c.args.sql.now tree terms _ asks (ours is_open) (c.in_ok-found.ensures.shown clean)) in
+    let it = can _ (answers old new schema c.args.sql.now tree terms order _ asks (ours is_open) (c.in_ok-found.ensures.shown clean)) in
     let up = it.1 c.in_ok-found.found.items refl in
     let is = c.keys_rise.ensures in
     let read = c.deref.ensures.value in
@@ -36,7 +35,7 @@ returns-then-not-keys_rise-clause-usable g c clean unusable tree terms asks ours
     cc
 
 pub returns-in_err-found-clause-cause : goal.returns-in_err-found-clause-cause
-returns-in_err-found-clause-cause g c never clean ours limit =
+returns-in_err-found-clause-cause g c schema never clean ours limit =
     let old = state g.S.Store c.args.conn.now in
     let new = state g.S.Store c.read_rows.new.conn in
     handed_on (IsExcused old new) c.from_residual.result c.in_err-found.field-0.0 c.from_residual.ensures.1 (excused_if_open old new _ (λ is_open.

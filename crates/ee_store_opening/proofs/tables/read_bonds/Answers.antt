@@ -9,9 +9,10 @@ use Rattle.ee_store_tables.specs.Rows.{bond_columns}
 use Rattle.ee_store_tables.proofs.Lemmas.Transactions.{clean_before}
 use Rattle.ee_store_opening.specs.declared.entries.Rowid.{Rowid}
 use Rattle.ee_store_opening.specs.Reading.{ShowsAll}
+use Rattle.ee_store_opening.specs.Forms.{schema_of}
 use Rattle.ee_store_opening.proofs.AskLemmas.{only_bonds, only_bond_rowids}
-use Rattle.ee_store_opening.proofs.QuestionLemmas.{bond_terms, rowid_terms, asks_bonds, asks_bond_rowids}
-use Rattle.ee_store_opening.proofs.ReadLemmas.{still_ours}
+use Rattle.ee_store_opening.proofs.QuestionLemmas.{by_key, by_pair, bond_terms, rowid_terms, asks_bonds, asks_bond_rowids}
+use Rattle.ee_store_opening.proofs.ReadLemmas.{still_form}
 use Rattle.ee_store_opening.proofs.FaultLemmas.{handed_on}
 use Rattle.ee_store_opening.proofs.CanRead.{can_read_bonds, can_read_bond_rowids}
 use Rattle.ee_store_opening.proofs.EachTable.{holds_bonds, listed_bonds}
@@ -60,11 +61,11 @@ returns-clause-found g c clean ours sound =
     let new = state g.S.Store c.read_table-2.new.conn in
     let before = clean_before middle new c.read_table-2.ensures.crash clean in
     let same = c.in_ok-found.ensures.same before in
-    let ours_then = still_ours old middle same ours in
-    let shows = c.in_ok-found.ensures.found before 2 bond_terms asks_bonds ours in
-    let numbers = c.in_ok-_rowids.ensures.found clean 2 rowid_terms asks_bond_rowids ours_then in
+    let ours_then = still_form ours.0 old middle same ours.1 in
+    let shows = c.in_ok-found.ensures.found before (schema_of ours.0) 2 bond_terms by_pair (asks_bonds ours.0) ours.1 in
+    let numbers = c.in_ok-_rowids.ensures.found clean (schema_of ours.0) 2 rowid_terms by_key (asks_bond_rowids ours.0) ours_then in
     let ids = c.in_ok-_rowids._rowids.items in
-    holds_bonds old.now (sound shows.0) (ours shows.0) c.in_ok-found.found.items ids shows.1 c.in_ok-found.ensures.rises
+    holds_bonds ours.0 old.now (sound shows.0) (ours.1 shows.0) c.in_ok-found.found.items ids shows.1 c.in_ok-found.ensures.rises
     (subst (λ (d : Database). ShowsAll d.trees 2 rowid_terms (map (λ (it : Rowid). Int it.rowid ∷ []) ids)) same.0.now_is numbers.1) c.in_ok-_rowids.ensures.rises
 
 pub returns-clause-listed : goal.returns-clause-listed
@@ -74,7 +75,7 @@ pub returns-in_err-found-clause-usable : goal.returns-in_err-found-clause-usable
 returns-in_err-found-clause-usable g c clean =
     let old = state g.S.Store c.args.conn.now in
     handed_on _ c.from_residual.result c.in_err-found.field-0.0 c.from_residual.ensures.1 (λ unusable ours is_open m holds.
-    c.in_err-found.ensures.usable clean unusable 2 bond_terms asks_bonds ours is_open (can_read_bonds old.now.trees m holds))
+    c.in_err-found.ensures.usable clean unusable (schema_of ours.0) 2 bond_terms by_pair (asks_bonds ours.0) ours.1 is_open (can_read_bonds old.now.trees m holds))
 
 pub returns-in_err-_rowids-clause-usable : goal.returns-in_err-_rowids-clause-usable
 returns-in_err-_rowids-clause-usable g c clean =
@@ -84,14 +85,14 @@ returns-in_err-_rowids-clause-usable g c clean =
     handed_on _ c.from_residual-in_err-_rowids.result c.in_err-_rowids.field-0.0 c.from_residual-in_err-_rowids.ensures.1 (λ unusable ours is_open m holds.
     let before = clean_before middle new c.read_table-2.ensures.crash clean in
     let same = c.in_ok-found.ensures.same before in
-    let ours_then = still_ours old middle same ours in
-    c.in_err-_rowids.ensures.usable clean unusable 2 rowid_terms asks_bond_rowids ours_then same.0.is_open (can_read_bond_rowids middle.now.trees m (subst (λ (d : Database). HoldsPairs bond_columns (d.trees 2) m) (sym same.0.now_is) holds)))
+    let ours_then = still_form ours.0 old middle same ours.1 in
+    c.in_err-_rowids.ensures.usable clean unusable (schema_of ours.0) 2 rowid_terms by_key (asks_bond_rowids ours.0) ours_then same.0.is_open (can_read_bond_rowids middle.now.trees m (subst (λ (d : Database). HoldsPairs bond_columns (d.trees 2) m) (sym same.0.now_is) holds)))
 
 pub returns-in_err-found-clause-cause : goal.returns-in_err-found-clause-cause
 returns-in_err-found-clause-cause g c clean ours limit =
     let old = state g.S.Store c.args.conn.now in
     let new = state g.S.Store c.read_table.new.conn in
-    handed_on (IsExcused old new) c.from_residual.result c.in_err-found.field-0.0 c.from_residual.ensures.1 (c.in_err-found.ensures.cause never_bonds clean ours limit)
+    handed_on (IsExcused old new) c.from_residual.result c.in_err-found.field-0.0 c.from_residual.ensures.1 (c.in_err-found.ensures.cause (schema_of ours.0) (never_bonds ours.0) clean ours.1 limit)
 
 pub returns-in_err-_rowids-clause-cause : goal.returns-in_err-_rowids-clause-cause
 returns-in_err-_rowids-clause-cause g c clean ours limit =
@@ -99,6 +100,6 @@ returns-in_err-_rowids-clause-cause g c clean ours limit =
     let middle = state g.S.Store c.read_table.new.conn in
     let new = state g.S.Store c.read_table-2.new.conn in
     let first = c.read_table.ensures.crash in
-    let ours_then = still_ours old middle (c.in_ok-found.ensures.same (clean_before middle new c.read_table-2.ensures.crash clean)) ours in
+    let ours_then = still_form ours.0 old middle (c.in_ok-found.ensures.same (clean_before middle new c.read_table-2.ensures.crash clean)) ours.1 in
     handed_on (IsExcused old new) c.from_residual-in_err-_rowids.result c.in_err-_rowids.field-0.0 c.from_residual-in_err-_rowids.ensures.1
-    (excused_then old middle new first c.read_table-2.ensures.crash clean _ (c.in_err-_rowids.ensures.cause never_bond_rowids clean ours_then (first.limit ∙ limit)))
+    (excused_then old middle new first c.read_table-2.ensures.crash clean _ (c.in_err-_rowids.ensures.cause (schema_of ours.0) (never_bond_rowids ours.0) clean ours_then (first.limit ∙ limit)))

@@ -1,6 +1,7 @@
 use Rattle.sqlite.specs.Held.{state}
+use Rattle.ee_store_opening.specs.Forms.{schema_of}
 use Rattle.ee_store_opening.proofs.AskLemmas.{only_tickets}
-use Rattle.ee_store_opening.proofs.QuestionLemmas.{ticket_terms, asks_tickets}
+use Rattle.ee_store_opening.proofs.QuestionLemmas.{by_key, ticket_terms, asks_tickets}
 use Rattle.ee_store_opening.proofs.ReadLemmas.{both_ok, each_ok, each_fault}
 use Rattle.ee_store_opening.proofs.CanRead.{can_read_tickets}
 use Rattle.ee_store_opening.proofs.EachTable.{holds_tickets, listed_tickets}
@@ -13,7 +14,9 @@ read_table-requires g c = only_tickets
 pub returns-clause-found : goal.returns-clause-found
 returns-clause-found g c clean ours sound =
     let old = state g.S.Store c.args.conn.now in
-    both_ok c.read_table.result (λ found shows up. holds_tickets old.now (sound (shows 5 ticket_terms asks_tickets ours).0) (ours (shows 5 ticket_terms asks_tickets ours).0) found.items (shows 5 ticket_terms asks_tickets ours).1 up) (c.read_table.ensures.found clean) c.read_table.ensures.rises
+    both_ok c.read_table.result (λ found shows up.
+    let it = shows (schema_of ours.0) 5 ticket_terms by_key (asks_tickets ours.0) ours.1 in
+    holds_tickets ours.0 old.now (sound it.0) (ours.1 it.0) found.items it.1 up) (c.read_table.ensures.found clean) c.read_table.ensures.rises
 
 pub returns-clause-listed : goal.returns-clause-listed
 returns-clause-listed g c = each_ok c.read_table.result (λ found up. listed_tickets found.items up) c.read_table.ensures.rises
@@ -21,7 +24,7 @@ returns-clause-listed g c = each_ok c.read_table.result (λ found up. listed_tic
 pub returns-clause-usable : goal.returns-clause-usable
 returns-clause-usable g c clean =
     let old = state g.S.Store c.args.conn.now in
-    each_fault c.read_table.result (λ e usable unusable ours is_open m holds. usable unusable 5 ticket_terms asks_tickets ours is_open (can_read_tickets old.now.trees m holds)) (c.read_table.ensures.usable clean)
+    each_fault c.read_table.result (λ e usable unusable ours is_open m holds. usable unusable (schema_of ours.0) 5 ticket_terms by_key (asks_tickets ours.0) ours.1 is_open (can_read_tickets old.now.trees m holds)) (c.read_table.ensures.usable clean)
 
 pub returns-clause-cause : goal.returns-clause-cause
-returns-clause-cause g c = c.read_table.ensures.cause never_tickets
+returns-clause-cause g c clean ours = c.read_table.ensures.cause (schema_of ours.0) (never_tickets ours.0) clean ours.1

@@ -3,7 +3,8 @@ use Rattle.sqlite.specs.Listing.{understood}
 use Rattle.sqlite.proofs.Callers.{IsPlain}
 use Rattle.sqlite.proofs.InsideLemmas.{unchanged_keeps}
 use Rattle.sqlite.specs.Held.{state}
-use Rattle.ee_store_opening.specs.Reading.{HasOurTables, IsNeverRefused}
+use Rattle.ee_store_opening.specs.Forms.{HasOurTables}
+use Rattle.ee_store_opening.specs.Reading.{IsNeverRefused}
 use Rattle.ee_store_opening.specs.declared.faults.OpenFault.TheVariants.{Unusable}
 use Rattle.ee_store_tables.proofs.Lemmas.Transactions.{query_keeps, shown_open}
 use Rattle.ee_store_opening.proofs.AskLemmas.{only_version, commits_nothing, shown_same}
@@ -31,15 +32,15 @@ returns-in_err-rows-clause-usable g c clean =
     let old = state g.S.Store c.args.conn.now in
     let new = state g.S.Store c.query_all.new.self in
     told_as (λ e. HasOurTables old → IsTrue old.is_open → e ≢ Unusable) c.from_residual.result c.in_err-rows.field-0.0 c.from_residual.ensures.1 (λ ours is_open.
-    query_usable old new version_text given_id _ (subst (λ s. IsPlain (understood s version_text)) (sym (ours is_open)) version_plain) (inl (c.in_err-rows.ensures.err clean)))
+    query_usable old new version_text given_id _ (subst (λ s. IsPlain (understood s version_text)) (sym (ours.1 is_open)) (version_plain ours.0)) (inl (c.in_err-rows.ensures.err clean)))
 
 pub returns-clause-found : goal.returns-clause-found
-returns-clause-found g c clean rows sees =
+returns-clause-found g c clean form rows sees =
     let old = state g.S.Store c.args.conn.now in
     let new = state g.S.Store c.query_all.new.self in
     let shown = c.in_ok-rows.ensures.ok clean in
     let it = sees (shown_open old new version_text given_id c.in_ok-rows.rows.items shown) in
-    shows_version old new rows c.in_ok-rows.rows.items it.0 it.1 shown
+    shows_version form old new rows c.in_ok-rows.rows.items it.0 it.1 shown
 
 pub returns-clause-same : goal.returns-clause-same
 returns-clause-same g c clean =
@@ -58,4 +59,4 @@ returns-in_err-rows-clause-cause g c clean ours limit =
     let old = state g.S.Store c.args.conn.now in
     let new = state g.S.Store c.query_all.new.self in
     told_as (IsExcused old new) c.from_residual.result c.in_err-rows.field-0.0 c.from_residual.ensures.1 (excused_if_open old new _ (λ is_open.
-    query_excused old new version_text given_id (subst (λ s. IsNeverRefused s version_text given_id) (sym (ours is_open)) never_version) limit _ (c.in_err-rows.ensures.err clean)))
+    query_excused old new version_text given_id (subst (λ s. IsNeverRefused s version_text given_id) (sym (ours.1 is_open)) (never_version ours.0)) limit _ (c.in_err-rows.ensures.err clean)))

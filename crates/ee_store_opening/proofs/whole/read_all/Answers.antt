@@ -4,62 +4,63 @@ use Rattle.std.proofs.lemmas.Result.{on_ok_weaker}
 use Rattle.std.proofs.lemmas.Bool.{not-true}
 use Rattle.ee_store_opening.specs.Whole.{rows_of}
 use Rattle.ee_store_opening.proofs.ReadLemmas.{each_ok, each_fault, under_ok, ok_then}
-use Rattle.ee_store_opening.proofs.WholeLemmas.{are_in_order, has_ours, sound_now, is_ours, sees_what_it_has, are_those, has_read}
+use Rattle.ee_store_opening.proofs.WholeLemmas.{are_in_order, has_ours, sound_now, sees_what_it_has, are_those, has_read}
+use Rattle.ee_store_opening.proofs.FormLemmas.{had_form}
 use Rattle.ee_store_opening.proofs.whole.read_all.Goals as goal
 
 pub returns-clause-found : goal.returns-clause-found
 returns-clause-found g c clean =
     let old = state g.S.Store c.args.conn.now in
-    let new = state g.S.Store c.read_current.new.conn in
+    let new = state g.S.Store c.read_of_version.new.conn in
     let settled = c.is_autocommit.ensures.settled c.if-not-is_autocommit.false in
-    let sound = sound_now old settled c.schema-schema.ensures.live in
-    under_ok _ c.read_current.result (λ ours. ok_then c.read_current.result (λ all holds same. has_read old settled new same (rows_of all) ours holds) (c.read_current.ensures.found clean (has_ours old settled ours) sound)
-    (c.read_current.ensures.same clean))
+    let sound = sound_now old c.schema-schema.ensures.live in
+    under_ok _ c.read_of_version.result (λ ours. ok_then c.read_of_version.result (λ all holds same. has_read c.args.form old settled new same (rows_of all) ours holds) (c.read_of_version.ensures.found clean (has_ours c.args.form old settled ours) sound)
+    (c.read_of_version.ensures.same clean))
 
 pub returns-clause-those : goal.returns-clause-those
 returns-clause-those g c clean =
     let old = state g.S.Store c.args.conn.now in
     let settled = c.is_autocommit.ensures.settled c.if-not-is_autocommit.false in
-    let sound = sound_now old settled c.schema-schema.ensures.live in
-    each_ok c.read_current.result (λ all holds rows has is_open. are_those old settled (rows_of all) rows (holds (is_ours old settled rows has)) has is_open)
-    (under_ok _ c.read_current.result (λ ours. c.read_current.ensures.found clean (has_ours old settled ours) sound))
+    let sound = sound_now old c.schema-schema.ensures.live in
+    each_ok c.read_of_version.result (λ all holds rows has is_open. are_those c.args.form old settled (rows_of all) rows (holds (had_form c.args.form old rows has)) has is_open)
+    (under_ok _ c.read_of_version.result (λ ours. c.read_of_version.ensures.found clean (has_ours c.args.form old settled ours) sound))
 
 pub returns-clause-order : goal.returns-clause-order
-returns-clause-order g c = each_ok c.read_current.result are_in_order c.read_current.ensures.listed
+returns-clause-order g c = each_ok c.read_of_version.result are_in_order c.read_of_version.ensures.listed
 
 pub returns-clause-first : goal.returns-clause-first
 returns-clause-first g c clean =
     let old = state g.S.Store c.args.conn.now in
     let settled = c.is_autocommit.ensures.settled c.if-not-is_autocommit.false in
-    on_ok_weaker c.read_current.result (λ first rows has. first rows (sees_what_it_has old settled rows has)) (c.read_current.ensures.first clean)
+    on_ok_weaker c.read_of_version.result (λ first rows has. first rows (sees_what_it_has c.args.form old settled rows has)) (c.read_of_version.ensures.first clean)
 
 pub returns-clause-version : goal.returns-clause-version
 returns-clause-version g c clean =
     let old = state g.S.Store c.args.conn.now in
     let settled = c.is_autocommit.ensures.settled c.if-not-is_autocommit.false in
-    each_fault c.read_current.result (λ e other is rows has. other is rows (sees_what_it_has old settled rows has)) (c.read_current.ensures.other clean)
+    each_fault c.read_of_version.result (λ e other is rows has. other is rows (sees_what_it_has c.args.form old settled rows has)) (c.read_of_version.ensures.other clean)
 
 pub returns-clause-tested : goal.returns-clause-tested
 returns-clause-tested g c clean =
     let old = state g.S.Store c.args.conn.now in
     let settled = c.is_autocommit.ensures.settled c.if-not-is_autocommit.false in
-    each_fault c.read_current.result (λ e tested is rows has is_open. tested is (has_ours old settled (is_ours old settled rows has)) is_open rows (sees_what_it_has old settled rows has)) (c.read_current.ensures.tested clean)
+    each_fault c.read_of_version.result (λ e tested is rows has is_open. tested is (has_ours c.args.form old settled (had_form c.args.form old rows has)) is_open rows (sees_what_it_has c.args.form old settled rows has)) (c.read_of_version.ensures.tested clean)
 
 pub returns-clause-usable : goal.returns-clause-usable
 returns-clause-usable g c clean =
     let old = state g.S.Store c.args.conn.now in
     let settled = c.is_autocommit.ensures.settled c.if-not-is_autocommit.false in
-    each_fault c.read_current.result (λ e usable is rows has is_open. usable is (has_ours old settled (is_ours old settled rows has)) is_open rows (sees_what_it_has old settled rows has)) (c.read_current.ensures.usable clean)
+    each_fault c.read_of_version.result (λ e usable is rows has is_open. usable is (has_ours c.args.form old settled (had_form c.args.form old rows has)) is_open rows (sees_what_it_has c.args.form old settled rows has)) (c.read_of_version.ensures.usable clean)
 
 pub returns-clause-open : goal.returns-clause-open
-returns-clause-open g c clean = on_ok_weaker c.read_current.result (λ same. (same.0.was_open, same.0.is_open)) (c.read_current.ensures.same clean)
+returns-clause-open g c clean = on_ok_weaker c.read_of_version.result (λ same. (same.0.was_open, same.0.is_open)) (c.read_of_version.ensures.same clean)
 
 pub returns-clause-cause : goal.returns-clause-cause
 returns-clause-cause g c clean starts limit =
     let old = state g.S.Store c.args.conn.now in
     let settled = c.is_autocommit.ensures.settled c.if-not-is_autocommit.false in
-    c.read_current.ensures.cause clean (has_ours old settled starts.1) limit
+    c.read_of_version.ensures.cause clean (has_ours c.args.form old settled starts.1) limit
 
 pub returns-clause-ended : goal.returns-clause-ended
 returns-clause-ended g c clean =
-    on_ok_weaker c.read_current.result (λ same. same.0.mode ∙ not-true (state g.S.Store c.args.conn.now).in_transaction (sym c.is_autocommit.ensures.value ∙ c.if-not-is_autocommit.false)) (c.read_current.ensures.same clean)
+    on_ok_weaker c.read_of_version.result (λ same. same.0.mode ∙ not-true (state g.S.Store c.args.conn.now).in_transaction (sym c.is_autocommit.ensures.value ∙ c.if-not-is_autocommit.false)) (c.read_of_version.ensures.same clean)

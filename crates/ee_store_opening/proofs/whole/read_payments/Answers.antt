@@ -4,9 +4,11 @@ use Rattle.sqlite.specs.Held.{state}
 use Rattle.sqlite.proofs.Callers.{unchanged_then}
 use Rattle.sqlite.proofs.InsideLemmas.{keeps_then}
 use Rattle.ee_store_tables.specs.Keyed.{HoldsPairs}
-use Rattle.ee_store_tables.specs.Rows.{paid_columns, Holds}
+use Rattle.ee_store_tables.specs.Rows.{paid_columns}
 use Rattle.ee_store_tables.proofs.Lemmas.Transactions.{clean_before}
 use Rattle.ee_store_opening.specs.Shown.{line_map}
+use Rattle.ee_store_opening.specs.Forms.{HoldsIn}
+use Rattle.ee_store_opening.proofs.FormLemmas.{common}
 use Rattle.ee_store_opening.proofs.FaultLemmas.{handed_on}
 use Rattle.ee_store_opening.proofs.ReadLemmas.{sound_after, still_ours}
 use Rattle.ee_store_opening.specs.Faults.{IsExcused}
@@ -60,15 +62,15 @@ returns-clause-listed g c = record { tickets = c.in_ok-tickets.ensures.listed; l
 
 pub returns-in_err-tickets-clause-usable : goal.returns-in_err-tickets-clause-usable
 returns-in_err-tickets-clause-usable g c clean =
-    handed_on _ c.from_residual.result c.in_err-tickets.field-0.0 c.from_residual.ensures.1 (λ unusable ours_0 open_0 rows holds_0.
+    handed_on _ c.from_residual.result c.in_err-tickets.field-0.0 c.from_residual.ensures.1 (λ unusable ours_0 open_0 form rows holds_0.
     let at_0 = state g.S.Store c.args.conn.now in
     let at_1 = state g.S.Store c.read_tickets.new.conn in
     let clean_1 = clean in
-    c.in_err-tickets.ensures.usable clean_1 unusable ours_0 open_0 rows.tickets holds_0.tickets)
+    c.in_err-tickets.ensures.usable clean_1 unusable ours_0 open_0 rows.tickets (common form at_0.now.trees rows holds_0).tickets)
 
 pub returns-in_err-lines-clause-usable : goal.returns-in_err-lines-clause-usable
 returns-in_err-lines-clause-usable g c clean =
-    handed_on _ c.from_residual-in_err-lines.result c.in_err-lines.field-0.0 c.from_residual-in_err-lines.ensures.1 (λ unusable ours_0 open_0 rows holds_0.
+    handed_on _ c.from_residual-in_err-lines.result c.in_err-lines.field-0.0 c.from_residual-in_err-lines.ensures.1 (λ unusable ours_0 open_0 form rows holds_0.
     let at_0 = state g.S.Store c.args.conn.now in
     let at_1 = state g.S.Store c.read_tickets.new.conn in
     let at_2 = state g.S.Store c.read_lines.new.conn in
@@ -77,8 +79,8 @@ returns-in_err-lines-clause-usable g c clean =
     let same_1 = c.in_ok-tickets.ensures.same clean_1 in
     let ours_1 = still_ours at_0 at_1 same_1 ours_0 in
     let open_1 = same_1.0.is_open in
-    let holds_1 = subst (λ (d : Database). Holds d.trees rows) (sym same_1.0.now_is) holds_0 in
-    c.in_err-lines.ensures.usable clean_2 unusable ours_1 open_1 rows.paid holds_1.paid)
+    let holds_1 = subst (λ (d : Database). HoldsIn form d.trees rows) (sym same_1.0.now_is) holds_0 in
+    c.in_err-lines.ensures.usable clean_2 unusable ours_1 open_1 rows.paid (common form at_1.now.trees rows holds_1).paid)
 
 pub returns-in_err-tickets-clause-cause : goal.returns-in_err-tickets-clause-cause
 returns-in_err-tickets-clause-cause g c clean ours_0 limit =

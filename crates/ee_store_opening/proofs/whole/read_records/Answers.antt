@@ -4,9 +4,11 @@ use Rattle.sqlite.specs.Held.{state}
 use Rattle.sqlite.proofs.Callers.{unchanged_then}
 use Rattle.sqlite.proofs.InsideLemmas.{keeps_then}
 use Rattle.ee_store_tables.specs.Keyed.{HoldsMap}
-use Rattle.ee_store_tables.specs.Rows.{reply_columns, Holds}
+use Rattle.ee_store_tables.specs.Rows.{reply_columns}
 use Rattle.ee_store_tables.proofs.Lemmas.Transactions.{clean_before}
 use Rattle.ee_store_opening.specs.Shown.{reply_map}
+use Rattle.ee_store_opening.specs.Forms.{HoldsIn}
+use Rattle.ee_store_opening.proofs.FormLemmas.{common}
 use Rattle.ee_store_opening.proofs.FaultLemmas.{handed_on}
 use Rattle.ee_store_opening.proofs.ReadLemmas.{sound_after, still_ours}
 use Rattle.ee_store_opening.specs.Faults.{IsExcused}
@@ -60,15 +62,15 @@ returns-clause-listed g c = record { batches = c.in_ok-batches.ensures.listed; r
 
 pub returns-in_err-batches-clause-usable : goal.returns-in_err-batches-clause-usable
 returns-in_err-batches-clause-usable g c clean =
-    handed_on _ c.from_residual.result c.in_err-batches.field-0.0 c.from_residual.ensures.1 (λ unusable ours_0 open_0 rows written holds_0.
+    handed_on _ c.from_residual.result c.in_err-batches.field-0.0 c.from_residual.ensures.1 (λ unusable ours_0 open_0 form rows written holds_0.
     let at_0 = state g.S.Store c.args.conn.now in
     let at_1 = state g.S.Store c.read_batches.new.conn in
     let clean_1 = clean in
-    c.in_err-batches.ensures.usable clean_1 unusable ours_0 open_0 rows.batches holds_0.batches)
+    c.in_err-batches.ensures.usable clean_1 unusable ours_0 open_0 rows.batches (common form at_0.now.trees rows holds_0).batches)
 
 pub returns-in_err-replies-clause-usable : goal.returns-in_err-replies-clause-usable
 returns-in_err-replies-clause-usable g c clean =
-    handed_on _ c.from_residual-in_err-replies.result c.in_err-replies.field-0.0 c.from_residual-in_err-replies.ensures.1 (λ unusable ours_0 open_0 rows written holds_0.
+    handed_on _ c.from_residual-in_err-replies.result c.in_err-replies.field-0.0 c.from_residual-in_err-replies.ensures.1 (λ unusable ours_0 open_0 form rows written holds_0.
     let at_0 = state g.S.Store c.args.conn.now in
     let at_1 = state g.S.Store c.read_batches.new.conn in
     let at_2 = state g.S.Store c.read_replies.new.conn in
@@ -77,8 +79,8 @@ returns-in_err-replies-clause-usable g c clean =
     let same_1 = c.in_ok-batches.ensures.same clean_1 in
     let ours_1 = still_ours at_0 at_1 same_1 ours_0 in
     let open_1 = same_1.0.is_open in
-    let holds_1 = subst (λ (d : Database). Holds d.trees rows) (sym same_1.0.now_is) holds_0 in
-    c.in_err-replies.ensures.usable clean_2 unusable ours_1 open_1 rows.replies written holds_1.replies)
+    let holds_1 = subst (λ (d : Database). HoldsIn form d.trees rows) (sym same_1.0.now_is) holds_0 in
+    c.in_err-replies.ensures.usable clean_2 unusable ours_1 open_1 rows.replies written (common form at_1.now.trees rows holds_1).replies)
 
 pub returns-in_err-batches-clause-cause : goal.returns-in_err-batches-clause-cause
 returns-in_err-batches-clause-cause g c clean ours_0 limit =

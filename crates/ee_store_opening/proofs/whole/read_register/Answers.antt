@@ -4,9 +4,11 @@ use Rattle.sqlite.specs.Held.{state}
 use Rattle.sqlite.proofs.Callers.{unchanged_then}
 use Rattle.sqlite.proofs.InsideLemmas.{keeps_then}
 use Rattle.ee_store_tables.specs.Keyed.{HoldsMap, HoldsPairs}
-use Rattle.ee_store_tables.specs.Rows.{rate_columns, bond_columns, Holds}
+use Rattle.ee_store_tables.specs.Rows.{rate_columns, bond_columns}
 use Rattle.ee_store_tables.proofs.Lemmas.Transactions.{clean_before}
 use Rattle.ee_store_opening.specs.Shown.{rate_map, bond_map}
+use Rattle.ee_store_opening.specs.Forms.{HoldsIn}
+use Rattle.ee_store_opening.proofs.FormLemmas.{common}
 use Rattle.ee_store_opening.proofs.FaultLemmas.{handed_on}
 use Rattle.ee_store_opening.proofs.ReadLemmas.{sound_after, still_ours}
 use Rattle.ee_store_opening.specs.Faults.{IsExcused}
@@ -82,15 +84,15 @@ returns-clause-listed g c = record { desk = c.in_ok-desk.ensures.listed; rates =
 
 pub returns-in_err-desk-clause-usable : goal.returns-in_err-desk-clause-usable
 returns-in_err-desk-clause-usable g c clean =
-    handed_on _ c.from_residual.result c.in_err-desk.field-0.0 c.from_residual.ensures.1 (λ unusable ours_0 open_0 rows holds_0.
+    handed_on _ c.from_residual.result c.in_err-desk.field-0.0 c.from_residual.ensures.1 (λ unusable ours_0 open_0 form rows holds_0.
     let at_0 = state g.S.Store c.args.conn.now in
     let at_1 = state g.S.Store c.read_desk.new.conn in
     let clean_1 = clean in
-    c.in_err-desk.ensures.usable clean_1 unusable ours_0 open_0 rows.desk holds_0.desk)
+    c.in_err-desk.ensures.usable clean_1 unusable ours_0 open_0 rows.desk (common form at_0.now.trees rows holds_0).desk)
 
 pub returns-in_err-rates-clause-usable : goal.returns-in_err-rates-clause-usable
 returns-in_err-rates-clause-usable g c clean =
-    handed_on _ c.from_residual-in_err-rates.result c.in_err-rates.field-0.0 c.from_residual-in_err-rates.ensures.1 (λ unusable ours_0 open_0 rows holds_0.
+    handed_on _ c.from_residual-in_err-rates.result c.in_err-rates.field-0.0 c.from_residual-in_err-rates.ensures.1 (λ unusable ours_0 open_0 form rows holds_0.
     let at_0 = state g.S.Store c.args.conn.now in
     let at_1 = state g.S.Store c.read_desk.new.conn in
     let at_2 = state g.S.Store c.read_rates.new.conn in
@@ -99,12 +101,12 @@ returns-in_err-rates-clause-usable g c clean =
     let same_1 = c.in_ok-desk.ensures.same clean_1 in
     let ours_1 = still_ours at_0 at_1 same_1 ours_0 in
     let open_1 = same_1.0.is_open in
-    let holds_1 = subst (λ (d : Database). Holds d.trees rows) (sym same_1.0.now_is) holds_0 in
-    c.in_err-rates.ensures.usable clean_2 unusable ours_1 open_1 rows.rates holds_1.rates)
+    let holds_1 = subst (λ (d : Database). HoldsIn form d.trees rows) (sym same_1.0.now_is) holds_0 in
+    c.in_err-rates.ensures.usable clean_2 unusable ours_1 open_1 rows.rates (common form at_1.now.trees rows holds_1).rates)
 
 pub returns-in_err-bonds-clause-usable : goal.returns-in_err-bonds-clause-usable
 returns-in_err-bonds-clause-usable g c clean =
-    handed_on _ c.from_residual-in_err-bonds.result c.in_err-bonds.field-0.0 c.from_residual-in_err-bonds.ensures.1 (λ unusable ours_0 open_0 rows holds_0.
+    handed_on _ c.from_residual-in_err-bonds.result c.in_err-bonds.field-0.0 c.from_residual-in_err-bonds.ensures.1 (λ unusable ours_0 open_0 form rows holds_0.
     let at_0 = state g.S.Store c.args.conn.now in
     let at_1 = state g.S.Store c.read_desk.new.conn in
     let at_2 = state g.S.Store c.read_rates.new.conn in
@@ -115,12 +117,12 @@ returns-in_err-bonds-clause-usable g c clean =
     let same_1 = c.in_ok-desk.ensures.same clean_1 in
     let ours_1 = still_ours at_0 at_1 same_1 ours_0 in
     let open_1 = same_1.0.is_open in
-    let holds_1 = subst (λ (d : Database). Holds d.trees rows) (sym same_1.0.now_is) holds_0 in
+    let holds_1 = subst (λ (d : Database). HoldsIn form d.trees rows) (sym same_1.0.now_is) holds_0 in
     let same_2 = c.in_ok-rates.ensures.same clean_2 in
     let ours_2 = still_ours at_1 at_2 same_2 ours_1 in
     let open_2 = same_2.0.is_open in
-    let holds_2 = subst (λ (d : Database). Holds d.trees rows) (sym same_2.0.now_is) holds_1 in
-    c.in_err-bonds.ensures.usable clean_3 unusable ours_2 open_2 rows.bonds holds_2.bonds)
+    let holds_2 = subst (λ (d : Database). HoldsIn form d.trees rows) (sym same_2.0.now_is) holds_1 in
+    c.in_err-bonds.ensures.usable clean_3 unusable ours_2 open_2 rows.bonds (common form at_2.now.trees rows holds_2).bonds)
 
 pub returns-in_err-desk-clause-cause : goal.returns-in_err-desk-clause-cause
 returns-in_err-desk-clause-cause g c clean ours_0 limit =

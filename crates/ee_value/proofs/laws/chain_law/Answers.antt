@@ -2,11 +2,14 @@ use Rattle.std.proofs.Common.{◌≤◌, max, refl, sym, ap, ◌∙◌, arith, s
 use Rattle.ee_value.specs.Rounding.{Rounds}
 use Rattle.ee_value.specs.Chain.{rate_in, start}
 use Rattle.ee_value.proofs.Rounding.{Rounds-grown, grown-is}
-use Rattle.ee_value.proofs.Starts.{rate-fixed, rate-le, start-none, start-else, start-at_20_years, start-ge, start-le}
+use Rattle.ee_value.proofs.Starts.{rate-original, rate-extended, rate-le, start-none, start-else, start-at_20_years, start-ge, start-le}
 use Rattle.ee_value.proofs.laws.chain_law.Goals as goal
 
-pub returns-clause-rate : goal.returns-clause-rate
-returns-clause-rate c = rate-fixed
+pub returns-clause-original : goal.returns-clause-original
+returns-clause-original c = rate-original
+
+pub returns-clause-extended : goal.returns-clause-extended
+returns-clause-extended c = rate-extended
 
 pub returns-clause-first : goal.returns-clause-first
 returns-clause-first c = start-none

@@ -1,5 +1,5 @@
-use Rattle.std.proofs.Common.{arith}
-use Rattle.ee_value.specs.Chain.{one_rate, rate_in}
+use Rattle.std.proofs.Common.{Some, arith}
+use Rattle.ee_value.specs.Chain.{one_rate, rates_with, rate_in}
 use Rattle.ee_value.proofs.Starts.{starts-are, linear-start, step}
 use Rattle.ee_value.proofs.laws.examples_law.Goals as goal
 
@@ -30,3 +30,11 @@ returns-clause-begins_20 c = starts-are (one_rate 2000) (omega arith) 0 9
 pub returns-clause-ends_20 : goal.returns-clause-ends_20
 unfolding linear-start step rate_in
 returns-clause-ends_20 c = starts-are (one_rate 2000) (omega arith) 56 5
+
+pub returns-clause-extends_3_40_by_4 : goal.returns-clause-extends_3_40_by_4
+unfolding linear-start step rate_in
+returns-clause-extends_3_40_by_4 c = starts-are (rates_with 340 (Some 400)) (omega arith) 38 6
+
+pub returns-clause-extends_3_60_by_0 : goal.returns-clause-extends_3_60_by_0
+unfolding linear-start step rate_in
+returns-clause-extends_3_60_by_0 c = starts-are (rates_with 360 (Some 0)) (omega arith) 39 4

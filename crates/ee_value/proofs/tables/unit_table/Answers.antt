@@ -4,7 +4,7 @@ use Rattle.std.proofs.lemmas.Bool.{cases_lt}
 use Rattle.std.proofs.lemmas.List.FromFn.{map-range_with_len_more}
 use Rattle.ee_value.specs.Chain.{start}
 use Rattle.ee_value.specs.Value.{accrued}
-use Rattle.ee_value.proofs.Starts.{start-none, rate-same}
+use Rattle.ee_value.proofs.Starts.{start-none}
 use Rattle.ee_value.proofs.OpenAges.{open-past}
 use Rattle.ee_value.proofs.FirstOpen.{first_open-None}
 use Rattle.ee_value.proofs.Accruals.{accrued-start}
@@ -14,16 +14,19 @@ pub loop-half_year-init : goal.loop-half_year-init
 loop-half_year-init c = record {
   begun = sym (start-none c.args.rates);
   filled = c.in_ok-units.ensures.items;
+  at_bits = c.root_bounds-root.ensures.bits;
+  of_low = rw c.rate_in.ensures.value at c.root_bounds-root.ensures.low;
+  of_high = rw c.rate_in.ensures.value at c.root_bounds-root.ensures.high;
   settled = λ a h. absurd (omega (arith, h));
 }
 
 pub push_half_year-requires-clause-of_low : goal.push_half_year-requires-clause-of_low
 push_half_year-requires-clause-of_low c =
-    rw (c.root_bounds-root.ensures.bits, rate-same c.args.rates c.loop-half_year.half_year 0, ← c.rate_in.ensures.value) c.root_bounds-root.ensures.low
+    rw c.root_in-root.ensures.bits c.root_in-root.ensures.low
 
 pub push_half_year-requires-clause-of_high : goal.push_half_year-requires-clause-of_high
 push_half_year-requires-clause-of_high c =
-    rw (c.root_bounds-root.ensures.bits, rate-same c.args.rates c.loop-half_year.half_year 0, ← c.rate_in.ensures.value) c.root_bounds-root.ensures.high
+    rw c.root_in-root.ensures.bits c.root_in-root.ensures.high
 
 pub invariant_of-result : goal.invariant_of-result
 invariant_of-result c =
@@ -41,7 +44,7 @@ invariant_of-result c =
 pub returns-clause-value : goal.returns-clause-value
 returns-clause-value c = (
   λ a. elim (cases_lt a 360) [
-    | inl lt ↦ rw c.root_bounds-root.ensures.bits at (c.loop-half_year.invariant.settled a (omega arith))
+    | inl lt ↦ c.loop-half_year.invariant.settled a (omega arith)
     | inr le ↦ open-past c.args.rates a c.args.bits le
   ],
   refl,

@@ -1,6 +1,7 @@
-use Rattle.std.proofs.Common.{◌≡◌, ℕ, ◌*◌, ◌<◌, map, false}
+use Rattle.std.proofs.Common.{◌≡◌, ℕ, ◌-◌, ◌*◌, ◌<◌, map, false}
 use Rattle.std.specs.List.{range_with_len}
-use Rattle.ee_value.specs.Chain.{start}
+use Rattle.ee_roots.specs.Roots.{IsLow, IsHigh}
+use Rattle.ee_value.specs.Chain.{rate_in, start}
 use Rattle.ee_value.specs.Value.{accrued}
 use Rattle.ee_value.specs.Open.{is_open}
 use Rattle.ee_value.proofs.tables.unit_table.Given as goal
@@ -9,5 +10,8 @@ abbrev pub invariant-loop-half_year : goal.invariant-loop-half_year
 invariant-loop-half_year l = record {
   begun : l.unit ≡ start l.rates l.half_year;
   filled : l.units.items ≡ map (accrued l.rates) (range_with_len 0 (6 * l.half_year));
-  settled : (a : ℕ) → a < 6 * l.half_year → is_open l.rates a l.root.bits ≡ false;
+  at_bits : l.root.bits ≡ l.fn.bits;
+  of_low : IsLow l.fn.bits (rate_in l.rates (l.half_year - 1)) l.root.low;
+  of_high : IsHigh l.fn.bits (rate_in l.rates (l.half_year - 1)) l.root.high;
+  settled : (a : ℕ) → a < 6 * l.half_year → is_open l.rates a l.fn.bits ≡ false;
 }

@@ -1,0 +1,27 @@
+use Rattle.std.proofs.Common.{◌≡◌, sym, ◌∙◌, subst}
+use Rattle.std.specs.Prelude.{Result, Ok, Err, IfErr, IsErrAnd}
+use Rattle.ee_desk_acts.specs.Repeats.{Content}
+use Rattle.ee_store_opening.specs.Whole.{rows_of}
+use Rattle.ee_store_contents.specs.Standing.{StandFor}
+use Rattle.ee_store_contents.specs.declared.contents.ContentFault.{ContentFault}
+use Rattle.ee_store_contents.specs.declared.contents.ContentFault.TheVariants.{Unusable}
+use Rattle.ee_store_contents.proofs.Founded.{not_sound, tables_founded}
+use Rattle.ee_store_contents.proofs.contents.tables_of.Goals as goal
+
+handed_on : {A : Type 0} (P : ContentFault → Type 0) (r : Result A ContentFault) (fault : ContentFault) → IsErrAnd r (λ told. told ≡ fault) → P fault → IfErr r P
+handed_on P (Ok x) fault is p = tt
+handed_on P (Err told) fault is p = subst P (sym is) p
+
+pub returns-in_err-indexes-clause-unusable : goal.returns-in_err-indexes-clause-unusable
+returns-in_err-indexes-clause-unusable c =
+    let stored = c.args.stored.now in
+    handed_on (λ fault. fault ≡ Unusable → (content : Content) → StandFor (rows_of stored) content → ⊥) c.from_residual-in_err-indexes.result c.in_err-indexes.field-0.0
+    c.from_residual-in_err-indexes.ensures.1
+    (λ is content stands. not_sound stored c.in_ok-parts.parts c.requires c.in_ok-parts.ensures.found (c.in_err-indexes.ensures.unusable is) content stands)
+
+pub returns-clause-ok : goal.returns-clause-ok
+returns-clause-ok c =
+    let made = c.in_ok-indexes.ensures.ok in
+    let found = tables_founded c.args.stored.now c.in_ok-parts.parts c.in_ok-indexes.indexes.terms.entries c.requires c.in_ok-parts.ensures.found c.in_ok-parts.ensures.fits
+    c.in_ok-parts.ensures.kept made.sound made.rates in
+    (found.0, c.in_ok-tables.ensures ∙ found.1, found.2)

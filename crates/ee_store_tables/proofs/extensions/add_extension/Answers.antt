@@ -1,0 +1,52 @@
+use Rattle.std.proofs.Common.{None, refl, sym, subst, arith}
+use Rattle.ee_store_tables.specs.Statements.{IsExcused}
+use Rattle.ee_store_tables.proofs.Meaning.{add_extension_text}
+use Rattle.ee_store_tables.proofs.CauseLemmas.{from_err, write_excused}
+use Rattle.ee_store_tables.proofs.AskLemmas.{writes_extension}
+use Rattle.ee_store_tables.proofs.UpsertLemmas.{add_extension_stays}
+use Rattle.ee_store_tables.proofs.RoomLemmas.{room_beside}
+use Rattle.sqlite.specs.Held.{state}
+use Rattle.ee_store_tables.proofs.KeepLemmas.{inside_if_ok}
+use Rattle.ee_store_tables.proofs.RateLemmas.{given_rate, adds_extension}
+use Rattle.ee_store_tables.proofs.extensions.add_extension.Goals as goal
+
+pub returns-clause-added : goal.returns-clause-added
+returns-clause-added g c clean rows sees =
+    let old = state g.S.Store c.args.tx.now.conn.now in
+    let new = state g.S.Store c.execute.new.self.conn.now in
+    let inside = inside_if_ok old.in_transaction c.execute.result c.in_ok-execute.field-0 c.in_ok-execute.was c.execute.ensures.ended in
+    let it = c.in_ok-execute.ensures.runs clean inside in
+    let ran = rw (c.whole.ensures, c.whole-2.ensures) at it.0 in
+    let first = sees it.1.was_open in
+    let after = adds_extension old new c.args.extension.period c.args.extension.rate c.in_ok-execute.field-0 first.0 ran in
+    λ _. (after.0, after.1 rows first.1)
+
+pub returns-clause-inside : goal.returns-clause-inside
+returns-clause-inside g c clean inside_old =
+    let old = state g.S.Store c.args.tx.now.conn.now in
+    let new = state g.S.Store c.execute.new.self.conn.now in
+    let inside = inside_if_ok old.in_transaction c.execute.result c.in_ok-execute.field-0 c.in_ok-execute.was c.execute.ensures.ended in
+    let it = c.in_ok-execute.ensures.runs clean inside in
+    let ran = rw (c.whole.ensures, c.whole-2.ensures) at it.0 in
+    λ _. (it.1.mode, (adds_extension old new c.args.extension.period c.args.extension.rate c.in_ok-execute.field-0 (inside_old it.1.was_open).1 ran).0)
+
+pub returns-in_err-execute-clause-cause : goal.returns-in_err-execute-clause-cause
+returns-in_err-execute-clause-cause g c clean inside endless rows sees allowed =
+    let old = state g.S.Store c.args.tx.now.conn.now in
+    let new = state g.S.Store c.execute.new.self.conn.now in
+    let n = c.args.extension.period in
+    let x = c.args.extension.rate in
+    from_err c.from_residual.result c.from_residual.ensures.1 (λ failure same. subst (IsExcused old new) (sym same)
+    (write_excused add_extension_text (given_rate n x) None _ (writes_extension n x) old new 0 rows allowed sees
+    (λ stands unique _. add_extension_stays old.now.trees rows stands unique n c.requires.0 x) inside endless refl c.in_err-execute.field-0.0
+    (rw (c.whole.ensures, c.whole-2.ensures) at (c.in_err-execute.ensures.runs clean))))
+
+pub returns-clause-room : goal.returns-clause-room
+returns-clause-room g c clean inside_old rows sees n room =
+    let old = state g.S.Store c.args.tx.now.conn.now in
+    let new = state g.S.Store c.execute.new.self.conn.now in
+    let inside = inside_if_ok old.in_transaction c.execute.result c.in_ok-execute.field-0 c.in_ok-execute.was c.execute.ensures.ended in
+    let it = c.in_ok-execute.ensures.runs clean inside in
+    let ran = rw (c.whole.ensures, c.whole-2.ensures) at it.0 in
+    let after = adds_extension old new c.args.extension.period c.args.extension.rate c.in_ok-execute.field-0 (inside_old it.1.was_open).1 ran in
+    room_beside old new 12 n (λ e. omega (arith, e)) (λ e. omega (arith, e)) after.3 after.2 it.1.was_open room
