@@ -1,11 +1,9 @@
 //! Stores that were made before extensions could be named: they have seven tables.
 
 use crate::five::{FIVE, rows_told, served};
-use crate::stores::served_on;
 use crate::talk::compare;
 use ee_store::SqlKeeper;
-use sqlite::{Alter, Connection, Files, MemStore, Options};
-use sqlite_disk::{Crash, Fuse, Memory};
+use sqlite::{Alter, Connection, MemStore};
 use std::alloc::Global;
 use std::test::Fail;
 
@@ -120,56 +118,5 @@ fn a_refused_earlier_store_stays(rt: HostRuntime) -> Result<(), Fail> {
     )?;
     let (text, _conn) = served(alloc, conn, FIVE);
     assert_eq!(rt; text?.as_str(), "Unusable");
-    Ok(())
-}
-
-/// The files of an earlier store.
-fn earlier_files(alloc: Global) -> Result<Files<Memory>, Fail> {
-    let files = Files {
-        log: Memory::new(alloc),
-        db: Memory::new(alloc),
-    };
-    let Ok(mut conn) = Connection::open_files(alloc, files, Options::new(1)) else {
-        return Err("not opened".into());
-    };
-    make_earlier(&mut conn)?;
-    match conn.close_files() {
-        Ok(files) => Ok(files),
-        Err(_) => Err("not closed".into()),
-    }
-}
-
-/// The files of an earlier store are opened and closed, and one of them stops at a call. The answers to the five requests after
-/// a crash, and whether nothing stopped before.
-fn after_stop(alloc: Global, on_log: bool, call: u64) -> Result<(String, bool), Fail> {
-    let files = earlier_files(alloc)?;
-    let (log, db) = if on_log {
-        (call, u64::MAX)
-    } else {
-        (u64::MAX, call)
-    };
-    let log = Fuse::new(files.log, log);
-    let db = Fuse::new(files.db, db);
-    let (none, is_whole, mut files) = served_on(alloc, Files { log, db }, "");
-    let _none = none?;
-    files.log.crash();
-    files.db.crash();
-    let (text, _, _left) = served_on(alloc, files, FIVE);
-    Ok((text?, is_whole))
-}
-
-/// One file of an earlier store stops at each call of an opening in turn, the making of the table among them. After a crash it is
-/// opened again, and each number has its first reply.
-#[test]
-fn an_earlier_store_survives_stops(rt: HostRuntime) -> Result<(), Fail> {
-    for on_log in [true, false] {
-        for call in 0..10_000 {
-            let (text, is_whole) = after_stop(rt.alloc(), on_log, call)?;
-            assert_eq!(rt; text.as_str(), FIVE, "after {call}");
-            if is_whole {
-                break;
-            }
-        }
-    }
     Ok(())
 }

@@ -76,7 +76,7 @@ fn a_file_keeps_its_replies(rt: HostRuntime) -> Result<(), Fail> {
 }
 
 /// Serves a talk over files, and hands them back; with no text where they don't open.
-pub fn served_on<D: Disk + Drop>(
+fn served_on<D: Disk + Drop>(
     alloc: Global,
     files: Files<D>,
     talk: &str,
