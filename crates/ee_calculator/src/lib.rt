@@ -15,7 +15,7 @@ mod writing;
 pub use bonds::Bond;
 pub use laws::adds_up_law;
 pub use notes::Note;
-pub use row_values::{plain_row, row};
+pub use row_values::{issued_row, plain_row, row, unissued_row};
 pub use rows::{Row, SERIES};
 pub use sheets::Sheet;
 pub use totals::sheet;

@@ -1,11 +1,12 @@
 ghost use Rattle.std.specs.Prelude.{◌≡◌, ◌+◌, ◌-◌, ◌<◌, ◌≤◌, Some, None};
 ghost use Rattle.ee_calculator.specs.Rows.{columns_in, columns_of, columns_with, shown};
 ghost use Rattle.ee_units.specs.Denoms.{units_of};
+ghost use Rattle.ee_value.specs.Payment.{IsQuoteOf};
 
 use crate::bonds::Bond;
 use crate::notes::{FINAL_MATURITY, Note};
 use crate::rows::Row;
-use ee_units::{Cents, Denom, IssueMonth, Month, Rate, calendar, price};
+use ee_units::{Age, Cents, Denom, IssueMonth, Month, Rate, calendar, price};
 use ee_value::{Quote, Rates, UnitTable, bond_value};
 
 /// The row of a bond in a month. The table is that of the rates, which are those of the bond's issue
@@ -38,13 +39,28 @@ pub fn plain_row(
     ensures denom { result.denom ≡ denom }
     ensures issued { result.issued ≡ issued }
 {
-    let Some(age) = calendar::age(issued, month) else {
-        return not_issued(denom, issued);
-    };
+    match calendar::age(issued, month) {
+        Some(age) => issued_row(denom, issued, rates, bond_value(table, denom, age), month),
+        None => unissued_row(denom, issued),
+    }
+}
+
+/// The row, without a serial, of a bond of that denomination and issue month, which pays that quote in a
+/// month from its issue on.
+#[tactic(auto, unfolding(crate::specs::Rows::columns_of, crate::specs::Rows::value_in))]
+pub fn issued_row(denom: Denom, issued: IssueMonth, rates: Rates, quote: Quote, month: Month) -> Row
+    requires issued { issued ≤ month }
+    requires quoted { IsQuoteOf rates (units_of denom) (month - issued) quote }
+    ensures columns { columns_in result ≡ columns_of (units_of denom) issued rates month }
+    ensures serial { result.serial ≡ None }
+    ensures denom { result.denom ≡ denom }
+    ensures issued { result.issued ≡ issued }
+{
+    let age = Age::from_months(month.count() - issued.count());
     let note = Note::at(Some(age));
     let price = price(denom);
     let rate = rates.rate_in(age.months() / 6);
-    match bond_value(table, denom, age) {
+    match quote {
         Quote::NotEligible => earning(denom, issued, rate, month, price, price, note),
         Quote::Pays {
             cents,
@@ -55,7 +71,8 @@ pub fn plain_row(
     }
 }
 
-const fn not_issued(denom: Denom, issued: IssueMonth) -> Row
+/// The row, without a serial, of a bond of that denomination and issue month in a month before its issue.
+pub const fn unissued_row(denom: Denom, issued: IssueMonth) -> Row
     ensures columns { columns_in result ≡ shown Note.Ni 0 0 0 0 0 }
     ensures serial { result.serial ≡ None }
     ensures denom { result.denom ≡ denom }

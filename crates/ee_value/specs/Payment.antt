@@ -1,9 +1,10 @@
 -- What a bond pays (31 CFR Part 351; that age 12 is payable is this project's reading).
-use Rattle.std.specs.Prelude.{◌≡◌, ℕ, ◌*◌, ◌<◌, ◌≤◌, ◌↔◌, IsTrue}
+use Rattle.std.specs.Prelude.{◌≡◌, ℕ, ◌-◌, ◌*◌, ◌<◌, ◌≤◌, ◌↔◌, ◌&&◌, Bool, not, IsTrue, nat_lt, if◌then◌else◌}
 use Rattle.ee_value.specs.declared.rates.Rates.{Rates}
 use Rattle.ee_value.specs.declared.quotes.Quote.{Quote}
 use Rattle.ee_value.specs.declared.quotes.Quote.TheVariants.{NotEligible, Pays}
 use Rattle.ee_value.specs.Value.{redemption}
+use Rattle.ee_value.specs.Open.{is_open}
 
 -- what n units pay at age a
 abbrev pub IsQuoteOf : Rates → ℕ → ℕ → Quote → Type 0
@@ -11,3 +12,11 @@ IsQuoteOf rates n a NotEligible = a < 12
 IsQuoteOf rates n a (Pays cents penalty matured) =
     (12 ≤ a) × (cents.0 ≡ n * redemption rates a) × (n * 1250 ≤ cents.0) × (cents.0 ≤ n * 761234)
     × (IsTrue penalty ↔ (a < 60)) × (IsTrue matured ↔ (360 ≤ a))
+
+-- the age whose accrued value a bond pays at age a, from 12 on
+abbrev pub counted_age : ℕ → ℕ
+counted_age a = if nat_lt a 60 then a - 3 else a
+
+-- whether what a bond pays at age a is open with b binary places
+unfoldable pub is_payment_open : Rates → ℕ → ℕ → Bool
+is_payment_open rates a b = not (nat_lt a 12) && is_open rates (counted_age a) b

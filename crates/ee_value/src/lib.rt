@@ -14,7 +14,7 @@ mod rates;
 mod tables;
 
 pub use accrual::unit_at;
-pub use bonds::bond_value;
+pub use bonds::{bond_value, bond_value_at};
 pub use faults::{Unsettled, ValueFault};
 pub use laws::{chain_law, exact_law, examples_law, open_law, rates_law, rounding_law, value_law};
 pub use quotes::Quote;

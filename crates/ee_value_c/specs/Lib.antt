@@ -1,0 +1,4 @@
+pub mod Numbers
+pub mod Statuses
+pub mod Questions
+pub mod Answers

@@ -1,0 +1,85 @@
+ghost use Rattle.std.specs.Prelude.{◌≡◌};
+ghost use Rattle.ee_calculator.specs.Rows.{columns_in};
+ghost use Rattle.ee_value_c.specs.Answers.{note_number, payable, row_with, refused};
+ghost use Rattle.ee_value_c.specs.Statuses.{status_of};
+
+use crate::numbers::month_number;
+use crate::refusals::Refusal;
+use ee_calculator::{Note, Row};
+
+/// What the calculator shows of a bond in a month, and what the bond pays.
+#[repr(C)]
+#[derive(Clone, Copy, Debug, PartialEq, Eq)]
+pub struct ValueRow {
+    /// What is paid: 0 where the bond can't be redeemed.
+    pub payable_cents: u64,
+    /// The issue price; 0 before issue.
+    pub price_cents: u64,
+    /// What is earned above the price, without a penalty taken.
+    pub interest_cents: u64,
+    /// What the calculator shows as the value: the price and the interest.
+    pub value_cents: u64,
+    /// 0, or the status of a refusal; then all else is 0.
+    pub status: u32,
+    /// 0 for none, 1 for NI, 2 for NE, 3 for P5, 4 for MA.
+    pub note: u32,
+    /// The month in which interest is next added, as YYYYMM; 0 for none.
+    pub next_accrual: u32,
+    /// The month in which interest stops, as YYYYMM; 0 before issue.
+    pub final_maturity: u32,
+}
+
+/// The answer that shows a row of the calculator.
+pub fn shown_row(row: Row) -> ValueRow
+    ensures { result ≡ row_with (columns_in row) }
+{
+    ValueRow {
+        payable_cents: payable(row.note, row.value.0),
+        price_cents: row.price.0,
+        interest_cents: row.interest.0,
+        value_cents: row.value.0,
+        status: 0,
+        note: note_number(row.note),
+        next_accrual: month_number(row.next_accrual),
+        final_maturity: month_number(row.final_maturity),
+    }
+}
+
+/// The answer of a refused call.
+pub fn refused_row(refusal: Refusal) -> ValueRow
+    ensures { result ≡ refused (status_of refusal) }
+{
+    ValueRow {
+        payable_cents: 0,
+        price_cents: 0,
+        interest_cents: 0,
+        value_cents: 0,
+        status: refusal.status(),
+        note: 0,
+        next_accrual: 0,
+        final_maturity: 0,
+    }
+}
+
+/// What is paid of a value under a note: nothing before 12 months of age.
+const fn payable(note: Note, value: u64) -> u64
+    ensures { result ≡ payable note value }
+{
+    match note {
+        Note::Ni | Note::Ne => 0,
+        Note::P5 | Note::Plain | Note::Ma => value,
+    }
+}
+
+/// The number of a note.
+const fn note_number(note: Note) -> u32
+    ensures { result ≡ note_number note }
+{
+    match note {
+        Note::Plain => 0,
+        Note::Ni => 1,
+        Note::Ne => 2,
+        Note::P5 => 3,
+        Note::Ma => 4,
+    }
+}

@@ -1,0 +1,23 @@
+//! The value of a Series EE bond for programs in C: `include/ee_value.h` declares the functions.
+//! No call takes memory, keeps anything or fails: each answers every combination of numbers.
+#![tactic(auto)]
+
+mod answers;
+mod exports;
+mod laws;
+mod numbers;
+mod questions;
+mod refusals;
+#[cfg(test)]
+mod tests;
+mod texts;
+mod values;
+
+pub use answers::ValueRow;
+pub use exports::{
+    ee_value_cents, ee_value_row, ee_value_row_into, ee_value_rows, ee_value_status_text,
+    ee_value_version,
+};
+pub use laws::answers_law;
+pub use questions::{Question, ValueQuestion};
+pub use refusals::Refusal;

@@ -1,0 +1,50 @@
+ghost use Rattle.std.specs.Prelude.{◌≡◌};
+ghost use Rattle.ee_value_c.specs.Questions.{question_at};
+
+use crate::numbers::{denomination, issue_month, month, rate};
+use crate::refusals::Refusal;
+use ee_units::{Denom, IssueMonth, Month};
+use ee_value::Rates;
+
+/// The numbers of a question, each as the calls with plain numbers take it.
+#[repr(C)]
+#[derive(Clone, Copy, Debug, PartialEq, Eq)]
+pub struct ValueQuestion {
+    /// The denomination, in dollars.
+    pub dollars: u32,
+    /// The month of issue, as YYYYMM.
+    pub issued: u32,
+    /// The month that is asked for, as YYYYMM.
+    pub month: u32,
+    /// The fixed rate, in hundredths of a percent.
+    pub rate: u32,
+    /// The rate of extended maturity, in hundredths of a percent.
+    pub extension: u32,
+}
+
+/// What a call asks for: a bond at its rates, in a month.
+#[derive(Clone, Copy, Debug, PartialEq, Eq)]
+pub struct Question {
+    pub denom: Denom,
+    pub issued: IssueMonth,
+    pub month: Month,
+    pub rates: Rates,
+}
+
+/// What the numbers ask for, or the first refusal, in the order of the fields.
+#[tactic(auto, unfolding(crate::specs::Questions::question_at))]
+pub fn question_at(question: ValueQuestion) -> Result<Question, Refusal>
+    ensures { result ≡ question_at question }
+{
+    let denom = denomination(question.dollars).ok_or(Refusal::BadDenomination)?;
+    let issued = issue_month(question.issued).ok_or(Refusal::BadIssueMonth)?;
+    let month = month(question.month).ok_or(Refusal::BadMonth)?;
+    let fixed = rate(question.rate).ok_or(Refusal::BadRate)?;
+    let extension = rate(question.extension).ok_or(Refusal::BadExtension)?;
+    Ok(Question {
+        denom,
+        issued,
+        month,
+        rates: Rates { fixed, extension },
+    })
+}

@@ -1,0 +1,41 @@
+ghost use Rattle.std.specs.Prelude.{◌≡◌};
+ghost use Rattle.ee_value_c.specs.Statuses.{status_of};
+
+/// Why a call has no answer.
+#[derive(Clone, Copy, Debug, PartialEq, Eq)]
+pub enum Refusal {
+    /// The dollars are no denomination of a paper bond.
+    BadDenomination,
+    /// The month of issue is no month from 200505 to 209912.
+    BadIssueMonth,
+    /// The month is no month from 200505 to 219912.
+    BadMonth,
+    /// The rate is above 20 percent.
+    BadRate,
+    /// The rate of extended maturity is above 20 percent.
+    BadExtension,
+    /// The month is before the month of issue.
+    NotIssued,
+    /// The bond can't be redeemed yet: its age is below 12 months.
+    NotEligible,
+    /// The precision doesn't settle the value.
+    Unsettled,
+}
+
+impl Refusal {
+    /// The status that C is told.
+    pub const fn status(self) -> u32
+        ensures { result ≡ status_of self }
+    {
+        match self {
+            Refusal::BadDenomination => 1,
+            Refusal::BadIssueMonth => 2,
+            Refusal::BadMonth => 3,
+            Refusal::BadRate => 4,
+            Refusal::BadExtension => 5,
+            Refusal::NotIssued => 6,
+            Refusal::NotEligible => 7,
+            Refusal::Unsettled => 8,
+        }
+    }
+}
