@@ -1,7 +1,9 @@
 -- Lemmas that the proofs of crates above use.
 use Rattle.std.proofs.Common.{Bool, List, None, [], map, ℕ, ◌++◌, ◌||◌, ◌∷◌, ◌≡◌}
+use Rattle.std.specs.Prelude.{T}
 use Rattle.std.specs.Cmp.{IsTotalOrder}
-use Rattle.std.specs.FinMap.{FinMap}
+use Rattle.std.specs.FinMap.{FinMap, find}
+use Rattle.std.specs.FinMap.Entries.{below_all}
 use Rattle.std.specs.List.{AllByRecursion, list_any}
 use Rattle.std.specs.Option.{IfSome, option_map}
 use Rattle.std.specs.declared.cmp.Ordering.{Ordering}
@@ -62,6 +64,10 @@ all_entries = SortedRows.all_entries
 pub get_all : {K V : Type 0} {R : K → K → Ordering} (o : IsTotalOrder R) (exact : CmpEqualImpliesEq R) (P : K → V → Type 0) (es : List (K × V))
     → AllByRecursion (λ e. P e.0 e.1) es → (q : K) → IfSome (finite.get (finite.from_entries {R = R} es) q) (P q)
 get_all = SortedRows.get_all
+
+-- where a key comes before all entries, nothing is found at it
+pub none_below : {K V : Type 0} (R : K → K → Ordering) (q : K) (es : List (K × V)) → T (below_all R q es) → find R q es ≡ None
+none_below = SortedRows.none_below
 
 -- the map of a map's entries is the map
 pub map_of_entries : {K V : Type 0} (R : K → K → Ordering) → IsTotalOrder R → CmpEqualImpliesEq R → (m : FinMap R V)

@@ -26,6 +26,10 @@ apart Less h = refl
 apart Equal h = absurd h
 apart Greater h = absurd h
 
+pub none_below : {K V : Type 0} (R : K → K → Ordering) (q : K) (es : List (K × V)) → T (below_all R q es) → find R q es ≡ None
+none_below R q [] h = refl
+none_below R q (e ∷ es) h = ap (λ b. cond b (Some e.1) (find R q es)) (apart (R q e.0) (and_yes _ _ h).0) ∙ none_below R q es (and_yes _ _ h).1
+
 module _ {K V : Type 0} (R : K → K → Ordering) where
   abbrev Sorted : List (K × V) → Type 0
   Sorted es = InOrder (λ a b. R a b ≡ Less) (map (λ e. e.0) es)
@@ -60,14 +64,10 @@ module _ {K V : Type 0} (R : K → K → Ordering) where
 
 -- what holds wherever a key is found holds of each entry
 module _ {K V : Type 0} {R : K → K → Ordering} (o : IsTotalOrder R) (exact : CmpEqualImpliesEq R) (P : K → V → Type 0) where
-  absent : (q : K) (es : List (K × V)) → T (below_all R q es) → find R q es ≡ None
-  absent q [] h = refl
-  absent q (e ∷ es) h = ap (λ b. cond b (Some e.1) (find R q es)) (apart (R q e.0) (and_yes _ _ h).0) ∙ absent q es (and_yes _ _ h).1
-
   past : (e : K × V) (es : List (K × V)) (q : K) → T (below_all R e.0 es) → (b : Bool) → eq_by_cmp R q e.0 ≡ b
       → IfSome (cond b (Some e.1) (find R q es)) (P q) → IfSome (find R q es) (P q)
   past e es q h true is p =
-      let none = subst (λ k. find R k es ≡ None) (sym (tells_apart exact q e.0 is)) (absent e.0 es h) in
+      let none = subst (λ k. find R k es ≡ None) (sym (tells_apart exact q e.0 is)) (none_below R e.0 es h) in
       subst (λ (v : Option V). IfSome v (P q)) (sym none) tt
   past e es q h false is p = p
 

@@ -39,7 +39,7 @@ pub not_sound : (stored : AllRows) (parts : Parts) → AreInOrder stored → Som
 not_sound stored parts order read unsound content stands =
     unsound content.books stands.right.sound (sym (some_is parts (parts_of content.books) (read ∙ read_as stored content order stands)))
 
-pub founded : (stored : AllRows) (parts : Parts) (books : PlainBooks) → AreInOrder stored → Some parts ≡ parts_in stored → PartsFit parts → parts_of books ≡ parts → IsSound books
+founded : (stored : AllRows) (parts : Parts) (books : PlainBooks) → AreInOrder stored → Some parts ≡ parts_in stored → PartsFit parts → parts_of books ≡ parts → IsSound books
     → AllByRecursion KeepsReply stored.replies.items → (content : Content) × (content.books ≡ books) × StandFor (rows_of stored) content
 founded stored parts books order read fit is sound all =
     content_stands stored books order (parts_are (parts_of books) stored (sym read ∙ ap Some (sym is))) (subst PartsFit (sym is) fit) sound all

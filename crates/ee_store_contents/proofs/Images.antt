@@ -3,11 +3,10 @@ use Rattle.std.proofs.Common.{◌≡◌, ℕ, Bool, true, false, cond, List, [],
 use Rattle.std.specs.Prelude.{T}
 use Rattle.std.specs.Option.{option_map}
 use Rattle.std.specs.List.{cons_option}
-use Rattle.std.specs.Ordering.{nat_cmp, eq_by_cmp, is_lt, is_eq}
+use Rattle.std.specs.Ordering.{nat_cmp, eq_by_cmp, is_lt}
 use Rattle.std.specs.Cmp.{IsTotalOrder, nat_cmp_total, then_total, on_total}
 use Rattle.std.proofs.lemmas.Map.Lookups.{exact_pairs, exact_unsigned}
 use Rattle.std.specs.declared.cmp.Ordering.{Ordering}
-use Rattle.std.specs.declared.cmp.Ordering.TheVariants.{Less, Equal, Greater}
 use Rattle.std.specs.FinMap as finite
 use Rattle.std.specs.FinMap.{FinMap, IsAntisymmetric, nat_cmp-IsAntisymmetric, entries, entries_sorted, find, is_sorted, from_entries, from_sorted, get-entries, get-from_entries, get-from_sorted, entries-from_sorted, same_map}
 use Rattle.std.specs.FinMap.Entries.{below_all}
@@ -24,6 +23,7 @@ use Rattle.ee_desk_acts.specs.Numbers.{number_cmp}
 use Rattle.ee_desk_acts.specs.Seen.{held_as}
 use Rattle.ee_desk_acts.proofs.Lemmas.Maps.{serials_total, serials_exact, numbers_total}
 use Rattle.std.proofs.lemmas.Map.Views.{tells_apart}
+use Rattle.ee_desk_parts.proofs.Lemmas.{none_below}
 use Rattle.ee_store_tables.specs.Keyed.{pair_cmp}
 use Rattle.ee_store_contents.specs.Standing.{desk_rows, rate_rows, extension_entry, extension_rows, bond_rows, bond_row, key_of, reply_rows, reply_row}
 
@@ -51,17 +51,6 @@ module _ {K L X Y : Type 0} {R : K → K → Ordering} {S : L → L → Ordering
   get_image m q = get-from_entries p _ (key q) ∙ find_image q (entries m) ∙ ap (option_map (value q)) (sym (get-entries m q))
 
 -- what is found under the key of an entry of which only some are picked
-lt_apart : (r : Ordering) → T (is_lt r) → is_eq r ≡ false
-lt_apart Less h = refl
-lt_apart Equal h = absurd h
-lt_apart Greater h = absurd h
-
-not_found : {K X : Type 0} (R : K → K → Ordering) (q : K) (es : List (K × X)) → T (below_all R q es) → find R q es ≡ None
-not_found R q [] h = refl
-not_found R q (e ∷ es) h =
-    let both = and_yes (is_lt (R q e.0)) (below_all R q es) h in
-    ap (λ b. cond b (Some e.1) (find R q es)) (lt_apart (R q e.0) both.0) ∙ not_found R q es both.1
-
 module _ {K X Y : Type 0} {R : K → K → Ordering} (o : IsTotalOrder R) (exact : IsAntisymmetric R) (pick : X → Option Y) where
   abbrev picked : K × X → Option (K × Y)
   picked e = option_map (λ y. (e.0, y)) (pick e.1)
@@ -93,7 +82,7 @@ module _ {K X Y : Type 0} {R : K → K → Ordering} (o : IsTotalOrder R) (exact
       let rest = filter_map picked es in
       elim (eq_by_cmp R q e.0) as (λ t. eq_by_cmp R q e.0 ≡ t → find R q (filter_map picked (e ∷ es)) ≡ option_and_then pick (cond t (Some e.1) (find R q es))) [
         | true ↦ λ t. elim (pick e.1) as (λ p. find R q (cons_option (option_map (λ (y : Y). (e.0, y)) p) rest) ≡ p) [
-          | None ↦ not_found R q rest (below_picked q es (subst (λ k. T (below_all R k es)) (sym (tells_apart exact q e.0 t)) both.0))
+          | None ↦ none_below R q rest (below_picked q es (subst (λ k. T (below_all R k es)) (sym (tells_apart exact q e.0 t)) both.0))
           | Some y ↦ ap (λ b. cond b (Some y) (find R q rest)) t
         ]
         | false ↦ λ t. elim (pick e.1) as (λ p. find R q (cons_option (option_map (λ (y : Y). (e.0, y)) p) rest) ≡ option_and_then pick (find R q es)) [

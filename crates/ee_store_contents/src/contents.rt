@@ -3,7 +3,7 @@
 ghost use Rattle.std.specs.Prelude.{◌≡◌, ◌↔◌, Some, IfOk, IfErr, IfSome, OnOk};
 ghost use Rattle.std.specs.List.{AllByRecursion};
 ghost use Rattle.ee_desk_acts.specs.Repeats.{Content};
-ghost use Rattle.ee_desk_parts.specs.Parts.{parts_of, AreUnsound};
+ghost use Rattle.ee_desk_parts.specs.Parts.{AreUnsound};
 ghost use Rattle.ee_desk_parts.specs.Made.{IsMadeOf};
 ghost use Rattle.ee_store_contents.specs.Reading.{parts_in};
 ghost use Rattle.ee_store_opening.specs.Whole.{AreInOrder, rows_of};
@@ -17,7 +17,6 @@ use crate::reading::{batches_in, bonds_in, days_in};
 use crate::replies::keep_replies;
 use crate::tickets::tickets_in;
 use crate::unit_tables::kept_tables;
-use ee_desk::Books;
 use ee_desk_acts::{Rows, UnitTables};
 use ee_desk_parts::{Indexes, Parts, PartsFault, checked};
 use ee_store_opening::AllRows;
@@ -107,17 +106,6 @@ fn fault_of(fault: PartsFault) -> ContentFault
     }
 }
 
-/// The books of these parts, or `Unusable` where no sound books have them.
-fn books_of(alloc: Global, parts: Parts) -> Result<Books, ContentFault>
-    ensures ok { IfOk result (λ books. parts_of books ≡ parts) }
-    ensures unusable { IfErr result (λ fault. fault ≡ ContentFault.Unusable → AreUnsound parts) }
-{
-    match Books::from_parts(alloc, parts) {
-        Ok(books) => Ok(books),
-        Err(fault) => Err(fault_of(fault)),
-    }
-}
-
 /// What books in memory keep beside these parts, or `Unusable` where no sound books have them.
 fn indexes_of(alloc: Global, parts: &Parts) -> Result<Indexes, ContentFault>
     ensures ok { IfOk result (IsMadeOf parts.now) }
@@ -126,23 +114,6 @@ fn indexes_of(alloc: Global, parts: &Parts) -> Result<Indexes, ContentFault>
     match checked(alloc, parts) {
         Ok(indexes) => Ok(indexes),
         Err(fault) => Err(fault_of(fault)),
-    }
-}
-
-/// The books that the rows of a store stand for, where they stand for books and kept replies. It
-/// answers `Unusable` exactly where they stand for none.
-pub fn content_of(alloc: Global, stored: &AllRows) -> Result<Books, ContentFault>
-    requires { AreInOrder stored.now }
-    ensures ok { IfOk result (λ books. (content : Content) × (content.books ≡ books) × StandFor (rows_of stored.now) content) }
-    ensures unusable { IfErr result (λ fault. fault ≡ ContentFault.Unusable → (content : Content) → StandFor (rows_of stored.now) content → ⊥) }
-{
-    let parts = right_parts(alloc, stored)?;
-    match books_of(alloc, parts) {
-        Ok(books) => {
-            books.known();
-            Ok(books)
-        }
-        Err(fault) => Err(fault),
     }
 }
 

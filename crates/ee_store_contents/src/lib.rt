@@ -11,5 +11,5 @@ mod replies;
 mod tickets;
 mod unit_tables;
 
-pub use contents::{ContentFault, content_of, tables_of};
+pub use contents::{ContentFault, tables_of};
 pub use laws::one_content;

@@ -1,9 +1,9 @@
 -- The starts of the half-years.
-use Rattle.std.proofs.Common.{◌≡◌, ◌≢◌, eq-eqb, ne_eqb, ℕ, zero, suc, ◌+◌, ◌-◌, ◌*◌, ◌<◌, ◌≤◌, ◌==◌, max, true, false, arith, add-one, add-zero, refl, sym, ap, ◌∙◌, inl, inr, List, [], ◌∷◌, map}
+use Rattle.std.proofs.Common.{◌≡◌, ◌≢◌, eq-eqb, ne_eqb, ℕ, zero, suc, ◌+◌, ◌-◌, ◌*◌, ◌<◌, ◌≤◌, ◌==◌, max, true, false, arith, add-one, add-zero, refl, sym, ap, ◌∙◌, List, [], ◌∷◌, map}
 use Rattle.std.specs.List.{range_with_len}
 use Rattle.std.specs.Prelude.{if◌then◌else◌, nat_lt}
 use Rattle.std.proofs.lemmas.Nat.{mul-le}
-use Rattle.std.proofs.lemmas.Bool.{cases_lt, cases_eq, lt-ltb, le-ltb}
+use Rattle.std.proofs.lemmas.Bool.{lt-ltb, le-ltb}
 use Rattle.ee_value.specs.declared.rates.Rates.{Rates}
 use Rattle.ee_value.specs.Rounding.{grown}
 use Rattle.ee_value.specs.Chain.{InRange, rate_in, start}
@@ -84,17 +84,9 @@ pub rate-extended : (rates : Rates) (k : ℕ) → 40 ≤ k → rate_in rates k �
 unfolding rate_in
 rate-extended rates k h = rw (le-ltb k 40 h) refl
 
--- the rate stays from one half-year to the next, but at 20 years
-pub rate-kept : (rates : Rates) (k : ℕ) → (k ≡ 40 → rates.extension ≡ rates.fixed) → rate_in rates (k - 1) ≡ rate_in rates k
-rate-kept rates k same =
-    elim (cases_lt k 40) [
-      | inl before ↦ rate-original rates (k - 1) (omega arith) ∙ sym (rate-original rates k before)
-      | inr after ↦
-          elim (cases_eq k 40) [
-            | inl at ↦ rate-original rates (k - 1) (omega arith) ∙ sym (same at) ∙ sym (rate-extended rates k after)
-            | inr later ↦ rate-extended rates (k - 1) (omega arith) ∙ sym (rate-extended rates k after)
-          ]
-    ]
+-- with one rate for the whole life the rate stays at 20 years
+pub rate-kept : (rates : Rates) → rates.extension ≡ rates.fixed → rate_in rates 0 ≡ rate_in rates 40
+rate-kept rates same = rate-original rates 0 (omega arith) ∙ sym same ∙ sym (rate-extended rates 40 (omega arith))
 
 -- ---- the same numbers by sixth powers
 

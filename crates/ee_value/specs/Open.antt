@@ -37,6 +37,10 @@ is_unsettled u r m b = not (m == 0) && not (r == 0) && not (m == 3 && is_exact r
 unfoldable pub is_open : Rates → ℕ → ℕ → Bool
 is_open rates a b = nat_lt a 360 && is_unsettled (start rates (a / 6)) (rate_in rates (a / 6)) (a % 6) b
 
+-- two bounds of a month's growth or its power, with b binary places, are near each other and near 1
+abbrev pub AreNear : ℕ → ℕ → ℕ → Type 0
+AreNear b low high = (low ≤ high) × (high ≤ low + 32) × (32 * high ≤ 43 * 2 ^ b)
+
 -- the least age at which these rates are open, where there is one
 unfoldable pub first_open : Rates → ℕ → Option ℕ
 first_open rates b = position (λ a. is_open rates a b) (range_with_len 0 361)

@@ -9,6 +9,7 @@ ghost use Rattle.ee_value.specs.Open.{is_open, Close};
 use crate::faults::Unsettled;
 use crate::growth::grown_unit;
 use crate::halves::start_unit;
+use crate::powers::Powers;
 use crate::rates::Rates;
 use ee_roots::root_bounds;
 use ee_units::{Age, Bits};
@@ -33,6 +34,6 @@ pub fn unit_at(rates: Rates, age: Age, bits: Bits) -> Result<u64, Unsettled>
     let half_year = counted / 6;
     let start = start_unit(&rates, half_year);
     let rate = rates.rate_in(half_year);
-    let root = root_bounds(rate, bits);
-    grown_unit(start, rate, (counted % 6) as u8, &root).ok_or(Unsettled { month: age })
+    let powers = Powers::of(root_bounds(rate, bits));
+    grown_unit(start, rate, (counted % 6) as u8, &powers).ok_or(Unsettled { month: age })
 }

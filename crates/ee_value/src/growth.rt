@@ -5,7 +5,8 @@ ghost use Rattle.ee_roots.specs.Roots.{IsLow, IsHigh};
 ghost use Rattle.ee_value.specs.Rounding.{grown};
 ghost use Rattle.ee_value.specs.Open.{is_exact, is_unsettled, bounds_differ, Close};
 
-use ee_roots::{Root, power_bounds, settle};
+use crate::powers::Powers;
+use ee_roots::settle;
 use ee_units::Rate;
 
 /// The months of a quarter year, the only ones whose growth can be a fraction.
@@ -32,15 +33,15 @@ fn exact_root(rate: Rate) -> Option<u64>
 }
 
 /// What the unit grows to in some months of a half-year, where it can be told.
-pub fn grown_unit(unit: u64, rate: Rate, months: u8, root: &Root) -> Option<u64>
+pub fn grown_unit(unit: u64, rate: Rate, months: u8, powers: &Powers) -> Option<u64>
     requires some { 1 ≤ unit }
     requires small { unit ≤ 380617 }
     requires few { months ≤ 5 }
-    requires of_low { IsLow root.now.bits rate root.now.low }
-    requires of_high { IsHigh root.now.bits rate root.now.high }
+    requires of_low { IsLow powers.now.bits rate powers.now.low }
+    requires of_high { IsHigh powers.now.bits rate powers.now.high }
     ensures { MatchOption result
-        ((is_unsettled unit rate months root.now.bits ≡ true) × Close unit rate months root.now.bits)
-        (λ cents. (is_unsettled unit rate months root.now.bits ≡ false) × (cents ≡ grown unit rate months)) }
+        ((is_unsettled unit rate months powers.now.bits ≡ true) × Close unit rate months powers.now.bits)
+        (λ cents. (is_unsettled unit rate months powers.now.bits ≡ false) × (cents ≡ grown unit rate months)) }
 {
     let hundredths = rate.hundredths();
     if months == 0 || hundredths == 0 {
@@ -51,24 +52,24 @@ pub fn grown_unit(unit: u64, rate: Rate, months: u8, root: &Root) -> Option<u64>
             return Some((2 * unit * growth + 100) / 200);
         }
     }
-    bounded_unit(unit, rate, months, root)
+    bounded_unit(unit, rate, months, powers)
 }
 
-/// What the unit grows to, where the bounds of the root settle it.
-fn bounded_unit(unit: u64, rate: Rate, months: u8, root: &Root) -> Option<u64>
+/// What the unit grows to, where the bounds settle it.
+fn bounded_unit(unit: u64, rate: Rate, months: u8, powers: &Powers) -> Option<u64>
     requires some { 1 ≤ unit }
     requires small { unit ≤ 380617 }
     requires inside { 1 ≤ months }
     requires few { months ≤ 5 }
     requires at_most_20_percent { rate ≤ 2000 }
-    requires of_low { IsLow root.now.bits rate root.now.low }
-    requires of_high { IsHigh root.now.bits rate root.now.high }
+    requires of_low { IsLow powers.now.bits rate powers.now.low }
+    requires of_high { IsHigh powers.now.bits rate powers.now.high }
     ensures { MatchOption result
-        ((bounds_differ unit rate months root.now.bits ≡ true) × Close unit rate months root.now.bits)
-        (λ cents. (bounds_differ unit rate months root.now.bits ≡ false) × (cents ≡ grown unit rate months)) }
+        ((bounds_differ unit rate months powers.now.bits ≡ true) × Close unit rate months powers.now.bits)
+        (λ cents. (bounds_differ unit rate months powers.now.bits ≡ false) × (cents ≡ grown unit rate months)) }
 {
-    let bits = root.bits();
-    let (low, high) = power_bounds(root, months);
+    let bits = powers.bits();
+    let (low, high) = powers.at(months);
     let unit = u128::from(unit);
     settle(unit * low, unit * high, bits)
 }

@@ -9,6 +9,7 @@ mod faults;
 mod growth;
 mod halves;
 mod laws;
+mod powers;
 mod quotes;
 mod rates;
 mod tables;

@@ -1,6 +1,6 @@
 //! Tables of unit values, age by age.
 
-ghost use Rattle.std.specs.Prelude.{◌≡◌, ℕ, ◌+◌, ◌-◌, ◌*◌, ◌<◌, ◌≤◌, map, false, MatchResult, None};
+ghost use Rattle.std.specs.Prelude.{◌≡◌, ℕ, ◌+◌, ◌*◌, ◌<◌, ◌≤◌, map, false, MatchResult, None};
 ghost use Rattle.std.specs.List.{range_with_len};
 ghost use Rattle.ee_roots.specs.Roots.{IsLow, IsHigh};
 ghost use Rattle.ee_value.specs.Chain.{rate_in, start};
@@ -12,11 +12,15 @@ use crate::accrual::FINAL_MATURITY;
 use crate::faults::ValueFault;
 use crate::growth::grown_unit;
 use crate::halves::{PRICE, next_start};
+use crate::powers::Powers;
 use crate::rates::{ORIGINAL_MATURITY, Rates};
-use ee_roots::{Root, root_bounds};
+use ee_roots::root_bounds;
 use ee_units::{Age, Bits};
 use std::alloc::Global;
 use std::marker::Model;
+
+/// The half-years to final maturity, after 30 years.
+const FINAL_HALF_YEAR: u16 = 60;
 
 /// The accrued unit values of some rates, for ages 0 to 360. Only `unit_table` makes one.
 #[derive(Drop)]
@@ -50,19 +54,19 @@ impl UnitTable {
     }
 }
 
-/// The bounds of the root in a half-year, from those in the half-year before: they are found anew only
-/// where another rate comes into force.
-fn root_in(before: Root, half_year: u16, rates: &Rates) -> Root
-    requires of_low { IsLow before.bits (rate_in rates.now (half_year - 1)) before.low }
-    requires of_high { IsHigh before.bits (rate_in rates.now (half_year - 1)) before.high }
+/// The bounds of the growth after 20 years, from those before: they are found anew only where another rate
+/// comes into force.
+fn powers_after(before: Powers, rates: &Rates) -> Powers
+    requires of_low { IsLow before.bits (rate_in rates.now 0) before.low }
+    requires of_high { IsHigh before.bits (rate_in rates.now 0) before.high }
     ensures bits { result.bits ≡ before.bits }
-    ensures low { IsLow before.bits (rate_in rates.now half_year) result.low }
-    ensures high { IsHigh before.bits (rate_in rates.now half_year) result.high }
+    ensures low { IsLow before.bits (rate_in rates.now 40) result.low }
+    ensures high { IsHigh before.bits (rate_in rates.now 40) result.high }
 {
-    if half_year == ORIGINAL_MATURITY && rates.extension != rates.fixed {
-        root_bounds(rates.rate_in(half_year), before.bits())
-    } else {
+    if rates.extension == rates.fixed {
         before
+    } else {
+        Powers::of(root_bounds(rates.rate_in(ORIGINAL_MATURITY), before.bits()))
     }
 }
 
@@ -72,22 +76,22 @@ fn push_half_year(
     unit: u64,
     half_year: u16,
     rates: &Rates,
-    root: &Root,
+    powers: &Powers,
 ) -> Result<(), ValueFault>
     requires early { half_year < 60 }
     requires begun { unit ≡ start rates.now half_year }
     requires filled { units.old.items ≡ map (accrued rates.now) (range_with_len 0 (6 * half_year)) }
-    requires settled { (a : ℕ) → a < 6 * half_year → is_open rates.now a root.now.bits ≡ false }
-    requires of_low { IsLow root.now.bits (rate_in rates.now half_year) root.now.low }
-    requires of_high { IsHigh root.now.bits (rate_in rates.now half_year) root.now.high }
+    requires settled { (a : ℕ) → a < 6 * half_year → is_open rates.now a powers.now.bits ≡ false }
+    requires of_low { IsLow powers.now.bits (rate_in rates.now half_year) powers.now.low }
+    requires of_high { IsHigh powers.now.bits (rate_in rates.now half_year) powers.now.high }
     ensures { MatchResult result
         (λ _. (units.new.items ≡ map (accrued rates.now) (range_with_len 0 (6 * (half_year + 1))))
-        × ((a : ℕ) → a < 6 * (half_year + 1) → is_open rates.now a root.now.bits ≡ false))
-        (IsFaultOf rates.now root.now.bits) }
+        × ((a : ℕ) → a < 6 * (half_year + 1) → is_open rates.now a powers.now.bits ≡ false))
+        (IsFaultOf rates.now powers.now.bits) }
 {
     let rate = rates.rate_in(half_year);
     for months in 0..6 {
-        match grown_unit(unit, rate, months, root) {
+        match grown_unit(unit, rate, months, powers) {
             Some(value) => units.push(value)?,
             None => {
                 let month = Age::from_months(6 * half_year + u16::from(months));
@@ -96,6 +100,37 @@ fn push_half_year(
         }
     }
     Ok(())
+}
+
+/// Appends the values of the months of some half-years, in which one rate is in force, and tells the unit at
+/// their end.
+fn push_half_years(
+    units: &mut Vec<u64>,
+    begun: u64,
+    from: u16,
+    to: u16,
+    rates: &Rates,
+    powers: &Powers,
+) -> Result<u64, ValueFault>
+    requires order { from ≤ to }
+    requires early { to ≤ 60 }
+    requires begun { begun ≡ start rates.now from }
+    requires filled { units.old.items ≡ map (accrued rates.now) (range_with_len 0 (6 * from)) }
+    requires settled { (a : ℕ) → a < 6 * from → is_open rates.now a powers.now.bits ≡ false }
+    requires of_low { (k : ℕ) → from ≤ k → k < to → IsLow powers.now.bits (rate_in rates.now k) powers.now.low }
+    requires of_high { (k : ℕ) → from ≤ k → k < to → IsHigh powers.now.bits (rate_in rates.now k) powers.now.high }
+    ensures { MatchResult result
+        (λ unit. (unit ≡ start rates.now to)
+        × (units.new.items ≡ map (accrued rates.now) (range_with_len 0 (6 * to)))
+        × ((a : ℕ) → a < 6 * to → is_open rates.now a powers.now.bits ≡ false))
+        (IsFaultOf rates.now powers.now.bits) }
+{
+    let mut unit = begun;
+    for half_year in from..to {
+        push_half_year(units, unit, half_year, rates, powers)?;
+        unit = next_start(unit, half_year, rates);
+    }
+    Ok(unit)
 }
 
 /// The unit values of these rates at each age, or the least age at which the precision doesn't
@@ -109,14 +144,18 @@ pub fn unit_table(alloc: Global, rates: Rates, bits: Bits) -> Result<UnitTable, 
         (λ _. first_open rates bits ≡ None)
         (IsFaultAt (first_open rates bits)) }
 {
-    let mut root = root_bounds(rates.rate_in(0), bits);
+    let fixed = Powers::of(root_bounds(rates.rate_in(0), bits));
     let mut units = Vec::with_capacity(alloc, 361)?;
-    let mut unit = PRICE;
-    for half_year in 0..60 {
-        root = root_in(root, half_year, &rates);
-        push_half_year(&mut units, unit, half_year, &rates, &root)?;
-        unit = next_start(unit, half_year, &rates);
-    }
+    let unit = push_half_years(&mut units, PRICE, 0, ORIGINAL_MATURITY, &rates, &fixed)?;
+    let extension = powers_after(fixed, &rates);
+    let unit = push_half_years(
+        &mut units,
+        unit,
+        ORIGINAL_MATURITY,
+        FINAL_HALF_YEAR,
+        &rates,
+        &extension,
+    )?;
     units.push(unit)?;
     Ok(UnitTable { rates, units })
 }

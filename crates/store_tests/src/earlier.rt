@@ -35,13 +35,13 @@ INSERT INTO replies VALUES (5, '{"act":"close","day":"2012-02-06"}', '{"bonds":3
 "#;
 
 /// An extension that is entered under a new number.
-const NAMED: &str =
+pub const NAMED: &str =
     r#"> POST /rates {"number":6,"rates":[{"from":"2011-05","rate":"3.40","extension":"4.00"}]}
 200 {"new":1,"same":0}
 "#;
 
 /// What is shown of it, and of terms that have none.
-const SHOWN: &str =
+pub const SHOWN: &str =
     r#"> POST /rates {"number":6,"rates":[{"from":"2011-05","rate":"3.40","extension":"4.00"}]}
 200 {"new":1,"same":0}
 > GET /value/50/2011-05/2031-04
@@ -52,7 +52,7 @@ const SHOWN: &str =
 200 {"denom":50,"final":"2040-11","interest":"0.88","issued":"2010-11","next":"2012-03","note":"P5","price":"25.00","rate":"3.50%","value":"25.88"}
 "#;
 
-fn make_earlier<S: Alter>(conn: &mut Connection<S>) -> Result<(), Fail> {
+pub fn make_earlier<S: Alter>(conn: &mut Connection<S>) -> Result<(), Fail> {
     conn.execute_batch(SEVEN_TABLES)?;
     conn.execute_batch(ROWS)?;
     Ok(())

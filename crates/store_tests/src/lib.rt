@@ -11,6 +11,10 @@ mod devices;
 #[cfg(test)]
 mod earlier;
 #[cfg(test)]
+mod earlier_file;
+#[cfg(test)]
+mod earlier_stops;
+#[cfg(test)]
 mod faults;
 #[cfg(test)]
 mod five;

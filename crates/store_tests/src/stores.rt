@@ -75,8 +75,18 @@ fn a_file_keeps_its_replies(rt: HostRuntime) -> Result<(), Fail> {
     forget(&rt, &path)
 }
 
+/// What a connection keeps in memory: few pages, so that one is opened and dropped in little time.
+pub fn few_pages(seed: u64) -> Options {
+    Options {
+        cache_pages: 64,
+        spill_pages: 64,
+        checkpoint_frames: 1000,
+        seed,
+    }
+}
+
 /// Serves a talk over files, and hands them back; with no text where they don't open.
-fn served_on<D: Disk + Drop>(
+pub fn served_on<D: Disk + Drop>(
     alloc: Global,
     files: Files<D>,
     talk: &str,
@@ -84,7 +94,7 @@ fn served_on<D: Disk + Drop>(
     if !files.may_be_used() {
         return (Ok(String::new(alloc)), false, files);
     }
-    match Connection::open_files(alloc, files, Options::new(1)) {
+    match Connection::open_files(alloc, files, few_pages(1)) {
         Ok(conn) => {
             let (text, conn) = served(alloc, conn, talk);
             match conn.close_files() {
@@ -97,7 +107,7 @@ fn served_on<D: Disk + Drop>(
 }
 
 /// Whether `apply` ended by `StoreFailed` on each message that was answered so, and on no other.
-fn ends_by_failures(talk: &str) -> bool {
+pub fn ends_by_failures(talk: &str) -> bool {
     talk.lines().all(|line| line.starts_with("StoreFailed 503 ")
         == line.ends_with("\"StoreFailed\"}"))
 }

@@ -1,4 +1,5 @@
 use Rattle.std.proofs.Common.{◌≡◌, ◌/◌, ◌%◌, true, false, min, ap, ◌∙◌, arith, refl}
+use Rattle.ee_roots.specs.Roots.{Bounds}
 use Rattle.ee_value.specs.Chain.{rate_in, start}
 use Rattle.ee_value.specs.Value.{accrued}
 use Rattle.ee_value.specs.Open.{is_open, Close}
@@ -23,7 +24,7 @@ returns-clause-value c =
     let e : Unsettled = record { month = c.args.age } in
     rw c.ok_or.ensures.value (unit_answer rates a b c.start_unit-start.result c.rate_in-rate.result c.min-counted.result c.grown_unit.result e
     (λ x. (is_open rates a b ≡ true) × (x.month ≡ c.args.age))
-    (c.min-counted.ensures ∙ ap (λ n. min n 360) c.months-months.ensures.value) c.start_unit-start.ensures c.rate_in-rate.ensures.value (rw c.root_bounds-root.ensures.bits at c.grown_unit.ensures) (λ p. (p.0, refl)))
+    (c.min-counted.ensures ∙ ap (λ n. min n 360) c.months-months.ensures.value) c.start_unit-start.ensures c.rate_in-rate.ensures.value (rw (ap (λ (r : Bounds). r.bits) c.of-powers.ensures ∙ c.root_bounds.ensures.bits) at c.grown_unit.ensures) (λ p. (p.0, refl)))
 
 pub returns-clause-close : goal.returns-clause-close
 returns-clause-close c =
@@ -31,7 +32,7 @@ returns-clause-close c =
     let e : Unsettled = record { month = c.args.age } in
     let both = unit_answer rates a b c.start_unit-start.result c.rate_in-rate.result c.min-counted.result c.grown_unit.result e
     (λ x. Close (start rates (a / 6)) (rate_in rates (a / 6)) (a % 6) b)
-    (c.min-counted.ensures ∙ ap (λ n. min n 360) c.months-months.ensures.value) c.start_unit-start.ensures c.rate_in-rate.ensures.value (rw c.root_bounds-root.ensures.bits at c.grown_unit.ensures) (λ p. p.1) in
+    (c.min-counted.ensures ∙ ap (λ n. min n 360) c.months-months.ensures.value) c.start_unit-start.ensures c.rate_in-rate.ensures.value (rw (ap (λ (r : Bounds). r.bits) c.of-powers.ensures ∙ c.root_bounds.ensures.bits) at c.grown_unit.ensures) (λ p. p.1) in
     rw c.ok_or.ensures.value (err_part (ok_or c.grown_unit.result e) (λ n. (is_open rates a b ≡ false) × (n ≡ accrued rates a))
     (λ _. Close (start rates (a / 6)) (rate_in rates (a / 6)) (a % 6) b) both)
 
@@ -43,4 +44,4 @@ returns-clause-rounds c =
     (λ x. (is_open rates a b ≡ true) × (x.month ≡ c.args.age)) c.rate_in-rate.ensures.range
     (unit_answer rates a b c.start_unit-start.result c.rate_in-rate.result c.min-counted.result c.grown_unit.result e
     (λ x. (is_open rates a b ≡ true) × (x.month ≡ c.args.age))
-    (c.min-counted.ensures ∙ ap (λ n. min n 360) c.months-months.ensures.value) c.start_unit-start.ensures c.rate_in-rate.ensures.value (rw c.root_bounds-root.ensures.bits at c.grown_unit.ensures) (λ p. (p.0, refl))))
+    (c.min-counted.ensures ∙ ap (λ n. min n 360) c.months-months.ensures.value) c.start_unit-start.ensures c.rate_in-rate.ensures.value (rw (ap (λ (r : Bounds). r.bits) c.of-powers.ensures ∙ c.root_bounds.ensures.bits) at c.grown_unit.ensures) (λ p. (p.0, refl))))

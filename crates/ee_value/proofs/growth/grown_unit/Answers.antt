@@ -9,7 +9,7 @@ use Rattle.ee_value.proofs.growth.grown_unit.Goals.{then-months-eq0-via-then-mon
 
 pub returns-then-months-eq0 : goal.returns-then-months-eq0
 returns-then-months-eq0 c =
-    let u = c.args.unit in let r = c.args.rate in let m = c.args.months in let b = c.args.root.now.bits in
+    let u = c.args.unit in let r = c.args.rate in let m = c.args.months in let b = c.args.powers.now.bits in
     elim c.then-months-eq0.branch [
       | then-months-eq0-via-then-months-eq0 w ↦
           let e = w.if-months-eq0.true in
@@ -21,7 +21,7 @@ returns-then-months-eq0 c =
 
 pub returns-in-Some : goal.returns-in-Some
 returns-in-Some c =
-    let u = c.args.unit in let r = c.args.rate in let b = c.args.root.now.bits in let n = c.in-Some.growth in
+    let u = c.args.unit in let r = c.args.rate in let b = c.args.powers.now.bits in let n = c.in-Some.growth in
     let e = c.if-months-eq-QUARTER.true in let x = c.in-Some.ensures in (
       ap (λ k. is_unsettled u r k b) e ∙ unsettled-exact u r b x.0,
       sym (ap (λ k. grown u r k) e ∙ grown-is u r 3 ((2 * u * n + 100) / 200) (omega arith) c.hundredths-hundredths.ensures.range (Rounds-by_root u r n x.1 x.2 c.requires.some)),
@@ -29,7 +29,7 @@ returns-in-Some c =
 
 pub returns : goal.returns
 returns c =
-    let u = c.args.unit in let r = c.args.rate in let m = c.args.months in let b = c.args.root.now.bits in
+    let u = c.args.unit in let r = c.args.rate in let m = c.args.months in let b = c.args.powers.now.bits in
     let some : c.args.rate ≢ 0 = omega arith in
     let inexact : c.args.months ≡ 3 → is_exact c.args.rate ≡ false =
     elim c.if-months-eq-QUARTER.branch [ then-months-eq-QUARTER+in_default w ↦ λ three. w.in_default.ensures some | else-months-eq-QUARTER w ↦ λ three. absurd (w.if-months-eq-QUARTER.false three) ] in

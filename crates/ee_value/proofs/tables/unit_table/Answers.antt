@@ -1,42 +1,49 @@
-use Rattle.std.proofs.Common.{◌≡◌, ◌*◌, ◌++◌, ◌∷◌, [], map, sym, ap, ◌∙◌, arith, refl, inl, inr}
+use Rattle.std.proofs.Common.{◌++◌, ◌∷◌, [], map, sym, ap, ◌∙◌, arith, refl, inl, inr, subst}
 use Rattle.std.specs.List.{range_with_len}
 use Rattle.std.proofs.lemmas.Bool.{cases_lt}
 use Rattle.std.proofs.lemmas.List.FromFn.{map-range_with_len_more}
-use Rattle.ee_value.specs.Chain.{start}
+use Rattle.ee_roots.specs.Roots.{Bounds, IsLow, IsHigh}
+use Rattle.ee_value.specs.Chain.{rate_in}
 use Rattle.ee_value.specs.Value.{accrued}
-use Rattle.ee_value.proofs.Starts.{start-none}
+use Rattle.ee_value.proofs.Starts.{start-none, rate-original, rate-extended}
 use Rattle.ee_value.proofs.OpenAges.{open-past}
 use Rattle.ee_value.proofs.FirstOpen.{first_open-None}
 use Rattle.ee_value.proofs.Accruals.{accrued-start}
 use Rattle.ee_value.proofs.tables.unit_table.Goals as goal
 
-pub loop-half_year-init : goal.loop-half_year-init
-loop-half_year-init c = record {
-  begun = sym (start-none c.args.rates);
-  filled = c.in_ok-units.ensures.items;
-  at_bits = c.root_bounds-root.ensures.bits;
-  of_low = rw c.rate_in.ensures.value at c.root_bounds-root.ensures.low;
-  of_high = rw c.rate_in.ensures.value at c.root_bounds-root.ensures.high;
-  settled = λ a h. absurd (omega (arith, h));
-}
+pub push_half_years-requires-clause-begun : goal.push_half_years-requires-clause-begun
+push_half_years-requires-clause-begun c = sym (start-none c.args.rates)
 
-pub push_half_year-requires-clause-of_low : goal.push_half_year-requires-clause-of_low
-push_half_year-requires-clause-of_low c =
-    rw c.root_in-root.ensures.bits c.root_in-root.ensures.low
+pub push_half_years-requires-clause-of_low : goal.push_half_years-requires-clause-of_low
+push_half_years-requires-clause-of_low c = λ k _ before.
+    subst (λ (s : Bounds). IsLow s.bits (rate_in c.args.rates k) s.low) (sym c.of-fixed.ensures)
+    (subst (λ r. IsLow c.root_bounds.result.bits r c.root_bounds.result.low) (c.rate_in.ensures.value ∙ rate-original c.args.rates 0 (omega arith) ∙ sym (rate-original c.args.rates k before))
+    (rw c.root_bounds.ensures.bits c.root_bounds.ensures.low))
 
-pub push_half_year-requires-clause-of_high : goal.push_half_year-requires-clause-of_high
-push_half_year-requires-clause-of_high c =
-    rw c.root_in-root.ensures.bits c.root_in-root.ensures.high
+pub push_half_years-requires-clause-of_high : goal.push_half_years-requires-clause-of_high
+push_half_years-requires-clause-of_high c = λ k _ before.
+    subst (λ (s : Bounds). IsHigh s.bits (rate_in c.args.rates k) s.high) (sym c.of-fixed.ensures)
+    (subst (λ r. IsHigh c.root_bounds.result.bits r c.root_bounds.result.high) (c.rate_in.ensures.value ∙ rate-original c.args.rates 0 (omega arith) ∙ sym (rate-original c.args.rates k before))
+    (rw c.root_bounds.ensures.bits c.root_bounds.ensures.high))
+
+pub push_half_years-requires-2-clause-of_low : goal.push_half_years-requires-2-clause-of_low
+push_half_years-requires-2-clause-of_low c = λ k after _.
+    subst (λ r. IsLow c.powers_after-extension.result.bits r c.powers_after-extension.result.low) (rate-extended c.args.rates 40 (omega arith) ∙ sym (rate-extended c.args.rates k after))
+    (rw c.powers_after-extension.ensures.bits c.powers_after-extension.ensures.low)
+
+pub push_half_years-requires-2-clause-of_high : goal.push_half_years-requires-2-clause-of_high
+push_half_years-requires-2-clause-of_high c = λ k after _.
+    subst (λ r. IsHigh c.powers_after-extension.result.bits r c.powers_after-extension.result.high) (rate-extended c.args.rates 40 (omega arith) ∙ sym (rate-extended c.args.rates k after))
+    (rw c.powers_after-extension.ensures.bits c.powers_after-extension.ensures.high)
 
 pub invariant_of-result : goal.invariant_of-result
 invariant_of-result c =
     let rates = c.args.rates in
-    let small = c.rate_in.ensures.range in
-    let e : c.loop-half_year.half_year ≡ 60 = omega arith in (
+    let small = c.rate_in.ensures.range in (
       c.in_ok-push.ensures.items
-          ∙ ap (λ xs. xs ++ c.loop-half_year.unit ∷ []) (c.loop-half_year.invariant.filled ∙ ap (λ n. map (accrued rates) (range_with_len 0 (6 * n))) e)
+          ∙ ap (λ xs. xs ++ c.in_ok-unit-2.unit ∷ []) c.in_ok-unit-2.ensures.1
           ∙ ap (λ x. map (accrued rates) (range_with_len 0 360) ++ x ∷ [])
-          (c.loop-half_year.invariant.begun ∙ ap (λ n. start rates n) e ∙ sym (accrued-start rates 60 small (omega arith)))
+          (c.in_ok-unit-2.ensures.0 ∙ sym (accrued-start rates 60 small (omega arith)))
           ∙ sym (map-range_with_len_more (accrued rates) 0 360 360 (omega arith)),
       small,
     )
@@ -44,7 +51,7 @@ invariant_of-result c =
 pub returns-clause-value : goal.returns-clause-value
 returns-clause-value c = (
   λ a. elim (cases_lt a 360) [
-    | inl lt ↦ c.loop-half_year.invariant.settled a (omega arith)
+    | inl lt ↦ rw (sym (c.powers_after-extension.ensures.bits ∙ ap (λ (s : Bounds). s.bits) c.of-fixed.ensures ∙ c.root_bounds.ensures.bits)) (c.in_ok-unit-2.ensures.2 a lt)
     | inr le ↦ open-past c.args.rates a c.args.bits le
   ],
   refl,
