@@ -54,8 +54,10 @@ static void make(long bonds) {
         "CREATE TABLE paid (ticket INTEGER NOT NULL, place INTEGER NOT NULL, letter INTEGER NOT NULL, number INTEGER NOT NULL,"
         " cents INTEGER NOT NULL, PRIMARY KEY (ticket, place), UNIQUE (letter, number)) STRICT;"
         "CREATE TABLE batches (day INTEGER NOT NULL PRIMARY KEY, tickets INTEGER NOT NULL, bonds INTEGER NOT NULL, total INTEGER NOT NULL) STRICT;"
-        "CREATE TABLE replies (number INTEGER NOT NULL PRIMARY KEY, act TEXT NOT NULL, reply TEXT NOT NULL) STRICT;"
-        "INSERT INTO desk VALUES (1, 1, 16559, NULL); INSERT INTO rates VALUES (60, 350)");
+        "CREATE TABLE extensions (period INTEGER NOT NULL PRIMARY KEY, rate INTEGER NOT NULL) STRICT;"
+        "CREATE TABLE answers (desk INTEGER NOT NULL, number INTEGER NOT NULL, act TEXT NOT NULL, reply TEXT NOT NULL,"
+        " PRIMARY KEY (desk, number)) STRICT;"
+        "INSERT INTO desk VALUES (1, 2, 16559, NULL); INSERT INTO rates VALUES (60, 350)");
     sqlite3_stmt *add = prepare("INSERT INTO bonds VALUES (1, ?1, 50, 60, ?2, NULL, NULL)");
     for (long i = 1; i <= bonds; i++) WITH(add, i, i / 100 + 1);
     sqlite3_finalize(add);
@@ -68,16 +70,17 @@ int main(int count, char **words) {
     if (sqlite3_open(words[1], &db)) fail("open");
     make(bonds);
     sqlite3_stmt *begin = prepare("BEGIN"), *commit = prepare("COMMIT");
-    sqlite3_stmt *find_reply = prepare("SELECT act, reply FROM replies WHERE number = ?1");
+    sqlite3_stmt *find_answer = prepare("SELECT act, reply FROM answers WHERE desk = ?1 AND number = ?2");
     sqlite3_stmt *find_desk = prepare("SELECT version, day, last_day FROM desk WHERE id = ?1");
     sqlite3_stmt *find_bond = prepare("SELECT denom, issued, owner, coowner, ticket FROM bonds WHERE letter = ?1 AND number = ?2");
     sqlite3_stmt *find_rate = prepare("SELECT rate FROM rates WHERE period = ?1");
+    sqlite3_stmt *find_extension = prepare("SELECT rate FROM extensions WHERE period = ?1");
     sqlite3_stmt *last = prepare("SELECT ticket FROM tickets ORDER BY ticket DESC LIMIT 1");
     sqlite3_stmt *first = prepare("SELECT ticket FROM tickets WHERE day = ?1 ORDER BY ticket LIMIT 1");
     sqlite3_stmt *add_ticket = prepare("INSERT INTO tickets (ticket, day, payee, bonds, total) VALUES (?1, ?2, ?3, ?4, ?5)");
     sqlite3_stmt *add_paid = prepare("INSERT INTO paid (ticket, place, letter, number, cents) VALUES (?1, ?2, ?3, ?4, ?5)");
     sqlite3_stmt *mark = prepare("UPDATE bonds SET ticket = ?3 WHERE letter = ?1 AND number = ?2 RETURNING denom, issued, owner, coowner");
-    sqlite3_stmt *add_reply = prepare("INSERT INTO replies (number, act, reply) VALUES (?1, ?2, ?3)");
+    sqlite3_stmt *add_answer = prepare("INSERT INTO answers (desk, number, act, reply) VALUES (?1, ?2, ?3, ?4)");
     double start = now();
     for (long i = 1; i <= tickets; i++) {
         long serial = (i - 1) * (bonds / tickets) + 1, day = 16559 + (i - 1) / a_day;
@@ -85,18 +88,19 @@ int main(int count, char **words) {
         sprintf(act, "{\"act\":\"redeem\",\"day\":\"2015-05-04\",\"payee\":7,\"serials\":[\"A%ldEE\"]}", serial);
         sprintf(reply, "{\"day\":\"2015-05-04\",\"lines\":[{\"cents\":\"29.74\",\"serial\":\"A%ldEE\"}],\"payee\":7,\"ticket\":%ld,\"total\":\"29.74\"}", serial, i);
         with(begin, 0, 0);
-        WITH(find_reply, 1000 + i);
+        WITH(find_answer, 0, 1000 + i);
         WITH(find_desk, 1);
         WITH(find_bond, 1, serial);
         WITH(find_rate, 60);
+        WITH(find_extension, 60);
         with(last, 0, 0);
         WITH(first, day);
         WITH(add_ticket, i, day, 7, 1, 2974);
         WITH(add_paid, i, 1, 1, serial, 2974);
         WITH(mark, 1, serial, i);
-        sqlite3_bind_text(add_reply, 2, act, -1, SQLITE_STATIC);
-        sqlite3_bind_text(add_reply, 3, reply, -1, SQLITE_STATIC);
-        WITH(add_reply, 1000 + i);
+        sqlite3_bind_text(add_answer, 3, act, -1, SQLITE_STATIC);
+        sqlite3_bind_text(add_answer, 4, reply, -1, SQLITE_STATIC);
+        WITH(add_answer, 0, 1000 + i);
         with(commit, 0, 0);
     }
     double took = now() - start;

@@ -2,7 +2,7 @@
 
 use anyhow::{Context, Result};
 use ee_calculator::Bond;
-use ee_desk_acts::{Act, Number, RateRow, Reply, Request, Rows, Unserved};
+use ee_desk_acts::{Act, Desk, Number, RateRow, Reply, Request, Rows, Unserved};
 use ee_units::{Customer, Day, Rate, Serial};
 use ee_value::Rates;
 use std::alloc::Global;
@@ -18,10 +18,11 @@ pub struct Size {
     pub a_day: u64,
 }
 
-/// The request of an act under a number.
+/// The request of an act under a number of the first desk.
 pub fn ask(number: u64, act: Act) -> Result<Request> {
+    let desk = Desk::first();
     let number = Number::new(number).context("number")?;
-    Ok(Request { number, act })
+    Ok(Request { desk, number, act })
 }
 
 /// A hundred bonds belong to one customer.

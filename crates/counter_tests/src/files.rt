@@ -3,7 +3,7 @@
 use crate::calls::reply_to;
 use crate::devices::Source;
 use ee_counter::import_rates;
-use ee_desk_acts::Number;
+use ee_desk_acts::{Desk, Number};
 use ee_keeper::ListKeeper;
 use std::alloc::Global;
 use std::test::Fail;
@@ -14,7 +14,7 @@ const RATES: &str = "from,rate\n2010-05,2.00\n2010-11,3.50%\n";
 fn fault_told(alloc: Global, keeper: &mut ListKeeper, fails: usize) -> Result<String, Fail> {
     let number = Number::new(1).ok_or("number")?;
     let mut reader = Source::failing(RATES.as_bytes(), 1, fails);
-    let reply = import_rates(alloc, keeper, number, &mut reader);
+    let reply = import_rates(alloc, keeper, Desk::first(), number, &mut reader);
     Ok(reply.err().ok_or("no fault")?.to_string(alloc)?)
 }
 

@@ -7,6 +7,8 @@ mod books;
 #[cfg(test)]
 mod calls;
 #[cfg(test)]
+mod desks;
+#[cfg(test)]
 mod devices;
 #[cfg(test)]
 mod files;

@@ -11,8 +11,11 @@ value 50 2010-05 05/2015 3.50 => value of 50 issued 2010-05 in 2015-05 at 3.50%
 value 50 2010-05 2030-11 3.40 4 => value of 50 issued 2010-05 in 2030-11 at 3.40%, then 4.00%
 value 50 2010-05 2030-11 3.50 3.50 => value of 50 issued 2010-05 in 2030-11 at 3.50%, then 3.50%
 apply --db a.db => apply to a.db
-import rates r.csv --db a.db --number 9223372036854775807 => import of rates r.csv to a.db under 9223372036854775807
-import --number 1 --db a.db inventory i.csv => import of inventory i.csv to a.db under 1
+import rates r.csv --db a.db --number 9223372036854775807 => import of rates r.csv to a.db under 9223372036854775807 of desk 0
+import --number 1 --db a.db inventory i.csv => import of inventory i.csv to a.db under 1 of desk 0
+import rates r.csv --db a.db --number 9223372036854775807 --desk 999 => import of rates r.csv to a.db under 9223372036854775807 of desk 999
+import --desk=007 inventory i.csv --db a.db --number 1 => import of inventory i.csv to a.db under 1 of desk 7
+import rates r.csv --desk 0 --db a.db --number 1 => import of rates r.csv to a.db under 1 of desk 0
 export 7 --db a.db => export of 7 from a.db
 sheet 007 2012-02 --db=a.db => sheet of 7 in 2012-02 from a.db
 serve --db a.db --port 65535 --connections 1000 => serve a.db on 65535, 1000 times
@@ -36,6 +39,16 @@ apply => a bad line
 import rats r.csv --db a.db --number 1 => a bad line
 import rates r.csv --db a.db --number 0 => a bad line
 import rates r.csv --db a.db --number 9223372036854775808 => a bad line
+import rates r.csv --db a.db --number 1 --desk 1000 => bad desk
+import rates r.csv --db a.db --number 1 --desk 0007 => bad desk
+import rates r.csv --db a.db --number 1 --desk x => bad desk
+import rates r.csv --db a.db --number 1 --desk= => bad desk
+import rates r.csv --db a.db --number 1 --desk => a bad line
+import rates r.csv --db a.db --number 1 --desk 1 --desk 1 => a bad line
+import rates r.csv --db a.db --number 0 --desk x => a bad line
+import rats r.csv --db a.db --number 1 --desk x => a bad line
+import rates r.csv --db a.db --desk 1 => a bad line
+export 7 --db a.db --desk 1 => a bad line
 export 0 --db a.db => bad customer
 sheet 0 x --db a.db => bad customer
 sheet 7 x --db a.db => bad month
@@ -68,10 +81,10 @@ fn command_told(alloc: Global, command: &Command) -> Result<String, Fail> {
             format!(in alloc; "value of {denom} issued {issued} in {month} at {rates}")?
         }
         Command::Apply(store) => format!(in alloc; "apply to {store}")?,
-        Command::Import(kind, file, store, number) => {
+        Command::Import(kind, file, store, desk, number) => {
             let kind = kind_told(kind);
-            let number = number.value();
-            format!(in alloc; "import of {kind} {file} to {store} under {number}")?
+            let (desk, number) = (desk.number(), number.value());
+            format!(in alloc; "import of {kind} {file} to {store} under {number} of desk {desk}")?
         }
         Command::Export(customer, store) => format!(in alloc; "export of {customer} from {store}")?,
         Command::Sheet(customer, month, store) => format!(in alloc;

@@ -13,14 +13,14 @@ use crate::faults::{Outcome, RunFault};
 use crate::printing::print;
 use ee_cli_commands::FileKind;
 use ee_counter::{ExportFault, ImportFault, export_inventory, import_inventory, import_rates};
-use ee_desk_acts::{Number, Reply};
+use ee_desk_acts::{Desk, Number, Reply};
 use ee_desk_texts::reply_text;
 use ee_keeper::Keeper;
 use ee_units::Customer;
 use std::alloc::{AllocError, Global};
 use std::io::{Read, Write};
 
-/// Imports a file of that kind as one request under the number, and prints the reply's text on a line; it
+/// Imports a file of that kind as one request under the desk's number, and prints the reply's text on a line; it
 /// is refused where the reply is a refusal. Where the file has a fault nothing was delivered. Where the
 /// output failed, or memory was refused to the reply's text, the request was delivered: the same line
 /// gives its reply again.
@@ -28,16 +28,17 @@ pub fn import_into<K: Keeper, R: Read, W: Write>(
     alloc: Global,
     keeper: &mut K,
     kind: FileKind,
+    desk: Desk,
     number: Number,
     file: &mut R,
     output: &mut W,
 ) -> Result<Outcome, RunFault>
     ensures clean { K.is_clean keeper.new → K.is_clean keeper.old }
     ensures imports { K.is_clean keeper.new → (c : Content) → K.has keeper.old c
-        → ImportsInto kind (R.remaining file.old) (W.contents output.old) (W.contents output.new) number c result (K.has keeper.new) }
+        → ImportsInto kind (R.remaining file.old) (W.contents output.old) (W.contents output.new) (desk, number) c result (K.has keeper.new) }
     ensures failed { TellsFailureOnlyIf K.may_fail result }
 {
-    let answer = import_file(alloc, keeper, kind, number, file);
+    let answer = import_file(alloc, keeper, kind, desk, number, file);
     tell(alloc, answer, output)
 }
 
@@ -45,17 +46,18 @@ fn import_file<K: Keeper, R: Read>(
     alloc: Global,
     keeper: &mut K,
     kind: FileKind,
+    desk: Desk,
     number: Number,
     file: &mut R,
 ) -> Result<Reply, ImportFault>
     ensures clean { K.is_clean keeper.new → K.is_clean keeper.old }
     ensures imports { K.is_clean keeper.new → (c : Content) → K.has keeper.old c
-        → ImportsFile kind (R.remaining file.old) number c result (K.has keeper.new) }
+        → ImportsFile kind (R.remaining file.old) (desk, number) c result (K.has keeper.new) }
     ensures failed { IfErr result (λ fault. fault ≡ ImportFault.Unserved StoreFailed → K.may_fail) }
 {
     match kind {
-        FileKind::Rates => import_rates(alloc, keeper, number, file),
-        FileKind::Inventory => import_inventory(alloc, keeper, number, file),
+        FileKind::Rates => import_rates(alloc, keeper, desk, number, file),
+        FileKind::Inventory => import_inventory(alloc, keeper, desk, number, file),
     }
 }
 

@@ -14,7 +14,7 @@ use Rattle.ee_cli_commands.specs.declared.commands.CommandFault.TheVariants as f
 abbrev pub view_of : Command → Asked
 view_of (command.Value denom issued month rate extension) = value denom issued month rate extension
 view_of (command.Apply db) = apply db.now
-view_of (command.Import kind file db number) = imports kind file.now db.now number
+view_of (command.Import kind file db desk number) = imports kind file.now db.now desk number
 view_of (command.Export customer db) = export customer db.now
 view_of (command.Sheet customer month db) = sheet customer month db.now
 view_of (command.Serve db port connections) = serve db.now port connections

@@ -10,6 +10,7 @@ use Rattle.clap.specs.declared.builder.ValueParser.TheVariants as parser
 use Rattle.ee_units.specs.Spelling.{rate_of, month_of, issue_of, customer_of}
 use Rattle.ee_units.specs.Denoms.{denom_of}
 use Rattle.ee_units.specs.declared.denoms.Denom.{Denom}
+use Rattle.ee_desk_acts.specs.Desks.{desk_of}
 use Rattle.ee_cli_commands.specs.declared.commands.FileKind.{FileKind}
 use Rattle.ee_cli_commands.specs.declared.commands.FileKind.TheVariants as kind
 
@@ -25,7 +26,11 @@ optional_positional id = record (positional id) { required = false }
 abbrev pub option : Text → Rule
 option id = record (new_rule id) { long = Some id; required = true }
 
--- the same, of a whole number from 1 to this one
+-- the same, which may be left out
+abbrev pub optional_option : Text → Rule
+optional_option id = record (option id) { required = false }
+
+-- `--id NUMBER`, which has to be there, of a whole number from 1 to this one
 abbrev pub number_option : Text → ℕ → Rule
 number_option id most = record (option id) { parser = Some (parser.Unsigned 1 most) }
 
@@ -59,11 +64,11 @@ value_row = with_rule (with_rule (with_rule (with_rule (with_rule (new_app (code
 abbrev pub apply_row : App
 apply_row = with_rule (new_app (codes "apply")) (option (codes "db"))
 
--- import KIND FILE --db DB --number N
+-- import KIND FILE --db DB --number N [--desk K]
 abbrev pub import_row : Bor (List (Bor Text)) → App
-import_row kinds = with_rule (with_rule (with_rule (with_rule (new_app (codes "import"))
+import_row kinds = with_rule (with_rule (with_rule (with_rule (with_rule (new_app (codes "import"))
     (record (positional (codes "kind")) { parser = Some (parser.Names kinds) }))
-    (positional (codes "file"))) (option (codes "db"))) (number_option (codes "number") most_number)
+    (positional (codes "file"))) (option (codes "db"))) (number_option (codes "number") most_number)) (optional_option (codes "desk"))
 
 -- export CUSTOMER --db DB
 abbrev pub export_row : App
@@ -94,7 +99,7 @@ program kinds = with_subcommand (with_subcommand (with_subcommand (with_subcomma
 pub data Asked : Type 0 where
   value : Denom → ℕ → ℕ → ℕ → Option ℕ → Asked
   apply : Text → Asked
-  imports : FileKind → Text → Text → ℕ → Asked
+  imports : FileKind → Text → Text → ℕ → ℕ → Asked
   export : ℕ → Text → Asked
   sheet : ℕ → ℕ → Text → Asked
   serve : Text → ℕ → ℕ → Asked
@@ -111,6 +116,10 @@ spelled name read rows = ok_or (option_and_then read (first_of name rows)) name
 -- the same, or none where there is no such word
 abbrev pub spelled_or_none : {A : Type 0} → Text → (Text → Option A) → List Row → Result (Option A) Text
 spelled_or_none name read rows = option_map_or (λ word. ok_or (option_map Some (read word)) name) (first_of name rows) (Ok None)
+
+-- the same, or this one where there is no such word
+abbrev pub spelled_or : {A : Type 0} → A → Text → (Text → Option A) → List Row → Result A Text
+spelled_or otherwise name read rows = option_map_or (λ word. ok_or (read word) name) (first_of name rows) (Ok otherwise)
 
 abbrev pub text_of : Text → Option Text
 text_of word = Some word
@@ -150,7 +159,8 @@ import_asked rows = do
   file ← spelled (codes "file") text_of rows
   db ← spelled (codes "db") text_of rows
   number ← numbered (codes "number") most_number rows
-  Ok (imports kind file db number)
+  desk ← spelled_or 0 (codes "desk") desk_of rows
+  Ok (imports kind file db desk number)
 
 unfoldable pub export_asked : List Row → Result Asked Text
 export_asked rows = do

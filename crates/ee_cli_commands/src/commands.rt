@@ -9,7 +9,7 @@ use crate::lines::{apply_line, export_line, import_line, serve_line, sheet_line,
 use crate::rows::program;
 use clap::error::ErrorKind;
 use clap::{ArgMatches, Error};
-use ee_desk_acts::Number;
+use ee_desk_acts::{Desk, Number};
 use ee_units::{Customer, Denom, IssueMonth, Month, Rate};
 use std::alloc::{AllocError, Global};
 use std::convert::AsStr;
@@ -31,8 +31,9 @@ pub enum Command<'a> {
     Value(Denom, IssueMonth, Month, Rate, Option<Rate>),
     /// To serve the messages of standard input over the store of that path.
     Apply(&'a str),
-    /// To import a file of that kind and path into the store of that path, under that request number.
-    Import(FileKind, &'a str, &'a str, Number),
+    /// To import a file of that kind and path into the store of that path, under that number of that desk:
+    /// 0 where the line doesn't name one.
+    Import(FileKind, &'a str, &'a str, Desk, Number),
     /// The inventory of a customer as CSV, from the store of that path.
     Export(Customer, &'a str),
     /// The sheet of a customer's bonds in a month, from the store of that path.
@@ -69,9 +70,9 @@ impl From<AllocError> for CommandFault {
 }
 
 /// What the words ask for, the first of which is the program's name. A request number is at least 1
-/// and below 2^63, a port from 1 to 65535, a count of connections from 1 to 1,000. That count may be left
-/// out: the command then serves `u64::MAX` connections, as many as come, until it is stopped. Help and the
-/// version are asked for by `--help` or `-h`, after a command's name too, and by `--version` or `-V`.
+/// and below 2^63, a desk from 0 to 999, and 0 where it is left out, a port from 1 to 65535, a count of
+/// connections from 1 to 1,000. That count may be left out: the command then serves `u64::MAX`
+/// connections, as many as come, until it is stopped. Help and the version are asked for by `--help` or `-h`, after a command's name too, and by `--version` or `-V`.
 pub fn read_command<'a, S: AsStr>(
     alloc: Global,
     words: &'a [S],

@@ -6,7 +6,8 @@ ghost use Rattle.ee_cli_commands.specs.Answer.{Gives, view_of};
 
 use crate::commands::{Command, CommandFault};
 use crate::words::{
-    customer, denom, issue, kind, month, number_or, port, rate, rate_or_none, request_number, text,
+    customer, denom, desk, issue, kind, month, number_or, port, rate, rate_or_none, request_number,
+    text,
 };
 use clap::ArgMatches;
 
@@ -41,12 +42,11 @@ pub fn apply_line<'a>(matches: &ArgMatches<'a>) -> Result<Command<'a>, CommandFa
 pub fn import_line<'a>(matches: &ArgMatches<'a>) -> Result<Command<'a>, CommandFault>
     ensures { Gives view_of result (import_asked (rows_of (found_of matches.now))) }
 {
-    Ok(Command::Import(
-        kind(matches, "kind")?,
-        text(matches, "file")?,
-        text(matches, "db")?,
-        request_number(matches, "number")?,
-    ))
+    let kind = kind(matches, "kind")?;
+    let file = text(matches, "file")?;
+    let store = text(matches, "db")?;
+    let number = request_number(matches, "number")?;
+    Ok(Command::Import(kind, file, store, desk(matches, "desk")?, number))
 }
 
 /// The command of the row `export`.

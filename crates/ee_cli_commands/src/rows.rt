@@ -36,7 +36,8 @@ Examples:
 const IMPORT_EXAMPLES: &str = "\
 Examples:
   ee_cli import rates samples/rates.csv --db day.db --number 1
-  ee_cli import inventory samples/inventory.csv --db day.db --number 2";
+  ee_cli import inventory samples/inventory.csv --db day.db --number 2
+  ee_cli import inventory samples/inventory.csv --db day.db --number 1 --desk 7";
 
 static KINDS: [&str; 2] = ["rates", "inventory"];
 
@@ -124,7 +125,8 @@ fn import_command<'a>(alloc: Global) -> Result<Command<'a>, AllocError>
     let row = with(row, kind(alloc))?;
     let row = with(row, positional(alloc, "file", "The CSV file"))?;
     let row = with(row, store(alloc))?;
-    with(row, request_number(alloc))
+    let row = with(row, request_number(alloc))?;
+    with(row, desk(alloc))
 }
 
 fn export_command<'a>(alloc: Global) -> Result<Command<'a>, AllocError>
@@ -249,9 +251,21 @@ fn request_number<'a>(alloc: Global) -> Arg<'a>
     option(
         alloc,
         "number",
-        "Number of the request; each number acts once",
+        "Number of the request; each number of a desk acts once",
     )
     .value_parser(value_parser!(u64).range(1..=9_223_372_036_854_775_807))
+}
+
+fn desk<'a>(alloc: Global) -> Arg<'a>
+    ensures rule { rule_of result ≡ is.optional_option (codes "desk") }
+    ensures local { result.global ≡ false }
+{
+    option(
+        alloc,
+        "desk",
+        "Desk of the request, from 0 to 999; 0 where it is left out",
+    )
+    .required(false)
 }
 
 fn port<'a>(alloc: Global) -> Arg<'a>

@@ -4,12 +4,13 @@ ghost use Rattle.std.specs.Prelude.{◌≡◌, ◌≤◌, IfOk, option_and_then,
 ghost use Rattle.clap.specs.Words.{first_of, found_of, one_of, rows_of};
 ghost use Rattle.ee_units.specs.Denoms.{denom_of};
 ghost use Rattle.ee_units.specs.Spelling.{customer_of, in_range, issue_of, month_of, rate_of};
-ghost use Rattle.ee_cli_commands.specs.CommandLine.{kind_of_file, most_number, most_port, number_word, numbered, numbered_or, spelled, spelled_or_none, text_of};
+ghost use Rattle.ee_desk_acts.specs.Desks.{desk_of};
+ghost use Rattle.ee_cli_commands.specs.CommandLine.{kind_of_file, most_number, most_port, number_word, numbered, numbered_or, spelled, spelled_or, spelled_or_none, text_of};
 ghost use Rattle.ee_cli_commands.specs.Answer.{Gives};
 
 use crate::commands::{CommandFault, FileKind};
 use clap::ArgMatches;
-use ee_desk_acts::Number;
+use ee_desk_acts::{Desk, Number, read_desk};
 use ee_units::{
     Customer, Denom, IssueMonth, Month, Rate, read_customer, read_denom, read_issue, read_month,
     read_rate,
@@ -144,6 +145,16 @@ pub fn request_number(matches: &ArgMatches, name: &'static str) -> Result<Number
     match Number::new(number(matches, name, MOST_NUMBER)?) {
         Some(number) => Ok(number),
         None => Err(CommandFault::Argument(name)),
+    }
+}
+
+/// A desk, or the first where there is no such word.
+pub fn desk(matches: &ArgMatches, name: &'static str) -> Result<Desk, CommandFault>
+    ensures { Gives (λ v. v) result (spelled_or 0 name.now desk_of (rows_of (found_of matches.now))) }
+{
+    match word(matches, name) {
+        Some(word) => read_desk(word).ok_or(CommandFault::Argument(name)),
+        None => Ok(Desk::first()),
     }
 }
 

@@ -1,6 +1,6 @@
 -- How a store that isn't opened is told.
-use Rattle.ee_store_opening.specs.declared.faults.OpenFault.{OpenFault}
-use Rattle.ee_store_opening.specs.declared.faults.OpenFault.TheVariants as opening
+use Rattle.ee_store_making.specs.declared.faults.OpenFault.{OpenFault}
+use Rattle.ee_store_making.specs.declared.faults.OpenFault.TheVariants as opening
 use Rattle.ee_cli_actions.specs.declared.faults.StoreFault.TheVariants as store
 use Rattle.ee_cli_actions.specs.declared.faults.RunFault.{RunFault}
 use Rattle.ee_cli_actions.specs.declared.faults.RunFault.TheVariants as fault

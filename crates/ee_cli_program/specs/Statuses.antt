@@ -13,14 +13,14 @@ use Rattle.ee_cli_commands.specs.Answer.{IsAsked, IsRefused, AsksForHelp, AsksFo
 abbrev pub Carries : Option (List ℕ) → Option (List ℕ) → Asked → Result Outcome RunFault → Type 0
 Carries old new (value denom issued month rate extension) result = PrintsValue denom issued month (rates_with rate extension) old new result
 Carries old new (apply db) result = ⊤
-Carries old new (imports kind file db number) result = ⊤
+Carries old new (imports kind file db desk number) result = ⊤
 Carries old new (export customer db) result = IfOk result (λ ended. ended ≡ outcome.Done)
 Carries old new (sheet customer month db) result = IfOk result (λ ended. ended ≡ outcome.Done)
 Carries old new (serve db port connections) result = IfOk result (λ ended. ended ≡ outcome.Done)
 
 -- the versions of the program and of the stores that it makes
 abbrev pub version_line : List ℕ
-version_line = codes "ee_cli 1.0.0, store version 1" ++ 10 ∷ []
+version_line = codes "ee_cli 1.0.0, store version 2" ++ 10 ∷ []
 
 -- the words ask for help, or for the version
 abbrev pub AsksToShow : List Text → Type 0

@@ -41,8 +41,8 @@ abbrev pub CarriesOver : {S R : Type 0} → (S → Content → Type 0) → (S �
 CarriesOver has rests contents input left old new (value denom issued month rate extension) result = ⊤
 CarriesOver has rests contents input left old new (apply db) result =
     Over rests old new result (λ store ended. Applies input left old new (contents db) ended (has store))
-CarriesOver has rests contents input left old new (imports kind file db number) result =
-    Over rests old new result (λ store ended. ImportsInto kind None old new number (contents db) ended (has store))
+CarriesOver has rests contents input left old new (imports kind file db desk number) result =
+    Over rests old new result (λ store ended. ImportsInto kind None old new (desk, number) (contents db) ended (has store))
 CarriesOver has rests contents input left old new (export customer db) result =
     Over rests old new result (λ store ended. ExportsFrom old new customer (contents db) ended (has store))
 CarriesOver has rests contents input left old new (sheet customer month db) result =

@@ -13,7 +13,7 @@ use crate::opening::{import_path, serve_port};
 use crate::stores::Stores;
 use ee_cli_actions::{Outcome, RunFault, apply_to, export_from, print_value, sheet_of};
 use ee_cli_commands::{Command, FileKind};
-use ee_desk_acts::Number;
+use ee_desk_acts::{Desk, Number};
 use ee_units::{Customer, Month};
 use ee_value::Rates;
 use std::io::{Read, Write};
@@ -37,8 +37,8 @@ pub fn carry_out<O: Stores, R: Read, W: Write>(
             print_value(rt.alloc(), denom, issued, month, rates, output)
         }
         Command::Apply(db) => apply(rt, stores, db, input, output),
-        Command::Import(kind, file, db, number) => {
-            import(rt, stores, kind, file, db, number, output)
+        Command::Import(kind, file, db, desk, number) => {
+            import(rt, stores, kind, file, db, desk, number, output)
         }
         Command::Export(customer, db) => export(rt, stores, customer, db, output),
         Command::Sheet(customer, month, db) => sheet(stores, customer, month, db, output),
@@ -72,16 +72,17 @@ fn import<O: Stores, W: Write>(
     kind: FileKind,
     file: &str,
     db: &str,
+    desk: Desk,
     number: Number,
     output: &mut W,
 ) -> Result<Outcome, RunFault>
     ensures { AreClean O.Store.is_clean → (c : Content) → O.holds stores.now db.now c
         → Over O.rests (W.contents output.old) (W.contents output.new) result
-        (λ left ended. ImportsInto kind None (W.contents output.old) (W.contents output.new) number c ended (O.Store.has left)) }
+        (λ left ended. ImportsInto kind None (W.contents output.old) (W.contents output.new) (desk, number) c ended (O.Store.has left)) }
 {
     match stores.open(db) {
         Ok(mut store) => {
-            let ended = import_path(rt, &mut store, kind, file, number, output);
+            let ended = import_path(rt, &mut store, kind, file, desk, number, output);
             end(stores, store, ended)
         }
         Err(fault) => Err(fault),

@@ -8,7 +8,7 @@ ghost use Rattle.ee_cli_program.specs.Stores.{Tries};
 
 use ee_cli_actions::{Outcome, RunFault, import_into, serve_on};
 use ee_cli_commands::FileKind;
-use ee_desk_acts::Number;
+use ee_desk_acts::{Desk, Number};
 use ee_keeper::Keeper;
 use std::fs;
 use std::io::Write;
@@ -21,15 +21,16 @@ pub fn import_path<K: Keeper, W: Write>(
     keeper: &mut K,
     kind: FileKind,
     path: &str,
+    desk: Desk,
     number: Number,
     output: &mut W,
 ) -> Result<Outcome, RunFault>
     ensures { K.is_clean keeper.new → (c : Content) → K.has keeper.old c
         → Tries (W.contents output.old) (W.contents output.new) result
-        (ImportsInto kind None (W.contents output.old) (W.contents output.new) number c result (K.has keeper.new)) }
+        (ImportsInto kind None (W.contents output.old) (W.contents output.new) (desk, number) c result (K.has keeper.new)) }
 {
     match fs::open(rt, path) {
-        Ok(mut file) => import_into(rt.alloc(), keeper, kind, number, &mut file, output),
+        Ok(mut file) => import_into(rt.alloc(), keeper, kind, desk, number, &mut file, output),
         Err(_) => Err(RunFault::Device),
     }
 }

@@ -208,7 +208,7 @@ fn help_is_no_fault(rt: HostRuntime) -> Result<(), Fail> {
 #[test]
 fn versions(rt: HostRuntime) -> Result<(), Fail> {
     for line in ["--version", "-V"] {
-        assert_prints(&rt, &run(&rt, line, "")?, "ee_cli 1.0.0, store version 1\n");
+        assert_prints(&rt, &run(&rt, line, "")?, "ee_cli 1.0.0, store version 2\n");
     }
     Ok(())
 }

@@ -2,9 +2,8 @@
 use Rattle.std.specs.Prelude.{◌≡◌, ℕ, List, length, Option, Some, Result, Ok, Err, true, false}
 use Rattle.ee_device.specs.Written.{WritesFront}
 use Rattle.ee_desk_acts.specs.declared.acts.Act.{Act}
-use Rattle.ee_desk_acts.specs.declared.acts.Request.{Request}
 use Rattle.ee_desk_acts.specs.declared.replies.Reply.{Reply}
-use Rattle.ee_desk_acts.specs.Numbers.{Number}
+use Rattle.ee_desk_acts.specs.Numbers.{Number, numbered}
 use Rattle.ee_desk_acts.specs.Repeats.{Content}
 use Rattle.ee_desk_acts.specs.Queries.{bonds_of}
 use Rattle.ee_keeper.specs.Keeping.{Delivers}
@@ -24,13 +23,10 @@ Reading A = List ℕ → Result (List A) FileFault
 abbrev pub Reads : {A : Type 0} → Reading A → Option (List ℕ) → Result (List A) FileFault → Type 0
 Reads rows_of known read = (source : List ℕ) → known ≡ Some source → Gives (λ rows. rows) read (rows_of source)
 
-abbrev pub request_of : Number → Act → Request
-request_of number act = record { number = number; act = act }
-
--- the file's rows were delivered in one request under the number, or nothing was delivered
+-- the file's rows were delivered in one request under the desk and the number, or nothing was delivered
 abbrev pub Imports : {A : Type 0} → Reading A → (List A → Act) → Option (List ℕ) → Number → Content → Result Reply ImportFault → (Content → Type 0) → Type 0
 Imports {A} rows_of act_of known number c (Ok reply) Has =
-    (rows : List A) × Reads rows_of known (Ok rows) × Delivers c (request_of number (act_of rows)) (Ok reply) Has
+    (rows : List A) × Reads rows_of known (Ok rows) × Delivers c (numbered number (act_of rows)) (Ok reply) Has
 Imports rows_of act_of known number c (Err (import.File fault)) Has = Reads rows_of known (Err fault) × Has c
 Imports rows_of act_of known number c (Err (import.Unserved cause)) Has = Has c
 

@@ -9,7 +9,7 @@ ghost use Rattle.ee_files.specs.BondFile.{bonds_of_file};
 ghost use Rattle.ee_files.specs.RateFile.{rates_of_file};
 ghost use Rattle.ee_counter.specs.Filing.{Imports, Exports};
 
-use ee_desk_acts::{Act, Number, Reply, Request, Rows, Unserved};
+use ee_desk_acts::{Act, Desk, Number, Reply, Request, Rows, Unserved};
 use ee_files::{FileFault, WriteFault, read_inventory, read_rates, write_inventory};
 use ee_keeper::Keeper;
 use ee_units::Customer;
@@ -39,18 +39,19 @@ pub enum ExportFault {
     WriteFailed,
 }
 
-/// Enters the rates of a file, with the extensions that it names, under a request number, as one request:
-/// the file's rows, its first 501, or nothing. A file that was imported under the number before gets its
-/// first reply again. Of the reader at most 1,048,577 bytes are taken, one more than a file may have.
+/// Enters the rates of a file, with the extensions that it names, under a number of a desk, as one request:
+/// the file's rows, its first 501, or nothing. A file that was imported under that desk and number before gets
+/// its first reply again. Of the reader at most 1,048,577 bytes are taken, one more than a file may have.
 pub fn import_rates<K: Keeper, R: Read>(
     alloc: Global,
     keeper: &mut K,
+    desk: Desk,
     number: Number,
     reader: &mut R,
 ) -> Result<Reply, ImportFault>
     ensures clean { K.is_clean keeper.new → K.is_clean keeper.old }
     ensures imports { K.is_clean keeper.new → (c : Content) → K.has keeper.old c
-        → Imports rates_of_file act.AddRates (R.remaining reader.old) number c result (K.has keeper.new) }
+        → Imports rates_of_file act.AddRates (R.remaining reader.old) (desk, number) c result (K.has keeper.new) }
     ensures takes { (source : List ℕ) → R.remaining reader.old ≡ Some source → TakesAtMost 1048577 source (R.remaining reader.new) }
     ensures failed { IfErr result (λ fault. fault ≡ ImportFault.Unserved StoreFailed → K.may_fail) }
 {
@@ -59,6 +60,7 @@ pub fn import_rates<K: Keeper, R: Read>(
         Err(fault) => return Err(ImportFault::File(fault)),
     };
     let request = Request {
+        desk,
         number,
         act: Act::AddRates(Rows::new(rows)),
     };
@@ -68,18 +70,19 @@ pub fn import_rates<K: Keeper, R: Read>(
     }
 }
 
-/// Registers the bonds of a file under a request number, as one request: the file's rows, its first 501, or
-/// nothing. A file that was imported under the number before gets its first reply again. Of the reader
-/// at most 1,048,577 bytes are taken, one more than a file may have.
+/// Registers the bonds of a file under a number of a desk, as one request: the file's rows, its first 501, or
+/// nothing. A file that was imported under that desk and number before gets its first reply again. Of the
+/// reader at most 1,048,577 bytes are taken, one more than a file may have.
 pub fn import_inventory<K: Keeper, R: Read>(
     alloc: Global,
     keeper: &mut K,
+    desk: Desk,
     number: Number,
     reader: &mut R,
 ) -> Result<Reply, ImportFault>
     ensures clean { K.is_clean keeper.new → K.is_clean keeper.old }
     ensures imports { K.is_clean keeper.new → (c : Content) → K.has keeper.old c
-        → Imports bonds_of_file act.AddBonds (R.remaining reader.old) number c result (K.has keeper.new) }
+        → Imports bonds_of_file act.AddBonds (R.remaining reader.old) (desk, number) c result (K.has keeper.new) }
     ensures takes { (source : List ℕ) → R.remaining reader.old ≡ Some source → TakesAtMost 1048577 source (R.remaining reader.new) }
     ensures failed { IfErr result (λ fault. fault ≡ ImportFault.Unserved StoreFailed → K.may_fail) }
 {
@@ -88,6 +91,7 @@ pub fn import_inventory<K: Keeper, R: Read>(
         Err(fault) => return Err(ImportFault::File(fault)),
     };
     let request = Request {
+        desk,
         number,
         act: Act::AddBonds(Rows::new(bonds)),
     };

@@ -14,6 +14,7 @@ pub mod Sound
 pub mod Ranges
 pub mod Conserved
 pub mod Views
+pub mod Desks
 pub mod Numbers
 pub mod Repeats
 pub mod Contents

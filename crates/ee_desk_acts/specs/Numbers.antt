@@ -1,22 +1,24 @@
--- The number of a request.
-use Rattle.std.specs.Prelude.{ℕ, Bool, ◌==◌}
+-- What a request is known by: its desk, and its number there.
+use Rattle.std.specs.Prelude.{ℕ, Bool, ◌==◌, ◌&&◌}
 use Rattle.std.specs.declared.cmp.Ordering.{Ordering}
-use Rattle.std.specs.Ordering.{nat_cmp}
+use Rattle.std.specs.Ordering.{nat_cmp, then_cmp, on}
 use Rattle.ee_desk_acts.specs.declared.acts.Act.{Act}
 use Rattle.ee_desk_acts.specs.declared.acts.Request.{Request}
 
+-- the desk, and the number that it gave
 abbrev pub Number : Type 0
-Number = ℕ
+Number = ℕ × ℕ
 
+-- in order of desks, and then of their numbers
 abbrev pub number_cmp : Number → Number → Ordering
-number_cmp = nat_cmp
+number_cmp = then_cmp (on (λ p. p.0) nat_cmp) (on (λ p. p.1) nat_cmp)
 
 abbrev pub same_number : Number → Number → Bool
-same_number a b = a == b
+same_number a b = (a.0 == b.0) && (a.1 == b.1)
 
 abbrev pub number_of : Request → Number
-number_of q = q.number
+number_of q = (q.desk, q.number)
 
 -- a request of this number
 abbrev pub numbered : Number → Act → Request
-numbered n act = record { number = n; act = act }
+numbered n act = record { desk = n.0; number = n.1; act = act }

@@ -1,9 +1,11 @@
 ghost use Rattle.std.specs.Prelude.{◌≡◌, IfOk};
 ghost use Rattle.std.specs.Cmp.Lexicographic.{pointwise};
 ghost use Rattle.ee_desk_acts.specs.Acts.{same_act};
+ghost use Rattle.ee_desk_acts.specs.Numbers.{number_of};
 ghost use Rattle.ee_desk_acts.specs.PlainBooks.{same_bond};
 
-use crate::numbers::Number;
+use crate::desks::Desk;
+use crate::numbers::{Number, RequestNumber};
 use crate::rows::Rows;
 use ee_calculator::Bond;
 use ee_units::{Customer, Day, Serial};
@@ -29,11 +31,21 @@ pub enum Act {
     CloseDay(Day),
 }
 
-/// An act under a number that lets it act at most once.
+/// An act under a desk and a number that let it act at most once.
 #[derive(Debug, Drop, PartialEq, Eq)]
 pub struct Request {
+    pub desk: Desk,
     pub number: Number,
     pub act: Act,
+}
+
+impl Request {
+    /// The desk and the number, which stand for this request alone.
+    pub fn request_number(&self) -> RequestNumber
+        ensures { result ≡ number_of self.now }
+    {
+        RequestNumber::new(self.desk, self.number)
+    }
 }
 
 impl Act {

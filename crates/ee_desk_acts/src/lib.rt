@@ -4,6 +4,7 @@
 
 mod acts;
 mod changes;
+mod desks;
 mod laws;
 mod limits;
 mod numbers;
@@ -16,10 +17,11 @@ mod unit_tables;
 
 pub use acts::{Act, Request};
 pub use changes::{Change, Effects, Held, Kept};
+pub use desks::{Desk, read_desk};
 pub use ee_value::RateRow;
 pub use laws::{acts_keep_sound, one_view, same_acts, shows_own_bonds_alone, view_decides};
 pub use limits::{MOST_DAY_TICKETS, MOST_ROWS, MOST_SERIALS};
-pub use numbers::Number;
+pub use numbers::{Number, RequestNumber};
 pub use ranges::in_range;
 pub use refusals::{Refusal, Unserved};
 pub use replies::{Batch, Line, Reply, Ticket};

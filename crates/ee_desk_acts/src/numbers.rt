@@ -1,9 +1,10 @@
 ghost use Rattle.std.specs.Prelude.{◌≡◌, ◌≤◌};
 ghost use Rattle.ee_units.specs.Spelling.{in_range};
 
+use crate::desks::Desk;
 use std::marker::Model;
 
-/// The number of a request, 1 to 2^63 - 1: one request acts at most once.
+/// The number that a desk gives a request, 1 to 2^63 - 1.
 #[derive(Clone, Copy, Debug, PartialEq, Eq, PartialOrd, Ord, Hash)]
 pub struct Number {
     value: u64,
@@ -22,7 +23,7 @@ impl Model for Number {
 }
 
 impl Number {
-    /// The request number, where it is in range.
+    /// The number, where it is in range.
     pub const fn new(value: u64) -> Option<Number>
         ensures { result ≡ in_range 1 9223372036854775807 value }
     {
@@ -40,5 +41,45 @@ impl Number {
         ensures high { self ≤ 9223372036854775807 }
     {
         self.value
+    }
+}
+
+/// A desk, and a number that it gave: what a request is known by. One request acts at most once.
+#[derive(Clone, Copy, Debug, PartialEq, Eq, PartialOrd, Ord, Hash)]
+pub struct RequestNumber {
+    desk: Desk,
+    number: Number,
+}
+
+impl Model for RequestNumber {
+    ghost use Rattle.std.specs.Prelude.{ℕ};
+
+    ghost Value = { ℕ × ℕ };
+
+    ghost view = { λ r. (r.desk, r.number) };
+
+    ghost inverse = { λ p. record { desk = p.0; number = p.1 } };
+}
+
+impl RequestNumber {
+    /// The request number of a desk and a number.
+    pub const fn new(desk: Desk, number: Number) -> RequestNumber
+        ensures { result ≡ (desk, number) }
+    {
+        RequestNumber { desk, number }
+    }
+
+    /// The desk.
+    pub const fn desk(self) -> Desk
+        ensures { result ≡ self.0 }
+    {
+        self.desk
+    }
+
+    /// The number at that desk.
+    pub const fn number(self) -> Number
+        ensures { result ≡ self.1 }
+    {
+        self.number
     }
 }

@@ -17,17 +17,17 @@ ghost use Rattle.ee_keeper.specs.Keeping.{IsInventory, IsQuote};
 use crate::keeper::Keeper;
 use ee_calculator::{Bond, Row, Sheet};
 use ee_desk::Books;
-use ee_desk_acts::{Act, Batch, Kept, Number, Refusal, Reply, Request, Ticket, Unserved};
+use ee_desk_acts::{Act, Batch, Kept, Refusal, Reply, Request, RequestNumber, Ticket, Unserved};
 use ee_units::{Customer, Day, Denom, IssueMonth, Month};
 use std::alloc::{AllocError, Global};
 use std::collections::BTreeMap;
 use std::marker::Model;
 
-/// Books, and the one reply that is kept for each number, in memory. It never answers `StoreFailed`.
+/// Books, and the one reply that is kept for each desk and number, in memory. It never answers `StoreFailed`.
 #[derive(Drop)]
 pub struct ListKeeper {
     books: Books,
-    kept: BTreeMap<Number, Kept>,
+    kept: BTreeMap<RequestNumber, Kept>,
 }
 
 impl Model for ListKeeper {
@@ -87,7 +87,7 @@ impl ListKeeper {
         ensures content { OnOk result (self.new ≡ content_after self.old (request.now ∷ [])) }
         ensures err { OnErr result (self.new ≡ self.old) }
     {
-        if let Some(kept) = self.kept.get(&request.number) {
+        if let Some(kept) = self.kept.get(&request.request_number()) {
             let reply = reply_again(kept, &request.act)?;
             return Ok(reply);
         }
@@ -104,11 +104,12 @@ impl ListKeeper {
         let effects = self.books.effects_of(&request.act)?;
         let reply = effects.reply.copy()?;
         let kept = kept_of(&request.act, &effects.reply)?;
-        keep(&mut self.kept, request.number, kept)?;
+        let number = request.request_number();
+        keep(&mut self.kept, number, kept)?;
         match self.books.apply(&effects) {
             Ok(_) => Ok(reply),
             Err(_) => {
-                forget(&mut self.kept, request.number);
+                forget(&mut self.kept, number);
                 Err(AllocError)
             }
         }
@@ -215,7 +216,11 @@ fn kept_of(act: &Act, reply: &Reply) -> Result<Kept, AllocError>
 }
 
 /// Keeps an act and its reply under a number.
-fn keep(kept: &mut BTreeMap<Number, Kept>, number: Number, entry: Kept) -> Result<(), AllocError>
+fn keep(
+    kept: &mut BTreeMap<RequestNumber, Kept>,
+    number: RequestNumber,
+    entry: Kept,
+) -> Result<(), AllocError>
     ensures ok { OnOk result (kept_in kept.new.entries ≡ finite.insert (kept_in kept.old.entries) number entry) }
     ensures err { OnErr result (kept.new.entries ≡ kept.old.entries) }
 {
@@ -224,7 +229,7 @@ fn keep(kept: &mut BTreeMap<Number, Kept>, number: Number, entry: Kept) -> Resul
 }
 
 /// Takes out what a number keeps.
-fn forget(kept: &mut BTreeMap<Number, Kept>, number: Number)
+fn forget(kept: &mut BTreeMap<RequestNumber, Kept>, number: RequestNumber)
     ensures { kept_in kept.new.entries ≡ finite.remove (kept_in kept.old.entries) number }
 {
     let _ = kept.remove(&number);

@@ -17,7 +17,7 @@ use Rattle.ee_desk_laws.specs.Events.{begun}
 use Rattle.ee_store_tables.proofs.Lemmas.Meeting.{stored_has}
 use Rattle.ee_store_contents.specs.Standing.{rows_of}
 use Rattle.ee_store_lookups.specs.Seen.{HasContent, StandsFor}
-use Rattle.ee_store_opening.specs.declared.forms.Form.TheVariants.{Current}
+use Rattle.ee_store_making.specs.declared.forms.Form.TheVariants.{Current}
 use Rattle.ee_store.specs.Adopted.{GoesOn}
 use Rattle.ee_store.proofs.Opened.{stood_now}
 use Rattle.ee_store.specs.Ended.{StandsAlone, IsAtRest}

@@ -19,7 +19,7 @@ use Rattle.ee_desk_laws.specs.Events.{Event, World, Told, begun, decided, unserv
 use Rattle.ee_desk_laws.specs.Events.Event.{Deliver, Lose, Unserved, Stop_between, Reopen}
 use Rattle.ee_desk_laws.specs.Stops.{SurvivesStops, SettlesByRetries}
 use Rattle.ee_desk_laws.proofs.Lemmas.{in_tail}
-use Rattle.ee_store_opening.specs.declared.forms.Form.TheVariants.{Current}
+use Rattle.ee_store_making.specs.declared.forms.Form.TheVariants.{Current}
 use Rattle.ee_store_lookups.specs.Seen.{StandsFor}
 use Rattle.ee_store.proofs.Opened.{stood_now}
 use Rattle.ee_store.specs.Served.{FollowsWorld}

@@ -1,6 +1,6 @@
 mod Following
 mod Opened
-mod Extended
+mod Migrated
 mod AtRest
 mod Meeting
 mod NextRun

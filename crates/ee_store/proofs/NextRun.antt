@@ -10,7 +10,7 @@ use Rattle.sqlite.specs.Files.{file_state}
 use Rattle.sqlite.proofs.Theorems.{opens_again, next_run}
 use Rattle.ee_store_tables.specs.Tables.{counter_schema}
 use Rattle.ee_store_lookups.specs.Seen.{StandsFor}
-use Rattle.ee_store_opening.specs.declared.forms.Form.TheVariants.{Current}
+use Rattle.ee_store_making.specs.declared.forms.Form.TheVariants.{Current}
 use Rattle.ee_store.specs.Adopted.{IsOpenedFrom}
 use Rattle.ee_store.proofs.Opened.{stood_now}
 use Rattle.ee_store.specs.NextRun.{IsNumbered, FollowsInNextRun, WaitsInNextRun, LeavesStanding, FollowsOn}

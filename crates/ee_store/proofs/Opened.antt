@@ -1,12 +1,10 @@
 -- Opening a store: what the rows that were found stand for.
-use Rattle.std.proofs.Common.{◌≡◌, ◌⊎◌, inl, inr, Bool, true, false, true≢false, ℕ, List, [], map, length, IsTrue, arith, refl, sym, ap, ◌∙◌, subst}
+use Rattle.std.proofs.Common.{◌≡◌, ◌⊎◌, inl, inr, ℕ, List, [], map, IsTrue, sym, ap, ◌∙◌, subst}
 use Rattle.std.specs.Prelude.{IfSome, filter_map}
 use Rattle.std.specs.Ordering.{nat_cmp}
 use Rattle.std.specs.FinMap.{empty, from_entries, get-empty}
-use Rattle.std.proofs.lemmas.Option.{same_Some}
 use Rattle.sqlite.specs.Held.{Held}
 use Rattle.sqlite.specs.Effect.{Database}
-use Rattle.sqlite.specs.Schema.{Schema}
 use Rattle.sqlite.specs.Tree.{Trees}
 use Rattle.sqlite.specs.State.{State, Survives, KeepsCommit}
 use Rattle.sqlite.proofs.StateLemmas.{survives_weaker}
@@ -19,19 +17,20 @@ use Rattle.ee_desk_acts.specs.Numbers.{number_cmp}
 use Rattle.ee_desk_acts.specs.Seen.{held_as}
 use Rattle.ee_desk_acts.specs.Repeats.{Content, nothing}
 use Rattle.ee_desk_acts.proofs.Lemmas.Books.{empty_is_sound}
-use Rattle.ee_store_contents.proofs.Lemmas.{get_desk_row}
+use Rattle.ee_store_contents.proofs.Lemmas.{is_at}
 use Rattle.ee_desk_texts.specs.Ranges.{BondFits}
 use Rattle.ee_store_tables.specs.Keyed.{pair_cmp}
-use Rattle.ee_store_tables.specs.Rows.{Rows, DeskRow, Has, Stores}
-use Rattle.ee_store_opening.specs.declared.forms.Form.{Form}
-use Rattle.ee_store_opening.specs.declared.forms.Form.TheVariants.{Current, Earlier}
-use Rattle.ee_store_opening.specs.Forms.{HoldsIn, HasForm, HadIn}
-use Rattle.ee_store_opening.specs.Making.{IsBlank, first_rows}
+use Rattle.ee_store_tables.specs.Rows.{Rows, Has, Stores}
+use Rattle.ee_store_making.specs.declared.forms.Form.{Form}
+use Rattle.ee_store_making.specs.declared.forms.Form.TheVariants.{Current}
+use Rattle.ee_store_making.specs.Forms.{version_of, HoldsIn, HasForm, HadIn}
+use Rattle.ee_store_making.specs.Making.{IsBlank, first_rows}
 use Rattle.ee_store_opening.specs.Opening.{HasTables, IsOtherVersion}
-use Rattle.ee_store_opening.proofs.Lemmas.{ours_tables, no_entries}
-use Rattle.ee_store_contents.specs.Standing.{rows_of, extension_entry, bond_row, reply_row, key_of, StandFor, IsRight, IsKept}
+use Rattle.ee_store_opening.proofs.Lemmas.{ours_tables, one_version}
+use Rattle.ee_store_making.proofs.Lemmas.Forms.{no_entries}
+use Rattle.ee_store_contents.specs.Standing.{rows_at, rows_of, extension_entry, bond_row, reply_row, key_of, IsRight, IsKept}
 use Rattle.ee_store_lookups.specs.Seen.{StandsFor, HasContent}
-use Rattle.ee_store.specs.Adopted.{StoodFor, HadContent, HadNone, IfConnection}
+use Rattle.ee_store.specs.Adopted.{StoodFor, HadContent, IfConnection}
 use Rattle.ee_store.specs.declared.opening.Rest.{Rest}
 use Rattle.ee_store.specs.declared.opening.Rest.TheVariants.{Connection, Files}
 
@@ -48,9 +47,9 @@ pub nothing_rows : rows_of nothing ≡ first_rows
 nothing_rows =
     let rates = ap (λ (es : List (ℕ × Rates)). from_entries {R = nat_cmp} (map (λ e. (e.0, e.1.fixed)) es)) (no_entries nat_cmp) in
     let bonds = ap (λ (es : List (SerialNumber × Bond)). from_entries {R = pair_cmp} (map (λ e. (key_of e.0, bond_row (held_as [] e.0 e.1))) es)) (no_entries serial_cmp) in
-    let replies = ap (λ (es : List (ℕ × Kept)). from_entries {R = nat_cmp} (map (λ e. (e.0, reply_row e.1)) es)) (no_entries number_cmp) in
+    let answers = ap (λ (es : List ((ℕ × ℕ) × Kept)). from_entries {R = pair_cmp} (map (λ e. (e.0, reply_row e.1)) es)) (no_entries number_cmp) in
     let extensions = ap (λ (es : List (ℕ × Rates)). from_entries {R = nat_cmp} (filter_map extension_entry es)) (no_entries nat_cmp) in
-    λ i. record first_rows { rates = rates i; bonds = bonds i; replies = replies i; extensions = extensions i }
+    λ i. record first_rows { rates = rates i; bonds = bonds i; extensions = extensions i; answers = answers i }
 
 -- ---- forms of the tables
 
@@ -68,15 +67,9 @@ has_now s content had = record { right = had.right; rows = had.rows }
 pub has_tables : (old : State) (form : Form) (rows : Rows) → HadIn form old rows → HasTables old
 has_tables old form rows had = ours_tables old (form, λ is_open. (had is_open).0)
 
--- while nothing is committed a store has the form, and the rows, that it had
+-- while nothing is committed a store has the form that it had
 pub kept_form : (old new : State) (form : Form) → KeepsCommit old new → HasForm form old → HasForm form new
 kept_form old new form keeps has is_open = ap (λ (d : Database). d.schema) (keeps.committed is_open) ∙ has (keeps.was_open is_open)
-
-pub kept_had : (old new : State) (form : Form) (rows : Rows) → KeepsCommit old new → HadIn form old rows → HadIn form new rows
-kept_had old new form rows keeps had is_open =
-    let it = had (keeps.was_open is_open) in
-    let same = keeps.committed is_open in
-    (ap (λ (d : Database). d.schema) same ∙ it.0, subst (λ (d : Database). HoldsIn form d.trees rows) (sym same) it.1)
 
 -- and an open one had what it has
 pub had_before : (old new : State) (form : Form) (rows : Rows) → KeepsCommit old new → IsTrue new.is_open → HadIn form new rows → HadIn form old rows
@@ -85,26 +78,13 @@ had_before old new form rows keeps is_open had _ =
     let same = sym (keeps.committed is_open) in
     (ap (λ (d : Database). d.schema) same ∙ it.0, subst (λ (d : Database). HoldsIn form d.trees rows) (sym same) it.1)
 
--- the two forms are others
-pub not_both : (s : State) → IsTrue s.is_open → HasForm Earlier s → HasForm Current s → ⊥
-not_both s is_open earlier current = let tables = ap (λ (t : Schema). length t.tables) (sym (earlier is_open) ∙ current is_open) in absurd (omega (arith, tables))
-
--- a store whose rows are kept was open if it is
-pub was_open : (old new : State) → (HasTables old → KeepsCommit old new) → IsTrue new.is_open → IsTrue old.is_open
-was_open old new kept is_open = by_case old.is_open refl
-  where
-    by_case : (b : Bool) → old.is_open ≡ b → IsTrue old.is_open
-    by_case true is = is
-    by_case false is = (kept (λ o. absurd (true≢false (sym o ∙ is)))).was_open is_open
-
 -- a store with the rows of the empty content has it
 pub of_nothing : (s : State) → Has s (rows_of nothing) → HasContent s nothing
 of_nothing s has = record { right = nothing_right; rows = has }
 
 -- the first rows are those of the empty content
-pub begins_rows : (old middle : State) (rows : Rows) → (HasTables old → KeepsCommit old middle) → (IsTrue old.is_open → rows ≡ first_rows) → Has middle rows
-    → Has middle (rows_of nothing)
-begins_rows old middle rows kept is has is_open = subst (λ r. Has middle r) (is (was_open old middle kept is_open) ∙ sym nothing_rows) has is_open
+pub begins_rows : (middle : State) → Has middle first_rows → Has middle (rows_of nothing)
+begins_rows middle has = subst (Has middle) (sym nothing_rows) has
 
 pub begun_survives : (old new : State) → Survives old new (λ db. IsBlank old → Stores db first_rows) → Survives old new (λ db. IsBlank old → StandsFor db nothing)
 begun_survives old new one =
@@ -113,19 +93,9 @@ begun_survives old new one =
 
 -- ---- rows of a content
 
--- rows that stand for no content are neither those of a content nor the first ones
-pub stood_for_none : (old : State) (rows : Rows) → ((form : Form) (before : Rows) → HadIn form old before → IsTrue old.is_open → rows ≡ before)
-    → (IsBlank old → IsTrue old.is_open → rows ≡ first_rows) → ((content : Content) → StandFor rows content → ⊥) → HadNone old
-stood_for_none old rows those made none is_open = (
-  λ form content had. none content (record { are = those form (rows_of content) had.rows is_open; right = had.right }),
-  λ blank. none nothing (record { are = made blank is_open ∙ sym nothing_rows; right = nothing_right }),
-)
-
--- the rows of a content are of version 1
-pub of_version : (content : Content) → IsOtherVersion (rows_of content) → ⊥
-of_version content other =
-    let books = content.books in
-    other.2 (ap (λ (d : DeskRow). d.version) (same_Some other.0 (record { version = 1; day = books.day; last_day = books.last_day }) (sym other.1 ∙ get_desk_row books.day books.last_day)))
+-- the rows of a content are of no other version
+pub of_version : (form : Form) (content : Content) → IsOtherVersion (rows_at (version_of form) content) → ⊥
+of_version form content other = one_version form (rows_at (version_of form) content) (is_at form content) other
 
 -- ---- what a call leaves
 

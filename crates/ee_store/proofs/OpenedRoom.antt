@@ -7,10 +7,10 @@ use Rattle.sqlite.specs.Order.{Row}
 use Rattle.sqlite.specs.Effect.{Database}
 use Rattle.sqlite.specs.State.{State, IsLive}
 use Rattle.ee_store_tables.specs.Keyed.{pair_cmp, stored, AreRows, HoldsPairs}
-use Rattle.ee_store_tables.specs.Rows.{Has, Rises, HasRoomIn, bond_columns, paid_columns}
-use Rattle.ee_store_opening.specs.Making.{IsBlank, first_rows}
+use Rattle.ee_store_tables.specs.Rows.{Has, Rises, HasRoomIn, bond_columns, paid_columns, reply_columns}
+use Rattle.ee_store_making.specs.Making.{IsBlank, first_rows}
 use Rattle.ee_store.specs.Adopted.{OpensWithRoom}
-use Rattle.ee_store_opening.proofs.Lemmas.{no_entries}
+use Rattle.ee_store_making.proofs.Lemmas.Forms.{no_entries}
 
 no_rows_of : {A : Type 0} (row : A → Row) (rows : List Row) (xs : List A) → AreRows row rows xs → length xs ≡ 0 → rows ≡ []
 no_rows_of row [] xs are none = refl
@@ -30,5 +30,6 @@ opened_room old new settled live made n (inr (blank, few)) is_open =
     let holds = (made blank is_open).1 in
     let bonds = no_rows bond_columns (new.committed.trees 2) first_rows.bonds holds.bonds (no_entries pair_cmp) in
     let paid = no_rows paid_columns (new.committed.trees 7) first_rows.paid holds.paid (no_entries pair_cmp) in
-    let room : HasRoomIn n new.committed.trees = (subst (Rises 1 n) (sym bonds) few, subst (Rises 1 n) (sym paid) few) in
+    let answers = no_rows reply_columns (new.committed.trees 13) first_rows.answers holds.answers (no_entries pair_cmp) in
+    let room : HasRoomIn n new.committed.trees = (subst (Rises 1 n) (sym bonds) few, subst (Rises 1 n) (sym paid) few, subst (Rises 1 n) (sym answers) few) in
     ((live is_open).0, subst (HasRoomIn n) (sym (ap (λ (d : Database). d.trees) (settled is_open))) room)

@@ -13,51 +13,54 @@ use Rattle.ee_desk_acts.specs.Repeats.{Content, nothing}
 use Rattle.ee_desk_laws.specs.Events.{World, Happens, begun}
 use Rattle.ee_desk_laws.specs.Events.Event.{Stop_between, Reopen}
 use Rattle.ee_desk_laws.specs.Ties.{Leaves}
-use Rattle.ee_store_opening.specs.declared.forms.Form.{Form}
-use Rattle.ee_store_opening.specs.declared.forms.Form.TheVariants.{Current, Earlier}
-use Rattle.ee_store_opening.specs.Forms.{StoresIn, HasForm, IsOurs, HadIn}
-use Rattle.ee_store_opening.specs.Making.{IsBlank}
+use Rattle.ee_store_making.specs.declared.forms.Form.{Form}
+use Rattle.ee_store_making.specs.declared.forms.Form.TheVariants.{Current, First, Earliest}
+use Rattle.ee_store_making.specs.Forms.{version_of, StoresIn, HasForm, IsOurs, HadIn}
+use Rattle.ee_store_making.specs.Migrating.{AnswersFit}
+use Rattle.ee_store_making.specs.Making.{IsBlank}
 use Rattle.ee_store_tables.specs.Rows.{Rows, HasRoomIn, HasRoom}
 use Rattle.ee_store_tables.specs.Statements.{HasCause}
 use Rattle.ee_store_opening.specs.Opening.{HasTables, IsOtherVersion}
-use Rattle.ee_store_opening.specs.declared.faults.OpenFault.{OpenFault}
-use Rattle.ee_store_opening.specs.declared.faults.OpenFault.TheVariants.{StoreFailed, WrongVersion, Unusable}
+use Rattle.ee_store_making.specs.declared.faults.OpenFault.{OpenFault}
+use Rattle.ee_store_making.specs.declared.faults.OpenFault.TheVariants.{StoreFailed, WrongVersion, Unusable}
 use Rattle.ee_store.specs.declared.opening.Rest.{Rest}
 use Rattle.ee_store.specs.declared.opening.Rest.TheVariants.{Connection, Files}
-use Rattle.ee_store_contents.specs.Standing.{rows_of, IsRight}
+use Rattle.ee_store_contents.specs.Standing.{rows_at, IsRight}
 use Rattle.ee_store_lookups.specs.Seen.{StandsFor, HasContent}
 use Rattle.ee_store.specs.Served.{FollowsWorld}
 use Rattle.ee_store.specs.Ended.{StandsAlone}
 use Rattle.ee_store_lookups.specs.Causes.{IsReady}
 
--- ---- what a store of an earlier form stands for
+-- ---- what a store of version 1 stands for
 
 -- trees with tables of this form stand for the content
 pub record StoodFor (form : Form) (db : Trees) (content : Content) : Type 0 where
   pub right : IsRight content
-  pub stores : StoresIn form db (rows_of content)
+  pub stores : StoresIn form db (rows_at (version_of form) content)
 
 -- the last commit left tables of this form, whose rows stand for the content
 pub record HadContent (form : Form) (s : State) (content : Content) : Type 0 where
   pub right : IsRight content
-  pub rows : HadIn form s (rows_of content)
+  pub rows : HadIn form s (rows_at (version_of form) content)
 
--- The store of this form has the world's content, and a crash leaves it what it may leave the world. Where a table is still to be
--- made, a crash may leave the world its content too.
+-- The store of this form has the world's content, and a crash leaves it what it may leave the world. Where it is still to be
+-- migrated, a crash may leave the world its content too.
 abbrev pub FollowedWorld : Form → State → World → Type 0
 FollowedWorld Current s w = FollowsWorld s w
-FollowedWorld Earlier s w = HadContent Earlier s w.now × Contains w.may w.now × Leaves (StoodFor Earlier) s.may_leave w
+FollowedWorld First s w = HadContent First s w.now × Contains w.may w.now × Leaves (StoodFor First) s.may_leave w
+FollowedWorld Earliest s w = HadContent Earliest s w.now × Contains w.may w.now × Leaves (StoodFor Earliest) s.may_leave w
 
 -- trees stand for the content in the form that they had, or in the present one
 abbrev pub StandsSince : Form → Trees → Content → Type 0
 StandsSince Current db content = StandsFor db content
-StandsSince Earlier db content = StoodFor Earlier db content ⊎ StandsFor db content
+StandsSince First db content = StoodFor First db content ⊎ StandsFor db content
+StandsSince Earliest db content = StoodFor Earliest db content ⊎ StandsFor db content
 
--- the store lacked a table, and the trees, which have it, stand for the content that it had
-pub record IsExtended (old : State) (db : Trees) : Type 0 where
+-- the store was of version 1, and the trees, which are of version 2, stand for the content that it had
+pub record IsMigrated (old : State) (db : Trees) : Type 0 where
   pub lacked : ¬ HasForm Current old
-  pub some : (content : Content) × HadContent Earlier old content
-  pub stands : (content : Content) → HadContent Earlier old content → StandsFor db content
+  pub some : (form : Form) × (content : Content) × HadContent form old content
+  pub stands : (form : Form) (content : Content) → HadContent form old content → StandsFor db content
 
 -- ---- what a store that is opened has
 
@@ -113,15 +116,19 @@ HadOtherVersion old = IsTrue old.is_open → (form : Form) (rows : Rows) → Had
 abbrev pub HadNoOtherVersion : State → Type 0
 HadNoOtherVersion old = IsTrue old.is_open → (form : Form) (rows : Rows) → HadIn form old rows → ¬ IsOtherVersion rows
 
--- A crash of a store with any table leaves what it could leave before. Where it lacked a table that was made, a crash may also leave
--- the content that it had, with that table.
+-- A crash of a store with any table leaves what it could leave before. Where it was of version 1, a crash may also leave version 2
+-- with the content that it had, and nothing between.
 abbrev pub LeavesAsBefore : State → State → Type 0
-LeavesAsBefore old new = IsTrue old.is_open → HasTables old → (db : Trees) → new.may_leave db → old.may_leave db ⊎ IsExtended old db
+LeavesAsBefore old new = IsTrue old.is_open → HasTables old → (db : Trees) → new.may_leave db → old.may_leave db ⊎ IsMigrated old db
 
--- Of a connection in no transaction, with no limit on steps, over a store without tables or with just those of version 1:
+-- the kept replies of a store of version 1 fit the rows that they get in version 2
+abbrev pub CanMigrate : State → Type 0
+CanMigrate old = (¬ HasForm Current old) → (form : Form) (rows : Rows) → HadIn form old rows → AnswersFit rows
+
+-- Of a connection in no transaction, with no limit on steps, over a store without tables or with just those of either version:
 -- this fault has a cause.
 abbrev pub FailsToAdopt : State → State → OpenFault → Type 0
-FailsToAdopt old new fault = old.in_transaction ≡ false → old.step_limit ≡ None → IsBlank old ⊎ IsOurs old → fault ≡ StoreFailed → HasCause old new
+FailsToAdopt old new fault = old.in_transaction ≡ false → old.step_limit ≡ None → IsBlank old ⊎ IsOurs old → CanMigrate old → fault ≡ StoreFailed → HasCause old new
 
 -- it has room for as many rows as its trees have, and where it was new for all but one of 2^63
 abbrev pub OpensWithRoom : State → State → Type 0

@@ -4,10 +4,11 @@ ghost use Rattle.std.specs.Prelude.{◌≡◌, ◌≢◌, false, IsTrue, IfOk, I
 ghost use Rattle.sqlite.specs.Held.{state};
 ghost use Rattle.sqlite.specs.State.{HasCleanDisk, IsLive, Survives};
 ghost use Rattle.ee_desk_acts.specs.Repeats.{Content, nothing};
-ghost use Rattle.ee_store_opening.specs.Making.{IsBlank};
+ghost use Rattle.ee_store_making.specs.Making.{IsBlank};
 ghost use Rattle.ee_store_opening.specs.Whole.{rows_of, AreInOrder};
 ghost use Rattle.ee_store_contents.specs.Contents.{tables_for};
-ghost use Rattle.ee_store_contents.specs.Standing.{StandFor};
+ghost use Rattle.ee_store_contents.specs.Standing.{StandAt};
+ghost use Rattle.ee_store_making.specs.Forms.{version_of};
 ghost use Rattle.ee_store_lookups.specs.Seen.{StandsFor};
 ghost use Rattle.ee_store.specs.Adopted.{
   BeginsEmpty,
@@ -30,7 +31,8 @@ ghost use Rattle.ee_store_lookups.specs.Causes.{IsReady};
 use crate::keeper::SqlKeeper;
 use ee_desk_acts::UnitTables;
 use ee_store_contents::{ContentFault, tables_of};
-use ee_store_opening::{AllRows, OpenFault, extend_tables, open_rows};
+use ee_store_making::{OpenFault, migrate};
+use ee_store_opening::{AllRows, open_rows};
 use sqlite::{Alter, Connection};
 use std::alloc::Global;
 
@@ -46,8 +48,8 @@ pub struct NotAdopted<S: Alter> {
 /// The tables of unit values for the rates of rows that stand for books and kept replies.
 fn prepared(alloc: Global, all: &AllRows) -> Result<UnitTables, OpenFault>
     requires { AreInOrder all.now }
-    ensures ok { IfOk result (λ tables. (content : Content) × (tables ≡ tables_for content.books.rates) × StandFor (rows_of all.now) content) }
-    ensures unusable { IfErr result (λ fault. fault ≡ OpenFault.Unusable → (content : Content) → StandFor (rows_of all.now) content → ⊥) }
+    ensures ok { IfOk result (λ tables. (content : Content) × (tables ≡ tables_for content.books.rates) × StandAt (version_of all.now.form) (rows_of all.now) content) }
+    ensures unusable { IfErr result (λ fault. fault ≡ OpenFault.Unusable → (content : Content) → StandAt (version_of all.now.form) (rows_of all.now) content → ⊥) }
     ensures version { IfErr result (λ fault. fault ≢ OpenFault.WrongVersion) }
     ensures settled { IfErr result (λ fault. fault ≢ OpenFault.StoreFailed) }
 {
@@ -69,7 +71,7 @@ fn settled<S: Alter>(conn: &Connection<S>)
 }
 
 /// Finds the rows of a store, or makes its first ones, tests that they stand for books and kept replies,
-/// and then makes the table that a store made before lacks. It answers the tables of unit values for
+/// and then makes of a store of version 1 one of version 2. It answers the tables of unit values for
 /// their rates.
 fn ready<S: Alter>(conn: &mut Connection<S>, alloc: Global) -> Result<UnitTables, OpenFault>
     ensures begins { HasCleanDisk (state S.Store conn.new) → OnOk result (BeginsEmpty (state S.Store conn.old) (state S.Store conn.new)) }
@@ -93,7 +95,7 @@ fn ready<S: Alter>(conn: &mut Connection<S>, alloc: Global) -> Result<UnitTables
     let _schema = conn.schema();
     let all = open_rows(conn, alloc)?;
     let tables = prepared(alloc, &all)?;
-    extend_tables(conn)?;
+    migrate(conn, all.form, &all.answers)?;
     settled(conn);
     Ok(tables)
 }
@@ -101,14 +103,15 @@ fn ready<S: Alter>(conn: &mut Connection<S>, alloc: Global) -> Result<UnitTables
 impl<S: Alter> SqlKeeper<S> {
     /// Takes over a connection that is in no transaction. In a store without tables it makes them, in one
     /// transaction, and begins with nothing; in one that has just the tables of this program, in the order
-    /// in which it makes them, it reads all rows and tests them. One that was made before extensions could be
-    /// named lacks just their table: it is read and tested alike, and then the table is made, in one
-    /// transaction. Any other store is refused.
+    /// in which it makes them, it reads all rows and tests them. One of version 1, with or without the table of
+    /// extensions, is read and tested alike, and then migrated: in one transaction it becomes one of version 2
+    /// with the same content, its replies under the first desk. Any other store is refused.
     ///
     /// - `begins`: a store without tables gets the empty content.
     /// - `begun`: the connection is open, and of a store that had no tables a crash leaves the empty content
     ///   alone, so the events of the law of stops and retries begin there.
-    /// - `found`: a store that has a content keeps it, in whichever form its tables are.
+    /// - `found`: a store that has a content keeps it, in whichever form its tables are: one of version 1 has
+    ///   it in version 2, each number as one of the first desk, and every kept reply as it was.
     /// - `stands`: so the keeper serves from a content, and never from rows that stand for none, nor from
     ///   other tables.
     /// - `follows`: the store follows the events of the law of stops and retries as it did.
@@ -119,15 +122,16 @@ impl<S: Alter> SqlKeeper<S> {
     ///   never there.
     /// - `ready`: a connection in no transaction, with no limit on steps, makes a keeper that takes requests.
     /// - `room`: it has room for as many rows with hidden numbers as its trees have; a store that was new, for 2^63 - 1.
-    /// - `cause`: of such a connection, over a store without tables or with just those of version 1,
-    ///   `StoreFailed` is told only where the device failed once more, or the store was shut before.
+    /// - `cause`: of such a connection, over a store without tables or with just those of either version,
+    ///   `StoreFailed` is told only where the device failed once more, or the store was shut before; of a store of
+    ///   version 1 where its kept replies fit the rows of version 2, as all do that are shorter than 900 million bytes.
     /// - `kept`: after a refusal a store that had any table, index or view is as it was. A store without
     ///   tables may have got the first ones.
     /// - `waits`: of a store over trees that a crash left, which stand for a content, a refusal leaves what
     ///   stands for the same, so a later call goes on from there.
     /// - `crash`, `left`: whenever the call stops, a crash leaves what it could leave before. Of a
-    ///   store without tables it may also leave the empty content, and of one that lacked a table the content
-    ///   that it had, with that table.
+    ///   store without tables it may also leave the empty content, and of one of version 1 version 2 with the
+    ///   content that it had, and nothing between.
     ///
     /// # Errors
     ///
@@ -135,7 +139,7 @@ impl<S: Alter> SqlKeeper<S> {
     ///
     /// - `NoMemory` where there is not enough memory.
     /// - `StoreFailed` where the store fails, or the connection is in a transaction.
-    /// - `WrongVersion` where the tables are of another version.
+    /// - `WrongVersion` where the tables are of neither version.
     /// - `Unusable` where the tables are others, or in another order, or the rows stand for no books and
     ///   kept replies.
     pub fn adopt(conn: Connection<S>, alloc: Global) -> Result<SqlKeeper<S>, NotAdopted<S>>

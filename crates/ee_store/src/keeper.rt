@@ -44,7 +44,7 @@ impl<S: Alter> SqlKeeper<S> {
     /// - `again`: with the reply to a kept number it leaves what it could leave before.
     /// - `decided`, `unserved`: so the store follows the events of the law of stops and retries.
     /// - `goes`: and they are its events in its whole history (`whole_history`).
-    /// - `ready`, `room`, `cause`: it takes requests as before, with room for 500 rows less at most; and where its
+    /// - `ready`, `room`, `cause`: it takes requests as before, with room for 501 rows less at most; and where its
     ///   store was ready, with such room, and the texts fit a row, it answers `StoreFailed` only where the device failed
     ///   once more, or the store was shut before.
     pub fn deliver(&mut self, request: &Request) -> Result<Reply, Unserved>

@@ -12,7 +12,7 @@ ghost use Rattle.ee_store.specs.Adopted.{IsOpenedFrom, IsRefusedFrom, IfConnecti
 ghost use Rattle.ee_store.specs.NextRun.{IsNumbered, LeavesStanding, FollowsOn};
 
 use crate::keeper::SqlKeeper;
-use ee_store_opening::OpenFault;
+use ee_store_making::OpenFault;
 use sqlite::{Alter, Connection, File, FileFrom, FileStore, Leftover, Start, Unknown};
 use sqlite_disk::Disk;
 

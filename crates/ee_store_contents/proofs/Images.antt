@@ -19,9 +19,9 @@ use Rattle.ee_calculator.specs.declared.bonds.Bond.{Bond}
 use Rattle.ee_desk_acts.specs.declared.changes.Kept.{Kept}
 use Rattle.ee_desk_acts.specs.declared.replies.Ticket.{Ticket}
 use Rattle.ee_desk_acts.specs.Serials.{serial_cmp}
-use Rattle.ee_desk_acts.specs.Numbers.{number_cmp}
+use Rattle.ee_desk_acts.specs.Numbers.{Number, number_cmp}
 use Rattle.ee_desk_acts.specs.Seen.{held_as}
-use Rattle.ee_desk_acts.proofs.Lemmas.Maps.{serials_total, serials_exact, numbers_total}
+use Rattle.ee_desk_acts.proofs.Lemmas.Maps.{serials_total, serials_exact, numbers_total, numbers_exact}
 use Rattle.std.proofs.lemmas.Map.Views.{tells_apart}
 use Rattle.ee_desk_parts.proofs.Lemmas.{none_below}
 use Rattle.ee_store_tables.specs.Keyed.{pair_cmp}
@@ -118,13 +118,13 @@ get_terms rates period = terms_again (finite.get rates period) ∙ λ i. option_
 pub extension_entries : (rates : FinMap nat_cmp Rates) → entries (extension_rows rates) ≡ filter_map extension_entry (entries rates)
 extension_entries rates = sorted_entries nat_cmp_total nat_cmp-IsAntisymmetric _ (sorted_picked nat_cmp_total nat_cmp-IsAntisymmetric named_extension (entries rates) (entries_sorted rates))
 
-pub get_reply : (kept : FinMap number_cmp Kept) (number : ℕ) → finite.get (reply_rows kept) number ≡ option_map reply_row (finite.get kept number)
-get_reply kept number = get_image numbers_total nat_cmp_total nat_cmp-IsAntisymmetric (λ k. k) (λ k (kept : Kept). reply_row kept) (λ q k. refl) kept number
+pub get_reply : (kept : FinMap number_cmp Kept) (number : Number) → finite.get (reply_rows kept) number ≡ option_map reply_row (finite.get kept number)
+get_reply kept number = get_image numbers_total pair_total numbers_exact (λ k. k) (λ k (kept : Kept). reply_row kept) (λ q k. refl) kept number
 
 pub get_bond : (bonds : FinMap serial_cmp Bond) (tickets : List Ticket) (serial : SerialNumber)
     → finite.get (bond_rows bonds tickets) (key_of serial) ≡ option_map (λ bond. bond_row (held_as tickets serial bond)) (finite.get bonds serial)
 get_bond bonds tickets serial =
     get_image serials_total pair_total serials_exact key_of (λ serial (bond : Bond). bond_row (held_as tickets serial bond)) (λ q k. refl) bonds serial
 
-pub get_desk : (day last_day : Option ℕ) → finite.get (desk_rows day last_day) 1 ≡ Some (record { version = 1; day = day; last_day = last_day })
-get_desk day last_day = get-from_entries nat_cmp_total ((1, record { version = 1; day = day; last_day = last_day }) ∷ []) 1
+pub get_desk : (version : ℕ) (day last_day : Option ℕ) → finite.get (desk_rows version day last_day) 1 ≡ Some (record { version = version; day = day; last_day = last_day })
+get_desk version day last_day = get-from_entries nat_cmp_total ((1, record { version = version; day = day; last_day = last_day }) ∷ []) 1

@@ -16,7 +16,11 @@ use Rattle.ee_calculator.specs.declared.bonds.Bond.{Bond}
 use Rattle.ee_store_contents.specs.Contents.{PartsFit}
 use Rattle.ee_desk_parts.specs.Parts.{parts_of}
 use Rattle.ee_desk_acts.specs.Repeats.{Content}
-use Rattle.ee_store_contents.specs.Standing.{bond_row, bond_rows, desk_rows, extension_rows, key_of, paid_rows, rate_rows, reply_row, reply_rows, ticket_rows, IsRight, rows_of}
+use Rattle.ee_store_contents.specs.Standing.{bond_row, bond_rows, desk_rows, extension_rows, key_of, paid_rows, rate_rows, reply_row, reply_rows, ticket_rows, IsRight, rows_at, rows_of}
+use Rattle.ee_store_making.specs.declared.forms.Form.{Form}
+use Rattle.ee_store_making.specs.Forms.{version_of}
+use Rattle.ee_store_making.specs.Migrating.{become}
+use Rattle.ee_store_contents.proofs.Becoming
 use Rattle.ee_units.specs.Denoms.{dollars, denom_with}
 use Rattle.ee_units.specs.Spelling.{SerialNumber, ◌>>=◌, in_range, serial_at}
 use Rattle.ee_units.specs.declared.denoms.Denom.{Denom}
@@ -25,7 +29,7 @@ use Rattle.ee_value.specs.declared.rates.Rates.{Rates}
 use Rattle.std.specs.FinMap as finite
 use Rattle.ee_desk_texts.specs.Ranges.{IsSerial}
 use Rattle.ee_store_tables.specs.Rows.{IsText}
-use Rattle.ee_store_opening.specs.Opening.{AreReadable}
+use Rattle.ee_store_opening.specs.Opening.{AreReadable, IsOfForm}
 use Rattle.ee_store_contents.proofs.Images
 use Rattle.ee_store_contents.proofs.OneContent
 use Rattle.ee_store_contents.proofs.Orders
@@ -39,7 +43,7 @@ pub use Rattle.ee_units.proofs.Lemmas.{same_denom}
 
 -- ---- rows at their keys
 -- the row of the desk
-pub get_desk_row : (day last_day : Option ℕ) → finite.get (desk_rows day last_day) 1 ≡ Some (record { version = 1; day = day; last_day = last_day })
+pub get_desk_row : (version : ℕ) (day last_day : Option ℕ) → finite.get (desk_rows version day last_day) 1 ≡ Some (record { version = version; day = day; last_day = last_day })
 get_desk_row = Images.get_desk
 
 -- the row of a period is that of its rates
@@ -62,8 +66,8 @@ pub get_bond_row : (bonds : FinMap serial_cmp Bond) (tickets : List Ticket) (ser
     → finite.get (bond_rows bonds tickets) (key_of serial) ≡ option_map (λ bond. bond_row (held_as tickets serial bond)) (finite.get bonds serial)
 get_bond_row = Images.get_bond
 
--- the row of a number is that of its reply
-pub get_reply_row : (kept : FinMap number_cmp Kept) (number : ℕ) → finite.get (reply_rows kept) number ≡ option_map reply_row (finite.get kept number)
+-- the row of a desk's number is that of its reply
+pub get_reply_row : (kept : FinMap number_cmp Kept) (number : Number) → finite.get (reply_rows kept) number ≡ option_map reply_row (finite.get kept number)
 get_reply_row = Images.get_reply
 
 -- ---- rows in order
@@ -121,9 +125,18 @@ denom_fits = ReadValues.denom_fits
 
 -- ---- the rows of a content are read
 -- the rows of a content can be read
-pub readable : (content : Content) → IsRight content → AreReadable (rows_of content)
+pub readable : (form : Form) (content : Content) → IsRight content → AreReadable form (rows_at (version_of form) content)
 readable = Readable.readable
 
 -- the texts that a content keeps are UTF-8
-pub kept_texts : (content : Content) → IsRight content → (n : Number) → IfSome (finite.get (rows_of content).replies n) IsText
+pub kept_texts : (content : Content) → IsRight content → (n : Number) → IfSome (finite.get (rows_of content).answers n) IsText
 kept_texts = Readable.kept_texts
+
+-- ---- the rows of version 1
+-- the rows of a content in some form become its rows of version 2
+pub becomes : (form : Form) (content : Content) → become form (rows_at (version_of form) content) ≡ rows_of content
+becomes = Becoming.becomes
+
+-- rows of a form that become those of a content are its rows in that form
+pub is_at : (form : Form) (content : Content) → IsOfForm form (rows_at (version_of form) content)
+is_at = Becoming.is_at

@@ -12,3 +12,4 @@ mod FoundParts
 mod ReadValues
 mod Readable
 pub mod Lemmas
+mod Becoming

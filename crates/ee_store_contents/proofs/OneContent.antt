@@ -24,7 +24,7 @@ use Rattle.ee_desk_acts.specs.Repeats.{Content}
 use Rattle.ee_desk_acts.proofs.Lemmas.Maps.{serials_total, serials_exact, numbers_total, numbers_exact}
 use Rattle.ee_desk_texts.proofs.Lemmas.{one_act, one_reply}
 use Rattle.ee_store_tables.specs.Rows.{Rows, DeskRow, PaidRow, BatchRow}
-use Rattle.ee_store_contents.specs.Standing.{rate_rows, extension_rows, bond_rows, bond_row, key_of, placed, reply_rows, reply_row, desk_rows, IsKept, StandFor}
+use Rattle.ee_store_contents.specs.Standing.{rate_rows, extension_rows, bond_rows, bond_row, key_of, placed, reply_rows, reply_row, desk_rows, IsKept, StandAt}
 use Rattle.ee_store_contents.proofs.Images.{get_rate, get_extension, get_reply, get_bond, get_desk}
 use Rattle.ee_store_contents.proofs.Orders.{ticket_entry, ticket_entries, ticket_lines, paid_entries, batch_entry, batch_entries, rising_front}
 
@@ -136,14 +136,14 @@ same_kept one other a b e = same_map numbers_total numbers_exact one other (λ n
     (sym (get_reply one n) ∙ ap (λ m. finite.get m n) e ∙ get_reply other n))
 
 -- ---- days
-same_desk : (day last_day other_day other_last : Option ℕ) → desk_rows day last_day ≡ desk_rows other_day other_last → (day ≡ other_day) × (last_day ≡ other_last)
-same_desk day last_day other_day other_last e =
-    let row : DeskRow = record { version = 1; day = day; last_day = last_day } in
-    let same = ap (λ o. unwrap_or o row) (sym (get_desk day last_day) ∙ ap (λ m. finite.get m 1) e ∙ get_desk other_day other_last) in
+same_desk : (version : ℕ) (day last_day other_day other_last : Option ℕ) → desk_rows version day last_day ≡ desk_rows version other_day other_last → (day ≡ other_day) × (last_day ≡ other_last)
+same_desk version day last_day other_day other_last e =
+    let row : DeskRow = record { version = version; day = day; last_day = last_day } in
+    let same = ap (λ o. unwrap_or o row) (sym (get_desk version day last_day) ∙ ap (λ m. finite.get m 1) e ∙ get_desk version other_day other_last) in
     (ap (λ (r : DeskRow). r.day) same, ap (λ (r : DeskRow). r.last_day) same)
 
-pub one_content : (rows : Rows) (one other : Content) → StandFor rows one → StandFor rows other → one ≡ other
-one_content rows one other h k =
+pub one_content : (version : ℕ) (rows : Rows) (one other : Content) → StandAt version rows one → StandAt version rows other → one ≡ other
+one_content version rows one other h k =
     let same = sym h.are ∙ k.are in
     let a = h.right.sound in
     let b = k.right.sound in
@@ -153,10 +153,10 @@ one_content rows one other h k =
     let closed = sym (batch_entries one.books.batches (rising_front (map day_of_batch one.books.batches) (open_days one.books.day) a.rising))
     ∙ ap (λ (r : Rows). entries r.batches) same ∙ batch_entries other.books.batches (rising_front (map day_of_batch other.books.batches) (open_days other.books.day) b.rising) in
     let batches = sym (batches_back one.books.batches) ∙ ap (map batch_at) closed ∙ batches_back other.books.batches in
-    let days = same_desk one.books.day one.books.last_day other.books.day other.books.last_day (ap (λ (r : Rows). r.desk) same) in
+    let days = same_desk version one.books.day one.books.last_day other.books.day other.books.last_day (ap (λ (r : Rows). r.desk) same) in
     let rates = same_rates one.books.rates other.books.rates (ap (λ (r : Rows). r.rates) same) (ap (λ (r : Rows). r.extensions) same) in
     let bonds = same_bonds one.books.bonds other.books.bonds one.books.tickets other.books.tickets (λ s. keyed one.books.rates s _ (a.bonds s)) (λ s. keyed other.books.rates s _ (b.bonds s)) (ap (λ (r : Rows). r.bonds) same) in
-    let kept = same_kept one.kept other.kept h.right.kept k.right.kept (ap (λ (r : Rows). r.replies) same) in
+    let kept = same_kept one.kept other.kept h.right.kept k.right.kept (ap (λ (r : Rows). r.answers) same) in
     λ i. record {
       books = record { rates = rates i; bonds = bonds i; day = days.0 i; last_day = days.1 i; tickets = tickets i; batches = batches i };
       kept = kept i;

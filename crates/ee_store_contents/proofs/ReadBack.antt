@@ -1,6 +1,6 @@
 -- Rows are read as the values that they were made of, and as no others.
 use Rattle.std.proofs.Common.{◌≡◌, ◌==◌, ℕ, suc, ◌+◌, ◌≤◌, Bool, true, false, cond, ◌&&◌, List, [], ◌∷◌, ◌++◌, map, length, take, drop, arith, refl, sym, ap, ◌∙◌, subst}
-use Rattle.std.specs.Prelude.{nat_le, nat_eq, flat_map, Option, Some, None, IfSome, option_map}
+use Rattle.std.specs.Prelude.{if◌then◌else◌, nat_le, nat_eq, flat_map, Option, Some, None, IfSome, option_map}
 use Rattle.std.specs.Option.{unwrap_or, option_eq}
 use Rattle.std.specs.List.{AllByRecursion}
 use Rattle.std.proofs.lemmas.Bool.{eqb-true, eq-eqb, leb-true, le-leb, and_parts}
@@ -115,14 +115,14 @@ serial_is letter number s e =
     ((in_range-is 1 26 letter l.0 l.1).0 ∙ ap (λ (s : SerialNumber). s.letter) is, (in_range-is 1 9999999999 number n.0 n.1).0 ∙ ap (λ (s : SerialNumber). s.number) is)
 
 -- ---- the desk's row
-days_of_read : (days : Days) → IfSome days.day IsDay → IfSome days.last_day IsDay → days_of (stored_desk days.day days.last_day) ≡ Some days
+days_of_read : (version : ℕ) (days : Days) → IfSome days.day IsDay → IfSome days.last_day IsDay → days_of (stored_desk version days.day days.last_day) ≡ Some days
 unfolding days_of
-days_of_read days h k =
+days_of_read version days h k =
     bind_some (optional_in day_in days.day) days.day _ _ (optional_read day_in IsDay day_read days.day h)
     (bind_some (optional_in day_in days.last_day) days.last_day _ _ (optional_read day_in IsDay day_read days.last_day k) refl)
 
-pub days_read : (days : Days) → IfSome days.day IsDay → IfSome days.last_day IsDay → days_in (stored_desk days.day days.last_day ∷ []) ≡ Some days
-days_read days h k = days_of_read days h k
+pub days_read : (version : ℕ) (days : Days) → IfSome days.day IsDay → IfSome days.last_day IsDay → days_in version (stored_desk version days.day days.last_day ∷ []) ≡ Some days
+days_read version days h k = ap (λ b. if b then days_of (stored_desk version days.day days.last_day) else None) (eq-eqb version version refl) ∙ days_of_read version days h k
 
 days_of_is : (row : StoredDesk) (days : Days) → days_of row ≡ Some days → (row.day ≡ days.day) × (row.last_day ≡ days.last_day)
 unfolding days_of
@@ -132,14 +132,14 @@ days_of_is row days e =
     let is = some_is _ days last.2 in
     (optional_is day_in day_is row.day day.0 day.1 ∙ ap (λ (d : Days). d.day) is, optional_is day_in day_is row.last_day last.0 last.1 ∙ ap (λ (d : Days). d.last_day) is)
 
-pub days_is : (rows : List StoredDesk) (days : Days) → days_in rows ≡ Some days → rows ≡ stored_desk days.day days.last_day ∷ []
-days_is [] days e = absurd (cc)
-days_is (row ∷ other ∷ rows) days e = absurd (cc)
-days_is (row ∷ []) days e =
-    let open_row = cond_is ((row.id == 1) && (row.version == 1)) days (days_of row) days e in
-    let first = and_parts (row.id == 1) (row.version == 1) open_row.0 in
+pub days_is : (version : ℕ) (rows : List StoredDesk) (days : Days) → days_in version rows ≡ Some days → rows ≡ stored_desk version days.day days.last_day ∷ []
+days_is version [] days e = absurd (cc)
+days_is version (row ∷ other ∷ rows) days e = absurd (cc)
+days_is version (row ∷ []) days e =
+    let open_row = cond_is ((row.id == 1) && (row.version == version)) days (days_of row) days e in
+    let first = and_parts (row.id == 1) (row.version == version) open_row.0 in
     let both = days_of_is row days open_row.1 in
-    λ i. record { id = eqb-true row.id 1 first.0 i; version = eqb-true row.version 1 first.1 i; day = both.0 i; last_day = both.1 i } ∷ []
+    λ i. record { id = eqb-true row.id 1 first.0 i; version = eqb-true row.version version first.1 i; day = both.0 i; last_day = both.1 i } ∷ []
 
 -- ---- bonds
 plain_bond_read : (ticket : Option ℕ) (bond : Bond) → BondFits bond → plain_bond_in bond.coowner (stored_held (record { bond = bond; ticket = ticket })) ≡ Some bond

@@ -9,7 +9,10 @@ use Rattle.ee_desk_acts.specs.Numbers.{Number}
 use Rattle.ee_desk_acts.specs.Repeats.{Content}
 use Rattle.ee_store_tables.specs.Rows.{ReplyRow, IsText}
 use Rattle.ee_store_opening.specs.Opening.{AreReadable}
-use Rattle.ee_store_contents.specs.Standing.{rows_of, reply_row, IsRight, IsKept}
+use Rattle.ee_store_contents.specs.Standing.{rows_at, rows_of, reply_row, IsRight, IsKept}
+use Rattle.ee_store_making.specs.declared.forms.Form.{Form}
+use Rattle.ee_store_making.specs.declared.forms.Form.TheVariants.{Current}
+use Rattle.ee_store_making.specs.Forms.{version_of}
 
 row_readable : (n : Number) (o : Option Kept) (row : ReplyRow) → IfSome o (IsKept n) → Some row ≡ option_map reply_row o → IsUtf8 row.act × IsUtf8 row.reply
 row_readable n None row kept is = absurd (cc)
@@ -20,9 +23,9 @@ row_readable n (Some k) row kept is =
     )
 
 -- the rows of a content can be read
-pub readable : (content : Content) → IsRight content → AreReadable (rows_of content)
-readable content right = record {
-  desk = (record { version = 1; day = content.books.day; last_day = content.books.last_day }, get_desk content.books.day content.books.last_day);
+pub readable : (form : Form) (content : Content) → IsRight content → AreReadable form (rows_at (version_of form) content)
+readable form content right = record {
+  desk = (record { version = version_of form; day = content.books.day; last_day = content.books.last_day }, get_desk (version_of form) content.books.day content.books.last_day, refl);
   texts = λ n row got. row_readable n (finite.get content.kept n) row (right.kept n) (sym got ∙ get_reply content.kept n);
 }
 
@@ -31,5 +34,5 @@ texts_of None texts = tt
 texts_of (Some row) texts = texts row refl
 
 -- the texts that a content keeps are UTF-8
-pub kept_texts : (content : Content) → IsRight content → (n : Number) → IfSome (finite.get (rows_of content).replies n) IsText
-kept_texts content right n = texts_of (finite.get (rows_of content).replies n) ((readable content right).texts n)
+pub kept_texts : (content : Content) → IsRight content → (n : Number) → IfSome (finite.get (rows_of content).answers n) IsText
+kept_texts content right n = texts_of (finite.get (rows_of content).answers n) ((readable Current content right).texts n)

@@ -36,12 +36,14 @@ use Rattle.ee_store_opening.specs.declared.entries.StoredBond.{StoredBond}
 use Rattle.ee_store_opening.specs.declared.entries.StoredTicket.{StoredTicket}
 use Rattle.ee_store_opening.specs.declared.entries.StoredLine.{StoredLine}
 use Rattle.ee_store_opening.specs.declared.entries.StoredBatch.{StoredBatch}
-use Rattle.ee_store_opening.specs.declared.entries.StoredReply.{StoredReply}
+use Rattle.ee_store_making.specs.declared.answers.StoredAnswer.{StoredAnswer}
+use Rattle.ee_store_making.specs.Forms.{version_of}
+use Rattle.ee_store_making.specs.Migrating.{answer_entry}
 use Rattle.ee_store_opening.specs.declared.whole.AllRows.{AllRows}
-use Rattle.ee_store_contents.specs.Standing.{rate_rows, extension_entry, extension_rows, bond_rows, bond_row, key_of, ticket_rows, paid_rows, paid_row, placed, batch_rows, reply_rows, reply_row, desk_rows, IsKept, IsRight, StandFor}
-use Rattle.ee_store_opening.specs.Shown.{desk_entry, rate_entry, bond_entry, ticket_entry, line_entry, batch_entry, reply_entry}
+use Rattle.ee_store_contents.specs.Standing.{rate_rows, extension_entry, extension_rows, bond_rows, bond_row, key_of, ticket_rows, paid_rows, paid_row, placed, batch_rows, reply_rows, reply_row, desk_rows, IsKept, IsRight, StandAt}
+use Rattle.ee_store_opening.specs.Shown.{desk_entry, rate_entry, bond_entry, ticket_entry, line_entry, batch_entry}
 use Rattle.ee_store_opening.specs.Whole.{AreInOrder, rows_of}
-use Rattle.ee_store_contents.specs.Contents.{stored_desk, stored_rate, extension_row, stored_extension, stored_bond, stored_ticket, placed_lines, stored_lines, stored_batch, AreRowsOf, PartsFit, KeepsReply}
+use Rattle.ee_store_contents.specs.Contents.{stored_desk, stored_rate, extension_row, stored_extension, stored_bond, stored_ticket, placed_lines, stored_lines, stored_batch, AreRowsOf, PartsFit, KeepsAnswer}
 use Rattle.ee_store_contents.specs.Reading.{each, days_in, rates_in, bond_in, tickets_in, batch_in, parts_in}
 use Rattle.ee_store_contents.proofs.Images.{pair_total, pair_same, sorted_entries, extension_entries}
 use Rattle.ee_store_contents.proofs.Orders as orders
@@ -91,10 +93,10 @@ bond_entries : (bonds : FinMap serial_cmp Bond) (tickets : List Ticket) → entr
 bond_entries bonds tickets = image_entries serial_cmp pair_cmp key_of (λ serial (bond : Bond). bond_row (held_as tickets serial bond)) (λ q k. refl) pair_total pair_same bonds
 
 reply_entries : (kept : FinMap number_cmp Kept) → entries (reply_rows kept) ≡ map (λ e. (e.0, reply_row e.1)) (entries kept)
-reply_entries kept = image_entries number_cmp nat_cmp (λ k. k) (λ k (kept : Kept). reply_row kept) (λ q k. refl) nat_cmp_total nat_cmp-IsAntisymmetric kept
+reply_entries kept = image_entries number_cmp pair_cmp (λ k. k) (λ k (kept : Kept). reply_row kept) (λ q k. refl) pair_total pair_same kept
 
-desk_entries : (day last_day : Option ℕ) → entries (desk_rows day last_day) ≡ map desk_entry (stored_desk day last_day ∷ [])
-desk_entries day last_day = sorted_entries nat_cmp_total nat_cmp-IsAntisymmetric _ tt
+desk_entries : (version : ℕ) (day last_day : Option ℕ) → entries (desk_rows version day last_day) ≡ map desk_entry (stored_desk version day last_day ∷ [])
+desk_entries version day last_day = sorted_entries nat_cmp_total nat_cmp-IsAntisymmetric _ tt
 
 closed_entries : (books : PlainBooks) → IsSound books → entries (batch_rows books.batches) ≡ map orders.batch_entry books.batches
 closed_entries books sound = batch_entries books.batches (rising_front (map day_of_batch books.batches) (open_days books.day) sound.rising)
@@ -166,12 +168,12 @@ module _ {K X : Type 0} {R : K → K → Ordering} where
   map_of : (es : List (K × X)) (m : FinMap R X) → T (is_sorted R es) → es ≡ entries m → from_sorted es ≡ m
   map_of es m sorted is = same_entries_map (from_sorted es) m (entries-from_sorted R es sorted ∙ is)
 
-pub rows_of_parts : (stored : AllRows) (content : Content) → AreInOrder stored → StandFor (rows_of stored) content → AreRowsOf (parts_of content.books) stored
+pub rows_of_parts : (stored : AllRows) (content : Content) → AreInOrder stored → StandAt (version_of stored.form) (rows_of stored) content → AreRowsOf (parts_of content.books) stored
 rows_of_parts stored content order stands =
     let books = content.books in
     let sound = stands.right.sound in
     record {
-      desk = same_lists desk_entry desk_back (λ x. refl) _ _ (entries_of _ _ order.desk (ap (λ (r : Rows). r.desk) stands.are) ∙ desk_entries books.day books.last_day);
+      desk = same_lists desk_entry desk_back (λ x. refl) _ _ (entries_of _ _ order.desk (ap (λ (r : Rows). r.desk) stands.are) ∙ desk_entries (version_of stored.form) books.day books.last_day);
       rates = same_lists rate_entry rate_back (λ x. refl) _ _ (entries_of _ _ order.rates (ap (λ (r : Rows). r.rates) stands.are) ∙ sym (rates_as books.rates));
       extensions = same_lists rate_entry rate_back (λ x. refl) _ _ (entries_of _ _ order.extensions (ap (λ (r : Rows). r.extensions) stands.are) ∙ sym (extensions_as books.rates));
       bonds = same_lists bond_entry bond_back (λ x. refl) _ _ (entries_of _ _ order.bonds (ap (λ (r : Rows). r.bonds) stands.are) ∙ sym (bonds_as books sound));
@@ -208,8 +210,8 @@ parts_in_range content right =
 pub parts_read : (parts : Parts) (stored : AllRows) → AreRowsOf parts stored → PartsFit parts → T (is_sorted nat_cmp (map rate_entry stored.rates.items)) → parts_in stored ≡ Some parts
 unfolding parts_in
 parts_read parts stored are fit rising =
-    bind_some (days_in stored.desk.items) (record { day = parts.day; last_day = parts.last_day }) _ _
-    (ap days_in are.desk ∙ days_read (record { day = parts.day; last_day = parts.last_day }) fit.day fit.last_day)
+    bind_some (days_in (version_of stored.form) stored.desk.items) (record { day = parts.day; last_day = parts.last_day }) _ _
+    (ap (days_in (version_of stored.form)) are.desk ∙ days_read (version_of stored.form) (record { day = parts.day; last_day = parts.last_day }) fit.day fit.last_day)
     (bind_some (rates_in stored.rates.items stored.extensions.items) parts.rates _ _
     ((λ i. rates_in (are.rates i) (are.extensions i)) ∙ rates_read parts.rates fit.rates (subst (λ rows. T (is_sorted nat_cmp (map rate_entry rows))) are.rates rising))
     (bind_some (tickets_in stored.tickets.items stored.lines.items) parts.tickets _ _ ((λ i. tickets_in (are.tickets i) (are.lines i)) ∙ tickets_read parts.tickets fit.tickets)
@@ -220,7 +222,7 @@ parts_read parts stored are fit rising =
 pub parts_are : (parts : Parts) (stored : AllRows) → parts_in stored ≡ Some parts → AreRowsOf parts stored
 unfolding parts_in
 parts_are parts stored e =
-    let days = bind_is (days_in stored.desk.items) _ parts e in
+    let days = bind_is (days_in (version_of stored.form) stored.desk.items) _ parts e in
     let rates = bind_is (rates_in stored.rates.items stored.extensions.items) _ parts days.2 in
     let tickets = bind_is (tickets_in stored.tickets.items stored.lines.items) _ parts rates.2 in
     let bonds = bind_is (each (bond_in (ticket_of tickets.0)) stored.bonds.items) _ parts tickets.2 in
@@ -228,7 +230,7 @@ parts_are parts stored e =
     let terms = rates_is stored.rates.items stored.extensions.items rates.0 rates.1 in
     let paid = tickets_is stored.tickets.items stored.lines.items tickets.0 tickets.1 in
     subst (λ p. AreRowsOf p stored) (some_is _ parts batches.2) (record {
-      desk = days_is stored.desk.items days.0 days.1;
+      desk = days_is (version_of stored.form) stored.desk.items days.0 days.1;
       rates = terms.0;
       extensions = terms.1;
       bonds = each_is (bond_in (ticket_of tickets.0)) (stored_bond tickets.0) (bond_is tickets.0) stored.bonds.items bonds.0 bonds.1;
@@ -238,39 +240,39 @@ parts_are parts stored e =
     })
 
 -- ---- kept replies
-abbrev kept_list : (rows : List StoredReply) → AllByRecursion KeepsReply rows → List (ℕ × Kept)
+abbrev kept_list : (rows : List StoredAnswer) → AllByRecursion KeepsAnswer rows → List ((ℕ × ℕ) × Kept)
 kept_list [] all = []
-kept_list (row ∷ rows) all = (row.number, all.0.0) ∷ kept_list rows all.1
+kept_list (row ∷ rows) all = ((row.desk, row.number), all.0.0) ∷ kept_list rows all.1
 
-kept_rows : (rows : List StoredReply) (all : AllByRecursion KeepsReply rows) → map (λ e. (e.0, reply_row e.1)) (kept_list rows all) ≡ map reply_entry rows
+kept_rows : (rows : List StoredAnswer) (all : AllByRecursion KeepsAnswer rows) → map (λ e. (e.0, reply_row e.1)) (kept_list rows all) ≡ map answer_entry rows
 kept_rows [] all = refl
-kept_rows (row ∷ rows) all = λ i. (row.number, record { act = sym all.0.1.act i; reply = sym all.0.1.reply i }) ∷ kept_rows rows all.1 i
+kept_rows (row ∷ rows) all = λ i. ((row.desk, row.number), record { act = sym all.0.1.act i; reply = sym all.0.1.reply i }) ∷ kept_rows rows all.1 i
 
-kept_right : (rows : List StoredReply) (all : AllByRecursion KeepsReply rows) → AllByRecursion (λ e. IsKept e.0 e.1) (kept_list rows all)
+kept_right : (rows : List StoredAnswer) (all : AllByRecursion KeepsAnswer rows) → AllByRecursion (λ e. IsKept e.0 e.1) (kept_list rows all)
 kept_right [] all = tt
 kept_right (row ∷ rows) all = (all.0.1.is_kept, kept_right rows all.1)
 
-abbrev kept_of : (rows : List StoredReply) → AllByRecursion KeepsReply rows → FinMap number_cmp Kept
+abbrev kept_of : (rows : List StoredAnswer) → AllByRecursion KeepsAnswer rows → FinMap number_cmp Kept
 kept_of rows all = from_entries (kept_list rows all)
 
-kept_entries : (rows : List StoredReply) (all : AllByRecursion KeepsReply rows) → T (is_sorted nat_cmp (map reply_entry rows)) → entries (kept_of rows all) ≡ kept_list rows all
+kept_entries : (rows : List StoredAnswer) (all : AllByRecursion KeepsAnswer rows) → T (is_sorted pair_cmp (map answer_entry rows)) → entries (kept_of rows all) ≡ kept_list rows all
 kept_entries rows all sorted =
-    sorted_entries numbers_total nat_cmp-IsAntisymmetric (kept_list rows all)
-    (subst T (same_sorted number_cmp nat_cmp (λ k. k) (λ k (kept : Kept). reply_row kept) (λ q k. refl) (kept_list rows all)) (subst (λ es. T (is_sorted nat_cmp es)) (sym (kept_rows rows all)) sorted))
+    sorted_entries numbers_total pair_same (kept_list rows all)
+    (subst T (same_sorted number_cmp pair_cmp (λ k. k) (λ k (kept : Kept). reply_row kept) (λ q k. refl) (kept_list rows all)) (subst (λ es. T (is_sorted pair_cmp es)) (sym (kept_rows rows all)) sorted))
 
-keeps : (rows : List StoredReply) (es : List (ℕ × Kept)) → AllByRecursion (λ e. IsKept e.0 e.1) es → map reply_entry rows ≡ map (λ e. (e.0, reply_row e.1)) es → AllByRecursion KeepsReply rows
+keeps : (rows : List StoredAnswer) (es : List ((ℕ × ℕ) × Kept)) → AllByRecursion (λ e. IsKept e.0 e.1) es → map answer_entry rows ≡ map (λ e. (e.0, reply_row e.1)) es → AllByRecursion KeepsAnswer rows
 keeps [] es all e = tt
 keeps (row ∷ rows) [] all e = absurd (cc)
 keeps (row ∷ rows) (k ∷ es) all e =
-    let here = ap (λ l. head_of (row.number, record { act = []; reply = [] }) l) e in (
-      (k.1, record { is_kept = subst (λ n. IsKept n k.1) (sym (ap (λ (p : ℕ × ReplyRow). p.0) here)) all.0; act = ap (λ (p : ℕ × ReplyRow). p.1.act) here; reply = ap (λ (p : ℕ × ReplyRow). p.1.reply) here }),
+    let here = ap (λ l. head_of ((row.desk, row.number), record { act = []; reply = [] }) l) e in (
+      (k.1, record { is_kept = subst (λ n. IsKept n k.1) (sym (ap (λ (p : (ℕ × ℕ) × ReplyRow). p.0) here)) all.0; act = ap (λ (p : (ℕ × ℕ) × ReplyRow). p.1.act) here; reply = ap (λ (p : (ℕ × ℕ) × ReplyRow). p.1.reply) here }),
       keeps rows es all.1 (ap tail_of e),
     )
 
-pub replies_kept : (stored : AllRows) (content : Content) → AreInOrder stored → StandFor (rows_of stored) content → AllByRecursion KeepsReply stored.replies.items
-replies_kept stored content order stands =
-    keeps stored.replies.items (entries content.kept) (all_entries numbers_total nat_cmp-IsAntisymmetric IsKept content.kept stands.right.kept)
-    (entries_of _ _ order.replies (ap (λ (r : Rows). r.replies) stands.are) ∙ reply_entries content.kept)
+pub answers_kept : (stored : AllRows) (content : Content) → AreInOrder stored → StandAt (version_of stored.form) (rows_of stored) content → AllByRecursion KeepsAnswer stored.answers.items
+answers_kept stored content order stands =
+    keeps stored.answers.items (entries content.kept) (all_entries numbers_total pair_same IsKept content.kept stands.right.kept)
+    (entries_of _ _ order.answers (ap (λ (r : Rows). r.answers) stands.are) ∙ reply_entries content.kept)
 
 -- ---- rows of parts stand for the books of these parts
 values_fit : (books : PlainBooks) → AllByRecursion BondFits (finite.values books.bonds) → (s : SerialNumber) → IfSome (finite.get books.bonds s) BondFits
@@ -279,26 +281,26 @@ values_fit books all s =
     (get_all serials_total serials_exact (λ s bond. BondFits bond) (entries books.bonds) (all_unmapped BondFits (λ (e : SerialNumber × Bond). e.1) (entries books.bonds) all) s)
 
 pub content_stands : (stored : AllRows) (books : PlainBooks) → AreInOrder stored → AreRowsOf (parts_of books) stored → PartsFit (parts_of books) → IsSound books
-    → AllByRecursion KeepsReply stored.replies.items → (content : Content) × (content.books ≡ books) × StandFor (rows_of stored) content
+    → AllByRecursion KeepsAnswer stored.answers.items → (content : Content) × (content.books ≡ books) × StandAt (version_of stored.form) (rows_of stored) content
 content_stands stored books order are fit sound all =
-    let rows = stored.replies.items in
-    let desk = map_of (map desk_entry stored.desk.items) (desk_rows books.day books.last_day) order.desk (ap (map desk_entry) are.desk ∙ sym (desk_entries books.day books.last_day)) in
+    let rows = stored.answers.items in
+    let desk = map_of (map desk_entry stored.desk.items) (desk_rows (version_of stored.form) books.day books.last_day) order.desk (ap (map desk_entry) are.desk ∙ sym (desk_entries (version_of stored.form) books.day books.last_day)) in
     let rates = map_of (map rate_entry stored.rates.items) (rate_rows books.rates) order.rates (ap (map rate_entry) are.rates ∙ rates_as books.rates) in
     let extensions = map_of (map rate_entry stored.extensions.items) (extension_rows books.rates) order.extensions (ap (map rate_entry) are.extensions ∙ extensions_as books.rates) in
     let bonds = map_of (map bond_entry stored.bonds.items) (bond_rows books.bonds books.tickets) order.bonds (ap (map bond_entry) are.bonds ∙ bonds_as books sound) in
     let tickets = map_of (map ticket_entry stored.tickets.items) (ticket_rows books.tickets) order.tickets (ap (map ticket_entry) are.tickets ∙ tickets_as books.tickets ∙ sym (ticket_entries books.tickets sound.numbered)) in
     let paid = map_of (map line_entry stored.lines.items) (paid_rows books.tickets) order.lines (ap (map line_entry) are.lines ∙ lines_as books.tickets ∙ sym (paid_entries books.tickets sound.numbered)) in
     let batches = map_of (map batch_entry stored.batches.items) (batch_rows books.batches) order.batches (ap (map batch_entry) are.batches ∙ batches_as books.batches ∙ sym (closed_entries books sound)) in
-    let replies = map_of (map reply_entry rows) (reply_rows (kept_of rows all)) order.replies
-    (sym (kept_rows rows all) ∙ ap (map (λ e. (e.0, reply_row e.1))) (sym (kept_entries rows all order.replies)) ∙ sym (reply_entries (kept_of rows all))) in (
+    let answers = map_of (map answer_entry rows) (reply_rows (kept_of rows all)) order.answers
+    (sym (kept_rows rows all) ∙ ap (map (λ e. (e.0, reply_row e.1))) (sym (kept_entries rows all order.answers)) ∙ sym (reply_entries (kept_of rows all))) in (
       record { books = books; kept = kept_of rows all },
       refl,
       record {
-        are = λ i. record { desk = desk i; rates = rates i; bonds = bonds i; tickets = tickets i; paid = paid i; batches = batches i; replies = replies i; extensions = extensions i };
+        are = λ i. record { desk = desk i; rates = rates i; bonds = bonds i; tickets = tickets i; paid = paid i; batches = batches i; extensions = extensions i; answers = answers i };
         right = record {
           sound = sound;
           in_range = record { bonds = values_fit books fit.bonds; tickets = fit.tickets; batches = fit.batches };
-          kept = get_all numbers_total nat_cmp-IsAntisymmetric IsKept (kept_list rows all) (kept_right rows all);
+          kept = get_all numbers_total pair_same IsKept (kept_list rows all) (kept_right rows all);
         };
       },
     )

@@ -26,11 +26,12 @@ use Rattle.ee_store_opening.specs.declared.entries.StoredBond.{StoredBond}
 use Rattle.ee_store_opening.specs.declared.entries.StoredTicket.{StoredTicket}
 use Rattle.ee_store_opening.specs.declared.entries.StoredLine.{StoredLine}
 use Rattle.ee_store_opening.specs.declared.entries.StoredBatch.{StoredBatch}
-use Rattle.ee_store_opening.specs.declared.entries.StoredReply.{StoredReply}
+use Rattle.ee_store_making.specs.declared.answers.StoredAnswer.{StoredAnswer}
+use Rattle.ee_store_making.specs.Forms.{version_of}
 use Rattle.ee_store_opening.specs.declared.whole.AllRows.{AllRows}
 
-abbrev pub stored_desk : Option ℕ → Option ℕ → StoredDesk
-stored_desk day last_day = record { id = 1; version = 1; day = day; last_day = last_day }
+abbrev pub stored_desk : ℕ → Option ℕ → Option ℕ → StoredDesk
+stored_desk version day last_day = record { id = 1; version = version; day = day; last_day = last_day }
 
 abbrev pub stored_rate : RateRow → StoredRate
 stored_rate row = record { period = row.from; rate = row.rates.fixed }
@@ -75,9 +76,9 @@ stored_lines ticket = placed_lines ticket.ticket 1 ticket.lines
 abbrev pub stored_batch : Batch → StoredBatch
 stored_batch batch = record { day = batch.day; tickets = batch.tickets; bonds = batch.bonds; total = batch.total.0 }
 
--- the rows are those of these parts of books
+-- the rows are those of these parts of books, of the version of their form
 pub record AreRowsOf (parts : Parts) (stored : AllRows) : Type 0 where
-  pub desk : stored.desk.items ≡ stored_desk parts.day parts.last_day ∷ []
+  pub desk : stored.desk.items ≡ stored_desk (version_of stored.form) parts.day parts.last_day ∷ []
   pub rates : stored.rates.items ≡ map stored_rate parts.rates
   pub extensions : stored.extensions.items ≡ filter_map stored_extension parts.rates
   pub bonds : stored.bonds.items ≡ map (stored_bond parts.tickets) parts.bonds
@@ -95,13 +96,13 @@ pub record PartsFit (parts : Parts) : Type 0 where
   pub batches : AllByRecursion BatchFits parts.batches
 
 -- a row of an act and the reply that is kept
-pub record IsReplyRow (row : StoredReply) (kept : Kept) : Type 0 where
-  pub is_kept : IsKept row.number kept
+pub record IsAnswerRow (row : StoredAnswer) (kept : Kept) : Type 0 where
+  pub is_kept : IsKept (row.desk, row.number) kept
   pub act : string_bytes row.act ≡ act_text kept.act
   pub reply : string_bytes row.reply ≡ reply_text kept.reply
 
-abbrev pub KeepsReply : StoredReply → Type 0
-KeepsReply row = (kept : Kept) × IsReplyRow row kept
+abbrev pub KeepsAnswer : StoredAnswer → Type 0
+KeepsAnswer row = (kept : Kept) × IsAnswerRow row kept
 
 -- the tables of unit values for the rates of each period: one for each pair
 abbrev pub tables_for : FinMap nat_cmp Rates → FinMap rates_cmp Rates

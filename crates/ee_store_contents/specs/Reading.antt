@@ -22,6 +22,7 @@ use Rattle.ee_store_opening.specs.declared.entries.StoredTicket.{StoredTicket}
 use Rattle.ee_store_opening.specs.declared.entries.StoredLine.{StoredLine}
 use Rattle.ee_store_opening.specs.declared.entries.StoredBatch.{StoredBatch}
 use Rattle.ee_store_opening.specs.declared.whole.AllRows.{AllRows}
+use Rattle.ee_store_making.specs.Forms.{version_of}
 
 -- what each row stands for, if each stands for something
 abbrev pub each : {A B : Type 0} → (A → Option B) → List A → Option (List B)
@@ -51,11 +52,11 @@ days_of row = do
   last_day ← optional_in day_in row.last_day
   Some (record { day = day; last_day = last_day })
 
--- one row, under 1, of version 1
-abbrev pub days_in : List StoredDesk → Option Days
-days_in [] = None
-days_in (row ∷ []) = if (row.id == 1) && (row.version == 1) then days_of row else None
-days_in (row ∷ other ∷ rows) = None
+-- one row, under 1, of this version
+abbrev pub days_in : ℕ → List StoredDesk → Option Days
+days_in version [] = None
+days_in version (row ∷ []) = if (row.id == 1) && (row.version == version) then days_of row else None
+days_in version (row ∷ other ∷ rows) = None
 
 -- a rate that is another than the fixed one
 abbrev pub other_rate : ℕ → ℕ → Option ℕ
@@ -150,7 +151,7 @@ mark_at marks serial = lookup (is_at (serial_cmp serial)) marks
 -- the parts of books whose rows these are, if they are the rows of books
 unfoldable pub parts_in : AllRows → Option Parts
 parts_in stored = do
-  days ← days_in stored.desk.items
+  days ← days_in (version_of stored.form) stored.desk.items
   rates ← rates_in stored.rates.items stored.extensions.items
   tickets ← tickets_in stored.tickets.items stored.lines.items
   bonds ← each (bond_in (ticket_of tickets)) stored.bonds.items

@@ -1,4 +1,4 @@
--- Which books and kept replies the rows of the store's tables stand for (this project's rule: version 1 of the tables).
+-- Which books and kept replies the rows of the store's tables stand for (this project's rule: version 2 of the tables, and version 1 before it).
 use Rattle.std.specs.Prelude.{◌≡◌, ◌≢◌, ℕ, ◌+◌, ◌≤◌, Option, List, [], ◌∷◌, map, length, IfSome, flat_map, filter_map, option_map}
 use Rattle.std.specs.List.{AllByRecursion}
 use Rattle.std.specs.FinMap as finite
@@ -30,8 +30,8 @@ use Rattle.ee_store_tables.specs.Rows.{Rows, DeskRow, BondRow, TicketRow, PaidRo
 -- ---- the rows of a content
 
 -- one row, under 1: the version of the tables, the open day and the last closed day
-abbrev pub desk_rows : Option ℕ → Option ℕ → FinMap nat_cmp DeskRow
-desk_rows day last_day = from_entries ((1, record { version = 1; day = day; last_day = last_day }) ∷ [])
+abbrev pub desk_rows : ℕ → Option ℕ → Option ℕ → FinMap nat_cmp DeskRow
+desk_rows version day last_day = from_entries ((1, record { version = version; day = day; last_day = last_day }) ∷ [])
 
 -- fixed rates in hundredths of a percent, by period
 abbrev pub rate_rows : FinMap nat_cmp Rates → FinMap nat_cmp ℕ
@@ -88,22 +88,26 @@ batch_rows batches = from_entries (map (λ batch. (batch.day, batch_row batch)) 
 abbrev pub reply_row : Kept → ReplyRow
 reply_row kept = record { act = act_text kept.act; reply = reply_text kept.reply }
 
--- the texts of acts and replies, by request number
-abbrev pub reply_rows : FinMap number_cmp Kept → FinMap nat_cmp ReplyRow
+-- the texts of acts and replies, by desk and number
+abbrev pub reply_rows : FinMap number_cmp Kept → FinMap pair_cmp ReplyRow
 reply_rows kept = from_entries (map (λ e. (e.0, reply_row e.1)) (entries kept))
 
--- all rows of books and kept replies
-abbrev pub rows_of : Content → Rows
-rows_of content = record {
-  desk = desk_rows content.books.day content.books.last_day;
+-- all rows of books and kept replies, where the desk's row names this version
+abbrev pub rows_at : ℕ → Content → Rows
+rows_at version content = record {
+  desk = desk_rows version content.books.day content.books.last_day;
   rates = rate_rows content.books.rates;
   extensions = extension_rows content.books.rates;
   bonds = bond_rows content.books.bonds content.books.tickets;
   tickets = ticket_rows content.books.tickets;
   paid = paid_rows content.books.tickets;
   batches = batch_rows content.books.batches;
-  replies = reply_rows content.kept;
+  answers = reply_rows content.kept;
 }
+
+-- the rows of version 2
+abbrev pub rows_of : Content → Rows
+rows_of content = rows_at 2 content
 
 -- ---- the contents that have rows
 
@@ -113,9 +117,10 @@ pub record AreInRange (books : PlainBooks) : Type 0 where
   pub tickets : AllByRecursion TicketFits books.tickets
   pub batches : AllByRecursion BatchFits books.batches
 
--- a reply that is kept under a number: any but that the number was used for another act
+-- a reply that is kept under a desk's number: any but that the number was used for another act
 pub record IsKept (number : Number) (kept : Kept) : Type 0 where
-  pub number_in_range : (1 ≤ number) × (number ≤ 9223372036854775807)
+  pub desk_in_range : number.0 ≤ 999
+  pub number_in_range : (1 ≤ number.1) × (number.1 ≤ 9223372036854775807)
   pub act_in_range : ActFits kept.act
   pub reply_in_range : ReplyFits kept.reply
   pub first : kept.reply ≢ Refused NumberReused
@@ -126,7 +131,11 @@ pub record IsRight (content : Content) : Type 0 where
   pub in_range : AreInRange content.books
   pub kept : (number : Number) → IfSome (finite.get content.kept number) (IsKept number)
 
--- the rows are those of the content
-pub record StandFor (rows : Rows) (content : Content) : Type 0 where
-  pub are : rows ≡ rows_of content
+-- the rows, in which the desk's row names this version, are those of the content
+pub record StandAt (version : ℕ) (rows : Rows) (content : Content) : Type 0 where
+  pub are : rows ≡ rows_at version content
   pub right : IsRight content
+
+-- rows of version 2 are those of the content
+abbrev pub StandFor : Rows → Content → Type 0
+StandFor rows content = StandAt 2 rows content

@@ -7,14 +7,15 @@ ghost use Rattle.ee_desk_parts.specs.Parts.{AreUnsound};
 ghost use Rattle.ee_desk_parts.specs.Made.{IsMadeOf};
 ghost use Rattle.ee_store_contents.specs.Reading.{parts_in};
 ghost use Rattle.ee_store_opening.specs.Whole.{AreInOrder, rows_of};
-ghost use Rattle.ee_store_contents.specs.Standing.{StandFor};
-ghost use Rattle.ee_store_contents.specs.Contents.{PartsFit, KeepsReply, tables_for};
+ghost use Rattle.ee_store_contents.specs.Standing.{StandAt};
+ghost use Rattle.ee_store_making.specs.Forms.{version_of};
+ghost use Rattle.ee_store_contents.specs.Contents.{PartsFit, KeepsAnswer, tables_for};
 
+use crate::answers::keep_answers;
 use crate::marks::marks_of;
 use crate::ranges::parts_fit;
 use crate::rates::rates_in;
 use crate::reading::{batches_in, bonds_in, days_in};
-use crate::replies::keep_replies;
 use crate::tickets::tickets_in;
 use crate::unit_tables::kept_tables;
 use ee_desk_acts::{Rows, UnitTables};
@@ -51,7 +52,7 @@ fn parts_in(alloc: Global, stored: &AllRows) -> Result<Option<Parts>, AllocError
     ensures value { IfOk result (λ o. o ≡ parts_in stored.now) }
     ensures fits { IfOk result (λ o. IfSome o PartsFit) }
 {
-    let Some(days) = days_in(&stored.desk) else {
+    let Some(days) = days_in(stored.form.version(), &stored.desk) else {
         return Ok(None);
     };
     let Some(rates) = rates_in(alloc, &stored.rates, &stored.extensions)? else {
@@ -84,13 +85,13 @@ fn right_parts(alloc: Global, stored: &AllRows) -> Result<Parts, ContentFault>
     requires { AreInOrder stored.now }
     ensures found { IfOk result (λ parts. Some parts ≡ parts_in stored.now) }
     ensures fits { IfOk result PartsFit }
-    ensures kept { OnOk result (AllByRecursion KeepsReply stored.now.replies.items) }
-    ensures unusable { IfErr result (λ fault. fault ≡ ContentFault.Unusable → (content : Content) → StandFor (rows_of stored.now) content → ⊥) }
+    ensures kept { OnOk result (AllByRecursion KeepsAnswer stored.now.answers.items) }
+    ensures unusable { IfErr result (λ fault. fault ≡ ContentFault.Unusable → (content : Content) → StandAt (version_of stored.now.form) (rows_of stored.now) content → ⊥) }
 {
     let Some(parts) = parts_in(alloc, stored)? else {
         return Err(ContentFault::Unusable);
     };
-    if !keep_replies(alloc, &stored.replies)? {
+    if !keep_answers(alloc, &stored.answers)? {
         return Err(ContentFault::Unusable);
     }
     Ok(parts)
@@ -122,8 +123,8 @@ fn indexes_of(alloc: Global, parts: &Parts) -> Result<Indexes, ContentFault>
 /// books made. It answers `Unusable` exactly where the rows stand for none.
 pub fn tables_of(alloc: Global, stored: &AllRows) -> Result<UnitTables, ContentFault>
     requires { AreInOrder stored.now }
-    ensures ok { IfOk result (λ tables. (content : Content) × (tables ≡ tables_for content.books.rates) × StandFor (rows_of stored.now) content) }
-    ensures unusable { IfErr result (λ fault. fault ≡ ContentFault.Unusable → (content : Content) → StandFor (rows_of stored.now) content → ⊥) }
+    ensures ok { IfOk result (λ tables. (content : Content) × (tables ≡ tables_for content.books.rates) × StandAt (version_of stored.now.form) (rows_of stored.now) content) }
+    ensures unusable { IfErr result (λ fault. fault ≡ ContentFault.Unusable → (content : Content) → StandAt (version_of stored.now.form) (rows_of stored.now) content → ⊥) }
 {
     let parts = right_parts(alloc, stored)?;
     let indexes = indexes_of(alloc, &parts)?;

@@ -1,13 +1,13 @@
 //! What the rows of the store's tables stand for: books, and the replies that are kept.
 #![tactic(auto)]
 
+mod answers;
 mod contents;
 mod laws;
 mod marks;
 mod ranges;
 mod rates;
 mod reading;
-mod replies;
 mod tickets;
 mod unit_tables;
 

@@ -64,15 +64,15 @@ fn days_of(row: &StoredDesk) -> Option<Days>
     Some(Days { day, last_day })
 }
 
-/// The days of the desk's one row.
-pub fn days_in(rows: &[StoredDesk]) -> Option<Days>
-    ensures { result ≡ days_in rows.now }
+/// The days of the desk's one row, where that is of this version.
+pub fn days_in(version: u64, rows: &[StoredDesk]) -> Option<Days>
+    ensures { result ≡ days_in version rows.now }
 {
     let (row, rest) = rows.split_first()?;
     if !rest.is_empty() {
         return None;
     }
-    if row.id == 1 && row.version == 1 {
+    if row.id == 1 && row.version == version {
         days_of(row)
     } else {
         None

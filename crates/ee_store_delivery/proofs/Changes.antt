@@ -79,11 +79,11 @@ reply_case true k o = refl
 reply_case false k o = refl
 
 pub with_new_reply : (kept : FinMap number_cmp Kept) (n : Number) (k : Kept) → reply_rows (insert kept n k) ≡ insert (reply_rows kept) n (reply_row k)
-with_new_reply kept n k = same_map nat_cmp_total nat_cmp-IsAntisymmetric _ _ (λ q.
+with_new_reply kept n k = same_map pair_total pair_same _ _ (λ q.
     get_reply_row (insert kept n k) q ∙ ap (option_map reply_row) (get-insert numbers_total kept n k q)
     ∙ reply_case (eq_by_cmp number_cmp q n) k (finite.get kept q)
     ∙ ap (cond (eq_by_cmp number_cmp q n) (Some (reply_row k))) (sym (get_reply_row kept q))
-    ∙ sym (get-insert nat_cmp_total (reply_rows kept) n (reply_row k) q))
+    ∙ sym (get-insert pair_total (reply_rows kept) n (reply_row k) q))
 
 -- ---- bonds
 abbrev at : ℕ × ℕ → SerialNumber
@@ -112,14 +112,14 @@ one_row true x y = refl
 one_row false x y = refl
 
 pub with_other_days : (day last_day other_day other_last : Option ℕ)
-    → desk_rows other_day other_last ≡ insert (desk_rows day last_day) 1 (record { version = 1; day = other_day; last_day = other_last })
+    → desk_rows 2 other_day other_last ≡ insert (desk_rows 2 day last_day) 1 (record { version = 2; day = other_day; last_day = other_last })
 with_other_days day last_day other_day other_last =
-    let old : DeskRow = record { version = 1; day = day; last_day = last_day } in
-    let new : DeskRow = record { version = 1; day = other_day; last_day = other_last } in
+    let old : DeskRow = record { version = 2; day = day; last_day = last_day } in
+    let new : DeskRow = record { version = 2; day = other_day; last_day = other_last } in
     same_map nat_cmp_total nat_cmp-IsAntisymmetric _ _ (λ q.
     get-from_entries nat_cmp_total ((1, new) ∷ []) q ∙ one_row (eq_by_cmp nat_cmp q 1) new old
     ∙ ap (cond (eq_by_cmp nat_cmp q 1) (Some new)) (sym (get-from_entries nat_cmp_total ((1, old) ∷ []) q))
-    ∙ sym (get-insert nat_cmp_total (desk_rows day last_day) 1 new q))
+    ∙ sym (get-insert nat_cmp_total (desk_rows 2 day last_day) 1 new q))
 
 -- ---- tickets
 above_apart : (m n : ℕ) → m < n → eq_by_cmp nat_cmp n m ≡ false

@@ -32,7 +32,7 @@ use Rattle.ee_desk_acts.proofs.Lemmas.Requests.{content_after-new}
 use Rattle.ee_desk_acts.proofs.Lemmas.Books.{seen_enough, applied_are_books_after, act_keeps_sound}
 use Rattle.ee_desk.proofs.Lemmas.{decided_are_applicable}
 use Rattle.ee_desk_texts.specs.Ranges.{ActFits, ReplyFits, RateRowFits, BondFits, TicketFits, BatchFits}
-use Rattle.ee_store_tables.specs.Rows.{with_reply}
+use Rattle.ee_store_tables.specs.Rows.{with_answer}
 use Rattle.ee_store_contents.specs.Standing.{rows_of, reply_row, AreInRange, IsKept, IsRight}
 use Rattle.ee_store_delivery.specs.Written.{applied_rows}
 use Rattle.ee_store_delivery.proofs.Changes.{with_new_reply}
@@ -105,7 +105,7 @@ all_in_range books (c ∷ cs) h fits = all_in_range (changed books c) cs (stays_
 
 -- ---- one request more
 module _ (S : Content) (q : Request) (right : IsRight S) (new : finite.get S.kept (number_of q) ≡ None) (asked : ActFits q.act)
-    (numbered : (1 ≤ number_of q) × (number_of q ≤ 9223372036854775807)) (told : ReplyFits (act S.books q.act).reply) where
+    (here : (number_of q).0 ≤ 999) (numbered : (1 ≤ (number_of q).1) × ((number_of q).1 ≤ 9223372036854775807)) (told : ReplyFits (act S.books q.act).reply) where
   abbrev effects : Effects
   effects = effects_of (shown S.books) q.act
 
@@ -125,7 +125,7 @@ module _ (S : Content) (q : Request) (right : IsRight S) (new : finite.get S.kep
   content_is = content_after-new S q (ap is_some new)
 
   own_is_kept : IsKept (number_of q) own
-  own_is_kept = record { number_in_range = numbered; act_in_range = asked; reply_in_range = told; first = never_reused (shown S.books) q.act }
+  own_is_kept = record { desk_in_range = here; number_in_range = numbered; act_in_range = asked; reply_in_range = told; first = never_reused (shown S.books) q.act }
 
   all_kept : (n : Number) → IfSome (finite.get (insert S.kept (number_of q) own) n) (IsKept n)
   all_kept n = subst (λ o. IfSome o (IsKept n)) (sym (get-insert numbers_total S.kept (number_of q) own n)) (by_case (eq_by_cmp number_cmp n (number_of q)) refl)
@@ -141,10 +141,10 @@ module _ (S : Content) (q : Request) (right : IsRight S) (new : finite.get S.kep
     kept = all_kept;
   })
 
-  pub rows_after : rows_of (content_after S (q ∷ [])) ≡ with_reply (applied_rows S.books.last_day (rows_of S) effects.changes) (number_of q) (reply_row own)
+  pub rows_after : rows_of (content_after S (q ∷ [])) ≡ with_answer (applied_rows S.books.last_day (rows_of S) effects.changes) (number_of q) (reply_row own)
   rows_after =
       let sound = subst IsSound (sym books_are) sound_then in
       let fitting = decided_are_applicable S.books effects right.sound fits (q.act, sym (seen_enough S.books q.act)) in
       ap rows_of content_is
-      ∙ (λ i. record (rows_of (with_books S (sym books_are i))) { replies = with_new_reply S.kept (number_of q) own i })
-      ∙ ap (λ rows. with_reply rows (number_of q) (reply_row own)) (written S effects.changes sound fitting)
+      ∙ (λ i. record (rows_of (with_books S (sym books_are i))) { answers = with_new_reply S.kept (number_of q) own i })
+      ∙ ap (λ rows. with_answer rows (number_of q) (reply_row own)) (written S effects.changes sound fitting)

@@ -18,16 +18,16 @@ module _ (old start : State) (is : start ≡ begun old) where
 
   module _ (settled : IsTrue old.is_open → old.now ≡ old.committed) (middle new : State) where
     -- a transaction that was rolled back leaves the room that there was
-    pub rolled_room : KeepsCommit start middle → IsRolledBack middle new → (n : ℕ) → HasRoom (500 + n) old → HasRoom n new
+    pub rolled_room : KeepsCommit start middle → IsRolledBack middle new → (n : ℕ) → HasRoom (501 + n) old → HasRoom n new
     rolled_room keeps rolled n room =
         same_room old new n (λ is_open.
         let before = rolled.was_open is_open in
         let was_open = subst (λ (s : State). IsTrue s.is_open) is (keeps.was_open before) in
         (was_open, (rolled.undone is_open).0 ∙ keeps.committed before ∙ ap (λ (s : State). s.committed) is ∙ sym (settled was_open)))
-        (room_less old n (500 + n) (omega arith) room)
+        (room_less old n (501 + n) (omega arith) room)
 
     -- so does a commit that failed
-    pub failed_room : IsInside middle → KeepsCommit start middle → (e : Error) → FailsToCommit middle new e → (n : ℕ) → HasRoom (500 + n) old → HasRoom n new
+    pub failed_room : IsInside middle → KeepsCommit start middle → (e : Error) → FailsToCommit middle new e → (n : ℕ) → HasRoom (501 + n) old → HasRoom n new
     failed_room inside keeps e (inl fails) n room = rolled_room keeps fails.3 n room
     failed_room inside keeps e (inr (is_late, ended, same)) n room = λ is_open. absurd (let e = sym (inside same.0.was_open).0 ∙ ended in cc)
 

@@ -18,7 +18,7 @@ use Rattle.ee_store_tables.proofs.Lemmas.Transactions.{unchanged_sees}
 use Rattle.ee_store_contents.proofs.Lemmas.{get_reply_row}
 use Rattle.ee_desk_texts.specs.Ranges.{ActFits, ReplyFits}
 use Rattle.ee_desk_texts.specs.Texts.{act_text, reply_text}
-use Rattle.ee_store_tables.specs.Rows.{Rows, ReplyRow, Sees, with_reply}
+use Rattle.ee_store_tables.specs.Rows.{Rows, ReplyRow, Sees, with_answer}
 use Rattle.ee_store_contents.specs.Standing.{rows_of, reply_row, IsRight, IsKept}
 use Rattle.ee_store_delivery.specs.Written.{applied_rows}
 use Rattle.ee_store_lookups.specs.Seen.{SeesContent}
@@ -33,22 +33,22 @@ same_rows last day rows (c ∷ cs) is = ap (λ d. applied_rows d rows (c ∷ cs)
 
 -- a number that isn't kept: its changes and its reply are written
 pub is_decided : (new : State) (q : Request) (S : Content) (changes : List Change) (reply : Reply) (last : Option ℕ) (row : ReplyRow)
-    → IsRight S → finite.get S.kept (number_of q) ≡ None → ActFits q.act → (1 ≤ number_of q) × (number_of q ≤ 9223372036854775807) → ReplyFits reply
+    → IsRight S → finite.get S.kept (number_of q) ≡ None → ActFits q.act → (number_of q).0 ≤ 999 → (1 ≤ (number_of q).1) × ((number_of q).1 ≤ 9223372036854775807) → ReplyFits reply
     → record { changes = changes; reply = reply } ≡ effects_of (shown S.books) q.act → (changes ≢ [] → last ≡ S.books.last_day)
     → row ≡ record { act = act_text q.act; reply = reply_text reply }
-    → Sees new (with_reply (applied_rows last (rows_of S) changes) (number_of q) row) → IsDecided new q S reply
-is_decided new q S changes reply last row right none fits numbered told effects day words sees =
+    → Sees new (with_answer (applied_rows last (rows_of S) changes) (number_of q) row) → IsDecided new q S reply
+is_decided new q S changes reply last row right none fits here numbered told effects day words sees =
     let says = ap (λ (e : Effects). e.reply) effects in
     let range = subst ReplyFits says told in
-    let rows = rows_after S q right none fits numbered range in
+    let rows = rows_after S q right none fits here numbered range in
     let own = words ∙ ap (λ r. record { act = act_text q.act; reply = reply_text r }) says in
     record {
       told = says;
       seen = record {
-        right = right_after S q right none fits numbered range;
+        right = right_after S q right none fits here numbered range;
         rows = subst (Sees new)
-            (ap (λ made. with_reply made (number_of q) row) (same_rows last S.books.last_day (rows_of S) changes day)
-            ∙ (λ i. with_reply (applied_rows S.books.last_day (rows_of S) (effects i).changes) (number_of q) (own i)) ∙ sym rows) sees;
+            (ap (λ made. with_answer made (number_of q) row) (same_rows last S.books.last_day (rows_of S) changes day)
+            ∙ (λ i. with_answer (applied_rows S.books.last_day (rows_of S) (effects i).changes) (number_of q) (own i)) ∙ sym rows) sees;
       };
     }
 
@@ -58,7 +58,7 @@ kept_by row (Some kept) is = (kept, refl, ap (λ o. unwrap_or o row) is)
 
 -- a number that is kept: nothing changes
 pub is_again : (old new : State) (q : Request) (S : Content) (row : ReplyRow) (reply : Reply) → IsUnchanged old new → SeesContent old S
-    → Some row ≡ finite.get (rows_of S).replies (number_of q) → ActFits q.act → IsAgain row.act row.reply (act_text q.act) reply → IsServed new q S false reply
+    → Some row ≡ finite.get (rows_of S).answers (number_of q) → ActFits q.act → IsAgain row.act row.reply (act_text q.act) reply → IsServed new q S false reply
 is_again old new q S row reply same sees is fits again =
     let found = kept_by row (finite.get S.kept (number_of q)) (is ∙ get_reply_row S.kept (number_of q)) in
     let kept = found.0 in
@@ -75,7 +75,7 @@ not_kept : (o : Option Kept) → None ≡ option_map reply_row o → o ≡ None
 not_kept None is = refl
 not_kept (Some kept) is = absurd (cc)
 
-pub is_new : (S : Content) (n : Number) → None ≡ finite.get (rows_of S).replies n → finite.get S.kept n ≡ None
+pub is_new : (S : Content) (n : Number) → None ≡ finite.get (rows_of S).answers n → finite.get S.kept n ≡ None
 is_new S n is = not_kept (finite.get S.kept n) (is ∙ get_reply_row S.kept n)
 
 pub is_first : (new : State) (q : Request) (S : Content) (reply : Reply) → finite.get S.kept (number_of q) ≡ None → IsDecided new q S reply → IsServed new q S true reply

@@ -320,32 +320,32 @@ few_rows seen asked = by_case (length_refusal asked) refl
     by_case None is = few_unless seen asked (refusal_of seen asked) is
     by_case (Some refusal) is = subst (λ (e : Effects). all_added_rows e.changes ≤ 500) (sym (refused_by_length seen asked refusal is)) (omega arith)
 
--- ---- the replies stay
-day_stays : (rows : Rows) (day last : Option ℕ) (desk : Option DeskRow) → (day_set rows day last desk).replies ≡ rows.replies
+-- ---- the kept replies stay
+day_stays : (rows : Rows) (day last : Option ℕ) (desk : Option DeskRow) → (day_set rows day last desk).answers ≡ rows.answers
 day_stays rows day last None = refl
 day_stays rows day last (Some desk) = refl
 
-mark_stays : (rows : Rows) (k : ℕ × ℕ) (t : ℕ) (bond : Option BondRow) → (marked_as rows k t bond).replies ≡ rows.replies
+mark_stays : (rows : Rows) (k : ℕ × ℕ) (t : ℕ) (bond : Option BondRow) → (marked_as rows k t bond).answers ≡ rows.answers
 mark_stays rows k t None = refl
 mark_stays rows k t (Some bond) = refl
 
-lines_stay : (rows : Rows) (n place : ℕ) (lines : List PaidRow) → (with_lines rows n place lines).replies ≡ rows.replies
+lines_stay : (rows : Rows) (n place : ℕ) (lines : List PaidRow) → (with_lines rows n place lines).answers ≡ rows.answers
 lines_stay rows n place [] = refl
 lines_stay rows n place (line ∷ lines) =
     lines_stay (with_line rows n place line) n (place + 1) lines
     ∙ mark_stays (with_paid rows (n, place) line) (line.letter, line.number) n (finite.get rows.bonds (line.letter, line.number))
 
-named_stays : (rows : Rows) (from : ℕ) (extension : Option ℕ) → (with_named rows from extension).replies ≡ rows.replies
+named_stays : (rows : Rows) (from : ℕ) (extension : Option ℕ) → (with_named rows from extension).answers ≡ rows.answers
 named_stays rows from None = refl
 named_stays rows from (Some extension) = refl
 
-change_stays : (last : Option ℕ) (rows : Rows) (c : Change) → (changed_rows last rows c).replies ≡ rows.replies
+change_stays : (last : Option ℕ) (rows : Rows) (c : Change) → (changed_rows last rows c).answers ≡ rows.answers
 change_stays last rows (change.Rates from rates) = named_stays (with_rate rows (from, rates.fixed)) from (named_extension rates)
 change_stays last rows (change.Bond bond) = refl
 change_stays last rows (change.Day day) = day_stays rows (Some day) last (finite.get rows.desk 1)
 change_stays last rows (change.Ticket ticket) = lines_stay (with_ticket rows ticket.ticket (ticket_row ticket)) ticket.ticket 1 (map paid_row ticket.lines)
 change_stays last rows (change.Batch batch) = day_stays (with_batch rows batch.day (batch_row batch)) None (Some batch.day) (finite.get rows.desk 1)
 
-pub replies_stay : (last : Option ℕ) (rows : Rows) (cs : List Change) → (applied_rows last rows cs).replies ≡ rows.replies
-replies_stay last rows [] = refl
-replies_stay last rows (c ∷ cs) = replies_stay last (changed_rows last rows c) cs ∙ change_stays last rows c
+pub answers_stay : (last : Option ℕ) (rows : Rows) (cs : List Change) → (applied_rows last rows cs).answers ≡ rows.answers
+answers_stay last rows [] = refl
+answers_stay last rows (c ∷ cs) = answers_stay last (changed_rows last rows c) cs ∙ change_stays last rows c

@@ -96,17 +96,17 @@ bonds_written S (change.Ticket ticket ∷ cs) h new unpaid = absurd h.0
 bonds_written S (change.Batch batch ∷ cs) h new unpaid = absurd h.0
 
 -- ---- days
-days_set : (rows : Rows) (day last_day old_day old_last : Option ℕ) (o : Option DeskRow) → o ≡ Some (record { version = 1; day = old_day; last_day = old_last })
-    → record rows { desk = insert rows.desk 1 (record { version = 1; day = day; last_day = last_day }) } ≡ day_set rows day last_day o
+days_set : (rows : Rows) (day last_day old_day old_last : Option ℕ) (o : Option DeskRow) → o ≡ Some (record { version = 2; day = old_day; last_day = old_last })
+    → record rows { desk = insert rows.desk 1 (record { version = 2; day = day; last_day = last_day }) } ≡ day_set rows day last_day o
 days_set rows day last_day old_day old_last None is = absurd (cc)
 days_set rows day last_day old_day old_last (Some desk) is =
     ap (λ (d : DeskRow). record rows { desk = insert rows.desk 1 (record d { day = day; last_day = last_day }) }) (sym (same_Some desk _ is))
 
-days_written : (rows : Rows) (day last_day old_day old_last : Option ℕ) → rows.desk ≡ desk_rows old_day old_last
-    → record rows { desk = desk_rows day last_day } ≡ day_set rows day last_day (finite.get rows.desk 1)
+days_written : (rows : Rows) (day last_day old_day old_last : Option ℕ) → rows.desk ≡ desk_rows 2 old_day old_last
+    → record rows { desk = desk_rows 2 day last_day } ≡ day_set rows day last_day (finite.get rows.desk 1)
 days_written rows day last_day old_day old_last is =
-    (λ i. record rows { desk = (with_other_days old_day old_last day last_day ∙ ap (λ desk. insert desk 1 (record { version = 1; day = day; last_day = last_day })) (sym is)) i })
-    ∙ days_set rows day last_day old_day old_last (finite.get rows.desk 1) (ap (λ desk. finite.get desk 1) is ∙ get_desk_row old_day old_last)
+    (λ i. record rows { desk = (with_other_days old_day old_last day last_day ∙ ap (λ desk. insert desk 1 (record { version = 2; day = day; last_day = last_day })) (sym is)) i })
+    ∙ days_set rows day last_day old_day old_last (finite.get rows.desk 1) (ap (λ desk. finite.get desk 1) is ∙ get_desk_row 2 old_day old_last)
 
 -- ---- a ticket
 numbered_front : (n : ℕ) (tickets more : List Ticket) → NumberedFrom n (tickets ++ more) → NumberedFrom n tickets
@@ -133,7 +133,7 @@ batch_written : (S : Content) (b : Batch) → Rising (map day_of_batch (S.books.
 batch_written S b rising =
     let days = append-nil (map day_of_batch (S.books.batches ++ b ∷ [])) ∙ map-append day_of_batch S.books.batches (b ∷ []) in
     let later = rising_below (map day_of_batch S.books.batches) b.day (subst Rising days rising) in
-    (λ i. record (rows_of S) { desk = desk_rows None (Some b.day); batches = with_new_batch S.books.batches b later i })
+    (λ i. record (rows_of S) { desk = desk_rows 2 None (Some b.day); batches = with_new_batch S.books.batches b later i })
     ∙ days_written (with_batch (rows_of S) b.day (batch_row b)) None (Some b.day) S.books.day S.books.last_day refl
 
 pub written : (S : Content) (cs : List Change) → IsSound (applied S.books cs) → AreApplicable S.books cs → IsWritten S cs

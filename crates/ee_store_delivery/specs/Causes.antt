@@ -19,17 +19,17 @@ LeavesRoom old new result count = HasCleanDisk new → IsInside old → OnOk res
 abbrev pub TextsFit : Content → Request → Type 0
 TextsFit content request = length (act_text request.act) + length (reply_text (act content.books request.act).reply) ≤ 900000000
 
--- in a transaction that sees a content, a request takes room for 500 rows at most
+-- in a transaction that sees a content, a request takes room for 501 rows at most
 abbrev pub LeavesRoomAfter : {X : Type 0} → State → State → Result X Failure → Type 0
-LeavesRoomAfter old new result = HasCleanDisk new → IsInside old → OnOk result ((content : Content) → SeesContent old content → (n : ℕ) → HasRoom (500 + n) old → HasRoom n new)
+LeavesRoomAfter old new result = HasCleanDisk new → IsInside old → OnOk result ((content : Content) → SeesContent old content → (n : ℕ) → HasRoom (501 + n) old → HasRoom n new)
 
 -- a request to a store that is ready, with room for the rows of one request, whose texts fit
 abbrev pub CanDeliver : State → Content → Request → Type 0
-CanDeliver old content request = IsReady old × HasContent old content × TextsFit content request × HasRoom 500 old
+CanDeliver old content request = IsReady old × HasContent old content × TextsFit content request × HasRoom 501 old
 
 abbrev pub DeliversOrFails : {X : Type 0} → State → State → Request → Result X Failure → Type 0
 DeliversOrFails old new request result = HasCleanDisk new → (content : Content) → CanDeliver old content request → IfErr result (IsExcused old new)
 
--- a request takes room for 500 rows at most
+-- a request takes room for 501 rows at most
 abbrev pub TakesRequestRoom : State → State → Type 0
-TakesRequestRoom old new = HasCleanDisk new → IsReady old → (content : Content) → HasContent old content → (n : ℕ) → HasRoom (500 + n) old → HasRoom n new
+TakesRequestRoom old new = HasCleanDisk new → IsReady old → (content : Content) → HasContent old content → (n : ℕ) → HasRoom (501 + n) old → HasRoom n new

@@ -26,7 +26,7 @@ use crate::view::effects_in;
 use crate::writing::write_changes;
 use ee_desk_acts::{Effects, Refusal, Reply, Request, UnitTables};
 use ee_desk_texts::{canonical, read_reply, reply_text};
-use ee_store_tables::{Failure, ReplyRow, add_reply, find_reply};
+use ee_store_tables::{Failure, ReplyRow, add_answer, find_answer};
 use sqlite::{Alter, Connection, Transaction};
 use std::alloc::Global;
 
@@ -66,14 +66,15 @@ fn decide_in<S: Alter>(
     ensures crash { LeavesNoMore (state S.Store tx.old.conn.now) (state S.Store tx.new.conn.now) }
     ensures room { LeavesRoomAfter (state S.Store tx.old.conn.now) (state S.Store tx.new.conn.now) result }
     ensures cause { FailsByCause (state S.Store tx.old.conn.now) (state S.Store tx.new.conn.now) result
-        (λ content. (finite.get content.kept (number_of request.now) ≡ None) × TextsFit content request.now × HasRoom 500 (state S.Store tx.old.conn.now)) }
+        (λ content. (finite.get content.kept (number_of request.now) ≡ None) × TextsFit content request.now × HasRoom 501 (state S.Store tx.old.conn.now)) }
 {
     let (effects, last_day) = effects_in(tx, alloc, tables, &request.act)?;
     let Effects { changes, reply } = effects;
     let words = reply_text(alloc, &reply)?;
     write_changes(tx, alloc, last_day, changes.as_slice())?;
     let entry = ReplyRow { act, reply: words };
-    add_reply(tx, request.number.value(), &entry)?;
+    let desk = request.desk.number() as u64;
+    add_answer(tx, desk, request.number.value(), &entry)?;
     Ok(reply)
 }
 
@@ -94,10 +95,11 @@ pub fn serve_in<S: Alter>(
     ensures crash { LeavesNoMore (state S.Store tx.old.conn.now) (state S.Store tx.new.conn.now) }
     ensures room { LeavesRoomAfter (state S.Store tx.old.conn.now) (state S.Store tx.new.conn.now) result }
     ensures cause { FailsByCause (state S.Store tx.old.conn.now) (state S.Store tx.new.conn.now) result
-        (λ content. TextsFit content request.now × HasRoom 500 (state S.Store tx.old.conn.now)) }
+        (λ content. TextsFit content request.now × HasRoom 501 (state S.Store tx.old.conn.now)) }
 {
     let act = canonical(alloc, &request.act)?;
-    if let Some(entry) = find_reply(tx, request.number.value())? {
+    let desk = request.desk.number() as u64;
+    if let Some(entry) = find_answer(tx, desk, request.number.value())? {
         let kept_act = entry.act.as_str();
         let kept_reply = entry.reply.as_str();
         let asked = act.as_str();

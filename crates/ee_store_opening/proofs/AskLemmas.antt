@@ -158,6 +158,20 @@ returns_replies schema base = refl
 pub only_replies : OnlyAsks (codes "SELECT number, act, reply FROM replies ORDER BY number")
 only_replies = understood_none _ returns_replies
 
+returns_answers : ReturnsNone (first (codes "SELECT desk, number, act, reply FROM answers ORDER BY desk, number"))
+unfolding first returning everything
+returns_answers schema base = refl
+
+pub only_answers : OnlyAsks (codes "SELECT desk, number, act, reply FROM answers ORDER BY desk, number")
+only_answers = understood_none _ returns_answers
+
+returns_answer_rowids : ReturnsNone (first (codes "SELECT rowid FROM answers ORDER BY rowid"))
+unfolding first returning everything
+returns_answer_rowids schema base = refl
+
+pub only_answer_rowids : OnlyAsks (codes "SELECT rowid FROM answers ORDER BY rowid")
+only_answer_rowids = understood_none _ returns_answer_rowids
+
 returns_extensions : ReturnsNone (first (codes "SELECT period, rate FROM extensions ORDER BY period"))
 unfolding first returning everything
 returns_extensions schema base = refl

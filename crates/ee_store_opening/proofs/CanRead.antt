@@ -19,10 +19,13 @@ use Rattle.ee_store_opening.specs.declared.entries.StoredReply.{StoredReply}
 use Rattle.ee_store_opening.specs.declared.entries.Rowid.{Rowid}
 use Rattle.ee_store_opening.specs.Reading.{whole_table, CanBeRead}
 use Rattle.ee_store_opening.specs.Shown as spec
-use Rattle.ee_store_opening.specs.Shown.{pair_lt, keyed_shown, pair_shown, IsKeyed, IsPaired, IsReply, IsRowid, AreWritten}
-use Rattle.ee_store_opening.proofs.QuestionLemmas.{by_key, by_pair, desk_terms, rate_terms, bond_terms, ticket_terms, line_terms, batch_terms, reply_terms, rowid_terms}
+use Rattle.ee_store_opening.specs.Shown.{pair_lt, keyed_shown, pair_shown, IsKeyed, IsPaired, IsReply, IsAnswerRow, IsRowid, AreWritten}
+use Rattle.ee_store_making.specs.declared.answers.StoredAnswer.{StoredAnswer}
+use Rattle.ee_store_making.specs.Forms.{at_first_desk}
+use Rattle.ee_store_making.specs.Migrating.{answer_entry}
+use Rattle.ee_store_opening.proofs.QuestionLemmas.{by_key, by_pair, desk_terms, rate_terms, bond_terms, ticket_terms, line_terms, batch_terms, reply_terms, answer_terms, rowid_terms}
 use Rattle.ee_store_opening.proofs.EachTable.{un_desk, back_desk, un_rates, back_rates, un_bonds, back_bonds, un_tickets, back_tickets, un_lines, back_lines, un_batches, back_batches, un_replies, back_replies}
-use Rattle.ee_store_opening.proofs.UsableLemmas.{can_read_keyed, all_keyed, all_replies, can_read_pairs, can_read_rowids}
+use Rattle.ee_store_opening.proofs.UsableLemmas.{can_read_keyed, all_keyed, all_paired, all_replies, all_answers, can_read_pairs, can_read_rowids}
 
 desk_shows : (r : Row) (p : ℤ × (ℕ × DeskRow)) → ReadAlike r (row_of desk_columns (pos p.1.0, p.1)) → output (whole_table 0 desk_terms by_key) ([] ∷ r ∷ []) ≡ (Int (pos p.1.0) ∷ [], keyed_shown desk_columns p.1)
 desk_shows r p one = rw (one 0, one 2, one 3, one 4) refl
@@ -58,7 +61,7 @@ can_read_batches db m holds = can_read_keyed batch_columns un_batches back_batch
 reply_shows : (r : Row) (p : ℤ × (ℕ × ReplyRow)) → ReadAlike r (row_of reply_columns (pos p.1.0, p.1)) → output (whole_table 11 reply_terms by_key) ([] ∷ r ∷ []) ≡ (Int (pos p.1.0) ∷ [], keyed_shown reply_columns p.1)
 reply_shows r p one = rw (one 0, one 2, one 3) refl
 
-pub can_read_replies : (db : Trees) (m : FinMap nat_cmp ReplyRow) → AreWritten m → HoldsMap reply_columns (db 11) m → CanBeRead IsReply spec.reply_shown (λ (a b : StoredReply). nat_lt a.number b.number) db (whole_table 11 reply_terms by_key)
+pub can_read_replies : (db : Trees) (m : FinMap nat_cmp ReplyRow) → AreWritten (at_first_desk m) → HoldsMap reply_columns (db 11) m → CanBeRead IsReply spec.reply_shown (λ (a b : StoredReply). nat_lt a.number b.number) db (whole_table 11 reply_terms by_key)
 can_read_replies db m written holds = can_read_keyed reply_columns un_replies back_replies 11 reply_terms reply_shows db m refl holds spec.reply_entry IsReply (all_replies m written)
 
 bond_shows : (r : Row) (p : ℤ × ((ℕ × ℕ) × BondRow)) → ReadAlike r (stored bond_columns p) → output (whole_table 2 bond_terms by_pair) ([] ∷ r ∷ []) ≡ (Int (pos p.1.0.0) ∷ Int (pos p.1.0.1) ∷ [], pair_shown bond_columns p.1)
@@ -66,7 +69,7 @@ bond_shows r p one = rw (one 1, one 2, one 3, one 4, one 5, one 6, one 7) refl
 
 pub can_read_bonds : (db : Trees) (m : FinMap pair_cmp BondRow) → HoldsPairs bond_columns (db 2) m
     → CanBeRead (IsPaired bond_columns) spec.bond_shown (λ (a b : StoredBond). pair_lt (a.letter, a.number) (b.letter, b.number)) db (whole_table 2 bond_terms by_pair)
-can_read_bonds db m holds = can_read_pairs bond_columns un_bonds back_bonds 2 bond_terms bond_shows db m refl holds spec.bond_entry
+can_read_bonds db m holds = can_read_pairs bond_columns un_bonds back_bonds 2 bond_terms bond_shows db m refl holds spec.bond_entry (IsPaired bond_columns) (all_paired bond_columns (entries m))
 
 pub can_read_bond_rowids : (db : Trees) (m : FinMap pair_cmp BondRow) → HoldsPairs bond_columns (db 2) m → CanBeRead IsRowid (λ (it : Rowid). Int it.rowid ∷ []) (λ (a b : Rowid). int_lt a.rowid b.rowid) db (whole_table 2 rowid_terms by_key)
 can_read_bond_rowids db m holds = can_read_rowids 2 bond_columns db m refl holds
@@ -76,7 +79,17 @@ line_shows r p one = rw (one 1, one 2, one 3, one 4, one 5) refl
 
 pub can_read_lines : (db : Trees) (m : FinMap pair_cmp PaidRow) → HoldsPairs paid_columns (db 7) m
     → CanBeRead (IsPaired paid_columns) spec.line_shown (λ (a b : StoredLine). pair_lt (a.ticket, a.place) (b.ticket, b.place)) db (whole_table 7 line_terms by_pair)
-can_read_lines db m holds = can_read_pairs paid_columns un_lines back_lines 7 line_terms line_shows db m refl holds spec.line_entry
+can_read_lines db m holds = can_read_pairs paid_columns un_lines back_lines 7 line_terms line_shows db m refl holds spec.line_entry (IsPaired paid_columns) (all_paired paid_columns (entries m))
 
 pub can_read_line_rowids : (db : Trees) (m : FinMap pair_cmp PaidRow) → HoldsPairs paid_columns (db 7) m → CanBeRead IsRowid (λ (it : Rowid). Int it.rowid ∷ []) (λ (a b : Rowid). int_lt a.rowid b.rowid) db (whole_table 7 rowid_terms by_key)
 can_read_line_rowids db m holds = can_read_rowids 7 paid_columns db m refl holds
+
+answer_shows : (r : Row) (p : ℤ × ((ℕ × ℕ) × ReplyRow)) → ReadAlike r (stored reply_columns p) → output (whole_table 13 answer_terms by_pair) ([] ∷ r ∷ []) ≡ (Int (pos p.1.0.0) ∷ Int (pos p.1.0.1) ∷ [], pair_shown reply_columns p.1)
+answer_shows r p one = rw (one 1, one 2, one 3, one 4) refl
+
+pub can_read_answers : (db : Trees) (m : FinMap pair_cmp ReplyRow) → AreWritten m → HoldsPairs reply_columns (db 13) m
+    → CanBeRead IsAnswerRow spec.answer_shown (λ (a b : StoredAnswer). pair_lt (a.desk, a.number) (b.desk, b.number)) db (whole_table 13 answer_terms by_pair)
+can_read_answers db m written holds = can_read_pairs reply_columns un_replies back_replies 13 answer_terms answer_shows db m refl holds answer_entry IsAnswerRow (all_answers m written)
+
+pub can_read_answer_rowids : (db : Trees) (m : FinMap pair_cmp ReplyRow) → HoldsPairs reply_columns (db 13) m → CanBeRead IsRowid (λ (it : Rowid). Int it.rowid ∷ []) (λ (a b : Rowid). int_lt a.rowid b.rowid) db (whole_table 13 rowid_terms by_key)
+can_read_answer_rowids db m holds = can_read_rowids 13 reply_columns db m refl holds

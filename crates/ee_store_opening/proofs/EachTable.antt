@@ -1,5 +1,5 @@
 -- Each table, from the rows that were read of it.
-use Rattle.std.proofs.Common.{◌≡◌, ℕ, ℤ, pos, List, [], ◌∷◌, map, true, refl, sym, ap, subst, ◌∙◌, nat_cmp}
+use Rattle.std.proofs.Common.{◌≡◌, ◌≢◌, ℕ, ℤ, pos, List, [], ◌∷◌, map, true, refl, sym, ap, subst, ◌∙◌, nat_cmp}
 use Rattle.std.specs.Prelude.{IsPermutation, nat_lt, int_lt, drop}
 use Rattle.std.specs.List.{AllByRecursion}
 use Rattle.std.specs.FinMap.{entries, entries-from_sorted}
@@ -15,7 +15,7 @@ use Rattle.sqlite_schema.specs.declared.schema.Constraint.TheVariants.{Datatype}
 use Rattle.sqlite_schema.specs.Rules.{passes, are_typed, Keeps}
 use Rattle.sqlite_keyed.proofs.ListLemmas.{map-map, all_weaker}
 use Rattle.sqlite_keyed.proofs.RuleLemmas.{first_of_both}
-use Rattle.ee_store_tables.specs.Tables.{counter_schema, desk, rates, bonds, tickets, paid, batches, replies, extensions}
+use Rattle.ee_store_tables.specs.Tables.{counter_schema, desk, rates, bonds, tickets, paid, batches, extensions, answers}
 use Rattle.ee_store_tables.specs.Keyed.{pair_cmp, row_of, stored, ReadAlike, HoldsMap, HoldsPairs}
 use Rattle.ee_store_tables.specs.Rows.{DeskRow, BondRow, TicketRow, PaidRow, BatchRow, ReplyRow, optional, desk_columns, rate_columns, bond_columns, ticket_columns, paid_columns, batch_columns, reply_columns}
 use Rattle.ee_store_tables.proofs.Lemmas.Rows.{pair_total, number_in, optional_in, optional_back}
@@ -27,15 +27,17 @@ use Rattle.ee_store_opening.specs.declared.entries.StoredLine.{StoredLine}
 use Rattle.ee_store_opening.specs.declared.entries.StoredBatch.{StoredBatch}
 use Rattle.ee_store_opening.specs.declared.entries.StoredReply.{StoredReply}
 use Rattle.ee_store_opening.specs.declared.entries.Rowid.{Rowid}
-use Rattle.ee_store_opening.specs.declared.forms.Form.{Form}
-use Rattle.ee_store_opening.specs.declared.forms.Form.TheVariants.{Current, Earlier}
-use Rattle.ee_store_opening.specs.Forms.{earlier_tables, schema_of}
+use Rattle.ee_store_making.specs.declared.forms.Form.{Form}
+use Rattle.ee_store_making.specs.declared.forms.Form.TheVariants.{Current, First, Earliest}
+use Rattle.ee_store_making.specs.Forms.{replies, first_tables, earliest_tables, schema_of}
+use Rattle.ee_store_making.specs.declared.answers.StoredAnswer.{StoredAnswer}
+use Rattle.ee_store_making.specs.Migrating.{answer_entry}
 use Rattle.ee_store_opening.specs.Reading.{rises, shown_by, ShowsAll}
 use Rattle.ee_store_opening.specs.Shown as spec
 use Rattle.ee_store_opening.specs.Shown.{pair_lt}
 use Rattle.ee_store_opening.proofs.FoundLemmas.{sorted_if_rises, reads_alike}
 use Rattle.ee_store_opening.proofs.TableLemmas.{rises_same, number_below, pair_below, short_row, key_empty, apart_if_rises, holds_keyed, holds_pairs}
-use Rattle.ee_store_opening.proofs.QuestionLemmas.{desk_terms, rate_terms, bond_terms, ticket_terms, line_terms, batch_terms, reply_terms, rowid_terms}
+use Rattle.ee_store_opening.proofs.QuestionLemmas.{desk_terms, rate_terms, bond_terms, ticket_terms, line_terms, batch_terms, reply_terms, answer_terms, rowid_terms}
 
 abbrev text_in : Value → List ℕ
 text_in (Text t) = t
@@ -57,7 +59,6 @@ record AreAllTyped (db : Trees) : Type 0 where
   tickets : AreTyped db tickets
   paid : AreTyped db paid
   batches : AreTyped db batches
-  replies : AreTyped db replies
 
 keeps_types : (schema : Schema) (db : Database) → IsDatabase db → db.schema ≡ schema → Keeps Datatype schema db.trees
 keeps_types schema db sound has = subst (λ s. Keeps Datatype s db.trees) has (sound.obeys.rules Datatype)
@@ -73,19 +74,37 @@ typed Current db sound has =
       tickets = typed_rows counter_schema db.trees tickets each.1.1.1.0;
       paid = typed_rows counter_schema db.trees paid each.1.1.1.1.0;
       batches = typed_rows counter_schema db.trees batches each.1.1.1.1.1.0;
-      replies = typed_rows counter_schema db.trees replies each.1.1.1.1.1.1.0;
     }
-typed Earlier db sound has =
-    let each = keeps_types earlier_tables db sound has in
+typed First db sound has =
+    let each = keeps_types first_tables db sound has in
     record {
-      desk = typed_rows earlier_tables db.trees desk each.0;
-      rates = typed_rows earlier_tables db.trees rates each.1.0;
-      bonds = typed_rows earlier_tables db.trees bonds each.1.1.0;
-      tickets = typed_rows earlier_tables db.trees tickets each.1.1.1.0;
-      paid = typed_rows earlier_tables db.trees paid each.1.1.1.1.0;
-      batches = typed_rows earlier_tables db.trees batches each.1.1.1.1.1.0;
-      replies = typed_rows earlier_tables db.trees replies each.1.1.1.1.1.1.0;
+      desk = typed_rows first_tables db.trees desk each.0;
+      rates = typed_rows first_tables db.trees rates each.1.0;
+      bonds = typed_rows first_tables db.trees bonds each.1.1.0;
+      tickets = typed_rows first_tables db.trees tickets each.1.1.1.0;
+      paid = typed_rows first_tables db.trees paid each.1.1.1.1.0;
+      batches = typed_rows first_tables db.trees batches each.1.1.1.1.1.0;
     }
+typed Earliest db sound has =
+    let each = keeps_types earliest_tables db sound has in
+    record {
+      desk = typed_rows earliest_tables db.trees desk each.0;
+      rates = typed_rows earliest_tables db.trees rates each.1.0;
+      bonds = typed_rows earliest_tables db.trees bonds each.1.1.0;
+      tickets = typed_rows earliest_tables db.trees tickets each.1.1.1.0;
+      paid = typed_rows earliest_tables db.trees paid each.1.1.1.1.0;
+      batches = typed_rows earliest_tables db.trees batches each.1.1.1.1.1.0;
+    }
+
+typed_replies : (form : Form) → form ≢ Current → (db : Database) → IsDatabase db → db.schema ≡ schema_of form → AreTyped db.trees replies
+typed_replies Current earlier db sound has = absurd (earlier refl)
+typed_replies First earlier db sound has = typed_rows first_tables db.trees replies (keeps_types first_tables db sound has).1.1.1.1.1.1.0
+typed_replies Earliest earlier db sound has = typed_rows earliest_tables db.trees replies (keeps_types earliest_tables db sound has).1.1.1.1.1.1.0
+
+typed_extensions : (form : Form) → form ≢ Earliest → (db : Database) → IsDatabase db → db.schema ≡ schema_of form → AreTyped db.trees extensions
+typed_extensions Current later db sound has = typed_rows counter_schema db.trees extensions (keeps_types counter_schema db sound has).1.1.1.1.1.1.0
+typed_extensions First later db sound has = typed_rows first_tables db.trees extensions (keeps_types first_tables db sound has).1.1.1.1.1.1.1.0
+typed_extensions Earliest later db sound has = absurd (later refl)
 
 -- ---- desk
 
@@ -132,9 +151,9 @@ holds_rates form db sound has = held_rates (db.trees 1) (typed form db sound has
 
 -- ---- extensions
 
-pub holds_extensions : (db : Database) → IsDatabase db → db.schema ≡ counter_schema → (all : List StoredRate) → ShowsAll db.trees 12 rate_terms (map spec.rate_shown all) → rises (λ a b. nat_lt a.period b.period) all ≡ true
-    → HoldsMap rate_columns (db.trees 12) (spec.rate_map all)
-holds_extensions db sound has = held_rates (db.trees 12) (typed_rows counter_schema db.trees extensions (keeps_types counter_schema db sound has).1.1.1.1.1.1.1.0)
+pub holds_extensions : (form : Form) → form ≢ Earliest → (db : Database) → IsDatabase db → db.schema ≡ schema_of form → (all : List StoredRate) → ShowsAll db.trees 12 rate_terms (map spec.rate_shown all)
+    → rises (λ a b. nat_lt a.period b.period) all ≡ true → HoldsMap rate_columns (db.trees 12) (spec.rate_map all)
+holds_extensions form later db sound has = held_rates (db.trees 12) (typed_extensions form later db sound has)
 
 -- ---- tickets
 
@@ -188,13 +207,30 @@ back_replies x = refl
 alike_replies : (r : Row) → are_typed replies.key 0 replies.columns (drop 1 r) ≡ true → (e : ℕ × ReplyRow) → shown_by reply_terms r ≡ Int (pos e.0) ∷ reply_columns e.1 → ReadAlike r (row_of reply_columns (pos e.0, e))
 alike_replies r typed e is = reads_alike r (row_of reply_columns (pos e.0, e)) (ap (λ xs. column xs 0) is, (key_empty replies.columns r typed, (ap (λ xs. column xs 1) is, (ap (λ xs. column xs 2) is, tt)))) (short_row replies.key replies.columns r typed)
 
-pub holds_replies : (form : Form) (db : Database) → IsDatabase db → db.schema ≡ schema_of form → (all : List StoredReply) → ShowsAll db.trees 11 reply_terms (map spec.reply_shown all) → rises (λ a b. nat_lt a.number b.number) all ≡ true
+pub holds_replies : (form : Form) → form ≢ Current → (db : Database) → IsDatabase db → db.schema ≡ schema_of form → (all : List StoredReply) → ShowsAll db.trees 11 reply_terms (map spec.reply_shown all) → rises (λ a b. nat_lt a.number b.number) all ≡ true
     → HoldsMap reply_columns (db.trees 11) (spec.reply_map all)
-holds_replies form db sound has all shows up =
+holds_replies form earlier db sound has all shows up =
     let same = subst (IsPermutation (map (shown_by reply_terms) (db.trees 11))) (sym (map-map (λ (e : ℕ × ReplyRow). Int (pos e.0) ∷ reply_columns e.1) spec.reply_entry all)) shows in
     let sorted = sorted_if_rises nat_cmp nat_cmp_total spec.reply_entry all (sym (rises_same _ _ (λ (a b : StoredReply). number_below a.number b.number) all) ∙ up) in
     holds_keyed reply_columns un_replies back_replies reply_terms (λ _. refl) (db.trees 11) (map spec.reply_entry all) same
-    (all_weaker _ _ alike_replies (db.trees 11) (typed form db sound has).replies) sorted
+    (all_weaker _ _ alike_replies (db.trees 11) (typed_replies form earlier db sound has)) sorted
+
+-- ---- answers
+
+alike_answers : (r : Row) → are_typed answers.key 0 answers.columns (drop 1 r) ≡ true → (i : ℤ) (e : (ℕ × ℕ) × ReplyRow) → column r 0 ≡ Int i → shown_by answer_terms r ≡ Int (pos e.0.0) ∷ Int (pos e.0.1) ∷ reply_columns e.1
+    → ReadAlike r (stored reply_columns (i, e))
+alike_answers r typed i e first is = reads_alike r (stored reply_columns (i, e)) (first, (ap (λ xs. column xs 0) is, (ap (λ xs. column xs 1) is, (ap (λ xs. column xs 2) is, (ap (λ xs. column xs 3) is, tt))))) (short_row answers.key answers.columns r typed)
+
+pub holds_answers : (db : Database) → IsDatabase db → db.schema ≡ counter_schema → (all : List StoredAnswer) (ids : List Rowid) → ShowsAll db.trees 13 answer_terms (map spec.answer_shown all)
+    → rises (λ a b. pair_lt (a.desk, a.number) (b.desk, b.number)) all ≡ true → ShowsAll db.trees 13 rowid_terms (map (λ it. Int it.rowid ∷ []) ids) → rises (λ a b. int_lt a.rowid b.rowid) ids ≡ true
+    → HoldsPairs reply_columns (db.trees 13) (spec.answer_map all)
+holds_answers db sound has all ids shows up numbers ids_up =
+    let same = subst (IsPermutation (map (shown_by answer_terms) (db.trees 13))) (sym (map-map (λ (e : (ℕ × ℕ) × ReplyRow). Int (pos e.0.0) ∷ Int (pos e.0.1) ∷ reply_columns e.1) answer_entry all)) shows in
+    let rowids = subst (IsPermutation (map (shown_by rowid_terms) (db.trees 13))) (sym (map-map (λ (j : ℤ). Int j ∷ []) (λ (it : Rowid). it.rowid) ids)) numbers in
+    let sorted = sorted_if_rises pair_cmp pair_total answer_entry all (sym (rises_same _ _ (λ (a b : StoredAnswer). pair_below (a.desk, a.number) (b.desk, b.number)) all) ∙ up) in
+    let types = typed_rows counter_schema db.trees answers (keeps_types counter_schema db sound has).1.1.1.1.1.1.1.0 in
+    holds_pairs reply_columns un_replies back_replies answer_terms (db.trees 13) (map answer_entry all) (map (λ (it : Rowid). it.rowid) ids) same rowids
+    (all_weaker _ _ alike_answers (db.trees 13) types) (apart_if_rises (λ (it : Rowid). it.rowid) ids ids_up) sorted
 
 -- ---- bonds
 
@@ -262,3 +298,6 @@ listed_bonds all up = entries-from_sorted pair_cmp (map spec.bond_entry all) (so
 
 pub listed_lines : (all : List StoredLine) → rises (λ a b. pair_lt (a.ticket, a.place) (b.ticket, b.place)) all ≡ true → entries (spec.line_map all) ≡ map spec.line_entry all
 listed_lines all up = entries-from_sorted pair_cmp (map spec.line_entry all) (sorted_if_rises pair_cmp pair_total spec.line_entry all (sym (rises_same _ _ (λ (a b : StoredLine). pair_below (a.ticket, a.place) (b.ticket, b.place)) all) ∙ up))
+
+pub listed_answers : (all : List StoredAnswer) → rises (λ a b. pair_lt (a.desk, a.number) (b.desk, b.number)) all ≡ true → entries (spec.answer_map all) ≡ map answer_entry all
+listed_answers all up = entries-from_sorted pair_cmp (map answer_entry all) (sorted_if_rises pair_cmp pair_total answer_entry all (sym (rises_same _ _ (λ (a b : StoredAnswer). pair_below (a.desk, a.number) (b.desk, b.number)) all) ∙ up))

@@ -1,10 +1,4 @@
 pub mod Lemmas
-mod FormLemmas
-mod DefineLemmas
-mod TextLemmas
-mod FirstLemmas
-mod ExtendLemmas
-mod BeginLemmas
 mod ScanLemmas
 mod AskLemmas
 mod FoundLemmas
@@ -15,15 +9,11 @@ mod EachTable
 mod OneLemmas
 mod ReadLemmas
 mod WholeLemmas
-mod FaultLemmas
-mod CauseLemmas
 mod NeverLemmas
 mod VersionLemmas
 mod OpenLemmas
 mod UsableLemmas
 mod CanRead
-mod MakeUsable
-mod MakeCause
-mod TakesLemmas
-mod FirstCause
 mod FiveLemmas
+mod FirstAnswers
+mod LastLemmas

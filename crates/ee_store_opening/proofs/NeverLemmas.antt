@@ -1,5 +1,5 @@
 -- Queries that `sqlite` refuses for no rows of these tables.
-use Rattle.std.proofs.Common.{◌≡◌, inl, inr, ℕ, List, [], ◌∷◌, codes, None, Ok, Err, Result, refl, subst, arith}
+use Rattle.std.proofs.Common.{◌≡◌, ◌≢◌, inl, inr, ℕ, List, [], ◌∷◌, codes, None, Ok, Err, Result, refl, subst, arith}
 use Rattle.sqlite.specs.Order.{Row}
 use Rattle.sqlite.specs.Term.{Term}
 use Rattle.sqlite.specs.Schema.{Schema}
@@ -12,11 +12,12 @@ use Rattle.sqlite_resolve.specs.declared.error.CompileError.{CompileError}
 use Rattle.sqlite.specs.Effect.{IsShown, RefusesToRead}
 use Rattle.sqlite.specs.Listing.{understood}
 use Rattle.ee_store_tables.specs.Tables.{counter_schema}
-use Rattle.ee_store_opening.specs.declared.forms.Form.{Form}
-use Rattle.ee_store_opening.specs.declared.forms.Form.TheVariants.{Current, Earlier}
-use Rattle.ee_store_opening.specs.Forms.{schema_of}
-use Rattle.ee_store_opening.specs.Reading.{whole_table, IsQuery, AsksForAll, IsOneStatement, NeverRefuses, IsNeverRefused}
-use Rattle.ee_store_opening.proofs.QuestionLemmas.{by_key, by_pair, desk_terms, rate_terms, bond_terms, ticket_terms, line_terms, batch_terms, reply_terms, rowid_terms, asks_desk, asks_rates, asks_bonds, asks_bond_rowids, asks_tickets, asks_lines, asks_line_rowids, asks_batches, asks_replies, asks_extensions}
+use Rattle.ee_store_making.specs.declared.forms.Form.{Form}
+use Rattle.ee_store_making.specs.declared.forms.Form.TheVariants.{Current, First, Earliest}
+use Rattle.ee_store_making.specs.Forms.{schema_of}
+use Rattle.ee_store_making.specs.Asking.{IsOneStatement, NeverRefuses, IsNeverRefused}
+use Rattle.ee_store_opening.specs.Reading.{whole_table, IsQuery, AsksForAll}
+use Rattle.ee_store_opening.proofs.QuestionLemmas.{by_key, by_pair, desk_terms, rate_terms, bond_terms, ticket_terms, line_terms, batch_terms, reply_terms, answer_terms, rowid_terms, asks_desk, asks_rates, asks_bonds, asks_bond_rowids, asks_tickets, asks_lines, asks_line_rowids, asks_batches, asks_replies, asks_answers, asks_answer_rowids, asks_extensions}
 use Rattle.sqlite.proofs.Callers.{IsPlain, command_of}
 use Rattle.ee_store_opening.proofs.VersionLemmas.{version_text, version_query, version_is, version_plain, given_id}
 
@@ -45,11 +46,13 @@ whole schema text tree terms order asks one accepted = record { statement = one;
 one_desk : (form : Form) → AsksWhole (schema_of form) (codes "SELECT id, version, day, last_day FROM desk ORDER BY id")
 unfolding understood everything
 one_desk Current = (omega arith, refl, refl, refl)
-one_desk Earlier = (omega arith, refl, refl, refl)
+one_desk First = (omega arith, refl, refl, refl)
+one_desk Earliest = (omega arith, refl, refl, refl)
 
 accepted_desk : (form : Form) → ¬ IsMistyped (schema_of form) (whole_table 0 desk_terms by_key) []
 accepted_desk Current mistyped = cc
-accepted_desk Earlier mistyped = cc
+accepted_desk First mistyped = cc
+accepted_desk Earliest mistyped = cc
 
 pub never_desk : (form : Form) → IsNeverRefused (schema_of form) (codes "SELECT id, version, day, last_day FROM desk ORDER BY id") []
 never_desk form = whole (schema_of form) _ 0 desk_terms by_key (asks_desk form) (one_desk form) (accepted_desk form)
@@ -57,11 +60,13 @@ never_desk form = whole (schema_of form) _ 0 desk_terms by_key (asks_desk form) 
 one_rates : (form : Form) → AsksWhole (schema_of form) (codes "SELECT period, rate FROM rates ORDER BY period")
 unfolding understood everything
 one_rates Current = (omega arith, refl, refl, refl)
-one_rates Earlier = (omega arith, refl, refl, refl)
+one_rates First = (omega arith, refl, refl, refl)
+one_rates Earliest = (omega arith, refl, refl, refl)
 
 accepted_rates : (form : Form) → ¬ IsMistyped (schema_of form) (whole_table 1 rate_terms by_key) []
 accepted_rates Current mistyped = cc
-accepted_rates Earlier mistyped = cc
+accepted_rates First mistyped = cc
+accepted_rates Earliest mistyped = cc
 
 pub never_rates : (form : Form) → IsNeverRefused (schema_of form) (codes "SELECT period, rate FROM rates ORDER BY period") []
 never_rates form = whole (schema_of form) _ 1 rate_terms by_key (asks_rates form) (one_rates form) (accepted_rates form)
@@ -69,11 +74,13 @@ never_rates form = whole (schema_of form) _ 1 rate_terms by_key (asks_rates form
 one_bonds : (form : Form) → AsksWhole (schema_of form) (codes "SELECT letter, number, denom, issued, owner, coowner, ticket FROM bonds ORDER BY letter, number")
 unfolding understood everything
 one_bonds Current = (omega arith, refl, refl, refl)
-one_bonds Earlier = (omega arith, refl, refl, refl)
+one_bonds First = (omega arith, refl, refl, refl)
+one_bonds Earliest = (omega arith, refl, refl, refl)
 
 accepted_bonds : (form : Form) → ¬ IsMistyped (schema_of form) (whole_table 2 bond_terms by_pair) []
 accepted_bonds Current mistyped = cc
-accepted_bonds Earlier mistyped = cc
+accepted_bonds First mistyped = cc
+accepted_bonds Earliest mistyped = cc
 
 pub never_bonds : (form : Form) → IsNeverRefused (schema_of form) (codes "SELECT letter, number, denom, issued, owner, coowner, ticket FROM bonds ORDER BY letter, number") []
 never_bonds form = whole (schema_of form) _ 2 bond_terms by_pair (asks_bonds form) (one_bonds form) (accepted_bonds form)
@@ -81,11 +88,13 @@ never_bonds form = whole (schema_of form) _ 2 bond_terms by_pair (asks_bonds for
 one_bond_rowids : (form : Form) → AsksWhole (schema_of form) (codes "SELECT rowid FROM bonds ORDER BY rowid")
 unfolding understood everything
 one_bond_rowids Current = (omega arith, refl, refl, refl)
-one_bond_rowids Earlier = (omega arith, refl, refl, refl)
+one_bond_rowids First = (omega arith, refl, refl, refl)
+one_bond_rowids Earliest = (omega arith, refl, refl, refl)
 
 accepted_bond_rowids : (form : Form) → ¬ IsMistyped (schema_of form) (whole_table 2 rowid_terms by_key) []
 accepted_bond_rowids Current mistyped = cc
-accepted_bond_rowids Earlier mistyped = cc
+accepted_bond_rowids First mistyped = cc
+accepted_bond_rowids Earliest mistyped = cc
 
 pub never_bond_rowids : (form : Form) → IsNeverRefused (schema_of form) (codes "SELECT rowid FROM bonds ORDER BY rowid") []
 never_bond_rowids form = whole (schema_of form) _ 2 rowid_terms by_key (asks_bond_rowids form) (one_bond_rowids form) (accepted_bond_rowids form)
@@ -93,11 +102,13 @@ never_bond_rowids form = whole (schema_of form) _ 2 rowid_terms by_key (asks_bon
 one_tickets : (form : Form) → AsksWhole (schema_of form) (codes "SELECT ticket, day, payee, bonds, total FROM tickets ORDER BY ticket")
 unfolding understood everything
 one_tickets Current = (omega arith, refl, refl, refl)
-one_tickets Earlier = (omega arith, refl, refl, refl)
+one_tickets First = (omega arith, refl, refl, refl)
+one_tickets Earliest = (omega arith, refl, refl, refl)
 
 accepted_tickets : (form : Form) → ¬ IsMistyped (schema_of form) (whole_table 5 ticket_terms by_key) []
 accepted_tickets Current mistyped = cc
-accepted_tickets Earlier mistyped = cc
+accepted_tickets First mistyped = cc
+accepted_tickets Earliest mistyped = cc
 
 pub never_tickets : (form : Form) → IsNeverRefused (schema_of form) (codes "SELECT ticket, day, payee, bonds, total FROM tickets ORDER BY ticket") []
 never_tickets form = whole (schema_of form) _ 5 ticket_terms by_key (asks_tickets form) (one_tickets form) (accepted_tickets form)
@@ -105,11 +116,13 @@ never_tickets form = whole (schema_of form) _ 5 ticket_terms by_key (asks_ticket
 one_lines : (form : Form) → AsksWhole (schema_of form) (codes "SELECT ticket, place, letter, number, cents FROM paid ORDER BY ticket, place")
 unfolding understood everything
 one_lines Current = (omega arith, refl, refl, refl)
-one_lines Earlier = (omega arith, refl, refl, refl)
+one_lines First = (omega arith, refl, refl, refl)
+one_lines Earliest = (omega arith, refl, refl, refl)
 
 accepted_lines : (form : Form) → ¬ IsMistyped (schema_of form) (whole_table 7 line_terms by_pair) []
 accepted_lines Current mistyped = cc
-accepted_lines Earlier mistyped = cc
+accepted_lines First mistyped = cc
+accepted_lines Earliest mistyped = cc
 
 pub never_lines : (form : Form) → IsNeverRefused (schema_of form) (codes "SELECT ticket, place, letter, number, cents FROM paid ORDER BY ticket, place") []
 never_lines form = whole (schema_of form) _ 7 line_terms by_pair (asks_lines form) (one_lines form) (accepted_lines form)
@@ -117,11 +130,13 @@ never_lines form = whole (schema_of form) _ 7 line_terms by_pair (asks_lines for
 one_line_rowids : (form : Form) → AsksWhole (schema_of form) (codes "SELECT rowid FROM paid ORDER BY rowid")
 unfolding understood everything
 one_line_rowids Current = (omega arith, refl, refl, refl)
-one_line_rowids Earlier = (omega arith, refl, refl, refl)
+one_line_rowids First = (omega arith, refl, refl, refl)
+one_line_rowids Earliest = (omega arith, refl, refl, refl)
 
 accepted_line_rowids : (form : Form) → ¬ IsMistyped (schema_of form) (whole_table 7 rowid_terms by_key) []
 accepted_line_rowids Current mistyped = cc
-accepted_line_rowids Earlier mistyped = cc
+accepted_line_rowids First mistyped = cc
+accepted_line_rowids Earliest mistyped = cc
 
 pub never_line_rowids : (form : Form) → IsNeverRefused (schema_of form) (codes "SELECT rowid FROM paid ORDER BY rowid") []
 never_line_rowids form = whole (schema_of form) _ 7 rowid_terms by_key (asks_line_rowids form) (one_line_rowids form) (accepted_line_rowids form)
@@ -129,47 +144,77 @@ never_line_rowids form = whole (schema_of form) _ 7 rowid_terms by_key (asks_lin
 one_batches : (form : Form) → AsksWhole (schema_of form) (codes "SELECT day, tickets, bonds, total FROM batches ORDER BY day")
 unfolding understood everything
 one_batches Current = (omega arith, refl, refl, refl)
-one_batches Earlier = (omega arith, refl, refl, refl)
+one_batches First = (omega arith, refl, refl, refl)
+one_batches Earliest = (omega arith, refl, refl, refl)
 
 accepted_batches : (form : Form) → ¬ IsMistyped (schema_of form) (whole_table 10 batch_terms by_key) []
 accepted_batches Current mistyped = cc
-accepted_batches Earlier mistyped = cc
+accepted_batches First mistyped = cc
+accepted_batches Earliest mistyped = cc
 
 pub never_batches : (form : Form) → IsNeverRefused (schema_of form) (codes "SELECT day, tickets, bonds, total FROM batches ORDER BY day") []
 never_batches form = whole (schema_of form) _ 10 batch_terms by_key (asks_batches form) (one_batches form) (accepted_batches form)
 
-one_replies : (form : Form) → AsksWhole (schema_of form) (codes "SELECT number, act, reply FROM replies ORDER BY number")
+one_replies : (form : Form) → form ≢ Current → AsksWhole (schema_of form) (codes "SELECT number, act, reply FROM replies ORDER BY number")
 unfolding understood everything
-one_replies Current = (omega arith, refl, refl, refl)
-one_replies Earlier = (omega arith, refl, refl, refl)
+one_replies Current earlier = absurd (earlier refl)
+one_replies First earlier = (omega arith, refl, refl, refl)
+one_replies Earliest earlier = (omega arith, refl, refl, refl)
 
-accepted_replies : (form : Form) → ¬ IsMistyped (schema_of form) (whole_table 11 reply_terms by_key) []
-accepted_replies Current mistyped = cc
-accepted_replies Earlier mistyped = cc
+accepted_replies : (form : Form) → form ≢ Current → ¬ IsMistyped (schema_of form) (whole_table 11 reply_terms by_key) []
+accepted_replies Current earlier mistyped = earlier refl
+accepted_replies First earlier mistyped = cc
+accepted_replies Earliest earlier mistyped = cc
 
-pub never_replies : (form : Form) → IsNeverRefused (schema_of form) (codes "SELECT number, act, reply FROM replies ORDER BY number") []
-never_replies form = whole (schema_of form) _ 11 reply_terms by_key (asks_replies form) (one_replies form) (accepted_replies form)
+pub never_replies : (form : Form) → form ≢ Current → IsNeverRefused (schema_of form) (codes "SELECT number, act, reply FROM replies ORDER BY number") []
+never_replies form earlier = whole (schema_of form) _ 11 reply_terms by_key (asks_replies form earlier) (one_replies form earlier) (accepted_replies form earlier)
 
-one_extensions : AsksWhole counter_schema (codes "SELECT period, rate FROM extensions ORDER BY period")
+one_answers : AsksWhole counter_schema (codes "SELECT desk, number, act, reply FROM answers ORDER BY desk, number")
 unfolding understood everything
-one_extensions = (omega arith, refl, refl, refl)
+one_answers = (omega arith, refl, refl, refl)
 
-accepted_extensions : ¬ IsMistyped counter_schema (whole_table 12 rate_terms by_key) []
-accepted_extensions mistyped = cc
+accepted_answers : ¬ IsMistyped counter_schema (whole_table 13 answer_terms by_pair) []
+accepted_answers mistyped = cc
 
-pub never_extensions : IsNeverRefused counter_schema (codes "SELECT period, rate FROM extensions ORDER BY period") []
-never_extensions = whole counter_schema _ 12 rate_terms by_key asks_extensions one_extensions accepted_extensions
+pub never_answers : IsNeverRefused counter_schema (codes "SELECT desk, number, act, reply FROM answers ORDER BY desk, number") []
+never_answers = whole counter_schema _ 13 answer_terms by_pair asks_answers one_answers accepted_answers
+
+one_answer_rowids : AsksWhole counter_schema (codes "SELECT rowid FROM answers ORDER BY rowid")
+unfolding understood everything
+one_answer_rowids = (omega arith, refl, refl, refl)
+
+accepted_answer_rowids : ¬ IsMistyped counter_schema (whole_table 13 rowid_terms by_key) []
+accepted_answer_rowids mistyped = cc
+
+pub never_answer_rowids : IsNeverRefused counter_schema (codes "SELECT rowid FROM answers ORDER BY rowid") []
+never_answer_rowids = whole counter_schema _ 13 rowid_terms by_key asks_answer_rowids one_answer_rowids accepted_answer_rowids
+
+one_extensions : (form : Form) → form ≢ Earliest → AsksWhole (schema_of form) (codes "SELECT period, rate FROM extensions ORDER BY period")
+unfolding understood everything
+one_extensions Current later = (omega arith, refl, refl, refl)
+one_extensions First later = (omega arith, refl, refl, refl)
+one_extensions Earliest later = absurd (later refl)
+
+accepted_extensions : (form : Form) → form ≢ Earliest → ¬ IsMistyped (schema_of form) (whole_table 12 rate_terms by_key) []
+accepted_extensions Current later mistyped = cc
+accepted_extensions First later mistyped = cc
+accepted_extensions Earliest later mistyped = later refl
+
+pub never_extensions : (form : Form) → form ≢ Earliest → IsNeverRefused (schema_of form) (codes "SELECT period, rate FROM extensions ORDER BY period") []
+never_extensions form later = whole (schema_of form) _ 12 rate_terms by_key (asks_extensions form later) (one_extensions form later) (accepted_extensions form later)
 
 -- ---- the version
 
 one_version : (form : Form) → IsOneStatement version_text 1 (understood (schema_of form) version_text)
 unfolding understood everything
 one_version Current = (omega arith, refl, refl, refl)
-one_version Earlier = (omega arith, refl, refl, refl)
+one_version First = (omega arith, refl, refl, refl)
+one_version Earliest = (omega arith, refl, refl, refl)
 
 accepted_version : (form : Form) → ¬ IsMistyped (schema_of form) version_query given_id
 accepted_version Current mistyped = cc
-accepted_version Earlier mistyped = cc
+accepted_version First mistyped = cc
+accepted_version Earliest mistyped = cc
 
 module _ (schema : Schema) (accepted : ¬ IsMistyped schema version_query given_id) where
   version_never : (r : Result Compiled CompileError) → command_of r ≡ Select (record { lets = []; body = version_query }) (codes "version" ∷ []) → IsPlain r → NeverRefuses schema given_id r

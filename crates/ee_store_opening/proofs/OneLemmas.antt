@@ -11,12 +11,12 @@ use Rattle.sqlite.specs.Tree.{Trees}
 use Rattle.sqlite_value.specs.Order.{Row, column}
 use Rattle.sqlite_keyed.proofs.ListLemmas.{IsPermutation-filter}
 use Rattle.ee_store_tables.specs.Keyed.{pair_cmp, row_of, stored, ReadAlike, AreRows, HoldsMap, HoldsPairs}
-use Rattle.ee_store_tables.specs.Rows.{Rows, desk_columns, rate_columns, bond_columns, ticket_columns, paid_columns, batch_columns, reply_columns}
+use Rattle.ee_store_tables.specs.Rows.{Rows, ReplyRow, desk_columns, rate_columns, bond_columns, ticket_columns, paid_columns, batch_columns, reply_columns}
 use Rattle.ee_store_tables.proofs.Lemmas.Rows.{tied, tied_entry, pair_total, pair_same, at_most_one, int_in, natural, number_in}
-use Rattle.ee_store_opening.specs.declared.forms.Form.{Form}
-use Rattle.ee_store_opening.specs.declared.forms.Form.TheVariants.{Current, Earlier}
-use Rattle.ee_store_opening.specs.Forms.{HoldsIn}
-use Rattle.ee_store_opening.proofs.FormLemmas.{HoldsCommon, common}
+use Rattle.ee_store_making.specs.declared.forms.Form.{Form}
+use Rattle.ee_store_making.specs.declared.forms.Form.TheVariants.{Current, First, Earliest}
+use Rattle.ee_store_making.specs.Forms.{at_first_desk, HoldsIn, HoldsReplies}
+use Rattle.ee_store_making.proofs.Lemmas.Forms.{HoldsCommon, common}
 use Rattle.ee_store_opening.proofs.EachTable.{un_desk, back_desk, un_rates, back_rates, un_bonds, back_bonds, un_tickets, back_tickets, un_lines, back_lines, un_batches, back_batches, un_replies, back_replies}
 
 -- ---- maps of the same entries
@@ -102,20 +102,32 @@ module _ {X : Type 0} (columns : X → Row) (uncolumns : Row → X) (back : (x :
 
 -- ---- all tables
 
-same_rows : (db : Trees) (a b : Rows) → HoldsCommon db a → HoldsCommon db b → a.extensions ≡ b.extensions → a ≡ b
+one_kept : (db : Trees) (a b : FinMap pair_cmp ReplyRow) → HoldsReplies db a → HoldsReplies db b → a ≡ b
 unfolding columns_from
-same_rows db a b h k extensions =
+one_kept db a b h k = h.first ∙ ap at_first_desk (one_keyed reply_columns un_replies back_replies 4 (λ _. refl) (db 11) h.kept k.kept h.held k.held) ∙ sym k.first
+
+one_extensions : (db : Trees) (a b : FinMap nat_cmp ℕ) → HoldsMap rate_columns (db 12) a → HoldsMap rate_columns (db 12) b → a ≡ b
+unfolding columns_from
+one_extensions db a b h k = one_keyed rate_columns un_rates back_rates 3 (λ _. refl) (db 12) a b h k
+
+one_answers : (db : Trees) (a b : FinMap pair_cmp ReplyRow) → HoldsPairs reply_columns (db 13) a → HoldsPairs reply_columns (db 13) b → a ≡ b
+unfolding columns_from
+one_answers db a b h k = one_pairs reply_columns un_replies back_replies 5 (λ _. refl) (db 13) a b h k
+
+same_rows : (db : Trees) (a b : Rows) → HoldsCommon db a → HoldsCommon db b → a.extensions ≡ b.extensions → a.answers ≡ b.answers → a ≡ b
+unfolding columns_from
+same_rows db a b h k extensions answers =
     let desk = one_keyed desk_columns un_desk back_desk 5 (λ _. refl) (db 0) a.desk b.desk h.desk k.desk in
     let rates = one_keyed rate_columns un_rates back_rates 3 (λ _. refl) (db 1) a.rates b.rates h.rates k.rates in
     let bonds = one_pairs bond_columns un_bonds back_bonds 8 (λ _. refl) (db 2) a.bonds b.bonds h.bonds k.bonds in
     let tickets = one_keyed ticket_columns un_tickets back_tickets 6 (λ _. refl) (db 5) a.tickets b.tickets h.tickets k.tickets in
     let paid = one_pairs paid_columns un_lines back_lines 6 (λ _. refl) (db 7) a.paid b.paid h.paid k.paid in
     let batches = one_keyed batch_columns un_batches back_batches 5 (λ _. refl) (db 10) a.batches b.batches h.batches k.batches in
-    let replies = one_keyed reply_columns un_replies back_replies 4 (λ _. refl) (db 11) a.replies b.replies h.replies k.replies in
-    λ i. record { desk = desk i; rates = rates i; bonds = bonds i; tickets = tickets i; paid = paid i; batches = batches i; replies = replies i; extensions = extensions i }
+    λ i. record { desk = desk i; rates = rates i; bonds = bonds i; tickets = tickets i; paid = paid i; batches = batches i; extensions = extensions i; answers = answers i }
 
 pub one_rows : (form : Form) (db : Trees) (a b : Rows) → HoldsIn form db a → HoldsIn form db b → a ≡ b
-unfolding columns_from
 one_rows Current db a b h k =
-    same_rows db a b (common Current db a h) (common Current db b k) (one_keyed rate_columns un_rates back_rates 3 (λ _. refl) (db 12) a.extensions b.extensions h.extensions k.extensions)
-one_rows Earlier db a b h k = same_rows db a b (common Earlier db a h) (common Earlier db b k) (h.none ∙ sym k.none)
+    same_rows db a b (common Current db a h) (common Current db b k) (one_extensions db a.extensions b.extensions h.extensions k.extensions) (one_answers db a.answers b.answers h.answers k.answers)
+one_rows First db a b h k =
+    same_rows db a b (common First db a h) (common First db b k) (one_extensions db a.extensions b.extensions h.extensions k.extensions) (one_kept db a.answers b.answers h.answers k.answers)
+one_rows Earliest db a b h k = same_rows db a b (common Earliest db a h) (common Earliest db b k) (h.none ∙ sym k.none) (one_kept db a.answers b.answers h.answers k.answers)

@@ -1,12 +1,13 @@
 -- A table that holds a map can be read.
-use Rattle.std.proofs.Common.{◌≡◌, ◌≢◌, ℕ, suc, ℤ, pos, add-one, ap₂, subst₂, List, [], ◌∷◌, map, Bool, true, false, T, Some, All, refl, sym, ap, subst, ◌∙◌, arith, nat_cmp, int_cmp, Less, Ordering}
+use Rattle.std.proofs.Common.{◌≡◌, ◌≢◌, ℕ, suc, ℤ, pos, add-one, ap₂, subst₂, List, [], ◌∷◌, map, Bool, true, false, T, Some, All, refl, sym, ap, subst, ◌∙◌, arith, nat_cmp, int_cmp, Less, Equal, Greater, Ordering}
 use Rattle.std.specs.Prelude.{◌&&◌, nat_lt, int_lt, drop, cond, flat_map, IsPermutation, IsSorted}
 use Rattle.std.specs.List.{AllByRecursion}
-use Rattle.std.specs.Ordering.{is_lt, is_eq, ordering_then}
+use Rattle.std.specs.Ordering.{is_lt, is_eq, ordering_then, ordering_reverse}
+use Rattle.std.specs.Cmp.{IsTotalOrder, tied_itself}
+use Rattle.std.proofs.lemmas.Cmp.{nat_cmp_total}
 use Rattle.std.proofs.lemmas.List.Sorted.{IsPermutation-map}
 use Rattle.std.specs.FinMap.{FinMap, entries, entries_sorted, get-entries, find}
 use Rattle.std.specs.FinMap.Entries.{is_sorted, below_all}
-use Rattle.std.proofs.lemmas.Bool.Decides.{nat_tests}
 use Rattle.std.proofs.lemmas.Int.{ints}
 use Rattle.std.proofs.lemmas.List.Elements.{All-from_recursion}
 use Rattle.std.proofs.Math.Facts.{and_yes}
@@ -21,9 +22,11 @@ use Rattle.sqlite_value.proofs.OrderLemmas.{value_cmp-Int, then-Equal}
 use Rattle.sqlite_keyed.proofs.ListLemmas.{map-map, map_same, map_back, all_weaker, ascending-map, ascending_weaker, filter_all, all_of}
 use Rattle.ee_store_tables.specs.Keyed.{pair_cmp, row_of, stored, ReadAlike, HoldsMap, HoldsPairs}
 use Rattle.ee_store_tables.specs.Rows.{ReplyRow, reply_columns}
-use Rattle.ee_store_tables.proofs.Lemmas.Rows.{no_limit, by_column, cmp_pos, rows_that_match, keyed_same, keys_rise, rows_in_order, int_in, number_in}
+use Rattle.ee_store_tables.proofs.Lemmas.Rows.{pair_total, no_limit, by_column, cmp_pos, rows_that_match, keyed_same, keys_rise, rows_in_order, int_in, number_in}
 use Rattle.ee_store_opening.specs.Reading.{rises, whole_table, CanBeRead}
-use Rattle.ee_store_opening.specs.Shown.{pair_lt, keyed_shown, pair_shown, IsKeyed, IsPaired, IsReply, IsRowid, IsWritten, AreWritten}
+use Rattle.ee_store_opening.specs.Shown.{pair_lt, keyed_shown, pair_shown, IsKeyed, IsPaired, IsReply, IsAnswerRow, IsRowid, IsWritten, AreWritten}
+use Rattle.ee_store_making.specs.Forms.{at_first_desk}
+use Rattle.ee_store_making.proofs.Lemmas.Desks.{first_desk_get}
 use Rattle.ee_store_opening.specs.declared.entries.Rowid.{Rowid}
 use Rattle.ee_store_opening.proofs.FoundLemmas.{alls, AllApart, apart_permuted}
 use Rattle.ee_store_opening.proofs.QuestionLemmas.{rowid_terms}
@@ -92,30 +95,53 @@ are_keyed columns (e ∷ es) = ((e, refl), are_keyed columns es)
 pub all_keyed : {X : Type 0} (columns : X → Row) (es : List (ℕ × X)) → All (IsKeyed columns) (map (keyed_shown columns) es)
 all_keyed columns es = All-from_recursion _ _ (are_keyed columns es)
 
+are_paired : {X : Type 0} (columns : X → Row) (es : List ((ℕ × ℕ) × X)) → AllByRecursion (IsPaired columns) (map (pair_shown columns) es)
+are_paired columns [] = tt
+are_paired columns (e ∷ es) = ((e, refl), are_paired columns es)
+
+pub all_paired : {X : Type 0} (columns : X → Row) (es : List ((ℕ × ℕ) × X)) → All (IsPaired columns) (map (pair_shown columns) es)
+all_paired columns es = All-from_recursion _ _ (are_paired columns es)
+
 -- ---- the kept texts
 
-entry_found : {X : Type 0} (es : List (ℕ × X)) → T (is_sorted nat_cmp es) → AllByRecursion (λ e. find nat_cmp e.0 es ≡ Some e.1) es
-entry_found [] h = tt
-entry_found {X} (e ∷ es) h = let two = and_yes _ _ h in (ap (λ b. cond b (Some e.1) (find nat_cmp e.0 es)) (itself e.0), later es two.0 (entry_found es two.1))
-  where
-    itself : (n : ℕ) → is_eq (nat_cmp n n) ≡ true
-    itself n = grind (arith, nat_tests)
+module _ (K : Type 0) (R : K → K → Ordering) (total : IsTotalOrder R) where
+  itself : (k : K) → is_eq (R k k) ≡ true
+  itself k = ap is_eq (tied_itself total k)
 
-    apart : (m n : ℕ) → is_lt (nat_cmp m n) ≡ true → is_eq (nat_cmp n m) ≡ false
-    apart m n low = grind (arith, nat_tests)
+  apart : (j k : K) → is_lt (R j k) ≡ true → is_eq (R k j) ≡ false
+  apart j k low = ap is_eq (total.antisymm k j) ∙ turned (R j k) low
+    where
+      turned : (o : Ordering) → is_lt o ≡ true → is_eq (ordering_reverse o) ≡ false
+      turned Less low = refl
+      turned Equal low = absurd cc
+      turned Greater low = absurd cc
 
-    later : (fs : List (ℕ × X)) → T (below_all nat_cmp e.0 fs) → AllByRecursion (λ f. find nat_cmp f.0 es ≡ Some f.1) fs → AllByRecursion (λ f. find nat_cmp f.0 (e ∷ es) ≡ Some f.1) fs
-    later [] below all = tt
-    later (f ∷ fs) below all = let two = and_yes _ _ below in (ap (λ b. cond b (Some e.1) (find nat_cmp f.0 es)) (apart e.0 f.0 (truth _ two.0)) ∙ all.0, later fs two.1 all.1)
+module _ {K X : Type 0} (R : K → K → Ordering) (total : IsTotalOrder R) where
+  entry_found : (es : List (K × X)) → T (is_sorted R es) → AllByRecursion (λ e. find R e.0 es ≡ Some e.1) es
+  entry_found [] h = tt
+  entry_found (e ∷ es) h = let two = and_yes _ _ h in (ap (λ b. cond b (Some e.1) (find R e.0 es)) (itself K R total e.0), later es two.0 (entry_found es two.1))
+    where
+      later : (fs : List (K × X)) → T (below_all R e.0 fs) → AllByRecursion (λ f. find R f.0 es ≡ Some f.1) fs → AllByRecursion (λ f. find R f.0 (e ∷ es) ≡ Some f.1) fs
+      later [] below all = tt
+      later (f ∷ fs) below all = let two = and_yes _ _ below in (ap (λ b. cond b (Some e.1) (find R f.0 es)) (apart K R total e.0 f.0 (truth _ two.0)) ∙ all.0, later fs two.1 all.1)
 
 are_replies : (es : List (ℕ × ReplyRow)) → AllByRecursion (λ e. IsWritten e.1) es → AllByRecursion IsReply (map (keyed_shown reply_columns) es)
 are_replies [] all = tt
 are_replies (e ∷ es) all = ((e, refl, all.0), are_replies es all.1)
 
-pub all_replies : (m : FinMap nat_cmp ReplyRow) → AreWritten m → All IsReply (map (keyed_shown reply_columns) (entries m))
+pub all_replies : (m : FinMap nat_cmp ReplyRow) → AreWritten (at_first_desk m) → All IsReply (map (keyed_shown reply_columns) (entries m))
 all_replies m written =
-    let found = entry_found (entries m) (entries_sorted m) in
-    All-from_recursion _ _ (are_replies (entries m) (all_weaker _ _ (λ e is. written e.0 e.1 (get-entries m e.0 ∙ is)) (entries m) found))
+    let found = entry_found nat_cmp nat_cmp_total (entries m) (entries_sorted m) in
+    All-from_recursion _ _ (are_replies (entries m) (all_weaker _ _ (λ e is. written (0, e.0) e.1 (first_desk_get m e.0 ∙ get-entries m e.0 ∙ is)) (entries m) found))
+
+are_answers : (es : List ((ℕ × ℕ) × ReplyRow)) → AllByRecursion (λ e. IsWritten e.1) es → AllByRecursion IsAnswerRow (map (pair_shown reply_columns) es)
+are_answers [] all = tt
+are_answers (e ∷ es) all = ((e, refl, all.0), are_answers es all.1)
+
+pub all_answers : (m : FinMap pair_cmp ReplyRow) → AreWritten m → All IsAnswerRow (map (pair_shown reply_columns) (entries m))
+all_answers m written =
+    let found = entry_found pair_cmp pair_total (entries m) (entries_sorted m) in
+    All-from_recursion _ _ (are_answers (entries m) (all_weaker _ _ (λ e is. written e.0 e.1 (get-entries m e.0 ∙ is)) (entries m) found))
 
 -- ---- tables whose key is a pair of numbers
 
@@ -135,10 +161,6 @@ module _ {X : Type 0} (columns : X → Row) (uncolumns : Row → X) (back : (x :
   is_pair_back : (e : (ℕ × ℕ) × X) → pair_back (pair_shown columns e) ≡ e
   is_pair_back e = ap (λ x. (e.0, x)) (back e.1)
 
-  are_paired : (es : List ((ℕ × ℕ) × X)) → AllByRecursion (IsPaired columns) (map (pair_shown columns) es)
-  are_paired [] = tt
-  are_paired (e ∷ es) = ((e, refl), are_paired es)
-
   module _ (shows : (r : Row) (p : ℤ × ((ℕ × ℕ) × X)) → ReadAlike r (stored columns p) → output pair_query ([] ∷ r ∷ []) ≡ pair_out p.1) (db : Trees) (m : FinMap pair_cmp X) (read : overlay db [] tree ≡ db tree)
       (holds : HoldsPairs columns (db tree) m) where
     shows_pairs : (rows : List Row) → IsAnswer pair_query (overlay db []) [] rows → rows ≡ map (pair_shown columns) (entries m)
@@ -154,10 +176,11 @@ module _ {X : Type 0} (columns : X → Row) (uncolumns : Row → X) (back : (x :
         ∙ map_same _ _ (λ a. is_pair_back (entry a)) found in
         rises_same _ _ (λ a b. pair_below (entry a).0 (entry b).0) found ∙ rises_if_sorted pair_cmp entry found (subst (λ es. T (is_sorted pair_cmp es)) es (entries_sorted m))
 
-    pub can_read_pairs : {A : Type 0} (entry : A → (ℕ × ℕ) × X) → CanBeRead (IsPaired columns) (λ a. pair_shown columns (entry a)) (λ a b. pair_lt (entry a).0 (entry b).0) db pair_query
-    can_read_pairs entry rows a =
+    pub can_read_pairs : {A : Type 0} (entry : A → (ℕ × ℕ) × X) (IsReadable : Row → Type 0) → All IsReadable (map (pair_shown columns) (entries m))
+        → CanBeRead IsReadable (λ a. pair_shown columns (entry a)) (λ a b. pair_lt (entry a).0 (entry b).0) db pair_query
+    can_read_pairs entry IsReadable all rows a =
         let is = shows_pairs rows a in
-        (subst (All (IsPaired columns)) (sym is) (All-from_recursion _ _ (are_paired (entries m))), λ found same. pairs_rise entry found (sym is ∙ same))
+        (subst (All IsReadable) (sym is) all, λ found same. pairs_rise entry found (sym is ∙ same))
 
 -- ---- their rowids
 

@@ -1,5 +1,6 @@
 -- What the query of the version shows.
-use Rattle.std.proofs.Common.{◌≡◌, ℕ, pos, List, [], ◌∷◌, codes, false, Some, None, Option, refl, sym, ap, ◌∙◌}
+use Rattle.std.proofs.Common.{◌≡◌, ◌≢◌, ◌⊎◌, inl, inr, ℕ, pos, List, [], ◌∷◌, codes, false, Some, None, Option, refl, sym, ap, ◌∙◌}
+use Rattle.std.specs.FinMap.{get}
 use Rattle.sqlite.specs.declared.types.Value.TheVariants.{Null, Int}
 use Rattle.sqlite.specs.Order.{Row}
 use Rattle.sqlite.specs.Term.{col}
@@ -11,11 +12,11 @@ use Rattle.sqlite.specs.State.{State, Shown}
 use Rattle.sqlite.proofs.Callers.{IsPlain, command_of, reads_as}
 use Rattle.ee_store_tables.specs.Rows.{Rows, DeskRow, desk_columns}
 use Rattle.ee_store_tables.proofs.Lemmas.Rows.{by_number, found_by_number}
-use Rattle.ee_store_opening.specs.declared.forms.Form.{Form}
-use Rattle.ee_store_opening.specs.declared.forms.Form.TheVariants.{Current, Earlier}
-use Rattle.ee_store_opening.specs.Forms.{schema_of, HoldsIn}
-use Rattle.ee_store_opening.proofs.FormLemmas.{common}
-use Rattle.ee_store_opening.specs.Opening.{version_shown, versions_in, IsFirstVersion, IsOtherVersion}
+use Rattle.ee_store_making.specs.declared.forms.Form.{Form}
+use Rattle.ee_store_making.specs.declared.forms.Form.TheVariants.{Current, First, Earliest}
+use Rattle.ee_store_making.specs.Forms.{schema_of, version_of, HoldsIn}
+use Rattle.ee_store_making.proofs.Lemmas.Forms.{common}
+use Rattle.ee_store_opening.specs.Opening.{version_shown, versions_in, Names, IsOfForm, IsOtherVersion}
 
 abbrev pub version_text : List ℕ
 version_text = codes "SELECT version FROM desk WHERE id = ?1"
@@ -26,12 +27,14 @@ version_query = by_number 0 (col 1 2 ∷ [])
 pub version_is : (form : Form) → (command_of (understood (schema_of form) version_text) ≡ Select (record { lets = []; body = version_query }) (codes "version" ∷ [])) × (reads_listing (schema_of form) version_text ≡ false)
 unfolding understood everything
 version_is Current = (refl, refl)
-version_is Earlier = (refl, refl)
+version_is First = (refl, refl)
+version_is Earliest = (refl, refl)
 
 pub version_plain : (form : Form) → IsPlain (understood (schema_of form) version_text)
 unfolding understood everything
 version_plain Current = (refl, refl)
-version_plain Earlier = (refl, refl)
+version_plain First = (refl, refl)
+version_plain Earliest = (refl, refl)
 
 abbrev pub given_id : Row
 given_id = Int (pos 1) ∷ []
@@ -46,5 +49,27 @@ abbrev version_in : Option DeskRow → ℕ
 version_in None = 0
 version_in (Some desk) = desk.version
 
-pub one_version : (rows : Rows) → IsFirstVersion rows → ¬ IsOtherVersion rows
-one_version rows first other = other.2 (ap version_in (sym other.1 ∙ first.1) ∙ first.2)
+-- the version of a form is one of the two
+known_form : (form : Form) (n : ℕ) → n ≡ version_of form → n ≢ 1 → n ≢ 2 → ⊥
+known_form Current n is first second = second is
+known_form First n is first second = first is
+known_form Earliest n is first second = first is
+
+pub one_version : (form : Form) (rows : Rows) → IsOfForm form rows → ¬ IsOtherVersion rows
+one_version form rows named other = known_form form other.0.version (ap version_in (sym other.1 ∙ named.1) ∙ named.2) other.2 other.3
+
+-- the version that was read is that which the desk's row names
+same_version : (version : ℕ) (rows : Rows) → Names version rows → (desk : DeskRow) → get rows.desk 1 ≡ Some desk → version ≡ desk.version
+same_version version rows named desk is = named.2 ∙ ap version_in (sym named.1 ∙ is)
+
+pub of_form : (form : Form) (version : ℕ) (rows : Rows) → Names version rows → version ≡ version_of form → IsOfForm form rows
+of_form form version rows named is = (named.0, named.1, sym named.2 ∙ is)
+
+-- rows of the version of their form name it
+pub names_form : (form : Form) (version : ℕ) (rows : Rows) → Names version rows → IsOfForm form rows → version ≡ version_of form
+names_form form version rows named is = same_version version rows named is.0 is.1 ∙ is.2
+
+-- a version that this program knows is no other
+pub known_is_no_other : (version : ℕ) (rows : Rows) → Names version rows → (version ≡ 1) ⊎ (version ≡ 2) → ¬ IsOtherVersion rows
+known_is_no_other version rows named (inl first) other = other.2 (sym (same_version version rows named other.0 other.1) ∙ first)
+known_is_no_other version rows named (inr second) other = other.3 (sym (same_version version rows named other.0 other.1) ∙ second)

@@ -1,19 +1,20 @@
--- A store that is only read, and has the tables of version 1 in some form.
-use Rattle.std.proofs.Common.{◌≡◌, [], IsTrue, T, length, sym, ap, subst, ◌∙◌, nat_cmp}
-use Rattle.std.specs.FinMap.{empty, empty_of_len, entries-from_sorted, entries_sorted, is_sorted, len-entries}
+-- A store that is only read, and has tables of some form.
+use Rattle.std.proofs.Common.{◌≡◌, ◌≢◌, ◌⊎◌, inl, inr, List, [], IsTrue, T, length, refl, sym, ap, subst, ◌∙◌, nat_cmp}
+use Rattle.std.specs.FinMap.{FinMap, empty, empty_of_len, entries-from_sorted, entries_sorted, is_sorted, len-entries}
 use Rattle.sqlite.specs.Effect.{Database}
 use Rattle.sqlite.specs.Tree.{Trees}
 use Rattle.sqlite.specs.State.{State, IsLive, IsUnchanged}
-use Rattle.ee_store_tables.specs.Keyed.{pair_cmp}
-use Rattle.ee_store_tables.specs.Rows.{Rows}
-use Rattle.ee_store_opening.specs.declared.forms.Form.{Form}
-use Rattle.ee_store_opening.specs.declared.forms.Form.TheVariants.{Current, Earlier}
-use Rattle.ee_store_opening.specs.Forms.{HoldsIn, SeesForm, HasForm, SeesIn, HadIn}
+use Rattle.ee_store_tables.specs.Keyed.{pair_cmp, HoldsMap}
+use Rattle.ee_store_tables.specs.Rows.{Rows, ReplyRow, rate_columns}
+use Rattle.ee_store_making.specs.declared.forms.Form.{Form}
+use Rattle.ee_store_making.specs.declared.forms.Form.TheVariants.{Current, First, Earliest}
+use Rattle.ee_store_making.specs.Forms.{HoldsReplies, HoldsIn, SeesForm, HasForm, SeesIn, HadIn}
 use Rattle.ee_store_opening.specs.Reading.{IsSoundNow}
+use Rattle.ee_store_opening.specs.declared.entries.StoredRate.{StoredRate}
 use Rattle.ee_store_opening.specs.declared.whole.AllRows.{AllRows}
-use Rattle.ee_store_opening.specs.Shown.{desk_map, rate_map, bond_map, ticket_map, line_map, batch_map, reply_map}
-use Rattle.ee_store_opening.specs.Whole.{rows_of, ListsAll, AreInOrder, HoldsExtensions}
-use Rattle.ee_store_opening.proofs.FormLemmas.{HoldsCommon, had_form}
+use Rattle.ee_store_opening.specs.Shown.{desk_map, rate_map, bond_map, ticket_map, line_map, batch_map, answer_map}
+use Rattle.ee_store_opening.specs.Whole.{rows_of, ListsAll, AreInOrder, HoldsKept, HoldsExtensions}
+use Rattle.ee_store_making.proofs.Lemmas.Forms.{HoldsCommon, had_form}
 use Rattle.ee_store_opening.proofs.OneLemmas.{one_rows}
 
 pub sound_now : (old : State) → IsLive old → IsSoundNow old
@@ -41,27 +42,74 @@ module _ (form : Form) (old : State) (settled : IsTrue old.is_open → old.now �
 no_rates : rate_map [] ≡ empty
 no_rates = empty_of_len (rate_map []) (len-entries (rate_map []) ∙ ap length (entries-from_sorted nat_cmp [] tt))
 
-pub holds_all : (form : Form) (db : Trees) (all : AllRows) → HoldsCommon db (rows_of all) → HoldsExtensions form db all.extensions.items → HoldsIn form db (rows_of all)
-holds_all Current db all h extensions = record {
+pub holds_all : (form : Form) (db : Trees) (all : AllRows) → HoldsCommon db (rows_of all) → HoldsKept form db (answer_map all.answers.items) → HoldsExtensions form db all.extensions.items
+    → HoldsIn form db (rows_of all)
+holds_all Current db all h answers extensions = record {
   desk = h.desk;
   rates = h.rates;
   bonds = h.bonds;
   tickets = h.tickets;
   paid = h.paid;
   batches = h.batches;
-  replies = h.replies;
+  extensions = extensions;
+  answers = answers;
+}
+holds_all First db all h answers extensions = record {
+  desk = h.desk;
+  rates = h.rates;
+  bonds = h.bonds;
+  tickets = h.tickets;
+  paid = h.paid;
+  batches = h.batches;
+  answers = answers;
   extensions = extensions;
 }
-holds_all Earlier db all h none = record {
+holds_all Earliest db all h answers none = record {
   desk = h.desk;
   rates = h.rates;
   bonds = h.bonds;
   tickets = h.tickets;
   paid = h.paid;
   batches = h.batches;
-  replies = h.replies;
+  answers = answers;
   none = ap rate_map none ∙ no_rates;
 }
+
+-- what a table of replies holds is held in each form
+pub holds_kept : (form : Form) (db : Trees) (rows : Rows) → HoldsIn form db rows → HoldsKept form db rows.answers
+holds_kept Current db rows h = h.answers
+holds_kept First db rows h = h.answers
+holds_kept Earliest db rows h = h.answers
+
+-- two forms have a table of extensions
+pub is_later : (form : Form) → (form ≡ Current) ⊎ (form ≡ First) → form ≢ Earliest
+is_later form (inl current) earliest = let e = sym current ∙ earliest in cc
+is_later form (inr first) earliest = let e = sym first ∙ earliest in cc
+
+pub extended_held : (form : Form) (db : Trees) (all : List StoredRate) → form ≢ Earliest → HoldsMap rate_columns (db 12) (rate_map all) → HoldsExtensions form db all
+extended_held Current db all later held = held
+extended_held First db all later held = held
+extended_held Earliest db all later held = absurd (later refl)
+
+pub holds_extended : (form : Form) (db : Trees) (rows : Rows) → form ≢ Earliest → HoldsIn form db rows → HoldsMap rate_columns (db 12) rows.extensions
+holds_extended Current db rows later held = held.extensions
+holds_extended First db rows later held = held.extensions
+holds_extended Earliest db rows later held = absurd (later refl)
+
+-- the others are of version 1
+pub is_first : (form : Form) → (form ≡ First) ⊎ (form ≡ Earliest) → form ≢ Current
+is_first form (inl first) current = let e = sym first ∙ current in cc
+is_first form (inr earliest) current = let e = sym earliest ∙ current in cc
+
+pub first_kept : (form : Form) (db : Trees) (answers : FinMap pair_cmp ReplyRow) → form ≢ Current → HoldsReplies db answers → HoldsKept form db answers
+first_kept Current db answers earlier held = absurd (earlier refl)
+first_kept First db answers earlier held = held
+first_kept Earliest db answers earlier held = held
+
+pub kept_first : (form : Form) (db : Trees) (answers : FinMap pair_cmp ReplyRow) → form ≢ Current → HoldsKept form db answers → HoldsReplies db answers
+kept_first Current db answers earlier held = absurd (earlier refl)
+kept_first First db answers earlier held = held
+kept_first Earliest db answers earlier held = held
 
 -- entries of maps are in order
 pub are_in_order : (all : AllRows) → ListsAll all → AreInOrder all
@@ -72,6 +120,6 @@ are_in_order all lists = record {
   tickets = subst (λ es. T (is_sorted nat_cmp es)) lists.tickets (entries_sorted (ticket_map all.tickets.items));
   lines = subst (λ es. T (is_sorted pair_cmp es)) lists.lines (entries_sorted (line_map all.lines.items));
   batches = subst (λ es. T (is_sorted nat_cmp es)) lists.batches (entries_sorted (batch_map all.batches.items));
-  replies = subst (λ es. T (is_sorted nat_cmp es)) lists.replies (entries_sorted (reply_map all.replies.items));
   extensions = subst (λ es. T (is_sorted nat_cmp es)) lists.extensions (entries_sorted (rate_map all.extensions.items));
+  answers = subst (λ es. T (is_sorted pair_cmp es)) lists.answers (entries_sorted (answer_map all.answers.items));
 }

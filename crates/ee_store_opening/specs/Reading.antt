@@ -1,5 +1,5 @@
 -- What is read of a whole table.
-use Rattle.std.specs.Prelude.{◌≡◌, ◌≤◌, length, ◌&&◌, ℕ, Bool, true, false, IsTrue, List, [], ◌∷◌, map, pos, negsuc, None, Ok, Err, Result, All, IsPermutation}
+use Rattle.std.specs.Prelude.{◌≡◌, ◌&&◌, ℕ, Bool, true, false, IsTrue, List, [], ◌∷◌, map, pos, negsuc, None, Ok, Err, Result, All, IsPermutation}
 use Rattle.sqlite.specs.declared.types.Value.TheVariants.{Int}
 use Rattle.sqlite.specs.Order.{Row}
 use Rattle.sqlite.specs.Tree.{Trees}
@@ -12,8 +12,7 @@ use Rattle.sqlite.specs.Program.{overlay}
 use Rattle.sqlite_resolve.specs.declared.compiled.Compiled.{Compiled}
 use Rattle.sqlite_resolve.specs.declared.error.CompileError.{CompileError}
 use Rattle.sqlite.specs.Command.TheVariants.{Select}
-use Rattle.sqlite.specs.declared.error.Error.{Error}
-use Rattle.sqlite.specs.Effect.{IsDatabase, RefusesToRead}
+use Rattle.sqlite.specs.Effect.{IsDatabase}
 use Rattle.sqlite.specs.Listing.{understood, reads_listing}
 use Rattle.sqlite.specs.State.{State, Begins}
 
@@ -44,21 +43,6 @@ IsQuery query (Err e) = ⊥
 -- over the schema the text asks for the whole table, in this order
 pub record AsksForAll (schema : Schema) (text : List ℕ) (tree : ℕ) (terms : List Term) (order : List (Term × Key)) : Type 0 where
   pub query : IsQuery (whole_table tree terms order) (understood schema text)
-  pub unlisted : reads_listing schema text ≡ false
-
--- the text is one statement for so many parameters, which neither shows what it writes nor reads the time
-abbrev pub IsOneStatement : List ℕ → ℕ → Result Compiled CompileError → Type 0
-IsOneStatement text count (Ok c) = (length text ≤ c.tail) × (count ≡ length c.names) × (c.returning ≡ None) × (c.formats ≡ [])
-IsOneStatement text count (Err e) = ⊥
-
-abbrev pub NeverRefuses : Schema → Row → Result Compiled CompileError → Type 0
-NeverRefuses schema params (Ok c) = (trees : Trees) (e : Error) → ¬ RefusesToRead None c.command (record { schema = schema; trees = trees }) params e
-NeverRefuses schema params (Err e) = ⊥
-
--- with no limit on steps `sqlite` refuses the query for no rows of these tables
-pub record IsNeverRefused (schema : Schema) (text : List ℕ) (params : Row) : Type 0 where
-  pub statement : IsOneStatement text (length params) (understood schema text)
-  pub accepted : NeverRefuses schema params (understood schema text)
   pub unlisted : reads_listing schema text ≡ false
 
 -- what the terms show of a row

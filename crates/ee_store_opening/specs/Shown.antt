@@ -13,6 +13,8 @@ use Rattle.ee_store_opening.specs.declared.entries.StoredTicket.{StoredTicket}
 use Rattle.ee_store_opening.specs.declared.entries.StoredLine.{StoredLine}
 use Rattle.ee_store_opening.specs.declared.entries.StoredBatch.{StoredBatch}
 use Rattle.ee_store_opening.specs.declared.entries.StoredReply.{StoredReply}
+use Rattle.ee_store_making.specs.declared.answers.StoredAnswer.{StoredAnswer}
+use Rattle.ee_store_making.specs.Migrating.{answer_entry}
 
 -- pairs are in order of their first numbers, and then of their second
 abbrev pub pair_lt : ℕ × ℕ → ℕ × ℕ → Bool
@@ -41,6 +43,9 @@ batch_shown b = number b.day ∷ number b.tickets ∷ number b.bonds ∷ number 
 abbrev pub reply_shown : StoredReply → Row
 reply_shown r = number r.number ∷ Text (string_bytes r.act) ∷ Text (string_bytes r.reply) ∷ []
 
+abbrev pub answer_shown : StoredAnswer → Row
+answer_shown a = number a.desk ∷ number a.number ∷ Text (string_bytes a.act) ∷ Text (string_bytes a.reply) ∷ []
+
 -- ---- rows that this program writes
 
 -- under a number
@@ -61,11 +66,14 @@ IsPaired {X} columns row = (e : (ℕ × ℕ) × X) × (row ≡ pair_shown column
 abbrev pub IsWritten : ReplyRow → Type 0
 IsWritten reply = IsUtf8 reply.act × IsUtf8 reply.reply
 
-abbrev pub AreWritten : FinMap nat_cmp ReplyRow → Type 0
-AreWritten replies = (n : ℕ) (reply : ReplyRow) → get replies n ≡ Some reply → IsWritten reply
+abbrev pub AreWritten : FinMap pair_cmp ReplyRow → Type 0
+AreWritten answers = (k : ℕ × ℕ) (reply : ReplyRow) → get answers k ≡ Some reply → IsWritten reply
 
 abbrev pub IsReply : Row → Type 0
 IsReply row = (e : ℕ × ReplyRow) × (row ≡ keyed_shown reply_columns e) × IsWritten e.1
+
+abbrev pub IsAnswerRow : Row → Type 0
+IsAnswerRow row = (e : (ℕ × ℕ) × ReplyRow) × (row ≡ pair_shown reply_columns e) × IsWritten e.1
 
 abbrev pub IsRowid : Row → Type 0
 IsRowid row = (i : ℤ) × (row ≡ Int i ∷ [])
@@ -115,3 +123,10 @@ batch_map all = from_sorted (map batch_entry all)
 
 abbrev pub reply_map : List StoredReply → FinMap nat_cmp ReplyRow
 reply_map all = from_sorted (map reply_entry all)
+
+abbrev pub answer_map : List StoredAnswer → FinMap pair_cmp ReplyRow
+answer_map all = from_sorted (map answer_entry all)
+
+-- a reply of version 1 belongs to the first desk
+abbrev pub first_answer : StoredReply → StoredAnswer
+first_answer r = record { desk = 0; number = r.number; act = r.act; reply = r.reply }

@@ -1,18 +1,21 @@
 -- What all rows of a store are together.
-use Rattle.std.specs.Prelude.{◌≡◌, List, [], T, map}
+use Rattle.std.specs.Prelude.{◌≡◌, ◌≢◌, List, [], T, map}
 use Rattle.std.specs.Ordering.{nat_cmp}
-use Rattle.std.specs.FinMap.{entries, is_sorted}
+use Rattle.std.specs.FinMap.{FinMap, entries, is_sorted}
 use Rattle.sqlite.specs.Tree.{Trees}
+use Rattle.sqlite.specs.State.{State}
 use Rattle.ee_store_tables.specs.Keyed.{pair_cmp, HoldsMap, HoldsPairs}
-use Rattle.ee_store_tables.specs.Rows.{Rows, desk_columns, rate_columns, bond_columns, ticket_columns, paid_columns, batch_columns, reply_columns}
-use Rattle.ee_store_opening.specs.declared.forms.Form.{Form}
-use Rattle.ee_store_opening.specs.declared.forms.Form.TheVariants.{Current, Earlier}
+use Rattle.ee_store_tables.specs.Rows.{Rows, ReplyRow, desk_columns, rate_columns, bond_columns, ticket_columns, paid_columns, batch_columns, reply_columns}
+use Rattle.ee_store_making.specs.declared.forms.Form.{Form}
+use Rattle.ee_store_making.specs.declared.forms.Form.TheVariants.{Current, First, Earliest}
+use Rattle.ee_store_making.specs.Forms.{SeesForm, HoldsReplies}
+use Rattle.ee_store_making.specs.Migrating.{answer_entry}
 use Rattle.ee_store_opening.specs.declared.entries.StoredRate.{StoredRate}
 use Rattle.ee_store_opening.specs.declared.whole.AllRows.{AllRows}
 use Rattle.ee_store_opening.specs.declared.whole.Register.{Register}
 use Rattle.ee_store_opening.specs.declared.whole.Payments.{Payments}
 use Rattle.ee_store_opening.specs.declared.whole.Records.{Records}
-use Rattle.ee_store_opening.specs.Shown.{desk_map, rate_map, bond_map, ticket_map, line_map, batch_map, reply_map, desk_entry, rate_entry, bond_entry, ticket_entry, line_entry, batch_entry, reply_entry}
+use Rattle.ee_store_opening.specs.Shown.{desk_map, rate_map, bond_map, ticket_map, line_map, batch_map, answer_map, desk_entry, rate_entry, bond_entry, ticket_entry, line_entry, batch_entry}
 
 abbrev pub rows_of : AllRows → Rows
 rows_of all = record {
@@ -22,8 +25,8 @@ rows_of all = record {
   tickets = ticket_map all.tickets.items;
   paid = line_map all.lines.items;
   batches = batch_map all.batches.items;
-  replies = reply_map all.replies.items;
   extensions = rate_map all.extensions.items;
+  answers = answer_map all.answers.items;
 }
 
 -- Each table's rows are in order of their keys, and no key stands twice.
@@ -34,8 +37,8 @@ pub record AreInOrder (all : AllRows) : Type 0 where
   pub tickets : T (is_sorted nat_cmp (map ticket_entry all.tickets.items))
   pub lines : T (is_sorted pair_cmp (map line_entry all.lines.items))
   pub batches : T (is_sorted nat_cmp (map batch_entry all.batches.items))
-  pub replies : T (is_sorted nat_cmp (map reply_entry all.replies.items))
   pub extensions : T (is_sorted nat_cmp (map rate_entry all.extensions.items))
+  pub answers : T (is_sorted pair_cmp (map answer_entry all.answers.items))
 
 -- The entries of each map are the rows that were read, in their order.
 pub record ListsAll (all : AllRows) : Type 0 where
@@ -45,8 +48,8 @@ pub record ListsAll (all : AllRows) : Type 0 where
   pub tickets : entries (ticket_map all.tickets.items) ≡ map ticket_entry all.tickets.items
   pub lines : entries (line_map all.lines.items) ≡ map line_entry all.lines.items
   pub batches : entries (batch_map all.batches.items) ≡ map batch_entry all.batches.items
-  pub replies : entries (reply_map all.replies.items) ≡ map reply_entry all.replies.items
   pub extensions : entries (rate_map all.extensions.items) ≡ map rate_entry all.extensions.items
+  pub answers : entries (answer_map all.answers.items) ≡ map answer_entry all.answers.items
 
 -- ---- parts of the whole
 
@@ -61,7 +64,7 @@ pub record ListsPayments (part : Payments) : Type 0 where
 
 pub record ListsRecords (part : Records) : Type 0 where
   pub batches : entries (batch_map part.batches.items) ≡ map batch_entry part.batches.items
-  pub replies : entries (reply_map part.replies.items) ≡ map reply_entry part.replies.items
+  pub answers : entries (answer_map part.answers.items) ≡ map answer_entry part.answers.items
 
 pub record HoldsRegister (db : Trees) (part : Register) : Type 0 where
   pub desk : HoldsMap desk_columns (db 0) (desk_map part.desk.items)
@@ -72,11 +75,22 @@ pub record HoldsPayments (db : Trees) (part : Payments) : Type 0 where
   pub tickets : HoldsMap ticket_columns (db 5) (ticket_map part.tickets.items)
   pub lines : HoldsPairs paid_columns (db 7) (line_map part.lines.items)
 
-pub record HoldsRecords (db : Trees) (part : Records) : Type 0 where
+-- a transaction sees tables of version 1
+abbrev pub HasFirstTables : State → Type 0
+HasFirstTables s = (form : Form) × (form ≢ Current) × SeesForm form s
+
+-- the kept replies, in the table of this form
+abbrev pub HoldsKept : Form → Trees → FinMap pair_cmp ReplyRow → Type 0
+HoldsKept Current db answers = HoldsPairs reply_columns (db 13) answers
+HoldsKept First db answers = HoldsReplies db answers
+HoldsKept Earliest db answers = HoldsReplies db answers
+
+pub record HoldsRecords (form : Form) (db : Trees) (part : Records) : Type 0 where
   pub batches : HoldsMap batch_columns (db 10) (batch_map part.batches.items)
-  pub replies : HoldsMap reply_columns (db 11) (reply_map part.replies.items)
+  pub answers : HoldsKept form db (answer_map part.answers.items)
 
 -- the rows of the table of extensions, and none where it is lacking
 abbrev pub HoldsExtensions : Form → Trees → List StoredRate → Type 0
 HoldsExtensions Current db all = HoldsMap rate_columns (db 12) (rate_map all)
-HoldsExtensions Earlier db all = all ≡ []
+HoldsExtensions First db all = HoldsMap rate_columns (db 12) (rate_map all)
+HoldsExtensions Earliest db all = all ≡ []

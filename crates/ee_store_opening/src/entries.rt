@@ -8,8 +8,8 @@ ghost use Rattle.sqlite.specs.declared.types.Value.TheVariants.{Int};
 ghost use Rattle.ee_store_tables.specs.Rows.{desk_columns, rate_columns, bond_columns, ticket_columns, paid_columns, batch_columns};
 ghost use Rattle.ee_store_opening.specs.Shown as spec;
 
-use crate::faults::OpenFault;
 use crate::reading::Record;
+use ee_store_making::{OpenFault, StoredAnswer};
 use sqlite::Row;
 
 /// The row of the desk.
@@ -96,7 +96,7 @@ pub struct StoredBatch {
     pub total: u64,
 }
 
-/// The act and the reply that are kept under a number, as texts.
+/// The act and the reply that a store of version 1 keeps under a number, as texts.
 #[derive(Drop)]
 pub struct StoredReply {
     /// The number of the request.
@@ -281,6 +281,30 @@ impl Record for StoredReply {
 
     fn precedes(&self, next: &StoredReply) -> bool {
         self.number < next.number
+    }
+}
+
+impl Record for StoredAnswer {
+    ghost shown = { spec.answer_shown };
+
+    ghost is_readable = { spec.IsAnswerRow };
+
+    ghost stands_before = { λ a b. spec.pair_lt (a.desk, a.number) (b.desk, b.number) };
+
+    fn read(row: &Row) -> Result<StoredAnswer, OpenFault> {
+        if row.column_count() != 4 {
+            return Err(OpenFault::Unusable);
+        }
+        Ok(StoredAnswer {
+            desk: row.get(0)?,
+            number: row.get(1)?,
+            act: row.get(2)?,
+            reply: row.get(3)?,
+        })
+    }
+
+    fn precedes(&self, next: &StoredAnswer) -> bool {
+        self.desk < next.desk || (self.desk == next.desk && self.number < next.number)
     }
 }
 

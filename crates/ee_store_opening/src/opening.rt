@@ -6,19 +6,19 @@ ghost use Rattle.sqlite.specs.Held.{state};
 ghost use Rattle.sqlite.specs.Tree.{Trees};
 ghost use Rattle.ee_store_tables.specs.Rows.{Rows, Has, Stores};
 ghost use Rattle.ee_store_tables.specs.Statements.{LeavesNoMore};
-ghost use Rattle.ee_store_opening.specs.declared.forms.Form.{Form};
-ghost use Rattle.ee_store_opening.specs.declared.forms.Form.TheVariants.{Current};
-ghost use Rattle.ee_store_opening.specs.Faults.{IsExcused, FailsForCause};
-ghost use Rattle.ee_store_opening.specs.Forms.{HasForm, IsOurs, HadIn};
-ghost use Rattle.ee_store_opening.specs.Making.{IsBlank, first_rows};
+ghost use Rattle.ee_store_making.specs.declared.forms.Form.{Form};
+ghost use Rattle.ee_store_making.specs.declared.forms.Form.TheVariants.{Current};
+ghost use Rattle.ee_store_making.specs.Faults.{IsExcused, FailsForCause};
+ghost use Rattle.ee_store_making.specs.Forms.{HasForm, IsOurs, HadIn};
+ghost use Rattle.ee_store_making.specs.Making.{IsBlank, first_rows};
 ghost use Rattle.ee_store_opening.specs.Whole.{rows_of, AreInOrder};
-ghost use Rattle.ee_store_opening.specs.Opening.{HasTables, IsFirstVersion, IsOtherVersion, AreReadable};
+ghost use Rattle.ee_store_opening.specs.Opening.{HasTables, IsOfForm, IsOtherVersion, AreReadable};
 
-use crate::faults::OpenFault;
-use crate::forms::Form;
-use crate::making::make_tables;
+use ee_store_making::OpenFault;
+use ee_store_making::Form;
+use ee_store_making::make_tables;
 use crate::ours::{form_of, has_no_tables};
-use crate::version::check_version;
+use crate::version::known_version;
 use crate::whole::{AllRows, read_all};
 use sqlite::{Alter, Connection};
 use std::alloc::Global;
@@ -26,6 +26,7 @@ use std::alloc::Global;
 /// Makes the tables, and reads their rows.
 fn open_blank<S: Alter>(conn: &mut Connection<S>, alloc: Global) -> Result<AllRows, OpenFault>
     ensures found { HasCleanDisk (state S.Store conn.new) → IfOk result (λ all. IsBlank (state S.Store conn.old) → Has (state S.Store conn.new) (rows_of all)) }
+    ensures form { IfOk result (λ all. all.form ≡ Current) }
     ensures made { HasCleanDisk (state S.Store conn.new) → IfOk result (λ all. IsBlank (state S.Store conn.old) → rows_of all ≡ first_rows) }
     ensures order { IfOk result AreInOrder }
     ensures open { HasCleanDisk (state S.Store conn.new) → OnOk result (IsTrue (state S.Store conn.old).is_open × IsTrue (state S.Store conn.new).is_open) }
@@ -48,36 +49,37 @@ fn refusal<S: Alter>(conn: &mut Connection<S>) -> OpenFault
     ensures kept { HasCleanDisk (state S.Store conn.new) → KeepsCommit (state S.Store conn.old) (state S.Store conn.new) }
     ensures crash { LeavesNoMore (state S.Store conn.old) (state S.Store conn.new) }
 {
-    match check_version(conn) {
-        Ok(()) => OpenFault::Unusable,
+    match known_version(conn) {
+        Ok(_) => OpenFault::Unusable,
         Err(fault) => fault,
     }
 }
 
-/// The rows of a store; the tables of version 1 are made where it has none at all.
+/// The rows of a store; the tables are made where it has none at all.
 ///
-/// A store is read where its tables are those of version 1, in the order in which they are made, with
-/// their indexes, and it has nothing else. One that was made before extensions could be named lacks just
-/// their table, the last: it is read without it, nothing is written into it, and its rows have no extension
-/// (`extend_tables` makes the table). Where a store has no table, index or view they are made in one
-/// transaction, with the desk's row: version 1, no open day and no last day. Any other store is
+/// A store is read where its tables are those of version 2, or those of version 1 with or without the table of
+/// extensions, in the order in which they are made, with their indexes, and it has nothing else; nothing is
+/// written into it. Rows of version 1 are read as those of version 2 that they become: their replies belong to
+/// the first desk, and where the table is missing there is no extension; only the desk's row still names
+/// version 1 (`migrate` makes version 2 of them). Where a store has no table, index or view the tables are made
+/// in one transaction, with the desk's row: version 2, no open day and no last day. Any other store is
 /// refused, one with our tables in another order or with fewer of them too, and nothing is committed in it.
 /// The version is tested before all else is read. Each table's rows come in order of their keys. It takes
 /// time and memory in proportion to the rows.
 ///
 /// # Errors
 ///
-/// `WrongVersion` where the desk's row is of another version, whatever the tables are besides.
-/// `Unusable` where the tables are others than those of version 1, the desk's row is missing, or a row
+/// `WrongVersion` where the desk's row is of neither version, whatever the tables are besides.
+/// `Unusable` where the tables are others than those of its version, the desk's row is missing, or a row
 /// has a value that no row of this program has. `NoMemory` where there is not enough memory, and else
 /// `StoreFailed`, as where the connection is in a transaction. What was committed stays, or just the
 /// new tables and the desk's row are there. Where there is a table, an index or a view, nothing is
 /// committed. Outside a transaction and with no limit on steps, a store with no tables or with those
-/// of version 1 gives `StoreFailed` only where its device fails during the call or it was shut before.
+/// of either version gives `StoreFailed` only where its device fails during the call or it was shut before.
 pub fn open_rows<S: Alter>(conn: &mut Connection<S>, alloc: Global) -> Result<AllRows, OpenFault>
-    ensures found { HasCleanDisk (state S.Store conn.new) → IfOk result (λ all. (form : Form) × HadIn form (state S.Store conn.new) (rows_of all)) }
-    ensures current { HasCleanDisk (state S.Store conn.new) → IfOk result (λ all. HasForm Current (state S.Store conn.old) ⊎ IsBlank (state S.Store conn.old)
-        → Has (state S.Store conn.new) (rows_of all)) }
+    ensures found { HasCleanDisk (state S.Store conn.new) → IfOk result (λ all. HadIn all.form (state S.Store conn.new) (rows_of all)) }
+    ensures current { HasCleanDisk (state S.Store conn.new) → IfOk result (λ all. IsTrue (state S.Store conn.old).is_open
+        → HasForm Current (state S.Store conn.old) ⊎ IsBlank (state S.Store conn.old) → (all.form ≡ Current) × Has (state S.Store conn.new) (rows_of all)) }
     ensures ours { HasCleanDisk (state S.Store conn.new) → OnOk result (IsOurs (state S.Store conn.old) ⊎ IsBlank (state S.Store conn.old)) }
     ensures made { HasCleanDisk (state S.Store conn.new) → IfOk result (λ all. IsBlank (state S.Store conn.old) → IsTrue (state S.Store conn.old).is_open
         → rows_of all ≡ first_rows) }
@@ -88,13 +90,13 @@ pub fn open_rows<S: Alter>(conn: &mut Connection<S>, alloc: Global) -> Result<Al
     ensures begun { HasCleanDisk (state S.Store conn.new) → OnOk result (IsBlank (state S.Store conn.old) → (db : Trees)
         → (state S.Store conn.new).may_leave db → Stores db first_rows) }
     ensures first { HasCleanDisk (state S.Store conn.new) → OnOk result ((form : Form) (rows : Rows) → HadIn form (state S.Store conn.old) rows
-        → IsTrue (state S.Store conn.old).is_open → IsFirstVersion rows) }
+        → IsTrue (state S.Store conn.old).is_open → IsOfForm form rows) }
     ensures version { HasCleanDisk (state S.Store conn.new) → IfErr result (λ e. e ≡ OpenFault.WrongVersion → (form : Form) (rows : Rows)
         → HadIn form (state S.Store conn.old) rows → IsTrue (state S.Store conn.old).is_open → IsOtherVersion rows) }
     ensures tested { HasCleanDisk (state S.Store conn.new) → IfErr result (λ e. e ≡ OpenFault.Unusable → (form : Form) (rows : Rows)
         → HadIn form (state S.Store conn.old) rows → IsTrue (state S.Store conn.old).is_open → ¬ IsOtherVersion rows) }
     ensures unusable { HasCleanDisk (state S.Store conn.new) → IfErr result (λ e. e ≡ OpenFault.Unusable → (form : Form) (rows : Rows)
-        → HadIn form (state S.Store conn.old) rows → IsTrue (state S.Store conn.old).is_open → ¬ AreReadable rows) }
+        → HadIn form (state S.Store conn.old) rows → IsTrue (state S.Store conn.old).is_open → ¬ AreReadable form rows) }
     ensures blank { HasCleanDisk (state S.Store conn.new) → IfErr result (λ e. IsBlank (state S.Store conn.old) → IsTrue (state S.Store conn.old).is_open
         → (e ≢ OpenFault.Unusable) × (e ≢ OpenFault.WrongVersion)) }
     ensures failed { HasCleanDisk (state S.Store conn.new) → OnErr result ((HasTables (state S.Store conn.old)

@@ -1,4 +1,4 @@
-//! Whether the tables of a store are those of version 1.
+//! In which form the tables of a store are those of this program.
 
 ghost use Rattle.std.specs.Prelude.{◌≡◌, ◌↔◌, true, false, [], ◌∷◌, Some};
 ghost use Rattle.sqlite_value.specs.declared.value.Value.TheVariants.{Null};
@@ -18,14 +18,15 @@ ghost use Rattle.ee_store_tables.specs.Tables.{
   tickets,
   paid,
   batches,
-  replies,
   extensions,
+  answers,
 };
-ghost use Rattle.ee_store_opening.specs.declared.forms.Form.{Form};
-ghost use Rattle.ee_store_opening.specs.Forms.{earlier_tables, schema_of};
-ghost use Rattle.ee_store_opening.specs.Making.{no_tables};
+ghost use Rattle.ee_store_making.specs.declared.forms.Form.{Form};
+ghost use Rattle.ee_store_making.specs.Forms.{replies, first_tables, schema_of};
+ghost use Rattle.ee_store_making.specs.Making.{no_tables};
+ghost use Rattle.ee_store_opening.specs.Opening.{common_tables};
 
-use crate::forms::Form;
+use ee_store_making::Form;
 use sqlite_items::Items;
 use sqlite_schema::code::Terms;
 use sqlite_schema::schema::{Column, Index, Kind, Schema, Stamps, Table};
@@ -271,6 +272,26 @@ fn is_extensions(table: &Table) -> bool
     is_keyed(table, "extensions", 12) && is_number(period, "period") && is_number(rate, "rate")
 }
 
+fn has_answer_columns(columns: &[Column]) -> bool
+    ensures { (result ≡ true) ↔ (columns.now ≡ answers.columns) }
+{
+    let [desk, number, act, reply] = columns else {
+        return false;
+    };
+    is_number(desk, "desk")
+        && is_number(number, "number")
+        && is_text(act, "act")
+        && is_text(reply, "reply")
+}
+
+fn is_answers(table: &Table) -> bool
+    ensures { (result ≡ true) ↔ (table.now ≡ answers) }
+{
+    is_paired(table, "answers", 13)
+        && has_one_key(table)
+        && has_answer_columns(table.columns.as_slice())
+}
+
 /// Whether an index has this name, tree and table, and each of its columns ascends.
 fn is_index(index: &Index, name: &str, tree: u32, table: u32, columns: &[usize]) -> bool
     ensures { (result ≡ true) ↔ (index.now
@@ -295,11 +316,11 @@ fn is_key(index: &Index, name: &str, tree: u32, table: u32, columns: &[usize]) -
     is_index(index, name, tree, table, columns) && index.is_unique
 }
 
-/// Whether these are the seven tables that each form has.
+/// Whether these are the six tables that each form has.
 fn are_common(tables: &[Table]) -> bool
-    ensures { (result ≡ true) ↔ (tables.now ≡ earlier_tables.tables) }
+    ensures { (result ≡ true) ↔ (tables.now ≡ common_tables) }
 {
-    let [desk, rates, bonds, tickets, paid, batches, replies] = tables else {
+    let [desk, rates, bonds, tickets, paid, batches] = tables else {
         return false;
     };
     is_desk(desk)
@@ -308,11 +329,11 @@ fn are_common(tables: &[Table]) -> bool
         && is_tickets(tickets)
         && is_paid(paid)
         && is_batches(batches)
-        && is_replies(replies)
 }
 
-fn are_our_indexes(indexes: &[Index]) -> bool
-    ensures { (result ≡ true) ↔ (indexes.now ≡ counter_schema.indexes) }
+/// Whether these are the five indexes that each form has.
+fn are_common_indexes(indexes: &[Index]) -> bool
+    ensures { (result ≡ true) ↔ (indexes.now ≡ first_tables.indexes) }
 {
     let [bond, owner, day, line, payment] = indexes else {
         return false;
@@ -324,6 +345,16 @@ fn are_our_indexes(indexes: &[Index]) -> bool
         & is_key(payment, "sqlite_autoindex_paid_2", 9, 7, &[3, 4])
 }
 
+/// Whether these are the indexes of version 2: those, and that of the answers' key.
+fn are_current_indexes(indexes: &[Index]) -> bool
+    ensures { (result ≡ true) ↔ (indexes.now ≡ counter_schema.indexes) }
+{
+    let Some((last, common)) = indexes.split_last() else {
+        return false;
+    };
+    are_common_indexes(common) && is_key(last, "sqlite_autoindex_answers_1", 14, 13, &[1, 2])
+}
+
 /// Whether there is no table, index or view.
 pub(crate) fn has_no_tables(schema: &Schema) -> bool
     ensures { (result ≡ true) ↔ (schema.now ≡ no_tables) }
@@ -331,34 +362,38 @@ pub(crate) fn has_no_tables(schema: &Schema) -> bool
     schema.tables.is_empty() && schema.indexes.is_empty() && schema.views.is_empty()
 }
 
-/// The form of these tables: the seven that each form has, and then that of extensions or none.
+/// The form of these tables: the six that each form has, and then those of one form.
 fn form_of_tables(tables: &[Table]) -> Option<Form>
     ensures { (form : Form) → (result ≡ Some form) ↔ (tables.now ≡ (schema_of form).tables) }
 {
-    let (common, more) = tables.split_at_checked(7)?;
+    let (common, more) = tables.split_at_checked(6)?;
     if !are_common(common) {
         return None;
     }
     match more {
-        [] => Some(Form::Earlier),
-        [last] => {
-            if is_extensions(last) {
-                Some(Form::Current)
-            } else {
-                None
-            }
+        [replies] if is_replies(replies) => Some(Form::Earliest),
+        [replies, extensions] if is_replies(replies) && is_extensions(extensions) => {
+            Some(Form::First)
+        }
+        [extensions, answers] if is_extensions(extensions) && is_answers(answers) => {
+            Some(Form::Current)
         }
         _ => None,
     }
 }
 
-/// The form of the tables of version 1, where they are there, in their order, and nothing else.
+/// The form of the tables of this program, where they are there, in their order, and nothing else.
 pub(crate) fn form_of(schema: &Schema) -> Option<Form>
     ensures { (form : Form) → (result ≡ Some form) ↔ (schema.now ≡ schema_of form) }
 {
-    if are_our_indexes(schema.indexes.as_slice()) && schema.views.is_empty() {
-        form_of_tables(schema.tables.as_slice())
-    } else {
-        None
+    if !schema.views.is_empty() {
+        return None;
     }
+    let form = form_of_tables(schema.tables.as_slice())?;
+    let indexes = schema.indexes.as_slice();
+    let are_ours = match form {
+        Form::Current => are_current_indexes(indexes),
+        Form::First | Form::Earliest => are_common_indexes(indexes),
+    };
+    are_ours.then_some(form)
 }

@@ -9,11 +9,12 @@ ghost use Rattle.sqlite.specs.Schema.{Schema};
 ghost use Rattle.sqlite.specs.Term.{Term};
 ghost use Rattle.sqlite_value.specs.declared.keys.Key.{Key};
 ghost use Rattle.sqlite.specs.Order.{Row as Columns};
-ghost use Rattle.ee_store_opening.specs.Faults.{FailsForCause};
-ghost use Rattle.ee_store_opening.specs.Forms.{SeesSchema};
-ghost use Rattle.ee_store_opening.specs.Reading.{rises, whole_table, AsksForAll, IsNeverRefused, ShowsAll, ShowsUnreadable, CanBeRead, OnlyAsks};
+ghost use Rattle.ee_store_making.specs.Faults.{FailsForCause};
+ghost use Rattle.ee_store_making.specs.Forms.{SeesSchema};
+ghost use Rattle.ee_store_making.specs.Asking.{IsNeverRefused};
+ghost use Rattle.ee_store_opening.specs.Reading.{rises, whole_table, AsksForAll, ShowsAll, ShowsUnreadable, CanBeRead, OnlyAsks};
 
-use crate::faults::OpenFault;
+use ee_store_making::OpenFault;
 use sqlite::{Alter, Connection, Row};
 use std::alloc::Global;
 

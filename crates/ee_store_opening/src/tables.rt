@@ -22,8 +22,10 @@ ghost use Rattle.ee_store_tables.specs.Rows.{
   batch_columns,
   reply_columns,
 };
-ghost use Rattle.ee_store_opening.specs.Faults.{FailsForCause};
-ghost use Rattle.ee_store_opening.specs.Forms.{HasOurTables, SeesForm, HoldsIn};
+ghost use Rattle.ee_store_making.specs.Faults.{FailsForCause};
+ghost use Rattle.ee_store_making.specs.declared.forms.Form.TheVariants.{Current};
+ghost use Rattle.ee_store_making.specs.Forms.{at_first_desk, HasOurTables, SeesForm, HoldsIn, HoldsReplies};
+ghost use Rattle.ee_store_making.specs.Migrating.{answer_entry};
 ghost use Rattle.ee_store_opening.specs.Reading.{IsSoundNow};
 ghost use Rattle.ee_store_opening.specs.Shown.{
   AreWritten,
@@ -34,6 +36,8 @@ ghost use Rattle.ee_store_opening.specs.Shown.{
   line_map,
   batch_map,
   reply_map,
+  answer_map,
+  first_answer,
   desk_entry,
   rate_entry,
   bond_entry,
@@ -42,14 +46,13 @@ ghost use Rattle.ee_store_opening.specs.Shown.{
   batch_entry,
   reply_entry,
 };
-ghost use Rattle.ee_store_opening.specs.Whole.{HoldsExtensions};
+ghost use Rattle.ee_store_opening.specs.Whole.{HasFirstTables, HoldsKept, HoldsExtensions};
 
 use crate::entries::{
     Rowid, StoredBatch, StoredBond, StoredDesk, StoredLine, StoredRate, StoredReply, StoredTicket,
 };
-use crate::faults::OpenFault;
-use crate::forms::Form;
 use crate::reading::read_table;
+use ee_store_making::{Form, OpenFault, StoredAnswer};
 use sqlite::{Alter, Connection};
 use std::alloc::Global;
 
@@ -145,21 +148,21 @@ pub(crate) fn read_batches<S: Alter>(
     )
 }
 
-/// The kept replies, in order of their numbers.
-pub(crate) fn read_replies<S: Alter>(
+/// The replies of version 1, in order of their numbers.
+fn read_replies<S: Alter>(
     conn: &mut Connection<S>,
     alloc: Global,
 ) -> Result<Vec<StoredReply>, OpenFault>
-    ensures found { HasCleanDisk (state S.Store conn.new) → HasOurTables (state S.Store conn.old) → IsSoundNow (state S.Store conn.old)
+    ensures found { HasCleanDisk (state S.Store conn.new) → HasFirstTables (state S.Store conn.old) → IsSoundNow (state S.Store conn.old)
         → IfOk result (λ found. HoldsMap reply_columns ((state S.Store conn.old).now.trees 11) (reply_map found.items)) }
     ensures listed { IfOk result (λ found. entries (reply_map found.items) ≡ map reply_entry found.items) }
-    ensures usable { HasCleanDisk (state S.Store conn.new) → IfErr result (λ e. e ≡ OpenFault.Unusable → HasOurTables (state S.Store conn.old)
-        → IsTrue (state S.Store conn.old).is_open → (m : FinMap nat_cmp ReplyRow) → AreWritten m
+    ensures usable { HasCleanDisk (state S.Store conn.new) → IfErr result (λ e. e ≡ OpenFault.Unusable → HasFirstTables (state S.Store conn.old)
+        → IsTrue (state S.Store conn.old).is_open → (m : FinMap nat_cmp ReplyRow) → AreWritten (at_first_desk m)
         → ¬ HoldsMap reply_columns ((state S.Store conn.old).now.trees 11) m) }
     ensures same { HasCleanDisk (state S.Store conn.new) → OnOk result (IsUnchanged (state S.Store conn.old) (state S.Store conn.new)) }
     ensures kept { HasCleanDisk (state S.Store conn.new) → KeepsCommit (state S.Store conn.old) (state S.Store conn.new) }
     ensures other { IfErr result (λ e. e ≢ OpenFault.WrongVersion) }
-    ensures cause { FailsForCause HasOurTables (state S.Store conn.old) (state S.Store conn.new) result }
+    ensures cause { FailsForCause HasFirstTables (state S.Store conn.old) (state S.Store conn.new) result }
     ensures crash { Survives (state S.Store conn.old) (state S.Store conn.new) (λ _. ⊥) }
 {
     read_table(
@@ -167,6 +170,97 @@ pub(crate) fn read_replies<S: Alter>(
         alloc,
         "SELECT number, act, reply FROM replies ORDER BY number",
     )
+}
+
+/// Replies of version 1 under desk and number: they belong to the first desk.
+fn with_first_desk(alloc: Global, replies: Vec<StoredReply>) -> Result<Vec<StoredAnswer>, OpenFault>
+    ensures first { IfOk result (λ found. found.items ≡ map first_answer replies.items) }
+    ensures memory { IfErr result (λ e. e ≡ OpenFault.NoMemory) }
+{
+    let mut found = Vec::new(alloc);
+    for reply in replies {
+        let answer = StoredAnswer {
+            desk: 0,
+            number: reply.number,
+            act: reply.act,
+            reply: reply.reply,
+        };
+        if found.push(answer).is_err() {
+            return Err(OpenFault::NoMemory);
+        }
+    }
+    Ok(found)
+}
+
+/// The kept replies of a store of version 1, in order of their numbers.
+fn read_first_answers<S: Alter>(
+    conn: &mut Connection<S>,
+    alloc: Global,
+) -> Result<Vec<StoredAnswer>, OpenFault>
+    ensures found { HasCleanDisk (state S.Store conn.new) → HasFirstTables (state S.Store conn.old) → IsSoundNow (state S.Store conn.old)
+        → IfOk result (λ found. HoldsReplies (state S.Store conn.old).now.trees (answer_map found.items)) }
+    ensures listed { IfOk result (λ found. entries (answer_map found.items) ≡ map answer_entry found.items) }
+    ensures usable { HasCleanDisk (state S.Store conn.new) → IfErr result (λ e. e ≡ OpenFault.Unusable → HasFirstTables (state S.Store conn.old)
+        → IsTrue (state S.Store conn.old).is_open → (m : FinMap pair_cmp ReplyRow) → AreWritten m
+        → ¬ HoldsReplies (state S.Store conn.old).now.trees m) }
+    ensures same { HasCleanDisk (state S.Store conn.new) → OnOk result (IsUnchanged (state S.Store conn.old) (state S.Store conn.new)) }
+    ensures kept { HasCleanDisk (state S.Store conn.new) → KeepsCommit (state S.Store conn.old) (state S.Store conn.new) }
+    ensures other { IfErr result (λ e. e ≢ OpenFault.WrongVersion) }
+    ensures cause { FailsForCause HasFirstTables (state S.Store conn.old) (state S.Store conn.new) result }
+    ensures crash { Survives (state S.Store conn.old) (state S.Store conn.new) (λ _. ⊥) }
+{
+    let replies = read_replies(conn, alloc)?;
+    with_first_desk(alloc, replies)
+}
+
+/// The kept replies of a store of version 2, in order of their desks and numbers.
+fn read_current_answers<S: Alter>(
+    conn: &mut Connection<S>,
+    alloc: Global,
+) -> Result<Vec<StoredAnswer>, OpenFault>
+    ensures found { HasCleanDisk (state S.Store conn.new) → SeesForm Current (state S.Store conn.old) → IsSoundNow (state S.Store conn.old)
+        → IfOk result (λ found. HoldsPairs reply_columns ((state S.Store conn.old).now.trees 13) (answer_map found.items)) }
+    ensures listed { IfOk result (λ found. entries (answer_map found.items) ≡ map answer_entry found.items) }
+    ensures usable { HasCleanDisk (state S.Store conn.new) → IfErr result (λ e. e ≡ OpenFault.Unusable → SeesForm Current (state S.Store conn.old)
+        → IsTrue (state S.Store conn.old).is_open → (m : FinMap pair_cmp ReplyRow) → AreWritten m
+        → ¬ HoldsPairs reply_columns ((state S.Store conn.old).now.trees 13) m) }
+    ensures same { HasCleanDisk (state S.Store conn.new) → OnOk result (IsUnchanged (state S.Store conn.old) (state S.Store conn.new)) }
+    ensures kept { HasCleanDisk (state S.Store conn.new) → KeepsCommit (state S.Store conn.old) (state S.Store conn.new) }
+    ensures other { IfErr result (λ e. e ≢ OpenFault.WrongVersion) }
+    ensures cause { FailsForCause (SeesForm Current) (state S.Store conn.old) (state S.Store conn.new) result }
+    ensures crash { Survives (state S.Store conn.old) (state S.Store conn.new) (λ _. ⊥) }
+{
+    let found = read_table(
+        conn,
+        alloc,
+        "SELECT desk, number, act, reply FROM answers ORDER BY desk, number",
+    )?;
+    let _rowids: Vec<Rowid> = read_table(conn, alloc, "SELECT rowid FROM answers ORDER BY rowid")?;
+    Ok(found)
+}
+
+/// The kept replies, in order of their desks and numbers.
+pub(crate) fn read_answers<S: Alter>(
+    conn: &mut Connection<S>,
+    alloc: Global,
+    form: Form,
+) -> Result<Vec<StoredAnswer>, OpenFault>
+    ensures found { HasCleanDisk (state S.Store conn.new) → SeesForm form (state S.Store conn.old) → IsSoundNow (state S.Store conn.old)
+        → IfOk result (λ found. HoldsKept form (state S.Store conn.old).now.trees (answer_map found.items)) }
+    ensures listed { IfOk result (λ found. entries (answer_map found.items) ≡ map answer_entry found.items) }
+    ensures usable { HasCleanDisk (state S.Store conn.new) → IfErr result (λ e. e ≡ OpenFault.Unusable → SeesForm form (state S.Store conn.old)
+        → IsTrue (state S.Store conn.old).is_open → (m : FinMap pair_cmp ReplyRow) → AreWritten m
+        → ¬ HoldsKept form (state S.Store conn.old).now.trees m) }
+    ensures same { HasCleanDisk (state S.Store conn.new) → OnOk result (IsUnchanged (state S.Store conn.old) (state S.Store conn.new)) }
+    ensures kept { HasCleanDisk (state S.Store conn.new) → KeepsCommit (state S.Store conn.old) (state S.Store conn.new) }
+    ensures other { IfErr result (λ e. e ≢ OpenFault.WrongVersion) }
+    ensures cause { FailsForCause (SeesForm form) (state S.Store conn.old) (state S.Store conn.new) result }
+    ensures crash { Survives (state S.Store conn.old) (state S.Store conn.new) (λ _. ⊥) }
+{
+    match form {
+        Form::Current => read_current_answers(conn, alloc),
+        Form::First | Form::Earliest => read_first_answers(conn, alloc),
+    }
 }
 
 /// The bonds, in order of their serial numbers.
@@ -238,11 +332,11 @@ pub(crate) fn read_extensions<S: Alter>(
     ensures crash { Survives (state S.Store conn.old) (state S.Store conn.new) (λ _. ⊥) }
 {
     match form {
-        Form::Current => read_table(
+        Form::Current | Form::First => read_table(
             conn,
             alloc,
             "SELECT period, rate FROM extensions ORDER BY period",
         ),
-        Form::Earlier => Ok(Vec::new(alloc)),
+        Form::Earliest => Ok(Vec::new(alloc)),
     }
 }

@@ -1,23 +1,26 @@
 //! The version of the tables, which is tested before all else is read.
 
-ghost use Rattle.std.specs.Prelude.{◌≡◌, ◌≢◌, Some, pos, IfOk, IfErr, OnOk, IsTrue, Option, None, option_map};
+ghost use Rattle.std.specs.Prelude.{◌≡◌, ◌≢◌, ◌⊎◌, Some, IfOk, IfErr, OnOk, IsTrue, Option, None, option_map};
 ghost use Rattle.std.specs.Option.{option_to_list};
 ghost use Rattle.std.specs.FinMap.{get};
 ghost use Rattle.sqlite.specs.Held.{state};
 ghost use Rattle.sqlite.specs.State.{HasCleanDisk, IsUnchanged, KeepsCommit};
 ghost use Rattle.ee_store_tables.specs.Rows.{Rows, DeskRow};
 ghost use Rattle.ee_store_tables.specs.Statements.{LeavesNoMore};
-ghost use Rattle.ee_store_opening.specs.declared.forms.Form.{Form};
-ghost use Rattle.ee_store_opening.specs.Faults.{FailsForCause};
-ghost use Rattle.ee_store_opening.specs.Forms.{HasOurTables, SeesIn};
-ghost use Rattle.ee_store_opening.specs.Opening.{version_shown, versions_in, IsFirstVersion, IsOtherVersion};
+ghost use Rattle.ee_store_making.specs.declared.forms.Form.{Form};
+ghost use Rattle.ee_store_making.specs.Faults.{FailsForCause};
+ghost use Rattle.ee_store_making.specs.Forms.{HasOurTables, SeesIn};
+ghost use Rattle.ee_store_opening.specs.Opening.{version_shown, versions_in, Names, IsOtherVersion};
 
-use crate::faults::OpenFault;
+use ee_store_making::OpenFault;
 use sqlite::types::ValueRef;
 use sqlite::{Alter, Connection, Row};
 
-/// The version of the tables that this program makes and reads.
-pub const STORE_VERSION: i64 = 1;
+/// The version of the tables that this program makes.
+pub const STORE_VERSION: u64 = 2;
+
+/// The version before, of stores that this program opens too.
+const FIRST_VERSION: u64 = 1;
 
 /// The version in the desk's row, if that is there.
 fn version_rows<S: Alter>(conn: &mut Connection<S>) -> Result<Vec<Row>, OpenFault>
@@ -39,9 +42,9 @@ fn version_rows<S: Alter>(conn: &mut Connection<S>) -> Result<Vec<Row>, OpenFaul
 }
 
 /// The version that the query showed.
-fn read_version(rows: &[Row]) -> Result<i64, OpenFault>
+fn read_version(rows: &[Row]) -> Result<u64, OpenFault>
     ensures found { IfOk result (λ version. (desk : Option DeskRow) → rows.now ≡ option_to_list (option_map version_shown desk)
-        → option_map (λ d. pos d.version) desk ≡ Some version) }
+        → option_map (λ d. d.version) desk ≡ Some version) }
     ensures usable { IfErr result (λ e. e ≡ OpenFault.Unusable → (desk : Option DeskRow) → rows.now ≡ option_to_list (option_map version_shown desk)
         → desk ≡ None) }
     ensures other { IfErr result (λ e. e ≢ OpenFault.WrongVersion) }
@@ -53,10 +56,11 @@ fn read_version(rows: &[Row]) -> Result<i64, OpenFault>
     }
 }
 
-/// Tests that the tables are of version 1.
-pub(crate) fn check_version<S: Alter>(conn: &mut Connection<S>) -> Result<(), OpenFault>
-    ensures first { HasCleanDisk (state S.Store conn.new) → OnOk result ((form : Form) (rows : Rows) → SeesIn form (state S.Store conn.old) rows
-        → IsFirstVersion rows) }
+/// The version that the tables name, which is one of those that this program knows.
+pub(crate) fn known_version<S: Alter>(conn: &mut Connection<S>) -> Result<u64, OpenFault>
+    ensures named { HasCleanDisk (state S.Store conn.new) → IfOk result (λ version. (form : Form) (rows : Rows) → SeesIn form (state S.Store conn.old) rows
+        → Names version rows) }
+    ensures known { IfOk result (λ version. (version ≡ 1) ⊎ (version ≡ 2)) }
     ensures other { HasCleanDisk (state S.Store conn.new) → IfErr result (λ e. e ≡ OpenFault.WrongVersion → (form : Form) (rows : Rows)
         → SeesIn form (state S.Store conn.old) rows → IsOtherVersion rows) }
     ensures usable { HasCleanDisk (state S.Store conn.new) → IfErr result (λ e. e ≡ OpenFault.Unusable → (form : Form) (rows : Rows)
@@ -69,8 +73,8 @@ pub(crate) fn check_version<S: Alter>(conn: &mut Connection<S>) -> Result<(), Op
 {
     let rows = version_rows(conn)?;
     let version = read_version(&rows)?;
-    if version == STORE_VERSION {
-        Ok(())
+    if version == STORE_VERSION || version == FIRST_VERSION {
+        Ok(version)
     } else {
         Err(OpenFault::WrongVersion)
     }

@@ -4,11 +4,11 @@ ghost use Rattle.std.specs.Prelude.{◌≡◌, ◌≢◌, false, IsTrue, IfOk, I
 ghost use Rattle.sqlite.specs.State.{HasCleanDisk, IsUnchanged, KeepsCommit, Survives};
 ghost use Rattle.sqlite.specs.Held.{state};
 ghost use Rattle.ee_store_tables.specs.Rows.{Rows};
-ghost use Rattle.ee_store_opening.specs.declared.forms.Form.{Form};
-ghost use Rattle.ee_store_opening.specs.Forms.{HoldsIn, SeesForm, HasOurTables, SeesIn, HasForm, HadIn};
-ghost use Rattle.ee_store_opening.specs.Opening.{IsFirstVersion, IsOtherVersion, AreReadable};
+ghost use Rattle.ee_store_making.specs.declared.forms.Form.{Form};
+ghost use Rattle.ee_store_making.specs.Forms.{HoldsIn, SeesForm, HasOurTables, SeesIn, HasForm, HadIn};
+ghost use Rattle.ee_store_opening.specs.Opening.{IsOfForm, IsOtherVersion, AreReadable};
 ghost use Rattle.ee_store_opening.specs.Shown.{AreWritten};
-ghost use Rattle.ee_store_opening.specs.Faults.{FailsForCause};
+ghost use Rattle.ee_store_making.specs.Faults.{FailsForCause};
 ghost use Rattle.ee_store_opening.specs.Reading.{IsSoundNow};
 ghost use Rattle.ee_store_opening.specs.Whole.{
   rows_of,
@@ -23,21 +23,22 @@ ghost use Rattle.ee_store_opening.specs.Whole.{
 };
 
 use crate::entries::{
-    StoredBatch, StoredBond, StoredDesk, StoredLine, StoredRate, StoredReply, StoredTicket,
+    StoredBatch, StoredBond, StoredDesk, StoredLine, StoredRate, StoredTicket,
 };
-use crate::faults::OpenFault;
-use crate::forms::Form;
+use ee_store_making::{Form, OpenFault, StoredAnswer};
 use crate::tables::{
-    read_batches, read_bonds, read_desk, read_extensions, read_lines, read_rates, read_replies,
+    read_answers, read_batches, read_bonds, read_desk, read_extensions, read_lines, read_rates,
     read_tickets,
 };
-use crate::version::check_version;
+use crate::version::known_version;
 use sqlite::{Alter, Connection};
 use std::alloc::Global;
 
 /// All rows of a store, each table in order of its keys.
 #[derive(Drop)]
 pub struct AllRows {
+    /// The form of the tables that they were read from.
+    pub form: Form,
     /// The row of the desk.
     pub desk: Vec<StoredDesk>,
     /// The fixed rates.
@@ -50,10 +51,10 @@ pub struct AllRows {
     pub lines: Vec<StoredLine>,
     /// The batches.
     pub batches: Vec<StoredBatch>,
-    /// The kept acts and replies.
-    pub replies: Vec<StoredReply>,
     /// The extensions: the rates of extended maturity that are others than the fixed ones.
     pub extensions: Vec<StoredRate>,
+    /// The kept acts and replies.
+    pub answers: Vec<StoredAnswer>,
 }
 
 /// The rows of the register.
@@ -75,7 +76,7 @@ pub(crate) struct Payments {
 #[derive(Drop)]
 pub(crate) struct Records {
     batches: Vec<StoredBatch>,
-    replies: Vec<StoredReply>,
+    answers: Vec<StoredAnswer>,
 }
 
 /// Reads the desk, the rates and the bonds.
@@ -115,23 +116,27 @@ fn read_payments<S: Alter>(conn: &mut Connection<S>, alloc: Global) -> Result<Pa
     Ok(Payments { tickets, lines })
 }
 
-/// Reads the batches and the replies.
-fn read_records<S: Alter>(conn: &mut Connection<S>, alloc: Global) -> Result<Records, OpenFault>
-    ensures found { HasCleanDisk (state S.Store conn.new) → HasOurTables (state S.Store conn.old) → IsSoundNow (state S.Store conn.old)
-        → IfOk result (λ found. HoldsRecords (state S.Store conn.old).now.trees found) }
+/// Reads the batches and the kept replies.
+fn read_records<S: Alter>(
+    conn: &mut Connection<S>,
+    alloc: Global,
+    form: Form,
+) -> Result<Records, OpenFault>
+    ensures found { HasCleanDisk (state S.Store conn.new) → SeesForm form (state S.Store conn.old) → IsSoundNow (state S.Store conn.old)
+        → IfOk result (λ found. HoldsRecords form (state S.Store conn.old).now.trees found) }
     ensures listed { IfOk result ListsRecords }
-    ensures usable { HasCleanDisk (state S.Store conn.new) → IfErr result (λ e. e ≡ OpenFault.Unusable → HasOurTables (state S.Store conn.old)
-        → IsTrue (state S.Store conn.old).is_open → (form : Form) (rows : Rows) → AreWritten rows.replies
+    ensures usable { HasCleanDisk (state S.Store conn.new) → IfErr result (λ e. e ≡ OpenFault.Unusable → SeesForm form (state S.Store conn.old)
+        → IsTrue (state S.Store conn.old).is_open → (rows : Rows) → AreWritten rows.answers
         → ¬ HoldsIn form (state S.Store conn.old).now.trees rows) }
     ensures same { HasCleanDisk (state S.Store conn.new) → OnOk result (IsUnchanged (state S.Store conn.old) (state S.Store conn.new)) }
     ensures kept { HasCleanDisk (state S.Store conn.new) → KeepsCommit (state S.Store conn.old) (state S.Store conn.new) }
     ensures other { IfErr result (λ e. e ≢ OpenFault.WrongVersion) }
-    ensures cause { FailsForCause HasOurTables (state S.Store conn.old) (state S.Store conn.new) result }
+    ensures cause { FailsForCause (SeesForm form) (state S.Store conn.old) (state S.Store conn.new) result }
     ensures crash { Survives (state S.Store conn.old) (state S.Store conn.new) (λ _. ⊥) }
 {
     let batches = read_batches(conn, alloc)?;
-    let replies = read_replies(conn, alloc)?;
-    Ok(Records { batches, replies })
+    let answers = read_answers(conn, alloc, form)?;
+    Ok(Records { batches, answers })
 }
 
 /// Reads all tables.
@@ -143,8 +148,9 @@ fn read_in<S: Alter>(
     ensures found { HasCleanDisk (state S.Store conn.new) → SeesForm form (state S.Store conn.old) → IsSoundNow (state S.Store conn.old)
         → IfOk result (λ found. HoldsIn form (state S.Store conn.old).now.trees (rows_of found)) }
     ensures listed { IfOk result ListsAll }
+    ensures form { IfOk result (λ all. all.form ≡ form) }
     ensures usable { HasCleanDisk (state S.Store conn.new) → IfErr result (λ e. e ≡ OpenFault.Unusable → SeesForm form (state S.Store conn.old)
-        → IsTrue (state S.Store conn.old).is_open → (rows : Rows) → AreWritten rows.replies → ¬ HoldsIn form (state S.Store conn.old).now.trees rows) }
+        → IsTrue (state S.Store conn.old).is_open → (rows : Rows) → AreWritten rows.answers → ¬ HoldsIn form (state S.Store conn.old).now.trees rows) }
     ensures same { HasCleanDisk (state S.Store conn.new) → OnOk result (IsUnchanged (state S.Store conn.old) (state S.Store conn.new)) }
     ensures kept { HasCleanDisk (state S.Store conn.new) → KeepsCommit (state S.Store conn.old) (state S.Store conn.new) }
     ensures other { IfErr result (λ e. e ≢ OpenFault.WrongVersion) }
@@ -153,17 +159,18 @@ fn read_in<S: Alter>(
 {
     let register = read_register(conn, alloc)?;
     let payments = read_payments(conn, alloc)?;
-    let records = read_records(conn, alloc)?;
+    let records = read_records(conn, alloc, form)?;
     let extensions = read_extensions(conn, alloc, form)?;
     Ok(AllRows {
+        form,
         desk: register.desk,
         rates: register.rates,
         bonds: register.bonds,
         tickets: payments.tickets,
         lines: payments.lines,
         batches: records.batches,
-        replies: records.replies,
         extensions,
+        answers: records.answers,
     })
 }
 
@@ -176,11 +183,12 @@ fn read_of_version<S: Alter>(
     ensures found { HasCleanDisk (state S.Store conn.new) → SeesForm form (state S.Store conn.old) → IsSoundNow (state S.Store conn.old)
         → IfOk result (λ found. HoldsIn form (state S.Store conn.old).now.trees (rows_of found)) }
     ensures listed { IfOk result ListsAll }
-    ensures first { HasCleanDisk (state S.Store conn.new) → OnOk result ((rows : Rows) → SeesIn form (state S.Store conn.old) rows → IsFirstVersion rows) }
+    ensures form { IfOk result (λ all. all.form ≡ form) }
+    ensures first { HasCleanDisk (state S.Store conn.new) → OnOk result ((rows : Rows) → SeesIn form (state S.Store conn.old) rows → IsOfForm form rows) }
     ensures other { HasCleanDisk (state S.Store conn.new) → IfErr result (λ e. e ≡ OpenFault.WrongVersion → (rows : Rows)
         → SeesIn form (state S.Store conn.old) rows → IsOtherVersion rows) }
     ensures usable { HasCleanDisk (state S.Store conn.new) → IfErr result (λ e. e ≡ OpenFault.Unusable → SeesForm form (state S.Store conn.old)
-        → IsTrue (state S.Store conn.old).is_open → (rows : Rows) → SeesIn form (state S.Store conn.old) rows → ¬ AreReadable rows) }
+        → IsTrue (state S.Store conn.old).is_open → (rows : Rows) → SeesIn form (state S.Store conn.old) rows → ¬ AreReadable form rows) }
     ensures tested { HasCleanDisk (state S.Store conn.new) → IfErr result (λ e. e ≡ OpenFault.Unusable → SeesForm form (state S.Store conn.old)
         → IsTrue (state S.Store conn.old).is_open → (rows : Rows) → SeesIn form (state S.Store conn.old) rows → ¬ IsOtherVersion rows) }
     ensures same { HasCleanDisk (state S.Store conn.new) → OnOk result (IsUnchanged (state S.Store conn.old) (state S.Store conn.new)) }
@@ -188,19 +196,22 @@ fn read_of_version<S: Alter>(
     ensures cause { FailsForCause (SeesForm form) (state S.Store conn.old) (state S.Store conn.new) result }
     ensures crash { Survives (state S.Store conn.old) (state S.Store conn.new) (λ _. ⊥) }
 {
-    check_version(conn)?;
+    let version = known_version(conn)?;
+    if version != form.version() {
+        return Err(OpenFault::Unusable);
+    }
     read_in(conn, alloc, form)
 }
 
-/// Reads all rows of a store that has the tables of version 1, in this form.
+/// Reads all rows of a store that has tables of this form.
 ///
 /// The version is tested first. The store keeps what was committed, and a stop leaves what it could
 /// leave before. It takes time and memory in proportion to the rows.
 ///
 /// # Errors
 ///
-/// `WrongVersion` where the desk's row is of another version. `Unusable` where a row has a value that
-/// no row of this program has, or a table or the desk's row is missing. `NoMemory` where there is not
+/// `WrongVersion` where the desk's row is of neither version. `Unusable` where it is of the version of another form,
+/// a row has a value that no row of this program has, or a table or the desk's row is missing. `NoMemory` where there is not
 /// enough memory, and else `StoreFailed`, as where the connection is in a transaction.
 pub(crate) fn read_all<S: Alter>(
     conn: &mut Connection<S>,
@@ -212,13 +223,14 @@ pub(crate) fn read_all<S: Alter>(
     ensures those { HasCleanDisk (state S.Store conn.new) → IfOk result (λ all. (rows : Rows) → HadIn form (state S.Store conn.old) rows
         → IsTrue (state S.Store conn.old).is_open → rows_of all ≡ rows) }
     ensures order { IfOk result AreInOrder }
-    ensures first { HasCleanDisk (state S.Store conn.new) → OnOk result ((rows : Rows) → HadIn form (state S.Store conn.old) rows → IsFirstVersion rows) }
+    ensures form { IfOk result (λ all. all.form ≡ form) }
+    ensures first { HasCleanDisk (state S.Store conn.new) → OnOk result ((rows : Rows) → HadIn form (state S.Store conn.old) rows → IsOfForm form rows) }
     ensures version { HasCleanDisk (state S.Store conn.new) → IfErr result (λ e. e ≡ OpenFault.WrongVersion → (rows : Rows)
         → HadIn form (state S.Store conn.old) rows → IsOtherVersion rows) }
     ensures tested { HasCleanDisk (state S.Store conn.new) → IfErr result (λ e. e ≡ OpenFault.Unusable → (rows : Rows)
         → HadIn form (state S.Store conn.old) rows → IsTrue (state S.Store conn.old).is_open → ¬ IsOtherVersion rows) }
     ensures usable { HasCleanDisk (state S.Store conn.new) → IfErr result (λ e. e ≡ OpenFault.Unusable → (rows : Rows)
-        → HadIn form (state S.Store conn.old) rows → IsTrue (state S.Store conn.old).is_open → ¬ AreReadable rows) }
+        → HadIn form (state S.Store conn.old) rows → IsTrue (state S.Store conn.old).is_open → ¬ AreReadable form rows) }
     ensures open { HasCleanDisk (state S.Store conn.new) → OnOk result (IsTrue (state S.Store conn.old).is_open × IsTrue (state S.Store conn.new).is_open) }
     ensures kept { HasCleanDisk (state S.Store conn.new) → KeepsCommit (state S.Store conn.old) (state S.Store conn.new) }
     ensures cause { FailsForCause (λ s. (s.in_transaction ≡ false) × HasForm form s) (state S.Store conn.old) (state S.Store conn.new) result }

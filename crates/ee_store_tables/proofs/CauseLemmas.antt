@@ -216,6 +216,15 @@ module _ (sql : List ℕ) (params : Row) (returning : Option Returning) (command
 pub unique_in : (s : State) → s.now.schema ≡ counter_schema → IsDatabase s.now → Keeps Unique counter_schema s.now.trees
 unique_in s has sound = subst (λ schema. Keeps Unique schema s.now.trees) has (sound.obeys.rules Unique)
 
+module _ (sql : List ℕ) (params : Row) (returning : Option Returning) (command : Command) (written : IsWritten sql params returning command) (old new : State) (inside : IsInside old) (endless : old.step_limit ≡ None)
+    (stays : IsTrue old.is_open → NeverStops old.now.trees params returning command) where
+  -- a write that never stops, in a transaction, fails where the device does
+  pub stays_excused : returning ≡ None → (e : Error) → (IsTrue old.in_transaction → ExecutesInside 0 sql params old new (Err e)) → IsExcused old new (failure_of e)
+  stays_excused quiet e runs = elim (cases_Bool old.is_open) [
+    | inl is_open ↦ fails_inside sql params returning command written old new (stays is_open) (inside is_open).1 endless quiet e (runs (inside is_open).0)
+    | inr shut ↦ shut_before old new shut (failure_of e)
+  ]
+
 module _ (sql : List ℕ) (params : Row) (returning : Option Returning) (command : Command) (written : IsWritten sql params returning command) (old new : State) (count : ℕ) (rows : Rows) (room : HasRoom count old) (sees : Sees old rows)
     (stays : Holds old.now.trees rows → Keeps Unique counter_schema old.now.trees → HasRoomIn count old.now.trees → NeverStops old.now.trees params returning command) (inside : IsInside old) (endless : old.step_limit ≡ None) where
   goes_on : IsTrue old.is_open → NeverStops old.now.trees params returning command
@@ -223,10 +232,7 @@ module _ (sql : List ℕ) (params : Row) (returning : Option Returning) (command
 
   -- a write in a transaction fails where the device does
   pub write_excused : returning ≡ None → (e : Error) → (IsTrue old.in_transaction → ExecutesInside 0 sql params old new (Err e)) → IsExcused old new (failure_of e)
-  write_excused quiet e runs = elim (cases_Bool old.is_open) [
-    | inl is_open ↦ fails_inside sql params returning command written old new (goes_on is_open) (inside is_open).1 endless quiet e (runs (inside is_open).0)
-    | inr shut ↦ shut_before old new shut (failure_of e)
-  ]
+  write_excused = stays_excused sql params returning command written old new inside endless goes_on
 
   fails_to_show : (what : Returning) → returning ≡ Some what → IsTrue old.is_open → (e : Error) → FailsToQuery sql params old new e → IsExcused old new (failure_of e)
   unfolding FailsToQuery

@@ -1,6 +1,7 @@
 -- Why an insertion under a new key is not refused.
-use Rattle.std.proofs.Common.{◌≡◌, ℕ, ◌<◌, ◌^◌, pos, List, [], ◌∷◌, true, not, None, Option, Err, refl, ap, subst, ◌∙◌, arith}
+use Rattle.std.proofs.Common.{◌≡◌, ℕ, ◌<◌, ◌^◌, ℤ, pos, negsuc, List, [], ◌∷◌, true, not, None, Option, Err, refl, ap, subst, ◌∙◌, arith}
 use Rattle.std.specs.Prelude.{◌&&◌}
+use Rattle.std.specs.List.{AllByRecursion}
 use Rattle.std.specs.Float.Ieee
 use Rattle.std.specs.FinMap.{get}
 use Rattle.std.proofs.lemmas.Nat.Bits.{bit_at-zero}
@@ -15,20 +16,23 @@ use Rattle.sqlite.specs.Term.{lit, col}
 use Rattle.sqlite.specs.Source.TheVariants.{Values}
 use Rattle.sqlite.specs.Command.TheVariants.{Insert}
 use Rattle.sqlite.specs.Rows.{Edited}
-use Rattle.sqlite_rules.specs.Edit.{Edit, edit_of, edited}
+use Rattle.sqlite_rules.specs.Edit.{Edit, edit_of, edited, next_rowid}
 use Rattle.sqlite.specs.Rowids.TheVariants.{Chosen}
+use Rattle.sqlite_sql.specs.Ops.{fits_i64}
 use Rattle.sqlite_schema.specs.declared.schema.Keys.TheVariants.{Enforced}
 use Rattle.sqlite_schema.specs.declared.schema.Constraint.TheVariants.{Unique}
 use Rattle.sqlite_schema.specs.Rules.{Keeps}
-use Rattle.ee_store_tables.specs.Tables.{counter_schema, tickets, batches, replies}
-use Rattle.ee_store_tables.specs.Keyed.{row_of}
-use Rattle.ee_store_tables.specs.Rows.{Rows, Holds, TicketRow, ticket_columns, BatchRow, batch_columns, ReplyRow, reply_columns, FitsRow}
+use Rattle.ee_store_tables.specs.Tables.{counter_schema, tickets, batches, answers}
+use Rattle.ee_store_tables.specs.Keyed.{row_of, stored}
+use Rattle.ee_store_tables.specs.Rows.{Rows, Holds, TicketRow, ticket_columns, BatchRow, batch_columns, ReplyRow, reply_columns, FitsRow, Rises}
 use Rattle.ee_store_tables.proofs.WriteLemmas.{cast_int, cast_null}
 use Rattle.ee_store_tables.proofs.TicketLemmas.{given_ticket}
 use Rattle.ee_store_tables.proofs.BatchLemmas.{given_batch}
-use Rattle.ee_store_tables.proofs.ReplyLemmas.{given_reply}
+use Rattle.ee_store_tables.proofs.AnswerLemmas.{given_answer}
 use Rattle.ee_store_tables.proofs.CauseLemmas.{NeverStops, never_false}
 use Rattle.ee_store_tables.proofs.RefusalLemmas.{passed, no_stop, never_source, never_sourced, IsAllowed, never_edited, bare_storable, one_fits, never_concluded, all_unique, key_free, number_fits}
+use Rattle.ee_store_tables.proofs.KeyLemmas.{IsOther, put_apart, same_rowid, answers_apart, answers_unique, other_key, all_alike, keys_differ}
+use Rattle.ee_store_tables.proofs.RoomLemmas.{HasNext, has_next}
 
 module _ (db : Trees) (rows : Rows) (stands : Holds db rows) (unique : Keeps Unique counter_schema db) (n : ℕ) (low : n < 2 ^ 63) where
   module _ (x : TicketRow) (none : get rows.tickets n ≡ None) where
@@ -44,13 +48,13 @@ module _ (db : Trees) (rows : Rows) (stands : Holds db rows) (unique : Keeps Uni
       present = refl;
       checked = refl;
       fresh = ap (λ b. not b && true) (key_free ticket_columns n (db 5) rows.tickets stands.tickets (Null ∷ ticket_columns x) none);
-      unique = all_unique (with_tree db 5 (edited db (ticket_edit (ticket_row ∷ [])))) unique.1.1.0 unique.1.1.1.1.0;
+      unique = all_unique (with_tree db 5 (edited db (ticket_edit (ticket_row ∷ [])))) unique.1.1.0 unique.1.1.1.1.0 unique.1.1.1.1.1.1.1.0;
       keyed = refl;
       fits = number_fits n low;
       referred = refl;
       acts = refl;
       small = one_fits counter_schema tickets ticket_row (bare_storable ticket_row refl (omega arith) (omega arith), omega arith)
-          ((λ e. absurd (omega (arith, e))), ((λ e. absurd (omega (arith, e))), (λ e. bare_storable (Int (pos x.day) ∷ Int (pos n) ∷ Int (pos n) ∷ []) refl (omega arith) (omega arith), ((λ e. absurd (omega (arith, e))), ((λ e. absurd (omega (arith, e))), tt)))));
+          ((λ e. absurd (omega (arith, e))), ((λ e. absurd (omega (arith, e))), (λ e. bare_storable (Int (pos x.day) ∷ Int (pos n) ∷ Int (pos n) ∷ []) refl (omega arith) (omega arith), ((λ e. absurd (omega (arith, e))), ((λ e. absurd (omega (arith, e))), ((λ e. absurd (omega (arith, e))), tt))))));
     }
 
     ticket_edited : (sources : List Row) → sources ≡ (Int (pos n) ∷ Null ∷ ticket_columns x) ∷ [] → (stop : Option Error) → ¬ Edited counter_schema Enforced db (edit_of db tickets [] Chosen 0 sources) (Err stop)
@@ -81,13 +85,13 @@ module _ (db : Trees) (rows : Rows) (stands : Holds db rows) (unique : Keeps Uni
       present = refl;
       checked = refl;
       fresh = ap (λ b. not b && true) (key_free batch_columns n (db 10) rows.batches stands.batches (Null ∷ batch_columns x) none);
-      unique = all_unique (with_tree db 10 (edited db (batch_edit (batch_row ∷ [])))) unique.1.1.0 unique.1.1.1.1.0;
+      unique = all_unique (with_tree db 10 (edited db (batch_edit (batch_row ∷ [])))) unique.1.1.0 unique.1.1.1.1.0 unique.1.1.1.1.1.1.1.0;
       keyed = refl;
       fits = number_fits n low;
       referred = refl;
       acts = refl;
       small = one_fits counter_schema batches batch_row (bare_storable batch_row refl (omega arith) (omega arith), omega arith)
-          ((λ e. absurd (omega (arith, e))), ((λ e. absurd (omega (arith, e))), ((λ e. absurd (omega (arith, e))), ((λ e. absurd (omega (arith, e))), ((λ e. absurd (omega (arith, e))), tt)))));
+          ((λ e. absurd (omega (arith, e))), ((λ e. absurd (omega (arith, e))), ((λ e. absurd (omega (arith, e))), ((λ e. absurd (omega (arith, e))), ((λ e. absurd (omega (arith, e))), ((λ e. absurd (omega (arith, e))), tt))))));
     }
 
     batch_edited : (sources : List Row) → sources ≡ (Int (pos n) ∷ Null ∷ batch_columns x) ∷ [] → (stop : Option Error) → ¬ Edited counter_schema Enforced db (edit_of db batches [] Chosen 0 sources) (Err stop)
@@ -105,48 +109,68 @@ module _ (db : Trees) (rows : Rows) (stands : Holds db rows) (unique : Keeps Uni
         no_stop counted.2) in
         never_concluded batches (given_batch n x) written.0 stop written.2
 
-  module _ (x : ReplyRow) (none : get rows.replies n ≡ None) (fits : FitsRow x) where
-    abbrev reply_row : Row
-    reply_row = row_of reply_columns (pos n, (n, x))
+-- ---- an answer
 
-    reply_storable : IsStorable 0 reply_row
-    unfolding Ieee.is_nan
-    reply_storable = record {
-      typed = λ c set. absurd (let z = bit_at-zero c in omega (arith, z, set));
-      columns = (omega arith, omega arith);
-      numbers = All-from_recursion (λ v. NotNan (number v)) reply_row (tt, (tt, (tt, (tt, tt))));
-      short = omega (arith, fits);
-    }
+module _ (db : Trees) (rows : Rows) (stands : Holds db rows) (unique : Keeps Unique counter_schema db) (room : Rises 1 1 (db 13)) (k : ℕ × ℕ) (x : ReplyRow) (none : get rows.answers k ≡ None) (fits : FitsRow x) where
+  abbrev id : ℤ
+  id = next_rowid (db 13)
 
-    abbrev reply_edit : List Row → Edit
-    reply_edit news = record { table = replies; gone = []; news = news }
+  abbrev answer_row : Row
+  answer_row = stored reply_columns (id, (k, x))
 
-    reply_allowed : IsAllowed counter_schema Enforced db (reply_edit (reply_row ∷ []))
-    reply_allowed = record {
-      typed = refl;
-      present = refl;
-      checked = refl;
-      fresh = ap (λ b. not b && true) (key_free reply_columns n (db 11) rows.replies stands.replies (Null ∷ reply_columns x) none);
-      unique = all_unique (with_tree db 11 (edited db (reply_edit (reply_row ∷ [])))) unique.1.1.0 unique.1.1.1.1.0;
-      keyed = refl;
-      fits = number_fits n low;
-      referred = refl;
-      acts = refl;
-      small = one_fits counter_schema replies reply_row (reply_storable, omega arith)
-          ((λ e. absurd (omega (arith, e))), ((λ e. absurd (omega (arith, e))), ((λ e. absurd (omega (arith, e))), ((λ e. absurd (omega (arith, e))), ((λ e. absurd (omega (arith, e))), tt)))));
-    }
+  answer_storable : IsStorable 0 answer_row
+  unfolding Ieee.is_nan
+  answer_storable = record {
+    typed = λ c set. absurd (let z = bit_at-zero c in omega (arith, z, set));
+    columns = (omega arith, omega arith);
+    numbers = All-from_recursion (λ v. NotNan (number v)) answer_row (whole_number id, (tt, (tt, (tt, (tt, tt)))));
+    short = omega (arith, fits);
+  }
+    where
+      whole_number : (i : ℤ) → NotNan (number (Int i))
+      whole_number (pos n) = tt
+      whole_number (negsuc n) = tt
 
-    reply_edited : (sources : List Row) → sources ≡ (Int (pos n) ∷ Null ∷ reply_columns x) ∷ [] → (stop : Option Error) → ¬ Edited counter_schema Enforced db (edit_of db replies [] Chosen 0 sources) (Err stop)
-    reply_edited sources is stop h =
-        let same : edit_of db replies [] Chosen 0 sources ≡ reply_edit (reply_row ∷ []) = ap (λ all. edit_of db replies [] Chosen 0 all) is ∙ ap reply_edit (rw (cast_null, cast_int n) refl) in
-        never_edited counter_schema Enforced db (reply_edit (reply_row ∷ [])) reply_allowed stop (subst (λ e. Edited counter_schema Enforced db e (Err stop)) same h)
+  abbrev answer_edit : List Row → Edit
+  answer_edit news = record { table = answers; gone = []; news = news }
 
-    pub add_reply_stays : NeverStops db (given_reply n x) None (Insert 6 (Values (col 0 0 ∷ lit Null ∷ col 0 1 ∷ col 0 2 ∷ []) 4))
-    add_reply_stays text stop h =
-        let written = passed h (λ s w.
-        let given = passed w (never_sourced (record { schema = counter_schema; trees = db }) (given_reply n x) (Values (col 0 0 ∷ lit Null ∷ col 0 1 ∷ col 0 2 ∷ []) 4) (λ e r. never_source never_false r)) in
-        let counter = passed given.2 (λ s e. no_stop e) in
-        let edited = passed counter.2 (reply_edited given.0 given.1.1) in
-        let counted = passed edited.2 (λ s e. no_stop e) in
-        no_stop counted.2) in
-        never_concluded replies (given_reply n x) written.0 stop written.2
+  next : HasNext 1 1 (db 13)
+  next = has_next 1 1 (db 13) room
+
+  other_keys : AllByRecursion (IsOther (1 ∷ 2 ∷ []) answer_row (db 13)) (db 13)
+  other_keys = all_alike (stored reply_columns) (IsOther (1 ∷ 2 ∷ []) answer_row (db 13)) (λ p. ¬ ((p.1.0.0 ≡ k.0) × (p.1.0.1 ≡ k.1)))
+      (λ r p alike apart. other_key 1 2 answer_row r p.1.0.0 p.1.0.1 k.0 k.1 refl refl (alike 1) (alike 2) apart) (db 13) stands.answers.numbered stands.answers.are (keys_differ reply_columns k (db 13) rows.answers stands.answers none)
+
+  answer_unique : Keeps Unique counter_schema (with_tree db 13 (edited db (answer_edit (answer_row ∷ []))))
+  answer_unique = all_unique (with_tree db 13 (edited db (answer_edit (answer_row ∷ [])))) unique.1.1.0 unique.1.1.1.1.0
+      (answers_unique (with_tree db 13 (edited db (answer_edit (answer_row ∷ [])))) (put_apart (1 ∷ 2 ∷ []) answer_row (db 13) (same_rowid id) other_keys (answers_apart db unique.1.1.1.1.1.1.1.0)))
+
+  answer_allowed : IsAllowed counter_schema Enforced db (answer_edit (answer_row ∷ []))
+  answer_allowed = record {
+    typed = refl;
+    present = refl;
+    checked = refl;
+    fresh = ap (λ b. not b && true) (next.fresh answer_row (ap Int next.next));
+    unique = answer_unique;
+    keyed = refl;
+    fits = ap (λ i. fits_i64 i && true) next.next ∙ number_fits next.top (omega (arith, next.room));
+    referred = refl;
+    acts = refl;
+    small = one_fits counter_schema answers answer_row (answer_storable, omega arith)
+        ((λ e. absurd (omega (arith, e))), ((λ e. absurd (omega (arith, e))), ((λ e. absurd (omega (arith, e))), ((λ e. absurd (omega (arith, e))), ((λ e. absurd (omega (arith, e))), (λ e. bare_storable (Int (pos k.0) ∷ Int (pos k.1) ∷ Int id ∷ []) refl (omega arith) (omega arith), tt))))));
+  }
+
+  answer_edited : (sources : List Row) → sources ≡ (Null ∷ Int (pos k.0) ∷ Int (pos k.1) ∷ reply_columns x) ∷ [] → (stop : Option Error) → ¬ Edited counter_schema Enforced db (edit_of db answers [] Chosen 0 sources) (Err stop)
+  answer_edited sources is stop h =
+      let same : edit_of db answers [] Chosen 0 sources ≡ answer_edit (answer_row ∷ []) = ap (λ all. edit_of db answers [] Chosen 0 all) is ∙ ap answer_edit (rw (cast_null, cast_int k.0, cast_int k.1) refl) in
+      never_edited counter_schema Enforced db (answer_edit (answer_row ∷ [])) answer_allowed stop (subst (λ e. Edited counter_schema Enforced db e (Err stop)) same h)
+
+  pub add_answer_stays : NeverStops db (given_answer k x) None (Insert 7 (Values (lit Null ∷ col 0 0 ∷ col 0 1 ∷ col 0 2 ∷ col 0 3 ∷ []) 5))
+  add_answer_stays text stop h =
+      let written = passed h (λ s w.
+      let given = passed w (never_sourced (record { schema = counter_schema; trees = db }) (given_answer k x) (Values (lit Null ∷ col 0 0 ∷ col 0 1 ∷ col 0 2 ∷ col 0 3 ∷ []) 5) (λ e r. never_source never_false r)) in
+      let counter = passed given.2 (λ s e. no_stop e) in
+      let edited = passed counter.2 (answer_edited given.0 given.1.1) in
+      let counted = passed edited.2 (λ s e. no_stop e) in
+      no_stop counted.2) in
+      never_concluded answers (given_answer k x) written.0 stop written.2

@@ -132,38 +132,38 @@ pub add_paid_plain : IsPlain (understood counter_schema add_paid_text)
 unfolding understood everything
 add_paid_plain = (refl, refl)
 
-abbrev pub find_reply_text : List ℕ
-find_reply_text = codes "SELECT act, reply FROM replies WHERE number = ?1"
+abbrev pub find_answer_text : List ℕ
+find_answer_text = codes "SELECT act, reply FROM answers WHERE desk = ?1 AND number = ?2"
 
-abbrev pub find_reply_query : Query
-find_reply_query = by_number 11 (col 1 2 ∷ col 1 3 ∷ [])
+abbrev pub find_answer_query : Query
+find_answer_query = by_pair 13 (col 1 3 ∷ col 1 4 ∷ [])
 
-pub find_reply_is : (command_of (understood counter_schema find_reply_text) ≡ Select (record { lets = []; body = find_reply_query }) (codes "act" ∷ codes "reply" ∷ [])) × (reads_listing counter_schema find_reply_text ≡ false)
+pub find_answer_is : (command_of (understood counter_schema find_answer_text) ≡ Select (record { lets = []; body = find_answer_query }) (codes "act" ∷ codes "reply" ∷ [])) × (reads_listing counter_schema find_answer_text ≡ false)
 unfolding understood everything
-find_reply_is = (refl, refl)
+find_answer_is = (refl, refl)
 
-pub find_reply_whole : IsWhole find_reply_text 1 (understood counter_schema find_reply_text)
+pub find_answer_whole : IsWhole find_answer_text 2 (understood counter_schema find_answer_text)
 unfolding understood everything
-find_reply_whole = (refl, refl, refl)
+find_answer_whole = (refl, refl, refl)
 
-pub find_reply_plain : IsPlain (understood counter_schema find_reply_text)
+pub find_answer_plain : IsPlain (understood counter_schema find_answer_text)
 unfolding understood everything
-find_reply_plain = (refl, refl)
+find_answer_plain = (refl, refl)
 
-abbrev pub add_reply_text : List ℕ
-add_reply_text = codes "INSERT INTO replies (number, act, reply) VALUES (?1, ?2, ?3)"
+abbrev pub add_answer_text : List ℕ
+add_answer_text = codes "INSERT INTO answers (desk, number, act, reply) VALUES (?1, ?2, ?3, ?4)"
 
-pub add_reply_is : command_of (understood counter_schema add_reply_text) ≡ Insert 6 (Values (col 0 0 ∷ lit Null ∷ col 0 1 ∷ col 0 2 ∷ []) 4)
+pub add_answer_is : command_of (understood counter_schema add_answer_text) ≡ Insert 7 (Values (lit Null ∷ col 0 0 ∷ col 0 1 ∷ col 0 2 ∷ col 0 3 ∷ []) 5)
 unfolding understood everything
-add_reply_is = refl
+add_answer_is = refl
 
-pub add_reply_whole : IsWhole add_reply_text 3 (understood counter_schema add_reply_text)
+pub add_answer_whole : IsWhole add_answer_text 4 (understood counter_schema add_answer_text)
 unfolding understood everything
-add_reply_whole = (refl, refl, refl)
+add_answer_whole = (refl, refl, refl)
 
-pub add_reply_plain : IsPlain (understood counter_schema add_reply_text)
+pub add_answer_plain : IsPlain (understood counter_schema add_answer_text)
 unfolding understood everything
-add_reply_plain = (refl, refl)
+add_answer_plain = (refl, refl)
 
 abbrev pub add_ticket_text : List ℕ
 add_ticket_text = codes "INSERT INTO tickets (ticket, day, payee, bonds, total) VALUES (?1, ?2, ?3, ?4, ?5)"
@@ -215,6 +215,24 @@ set_day_whole = (refl, refl, refl)
 pub set_day_plain : IsPlain (understood counter_schema set_day_text)
 unfolding understood everything
 set_day_plain = (refl, refl)
+
+abbrev pub set_version_text : List ℕ
+set_version_text = codes "UPDATE desk SET version = ?2 WHERE id = ?1"
+
+abbrev pub set_version_query : Query
+set_version_query = by_number 0 (col 1 0 ∷ col 1 0 ∷ lit Null ∷ col 0 1 ∷ col 1 3 ∷ col 1 4 ∷ [])
+
+pub set_version_is : command_of (understood counter_schema set_version_text) ≡ Update 0 (record { lets = []; body = set_version_query })
+unfolding understood everything
+set_version_is = refl
+
+pub set_version_whole : IsWhole set_version_text 2 (understood counter_schema set_version_text)
+unfolding understood everything
+set_version_whole = (refl, refl, refl)
+
+pub set_version_plain : IsPlain (understood counter_schema set_version_text)
+unfolding understood everything
+set_version_plain = (refl, refl)
 
 abbrev pub find_rate_text : List ℕ
 find_rate_text = codes "SELECT rate FROM rates WHERE period = ?1"
@@ -270,7 +288,7 @@ find_extension_plain = (refl, refl)
 abbrev pub add_extension_text : List ℕ
 add_extension_text = codes "INSERT INTO extensions (period, rate) VALUES (?1, ?2) ON CONFLICT (period) DO NOTHING"
 
-pub add_extension_is : command_of (understood counter_schema add_extension_text) ≡ insert_rate 7
+pub add_extension_is : command_of (understood counter_schema add_extension_text) ≡ insert_rate 6
 unfolding understood everything
 add_extension_is = refl
 

@@ -50,7 +50,7 @@ module _ (db : Trees) (rows : Rows) (stands : Holds db rows) (unique : Keeps Uni
 
   line_unique : Keeps Unique counter_schema (with_tree db 7 (edited db (line_edit (row ∷ []))))
   line_unique = all_unique (with_tree db 7 (edited db (line_edit (row ∷ [])))) unique.1.1.0 (paid_unique (with_tree db 7 (edited db (line_edit (row ∷ []))))
-      (put_apart (1 ∷ 2 ∷ []) row (db 7) (same_rowid id) other_places (places_apart db unique.1.1.1.1.0)) (put_apart (3 ∷ 4 ∷ []) row (db 7) (same_rowid id) other_bonds (paid_apart db unique.1.1.1.1.0)))
+      (put_apart (1 ∷ 2 ∷ []) row (db 7) (same_rowid id) other_places (places_apart db unique.1.1.1.1.0)) (put_apart (3 ∷ 4 ∷ []) row (db 7) (same_rowid id) other_bonds (paid_apart db unique.1.1.1.1.0))) unique.1.1.1.1.1.1.1.0
 
   line_allowed : IsAllowed counter_schema Enforced db (line_edit (row ∷ []))
   line_allowed = record {
@@ -71,7 +71,7 @@ module _ (db : Trees) (rows : Rows) (stands : Holds db rows) (unique : Keeps Uni
           λ e. absurd (omega (arith, e)),
           (
             λ e. bare_storable (Int (pos k.0) ∷ Int (pos k.1) ∷ Int id ∷ []) refl (omega arith) (omega arith),
-            (λ e. bare_storable (Int (pos x.letter) ∷ Int (pos x.number) ∷ Int id ∷ []) refl (omega arith) (omega arith), tt),
+            (λ e. bare_storable (Int (pos x.letter) ∷ Int (pos x.number) ∷ Int id ∷ []) refl (omega arith) (omega arith), (λ e. absurd (omega (arith, e)), tt)),
           ),
         ),
       ),

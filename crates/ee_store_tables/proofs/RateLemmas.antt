@@ -47,19 +47,19 @@ pub record IsRateTable (place : ℕ) (name : List ℕ) (tree : ℕ) : Type 0 whe
 pub rates_are : IsRateTable 1 (codes "rates") 1
 rates_are = record {
   there = refl;
-  unindexed = (λ e. omega (arith, e), (λ e. omega (arith, e), (λ e. omega (arith, e), (λ e. omega (arith, e), (λ e. omega (arith, e), tt)))));
+  unindexed = (λ e. omega (arith, e), (λ e. omega (arith, e), (λ e. omega (arith, e), (λ e. omega (arith, e), (λ e. omega (arith, e), (λ e. omega (arith, e), tt))))));
 }
 
-pub extensions_are : IsRateTable 7 (codes "extensions") 12
+pub extensions_are : IsRateTable 6 (codes "extensions") 12
 extensions_are = record {
   there = refl;
-  unindexed = (λ e. omega (arith, e), (λ e. omega (arith, e), (λ e. omega (arith, e), (λ e. omega (arith, e), (λ e. omega (arith, e), tt)))));
+  unindexed = (λ e. omega (arith, e), (λ e. omega (arith, e), (λ e. omega (arith, e), (λ e. omega (arith, e), (λ e. omega (arith, e), (λ e. omega (arith, e), tt))))));
 }
 
 module _ (place : ℕ) (name : List ℕ) (tree : ℕ) (known : IsRateTable place name tree) where
   -- a row meets another at its rowid alone
   pub rates_conflict : (new r : Row) → conflicts (Some (0 ∷ [])) counter_schema.indexes (rate_table name tree) new r ≡ agree plain (0 ∷ []) r (0 ∷ []) new
-  rates_conflict new r = rw (ne_eqb 2 tree known.unindexed.0, ne_eqb 7 tree known.unindexed.1.1.1.0) (or-false _)
+  rates_conflict new r = rw (ne_eqb 2 tree known.unindexed.0, ne_eqb 7 tree known.unindexed.1.1.1.0, ne_eqb 13 tree known.unindexed.1.1.1.1.1.0) (or-false _)
 
   module _ (old : State) (n x : ℕ) (one : Written) where
     abbrev task : Task
@@ -137,5 +137,5 @@ adds_rate old new n x count has h =
 pub adds_extension : (old new : State) (n x : ℕ) (count : ℕ) → old.now.schema ≡ counter_schema → Executes add_extension_text (given_rate n x) old new (Ok count)
     → (new.now.schema ≡ counter_schema) × ((rows : Rows) → Holds old.now.trees rows → Holds new.now.trees (with_extension rows (n, x))) × IsDatabase new.now × Same 12 old.now.trees new.now.trees
 adds_extension old new n x count has h =
-    let it = adds_rate_at 7 (codes "extensions") 12 extensions_are add_extension_text add_extension_is add_extension_plain old new n x count has h in
+    let it = adds_rate_at 6 (codes "extensions") 12 extensions_are add_extension_text add_extension_is add_extension_plain old new n x count has h in
     (it.0, λ rows stands. with_extensions old.now.trees new.now.trees rows stands _ it.3 (it.1 rows.extensions stands.extensions), it.2, it.3)

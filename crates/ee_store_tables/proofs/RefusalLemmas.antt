@@ -41,7 +41,7 @@ use Rattle.std.proofs.lemmas.Cmp.{nat_cmp_total}
 use Rattle.std.specs.Ordering.{is_eq}
 use Rattle.std.specs.FinMap.{FinMap, get, nat_cmp-IsAntisymmetric}
 use Rattle.ee_store_tables.specs.Rows.{optional}
-use Rattle.ee_store_tables.specs.Tables.{counter_schema, bonds, paid}
+use Rattle.ee_store_tables.specs.Tables.{counter_schema, bonds, paid, answers}
 use Rattle.ee_store_tables.specs.Keyed.{row_of, HoldsMap}
 use Rattle.ee_store_tables.proofs.PairLemmas.{tied, any_alike}
 use Rattle.ee_store_tables.proofs.HoldsLemmas.{never_tied}
@@ -175,16 +175,17 @@ never_concluded table params w stop h =
 
 -- ---- unique keys
 
--- only bonds and lines have some
-pub all_unique : (db : Trees) → AllByRecursion (λ r. passes Unique counter_schema db bonds r ≡ true) (db 2) → AllByRecursion (λ r. passes Unique counter_schema db paid r ≡ true) (db 7) → Keeps Unique counter_schema db
-all_unique db of_bonds of_lines = (each_true _, (each_true _, (of_bonds, (each_true _, (of_lines, (each_true _, (each_true _, (each_true _, tt))))))))
+-- only bonds, lines and answers have some
+pub all_unique : (db : Trees) → AllByRecursion (λ r. passes Unique counter_schema db bonds r ≡ true) (db 2) → AllByRecursion (λ r. passes Unique counter_schema db paid r ≡ true) (db 7) → AllByRecursion (λ r. passes Unique counter_schema db answers r ≡ true) (db 13) → Keeps Unique counter_schema db
+all_unique db of_bonds of_lines of_answers = (each_true _, (each_true _, (of_bonds, (each_true _, (of_lines, (each_true _, (each_true _, (of_answers, tt))))))))
 
 -- so a write of another table leaves them
-pub unique_beside : (db : Trees) (tree : ℕ) (next : List Row) → 2 ≢ tree → 7 ≢ tree → Keeps Unique counter_schema db → Keeps Unique counter_schema (with_tree db tree next)
-unique_beside db tree next not_bonds not_lines unique =
+pub unique_beside : (db : Trees) (tree : ℕ) (next : List Row) → 2 ≢ tree → 7 ≢ tree → 13 ≢ tree → Keeps Unique counter_schema db → Keeps Unique counter_schema (with_tree db tree next)
+unique_beside db tree next not_bonds not_lines not_answers unique =
     all_unique (with_tree db tree next)
     (subst (λ rows. AllByRecursion (λ r. passes Unique counter_schema (λ _. rows) bonds r ≡ true) rows) (sym (kept 2 not_bonds)) unique.1.1.0)
     (subst (λ rows. AllByRecursion (λ r. passes Unique counter_schema (λ _. rows) paid r ≡ true) rows) (sym (kept 7 not_lines)) unique.1.1.1.1.0)
+    (subst (λ rows. AllByRecursion (λ r. passes Unique counter_schema (λ _. rows) answers r ≡ true) rows) (sym (kept 13 not_answers)) unique.1.1.1.1.1.1.1.0)
   where
     kept : (t : ℕ) → t ≢ tree → with_tree db tree next t ≡ db t
     kept t apart = ap (λ b. if b then next else db t) (ne_eqb t tree apart)

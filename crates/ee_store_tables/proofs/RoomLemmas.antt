@@ -23,12 +23,12 @@ rises_less low m n less [] h = omega (arith, less, h)
 rises_less low m n less (r ∷ rows) h = (h.0, h.1, h.2, rises_less (h.0 + 1) m n less rows h.3)
 
 pub room_less : (s : State) (m n : ℕ) → m ≤ n → HasRoom n s → HasRoom m s
-room_less s m n less room is_open = let it = room is_open in (it.0, (rises_less 1 m n less _ it.1.0, rises_less 1 m n less _ it.1.1))
+room_less s m n less room is_open = let it = room is_open in (it.0, (rises_less 1 m n less _ it.1.0, rises_less 1 m n less _ it.1.1, rises_less 1 m n less _ it.1.2))
 
 -- a write of another table leaves the room
-pub room_beside : (old new : State) (tree n : ℕ) → 2 ≢ tree → 7 ≢ tree → Same tree old.now.trees new.now.trees → IsDatabase new.now → IsTrue old.is_open → HasRoom n old → HasRoom n new
-room_beside old new tree n not_bonds not_lines same sound was_open room _ =
-    let it = (room was_open).1 in (sound, (subst (Rises 1 n) (sym (same.1.1.0 not_bonds)) it.0, subst (Rises 1 n) (sym (same.1.1.1.1.0 not_lines)) it.1))
+pub room_beside : (old new : State) (tree n : ℕ) → 2 ≢ tree → 7 ≢ tree → 13 ≢ tree → Same tree old.now.trees new.now.trees → IsDatabase new.now → IsTrue old.is_open → HasRoom n old → HasRoom n new
+room_beside old new tree n not_bonds not_lines not_answers same sound was_open room _ =
+    let it = (room was_open).1 in (sound, (subst (Rises 1 n) (sym (same.1.1.0 not_bonds)) it.0, subst (Rises 1 n) (sym (same.1.1.1.1.0 not_lines)) it.1, subst (Rises 1 n) (sym (same.1.1.1.1.1.1.1.0 not_answers)) it.2))
 
 -- ---- a row above the last
 
@@ -133,13 +133,19 @@ rises_again n i new is rows h hit =
     let it = whole_rowid 1 n i rows h hit in
     subst (λ i. Rises 1 n (put_row new (without_rowid i rows))) (sym it.1) (rises_at 1 n it.0 new (is ∙ ap Int it.1) rows h (subst (λ i. list_any (has_rowid i) rows ≡ true) it.1 hit))
 
--- ---- the two tables
+-- ---- the tables whose rowids rise
 
 pub room_paid : (old new : State) (n : ℕ) (row : Row) → rowid row ≡ Int (next_rowid (old.now.trees 7)) → Same 7 old.now.trees new.now.trees → new.now.trees 7 ≡ put_row row (old.now.trees 7) → IsDatabase new.now → IsTrue old.is_open
     → HasRoom (n + 1) old → HasRoom n new
 room_paid old new n row is same put sound was_open room _ =
     let it = (room was_open).1 in
-    (sound, (subst (Rises 1 n) (sym (same.1.1.0 (λ e. omega (arith, e)))) (rises_less 1 n (n + 1) (omega arith) _ it.0), subst (Rises 1 n) (sym put) (room_put n (old.now.trees 7) row is it.1)))
+    (sound, (subst (Rises 1 n) (sym (same.1.1.0 (λ e. omega (arith, e)))) (rises_less 1 n (n + 1) (omega arith) _ it.0), subst (Rises 1 n) (sym put) (room_put n (old.now.trees 7) row is it.1), subst (Rises 1 n) (sym (same.1.1.1.1.1.1.1.0 (λ e. omega (arith, e)))) (rises_less 1 n (n + 1) (omega arith) _ it.2)))
+
+pub room_answer : (old new : State) (n : ℕ) (row : Row) → rowid row ≡ Int (next_rowid (old.now.trees 13)) → Same 13 old.now.trees new.now.trees → new.now.trees 13 ≡ put_row row (old.now.trees 13) → IsDatabase new.now → IsTrue old.is_open
+    → HasRoom (n + 1) old → HasRoom n new
+room_answer old new n row is same put sound was_open room _ =
+    let it = (room was_open).1 in
+    (sound, (subst (Rises 1 n) (sym (same.1.1.0 (λ e. omega (arith, e)))) (rises_less 1 n (n + 1) (omega arith) _ it.0), subst (Rises 1 n) (sym (same.1.1.1.1.0 (λ e. omega (arith, e)))) (rises_less 1 n (n + 1) (omega arith) _ it.1), subst (Rises 1 n) (sym put) (room_put n (old.now.trees 13) row is it.2)))
 
 pub room_bond : (old new : State) (n : ℕ) (row : Row) → rowid row ≡ Int (next_rowid (old.now.trees 2)) → Same 2 old.now.trees new.now.trees
     → (new.now.trees 2 ≡ old.now.trees 2) ⊎ (new.now.trees 2 ≡ put_row row (old.now.trees 2)) → IsDatabase new.now → IsTrue old.is_open → HasRoom (n + 1) old → HasRoom n new
@@ -149,8 +155,8 @@ room_bond old new n row is same put sound was_open room _ =
       | inl kept ↦ subst (Rises 1 n) (sym kept) (rises_less 1 n (n + 1) (omega arith) _ it.0)
       | inr added ↦ subst (Rises 1 n) (sym added) (room_put n (old.now.trees 2) row is it.0)
     ] in
-    (sound, (of_bonds, subst (Rises 1 n) (sym (same.1.1.1.1.0 (λ e. omega (arith, e)))) (rises_less 1 n (n + 1) (omega arith) _ it.1)))
+    (sound, (of_bonds, subst (Rises 1 n) (sym (same.1.1.1.1.0 (λ e. omega (arith, e)))) (rises_less 1 n (n + 1) (omega arith) _ it.1), subst (Rises 1 n) (sym (same.1.1.1.1.1.1.1.0 (λ e. omega (arith, e)))) (rises_less 1 n (n + 1) (omega arith) _ it.2)))
 
 pub room_marked : (old new : State) (n : ℕ) → Same 2 old.now.trees new.now.trees → IsDatabase new.now → ((n : ℕ) → Rises 1 n (old.now.trees 2) → Rises 1 n (new.now.trees 2)) → IsTrue old.is_open → HasRoom n old → HasRoom n new
 room_marked old new n same sound keeps was_open room _ =
-    let it = (room was_open).1 in (sound, (keeps n it.0, subst (Rises 1 n) (sym (same.1.1.1.1.0 (λ e. omega (arith, e)))) it.1))
+    let it = (room was_open).1 in (sound, (keeps n it.0, subst (Rises 1 n) (sym (same.1.1.1.1.0 (λ e. omega (arith, e)))) it.1, subst (Rises 1 n) (sym (same.1.1.1.1.1.1.1.0 (λ e. omega (arith, e)))) it.2))

@@ -22,8 +22,9 @@ use Rattle.sqlite_schema.specs.declared.schema.Constraint.TheVariants.{Datatype,
 use Rattle.sqlite_schema.specs.Rules.{Keeps, passes}
 use Rattle.ee_store_tables.specs.Tables.{counter_schema, desk, bonds}
 use Rattle.ee_store_tables.specs.Rows.{Rows, Holds, DeskRow, BondRow, optional, Rises, bond_columns}
-use Rattle.ee_store_tables.proofs.Meaning.{set_day_query, mark_bond_query}
+use Rattle.ee_store_tables.proofs.Meaning.{set_day_query, set_version_query, mark_bond_query}
 use Rattle.ee_store_tables.proofs.DeskLemmas.{given_days, sets_none, sets_one}
+use Rattle.ee_store_tables.proofs.VersionLemmas.{given_version, version_row, version_none, version_one}
 use Rattle.sqlite.specs.Does.{Shows, Concludes}
 use Rattle.sqlite_schema.specs.declared.schema.Among.TheVariants as among
 use Rattle.sqlite_keyed.proofs.RuleLemmas.{first_of_both}
@@ -64,7 +65,7 @@ module _ (day last_day : Option ℕ) (db : Trees) (rows : Rows) (stands : Holds 
     present = refl;
     checked = refl;
     fresh = refl;
-    unique = all_unique (with_tree db 0 (edited db (edit_to [] []))) unique.1.1.0 unique.1.1.1.1.0;
+    unique = all_unique (with_tree db 0 (edited db (edit_to [] []))) unique.1.1.0 unique.1.1.1.1.0 unique.1.1.1.1.1.1.1.0;
     keyed = refl;
     fits = refl;
     referred = refl;
@@ -78,13 +79,13 @@ module _ (day last_day : Option ℕ) (db : Trees) (rows : Rows) (stands : Holds 
     present = refl;
     checked = refl;
     fresh = ap (λ b. not b && true) (taken_out (pos 1) (db 0) (row_with version day last_day) refl);
-    unique = all_unique (with_tree db 0 (edited db (edit_to (pos 1 ∷ []) (row_with version day last_day ∷ [])))) unique.1.1.0 unique.1.1.1.1.0;
+    unique = all_unique (with_tree db 0 (edited db (edit_to (pos 1 ∷ []) (row_with version day last_day ∷ [])))) unique.1.1.0 unique.1.1.1.1.0 unique.1.1.1.1.1.1.1.0;
     keyed = refl;
     fits = refl;
     referred = refl;
     acts = refl;
     small = one_fits counter_schema desk (row_with version day last_day) (bare_storable (row_with version day last_day) (day_typed version day last_day).1 (omega arith) (omega arith), omega arith)
-        (λ e. absurd (omega (arith, e)), (λ e. absurd (omega (arith, e)), (λ e. absurd (omega (arith, e)), (λ e. absurd (omega (arith, e)), (λ e. absurd (omega (arith, e)), tt)))));
+        (λ e. absurd (omega (arith, e)), (λ e. absurd (omega (arith, e)), (λ e. absurd (omega (arith, e)), (λ e. absurd (omega (arith, e)), (λ e. absurd (omega (arith, e)), (λ e. absurd (omega (arith, e)), tt))))));
   }
 
   day_edited : (asked : List Row) (a : IsAnswer set_day_query (overlay db []) (given_days day last_day) asked) (stop : Option Error) (o : Option DeskRow) → get rows.desk 1 ≡ o
@@ -101,6 +102,25 @@ module _ (day last_day : Option ℕ) (db : Trees) (rows : Rows) (stands : Holds 
       let edited = passed asked.2 (λ s e. day_edited asked.0 (asked.1.answer Null) s (get rows.desk 1) refl e) in
       no_stop edited.2) in
       never_concluded desk (given_days day last_day) written.0 stop written.2
+
+-- ---- the version
+
+module _ (version : ℕ) (db : Trees) (rows : Rows) (stands : Holds db rows) (unique : Keeps Unique counter_schema db) where
+  version_edited : (asked : List Row) (a : IsAnswer set_version_query (overlay db []) (given_version version) asked) (stop : Option Error) (o : Option DeskRow) → get rows.desk 1 ≡ o
+      → ¬ Edited counter_schema Enforced db (edit_of db desk (ids_of asked) Given 1 asked) (Err stop)
+  version_edited asked a stop None is h =
+      never_edited counter_schema Enforced db (edit_to None None db rows stands unique [] []) (none_allowed None None db rows stands unique) stop (subst (λ e. Edited counter_schema Enforced db e (Err stop)) (version_none version db rows stands asked a is) h)
+  version_edited asked a stop (Some d) is h =
+      never_edited counter_schema Enforced db (edit_to d.day d.last_day db rows stands unique (pos 1 ∷ []) (version_row version db rows stands asked a d ∷ [])) (one_allowed d.day d.last_day db rows stands unique version) stop
+      (subst (λ e. Edited counter_schema Enforced db e (Err stop)) (version_one version db rows stands asked a d is) h)
+
+  pub set_version_stays : NeverStops db (given_version version) None (Update 0 (record { lets = []; body = set_version_query }))
+  set_version_stays text stop h =
+      let written = passed h (λ s w.
+      let asked = passed w (never_queried (record { schema = counter_schema; trees = db }) (record { lets = []; body = set_version_query }) (given_version version) (λ e r. never_refused never_false (no_sums _) r)) in
+      let edited = passed asked.2 (λ s e. version_edited asked.0 (asked.1.answer Null) s (get rows.desk 1) refl e) in
+      no_stop edited.2) in
+      never_concluded desk (given_version version) written.0 stop written.2
 
 -- ---- a bond that is marked
 
@@ -125,7 +145,7 @@ module _ (k : ℕ × ℕ) (t : ℕ) (db : Trees) (rows : Rows) (stands : Holds d
     present = refl;
     checked = refl;
     fresh = refl;
-    unique = all_unique (with_tree db 2 (edited db (edit_of_bonds [] []))) unique.1.1.0 unique.1.1.1.1.0;
+    unique = all_unique (with_tree db 2 (edited db (edit_of_bonds [] []))) unique.1.1.0 unique.1.1.1.1.0 unique.1.1.1.1.1.1.1.0;
     keyed = refl;
     fits = refl;
     referred = refl;
@@ -161,7 +181,7 @@ module _ (k : ℕ × ℕ) (t : ℕ) (db : Trees) (rows : Rows) (stands : Holds d
       checked = refl;
       fresh = ap (λ b. not b && true) (taken_out i (db 2) new_row refl);
       unique = all_unique (with_tree db 2 (edited db (edit_of_bonds (i ∷ []) (new_row ∷ [])))) (bonds_unique (with_tree db 2 (edited db (edit_of_bonds (i ∷ []) (new_row ∷ []))))
-          (put_apart (1 ∷ 2 ∷ []) new_row (without_rowid i (db 2)) (same_rowid i) others_left (left_apart (1 ∷ 2 ∷ []) (λ r. not (has_rowid i r)) (db 2) (bonds_apart db unique.1.1.0)))) unique.1.1.1.1.0;
+          (put_apart (1 ∷ 2 ∷ []) new_row (without_rowid i (db 2)) (same_rowid i) others_left (left_apart (1 ∷ 2 ∷ []) (λ r. not (has_rowid i r)) (db 2) (bonds_apart db unique.1.1.0)))) unique.1.1.1.1.0 unique.1.1.1.1.1.1.1.0;
       keyed = refl;
       fits = ap (λ b. b && true) rowid_fits;
       referred = refl;
@@ -170,7 +190,7 @@ module _ (k : ℕ × ℕ) (t : ℕ) (db : Trees) (rows : Rows) (stands : Holds d
         λ e. bare_storable (Int (pos k.0) ∷ Int (pos k.1) ∷ Int i ∷ []) refl (omega arith) (omega arith),
         (
           λ e. bare_storable (Int (pos x.owner) ∷ Int (pos k.0) ∷ Int (pos k.1) ∷ Int i ∷ []) refl (omega arith) (omega arith),
-          (λ e. absurd (omega (arith, e)), (λ e. absurd (omega (arith, e)), (λ e. absurd (omega (arith, e)), tt))),
+          (λ e. absurd (omega (arith, e)), (λ e. absurd (omega (arith, e)), (λ e. absurd (omega (arith, e)), (λ e. absurd (omega (arith, e)), tt)))),
         ),
       );
     }

@@ -123,14 +123,14 @@ module _ (place : ℕ) (name : List ℕ) (tree : ℕ) (known : IsRateTable place
     present = refl;
     checked = refl;
     fresh = ap (λ b. not b && true) fresh;
-    unique = unique_beside db tree (edited db (rate_edit (rate_row ∷ []))) known.unindexed.0 known.unindexed.1.1.1.0 unique;
+    unique = unique_beside db tree (edited db (rate_edit (rate_row ∷ []))) known.unindexed.0 known.unindexed.1.1.1.0 known.unindexed.1.1.1.1.1.0 unique;
     keyed = refl;
     fits = number_fits n low;
     referred = refl;
     acts = refl;
     small = one_fits counter_schema (rate_table name tree) rate_row (bare_storable rate_row refl (omega arith) (omega arith), omega arith) (
       λ e. absurd (known.unindexed.0 e),
-      (λ e. absurd (known.unindexed.1.0 e), (λ e. absurd (known.unindexed.1.1.0 e), (λ e. absurd (known.unindexed.1.1.1.0 e), (λ e. absurd (known.unindexed.1.1.1.1.0 e), tt)))),
+      (λ e. absurd (known.unindexed.1.0 e), (λ e. absurd (known.unindexed.1.1.0 e), (λ e. absurd (known.unindexed.1.1.1.0 e), (λ e. absurd (known.unindexed.1.1.1.1.0 e), (λ e. absurd (known.unindexed.1.1.1.1.1.0 e), tt))))),
     );
   }
 
@@ -162,8 +162,8 @@ module _ (db : Trees) (rows : Rows) (stands : Holds db rows) (unique : Keeps Uni
   pub add_rate_stays : NeverStops db (given_rate n x) None (insert_rate 1)
   add_rate_stays = rate_stays 1 (codes "rates") 1 rates_are db rows.rates stands.rates unique n low x
 
-  pub add_extension_stays : NeverStops db (given_rate n x) None (insert_rate 7)
-  add_extension_stays = rate_stays 7 (codes "extensions") 12 extensions_are db rows.extensions stands.extensions unique n low x
+  pub add_extension_stays : NeverStops db (given_rate n x) None (insert_rate 6)
+  add_extension_stays = rate_stays 6 (codes "extensions") 12 extensions_are db rows.extensions stands.extensions unique n low x
 
 -- ---- a bond
 
@@ -221,7 +221,7 @@ module _ (db : Trees) (rows : Rows) (stands : Holds db rows) (unique : Keeps Uni
     checked = refl;
     fresh = ap (λ b. not b && true) (next.fresh bond_row (ap Int next.next));
     unique = all_unique (with_tree db 2 (edited db (bond_edit (bond_row ∷ [])))) (bonds_unique (with_tree db 2 (edited db (bond_edit (bond_row ∷ []))))
-        (put_apart (1 ∷ 2 ∷ []) bond_row (db 2) (same_rowid id) apart (bonds_apart db unique.1.1.0))) unique.1.1.1.1.0;
+        (put_apart (1 ∷ 2 ∷ []) bond_row (db 2) (same_rowid id) apart (bonds_apart db unique.1.1.0))) unique.1.1.1.1.0 unique.1.1.1.1.1.1.1.0;
     keyed = refl;
     fits = ap (λ i. fits_i64 i && true) next.next ∙ number_fits next.top (omega (arith, next.room));
     referred = refl;
@@ -230,7 +230,7 @@ module _ (db : Trees) (rows : Rows) (stands : Holds db rows) (unique : Keeps Uni
       λ e. bare_storable (Int (pos k.0) ∷ Int (pos k.1) ∷ Int id ∷ []) refl (omega arith) (omega arith),
       (
         λ e. bare_storable (Int (pos bond.owner) ∷ Int (pos k.0) ∷ Int (pos k.1) ∷ Int id ∷ []) refl (omega arith) (omega arith),
-        (λ e. absurd (omega (arith, e)), (λ e. absurd (omega (arith, e)), (λ e. absurd (omega (arith, e)), tt))),
+        (λ e. absurd (omega (arith, e)), (λ e. absurd (omega (arith, e)), (λ e. absurd (omega (arith, e)), (λ e. absurd (omega (arith, e)), tt)))),
       ),
     );
   }

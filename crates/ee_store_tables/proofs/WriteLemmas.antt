@@ -54,7 +54,7 @@ fresh_one false h = refl
 
 -- every table but this one has the rows that it had
 abbrev pub Same : ℕ → Trees → Trees → Type 0
-Same tree old new = AllByRecursion (λ t. (t ≢ tree) → new t ≡ old t) (0 ∷ 1 ∷ 2 ∷ 5 ∷ 7 ∷ 10 ∷ 11 ∷ 12 ∷ [])
+Same tree old new = AllByRecursion (λ t. (t ≢ tree) → new t ≡ old t) (0 ∷ 1 ∷ 2 ∷ 5 ∷ 7 ∷ 10 ∷ 12 ∷ 13 ∷ [])
 
 pub unaltered : (tree : ℕ) (db : Trees) → Same tree db db
 unaltered tree db = (λ _. refl, (λ _. refl, (λ _. refl, (λ _. refl, (λ _. refl, (λ _. refl, (λ _. refl, (λ _. refl, tt))))))))
@@ -86,8 +86,8 @@ module _ (db new : Trees) (rows : Rows) (stands : Holds db rows) where
     tickets = moved (same.1.1.1.0 (λ e. omega (arith, e))) stands.tickets;
     paid = moved_pairs paid_columns (same.1.1.1.1.0 (λ e. omega (arith, e))) stands.paid;
     batches = moved (same.1.1.1.1.1.0 (λ e. omega (arith, e))) stands.batches;
-    replies = moved (same.1.1.1.1.1.1.0 (λ e. omega (arith, e))) stands.replies;
-    extensions = moved (same.1.1.1.1.1.1.1.0 (λ e. omega (arith, e))) stands.extensions;
+    extensions = moved (same.1.1.1.1.1.1.0 (λ e. omega (arith, e))) stands.extensions;
+    answers = moved_pairs reply_columns (same.1.1.1.1.1.1.1.0 (λ e. omega (arith, e))) stands.answers;
   }
 
   pub with_rates : (next : FinMap nat_cmp ℕ) → Same 1 db new → HoldsMap rate_columns (new 1) next → Holds new (record rows { rates = next })
@@ -98,8 +98,8 @@ module _ (db new : Trees) (rows : Rows) (stands : Holds db rows) where
     tickets = moved (same.1.1.1.0 (λ e. omega (arith, e))) stands.tickets;
     paid = moved_pairs paid_columns (same.1.1.1.1.0 (λ e. omega (arith, e))) stands.paid;
     batches = moved (same.1.1.1.1.1.0 (λ e. omega (arith, e))) stands.batches;
-    replies = moved (same.1.1.1.1.1.1.0 (λ e. omega (arith, e))) stands.replies;
-    extensions = moved (same.1.1.1.1.1.1.1.0 (λ e. omega (arith, e))) stands.extensions;
+    extensions = moved (same.1.1.1.1.1.1.0 (λ e. omega (arith, e))) stands.extensions;
+    answers = moved_pairs reply_columns (same.1.1.1.1.1.1.1.0 (λ e. omega (arith, e))) stands.answers;
   }
 
   pub with_bonds : (next : FinMap pair_cmp BondRow) → Same 2 db new → HoldsPairs bond_columns (new 2) next → Holds new (record rows { bonds = next })
@@ -110,8 +110,8 @@ module _ (db new : Trees) (rows : Rows) (stands : Holds db rows) where
     tickets = moved (same.1.1.1.0 (λ e. omega (arith, e))) stands.tickets;
     paid = moved_pairs paid_columns (same.1.1.1.1.0 (λ e. omega (arith, e))) stands.paid;
     batches = moved (same.1.1.1.1.1.0 (λ e. omega (arith, e))) stands.batches;
-    replies = moved (same.1.1.1.1.1.1.0 (λ e. omega (arith, e))) stands.replies;
-    extensions = moved (same.1.1.1.1.1.1.1.0 (λ e. omega (arith, e))) stands.extensions;
+    extensions = moved (same.1.1.1.1.1.1.0 (λ e. omega (arith, e))) stands.extensions;
+    answers = moved_pairs reply_columns (same.1.1.1.1.1.1.1.0 (λ e. omega (arith, e))) stands.answers;
   }
 
   pub with_tickets : (next : FinMap nat_cmp TicketRow) → Same 5 db new → HoldsMap ticket_columns (new 5) next → Holds new (record rows { tickets = next })
@@ -122,8 +122,8 @@ module _ (db new : Trees) (rows : Rows) (stands : Holds db rows) where
     tickets = held;
     paid = moved_pairs paid_columns (same.1.1.1.1.0 (λ e. omega (arith, e))) stands.paid;
     batches = moved (same.1.1.1.1.1.0 (λ e. omega (arith, e))) stands.batches;
-    replies = moved (same.1.1.1.1.1.1.0 (λ e. omega (arith, e))) stands.replies;
-    extensions = moved (same.1.1.1.1.1.1.1.0 (λ e. omega (arith, e))) stands.extensions;
+    extensions = moved (same.1.1.1.1.1.1.0 (λ e. omega (arith, e))) stands.extensions;
+    answers = moved_pairs reply_columns (same.1.1.1.1.1.1.1.0 (λ e. omega (arith, e))) stands.answers;
   }
 
   pub with_paid : (next : FinMap pair_cmp PaidRow) → Same 7 db new → HoldsPairs paid_columns (new 7) next → Holds new (record rows { paid = next })
@@ -134,8 +134,8 @@ module _ (db new : Trees) (rows : Rows) (stands : Holds db rows) where
     tickets = moved (same.1.1.1.0 (λ e. omega (arith, e))) stands.tickets;
     paid = held;
     batches = moved (same.1.1.1.1.1.0 (λ e. omega (arith, e))) stands.batches;
-    replies = moved (same.1.1.1.1.1.1.0 (λ e. omega (arith, e))) stands.replies;
-    extensions = moved (same.1.1.1.1.1.1.1.0 (λ e. omega (arith, e))) stands.extensions;
+    extensions = moved (same.1.1.1.1.1.1.0 (λ e. omega (arith, e))) stands.extensions;
+    answers = moved_pairs reply_columns (same.1.1.1.1.1.1.1.0 (λ e. omega (arith, e))) stands.answers;
   }
 
   pub with_batches : (next : FinMap nat_cmp BatchRow) → Same 10 db new → HoldsMap batch_columns (new 10) next → Holds new (record rows { batches = next })
@@ -146,20 +146,8 @@ module _ (db new : Trees) (rows : Rows) (stands : Holds db rows) where
     tickets = moved (same.1.1.1.0 (λ e. omega (arith, e))) stands.tickets;
     paid = moved_pairs paid_columns (same.1.1.1.1.0 (λ e. omega (arith, e))) stands.paid;
     batches = held;
-    replies = moved (same.1.1.1.1.1.1.0 (λ e. omega (arith, e))) stands.replies;
-    extensions = moved (same.1.1.1.1.1.1.1.0 (λ e. omega (arith, e))) stands.extensions;
-  }
-
-  pub with_replies : (next : FinMap nat_cmp ReplyRow) → Same 11 db new → HoldsMap reply_columns (new 11) next → Holds new (record rows { replies = next })
-  with_replies next same held = record {
-    desk = moved (same.0 (λ e. omega (arith, e))) stands.desk;
-    rates = moved (same.1.0 (λ e. omega (arith, e))) stands.rates;
-    bonds = moved_pairs bond_columns (same.1.1.0 (λ e. omega (arith, e))) stands.bonds;
-    tickets = moved (same.1.1.1.0 (λ e. omega (arith, e))) stands.tickets;
-    paid = moved_pairs paid_columns (same.1.1.1.1.0 (λ e. omega (arith, e))) stands.paid;
-    batches = moved (same.1.1.1.1.1.0 (λ e. omega (arith, e))) stands.batches;
-    replies = held;
-    extensions = moved (same.1.1.1.1.1.1.1.0 (λ e. omega (arith, e))) stands.extensions;
+    extensions = moved (same.1.1.1.1.1.1.0 (λ e. omega (arith, e))) stands.extensions;
+    answers = moved_pairs reply_columns (same.1.1.1.1.1.1.1.0 (λ e. omega (arith, e))) stands.answers;
   }
 
   pub with_extensions : (next : FinMap nat_cmp ℕ) → Same 12 db new → HoldsMap rate_columns (new 12) next → Holds new (record rows { extensions = next })
@@ -170,6 +158,18 @@ module _ (db new : Trees) (rows : Rows) (stands : Holds db rows) where
     tickets = moved (same.1.1.1.0 (λ e. omega (arith, e))) stands.tickets;
     paid = moved_pairs paid_columns (same.1.1.1.1.0 (λ e. omega (arith, e))) stands.paid;
     batches = moved (same.1.1.1.1.1.0 (λ e. omega (arith, e))) stands.batches;
-    replies = moved (same.1.1.1.1.1.1.0 (λ e. omega (arith, e))) stands.replies;
     extensions = held;
+    answers = moved_pairs reply_columns (same.1.1.1.1.1.1.1.0 (λ e. omega (arith, e))) stands.answers;
+  }
+
+  pub with_answers : (next : FinMap pair_cmp ReplyRow) → Same 13 db new → HoldsPairs reply_columns (new 13) next → Holds new (record rows { answers = next })
+  with_answers next same held = record {
+    desk = moved (same.0 (λ e. omega (arith, e))) stands.desk;
+    rates = moved (same.1.0 (λ e. omega (arith, e))) stands.rates;
+    bonds = moved_pairs bond_columns (same.1.1.0 (λ e. omega (arith, e))) stands.bonds;
+    tickets = moved (same.1.1.1.0 (λ e. omega (arith, e))) stands.tickets;
+    paid = moved_pairs paid_columns (same.1.1.1.1.0 (λ e. omega (arith, e))) stands.paid;
+    batches = moved (same.1.1.1.1.1.0 (λ e. omega (arith, e))) stands.batches;
+    extensions = moved (same.1.1.1.1.1.1.0 (λ e. omega (arith, e))) stands.extensions;
+    answers = held;
   }

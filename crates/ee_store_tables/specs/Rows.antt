@@ -53,8 +53,8 @@ pub record Rows : Type 0 where
   pub tickets : FinMap nat_cmp TicketRow
   pub paid : FinMap pair_cmp PaidRow
   pub batches : FinMap nat_cmp BatchRow
-  pub replies : FinMap nat_cmp ReplyRow
   pub extensions : FinMap nat_cmp ℕ
+  pub answers : FinMap pair_cmp ReplyRow
 
 abbrev pub number : ℕ → Value
 number n = Int (pos n)
@@ -91,8 +91,8 @@ pub record Holds (db : Trees) (rows : Rows) : Type 0 where
   pub tickets : HoldsMap ticket_columns (db 5) rows.tickets
   pub paid : HoldsPairs paid_columns (db 7) rows.paid
   pub batches : HoldsMap batch_columns (db 10) rows.batches
-  pub replies : HoldsMap reply_columns (db 11) rows.replies
   pub extensions : HoldsMap rate_columns (db 12) rows.extensions
+  pub answers : HoldsPairs reply_columns (db 13) rows.answers
 
 -- the trees list the counter's tables and obey them, as `sqlite` keeps them, and hold these rows
 pub record Stores (db : Trees) (rows : Rows) : Type 0 where
@@ -116,9 +116,9 @@ abbrev pub Rises : ℕ → ℕ → List Row → Type 0
 Rises low n [] = low + n ≤ 2 ^ 63
 Rises low n (r ∷ rows) = (id : ℕ) × (rowid r ≡ Int (pos id)) × (low ≤ id) × Rises (id + 1) n rows
 
--- so many rows more fit in `bonds` and in `paid`, where a new rowid is one above the last
+-- so many rows more fit in `bonds`, in `paid` and in `answers`, where a new rowid is one above the last
 abbrev pub HasRoomIn : ℕ → Trees → Type 0
-HasRoomIn n db = Rises 1 n (db 2) × Rises 1 n (db 7)
+HasRoomIn n db = Rises 1 n (db 2) × Rises 1 n (db 7) × Rises 1 n (db 13)
 
 -- what a transaction sees obeys the tables, and has such room
 abbrev pub HasRoom : ℕ → State → Type 0
@@ -143,6 +143,14 @@ day_set rows day last_day (Some desk) = record rows { desk = insert rows.desk 1 
 abbrev pub with_day : Rows → Option ℕ → Option ℕ → Rows
 with_day rows day last_day = day_set rows day last_day (get rows.desk 1)
 
+-- the desk's row, if it is there, names the version
+abbrev pub with_version_of : FinMap nat_cmp DeskRow → ℕ → Option DeskRow → FinMap nat_cmp DeskRow
+with_version_of desk version None = desk
+with_version_of desk version (Some row) = insert desk 1 (record row { version = version })
+
+abbrev pub with_version : FinMap nat_cmp DeskRow → ℕ → FinMap nat_cmp DeskRow
+with_version desk version = with_version_of desk version (get desk 1)
+
 -- a rate for a period, unless it has one
 abbrev pub with_rate : Rows → ℕ × ℕ → Rows
 with_rate rows rate = record rows { rates = insert_new rows.rates rate.0 rate.1 (get rows.rates rate.0) }
@@ -158,8 +166,8 @@ with_bond rows bond = record rows { bonds = insert_new rows.bonds bond.0 bond.1 
 abbrev pub with_batch : Rows → ℕ → BatchRow → Rows
 with_batch rows day batch = record rows { batches = insert rows.batches day batch }
 
-abbrev pub with_reply : Rows → ℕ → ReplyRow → Rows
-with_reply rows n reply = record rows { replies = insert rows.replies n reply }
+abbrev pub with_answer : Rows → ℕ × ℕ → ReplyRow → Rows
+with_answer rows k reply = record rows { answers = insert rows.answers k reply }
 
 abbrev pub with_ticket : Rows → ℕ → TicketRow → Rows
 with_ticket rows n ticket = record rows { tickets = insert rows.tickets n ticket }

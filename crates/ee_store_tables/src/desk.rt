@@ -1,17 +1,20 @@
 //! The table `desk`: one row, with the version of the tables and the days.
 
-ghost use Rattle.std.specs.Prelude.{◌≡◌, Option, option_map, IfOk, IfSome, ⊤, IfErr};
+ghost use Rattle.std.specs.Prelude.{◌≡◌, Option, option_map, IsTrue, IfOk, IfSome, ⊤, IfErr};
 ghost use Rattle.std.specs.Option.{option_to_list};
 ghost use Rattle.std.specs.FinMap.{get};
 ghost use Rattle.sqlite.specs.Held.{state};
+ghost use Rattle.sqlite.specs.Effect.{IsDatabase};
+ghost use Rattle.sqlite.specs.State.{HasCleanDisk, KeepsCommit};
 ghost use Rattle.ee_store_tables.specs.AsRows.{Fits, row_of_desk};
 ghost use Rattle.ee_store_tables.specs.Rows as table;
-ghost use Rattle.ee_store_tables.specs.Rows.{desk_columns, with_day, HasRoom};
+ghost use Rattle.ee_store_tables.specs.Rows.{desk_columns, with_day, with_version, HasRoom};
 ghost use Rattle.ee_store_tables.specs.Statements.{
   LeavesOpen,
   StaysInside,
   CommitsNothing,
   LeavesNoMore,
+  LeavesSound,
   Makes,
   Finds,
   ChangesNothing,
@@ -47,6 +50,25 @@ pub fn set_day<S: Alter>(
     tx.execute(
         "UPDATE desk SET day = ?2, last_day = ?3 WHERE id = ?1",
         &[whole(1), optional(day), optional(last_day)],
+    )?;
+    Ok(())
+}
+
+/// Sets the version that the desk's row names.
+pub fn set_version<S: Alter>(tx: &mut Transaction<'_, S>, version: u64) -> Result<(), Failure>
+    requires { Fits version }
+    ensures same_reference { tx.new.conn.ghost_name ≡ tx.old.conn.ghost_name }
+    ensures open { LeavesOpen (state S.Store tx.new.conn.now) result }
+    ensures inside { StaysInside (state S.Store tx.old.conn.now) (state S.Store tx.new.conn.now) result }
+    ensures set { Makes (state S.Store tx.old.conn.now) (state S.Store tx.new.conn.now) result (λ rows. record rows { desk = with_version rows.desk version }) }
+    ensures sound { LeavesSound (state S.Store tx.old.conn.now) (state S.Store tx.new.conn.now) result }
+    ensures commit { HasCleanDisk (state S.Store tx.new.conn.now) → KeepsCommit (state S.Store tx.old.conn.now) (state S.Store tx.new.conn.now) }
+    ensures cause { FailsByCause (state S.Store tx.old.conn.now) (state S.Store tx.new.conn.now) result (λ _. IsTrue (state S.Store tx.old.conn.now).is_open → IsDatabase (state S.Store tx.old.conn.now).now) }
+    ensures crash { LeavesNoMore (state S.Store tx.old.conn.now) (state S.Store tx.new.conn.now) }
+{
+    tx.execute(
+        "UPDATE desk SET version = ?2 WHERE id = ?1",
+        &[whole(1), whole(version)],
     )?;
     Ok(())
 }

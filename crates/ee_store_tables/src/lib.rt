@@ -1,6 +1,7 @@
 //! The eight tables of a counter's store: their rows, and the statements that read and write them.
 #![tactic(auto)]
 
+mod answers;
 mod batches;
 mod bonds;
 mod desk;
@@ -10,13 +11,13 @@ mod lines;
 mod rates;
 mod reading;
 mod records;
-mod replies;
 mod tickets;
 mod values;
 
+pub use answers::{add_answer, add_answer_texts, find_answer};
 pub use batches::{add_batch, find_batch};
 pub use bonds::{add_bond, bonds_of_owner, find_bond, mark_bond};
-pub use desk::{find_desk, set_day};
+pub use desk::{find_desk, set_day, set_version};
 pub use extensions::{add_extension, find_extension};
 pub use failures::Failure;
 pub use lines::{add_paid, pay_line, pay_lines, ticket_lines};
@@ -25,5 +26,4 @@ pub use records::{
     BatchRow, BondRow, DeskRow, PaidRow, PlacedLine, RateRow, ReplyRow, Serial, TicketRow,
     TicketSum, UnpaidBond,
 };
-pub use replies::{add_reply, find_reply};
 pub use tickets::{add_ticket, day_tickets, find_ticket, first_ticket, last_ticket};

@@ -123,7 +123,7 @@ pub struct BatchRow {
     pub total: u64,
 }
 
-/// The act and the reply that are kept under a number, as texts.
+/// The act and the reply that are kept under a desk and a number, as texts.
 #[derive(Drop)]
 pub struct ReplyRow {
     /// The canonical text of the act.

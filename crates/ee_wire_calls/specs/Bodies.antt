@@ -3,8 +3,8 @@ use Rattle.std.specs.Prelude.{◌≡◌, List, [], ◌∷◌, codes, Result, Ok,
 use Rattle.std.specs.Option.{ok_or}
 use Rattle.serde_json.specs.Data.{Data, Items, no_items, item}
 use Rattle.serde_json.specs.Find.{as_array}
-use Rattle.ee_wire_calls.specs.Kinds.{number_in, day_in, issue_in, rate_in, serial_in, denom_in, customer_in}
-use Rattle.ee_wire_calls.specs.Fields.{◌>>=◌, field, optional, no_other, an_object}
+use Rattle.ee_wire_calls.specs.Kinds.{desk_in, number_in, day_in, issue_in, rate_in, serial_in, denom_in, customer_in}
+use Rattle.ee_wire_calls.specs.Fields.{◌>>=◌, field, optional, optional_or, no_other, an_object}
 use Rattle.ee_wire_calls.specs.declared.faults.Field.{Field}
 use Rattle.ee_wire_calls.specs.declared.faults.Field.TheVariants as at
 use Rattle.ee_value.specs.Chain.{rates_with}
@@ -59,47 +59,52 @@ serials_of ds = each (λ d. ok_or (serial_in d) at.Serials) ds
 unfoldable pub add_rates : Data → Result Request Field
 add_rates d = do
   o ← an_object at.Body d
+  desk ← optional_or 0 (codes "desk") desk_in at.Desk o
   n ← field (codes "number") number_in at.Number o
   ds ← field (codes "rates") as_array at.Rates o
   rows ← rate_rows ds
-  _ ← no_other (codes "number" ∷ codes "rates" ∷ []) o
-  Ok (record { number = n; act = act.AddRates rows })
+  _ ← no_other (codes "desk" ∷ codes "number" ∷ codes "rates" ∷ []) o
+  Ok (record { desk = desk; number = n; act = act.AddRates rows })
 
 unfoldable pub add_bonds : Data → Result Request Field
 add_bonds d = do
   o ← an_object at.Body d
+  desk ← optional_or 0 (codes "desk") desk_in at.Desk o
   n ← field (codes "number") number_in at.Number o
   ds ← field (codes "bonds") as_array at.Bonds o
   rows ← bonds_of ds
-  _ ← no_other (codes "number" ∷ codes "bonds" ∷ []) o
-  Ok (record { number = n; act = act.AddBonds rows })
+  _ ← no_other (codes "desk" ∷ codes "number" ∷ codes "bonds" ∷ []) o
+  Ok (record { desk = desk; number = n; act = act.AddBonds rows })
 
 unfoldable pub open_day : Data → Result Request Field
 open_day d = do
   o ← an_object at.Body d
+  desk ← optional_or 0 (codes "desk") desk_in at.Desk o
   n ← field (codes "number") number_in at.Number o
   day ← field (codes "day") day_in at.Day o
-  _ ← no_other (codes "number" ∷ codes "day" ∷ []) o
-  Ok (record { number = n; act = act.OpenDay day })
+  _ ← no_other (codes "desk" ∷ codes "number" ∷ codes "day" ∷ []) o
+  Ok (record { desk = desk; number = n; act = act.OpenDay day })
 
 unfoldable pub close_day : Data → Result Request Field
 close_day d = do
   o ← an_object at.Body d
+  desk ← optional_or 0 (codes "desk") desk_in at.Desk o
   n ← field (codes "number") number_in at.Number o
   day ← field (codes "day") day_in at.Day o
-  _ ← no_other (codes "number" ∷ codes "day" ∷ []) o
-  Ok (record { number = n; act = act.CloseDay day })
+  _ ← no_other (codes "desk" ∷ codes "number" ∷ codes "day" ∷ []) o
+  Ok (record { desk = desk; number = n; act = act.CloseDay day })
 
 unfoldable pub redeem : Data → Result Request Field
 redeem d = do
   o ← an_object at.Body d
+  desk ← optional_or 0 (codes "desk") desk_in at.Desk o
   n ← field (codes "number") number_in at.Number o
   day ← field (codes "day") day_in at.Day o
   payee ← field (codes "payee") customer_in at.Payee o
   ds ← field (codes "serials") as_array at.Serials o
   serials ← serials_of ds
-  _ ← no_other (codes "number" ∷ codes "day" ∷ codes "payee" ∷ codes "serials" ∷ []) o
-  Ok (record { number = n; act = act.Redeem day payee serials })
+  _ ← no_other (codes "desk" ∷ codes "number" ∷ codes "day" ∷ codes "payee" ∷ codes "serials" ∷ []) o
+  Ok (record { desk = desk; number = n; act = act.Redeem day payee serials })
 
 abbrev pub request_of : Post → Data → Result Request Field
 request_of post.Rates d = add_rates d

@@ -32,6 +32,7 @@ name_of (Framing Truncated) = codes "Truncated"
 
 abbrev pub field_name : Field → List ℕ
 field_name at.Body = codes "body"
+field_name at.Desk = codes "desk"
 field_name at.Number = codes "number"
 field_name at.Rates = codes "rates"
 field_name at.From = codes "from"

@@ -28,6 +28,15 @@ or_missing kind fault (Some d) = or_null kind fault d
 abbrev pub optional : {A : Type 0} → List ℕ → (Data → Option A) → Field → Data → Result (Option A) Field
 optional name kind fault d = or_missing kind fault (get name d)
 
+-- a value for one that is missing or null
+abbrev pub given_or : {A : Type 0} → A → Result (Option A) Field → Result A Field
+given_or a (Ok None) = Ok a
+given_or a (Ok (Some b)) = Ok b
+given_or a (Err e) = Err e
+
+abbrev pub optional_or : {A : Type 0} → A → List ℕ → (Data → Option A) → Field → Data → Result A Field
+optional_or a name kind fault d = given_or a (optional name kind fault d)
+
 abbrev pub keys : Members → List (List ℕ)
 keys no_members = []
 keys (member k d ms) = k ∷ keys ms

@@ -25,6 +25,9 @@ whole_number d = option_and_then as_u64 (as_number d)
 abbrev pub number_in : Data → Option ℕ
 number_in d = option_and_then (in_range 1 9223372036854775807) (whole_number d)
 
+abbrev pub desk_in : Data → Option ℕ
+desk_in d = option_and_then (in_range 0 999) (whole_number d)
+
 abbrev pub customer_in : Data → Option ℕ
 customer_in d = option_and_then (in_range 1 999999999) (whole_number d)
 

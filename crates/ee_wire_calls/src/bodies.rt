@@ -18,8 +18,9 @@ ghost use Rattle.ee_wire_calls.specs.Bodies.{
 
 use crate::faults::{BodyFault, Field};
 use crate::fields::{
-    an_object, coowner_field, day_field, denom_field, extension_field, from_field, issued_field,
-    list_field, no_other, number_field, owner_field, payee_field, rate_field, serial_field,
+    an_object, coowner_field, day_field, denom_field, desk_field, extension_field, from_field,
+    issued_field, list_field, no_other, number_field, owner_field, payee_field, rate_field,
+    serial_field,
 };
 use crate::kinds::serial_in;
 use crate::routes::Post;
@@ -105,10 +106,12 @@ fn add_rates(alloc: Global, body: &Value) -> Result<Request, BodyFault>
     ensures { Gives (λ q. q) result (add_rates (view body.now)) }
 {
     let body = an_object(body, Field::Body)?;
+    let desk = desk_field(body)?;
     let number = number_field(body)?;
     let rows = read_rates(alloc, list_field(body, "rates", Field::Rates)?)?;
-    no_other(body, &["number", "rates"])?;
+    no_other(body, &["desk", "number", "rates"])?;
     Ok(Request {
+        desk,
         number,
         act: Act::AddRates(Rows::new(rows)),
     })
@@ -119,10 +122,12 @@ fn add_bonds(alloc: Global, body: &Value) -> Result<Request, BodyFault>
     ensures { Gives (λ q. q) result (add_bonds (view body.now)) }
 {
     let body = an_object(body, Field::Body)?;
+    let desk = desk_field(body)?;
     let number = number_field(body)?;
     let rows = read_bonds(alloc, list_field(body, "bonds", Field::Bonds)?)?;
-    no_other(body, &["number", "bonds"])?;
+    no_other(body, &["desk", "number", "bonds"])?;
     Ok(Request {
+        desk,
         number,
         act: Act::AddBonds(Rows::new(rows)),
     })
@@ -133,10 +138,12 @@ fn open_day(body: &Value) -> Result<Request, Field>
     ensures { result ≡ open_day (view body.now) }
 {
     let body = an_object(body, Field::Body)?;
+    let desk = desk_field(body)?;
     let number = number_field(body)?;
     let day = day_field(body)?;
-    no_other(body, &["number", "day"])?;
+    no_other(body, &["desk", "number", "day"])?;
     Ok(Request {
+        desk,
         number,
         act: Act::OpenDay(day),
     })
@@ -147,10 +154,12 @@ fn close_day(body: &Value) -> Result<Request, Field>
     ensures { result ≡ close_day (view body.now) }
 {
     let body = an_object(body, Field::Body)?;
+    let desk = desk_field(body)?;
     let number = number_field(body)?;
     let day = day_field(body)?;
-    no_other(body, &["number", "day"])?;
+    no_other(body, &["desk", "number", "day"])?;
     Ok(Request {
+        desk,
         number,
         act: Act::CloseDay(day),
     })
@@ -161,12 +170,14 @@ fn redeem(alloc: Global, body: &Value) -> Result<Request, BodyFault>
     ensures { Gives (λ q. q) result (redeem (view body.now)) }
 {
     let body = an_object(body, Field::Body)?;
+    let desk = desk_field(body)?;
     let number = number_field(body)?;
     let day = day_field(body)?;
     let payee = payee_field(body)?;
     let serials = read_serials(alloc, list_field(body, "serials", Field::Serials)?)?;
-    no_other(body, &["number", "day", "payee", "serials"])?;
+    no_other(body, &["desk", "number", "day", "payee", "serials"])?;
     Ok(Request {
+        desk,
         number,
         act: Act::Redeem {
             day,

@@ -12,6 +12,7 @@ use thiserror::Error;
 pub enum Field {
     /// The body isn't an object.
     Body,
+    Desk,
     Number,
     /// The list, or a row of it that isn't an object.
     Rates,
@@ -43,6 +44,7 @@ impl Field {
     {
         match self {
             Field::Body => "body",
+            Field::Desk => "desk",
             Field::Number => "number",
             Field::Rates => "rates",
             Field::From => "from",

@@ -3,14 +3,16 @@ ghost use Rattle.std.specs.Prelude.{◌≡◌, codes, bytes_eq, string_bytes, ma
 ghost use Rattle.std.specs.BTreeMap as tree;
 ghost use Rattle.std.specs.List.{list_all, list_any};
 ghost use Rattle.serde_json.specs.View.{view, items_view};
-ghost use Rattle.ee_wire_calls.specs.Kinds.{number_in, day_in, issue_in, rate_in, serial_in, denom_in, customer_in};
-ghost use Rattle.ee_wire_calls.specs.Fields.{field, optional, or_null, no_other, an_object};
+ghost use Rattle.ee_wire_calls.specs.Kinds.{desk_in, number_in, day_in, issue_in, rate_in, serial_in, denom_in, customer_in};
+ghost use Rattle.ee_wire_calls.specs.Fields.{field, given_or, optional, optional_or, or_null, no_other, an_object};
 ghost use Rattle.ee_wire_calls.specs.Views.{map_ok, view_at, text_at};
 ghost use Rattle.serde_json.specs.Find.{as_array};
 
 use crate::faults::Field;
-use crate::kinds::{customer_in, day_in, denom_in, issue_in, number_in, rate_in, serial_in};
-use ee_desk_acts::Number;
+use crate::kinds::{
+    customer_in, day_in, denom_in, desk_in, issue_in, number_in, rate_in, serial_in,
+};
+use ee_desk_acts::{Desk, Number};
 use ee_units::{Customer, Day, Denom, IssueMonth, Rate, Serial};
 use serde_json::{Map, Value};
 
@@ -23,6 +25,25 @@ pub fn an_object(value: &Value, fault: Field) -> Result<&Value, Field>
     } else {
         Err(fault)
     }
+}
+
+/// The desk in the field `desk`, which may be missing or null: then it is 0; the fault where it is of the wrong kind or out of range.
+pub fn desk_field(body: &Value) -> Result<Desk, Field>
+    ensures { result ≡ optional_or 0 (codes "desk") desk_in Field.Desk (view body.now) }
+{
+    match body.get("desk") {
+        None => Ok(Desk::first()),
+        Some(value) => optional_desk(value),
+    }
+}
+
+fn optional_desk(value: &Value) -> Result<Desk, Field>
+    ensures { result ≡ given_or 0 (or_null desk_in Field.Desk (view value.now)) }
+{
+    if value.is_null() {
+        return Ok(Desk::first());
+    }
+    desk_in(value).ok_or(Field::Desk)
 }
 
 /// The request number in the field `number`; the fault where it is missing, of the wrong kind or out of range.

@@ -1,9 +1,9 @@
 //! Single values of a body.
 ghost use Rattle.std.specs.Prelude.{◌≡◌};
 ghost use Rattle.serde_json.specs.View.{view};
-ghost use Rattle.ee_wire_calls.specs.Kinds.{number_in, customer_in, denom_in, day_in, issue_in, rate_in, serial_in};
+ghost use Rattle.ee_wire_calls.specs.Kinds.{desk_in, number_in, customer_in, denom_in, day_in, issue_in, rate_in, serial_in};
 
-use ee_desk_acts::Number;
+use ee_desk_acts::{Desk, Number};
 use ee_units::{
     Customer, Day, Denom, IssueMonth, Rate, Serial, read_day, read_issue, read_rate, read_serial,
 };
@@ -14,6 +14,16 @@ pub fn number_in(value: &Value) -> Option<Number>
     ensures { result ≡ number_in (view value.now) }
 {
     Number::new(value.as_u64()?)
+}
+
+/// A desk: a whole number from 0 to 999.
+pub fn desk_in(value: &Value) -> Option<Desk>
+    ensures { result ≡ desk_in (view value.now) }
+{
+    match value.as_u64() {
+        Some(number) if number <= 999 => Desk::new(number as u16),
+        _ => None,
+    }
 }
 
 /// A customer: a whole number from 1 to 999,999,999.

@@ -32,21 +32,29 @@ impl Cases for CallCases {
     }
 }
 
-/// What bodies ask for, or their first fault: bodies that are read, the last of a repeated key, no JSON, no
-/// object, the number before all other fields, then the fields in the order of the table, and then any other;
-/// a row's other field stands before later rows, and before other fields of the body.
+/// What bodies ask for, or their first fault: bodies that are read, the last of a repeated key, desks, no JSON,
+/// no object, the desk and then the number before all other fields, then the fields in the order of the table,
+/// and then any other; a row's other field stands before later rows, and before other fields of the body.
 const BODIES: &str =
-    r#"POST /rates {"number":1,"rates":[{"from":"2010-11","rate":"3.50"}]} => Request(Request { number: Number { value: 1 }, act: AddRates(Rows { items: [RateRow { from: IssueMonth { count: 66 }, rates: Rates { fixed: Rate { hundredths: 350 }, extension: Rate { hundredths: 350 } } }] }) })
-POST /rates {"rates":[{"rate":"2%","from":"05/2010"}],"number":1} => Request(Request { number: Number { value: 1 }, act: AddRates(Rows { items: [RateRow { from: IssueMonth { count: 60 }, rates: Rates { fixed: Rate { hundredths: 200 }, extension: Rate { hundredths: 200 } } }] }) })
-POST /rates {"number":1,"rates":[{"from":"2010-05","rate":"3.40","extension":"4%"}]} => Request(Request { number: Number { value: 1 }, act: AddRates(Rows { items: [RateRow { from: IssueMonth { count: 60 }, rates: Rates { fixed: Rate { hundredths: 340 }, extension: Rate { hundredths: 400 } } }] }) })
-POST /rates {"number":1,"rates":[{"extension":null,"from":"2010-11","rate":"3.50"}]} => Request(Request { number: Number { value: 1 }, act: AddRates(Rows { items: [RateRow { from: IssueMonth { count: 66 }, rates: Rates { fixed: Rate { hundredths: 350 }, extension: Rate { hundredths: 350 } } }] }) })
-POST /rates {"number":1,"rates":[{"extension":"3.50%","from":"2010-11","rate":"3.50"}]} => Request(Request { number: Number { value: 1 }, act: AddRates(Rows { items: [RateRow { from: IssueMonth { count: 66 }, rates: Rates { fixed: Rate { hundredths: 350 }, extension: Rate { hundredths: 350 } } }] }) })
-POST /rates {"number":1,"rates":[]} => Request(Request { number: Number { value: 1 }, act: AddRates(Rows { items: [] }) })
-POST /bonds {"number":2,"bonds":[{"serial":"L1EE","denom":50,"issued":"2010-11","owner":7},{"coowner":8,"serial":"K-2-EE","denom":75,"issued":"2010-10","owner":7},{"coowner":null,"serial":"M3EE","denom":10000,"issued":"2011-02","owner":7}]} => Request(Request { number: Number { value: 2 }, act: AddBonds(Rows { items: [Bond { serial: Serial { letter: 12, number: 1 }, denom: Fifty, issued: IssueMonth { count: 66 }, owner: Customer { number: 7 }, coowner: None }, Bond { serial: Serial { letter: 11, number: 2 }, denom: SeventyFive, issued: IssueMonth { count: 65 }, owner: Customer { number: 7 }, coowner: Some(Customer { number: 8 }) }, Bond { serial: Serial { letter: 13, number: 3 }, denom: TenThousand, issued: IssueMonth { count: 69 }, owner: Customer { number: 7 }, coowner: None }] }) })
-POST /day/open {"number":3,"day":"2012-02-06"} => Request(Request { number: Number { value: 3 }, act: OpenDay(Day { count: 15376 }) })
-POST /redeem {"number":4,"day":"2012-02-06","payee":7,"serials":["L1EE","K2EE"]} => Request(Request { number: Number { value: 4 }, act: Redeem { day: Day { count: 15376 }, payee: Customer { number: 7 }, serials: Rows { items: [Serial { letter: 12, number: 1 }, Serial { letter: 11, number: 2 }] } } })
-POST /day/close  {"number" : 9223372036854775807, "day":"2012-02-06"}  => Request(Request { number: Number { value: 9223372036854775807 }, act: CloseDay(Day { count: 15376 }) })
-POST /day/open {"number":1,"number":2,"day":"x","day":"2012-02-06"} => Request(Request { number: Number { value: 2 }, act: OpenDay(Day { count: 15376 }) })
+    r#"POST /rates {"number":1,"rates":[{"from":"2010-11","rate":"3.50"}]} => Request(Request { desk: Desk { number: 0 }, number: Number { value: 1 }, act: AddRates(Rows { items: [RateRow { from: IssueMonth { count: 66 }, rates: Rates { fixed: Rate { hundredths: 350 }, extension: Rate { hundredths: 350 } } }] }) })
+POST /rates {"rates":[{"rate":"2%","from":"05/2010"}],"number":1} => Request(Request { desk: Desk { number: 0 }, number: Number { value: 1 }, act: AddRates(Rows { items: [RateRow { from: IssueMonth { count: 60 }, rates: Rates { fixed: Rate { hundredths: 200 }, extension: Rate { hundredths: 200 } } }] }) })
+POST /rates {"number":1,"rates":[{"from":"2010-05","rate":"3.40","extension":"4%"}]} => Request(Request { desk: Desk { number: 0 }, number: Number { value: 1 }, act: AddRates(Rows { items: [RateRow { from: IssueMonth { count: 60 }, rates: Rates { fixed: Rate { hundredths: 340 }, extension: Rate { hundredths: 400 } } }] }) })
+POST /rates {"number":1,"rates":[{"extension":null,"from":"2010-11","rate":"3.50"}]} => Request(Request { desk: Desk { number: 0 }, number: Number { value: 1 }, act: AddRates(Rows { items: [RateRow { from: IssueMonth { count: 66 }, rates: Rates { fixed: Rate { hundredths: 350 }, extension: Rate { hundredths: 350 } } }] }) })
+POST /rates {"number":1,"rates":[{"extension":"3.50%","from":"2010-11","rate":"3.50"}]} => Request(Request { desk: Desk { number: 0 }, number: Number { value: 1 }, act: AddRates(Rows { items: [RateRow { from: IssueMonth { count: 66 }, rates: Rates { fixed: Rate { hundredths: 350 }, extension: Rate { hundredths: 350 } } }] }) })
+POST /rates {"number":1,"rates":[]} => Request(Request { desk: Desk { number: 0 }, number: Number { value: 1 }, act: AddRates(Rows { items: [] }) })
+POST /bonds {"number":2,"bonds":[{"serial":"L1EE","denom":50,"issued":"2010-11","owner":7},{"coowner":8,"serial":"K-2-EE","denom":75,"issued":"2010-10","owner":7},{"coowner":null,"serial":"M3EE","denom":10000,"issued":"2011-02","owner":7}]} => Request(Request { desk: Desk { number: 0 }, number: Number { value: 2 }, act: AddBonds(Rows { items: [Bond { serial: Serial { letter: 12, number: 1 }, denom: Fifty, issued: IssueMonth { count: 66 }, owner: Customer { number: 7 }, coowner: None }, Bond { serial: Serial { letter: 11, number: 2 }, denom: SeventyFive, issued: IssueMonth { count: 65 }, owner: Customer { number: 7 }, coowner: Some(Customer { number: 8 }) }, Bond { serial: Serial { letter: 13, number: 3 }, denom: TenThousand, issued: IssueMonth { count: 69 }, owner: Customer { number: 7 }, coowner: None }] }) })
+POST /day/open {"number":3,"day":"2012-02-06"} => Request(Request { desk: Desk { number: 0 }, number: Number { value: 3 }, act: OpenDay(Day { count: 15376 }) })
+POST /redeem {"number":4,"day":"2012-02-06","payee":7,"serials":["L1EE","K2EE"]} => Request(Request { desk: Desk { number: 0 }, number: Number { value: 4 }, act: Redeem { day: Day { count: 15376 }, payee: Customer { number: 7 }, serials: Rows { items: [Serial { letter: 12, number: 1 }, Serial { letter: 11, number: 2 }] } } })
+POST /day/close  {"number" : 9223372036854775807, "day":"2012-02-06"}  => Request(Request { desk: Desk { number: 0 }, number: Number { value: 9223372036854775807 }, act: CloseDay(Day { count: 15376 }) })
+POST /day/open {"number":1,"number":2,"day":"x","day":"2012-02-06"} => Request(Request { desk: Desk { number: 0 }, number: Number { value: 2 }, act: OpenDay(Day { count: 15376 }) })
+POST /day/open {"number":1,"desk":999,"day":"2012-02-06"} => Request(Request { desk: Desk { number: 999 }, number: Number { value: 1 }, act: OpenDay(Day { count: 15376 }) })
+POST /day/open {"desk":0,"number":3,"day":"2012-02-06"} => Request(Request { desk: Desk { number: 0 }, number: Number { value: 3 }, act: OpenDay(Day { count: 15376 }) })
+POST /day/open {"desk":null,"number":3,"day":"2012-02-06"} => Request(Request { desk: Desk { number: 0 }, number: Number { value: 3 }, act: OpenDay(Day { count: 15376 }) })
+POST /day/open {"desk":1000,"number":3,"desk":7,"day":"2012-02-06"} => Request(Request { desk: Desk { number: 7 }, number: Number { value: 3 }, act: OpenDay(Day { count: 15376 }) })
+POST /rates {"desk":1,"number":1,"rates":[]} => Request(Request { desk: Desk { number: 1 }, number: Number { value: 1 }, act: AddRates(Rows { items: [] }) })
+POST /bonds {"desk":10,"number":2,"bonds":[]} => Request(Request { desk: Desk { number: 10 }, number: Number { value: 2 }, act: AddBonds(Rows { items: [] }) })
+POST /redeem {"desk":100,"number":4,"day":"2012-02-06","payee":7,"serials":[]} => Request(Request { desk: Desk { number: 100 }, number: Number { value: 4 }, act: Redeem { day: Day { count: 15376 }, payee: Customer { number: 7 }, serials: Rows { items: [] } } })
+POST /day/close {"desk":999,"number":9223372036854775807,"day":"2012-02-06"} => Request(Request { desk: Desk { number: 999 }, number: Number { value: 9223372036854775807 }, act: CloseDay(Day { count: 15376 }) })
 POST /day/open  => 64 BadJson
 POST /day/open { => 64 BadJson
 POST /day/open {} {} => 64 BadJson
@@ -54,6 +62,24 @@ POST /day/open {'number':1} => 64 BadJson
 POST /day/open [] => 65 body
 POST /day/open null => 65 body
 POST /day/open "number" => 65 body
+POST /day/open {"desk":1000,"number":0,"day":"2012-02-06"} => 65 desk
+POST /day/open {"desk":"1","number":1,"day":"2012-02-06"} => 65 desk
+POST /day/open {"desk":-1,"number":1,"day":"2012-02-06"} => 65 desk
+POST /day/open {"desk":-0,"number":1,"day":"2012-02-06"} => 65 desk
+POST /day/open {"desk":1.0,"number":1,"day":"2012-02-06"} => 65 desk
+POST /day/open {"desk":1e0,"number":1,"day":"2012-02-06"} => 65 desk
+POST /day/open {"desk":true,"x":0} => 65 desk
+POST /day/open {"desk":[],"number":1,"day":"2012-02-06"} => 65 desk
+POST /day/open {"desk":7,"desk":1000,"number":1,"day":"2012-02-06"} => 65 desk
+POST /day/open {"desk":18446744073709551616,"number":1,"day":"2012-02-06"} => 65 desk
+POST /day/open {"desk":null,"number":0,"day":"2012-02-06"} => 65 number
+POST /day/open {"desk":999} => 65 number
+POST /day/close {"desk":1000,"number":1,"day":"2012-02-06"} => 65 desk
+POST /redeem {"desk":1000,"number":1,"day":"2012-02-06","payee":7,"serials":[]} => 65 desk
+POST /rates {"desk":1000,"number":1,"rates":[]} => 65 desk
+POST /rates {"number":1,"rates":[{"desk":0,"from":"2010-11","rate":"3.50"}]} => 65 other
+POST /bonds {"desk":1000,"number":1,"bonds":[]} => 65 desk
+POST /bonds {"number":1,"bonds":[{"desk":0,"serial":"L1EE","denom":50,"issued":"2010-11","owner":7}]} => 65 other
 POST /day/open {} => 65 number
 POST /day/open {"number":0,"day":"x","y":1} => 65 number
 POST /day/open {"number":9223372036854775808,"day":"2012-02-06"} => 65 number
@@ -166,11 +192,12 @@ fn deep_bodies(rt: HostRuntime) -> Result<(), Fail> {
 
 /// Bodies, and what they ask for.
 const SHORT: &str =
-    r#"/rates {"number":1,"rates":[{"from":"2010-11","rate":"3.50"}]} => Request(Request { number: Number { value: 1 }, act: AddRates(Rows { items: [RateRow { from: IssueMonth { count: 66 }, rates: Rates { fixed: Rate { hundredths: 350 }, extension: Rate { hundredths: 350 } } }] }) })
-/bonds {"number":2,"bonds":[{"serial":"L1EE","denom":50,"issued":"2010-11","owner":7},{"serial":"K2EE","denom":75,"issued":"2010-10","owner":7},{"serial":"M3EE","denom":10000,"issued":"2011-02","owner":7}]} => Request(Request { number: Number { value: 2 }, act: AddBonds(Rows { items: [Bond { serial: Serial { letter: 12, number: 1 }, denom: Fifty, issued: IssueMonth { count: 66 }, owner: Customer { number: 7 }, coowner: None }, Bond { serial: Serial { letter: 11, number: 2 }, denom: SeventyFive, issued: IssueMonth { count: 65 }, owner: Customer { number: 7 }, coowner: None }, Bond { serial: Serial { letter: 13, number: 3 }, denom: TenThousand, issued: IssueMonth { count: 69 }, owner: Customer { number: 7 }, coowner: None }] }) })
-/day/open {"number":3,"day":"2012-02-06"} => Request(Request { number: Number { value: 3 }, act: OpenDay(Day { count: 15376 }) })
-/redeem {"number":4,"day":"2012-02-06","payee":7,"serials":["L1EE","K2EE"]} => Request(Request { number: Number { value: 4 }, act: Redeem { day: Day { count: 15376 }, payee: Customer { number: 7 }, serials: Rows { items: [Serial { letter: 12, number: 1 }, Serial { letter: 11, number: 2 }] } } })
-/day/close {"number":6,"day":"2012-02-06"} => Request(Request { number: Number { value: 6 }, act: CloseDay(Day { count: 15376 }) })
+    r#"/rates {"number":1,"rates":[{"from":"2010-11","rate":"3.50"}]} => Request(Request { desk: Desk { number: 0 }, number: Number { value: 1 }, act: AddRates(Rows { items: [RateRow { from: IssueMonth { count: 66 }, rates: Rates { fixed: Rate { hundredths: 350 }, extension: Rate { hundredths: 350 } } }] }) })
+/bonds {"number":2,"bonds":[{"serial":"L1EE","denom":50,"issued":"2010-11","owner":7},{"serial":"K2EE","denom":75,"issued":"2010-10","owner":7},{"serial":"M3EE","denom":10000,"issued":"2011-02","owner":7}]} => Request(Request { desk: Desk { number: 0 }, number: Number { value: 2 }, act: AddBonds(Rows { items: [Bond { serial: Serial { letter: 12, number: 1 }, denom: Fifty, issued: IssueMonth { count: 66 }, owner: Customer { number: 7 }, coowner: None }, Bond { serial: Serial { letter: 11, number: 2 }, denom: SeventyFive, issued: IssueMonth { count: 65 }, owner: Customer { number: 7 }, coowner: None }, Bond { serial: Serial { letter: 13, number: 3 }, denom: TenThousand, issued: IssueMonth { count: 69 }, owner: Customer { number: 7 }, coowner: None }] }) })
+/day/open {"number":3,"day":"2012-02-06"} => Request(Request { desk: Desk { number: 0 }, number: Number { value: 3 }, act: OpenDay(Day { count: 15376 }) })
+/redeem {"number":4,"day":"2012-02-06","payee":7,"serials":["L1EE","K2EE"]} => Request(Request { desk: Desk { number: 0 }, number: Number { value: 4 }, act: Redeem { day: Day { count: 15376 }, payee: Customer { number: 7 }, serials: Rows { items: [Serial { letter: 12, number: 1 }, Serial { letter: 11, number: 2 }] } } })
+/day/close {"number":6,"day":"2012-02-06"} => Request(Request { desk: Desk { number: 0 }, number: Number { value: 6 }, act: CloseDay(Day { count: 15376 }) })
+/day/open {"desk":"\u0033","number":1,"day":1} => 65 desk
 /day/open {"number":"\u0033","day":1} => 65 number
 "#;
 

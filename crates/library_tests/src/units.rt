@@ -2,6 +2,7 @@
 //! rules for spellings, not of this crate. Values stand as `Debug` shows them.
 
 use crate::comparing::{Cases, alike, compare, shown};
+use ee_desk_acts::read_desk;
 use ee_units::*;
 use std::alloc::Global;
 use std::fmt::{Debug, Display};
@@ -222,6 +223,40 @@ impl Cases for CustomerCases {
 #[test]
 fn customers(rt: HostRuntime) -> Result<(), Fail> {
     compare::<CustomerCases>(&rt, rt.alloc(), CUSTOMERS)
+}
+
+/// Spellings of desks, and what is read.
+const DESKS: &str = "\
+0 => Some(Desk { number: 0 })
+7 => Some(Desk { number: 7 })
+07 => Some(Desk { number: 7 })
+007 => Some(Desk { number: 7 })
+999 => Some(Desk { number: 999 })
+1000 => None
+0007 => None
++1 => None
++5 => None
+-1 => None
+1  => None
+ 1 => None
+ 7 => None
+1. => None
+x => None
+٣ => None
+ => None
+";
+
+struct DeskCases;
+
+impl Cases for DeskCases {
+    fn told(alloc: Global, case: &str) -> Result<String, Fail> {
+        shown(alloc, &read_desk(case))
+    }
+}
+
+#[test]
+fn desks(rt: HostRuntime) -> Result<(), Fail> {
+    compare::<DeskCases>(&rt, rt.alloc(), DESKS)
 }
 
 /// Values by their kind and number, and their printed text.

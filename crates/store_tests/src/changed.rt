@@ -1,5 +1,6 @@
 //! Stores that are changed by other statements than this program's.
 
+use crate::earlier::{ANSWERS, EXTENSIONS};
 use crate::five::{FIVE, rows_told, served};
 use sqlite::{Alter, Connection, MemStore};
 use std::alloc::Global;
@@ -9,10 +10,16 @@ use std::test::Fail;
 /// A change of the rows after that day, how it is undone, the answer to the changed store, and a row that
 /// the change made.
 const CHANGES: &str =
-    r#"UPDATE desk SET version = 7 => UPDATE desk SET version = 1 => WrongVersion => desk 1 7 - 15376
+    r#"UPDATE desk SET version = 7 => UPDATE desk SET version = 2 => WrongVersion => desk 1 7 - 15376
+UPDATE desk SET version = 0 => UPDATE desk SET version = 2 => WrongVersion => desk 1 0 - 15376
+UPDATE desk SET version = 3 => UPDATE desk SET version = 2 => WrongVersion => desk 1 3 - 15376
+UPDATE desk SET version = 1 => UPDATE desk SET version = 2 => Unusable => desk 1 1 - 15376
 UPDATE bonds SET ticket = 2 WHERE letter = 12 => UPDATE bonds SET ticket = 1 => Unusable => bonds 12 1 50 66 7 - 2
-UPDATE replies SET reply = '{"code":10,"refused":"NumberReused"}' WHERE number = 3 => UPDATE replies SET reply = '{"opened":"2012-02-06"}' WHERE number = 3 => Unusable => replies 3 {"act":"open","day":"2012-02-06"} {"code":10,"refused":"NumberReused"}
-UPDATE replies SET reply = 'none' WHERE number = 3 => UPDATE replies SET reply = '{"opened":"2012-02-06"}' WHERE number = 3 => Unusable => replies 3 {"act":"open","day":"2012-02-06"} none
+UPDATE answers SET reply = '{"code":10,"refused":"NumberReused"}' WHERE number = 3 => UPDATE answers SET reply = '{"opened":"2012-02-06"}' WHERE number = 3 => Unusable => answers 0 3 {"act":"open","day":"2012-02-06"} {"code":10,"refused":"NumberReused"}
+UPDATE answers SET reply = 'none' WHERE number = 3 => UPDATE answers SET reply = '{"opened":"2012-02-06"}' WHERE number = 3 => Unusable => answers 0 3 {"act":"open","day":"2012-02-06"} none
+UPDATE answers SET desk = 1000 WHERE number = 3 => UPDATE answers SET desk = 0 WHERE number = 3 => Unusable => answers 1000 3 {"act":"open","day":"2012-02-06"} {"opened":"2012-02-06"}
+UPDATE answers SET desk = -1 WHERE number = 3 => UPDATE answers SET desk = 0 WHERE number = 3 => Unusable => answers -1 3 {"act":"open","day":"2012-02-06"} {"opened":"2012-02-06"}
+UPDATE answers SET number = 0 WHERE number = 3 => UPDATE answers SET number = 3 WHERE number = 0 => Unusable => answers 0 0 {"act":"open","day":"2012-02-06"} {"opened":"2012-02-06"}
 UPDATE paid SET cents = 2589 WHERE place = 1 => UPDATE paid SET cents = 2588 WHERE place = 1 => Unusable => paid 1 1 12 1 2589
 INSERT INTO extensions VALUES (72, 400) => DELETE FROM extensions => Unusable => extensions 72 400
 INSERT INTO extensions VALUES (60, 200) => DELETE FROM extensions => Unusable => extensions 60 200
@@ -24,9 +31,29 @@ INSERT INTO extensions VALUES (60, 2001) => DELETE FROM extensions => Unusable =
 const OTHER_TABLES: &str = r#"DROP TABLE batches => Unusable
 CREATE TABLE batches (day INTEGER NOT NULL PRIMARY KEY, tickets INTEGER NOT NULL, bonds INTEGER NOT NULL, total INTEGER NOT NULL) STRICT; INSERT INTO batches VALUES (15376, 1, 3, 519622) => Unusable
 CREATE TABLE notes (note TEXT) => Unusable
-UPDATE desk SET version = 2 => WrongVersion
+UPDATE desk SET version = 3 => WrongVersion
 DROP TABLE desk => Unusable
 "#;
+
+/// Changes of the tables after that day, each by itself, and the answer: the table of version 1 in the place of the
+/// answers or beside them, no extensions, no answers, one number twice at a desk, and other keys.
+const OTHER_FORMS: &str = r#"DROP TABLE answers; CREATE TABLE replies (number INTEGER NOT NULL PRIMARY KEY, act TEXT NOT NULL, reply TEXT NOT NULL) STRICT => Unusable
+CREATE TABLE replies (number INTEGER NOT NULL PRIMARY KEY, act TEXT NOT NULL, reply TEXT NOT NULL) STRICT => Unusable
+DROP TABLE extensions => Unusable
+DROP TABLE answers => Unusable
+DROP TABLE answers; CREATE TABLE answers (desk INTEGER NOT NULL, number INTEGER NOT NULL, act TEXT NOT NULL, reply TEXT NOT NULL) STRICT; INSERT INTO answers VALUES (0, 3, '{"act":"open","day":"2012-02-06"}', '{"opened":"2012-02-06"}'), (0, 3, '{"act":"open","day":"2012-02-06"}', '{"opened":"2012-02-06"}') => Unusable
+DROP TABLE answers; CREATE TABLE answers (desk INTEGER NOT NULL, number INTEGER NOT NULL PRIMARY KEY, act TEXT NOT NULL, reply TEXT NOT NULL) STRICT => Unusable
+CREATE INDEX answers_number ON answers (number) => Unusable
+CREATE VIEW notes AS SELECT number FROM answers => Unusable
+"#;
+
+/// Tables that a store has alone, which is none of this program then.
+const ALONE: [&str; 4] = [
+    EXTENSIONS,
+    ANSWERS,
+    "CREATE TABLE replies (number INTEGER NOT NULL PRIMARY KEY, act TEXT NOT NULL, reply TEXT NOT NULL) STRICT",
+    "CREATE TABLE notes (note TEXT)",
+];
 
 /// Runs statements.
 fn change<S: Alter>(conn: &mut Connection<S>, statements: &str) -> Result<(), Fail> {
@@ -64,12 +91,35 @@ fn is_refused(
 #[test]
 fn changed_stores_are_refused(rt: HostRuntime) -> Result<(), Fail> {
     let alloc = rt.alloc();
-    let (text, mut conn) = served(alloc, Connection::open_in_memory(alloc)?, FIVE);
-    assert_eq!(rt; text?.as_str(), FIVE);
+    let mut conn = with_five(&rt, alloc)?;
     for case in CHANGES.lines() {
         conn = is_refused(&rt, alloc, conn, case)?;
     }
     Ok(())
+}
+
+/// A store that is changed is refused for that cause, and stays as it is.
+fn refused(
+    rt: &impl Abort,
+    alloc: Global,
+    mut conn: Connection<MemStore>,
+    statements: &str,
+    fault: &str,
+) -> Result<Connection<MemStore>, Fail> {
+    change(&mut conn, statements)?;
+    let before = rows_told(alloc, &mut conn)?;
+    let (text, mut conn) = served(alloc, conn, FIVE);
+    assert!(rt; text?.as_str() == fault, "{statements}");
+    let after = rows_told(alloc, &mut conn)?;
+    assert!(rt; before.as_str() == after.as_str(), "{statements}");
+    Ok(conn)
+}
+
+/// A store that the five requests were sent to.
+fn with_five(rt: &impl Abort, alloc: Global) -> Result<Connection<MemStore>, Fail> {
+    let (text, conn) = served(alloc, Connection::open_in_memory(alloc)?, FIVE);
+    assert_eq!(rt; text?.as_str(), FIVE);
+    Ok(conn)
 }
 
 /// A store that doesn't have just the tables of this program, in their order, is refused, and stays as it is; its
@@ -77,17 +127,18 @@ fn changed_stores_are_refused(rt: HostRuntime) -> Result<(), Fail> {
 #[test]
 fn other_tables_are_refused(rt: HostRuntime) -> Result<(), Fail> {
     let alloc = rt.alloc();
-    let (text, mut conn) = served(alloc, Connection::open_in_memory(alloc)?, FIVE);
-    assert_eq!(rt; text?.as_str(), FIVE);
+    let mut conn = with_five(&rt, alloc)?;
     for case in OTHER_TABLES.lines() {
         let (statements, fault) = case.split_once(" => ").ok_or("change")?;
-        change(&mut conn, statements)?;
-        let before = rows_told(alloc, &mut conn)?;
-        let (text, left) = served(alloc, conn, FIVE);
-        conn = left;
-        assert!(rt; text?.as_str() == fault, "{statements}");
-        let after = rows_told(alloc, &mut conn)?;
-        assert!(rt; before.as_str() == after.as_str(), "{statements}");
+        conn = refused(&rt, alloc, conn, statements, fault)?;
+    }
+    for case in OTHER_FORMS.lines() {
+        let (statements, fault) = case.split_once(" => ").ok_or("change")?;
+        let _conn = refused(&rt, alloc, with_five(&rt, alloc)?, statements, fault)?;
+    }
+    for statement in ALONE {
+        let conn = Connection::open_in_memory(alloc)?;
+        let _conn = refused(&rt, alloc, conn, statement, "Unusable")?;
     }
     Ok(())
 }

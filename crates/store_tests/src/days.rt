@@ -98,6 +98,79 @@ Total                                                      25.00          26.00 
 200 {"denom":50,"final":"2040-05","interest":"49.28","issued":"2010-05","next":"","note":"MA","price":"25.00","rate":"","value":"74.28"}
 "#;
 
+/// The day of the first desk up to its ticket, in parts. Then the second desk asks for that ticket under the same number,
+/// asks again, and gives the number to another act; closes the day under the number that the first desk would have taken
+/// next; and the last desk has the last number. Each number keeps its reply at its own desk.
+pub const DESKS: [&str; 4] = [
+    r#"> POST /rates {"number":1,"rates":[{"from":"2010-05","rate":"2.00"},{"from":"2010-11","rate":"3.50"}]}
+200 {"new":2,"same":0}
+> POST /bonds {"desk":0,"number":2,"bonds":[{"serial":"L1EE","denom":50,"issued":"2010-11","owner":7},{"serial":"K2EE","denom":75,"issued":"2010-10","owner":7,"coowner":8},{"serial":"M3EE","denom":10000,"issued":"2011-02","owner":7}]}
+200 {"new":3,"same":0}
+> POST /day/open {"desk":null,"number":3,"day":"2012-02-06"}
+200 {"opened":"2012-02-06"}
+> POST /redeem {"number":4,"day":"2012-02-06","payee":7,"serials":["L1EE","K2EE","M3EE"]}
+200 {"day":"2012-02-06","lines":[{"paid":"25.88","serial":"L1EE"},{"paid":"38.34","serial":"K2EE"},{"paid":"5132.00","serial":"M3EE"}],"payee":7,"ticket":1,"total":"5196.22"}
+"#,
+    r#"> POST /redeem {"desk":1,"number":4,"day":"2012-02-06","payee":7,"serials":["L1EE","K2EE","M3EE"]}
+409 {"code":52,"refused":"AlreadyPaid","serial":"L1EE","ticket":1}
+> POST /redeem {"desk":1,"number":4,"day":"2012-02-06","payee":7,"serials":["L1EE","K2EE","M3EE"]}
+409 {"code":52,"refused":"AlreadyPaid","serial":"L1EE","ticket":1}
+> POST /redeem {"desk":1,"number":4,"day":"2012-02-06","payee":7,"serials":["K2EE"]}
+409 {"code":10,"refused":"NumberReused"}
+> POST /redeem {"desk":0,"number":4,"day":"2012-02-06","payee":7,"serials":["L1EE","K2EE","M3EE"]}
+200 {"day":"2012-02-06","lines":[{"paid":"25.88","serial":"L1EE"},{"paid":"38.34","serial":"K2EE"},{"paid":"5132.00","serial":"M3EE"}],"payee":7,"ticket":1,"total":"5196.22"}
+"#,
+    r#"> POST /day/close {"desk":1,"number":5,"day":"2012-02-06"}
+200 {"bonds":3,"day":"2012-02-06","tickets":1,"total":"5196.22"}
+> POST /day/close {"number":5,"day":"2012-02-06"}
+409 {"code":42,"refused":"NoOpenDay"}
+> POST /day/close {"desk":1,"number":5,"day":"2012-02-06"}
+200 {"bonds":3,"day":"2012-02-06","tickets":1,"total":"5196.22"}
+> POST /day/open {"desk":999,"number":9223372036854775807,"day":"2012-02-07"}
+200 {"opened":"2012-02-07"}
+"#,
+    r#"> POST /day/open {"desk":998,"number":9223372036854775807,"day":"2012-02-07"}
+409 {"code":40,"refused":"DayOpen"}
+> POST /day/close {"desk":999,"number":9223372036854775807,"day":"2012-02-07"}
+409 {"code":10,"refused":"NumberReused"}
+> POST /day/open {"desk":999,"number":9223372036854775807,"day":"2012-02-07"}
+200 {"opened":"2012-02-07"}
+> POST /redeem {"desk":1,"number":4,"day":"2012-02-06","payee":7,"serials":["L1EE","K2EE","M3EE"]}
+409 {"code":52,"refused":"AlreadyPaid","serial":"L1EE","ticket":1}
+> POST /day/close {"desk":0,"number":5,"day":"2012-02-06"}
+409 {"code":42,"refused":"NoOpenDay"}
+> POST /day/close {"desk":1,"number":5,"day":"2012-02-06"}
+200 {"bonds":3,"day":"2012-02-06","tickets":1,"total":"5196.22"}
+> GET /ticket/1
+200 {"day":"2012-02-06","lines":[{"paid":"25.88","serial":"L1EE"},{"paid":"38.34","serial":"K2EE"},{"paid":"5132.00","serial":"M3EE"}],"payee":7,"ticket":1,"total":"5196.22"}
+> GET /batch/2012-02-06
+200 {"bonds":3,"day":"2012-02-06","tickets":1,"total":"5196.22"}
+"#,
+];
+
+/// A file of rates is imported at each desk, as a request of its own.
+pub const IMPORTED: &str = r#"+ 1/1 from,rate|2010-05,2.00|2010-11,3.50%|
+{"new":2,"same":0}
++ 1/1 from,rate|2010-05,2.00|2010-11,3.50%|
+{"new":2,"same":0}
++ 1 from,rate|2010-05,2.00|2010-11,3.50%|
+{"new":0,"same":2}
++ 0/1 from,rate|2010-05,2.00|2010-11,3.50%|
+{"new":0,"same":2}
++ 1/1 from,rate|2010-05,2.00|
+{"code":10,"refused":"NumberReused"}
++ 999/9223372036854775807 from,rate|2010-05,2.00|
+{"new":0,"same":1}
+> POST /rates {"desk":1,"number":1,"rates":[{"from":"2010-05","rate":"2.00"},{"from":"2010-11","rate":"3.50"}]}
+200 {"new":2,"same":0}
++ 2/1 from,rate|2010-05,3.00|
+{"code":21,"month":"2010-05","refused":"RateConflict"}
++ 3/1 serial,denom,issued,owner,coowner|L1EE,50,2010-11,7,|
+{"new":1,"same":0}
++ 4/1 serial,denom,issued,owner,coowner|L1EE,50,2010-11,7,|
+{"new":0,"same":1}
+"#;
+
 /// Rates, three bonds and an open day.
 pub const BEGUN: &str =
     r#"> POST /rates {"number":1,"rates":[{"from":"2010-05","rate":"2.00"},{"from":"2010-11","rate":"3.50"}]}

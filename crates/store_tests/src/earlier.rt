@@ -1,10 +1,11 @@
-//! Stores that were made before extensions could be named: they have seven tables.
+//! Stores of version 1, which kept replies under a number alone: they become stores of version 2 as they are opened, with the
+//! same rows, and each number is one of the first desk. Those that were made before extensions could be named have seven
+//! tables.
 
 use crate::five::{FIVE, rows_told, served};
-use crate::talk::compare;
-use ee_store::SqlKeeper;
 use sqlite::{Alter, Connection, MemStore};
 use std::alloc::Global;
+use std::process::Abort;
 use std::test::Fail;
 
 /// Makes the seven tables.
@@ -20,6 +21,12 @@ CREATE TABLE batches (day INTEGER NOT NULL PRIMARY KEY, tickets INTEGER NOT NULL
 CREATE TABLE replies (number INTEGER NOT NULL PRIMARY KEY, act TEXT NOT NULL, reply TEXT NOT NULL) STRICT;
 ";
 
+/// Makes the table of extensions, the last of version 1.
+pub const EXTENSIONS: &str = "CREATE TABLE extensions (period INTEGER NOT NULL PRIMARY KEY, rate INTEGER NOT NULL) STRICT;";
+
+/// Makes the table of version 2 that is in the place of `replies`.
+pub const ANSWERS: &str = "CREATE TABLE answers (desk INTEGER NOT NULL, number INTEGER NOT NULL, act TEXT NOT NULL, reply TEXT NOT NULL, PRIMARY KEY (desk, number)) STRICT;";
+
 /// The rows of the five requests of a day.
 const ROWS: &str = r#"INSERT INTO desk VALUES (1, 1, NULL, 15376);
 INSERT INTO rates VALUES (60, 200), (66, 350);
@@ -32,6 +39,12 @@ INSERT INTO replies VALUES (2, '{"act":"bonds","bonds":[{"denom":50,"issued":"20
 INSERT INTO replies VALUES (3, '{"act":"open","day":"2012-02-06"}', '{"opened":"2012-02-06"}');
 INSERT INTO replies VALUES (4, '{"act":"redeem","day":"2012-02-06","payee":7,"serials":["L1EE","K2EE","M3EE"]}', '{"day":"2012-02-06","lines":[{"paid":"25.88","serial":"L1EE"},{"paid":"38.34","serial":"K2EE"},{"paid":"5132.00","serial":"M3EE"}],"payee":7,"ticket":1,"total":"5196.22"}');
 INSERT INTO replies VALUES (5, '{"act":"close","day":"2012-02-06"}', '{"bonds":3,"day":"2012-02-06","tickets":1,"total":"5196.22"}');
+"#;
+
+/// The rows of a sixth request, which enters an extension.
+const EXTENDED_ROWS: &str = r#"INSERT INTO rates VALUES (72, 340);
+INSERT INTO extensions VALUES (72, 400);
+INSERT INTO replies VALUES (6, '{"act":"rates","rates":[{"extension":"4.00%","from":"2011-05","rate":"3.40%"}]}', '{"new":1,"same":0}');
 "#;
 
 /// An extension that is entered under a new number.
@@ -52,71 +65,225 @@ pub const SHOWN: &str =
 200 {"denom":50,"final":"2040-11","interest":"0.88","issued":"2010-11","next":"2012-03","note":"P5","price":"25.00","rate":"3.50%","value":"25.88"}
 "#;
 
-pub fn make_earlier<S: Alter>(conn: &mut Connection<S>) -> Result<(), Fail> {
+/// A number that is used again at the first desk, and the same number at the second one, where it is new, twice.
+pub const OTHER: &str =
+    r#"> POST /redeem {"number":4,"day":"2012-02-06","payee":7,"serials":["L1EE"]}
+409 {"code":10,"refused":"NumberReused"}
+> POST /redeem {"desk":1,"number":4,"day":"2012-02-06","payee":7,"serials":["L1EE","K2EE","M3EE"]}
+409 {"code":42,"refused":"NoOpenDay"}
+> POST /redeem {"desk":1,"number":4,"day":"2012-02-06","payee":7,"serials":["L1EE","K2EE","M3EE"]}
+409 {"code":42,"refused":"NoOpenDay"}
+> POST /redeem {"desk":0,"number":4,"day":"2012-02-06","payee":7,"serials":["L1EE","K2EE","M3EE"]}
+200 {"day":"2012-02-06","lines":[{"paid":"25.88","serial":"L1EE"},{"paid":"38.34","serial":"K2EE"},{"paid":"5132.00","serial":"M3EE"}],"payee":7,"ticket":1,"total":"5196.22"}
+"#;
+
+/// A store of version 1 with the rows of a day.
+#[derive(Clone, Copy, Debug, PartialEq, Eq)]
+pub enum Earlier {
+    /// Seven tables, and no table of extensions.
+    Seven,
+    /// With an empty one.
+    Eight,
+    /// With an extension in it.
+    Extended,
+}
+
+/// The stores of version 1.
+const EACH: [Earlier; 3] = [Earlier::Seven, Earlier::Eight, Earlier::Extended];
+
+pub fn make_earlier<S: Alter>(conn: &mut Connection<S>, earlier: Earlier) -> Result<(), Fail> {
     conn.execute_batch(SEVEN_TABLES)?;
+    if earlier != Earlier::Seven {
+        conn.execute_batch(EXTENSIONS)?;
+    }
     conn.execute_batch(ROWS)?;
+    if earlier == Earlier::Extended {
+        conn.execute_batch(EXTENDED_ROWS)?;
+    }
     Ok(())
 }
 
 /// An earlier store in memory.
-fn earlier(alloc: Global) -> Result<Connection<MemStore>, Fail> {
+fn in_memory(alloc: Global, earlier: Earlier) -> Result<Connection<MemStore>, Fail> {
     let mut conn = Connection::open_in_memory(alloc)?;
-    make_earlier(&mut conn)?;
+    make_earlier(&mut conn, earlier)?;
     Ok(conn)
 }
 
-/// It gives each number its first reply, and has its rows beside an empty table of extensions. An extension is entered,
-/// and is there when the store is opened again.
+/// The rows of the day's rates, and of all from the bonds to the batches, as they are told.
+const RATES: &str = "\
+rates 60 200
+rates 66 350
+";
+
+const PAYMENTS: &str = "\
+bonds 11 2 75 65 7 8 1
+bonds 12 1 50 66 7 - 1
+bonds 13 3 10000 69 7 - 1
+tickets 1 15376 7 3 519622
+paid 1 1 12 1 2588
+paid 1 2 11 2 3834
+paid 1 3 13 3 513200
+batches 15376 1 3 519622
+";
+
+/// The numbers of the day's requests, with their acts and replies.
+const REPLIES: &str = r#"1 {"act":"rates","rates":[{"from":"2010-05","rate":"2.00%"},{"from":"2010-11","rate":"3.50%"}]} {"new":2,"same":0}
+2 {"act":"bonds","bonds":[{"denom":50,"issued":"2010-11","owner":7,"serial":"L1EE"},{"coowner":8,"denom":75,"issued":"2010-10","owner":7,"serial":"K2EE"},{"denom":10000,"issued":"2011-02","owner":7,"serial":"M3EE"}]} {"new":3,"same":0}
+3 {"act":"open","day":"2012-02-06"} {"opened":"2012-02-06"}
+4 {"act":"redeem","day":"2012-02-06","payee":7,"serials":["L1EE","K2EE","M3EE"]} {"day":"2012-02-06","lines":[{"paid":"25.88","serial":"L1EE"},{"paid":"38.34","serial":"K2EE"},{"paid":"5132.00","serial":"M3EE"}],"payee":7,"ticket":1,"total":"5196.22"}
+5 {"act":"close","day":"2012-02-06"} {"bonds":3,"day":"2012-02-06","tickets":1,"total":"5196.22"}
+"#;
+
+/// What an extension adds to them.
+const NEW_RATE: &str = "rates 72 340\n";
+
+const NEW_REPLY: &str =
+    r#"6 {"act":"rates","rates":[{"extension":"4.00%","from":"2011-05","rate":"3.40%"}]} {"new":1,"same":0}"#;
+
+const NEW_EXTENSION: &str = "extensions 72 400\n";
+
+/// What the second desk adds.
+const NEW_ANSWER: &str =
+    r#"answers 1 4 {"act":"redeem","day":"2012-02-06","payee":7,"serials":["L1EE","K2EE","M3EE"]} {"code":42,"refused":"NoOpenDay"}"#;
+
+/// Lines, each after that word.
+fn after_word(alloc: Global, word: &str, lines: &str) -> Result<String, Fail> {
+    let mut text = String::new(alloc);
+    for line in lines.lines() {
+        text.push_str(word)?;
+        text.push_str(line)?;
+        text.push_str("\n")?;
+    }
+    Ok(text)
+}
+
+/// The rates and the replies of a store with an extension, or without one.
+fn rates_and_replies(alloc: Global, is_extended: bool, word: &str) -> Result<(String, String), Fail> {
+    let replies = after_word(alloc, word, REPLIES)?;
+    if !is_extended {
+        return Ok((String::from_str(alloc, RATES)?, replies));
+    }
+    Ok((
+        format!(in alloc; "{RATES}{NEW_RATE}")?,
+        format!(in alloc; "{replies}{word}{NEW_REPLY}\n")?,
+    ))
+}
+
+/// The rows of an earlier store, as they are told before it is opened.
+pub fn rows_before(alloc: Global, earlier: Earlier) -> Result<String, Fail> {
+    let (rates, replies) = rates_and_replies(alloc, earlier == Earlier::Extended, "replies ")?;
+    let extensions = match earlier {
+        Earlier::Seven => "extensions is missing\n",
+        Earlier::Eight => "",
+        Earlier::Extended => NEW_EXTENSION,
+    };
+    Ok(format!(in alloc;
+        "desk 1 1 - 15376\n{rates}{PAYMENTS}{replies}{extensions}answers is missing\n"
+    )?)
+}
+
+/// The rows that it has in version 2: with the extension or without it, and with the second desk's reply or without it.
+pub fn rows_after(alloc: Global, is_extended: bool, has_other: bool) -> Result<String, Fail> {
+    let (rates, answers) = rates_and_replies(alloc, is_extended, "answers 0 ")?;
+    let extensions = if is_extended { NEW_EXTENSION } else { "" };
+    let other = if has_other { NEW_ANSWER } else { "" };
+    let end = if has_other { "\n" } else { "" };
+    Ok(format!(in alloc;
+        "desk 1 2 - 15376\n{rates}{PAYMENTS}replies is missing\n{extensions}{answers}{other}{end}"
+    )?)
+}
+
+/// What a talk over a store tells is the talk; its rows then are these.
+fn goes_on(
+    rt: &impl Abort,
+    alloc: Global,
+    conn: Connection<MemStore>,
+    talk: &str,
+    rows: &str,
+) -> Result<Connection<MemStore>, Fail> {
+    let (text, mut conn) = served(alloc, conn, talk);
+    assert_eq!(rt; text?.as_str(), talk);
+    assert_eq!(rt; rows_told(alloc, &mut conn)?.as_str(), rows);
+    Ok(conn)
+}
+
+/// It has its rows in version 2 once it is opened, and gives each number of the first desk its first reply, whatever the
+/// second desk does under the same number; when it is opened again too.
 #[test]
 fn an_earlier_store_is_opened(rt: HostRuntime) -> Result<(), Fail> {
     let alloc = rt.alloc();
-    let mut conn = earlier(alloc)?;
-    let before = rows_told(alloc, &mut conn)?;
-    let (text, mut conn) = served(alloc, conn, FIVE);
-    assert_eq!(rt; text?.as_str(), FIVE);
-    let after = rows_told(alloc, &mut conn)?;
-    let wanted = format!(in alloc; "{after}extensions is missing\n")?;
-    assert_eq!(rt; before.as_str(), wanted.as_str());
-    for talk in [NAMED, SHOWN] {
-        let Ok(mut keeper) = SqlKeeper::adopt(conn, alloc) else {
-            return Err("not opened".into());
-        };
-        compare(&rt, alloc, &mut keeper, talk)?;
-        conn = keeper.close();
+    for earlier in EACH {
+        let is_extended = earlier == Earlier::Extended;
+        let mut conn = in_memory(alloc, earlier)?;
+        let before = rows_before(alloc, earlier)?;
+        assert_eq!(rt; rows_told(alloc, &mut conn)?.as_str(), before.as_str());
+        let rows = rows_after(alloc, is_extended, false)?;
+        conn = goes_on(&rt, alloc, conn, "", rows.as_str())?;
+        conn = goes_on(&rt, alloc, conn, FIVE, rows.as_str())?;
+        let rows = rows_after(alloc, is_extended, true)?;
+        conn = goes_on(&rt, alloc, conn, OTHER, rows.as_str())?;
+        conn = goes_on(&rt, alloc, conn, FIVE, rows.as_str())?;
+        conn = goes_on(&rt, alloc, conn, OTHER, rows.as_str())?;
+        let rows = rows_after(alloc, true, true)?;
+        conn = goes_on(&rt, alloc, conn, NAMED, rows.as_str())?;
+        let _conn = goes_on(&rt, alloc, conn, SHOWN, rows.as_str())?;
     }
-    let rows = rows_told(alloc, &mut conn)?;
-    assert!(rt; rows.ends_with("\nextensions 72 400\n"), "{rows}");
     Ok(())
 }
 
-/// Changes of an earlier store, and why it is refused then.
-const CHANGES: &str = "\
-UPDATE paid SET cents = 2589 WHERE place = 1 => Unusable
-UPDATE desk SET version = 2 => WrongVersion
+/// Changes of an earlier store, and why it is refused then: rows that stand for no books, other versions, the table of
+/// version 2 and other tables beside its own, one less, one made again after the others, and a desk without its row.
+const CHANGES: &str = r#"UPDATE paid SET cents = 2589 WHERE place = 1 => Unusable
+UPDATE replies SET reply = '{"code":10,"refused":"NumberReused"}' WHERE number = 3 => Unusable
+UPDATE replies SET act = '{"act":"open"}' WHERE number = 3 => Unusable
+UPDATE replies SET number = 0 WHERE number = 3 => Unusable
+UPDATE desk SET version = 0 => WrongVersion
+UPDATE desk SET version = 2 => Unusable
+UPDATE desk SET version = 3 => WrongVersion
+CREATE TABLE answers (desk INTEGER NOT NULL, number INTEGER NOT NULL, act TEXT NOT NULL, reply TEXT NOT NULL, PRIMARY KEY (desk, number)) STRICT => Unusable
+CREATE TABLE answers (note TEXT) => Unusable
+CREATE VIEW answers AS SELECT number FROM replies => Unusable
+CREATE TABLE notes (note TEXT) => Unusable
+CREATE INDEX replies_act ON replies (act) => Unusable
+CREATE TABLE notes (note TEXT); UPDATE desk SET version = 3 => WrongVersion
 DROP TABLE batches => Unusable
+DROP TABLE rates; CREATE TABLE rates (period INTEGER NOT NULL PRIMARY KEY, rate INTEGER NOT NULL) STRICT; INSERT INTO rates VALUES (60, 200), (66, 350) => Unusable
+DELETE FROM desk => Unusable
+"#;
+
+/// Changes of one that has the table of extensions.
+const EXTENSION_CHANGES: &str = "\
+INSERT INTO extensions VALUES (75, 400) => Unusable
+INSERT INTO extensions VALUES (60, 200) => Unusable
+INSERT INTO extensions VALUES (60, 2001) => Unusable
 ";
 
-/// A refused one still has its seven tables, and all its rows; and where the table of extensions is alone, or another
-/// table is missing beside it, the store is refused too.
-#[test]
-fn a_refused_earlier_store_stays(rt: HostRuntime) -> Result<(), Fail> {
-    let alloc = rt.alloc();
-    for case in CHANGES.lines() {
+/// Each change of an earlier store by itself: it is refused, and has all its rows then.
+fn are_refused(
+    rt: &impl Abort,
+    alloc: Global,
+    earlier: Earlier,
+    changes: &str,
+) -> Result<(), Fail> {
+    for case in changes.lines() {
         let (statements, fault) = case.split_once(" => ").ok_or("change")?;
-        let mut conn = earlier(alloc)?;
+        let mut conn = in_memory(alloc, earlier)?;
         conn.execute_batch(statements)?;
         let before = rows_told(alloc, &mut conn)?;
-        assert!(rt; before.ends_with("\nextensions is missing\n"), "{before}");
         let (text, mut conn) = served(alloc, conn, FIVE);
         assert_eq!(rt; text?.as_str(), fault, "{statements}");
         let after = rows_told(alloc, &mut conn)?;
         assert_eq!(rt; before.as_str(), after.as_str(), "{statements}");
     }
-    let mut conn = Connection::open_in_memory(alloc)?;
-    conn.execute_batch(
-        "CREATE TABLE extensions (period INTEGER NOT NULL PRIMARY KEY, rate INTEGER NOT NULL) STRICT",
-    )?;
-    let (text, _conn) = served(alloc, conn, FIVE);
-    assert_eq!(rt; text?.as_str(), "Unusable");
     Ok(())
+}
+
+#[test]
+fn a_changed_earlier_store_is_refused(rt: HostRuntime) -> Result<(), Fail> {
+    for earlier in EACH {
+        are_refused(&rt, rt.alloc(), earlier, CHANGES)?;
+    }
+    are_refused(&rt, rt.alloc(), Earlier::Eight, EXTENSION_CHANGES)?;
+    are_refused(&rt, rt.alloc(), Earlier::Extended, EXTENSION_CHANGES)
 }

@@ -1,67 +1,64 @@
-//! Stores that were made before extensions could be named, in files of which one stops: what a crash leaves then has the
-//! seven tables as they were, or the table of extensions beside them, and answers as before.
+//! Stores of version 1 in files of which one stops: what a crash leaves then has their tables as they were, or those of
+//! version 2 with the same rows, and answers as before.
 
-use crate::earlier::{NAMED, make_earlier};
+use crate::earlier::{Earlier, NAMED, OTHER, make_earlier, rows_after, rows_before};
 use crate::five::{FIVE, rows_told, served};
 use crate::stores::{ends_by_failures, few_pages, served_on};
-use sqlite::{Connection, FileStore, Files};
+use sqlite::{Connection, Files};
 use sqlite_disk::{Crash, Disk, Fuse, Memory};
 use std::alloc::Global;
 use std::process::Abort;
 use std::test::Fail;
 
-/// The rows of the five requests, as they are told.
-const TOLD: &str = r#"desk 1 1 - 15376
-rates 60 200
-rates 66 350
-bonds 11 2 75 65 7 8 1
-bonds 12 1 50 66 7 - 1
-bonds 13 3 10000 69 7 - 1
-tickets 1 15376 7 3 519622
-paid 1 1 12 1 2588
-paid 1 2 11 2 3834
-paid 1 3 13 3 513200
-batches 15376 1 3 519622
-replies 1 {"act":"rates","rates":[{"from":"2010-05","rate":"2.00%"},{"from":"2010-11","rate":"3.50%"}]} {"new":2,"same":0}
-replies 2 {"act":"bonds","bonds":[{"denom":50,"issued":"2010-11","owner":7,"serial":"L1EE"},{"coowner":8,"denom":75,"issued":"2010-10","owner":7,"serial":"K2EE"},{"denom":10000,"issued":"2011-02","owner":7,"serial":"M3EE"}]} {"new":3,"same":0}
-replies 3 {"act":"open","day":"2012-02-06"} {"opened":"2012-02-06"}
-replies 4 {"act":"redeem","day":"2012-02-06","payee":7,"serials":["L1EE","K2EE","M3EE"]} {"day":"2012-02-06","lines":[{"paid":"25.88","serial":"L1EE"},{"paid":"38.34","serial":"K2EE"},{"paid":"5132.00","serial":"M3EE"}],"payee":7,"ticket":1,"total":"5196.22"}
-replies 5 {"act":"close","day":"2012-02-06"} {"bonds":3,"day":"2012-02-06","tickets":1,"total":"5196.22"}
-"#;
+/// What comes after the five requests of the day.
+#[derive(Clone, Copy, Debug, PartialEq, Eq)]
+pub enum News {
+    /// Nothing: each of them was sent before.
+    Nothing,
+    /// An extension is entered.
+    Extension,
+    /// A second desk uses one of their numbers.
+    Desk,
+}
 
-/// The rows that are new once an extension was entered, of rates, replies and extensions.
-const NEW_RATE: &str = "rates 72 340\n";
-
-const NEW_REPLY: &str =
-    r#"replies 6 {"act":"rates","rates":[{"extension":"4.00%","from":"2011-05","rate":"3.40%"}]} {"new":1,"same":0}"#;
-
-const NEW_EXTENSION: &str = "extensions 72 400\n";
+impl News {
+    const fn text(self) -> &'static str {
+        match self {
+            News::Nothing => "",
+            News::Extension => NAMED,
+            News::Desk => OTHER,
+        }
+    }
+}
 
 /// What an earlier store may have become.
 #[derive(Clone, Copy, Debug, PartialEq, Eq, PartialOrd)]
 pub enum Form {
-    /// The seven tables and their rows.
-    Seven,
-    /// Beside them an empty table of extensions.
-    Eight,
-    /// The extension, and the reply to the request that entered it.
+    /// Its own tables and rows.
+    Earlier,
+    /// Version 2 with the same rows.
+    Migrated,
+    /// Version 2 with what was new, and the reply to it.
     Entered,
 }
 
 impl Form {
     /// The form whose rows these are.
-    pub fn of(alloc: Global, rows: &str) -> Result<Option<Form>, Fail> {
-        let (front, back) = TOLD.split_once("bonds ").ok_or("bonds")?;
-        let entered = format!(in alloc;
-            "{front}{NEW_RATE}bonds {back}{NEW_REPLY}\n{NEW_EXTENSION}"
-        )?;
-        let seven = format!(in alloc; "{TOLD}extensions is missing\n")?;
-        Ok(if rows == seven.as_str() {
-            Some(Form::Seven)
-        } else if rows == TOLD {
-            Some(Form::Eight)
+    pub fn of(
+        alloc: Global,
+        earlier: Earlier,
+        news: News,
+        rows: &str,
+    ) -> Result<Option<Form>, Fail> {
+        let is_extended = earlier == Earlier::Extended;
+        let will_be = is_extended || news == News::Extension;
+        let entered = rows_after(alloc, will_be, news == News::Desk)?;
+        Ok(if rows == rows_before(alloc, earlier)?.as_str() {
+            Some(Form::Earlier)
         } else if rows == entered.as_str() {
             Some(Form::Entered)
+        } else if rows == rows_after(alloc, is_extended, false)?.as_str() {
+            Some(Form::Migrated)
         } else {
             None
         })
@@ -77,19 +74,8 @@ enum Left {
     InLog,
 }
 
-/// The files of a connection, at rest.
-fn closed<D: Disk + Drop>(conn: Connection<FileStore<D>>) -> Result<Files<D>, Fail> {
-    match conn.close_files() {
-        Ok(files) => Ok(files),
-        Err((_, store)) => {
-            let _files = store.close();
-            Err("the log isn't written back".into())
-        }
-    }
-}
-
 /// The files of an earlier store.
-fn earlier_files(alloc: Global, left: Left) -> Result<Files<Memory>, Fail> {
+fn earlier_files(alloc: Global, earlier: Earlier, left: Left) -> Result<Files<Memory>, Fail> {
     let files = Files {
         log: Memory::new(alloc),
         db: Memory::new(alloc),
@@ -98,10 +84,13 @@ fn earlier_files(alloc: Global, left: Left) -> Result<Files<Memory>, Fail> {
         return Err("no store was made".into());
     };
     conn.execute_batch("BEGIN")?;
-    make_earlier(&mut conn)?;
+    make_earlier(&mut conn, earlier)?;
     conn.execute_batch("COMMIT")?;
     match left {
-        Left::AtRest => closed(conn),
+        Left::AtRest => match conn.close_files() {
+            Ok(files) => Ok(files),
+            Err(_) => Err("the log wasn't written back".into()),
+        },
         Left::InLog => Ok(conn.into_store().close()),
     }
 }
@@ -137,12 +126,41 @@ pub fn shown_on<D: Disk + Drop>(
     let (told, mut conn) = served(alloc, conn, talk);
     let told = told?;
     let after = rows_told(alloc, &mut conn)?;
+    let Ok(files) = conn.close_files() else {
+        return Err("the log isn't written back".into());
+    };
     let shown = Shown {
         before,
         told,
         after,
     };
-    Ok((shown, closed(conn)?))
+    Ok((shown, files))
+}
+
+/// An earlier store, its files, and what is asked of it.
+#[derive(Drop)]
+struct Case {
+    earlier: Earlier,
+    files: Files<Memory>,
+    news: News,
+    talk: String,
+}
+
+impl Case {
+    fn new(alloc: Global, earlier: Earlier, left: Left, news: News) -> Result<Case, Fail> {
+        let files = earlier_files(alloc, earlier, left)?;
+        let talk = format!(in alloc; "{FIVE}{}", news.text())?;
+        Ok(Case {
+            earlier,
+            files,
+            news,
+            talk,
+        })
+    }
+
+    fn form_of(&self, alloc: Global, rows: &str) -> Result<Option<Form>, Fail> {
+        Form::of(alloc, self.earlier, self.news, rows)
+    }
 }
 
 /// What a talk over files that stop tells, whether it went to its end, and what is shown after a crash.
@@ -153,18 +171,13 @@ struct Runs {
     shown: Shown,
 }
 
-/// A talk over an earlier store of which the log stops at one call and the other file at another; then again over what a
-/// crash leaves.
-fn stopped(
-    alloc: Global,
-    earlier: &Files<Memory>,
-    log: u64,
-    db: u64,
-    talk: &str,
-) -> Result<Runs, Fail> {
+/// The talk over an earlier store of which the log stops at one call and the other file at another; then again over what
+/// a crash leaves.
+fn stopped(alloc: Global, case: &Case, log: u64, db: u64) -> Result<Runs, Fail> {
+    let talk = case.talk.as_str();
     let files = Files {
-        log: Fuse::new(copied(alloc, &earlier.log)?, log),
-        db: Fuse::new(copied(alloc, &earlier.db)?, db),
+        log: Fuse::new(copied(alloc, &case.files.log)?, log),
+        db: Fuse::new(copied(alloc, &case.files.db)?, db),
     };
     let (first, closed, mut files) = served_on(alloc, files, talk);
     let first = first?;
@@ -179,9 +192,9 @@ fn stopped(
     })
 }
 
-/// The form that a stop left. No other cause is told than that the store failed. A store that was opened has the table,
-/// and one that gave the new reply the extension; it is opened again with the same answers, and then has both.
-fn form_left(rt: &impl Abort, alloc: Global, runs: &Runs, talk: &str) -> Result<Form, Fail> {
+/// The form that a stop left. No other cause is told than that the store failed. A store that was opened is of version
+/// 2, and one that gave each reply has what was new; it is opened again with the same answers, and then has it too.
+fn form_left(rt: &impl Abort, alloc: Global, case: &Case, runs: &Runs) -> Result<Form, Fail> {
     let first = runs.first.as_str();
     let opened = first.starts_with("> ");
     assert!(rt;
@@ -190,68 +203,84 @@ fn form_left(rt: &impl Abort, alloc: Global, runs: &Runs, talk: &str) -> Result<
     );
     assert!(rt; ends_by_failures(first), "{first}");
     let shown = &runs.shown;
-    assert_eq!(rt; shown.told.as_str(), talk);
-    let form = Form::of(alloc, shown.before.as_str())?.ok_or("a form between")?;
-    let after = Form::of(alloc, shown.after.as_str())?.ok_or("another form")?;
-    let replied = first.ends_with(NAMED);
-    assert!(rt; !opened || form >= Form::Eight, "{first}");
+    assert_eq!(rt; shown.told.as_str(), case.talk.as_str());
+    let form = case.form_of(alloc, shown.before.as_str())?;
+    let form = form.ok_or("a form between")?;
+    let after = case.form_of(alloc, shown.after.as_str())?;
+    assert_eq!(rt; after, Some(Form::Entered));
+    let replied = first == case.talk.as_str();
+    assert!(rt; !opened || form >= Form::Migrated, "{first}");
     assert!(rt; !replied || form == Form::Entered, "{first}");
-    let wanted = if talk.ends_with(NAMED) {
-        Form::Entered
-    } else {
-        Form::Eight
-    };
-    assert!(rt; form <= wanted, "{first}");
-    assert_eq!(rt; after, wanted);
     Ok(form)
 }
 
-/// One file stops at each of its calls in turn, until a run comes to its end. Whether a stop left the empty table is
-/// told; the first one leaves the seven tables.
+/// One file stops at each of its calls in turn, until a run comes to its end. Whether a stop left version 2 is told; the
+/// first one leaves the store as it was.
 fn stops_at_each_call(
     rt: &impl Abort,
     alloc: Global,
-    earlier: &Files<Memory>,
+    case: &Case,
     on_log: bool,
-    talk: &str,
 ) -> Result<bool, Fail> {
-    let mut left_eight = false;
+    let mut left_migrated = false;
     for k in 0..10_000 {
         let (log, db) = if on_log { (k, u64::MAX) } else { (u64::MAX, k) };
-        let runs = stopped(alloc, earlier, log, db, talk)?;
-        let form = form_left(rt, alloc, &runs, talk)?;
-        assert!(rt; k > 0 || form == Form::Seven, "{form:?}");
+        let runs = stopped(alloc, case, log, db)?;
+        let form = form_left(rt, alloc, case, &runs)?;
+        assert!(rt; k > 0 || form == Form::Earlier, "{form:?}");
         if runs.is_whole {
-            return Ok(left_eight);
+            return Ok(left_migrated);
         }
-        left_eight |= form == Form::Eight;
+        left_migrated |= form >= Form::Migrated;
     }
     Err("each run was stopped".into())
 }
 
-fn stops_of_both(rt: &impl Abort, alloc: Global, left: Left, talk: &str) -> Result<(), Fail> {
-    let earlier = earlier_files(alloc, left)?;
-    let on_log = stops_at_each_call(rt, alloc, &earlier, true, talk)?;
-    let on_file = stops_at_each_call(rt, alloc, &earlier, false, talk)?;
-    assert!(rt; on_log || on_file, "no stop left the empty table");
+fn stops_of_both(rt: &impl Abort, alloc: Global, case: &Case) -> Result<(), Fail> {
+    let on_log = stops_at_each_call(rt, alloc, case, true)?;
+    let on_file = stops_at_each_call(rt, alloc, case, false)?;
+    assert!(rt; on_log || on_file, "no stop left version 2");
     Ok(())
 }
 
-/// The five requests again.
-#[test]
-fn an_earlier_store_stops_as_it_is_opened(rt: HostRuntime) -> Result<(), Fail> {
-    stops_of_both(&rt, rt.alloc(), Left::AtRest, FIVE)
+/// The five requests again, of a store that was left so.
+fn opened_again(rt: &impl Abort, alloc: Global, earlier: Earlier, left: Left) -> Result<(), Fail> {
+    let case = Case::new(alloc, earlier, left, News::Nothing)?;
+    stops_of_both(rt, alloc, &case)
 }
 
-/// The same, where the log isn't written back.
 #[test]
-fn an_earlier_store_in_its_log_stops(rt: HostRuntime) -> Result<(), Fail> {
-    stops_of_both(&rt, rt.alloc(), Left::InLog, FIVE)
+fn a_store_of_seven_tables_stops(rt: HostRuntime) -> Result<(), Fail> {
+    opened_again(&rt, rt.alloc(), Earlier::Seven, Left::AtRest)
+}
+
+#[test]
+fn a_store_of_seven_tables_in_its_log_stops(rt: HostRuntime) -> Result<(), Fail> {
+    opened_again(&rt, rt.alloc(), Earlier::Seven, Left::InLog)
+}
+
+#[test]
+fn a_store_of_eight_tables_stops(rt: HostRuntime) -> Result<(), Fail> {
+    opened_again(&rt, rt.alloc(), Earlier::Extended, Left::AtRest)
+}
+
+#[test]
+fn a_store_of_eight_tables_in_its_log_stops(rt: HostRuntime) -> Result<(), Fail> {
+    opened_again(&rt, rt.alloc(), Earlier::Extended, Left::InLog)
 }
 
 /// The five requests again, and then an extension is entered.
 #[test]
-fn an_earlier_store_stops_as_an_extension_is_entered(rt: HostRuntime) -> Result<(), Fail> {
-    let talk = format!(in rt.alloc(); "{FIVE}{NAMED}")?;
-    stops_of_both(&rt, rt.alloc(), Left::AtRest, talk.as_str())
+fn a_store_stops_as_an_extension_is_entered(rt: HostRuntime) -> Result<(), Fail> {
+    let alloc = rt.alloc();
+    let case = Case::new(alloc, Earlier::Eight, Left::AtRest, News::Extension)?;
+    stops_of_both(&rt, alloc, &case)
+}
+
+/// The five requests again, and then a second desk uses one of their numbers.
+#[test]
+fn a_store_stops_as_a_second_desk_asks(rt: HostRuntime) -> Result<(), Fail> {
+    let alloc = rt.alloc();
+    let case = Case::new(alloc, Earlier::Seven, Left::AtRest, News::Desk)?;
+    stops_of_both(&rt, alloc, &case)
 }

@@ -3,7 +3,7 @@
 use crate::talk::replay;
 use ee_store::{NotAdopted, OpenFault, SqlKeeper};
 use sqlite::types::ValueRef;
-use sqlite::{Alter, Connection, Row};
+use sqlite::{Alter, Connection, Error, ErrorCode, Row};
 use std::alloc::Global;
 use std::fmt::Write;
 use std::test::Fail;
@@ -22,7 +22,7 @@ pub const FIVE: &str =
 200 {"bonds":3,"day":"2012-02-06","tickets":1,"total":"5196.22"}
 "#;
 
-/// What shows all rows of each table, in order of key.
+/// What shows all rows of each table, in order of key: those of version 2, and the replies of version 1.
 const QUERIES: &str = "\
 desk: SELECT id, version, day, last_day FROM desk ORDER BY id
 rates: SELECT period, rate FROM rates ORDER BY period
@@ -32,6 +32,7 @@ paid: SELECT ticket, place, letter, number, cents FROM paid ORDER BY ticket, pla
 batches: SELECT day, tickets, bonds, total FROM batches ORDER BY day
 replies: SELECT number, act, reply FROM replies ORDER BY number
 extensions: SELECT period, rate FROM extensions ORDER BY period
+answers: SELECT desk, number, act, reply FROM answers ORDER BY desk, number
 ";
 
 /// Adds a row of a table as a line: the table's name, and the values; `-` stands for one that is missing.
@@ -61,6 +62,7 @@ fn add_rows<S: Alter>(
                 add_row(text, table, row)?;
             }
         }
+        Err(Error::SqliteFailure(ErrorCode::OutOfMemory)) => return Err("NoMemory".into()),
         Err(_) => writeln!(text, "{table} is missing")?,
     }
     Ok(())

@@ -11,7 +11,11 @@ mod devices;
 #[cfg(test)]
 mod earlier;
 #[cfg(test)]
+mod earlier_bytes;
+#[cfg(test)]
 mod earlier_file;
+#[cfg(test)]
+mod earlier_many;
 #[cfg(test)]
 mod earlier_stops;
 #[cfg(test)]

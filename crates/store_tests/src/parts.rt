@@ -1,6 +1,8 @@
 //! Days over a keeper in memory and over tables, which answer alike.
 
-use crate::days::{BEGUN, DAY, EXTENDED, LAST, LOST, MERGES, ORDERS, SHOWN, TICKETS};
+use crate::days::{
+    BEGUN, DAY, DESKS, EXTENDED, IMPORTED, LAST, LOST, MERGES, ORDERS, SHOWN, TICKETS,
+};
 use crate::faults::{CALLS, HEADS, STREAMS, ended, ends};
 use crate::imports::{FILES, LONG_FILES};
 use crate::lists::LISTS;
@@ -35,13 +37,14 @@ enum Part {
 }
 
 /// Days, lists and files.
-const DAYS_AND_FILES: [Part; 9] = [
+const DAYS_AND_FILES: [Part; 10] = [
     Part::Talks(DAY, ""),
     Part::Talks(IMPORTS, ""),
     Part::Talks(DAYS, ""),
     Part::Talks(LAST, ""),
     Part::Talks(LISTS, ""),
     Part::Talks(EXTENDED, ""),
+    Part::Talks(IMPORTED, ""),
     Part::Talks(MOST, LONG),
     Part::Talks(FILES, ""),
     Part::Talks(LONG_FILES, ""),
@@ -243,6 +246,19 @@ fn days_that_begin_alike(rt: HostRuntime) -> Result<(), Fail> {
 #[test]
 fn faults(rt: HostRuntime) -> Result<(), Fail> {
     all_over_both(&rt, rt.alloc(), &FAULTS)
+}
+
+/// A day of several desks, in one go over a keeper in memory, and over tables that are taken over again between its parts.
+#[test]
+fn desks_number_their_requests_apart(rt: HostRuntime) -> Result<(), Fail> {
+    let alloc = rt.alloc();
+    let mut list = ListKeeper::empty(alloc);
+    let mut conn = Connection::open_in_memory(alloc)?;
+    for talk in DESKS {
+        compare(&rt, alloc, &mut list, talk)?;
+        conn = over_tables(&rt, alloc, conn, Part::Talks(talk, ""), false)?;
+    }
+    Ok(())
 }
 
 #[test]

@@ -1,6 +1,6 @@
 //! Stores in files: days in a file that is closed and opened again, and stops at each call of a file.
 
-use crate::days::{DAY, EXTENDED, LAST};
+use crate::days::{DAY, DESKS, EXTENDED, LAST};
 use crate::five::{FIVE, fault_told, served};
 use crate::lists::LISTS;
 use crate::refusals::{DAYS, IMPORTS};
@@ -44,6 +44,19 @@ fn in_file(rt: &HostRuntime, path: &str, talk: &str) -> Result<String, Fail> {
         }
         Err(not) => fault_told(rt.alloc(), not.fault),
     }
+}
+
+/// A day of several desks over a file that is closed and opened again between its parts.
+#[test]
+fn desks_in_a_file(rt: HostRuntime) -> Result<(), Fail> {
+    let path = fresh(&rt, "desks.db")?;
+    let mut list = ListKeeper::empty(rt.alloc());
+    for talk in DESKS {
+        let wanted = answers(rt.alloc(), &mut list, talk)?;
+        let told = in_file(&rt, &path, talk)?;
+        assert!(rt; told.as_str() == wanted.as_str(), "{told} and not {wanted}");
+    }
+    forget(&rt, &path)
 }
 
 /// The days over a keeper in memory and over a file, which is closed and opened again for the same once

@@ -1,11 +1,11 @@
 //! The statements on the tables of a store, each found by what was written.
 
-use crate::earlier::SEVEN_TABLES;
+use crate::earlier::{ANSWERS, EXTENSIONS, SEVEN_TABLES};
 use ee_store_tables::{
-    BatchRow, Failure, PaidRow, RateRow, ReplyRow, Serial, TicketRow, UnpaidBond, add_batch,
-    add_bond, add_extension, add_rate, add_reply, add_ticket, bonds_of_owner, day_tickets,
-    find_batch, find_bond, find_desk, find_extension, find_rate, find_reply, find_ticket,
-    first_ticket, last_ticket, pay_lines, set_day, ticket_lines,
+    BatchRow, Failure, PaidRow, RateRow, ReplyRow, Serial, TicketRow, UnpaidBond, add_answer,
+    add_batch, add_bond, add_extension, add_rate, add_ticket, bonds_of_owner, day_tickets,
+    find_answer, find_batch, find_bond, find_desk, find_extension, find_rate, find_ticket,
+    first_ticket, last_ticket, pay_lines, set_day, set_version, ticket_lines,
 };
 use sqlite::{Alter, Connection, Error, Transaction};
 use std::alloc::Global;
@@ -15,6 +15,9 @@ use std::test::Fail;
 /// 2015-05-04.
 const DAY: u64 = 16_559;
 
+/// The last number of a request.
+const LAST: u64 = 9_223_372_036_854_775_807;
+
 const A1: Serial = Serial {
     letter: 1,
     number: 1,
@@ -22,10 +25,9 @@ const A1: Serial = Serial {
 
 fn make_tables<S: Alter>(conn: &mut Connection<S>) -> Result<(), Error> {
     conn.execute_batch(SEVEN_TABLES)?;
-    conn.execute_batch(
-        "CREATE TABLE extensions (period INTEGER NOT NULL PRIMARY KEY, rate INTEGER NOT NULL) STRICT;
-        INSERT INTO desk (id, version) VALUES (1, 1)",
-    )
+    conn.execute_batch(EXTENSIONS)?;
+    conn.execute_batch(ANSWERS)?;
+    conn.execute_batch("DROP TABLE replies; INSERT INTO desk (id, version) VALUES (1, 1)")
 }
 
 /// Rates and bonds; a second rate or extension for a period and a second bond of a serial number change nothing.
@@ -54,10 +56,11 @@ fn register<S: Alter>(tx: &mut Transaction<'_, S>) -> Result<(), Failure> {
     add_bond(tx, last)?;
     add_bond(tx, first)?;
     add_bond(tx, UnpaidBond { denom: 75, ..first })?;
+    set_version(tx, 2)?;
     set_day(tx, Some(DAY), Some(DAY - 1))
 }
 
-/// A ticket of one bond, the batch of its day, and a reply.
+/// A ticket of one bond, the batch of its day, and a reply under the last number of the last desk.
 fn redeem<S: Alter>(tx: &mut Transaction<'_, S>, entry: &ReplyRow) -> Result<(), Failure> {
     let ticket = TicketRow {
         day: DAY,
@@ -75,10 +78,10 @@ fn redeem<S: Alter>(tx: &mut Transaction<'_, S>, entry: &ReplyRow) -> Result<(),
     let batch = BatchRow {
         tickets: 1,
         bonds: 1,
-        total: 9_223_372_036_854_775_807,
+        total: LAST,
     };
     add_batch(tx, DAY, batch)?;
-    add_reply(tx, 9_223_372_036_854_775_807, entry)
+    add_answer(tx, 999, LAST, entry)
 }
 
 /// Adds a line: a name, and a value as `Debug` shows it.
@@ -120,7 +123,7 @@ fn add_tickets<S: Alter>(
     add(text, "of the day", &day_tickets(tx, alloc, DAY))
 }
 
-/// Adds the ticket's lines, the batch and the reply.
+/// Adds the ticket's lines, the batch, the reply, and whether there is one at another desk, or under another number.
 fn add_rest<S: Alter>(
     alloc: Global,
     text: &mut String,
@@ -128,15 +131,19 @@ fn add_rest<S: Alter>(
 ) -> Result<(), Fail> {
     add(text, "lines", &ticket_lines(tx, alloc, 1))?;
     add(text, "batch", &find_batch(tx, DAY))?;
-    let Ok(Some(entry)) = find_reply(tx, 9_223_372_036_854_775_807) else {
+    let Ok(Some(entry)) = find_answer(tx, 999, LAST) else {
         return Err("the reply was not found".into());
     };
-    add(text, "reply", &entry.reply)
+    add(text, "reply", &entry.reply)?;
+    let other = find_answer(tx, 0, LAST)?;
+    add(text, "at the first desk", &other.is_some())?;
+    let other = find_answer(tx, 999, 1)?;
+    add(text, "under the first number", &other.is_some())
 }
 
 /// What is found of all that.
 const FOUND: &str =
-    r#"desk: Ok(Some(DeskRow { version: 1, day: Some(16559), last_day: Some(16558) }))
+    r#"desk: Ok(Some(DeskRow { version: 2, day: Some(16559), last_day: Some(16558) }))
 rate of 60: Ok(Some(350))
 rate of 66: Ok(None)
 extension of 60: Ok(Some(400))
@@ -152,6 +159,8 @@ of the day: Ok([TicketSum { ticket: 1, bonds: 1, total: 2974 }])
 lines: Ok([PlacedLine { place: 1, letter: 1, number: 1, cents: 2974 }])
 batch: Ok(Some(BatchRow { tickets: 1, bonds: 1, total: 9223372036854775807 }))
 reply: "paid"
+at the first desk: false
+under the first number: false
 again: Err(StoreFailed)
 "#;
 

@@ -3,8 +3,8 @@
 //! - `> METHOD PATH BODY` sends a message by the command `apply`: the status and the body of its answer.
 //! - `~ BYTES` sends bytes by `apply`: how it ends, and the whole answer. `|` stands for a line's end, and `~` for the
 //!   byte FF.
-//! - `+ NUMBER FILE` imports a file, which is one of rates where it begins with `from`: its reply, or the fault. `|`
-//!   stands for a line feed.
+//! - `+ NUMBER FILE` imports a file under a number of the first desk, and `+ DESK/NUMBER FILE` under one of another; it is
+//!   one of rates where it begins with `from`: its reply, or the fault. `|` stands for a line feed.
 //! - `- CUSTOMER ROOM` exports an inventory to a device of so many bytes: how it ends, and what the device has.
 //! - `% ROOM METHOD PATH BODY` serves a message to a device of so many bytes: how many messages were answered, why it
 //!   ended, and the status and the front of the body that the device has.
@@ -15,7 +15,7 @@
 use crate::devices::Narrow;
 use ee_cli_actions::{Outcome, RunFault, StoreFault, apply_to};
 use ee_counter::{export_inventory, import_inventory, import_rates, serve};
-use ee_desk_acts::Number;
+use ee_desk_acts::{Desk, Number, read_desk};
 use ee_desk_texts::reply_text;
 use ee_keeper::Keeper;
 use std::alloc::Global;
@@ -162,16 +162,24 @@ fn send<K: Keeper>(alloc: Global, keeper: &mut K, line: &str) -> Result<String, 
     Ok(text)
 }
 
+/// The desk and the number that `DESK/NUMBER` names, or `NUMBER` of the first desk.
+fn place(text: &str) -> Result<(Desk, Number), Fail> {
+    let (desk, number) = text.split_once('/').unwrap_or(("0", text));
+    let desk = read_desk(desk).ok_or("desk")?;
+    let number = Number::new(number.parse()?).ok_or("number")?;
+    Ok((desk, number))
+}
+
 /// What is told of a file.
 fn enter<K: Keeper>(alloc: Global, keeper: &mut K, line: &str) -> Result<String, Fail> {
-    let (number, file) = line.split_once(' ').ok_or("number")?;
-    let number = Number::new(number.parse()?).ok_or("number")?;
+    let (named, file) = line.split_once(' ').ok_or("number")?;
+    let (desk, number) = place(named)?;
     let file = bytes_of(alloc, file, "\n")?;
     let mut reader = file.as_slice();
     let reply = if file.starts_with(b"from") {
-        import_rates(alloc, keeper, number, &mut reader)
+        import_rates(alloc, keeper, desk, number, &mut reader)
     } else {
-        import_inventory(alloc, keeper, number, &mut reader)
+        import_inventory(alloc, keeper, desk, number, &mut reader)
     };
     match reply {
         Ok(reply) => Ok(reply_text(alloc, &reply)?),

@@ -42,7 +42,7 @@ room_less = RoomLemmas.room_less
 
 -- so it is of trees
 pub room_in_less : (db : Trees) (m n : ℕ) → m ≤ n → HasRoomIn n db → HasRoomIn m db
-room_in_less db m n less room = (RoomLemmas.rises_less 1 m n less (db 2) room.0, RoomLemmas.rises_less 1 m n less (db 7) room.1)
+room_in_less db m n less room = (RoomLemmas.rises_less 1 m n less (db 2) room.0, RoomLemmas.rises_less 1 m n less (db 7) room.1, RoomLemmas.rises_less 1 m n less (db 13) room.2)
 
 -- a transaction begins with the room that the trees have
 pub begun_room : (old start : State) → start ≡ begun old → (IsTrue old.is_open → IsDatabase old.now) → (n : ℕ) → (IsTrue old.is_open → HasRoomIn n old.now.trees) → HasRoom n start

@@ -2,13 +2,14 @@ use Rattle.std.proofs.Common.{rules, ◌≡◌, Some, ◌∙◌}
 use Rattle.ee_units.specs.Spelling.{SerialNumber}
 use Rattle.ee_desk_acts.specs.PlainBooks.{ticket_of}
 use Rattle.ee_store_contents.specs.Reading.{each, days_in, rates_in, bond_in, tickets_in, batch_in, mark_at}
+use Rattle.ee_store_making.specs.Forms.{version_of}
 use Rattle.ee_store_contents.proofs.FoundParts.{parts_found}
 use Rattle.ee_store_contents.proofs.contents.parts_in.Goals as goal
 
 pub returns-clause-value : goal.returns-clause-value
 returns-clause-value c =
     let stored = c.args.stored.now in
-    let days : days_in stored.desk.items ≡ Some c.in-Some.days = search rules in
+    let days : days_in (version_of stored.form) stored.desk.items ≡ Some c.in-Some.days = search rules in
     let rates : rates_in stored.rates.items stored.extensions.items ≡ Some c.in-Some-2.rates.items = search rules in
     let tickets : tickets_in stored.tickets.items stored.lines.items ≡ Some c.in-Some-3.tickets.items = search rules in
     let marks : (q : SerialNumber) → mark_at c.in_ok-marks.marks.entries q ≡ ticket_of c.in-Some-3.tickets.items q = search rules in

@@ -2,7 +2,8 @@ use Rattle.std.proofs.Common.{◌≡◌, sym, ◌∙◌, subst}
 use Rattle.std.specs.Prelude.{Result, Ok, Err, IfErr, IsErrAnd}
 use Rattle.ee_desk_acts.specs.Repeats.{Content}
 use Rattle.ee_store_opening.specs.Whole.{rows_of}
-use Rattle.ee_store_contents.specs.Standing.{StandFor}
+use Rattle.ee_store_contents.specs.Standing.{StandAt}
+use Rattle.ee_store_making.specs.Forms.{version_of}
 use Rattle.ee_store_contents.specs.declared.contents.ContentFault.{ContentFault}
 use Rattle.ee_store_contents.specs.declared.contents.ContentFault.TheVariants.{Unusable}
 use Rattle.ee_store_contents.proofs.Founded.{not_sound, tables_founded}
@@ -15,7 +16,7 @@ handed_on P (Err told) fault is p = subst P (sym is) p
 pub returns-in_err-indexes-clause-unusable : goal.returns-in_err-indexes-clause-unusable
 returns-in_err-indexes-clause-unusable c =
     let stored = c.args.stored.now in
-    handed_on (λ fault. fault ≡ Unusable → (content : Content) → StandFor (rows_of stored) content → ⊥) c.from_residual-in_err-indexes.result c.in_err-indexes.field-0.0
+    handed_on (λ fault. fault ≡ Unusable → (content : Content) → StandAt (version_of stored.form) (rows_of stored) content → ⊥) c.from_residual-in_err-indexes.result c.in_err-indexes.field-0.0
     c.from_residual-in_err-indexes.ensures.1
     (λ is content stands. not_sound stored c.in_ok-parts.parts c.requires c.in_ok-parts.ensures.found (c.in_err-indexes.ensures.unusable is) content stands)
 

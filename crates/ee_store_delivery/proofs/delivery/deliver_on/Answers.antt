@@ -221,7 +221,7 @@ returns-clause-room g c =
     subst (λ h. TakesRequestRoom old (state g.S.Store h)) (sym same) (λ clean ready S has n room.
     let before = clean_before middle new c.in_ok-commit.ensures.survives clean in
     committed_with middle new n (c.in_ok-commit.ensures.ok clean).1
-    (c.in_ok-is_new.ensures.room before (inside_content old start is settled S has) S (sees_content old start is settled S has) n (begun_with old start is (500 + n) room)))
+    (c.in_ok-is_new.ensures.room before (inside_content old start is settled S has) S (sees_content old start is settled S has) n (begun_with old start is (501 + n) room)))
 
 pub returns-in_err-is_new-clause-cause : goal.returns-in_err-is_new-clause-cause
 returns-in_err-is_new-clause-cause g c =
@@ -237,7 +237,7 @@ returns-in_err-is_new-clause-cause g c =
     let has = can.1 in
     handed_on _ c.from_residual.result c.in_err-is_new.field-0.0 c.from_residual.ensures.1
     (excused old start is middle new c.serve_in.ensures.crash c.drop-tx.ensures.survives _
-    (c.in_err-is_new.ensures.cause before (inside_content old start is settled S has) (ap (λ (s : State). s.step_limit) is ∙ can.0.1) S (sees_content old start is settled S has) (can.2, begun_with old start is 500 can.3))))
+    (c.in_err-is_new.ensures.cause before (inside_content old start is settled S has) (ap (λ (s : State). s.step_limit) is ∙ can.0.1) S (sees_content old start is settled S has) (can.2, begun_with old start is 501 can.3))))
 
 pub returns-in_err-commit-clause-cause : goal.returns-in_err-commit-clause-cause
 returns-in_err-commit-clause-cause g c =

@@ -19,13 +19,13 @@ pub returns-in-Some-clause-serves : goal.returns-in-Some-clause-serves
 returns-in-Some-clause-serves g c clean inside S sees =
     let q = c.args.request.now in
     let old = state g.S.Store c.args.tx.now.conn.now in
-    let new = state g.S.Store c.find_reply.new.tx.conn.now in
+    let new = state g.S.Store c.find_answer.new.tx.conn.now in
     let found = c.in_ok-entry.ensures.found clean (rows_of S) sees.rows in
     let act : c.as_str-kept_act.result.now ≡ string_bytes c.in-Some.entry.act = search rules in
     let reply : c.as_str-kept_reply.result.now ≡ string_bytes c.in-Some.entry.reply = search rules in
     let asked : c.as_str-asked.result.now ≡ act_text q.act = search rules in
     is_again old new q S (row_of_reply c.in-Some.entry) c.in_ok-reply.reply (c.in_ok-entry.ensures.same clean inside) sees
-    (sym (ap (option_map row_of_reply) c.in-Some.is) ∙ found ∙ ap (finite.get (rows_of S).replies) c.value.ensures.value)
+    (sym (ap (option_map row_of_reply) c.in-Some.is) ∙ found ∙ ap (finite.get (rows_of S).answers) (λ i. (c.number-desk.ensures.value i, c.value.ensures.value i)))
     c.canonical.ensures.fits
     (λ number kept again is fits one two three. c.in_ok-reply.ensures.told number kept again is fits (act ∙ one) (reply ∙ two) (asked ∙ three))
 
@@ -33,58 +33,58 @@ pub returns-clause-serves : goal.returns-clause-serves
 returns-clause-serves g c clean inside S sees =
     let q = c.args.request.now in
     let old = state g.S.Store c.args.tx.now.conn.now in
-    let middle = state g.S.Store c.find_reply.new.tx.conn.now in
+    let middle = state g.S.Store c.find_answer.new.tx.conn.now in
     let new = state g.S.Store c.decide_in.new.tx.conn.now in
     let before = clean_before middle new c.decide_in.ensures.crash clean in
     let same = c.in_ok-entry.ensures.same before inside in
     let still : SeesContent middle S = record { right = sees.right; rows = unchanged_sees old middle (rows_of S) same sees.rows } in
     let found = c.in_ok-entry.ensures.found before (rows_of S) sees.rows in
     let nothing : c.in_ok-entry.field-0 ≡ None = search rules in
-    let none = is_new S (number_of q) (sym (ap (option_map row_of_reply) nothing) ∙ found ∙ ap (finite.get (rows_of S).replies) c.value.ensures.value) in
+    let none = is_new S (number_of q) (sym (ap (option_map row_of_reply) nothing) ∙ found ∙ ap (finite.get (rows_of S).answers) (λ i. (c.number-desk.ensures.value i, c.value.ensures.value i))) in
     is_first new q S c.in_ok-reply-2.reply none (c.in_ok-reply-2.ensures.decides clean (unchanged_inside old middle same inside) S still none)
 
 pub returns-in_err-entry-clause-cause : goal.returns-in_err-entry-clause-cause
 returns-in_err-entry-clause-cause g c clean inside unlimited S sees any =
-    statement_failed (state g.S.Store c.args.tx.now.conn.now) (state g.S.Store c.find_reply.new.tx.conn.now) c.from_residual-in_err-entry.result c.in_err-entry.field-0.0 c.from_residual-in_err-entry.ensures.1
-    (c.in_err-entry.ensures.cause clean inside unlimited (rows_of S) sees.rows (kept_texts S sees.right c.value.result))
+    statement_failed (state g.S.Store c.args.tx.now.conn.now) (state g.S.Store c.find_answer.new.tx.conn.now) c.from_residual-in_err-entry.result c.in_err-entry.field-0.0 c.from_residual-in_err-entry.ensures.1
+    (c.in_err-entry.ensures.cause clean inside unlimited (rows_of S) sees.rows (kept_texts S sees.right (c.number-desk.result, c.value.result)))
 
 pub returns-in_err-reply-clause-cause : goal.returns-in_err-reply-clause-cause
 returns-in_err-reply-clause-cause g c clean inside unlimited S sees any =
     let n = number_of c.args.request.now in
     let reply : c.as_str-kept_reply.result.now ≡ string_bytes c.in-Some.entry.reply = search rules in
     let found = kept_by (row_of_reply c.in-Some.entry) (finite.get S.kept n)
-    (sym (ap (option_map row_of_reply) c.in-Some.is) ∙ c.in_ok-entry.ensures.found clean (rows_of S) sees.rows ∙ ap (finite.get (rows_of S).replies) c.value.ensures.value ∙ get_reply_row S.kept n) in
+    (sym (ap (option_map row_of_reply) c.in-Some.is) ∙ c.in_ok-entry.ensures.found clean (rows_of S) sees.rows ∙ ap (finite.get (rows_of S).answers) (λ i. (c.number-desk.ensures.value i, c.value.ensures.value i)) ∙ get_reply_row S.kept n) in
     let right = subst (λ o. IfSome o (IsKept n)) found.1 (sees.right.kept n) in
-    memory_handed_on (state g.S.Store c.args.tx.now.conn.now) (state g.S.Store c.find_reply.new.tx.conn.now) c.from_residual-in_err-reply.result c.in_err-reply.field-0.0 c.from_residual-in_err-reply.ensures.1
+    memory_handed_on (state g.S.Store c.args.tx.now.conn.now) (state g.S.Store c.find_answer.new.tx.conn.now) c.from_residual-in_err-reply.result c.in_err-reply.field-0.0 c.from_residual-in_err-reply.ensures.1
     (c.in_err-reply.ensures.read n found.0 right (reply ∙ ap (λ r. r.reply) found.2))
 
 pub returns-in_err-reply-2-clause-cause : goal.returns-in_err-reply-2-clause-cause
 returns-in_err-reply-2-clause-cause g c clean inside unlimited S sees any =
     let q = c.args.request.now in
     let old = state g.S.Store c.args.tx.now.conn.now in
-    let middle = state g.S.Store c.find_reply.new.tx.conn.now in
+    let middle = state g.S.Store c.find_answer.new.tx.conn.now in
     let new = state g.S.Store c.decide_in.new.tx.conn.now in
     let before = clean_before middle new c.decide_in.ensures.crash clean in
     let same = c.in_ok-entry.ensures.same before inside in
     let still : SeesContent middle S = record { right = sees.right; rows = unchanged_sees old middle (rows_of S) same sees.rows } in
     let found = c.in_ok-entry.ensures.found before (rows_of S) sees.rows in
     let nothing : c.in_ok-entry.field-0 ≡ None = search rules in
-    let none = is_new S (number_of q) (sym (ap (option_map row_of_reply) nothing) ∙ found ∙ ap (finite.get (rows_of S).replies) c.value.ensures.value) in
+    let none = is_new S (number_of q) (sym (ap (option_map row_of_reply) nothing) ∙ found ∙ ap (finite.get (rows_of S).answers) (λ i. (c.number-desk.ensures.value i, c.value.ensures.value i))) in
     handed_on _ c.from_residual-in_err-reply-2.result c.in_err-reply-2.field-0.0 c.from_residual-in_err-reply-2.ensures.1
-    (excused_later old middle new clean c.find_reply.ensures.crash c.decide_in.ensures.crash _
-    (c.in_err-reply-2.ensures.cause clean (unchanged_inside old middle same inside) (c.find_reply.ensures.crash.limit ∙ unlimited) S still (none, any.0, unchanged_room old middle 500 same any.1)))
+    (excused_later old middle new clean c.find_answer.ensures.crash c.decide_in.ensures.crash _
+    (c.in_err-reply-2.ensures.cause clean (unchanged_inside old middle same inside) (c.find_answer.ensures.crash.limit ∙ unlimited) S still (none, any.0, unchanged_room old middle 501 same any.1)))
 
 pub returns-in-Some-clause-room : goal.returns-in-Some-clause-room
 returns-in-Some-clause-room g c clean inside S sees n room =
     let old = state g.S.Store c.args.tx.now.conn.now in
-    unchanged_room old (state g.S.Store c.find_reply.new.tx.conn.now) n (c.in_ok-entry.ensures.same clean inside) (room_less old n (500 + n) (omega arith) room)
+    unchanged_room old (state g.S.Store c.find_answer.new.tx.conn.now) n (c.in_ok-entry.ensures.same clean inside) (room_less old n (501 + n) (omega arith) room)
 
 pub returns-clause-room : goal.returns-clause-room
 returns-clause-room g c clean inside S sees n room =
     let old = state g.S.Store c.args.tx.now.conn.now in
-    let middle = state g.S.Store c.find_reply.new.tx.conn.now in
+    let middle = state g.S.Store c.find_answer.new.tx.conn.now in
     let new = state g.S.Store c.decide_in.new.tx.conn.now in
     let before = clean_before middle new c.decide_in.ensures.crash clean in
     let same = c.in_ok-entry.ensures.same before inside in
     let still : SeesContent middle S = record { right = sees.right; rows = unchanged_sees old middle (rows_of S) same sees.rows } in
-    c.in_ok-reply-2.ensures.room clean (unchanged_inside old middle same inside) S still n (unchanged_room old middle (500 + n) same room)
+    c.in_ok-reply-2.ensures.room clean (unchanged_inside old middle same inside) S still n (unchanged_room old middle (501 + n) same room)

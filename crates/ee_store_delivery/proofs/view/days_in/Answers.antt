@@ -9,7 +9,7 @@ use Rattle.ee_store_delivery.proofs.view.days_in.Goals as goal
 pub returns-clause-found : goal.returns-clause-found
 returns-clause-found g c clean inside =
     IfOk-weaker c.days_shown.result _ _ (λ days shown S sees.
-    shown (record { version = 1; day = S.books.day; last_day = S.books.last_day }) (c.in_ok-found.ensures.found clean (rows_of S) sees.rows ∙ get_desk_row S.books.day S.books.last_day))
+    shown (record { version = 2; day = S.books.day; last_day = S.books.last_day }) (c.in_ok-found.ensures.found clean (rows_of S) sees.rows ∙ get_desk_row 2 S.books.day S.books.last_day))
     c.days_shown.ensures.value
 
 pub returns-clause-only_reads : goal.returns-clause-only_reads
@@ -32,4 +32,4 @@ pub returns-clause-cause : goal.returns-clause-cause
 returns-clause-cause g c clean inside unlimited S sees any =
     let fits = parts_in_range S sees.right in
     served _ c.days_shown.result
-    (c.days_shown.ensures.read (record { version = 1; day = S.books.day; last_day = S.books.last_day }) (c.in_ok-found.ensures.found clean (rows_of S) sees.rows ∙ get_desk_row S.books.day S.books.last_day) fits.day fits.last_day)
+    (c.days_shown.ensures.read (record { version = 2; day = S.books.day; last_day = S.books.last_day }) (c.in_ok-found.ensures.found clean (rows_of S) sees.rows ∙ get_desk_row 2 S.books.day S.books.last_day) fits.day fits.last_day)

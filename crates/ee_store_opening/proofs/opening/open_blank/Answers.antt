@@ -4,11 +4,11 @@ use Rattle.sqlite.proofs.StateLemmas.{survives_then}
 use Rattle.ee_store_tables.specs.Rows.{Stores}
 use Rattle.ee_store_tables.proofs.Lemmas.Transactions.{clean_before, on_err_from}
 use Rattle.std.proofs.lemmas.Result.{IfOk-weaker}
-use Rattle.ee_store_opening.specs.Making.{IsBlank, first_rows}
-use Rattle.ee_store_opening.proofs.OpenLemmas.{still_ok, leaves_less, two_faults, first_is_first, first_readable}
-use Rattle.ee_store_opening.specs.declared.forms.Form.TheVariants.{Current}
-use Rattle.ee_store_opening.proofs.FormLemmas.{had_form, kept_had}
-use Rattle.ee_store_opening.proofs.FaultLemmas.{handed_on}
+use Rattle.ee_store_making.specs.Making.{IsBlank, first_rows}
+use Rattle.ee_store_making.proofs.Lemmas.Faults.{two_faults, handed_on}
+use Rattle.ee_store_opening.proofs.OpenLemmas.{still_ok, leaves_less, first_is_first, first_readable}
+use Rattle.ee_store_making.specs.declared.forms.Form.TheVariants.{Current}
+use Rattle.ee_store_making.proofs.Lemmas.Forms.{had_form, kept_had}
 use Rattle.ee_store_opening.proofs.VersionLemmas.{one_version}
 use Rattle.ee_store_opening.proofs.opening.open_blank.Goals as goal
 
@@ -55,7 +55,7 @@ returns-clause-blank g c clean =
     let made = c.in_ok-make_tables.ensures.made before in
     two_faults c.read_all.result (λ e usable version blank is_open. (
       λ unusable. usable unusable first_rows (made blank) (c.in_ok-make_tables.ensures.open before).1 first_readable,
-      λ wrong. one_version first_rows first_is_first (version wrong first_rows (made blank)),
+      λ wrong. one_version Current first_rows first_is_first (version wrong first_rows (made blank)),
     )) (c.read_all.ensures.usable clean) (c.read_all.ensures.version clean)
 
 pub returns-clause-open : goal.returns-clause-open

@@ -1,16 +1,19 @@
-use Rattle.std.proofs.Common.{inl, inr, sym, ap, ◌∙◌}
+use Rattle.std.proofs.Common.{inl, inr, sym, ap, subst, ◌∙◌}
 use Rattle.std.proofs.lemmas.Result.{on_ok_weaker}
 use Rattle.sqlite.specs.Effect.{Database}
 use Rattle.sqlite.specs.Held.{state}
 use Rattle.sqlite.proofs.StateLemmas.{survives_weaker}
 use Rattle.ee_store_tables.specs.Rows.{Stores}
 use Rattle.ee_store_tables.proofs.Lemmas.Transactions.{on_err_from}
-use Rattle.ee_store_opening.specs.Making.{IsBlank, first_rows}
+use Rattle.ee_store_making.specs.Making.{IsBlank, first_rows}
 use Rattle.ee_store_opening.specs.Whole.{rows_of}
-use Rattle.ee_store_opening.proofs.CauseLemmas.{excused_if_open, never_both}
-use Rattle.ee_store_opening.proofs.FormLemmas.{form_found, found_current, had_as, none_found, not_blank}
+use Rattle.ee_store_making.proofs.Lemmas.Causes.{excused_if_open, never_both}
+use Rattle.ee_store_making.proofs.Lemmas.Forms.{form_found, found_current, current_form, one_form, had_as, none_found, not_blank}
 use Rattle.ee_store_opening.proofs.OpenLemmas.{leaves_less}
-use Rattle.ee_store_opening.proofs.ReadLemmas.{always, each_fault, each_ok}
+use Rattle.ee_store_making.proofs.Lemmas.Faults.{always, each_fault}
+use Rattle.ee_store_making.specs.Forms.{HadIn}
+use Rattle.ee_store_opening.specs.Opening.{IsOfForm, AreReadable}
+use Rattle.ee_store_opening.proofs.ReadLemmas.{both_ok, each_ok}
 use Rattle.ee_store_opening.proofs.opening.open_rows.Goals as goal
 
 pub returns-in-Some-clause-found : goal.returns-in-Some-clause-found
@@ -18,7 +21,8 @@ returns-in-Some-clause-found g c clean =
     let old = state g.S.Store c.args.conn.now in
     let form = c.in-Some.form in
     let ours = form_found old (c.is_autocommit.ensures.settled c.if-not-is_autocommit.false) c.schema-2.result.now c.schema-2.ensures.value form ((c.form_of.ensures form).0 c.in-Some.is) in
-    each_ok c.read_all.result (λ all found. (form, found ours)) (c.read_all.ensures.found clean)
+    let new = state g.S.Store c.read_all.new.conn in
+    both_ok c.read_all.result (λ all found is. subst (λ f. HadIn f new (rows_of all)) (sym is) (found ours)) (c.read_all.ensures.found clean) c.read_all.ensures.form
 
 pub returns-in-Some-clause-current : goal.returns-in-Some-clause-current
 returns-in-Some-clause-current g c clean =
@@ -26,7 +30,8 @@ returns-in-Some-clause-current g c clean =
     let new = state g.S.Store c.read_all.new.conn in
     let form = c.in-Some.form in
     let ours = form_found old (c.is_autocommit.ensures.settled c.if-not-is_autocommit.false) c.schema-2.result.now c.schema-2.ensures.value form ((c.form_of.ensures form).0 c.in-Some.is) in
-    each_ok c.read_all.result (λ all found. found_current form old new (rows_of all) ours (c.read_all.ensures.kept clean) (found ours)) (c.read_all.ensures.found clean)
+    both_ok c.read_all.result (λ all found is was_open which.
+    (is ∙ current_form form old ours was_open which, found_current form old new (rows_of all) ours (c.read_all.ensures.kept clean) (found ours) which)) (c.read_all.ensures.found clean) c.read_all.ensures.form
 
 pub returns-in-Some-clause-ours : goal.returns-in-Some-clause-ours
 returns-in-Some-clause-ours g c clean =
@@ -61,7 +66,8 @@ returns-in-Some-clause-first g c clean =
     let old = state g.S.Store c.args.conn.now in
     let form = c.in-Some.form in
     let ours = form_found old (c.is_autocommit.ensures.settled c.if-not-is_autocommit.false) c.schema-2.result.now c.schema-2.ensures.value form ((c.form_of.ensures form).0 c.in-Some.is) in
-    on_ok_weaker c.read_all.result (λ first other rows had is_open. first rows (had_as form old rows other ours had)) (c.read_all.ensures.first clean)
+    on_ok_weaker c.read_all.result (λ first other rows had is_open.
+    subst (λ f. IsOfForm f rows) (one_form form other (sym (ours is_open) ∙ (had is_open).0)) (first rows (had_as form old rows other ours had))) (c.read_all.ensures.first clean)
 
 pub returns-in-Some-clause-version : goal.returns-in-Some-clause-version
 returns-in-Some-clause-version g c clean =
@@ -82,7 +88,8 @@ returns-in-Some-clause-unusable g c clean =
     let old = state g.S.Store c.args.conn.now in
     let form = c.in-Some.form in
     let ours = form_found old (c.is_autocommit.ensures.settled c.if-not-is_autocommit.false) c.schema-2.result.now c.schema-2.ensures.value form ((c.form_of.ensures form).0 c.in-Some.is) in
-    each_fault c.read_all.result (λ e usable told other rows had is_open. usable told rows (had_as form old rows other ours had) is_open) (c.read_all.ensures.usable clean)
+    each_fault c.read_all.result (λ e usable told other rows had is_open readable.
+    usable told rows (had_as form old rows other ours had) is_open (subst (λ f. AreReadable f rows) (sym (one_form form other (sym (ours is_open) ∙ (had is_open).0))) readable)) (c.read_all.ensures.usable clean)
 
 pub returns-in-Some-clause-blank : goal.returns-in-Some-clause-blank
 returns-in-Some-clause-blank g c clean =

@@ -1,13 +1,13 @@
 use Rattle.ee_store_opening.proofs.opening.refusal.Goals as goal
 
 pub returns-in-Ok-clause-kept : goal.returns-in-Ok-clause-kept
-returns-in-Ok-clause-kept g c clean = c.check_version.ensures.kept clean
+returns-in-Ok-clause-kept g c clean = c.known_version.ensures.kept clean
 
 pub returns-in-Ok-clause-crash : goal.returns-in-Ok-clause-crash
-returns-in-Ok-clause-crash g c = c.check_version.ensures.crash
+returns-in-Ok-clause-crash g c = c.known_version.ensures.crash
 
 pub returns-in-Err-clause-kept : goal.returns-in-Err-clause-kept
-returns-in-Err-clause-kept g c clean = c.check_version.ensures.kept clean
+returns-in-Err-clause-kept g c clean = c.known_version.ensures.kept clean
 
 pub returns-in-Err-clause-crash : goal.returns-in-Err-clause-crash
-returns-in-Err-clause-crash g c = c.check_version.ensures.crash
+returns-in-Err-clause-crash g c = c.known_version.ensures.crash

@@ -7,11 +7,11 @@ use Rattle.sqlite.specs.State.{HasCleanDisk, IsUnchanged, Survives, Shown, Commi
 use Rattle.sqlite.proofs.StateLemmas.{survives_then}
 use Rattle.sqlite.proofs.Callers.{given_begin, unchanged_then}
 use Rattle.ee_store_tables.proofs.Lemmas.Transactions.{query_keeps}
-use Rattle.ee_store_opening.specs.Faults.{IsExcused}
-use Rattle.ee_store_opening.specs.Reading.{IsNeverRefused}
-use Rattle.ee_store_opening.proofs.FaultLemmas.{query_usable, told_as, handed_on}
+use Rattle.ee_store_making.specs.Faults.{IsExcused}
+use Rattle.ee_store_making.specs.Asking.{IsNeverRefused}
+use Rattle.ee_store_making.proofs.Lemmas.Faults.{query_usable, told_as, handed_on}
 use Rattle.ee_store_opening.proofs.ReadLemmas.{one_more, one_longer}
-use Rattle.ee_store_opening.proofs.CauseLemmas.{query_excused, cause_then}
+use Rattle.ee_store_making.proofs.Lemmas.Causes.{query_excused, cause_then}
 use Rattle.ee_store_opening.proofs.AskLemmas.{commits_nothing, begun_asking, shown_after, begins_before, last_of}
 use Rattle.ee_store_opening.proofs.reading.read_rows.Goals as goal
 

@@ -2,10 +2,10 @@ use Rattle.std.proofs.Common.{[], refl, sym, subst}
 use Rattle.sqlite.specs.Held.{state}
 use Rattle.sqlite.specs.Given.{IsPlain}
 use Rattle.sqlite.specs.Listing.{understood}
-use Rattle.ee_store_opening.specs.Faults.{IsExcused}
-use Rattle.ee_store_opening.specs.Reading.{IsNeverRefused}
-use Rattle.ee_store_opening.proofs.CauseLemmas.{excused_if_open}
-use Rattle.ee_store_opening.proofs.FaultLemmas.{handed_on}
+use Rattle.ee_store_making.specs.Faults.{IsExcused}
+use Rattle.ee_store_making.specs.Asking.{IsNeverRefused}
+use Rattle.ee_store_making.proofs.Lemmas.Causes.{excused_if_open}
+use Rattle.ee_store_making.proofs.Lemmas.Faults.{handed_on}
 use Rattle.ee_store_opening.proofs.ScanLemmas.{is_plain, answers, shows_all, unreadable}
 use Rattle.ee_store_opening.proofs.reading.read_table.Goals as goal
 

@@ -9,15 +9,15 @@ use Rattle.ee_store_tables.specs.Rows.{bond_columns}
 use Rattle.ee_store_tables.proofs.Lemmas.Transactions.{clean_before}
 use Rattle.ee_store_opening.specs.declared.entries.Rowid.{Rowid}
 use Rattle.ee_store_opening.specs.Reading.{ShowsAll}
-use Rattle.ee_store_opening.specs.Forms.{schema_of}
+use Rattle.ee_store_making.specs.Forms.{schema_of}
 use Rattle.ee_store_opening.proofs.AskLemmas.{only_bonds, only_bond_rowids}
 use Rattle.ee_store_opening.proofs.QuestionLemmas.{by_key, by_pair, bond_terms, rowid_terms, asks_bonds, asks_bond_rowids}
 use Rattle.ee_store_opening.proofs.ReadLemmas.{still_form}
-use Rattle.ee_store_opening.proofs.FaultLemmas.{handed_on}
+use Rattle.ee_store_making.proofs.Lemmas.Faults.{handed_on}
 use Rattle.ee_store_opening.proofs.CanRead.{can_read_bonds, can_read_bond_rowids}
 use Rattle.ee_store_opening.proofs.EachTable.{holds_bonds, listed_bonds}
-use Rattle.ee_store_opening.specs.Faults.{IsExcused}
-use Rattle.ee_store_opening.proofs.CauseLemmas.{excused_then}
+use Rattle.ee_store_making.specs.Faults.{IsExcused}
+use Rattle.ee_store_making.proofs.Lemmas.Causes.{excused_then}
 use Rattle.ee_store_opening.proofs.NeverLemmas.{never_bonds, never_bond_rowids}
 use Rattle.ee_store_opening.proofs.tables.read_bonds.Goals as goal
 

@@ -1,8 +1,9 @@
 use Rattle.sqlite.specs.Held.{state}
-use Rattle.ee_store_opening.specs.Forms.{schema_of}
+use Rattle.ee_store_making.specs.Forms.{schema_of}
 use Rattle.ee_store_opening.proofs.AskLemmas.{only_desk}
 use Rattle.ee_store_opening.proofs.QuestionLemmas.{by_key, desk_terms, asks_desk}
-use Rattle.ee_store_opening.proofs.ReadLemmas.{both_ok, each_ok, each_fault}
+use Rattle.ee_store_making.proofs.Lemmas.Faults.{each_fault}
+use Rattle.ee_store_opening.proofs.ReadLemmas.{both_ok, each_ok}
 use Rattle.ee_store_opening.proofs.CanRead.{can_read_desk}
 use Rattle.ee_store_opening.proofs.EachTable.{holds_desk, listed_desk}
 use Rattle.ee_store_opening.proofs.NeverLemmas.{never_desk}

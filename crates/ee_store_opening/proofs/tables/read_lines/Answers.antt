@@ -9,15 +9,15 @@ use Rattle.ee_store_tables.specs.Rows.{paid_columns}
 use Rattle.ee_store_tables.proofs.Lemmas.Transactions.{clean_before}
 use Rattle.ee_store_opening.specs.declared.entries.Rowid.{Rowid}
 use Rattle.ee_store_opening.specs.Reading.{ShowsAll}
-use Rattle.ee_store_opening.specs.Forms.{schema_of}
+use Rattle.ee_store_making.specs.Forms.{schema_of}
 use Rattle.ee_store_opening.proofs.AskLemmas.{only_lines, only_line_rowids}
 use Rattle.ee_store_opening.proofs.QuestionLemmas.{by_key, by_pair, line_terms, rowid_terms, asks_lines, asks_line_rowids}
 use Rattle.ee_store_opening.proofs.ReadLemmas.{still_form}
-use Rattle.ee_store_opening.proofs.FaultLemmas.{handed_on}
+use Rattle.ee_store_making.proofs.Lemmas.Faults.{handed_on}
 use Rattle.ee_store_opening.proofs.CanRead.{can_read_lines, can_read_line_rowids}
 use Rattle.ee_store_opening.proofs.EachTable.{holds_lines, listed_lines}
-use Rattle.ee_store_opening.specs.Faults.{IsExcused}
-use Rattle.ee_store_opening.proofs.CauseLemmas.{excused_then}
+use Rattle.ee_store_making.specs.Faults.{IsExcused}
+use Rattle.ee_store_making.proofs.Lemmas.Causes.{excused_then}
 use Rattle.ee_store_opening.proofs.NeverLemmas.{never_lines, never_line_rowids}
 use Rattle.ee_store_opening.proofs.tables.read_lines.Goals as goal
 

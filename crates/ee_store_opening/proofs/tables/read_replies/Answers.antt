@@ -1,8 +1,9 @@
 use Rattle.sqlite.specs.Held.{state}
-use Rattle.ee_store_opening.specs.Forms.{schema_of}
+use Rattle.ee_store_making.specs.Forms.{schema_of}
 use Rattle.ee_store_opening.proofs.AskLemmas.{only_replies}
 use Rattle.ee_store_opening.proofs.QuestionLemmas.{by_key, reply_terms, asks_replies}
-use Rattle.ee_store_opening.proofs.ReadLemmas.{both_ok, each_ok, each_fault}
+use Rattle.ee_store_making.proofs.Lemmas.Faults.{each_fault}
+use Rattle.ee_store_opening.proofs.ReadLemmas.{both_ok, each_ok}
 use Rattle.ee_store_opening.proofs.CanRead.{can_read_replies}
 use Rattle.ee_store_opening.proofs.EachTable.{holds_replies, listed_replies}
 use Rattle.ee_store_opening.proofs.NeverLemmas.{never_replies}
@@ -15,8 +16,8 @@ pub returns-clause-found : goal.returns-clause-found
 returns-clause-found g c clean ours sound =
     let old = state g.S.Store c.args.conn.now in
     both_ok c.read_table.result (λ found shows up.
-    let it = shows (schema_of ours.0) 11 reply_terms by_key (asks_replies ours.0) ours.1 in
-    holds_replies ours.0 old.now (sound it.0) (ours.1 it.0) found.items it.1 up) (c.read_table.ensures.found clean) c.read_table.ensures.rises
+    let it = shows (schema_of ours.0) 11 reply_terms by_key (asks_replies ours.0 ours.1) ours.2 in
+    holds_replies ours.0 ours.1 old.now (sound it.0) (ours.2 it.0) found.items it.1 up) (c.read_table.ensures.found clean) c.read_table.ensures.rises
 
 pub returns-clause-listed : goal.returns-clause-listed
 returns-clause-listed g c = each_ok c.read_table.result (λ found up. listed_replies found.items up) c.read_table.ensures.rises
@@ -24,7 +25,7 @@ returns-clause-listed g c = each_ok c.read_table.result (λ found up. listed_rep
 pub returns-clause-usable : goal.returns-clause-usable
 returns-clause-usable g c clean =
     let old = state g.S.Store c.args.conn.now in
-    each_fault c.read_table.result (λ e usable unusable ours is_open m written holds. usable unusable (schema_of ours.0) 11 reply_terms by_key (asks_replies ours.0) ours.1 is_open (can_read_replies old.now.trees m written holds)) (c.read_table.ensures.usable clean)
+    each_fault c.read_table.result (λ e usable unusable ours is_open m written holds. usable unusable (schema_of ours.0) 11 reply_terms by_key (asks_replies ours.0 ours.1) ours.2 is_open (can_read_replies old.now.trees m written holds)) (c.read_table.ensures.usable clean)
 
 pub returns-clause-cause : goal.returns-clause-cause
-returns-clause-cause g c clean ours = c.read_table.ensures.cause (schema_of ours.0) (never_replies ours.0) clean ours.1
+returns-clause-cause g c clean ours = c.read_table.ensures.cause (schema_of ours.0) (never_replies ours.0 ours.1) clean ours.2

@@ -3,14 +3,14 @@ use Rattle.sqlite.specs.Listing.{understood}
 use Rattle.sqlite.proofs.Callers.{IsPlain}
 use Rattle.sqlite.proofs.InsideLemmas.{unchanged_keeps}
 use Rattle.sqlite.specs.Held.{state}
-use Rattle.ee_store_opening.specs.Forms.{HasOurTables}
-use Rattle.ee_store_opening.specs.Reading.{IsNeverRefused}
-use Rattle.ee_store_opening.specs.declared.faults.OpenFault.TheVariants.{Unusable}
+use Rattle.ee_store_making.specs.Forms.{HasOurTables}
+use Rattle.ee_store_making.specs.Asking.{IsNeverRefused}
+use Rattle.ee_store_making.specs.declared.faults.OpenFault.TheVariants.{Unusable}
 use Rattle.ee_store_tables.proofs.Lemmas.Transactions.{query_keeps, shown_open}
 use Rattle.ee_store_opening.proofs.AskLemmas.{only_version, commits_nothing, shown_same}
-use Rattle.ee_store_opening.specs.Faults.{IsExcused}
-use Rattle.ee_store_opening.proofs.FaultLemmas.{query_usable, told_as}
-use Rattle.ee_store_opening.proofs.CauseLemmas.{excused_if_open, query_excused}
+use Rattle.ee_store_making.specs.Faults.{IsExcused}
+use Rattle.ee_store_making.proofs.Lemmas.Faults.{query_usable, told_as}
+use Rattle.ee_store_making.proofs.Lemmas.Causes.{excused_if_open, query_excused}
 use Rattle.ee_store_opening.proofs.NeverLemmas.{never_version}
 use Rattle.ee_store_opening.proofs.VersionLemmas.{version_text, version_plain, given_id, shows_version}
 use Rattle.ee_store_opening.proofs.version.version_rows.Goals as goal

@@ -3,9 +3,10 @@ use Rattle.sqlite.specs.Held.{state}
 use Rattle.std.proofs.lemmas.Result.{on_ok_weaker}
 use Rattle.std.proofs.lemmas.Bool.{not-true}
 use Rattle.ee_store_opening.specs.Whole.{rows_of}
-use Rattle.ee_store_opening.proofs.ReadLemmas.{each_ok, each_fault, under_ok, ok_then}
+use Rattle.ee_store_making.proofs.Lemmas.Faults.{each_fault}
+use Rattle.ee_store_opening.proofs.ReadLemmas.{each_ok, under_ok, ok_then}
 use Rattle.ee_store_opening.proofs.WholeLemmas.{are_in_order, has_ours, sound_now, sees_what_it_has, are_those, has_read}
-use Rattle.ee_store_opening.proofs.FormLemmas.{had_form}
+use Rattle.ee_store_making.proofs.Lemmas.Forms.{had_form}
 use Rattle.ee_store_opening.proofs.whole.read_all.Goals as goal
 
 pub returns-clause-found : goal.returns-clause-found

@@ -5,11 +5,11 @@ use Rattle.sqlite.proofs.Callers.{unchanged_then}
 use Rattle.sqlite.proofs.InsideLemmas.{keeps_then}
 use Rattle.ee_store_tables.proofs.Lemmas.Transactions.{clean_before}
 use Rattle.ee_store_opening.specs.declared.whole.AllRows.{AllRows}
-use Rattle.ee_store_opening.specs.Faults.{IsExcused}
-use Rattle.ee_store_opening.specs.Forms.{HoldsIn}
+use Rattle.ee_store_making.specs.Faults.{IsExcused}
+use Rattle.ee_store_making.specs.Forms.{HoldsIn}
 use Rattle.ee_store_opening.specs.Whole.{HoldsPayments, HoldsRecords, HoldsExtensions}
-use Rattle.ee_store_opening.proofs.CauseLemmas.{excused_then, then_survives}
-use Rattle.ee_store_opening.proofs.FaultLemmas.{handed_on}
+use Rattle.ee_store_making.proofs.Lemmas.Causes.{excused_then, then_survives}
+use Rattle.ee_store_making.proofs.Lemmas.Faults.{handed_on}
 use Rattle.ee_store_opening.proofs.ReadLemmas.{sound_after, still_form}
 use Rattle.ee_store_opening.proofs.WholeLemmas.{holds_all}
 use Rattle.ee_store_opening.proofs.whole.read_in.Goals as goal
@@ -99,21 +99,22 @@ returns-clause-found g c clean ours_0 sound_0 =
     let back_2 = same_2.0.now_is ∙ same_1.0.now_is in
     let register = c.in_ok-register.ensures.found clean_1 (c.args.form, ours_0) sound_0 in
     let payments = subst (λ (d : Database). HoldsPayments d.trees c.in_ok-payments.payments) same_1.0.now_is (c.in_ok-payments.ensures.found clean_2 (c.args.form, ours_1) sound_1) in
-    let records = subst (λ (d : Database). HoldsRecords d.trees c.in_ok-records.records) back_2 (c.in_ok-records.ensures.found clean_3 (c.args.form, ours_2) sound_2) in
+    let records = subst (λ (d : Database). HoldsRecords c.args.form d.trees c.in_ok-records.records) back_2 (c.in_ok-records.ensures.found clean_3 ours_2 sound_2) in
     let extensions = subst (λ (d : Database). HoldsExtensions c.args.form d.trees c.in_ok-extensions.extensions.items) (same_3.0.now_is ∙ back_2) (c.in_ok-extensions.ensures.found clean_4 ours_3 sound_3) in
     let all : AllRows
     = record {
+      form = c.args.form;
       desk = c.in_ok-register.register.desk;
       rates = c.in_ok-register.register.rates;
       bonds = c.in_ok-register.register.bonds;
       tickets = c.in_ok-payments.payments.tickets;
       lines = c.in_ok-payments.payments.lines;
       batches = c.in_ok-records.records.batches;
-      replies = c.in_ok-records.records.replies;
       extensions = c.in_ok-extensions.extensions;
+      answers = c.in_ok-records.records.answers;
     } in
     holds_all c.args.form at_0.now.trees all
-    (record { desk = register.desk; rates = register.rates; bonds = register.bonds; tickets = payments.tickets; paid = payments.lines; batches = records.batches; replies = records.replies }) extensions
+    (record { desk = register.desk; rates = register.rates; bonds = register.bonds; tickets = payments.tickets; paid = payments.lines; batches = records.batches }) records.answers extensions
 
 pub returns-clause-listed : goal.returns-clause-listed
 returns-clause-listed g c =
@@ -127,8 +128,8 @@ returns-clause-listed g c =
       tickets = payments.tickets;
       lines = payments.lines;
       batches = records.batches;
-      replies = records.replies;
       extensions = c.in_ok-extensions.ensures.listed;
+      answers = records.answers;
     }
 
 pub returns-in_err-register-clause-usable : goal.returns-in_err-register-clause-usable
@@ -168,7 +169,7 @@ returns-in_err-records-clause-usable g c clean =
     let same_2 = c.in_ok-payments.ensures.same clean_2 in
     let ours_2 = still_form c.args.form at_1 at_2 same_2 ours_1 in
     let holds_2 = subst (λ (d : Database). HoldsIn c.args.form d.trees rows) (sym same_2.0.now_is) holds_1 in
-    c.in_err-records.ensures.usable clean_3 unusable (c.args.form, ours_2) same_2.0.is_open c.args.form rows written holds_2)
+    c.in_err-records.ensures.usable clean_3 unusable ours_2 same_2.0.is_open rows written holds_2)
 
 pub returns-in_err-extensions-clause-usable : goal.returns-in_err-extensions-clause-usable
 returns-in_err-extensions-clause-usable g c clean =
@@ -225,7 +226,7 @@ returns-in_err-records-clause-cause g c clean ours_0 limit =
     let ours_1 = still_form c.args.form at_0 at_1 (c.in_ok-register.ensures.same clean_1) ours_0 in
     let ours_2 = still_form c.args.form at_1 at_2 (c.in_ok-payments.ensures.same clean_2) ours_1 in
     handed_on (IsExcused at_0 at_3) c.from_residual-in_err-records.result c.in_err-records.field-0.0 c.from_residual-in_err-records.ensures.1
-    (excused_then at_0 at_2 at_3 before_2 c.read_records.ensures.crash clean _ (c.in_err-records.ensures.cause clean (c.args.form, ours_2) (before_2.limit ∙ limit)))
+    (excused_then at_0 at_2 at_3 before_2 c.read_records.ensures.crash clean _ (c.in_err-records.ensures.cause clean ours_2 (before_2.limit ∙ limit)))
 
 pub returns-in_err-extensions-clause-cause : goal.returns-in_err-extensions-clause-cause
 returns-in_err-extensions-clause-cause g c clean ours_0 limit =

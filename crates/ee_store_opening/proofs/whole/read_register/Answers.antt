@@ -7,12 +7,12 @@ use Rattle.ee_store_tables.specs.Keyed.{HoldsMap, HoldsPairs}
 use Rattle.ee_store_tables.specs.Rows.{rate_columns, bond_columns}
 use Rattle.ee_store_tables.proofs.Lemmas.Transactions.{clean_before}
 use Rattle.ee_store_opening.specs.Shown.{rate_map, bond_map}
-use Rattle.ee_store_opening.specs.Forms.{HoldsIn}
-use Rattle.ee_store_opening.proofs.FormLemmas.{common}
-use Rattle.ee_store_opening.proofs.FaultLemmas.{handed_on}
+use Rattle.ee_store_making.specs.Forms.{HoldsIn}
+use Rattle.ee_store_making.proofs.Lemmas.Forms.{common}
+use Rattle.ee_store_making.proofs.Lemmas.Faults.{handed_on}
 use Rattle.ee_store_opening.proofs.ReadLemmas.{sound_after, still_ours}
-use Rattle.ee_store_opening.specs.Faults.{IsExcused}
-use Rattle.ee_store_opening.proofs.CauseLemmas.{excused_then, then_survives}
+use Rattle.ee_store_making.specs.Faults.{IsExcused}
+use Rattle.ee_store_making.proofs.Lemmas.Causes.{excused_then, then_survives}
 use Rattle.ee_store_opening.proofs.whole.read_register.Goals as goal
 
 pub returns-in_err-rates-clause-kept : goal.returns-in_err-rates-clause-kept

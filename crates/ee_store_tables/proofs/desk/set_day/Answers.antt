@@ -56,7 +56,7 @@ returns-clause-room g c clean inside_old rows sees n room =
     let given : params ≡ given_days c.args.day c.args.last_day = λ i. bound_value (c.whole.ensures i) ∷ part-1 i ∷ part-2 i ∷ [] in
     let ran = subst (λ row. Executes set_day_text row old new (Ok c.in_ok-execute.field-0)) given it.0 in
     let after = sets_day old new c.args.day c.args.last_day c.in_ok-execute.field-0 (inside_old it.1.was_open).1 ran in
-    room_beside old new 0 n (λ e. omega (arith, e)) (λ e. omega (arith, e)) after.3 after.2 it.1.was_open room
+    room_beside old new 0 n (λ e. omega (arith, e)) (λ e. omega (arith, e)) (λ e. omega (arith, e)) after.3 after.2 it.1.was_open room
 
 pub returns-in_err-execute-clause-cause : goal.returns-in_err-execute-clause-cause
 returns-in_err-execute-clause-cause g c clean inside endless rows sees allowed =

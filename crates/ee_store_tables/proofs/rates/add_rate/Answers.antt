@@ -49,4 +49,4 @@ returns-clause-room g c clean inside_old rows sees n room =
     let it = c.in_ok-execute.ensures.runs clean inside in
     let ran = rw (c.whole.ensures, c.whole-2.ensures) at it.0 in
     let after = adds_rate old new c.args.rate.period c.args.rate.rate c.in_ok-execute.field-0 (inside_old it.1.was_open).1 ran in
-    room_beside old new 1 n (λ e. omega (arith, e)) (λ e. omega (arith, e)) after.3 after.2 it.1.was_open room
+    room_beside old new 1 n (λ e. omega (arith, e)) (λ e. omega (arith, e)) (λ e. omega (arith, e)) after.3 after.2 it.1.was_open room

@@ -50,4 +50,4 @@ returns-clause-room g c clean inside_old rows sees n room =
     let it = c.in_ok-execute.ensures.runs clean inside in
     let ran = rw (c.whole.ensures, c.whole-2.ensures, c.whole-3.ensures, c.whole-4.ensures, c.whole-5.ensures) at it.0 in
     let after = adds_ticket old new c.args.number (row_of_ticket c.args.ticket) c.in_ok-execute.field-0 (inside_old it.1.was_open).1 ran in
-    room_beside old new 5 n (λ e. omega (arith, e)) (λ e. omega (arith, e)) after.3 after.2 it.1.was_open room
+    room_beside old new 5 n (λ e. omega (arith, e)) (λ e. omega (arith, e)) (λ e. omega (arith, e)) after.3 after.2 it.1.was_open room

@@ -1,8 +1,6 @@
-use Rattle.std.proofs.Common.{◌-◌, ℕ, Result, Ok, Err, nat_le, nat_lt, refl, inl, inr}
+use Rattle.std.proofs.Common.{◌-◌, Result, Ok, Err, nat_le, nat_lt, refl, inl, inr}
 use Rattle.std.proofs.lemmas.Bool.{cases_Bool}
-use Rattle.ee_units.specs.declared.denoms.Denom.{Denom}
 use Rattle.ee_calculator.specs.Rows.{columns_of, value_in}
-use Rattle.ee_value.specs.declared.rates.Rates.{Rates}
 use Rattle.ee_value.specs.Open.{is_open}
 use Rattle.ee_value.specs.Payment.{counted_age, is_payment_open}
 use Rattle.ee_value_c.specs.declared.refusals.Refusal.{Refusal}

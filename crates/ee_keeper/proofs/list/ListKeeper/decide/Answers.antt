@@ -2,7 +2,6 @@ use Rattle.std.proofs.Common.{◌≡◌, ap, ◌∙◌}
 use Rattle.std.specs.FinMap as finite
 use Rattle.ee_desk_acts.specs.declared.changes.Effects.{Effects}
 use Rattle.ee_desk_acts.specs.declared.replies.Reply.{Reply}
-use Rattle.ee_desk_acts.specs.Numbers.{number_of}
 use Rattle.ee_desk_acts.specs.Acts.{applied, books_after, reply_to}
 use Rattle.ee_desk_acts.specs.Repeats.{Content}
 use Rattle.ee_desk_acts.proofs.Lemmas.Books.{seen_enough, applied_are_books_after}
@@ -27,12 +26,12 @@ returns-in-Ok-clause-content c =
     content_after-decided c.args.self.now (record { books = c.apply.new.self; kept = kept_in c.keep.new.kept.entries }) c.args.request.now c.requires
     (c.in-Ok.ensures.ok ∙ ap (λ (e : Effects). applied c.self.inside.books e.changes) c.in_ok-effects.ensures ∙ applied_are_books_after c.self.inside.books c.args.request.now.act
     ∙ ap (λ (S : Content). books_after S.books c.args.request.now.act) c.self.view_is)
-    (c.in_ok-keep.ensures.ok ∙ (λ i. finite.insert (c.self.view_is i).kept (number_of c.args.request.now) (kept i)))
+    (c.in_ok-keep.ensures.ok ∙ (λ i. finite.insert (c.self.view_is i).kept (c.request_number-number.ensures i) (kept i)))
 
 pub returns-clause-err : goal.returns-clause-err
 returns-clause-err c =
-    let number = number_of c.args.request.now in
-    let none = ap (λ (S : Content). finite.get S.kept number) c.self.view_is ∙ c.requires in
+    let number = c.request_number-number.result in
+    let none = ap (λ (S : Content). finite.get S.kept number) c.self.view_is ∙ ap (finite.get c.args.self.now.kept) c.request_number-number.ensures ∙ c.requires in
     let kept = c.forget.ensures ∙ ap (λ m. finite.remove m number) c.in_ok-keep.ensures.ok ∙ remove-insert_kept (kept_in c.self.inside.kept.entries) number c.in_ok-kept.kept none in
     let back : ◌≡◌ {A = Content} (record { books = c.apply.new.self; kept = kept_in c.forget.new.kept.entries }) (record { books = c.self.inside.books; kept = kept_in c.self.inside.kept.entries }) =
     (λ i. record { books = c.in-Err.ensures.err i; kept = kept i }) in

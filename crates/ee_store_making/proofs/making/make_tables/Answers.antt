@@ -1,0 +1,69 @@
+use Rattle.std.proofs.Common.{◌∙◌, sym, ap, subst}
+use Rattle.sqlite.specs.Held.{state}
+use Rattle.sqlite.specs.Effect.{Database}
+use Rattle.sqlite.specs.State.{HasCleanDisk, Survives}
+use Rattle.ee_store_tables.specs.Rows.{Has, Stores}
+use Rattle.ee_store_tables.proofs.Lemmas.Meeting.{stored_sees}
+use Rattle.ee_store_tables.proofs.Lemmas.Transactions.{clean_before, committed_has, commit_survives}
+use Rattle.ee_store_making.specs.Making.{IsBlank, first_rows}
+use Rattle.ee_store_making.proofs.Lemmas.Beginning.{sees_none}
+use Rattle.ee_store_making.proofs.making.make_tables.Goals as goal
+
+pub returns-in_err-commit-clause-crash : goal.returns-in_err-commit-clause-crash
+returns-in_err-commit-clause-crash g c =
+    let old = state g.S.Store c.args.conn.now in
+    let start = state g.S.Store c.transaction-tx.result.conn.now in
+    let is = ap (state g.S.Store) c.transaction-tx.ensures.begun in
+    let middle = state g.S.Store c.make_in.new.tx.conn.now in
+    let new = state g.S.Store c.commit.new.self.0 in
+    let same = c.conn-2-1.given.1 (sym (c.in_ok-make_in.ensures.same_reference ∙ c.transaction-tx.ensures.same_reference)) in
+    let settled = c.is_autocommit.ensures.settled c.if-not-is_autocommit.false in
+    subst (λ h. Survives old (state g.S.Store h) (λ db. IsBlank old → Stores db first_rows)) (sym same)
+    (commit_survives old start is middle new (λ db. IsBlank old → Stores db first_rows)
+    (λ before blank. let none = sees_none old start is settled blank in let is_open = c.in_ok-make_in.ensures.open before in
+    stored_sees middle first_rows is_open (c.in_ok-make_in.ensures.sound before none is_open) (c.in_ok-make_in.ensures.added before none))
+    c.in_ok-make_in.ensures.crash c.in_err-commit.ensures.survives)
+
+pub returns-clause-made : goal.returns-clause-made
+returns-clause-made g c =
+    let old = state g.S.Store c.args.conn.now in
+    let start = state g.S.Store c.transaction-tx.result.conn.now in
+    let is = ap (state g.S.Store) c.transaction-tx.ensures.begun in
+    let middle = state g.S.Store c.make_in.new.tx.conn.now in
+    let new = state g.S.Store c.commit.new.self.0 in
+    let same = c.conn-2-1.given.1 (sym (c.in_ok-make_in.ensures.same_reference ∙ c.transaction-tx.ensures.same_reference)) in
+    let settled = c.is_autocommit.ensures.settled c.if-not-is_autocommit.false in
+    subst (λ h. HasCleanDisk (state g.S.Store h) → IsBlank old → Has (state g.S.Store h) first_rows) (sym same) (λ clean blank.
+    let before = clean_before middle new c.in_ok-commit.ensures.survives clean in
+    committed_has old start is middle new first_rows (c.in_ok-make_in.ensures.added before (sees_none old start is settled blank)) (c.in_ok-commit.ensures.ok clean).1)
+
+pub returns-clause-stored : goal.returns-clause-stored
+returns-clause-stored g c =
+    let old = state g.S.Store c.args.conn.now in
+    let start = state g.S.Store c.transaction-tx.result.conn.now in
+    let is = ap (state g.S.Store) c.transaction-tx.ensures.begun in
+    let middle = state g.S.Store c.make_in.new.tx.conn.now in
+    let new = state g.S.Store c.commit.new.self.0 in
+    let same = c.conn-2-1.given.1 (sym (c.in_ok-make_in.ensures.same_reference ∙ c.transaction-tx.ensures.same_reference)) in
+    let settled = c.is_autocommit.ensures.settled c.if-not-is_autocommit.false in
+    subst (λ h. HasCleanDisk (state g.S.Store h) → IsBlank old → Stores (state g.S.Store h).committed.trees first_rows) (sym same) (λ clean blank.
+    let before = clean_before middle new c.in_ok-commit.ensures.survives clean in
+    let none = sees_none old start is settled blank in
+    let is_open = c.in_ok-make_in.ensures.open before in
+    subst (λ (d : Database). Stores d.trees first_rows) (sym (c.in_ok-commit.ensures.ok clean).1.committed_is)
+    (stored_sees middle first_rows is_open (c.in_ok-make_in.ensures.sound before none is_open) (c.in_ok-make_in.ensures.added before none)))
+
+pub returns-clause-crash : goal.returns-clause-crash
+returns-clause-crash g c =
+    let old = state g.S.Store c.args.conn.now in
+    let start = state g.S.Store c.transaction-tx.result.conn.now in
+    let is = ap (state g.S.Store) c.transaction-tx.ensures.begun in
+    let middle = state g.S.Store c.make_in.new.tx.conn.now in
+    let new = state g.S.Store c.commit.new.self.0 in
+    let same = c.conn-2-1.given.1 (sym (c.in_ok-make_in.ensures.same_reference ∙ c.transaction-tx.ensures.same_reference)) in
+    let settled = c.is_autocommit.ensures.settled c.if-not-is_autocommit.false in
+    subst (λ h. Survives old (state g.S.Store h) (λ db. IsBlank old → Stores db first_rows)) (sym same)
+    (commit_survives old start is middle new (λ db. IsBlank old → Stores db first_rows)
+    (λ before blank. let none = sees_none old start is settled blank in let is_open = c.in_ok-make_in.ensures.open before in
+    stored_sees middle first_rows is_open (c.in_ok-make_in.ensures.sound before none is_open) (c.in_ok-make_in.ensures.added before none))
+    c.in_ok-make_in.ensures.crash c.in_ok-commit.ensures.survives)

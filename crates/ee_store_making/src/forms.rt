@@ -1,0 +1,27 @@
+//! The forms that the tables of a store have.
+
+ghost use Rattle.std.specs.Prelude.{◌≡◌};
+ghost use Rattle.ee_store_making.specs.Forms.{version_of};
+
+/// The form of the tables of a store.
+#[derive(Clone, Copy, Debug, PartialEq, Eq)]
+pub enum Form {
+    /// The tables of version 2, which this program makes.
+    Current,
+    /// Those of version 1: replies under a number alone.
+    First,
+    /// Those of version 1 in a store that was made before extensions could be named: all but theirs.
+    Earliest,
+}
+
+impl Form {
+    /// The version that the desk's row names in tables of this form.
+    pub const fn version(self) -> u64
+        ensures { result ≡ version_of self }
+    {
+        match self {
+            Form::Current => 2,
+            Form::First | Form::Earliest => 1,
+        }
+    }
+}

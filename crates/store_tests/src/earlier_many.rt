@@ -1,0 +1,120 @@
+//! Stores of version 1 with many replies, and with little memory.
+
+use crate::earlier::{Earlier, EXTENSIONS, SEVEN_TABLES, make_earlier, rows_after, rows_before};
+use crate::five::{FIVE, rows_told, served};
+use ee_store::{NotAdopted, OpenFault, SqlKeeper};
+use sqlite::types::ValueRef;
+use sqlite::{Alter, Connection, MemStore};
+use std::alloc::Global;
+use std::fmt::Write;
+use std::process::Abort;
+use std::test::Fail;
+
+/// How many replies a store has; each third number is used.
+const COUNT: u64 = 10_000;
+
+/// The act and the reply of each.
+const ACT: &str = r#"{"act":"close","day":"2012-02-06"}"#;
+
+const REPLY: &str = r#"{"code":42,"refused":"NoOpenDay"}"#;
+
+/// Kept numbers at the first desk, one that is used again, the same at another desk, and one between.
+const TALK: &str =
+    r#"> POST /day/close {"number":3,"day":"2012-02-06"}
+409 {"code":42,"refused":"NoOpenDay"}
+> POST /day/open {"number":30000,"day":"2012-02-06"}
+409 {"code":10,"refused":"NumberReused"}
+> POST /day/open {"desk":1,"number":30000,"day":"2012-02-06"}
+200 {"opened":"2012-02-06"}
+> POST /day/close {"number":30000,"day":"2012-02-06"}
+409 {"code":42,"refused":"NoOpenDay"}
+> POST /day/close {"number":29999,"day":"2012-02-06"}
+200 {"bonds":0,"day":"2012-02-06","tickets":0,"total":"0.00"}
+> POST /day/close {"number":15000,"day":"2012-02-06"}
+409 {"code":42,"refused":"NoOpenDay"}
+"#;
+
+/// Adds the replies to an earlier store.
+fn add_replies<S: Alter>(conn: &mut Connection<S>) -> Result<(), Fail> {
+    conn.execute_batch("BEGIN; INSERT INTO desk VALUES (1, 1, NULL, NULL)")?;
+    let mut number: i64 = 0;
+    for _ in 0..COUNT {
+        number = number.saturating_add(3);
+        conn.execute(
+            "INSERT INTO replies VALUES (?1, ?2, ?3)",
+            &[
+                ValueRef::Int(number),
+                ValueRef::Text(ACT.as_bytes()),
+                ValueRef::Text(REPLY.as_bytes()),
+            ],
+        )?;
+    }
+    conn.execute_batch("COMMIT")?;
+    Ok(())
+}
+
+/// The rows of version 2.
+fn wanted(alloc: Global) -> Result<String, Fail> {
+    let mut text = String::from_str(alloc, "desk 1 2 - -\nreplies is missing\n")?;
+    for place in 1..=COUNT {
+        let number = place.saturating_mul(3);
+        writeln!(text, "answers 0 {number} {ACT} {REPLY}")?;
+    }
+    Ok(text)
+}
+
+/// Each of ten thousand replies is one of the first desk then.
+#[test]
+fn ten_thousand_replies(rt: HostRuntime) -> Result<(), Fail> {
+    let alloc = rt.alloc();
+    let mut conn = Connection::open_in_memory(alloc)?;
+    conn.execute_batch(SEVEN_TABLES)?;
+    conn.execute_batch(EXTENSIONS)?;
+    add_replies(&mut conn)?;
+    let (text, mut conn) = served(alloc, conn, "");
+    assert_eq!(rt; text?.as_str(), "");
+    let rows = rows_told(alloc, &mut conn)?;
+    assert!(rt; rows.as_str() == wanted(alloc)?.as_str(), "other rows");
+    let (text, _conn) = served(alloc, conn, TALK);
+    assert_eq!(rt; text?.as_str(), TALK);
+    Ok(())
+}
+
+/// Opens an earlier store. Where memory is refused to that, the store has its rows as they were.
+fn opened(
+    rt: &impl Abort,
+    alloc: Global,
+    conn: Connection<MemStore>,
+    rows: &str,
+) -> Result<Connection<MemStore>, Fail> {
+    match SqlKeeper::adopt(conn, alloc) {
+        Ok(keeper) => Ok(keeper.close()),
+        Err(NotAdopted { fault, mut conn }) => {
+            assert_eq!(rt; fault, OpenFault::NoMemory);
+            assert_eq!(rt; rows_told(alloc, &mut conn)?.as_str(), rows);
+            Ok(conn)
+        }
+    }
+}
+
+/// It is opened, at once or after memory was refused, and gives each number its first reply, where no memory is refused to
+/// that. The script `tests/refused_memory` refuses each request for memory in turn.
+#[test]
+fn refused_memory(rt: HostRuntime) -> Result<(), Fail> {
+    let alloc = rt.alloc();
+    let mut conn = Connection::open_in_memory(alloc)?;
+    make_earlier(&mut conn, Earlier::Seven)?;
+    let before = rows_before(alloc, Earlier::Seven)?;
+    let after = rows_after(alloc, false, false)?;
+    let conn = opened(&rt, alloc, conn, before.as_str())?;
+    let (text, conn) = served(alloc, conn, FIVE);
+    let first = text?;
+    let (text, mut conn) = served(alloc, conn, FIVE);
+    let second = text?;
+    assert!(rt;
+        first.as_str() == FIVE || second.as_str() == FIVE,
+        "{first}{second}"
+    );
+    assert_eq!(rt; rows_told(alloc, &mut conn)?.as_str(), after.as_str());
+    Ok(())
+}
