@@ -14,12 +14,10 @@ ghost use Rattle.ee_store_making.specs.Making.{IsBlank, first_rows};
 ghost use Rattle.ee_store_opening.specs.Whole.{rows_of, AreInOrder};
 ghost use Rattle.ee_store_opening.specs.Opening.{HasTables, IsOfForm, IsOtherVersion, AreReadable};
 
-use ee_store_making::OpenFault;
-use ee_store_making::Form;
-use ee_store_making::make_tables;
 use crate::ours::{form_of, has_no_tables};
 use crate::version::known_version;
 use crate::whole::{AllRows, read_all};
+use ee_store_making::{Form, OpenFault, make_tables};
 use sqlite::{Alter, Connection};
 use std::alloc::Global;
 

@@ -22,15 +22,13 @@ ghost use Rattle.ee_store_opening.specs.Whole.{
   ListsRecords,
 };
 
-use crate::entries::{
-    StoredBatch, StoredBond, StoredDesk, StoredLine, StoredRate, StoredTicket,
-};
-use ee_store_making::{Form, OpenFault, StoredAnswer};
+use crate::entries::{StoredBatch, StoredBond, StoredDesk, StoredLine, StoredRate, StoredTicket};
 use crate::tables::{
     read_answers, read_batches, read_bonds, read_desk, read_extensions, read_lines, read_rates,
     read_tickets,
 };
 use crate::version::known_version;
+use ee_store_making::{Form, OpenFault, StoredAnswer};
 use sqlite::{Alter, Connection};
 use std::alloc::Global;
 

@@ -37,7 +37,8 @@ DROP TABLE desk => Unusable
 
 /// Changes of the tables after that day, each by itself, and the answer: the table of version 1 in the place of the
 /// answers or beside them, no extensions, no answers, one number twice at a desk, and other keys.
-const OTHER_FORMS: &str = r#"DROP TABLE answers; CREATE TABLE replies (number INTEGER NOT NULL PRIMARY KEY, act TEXT NOT NULL, reply TEXT NOT NULL) STRICT => Unusable
+const OTHER_FORMS: &str =
+    r#"DROP TABLE answers; CREATE TABLE replies (number INTEGER NOT NULL PRIMARY KEY, act TEXT NOT NULL, reply TEXT NOT NULL) STRICT => Unusable
 CREATE TABLE replies (number INTEGER NOT NULL PRIMARY KEY, act TEXT NOT NULL, reply TEXT NOT NULL) STRICT => Unusable
 DROP TABLE extensions => Unusable
 DROP TABLE answers => Unusable

@@ -22,10 +22,12 @@ CREATE TABLE replies (number INTEGER NOT NULL PRIMARY KEY, act TEXT NOT NULL, re
 ";
 
 /// Makes the table of extensions, the last of version 1.
-pub const EXTENSIONS: &str = "CREATE TABLE extensions (period INTEGER NOT NULL PRIMARY KEY, rate INTEGER NOT NULL) STRICT;";
+pub const EXTENSIONS: &str =
+    "CREATE TABLE extensions (period INTEGER NOT NULL PRIMARY KEY, rate INTEGER NOT NULL) STRICT;";
 
 /// Makes the table of version 2 that is in the place of `replies`.
-pub const ANSWERS: &str = "CREATE TABLE answers (desk INTEGER NOT NULL, number INTEGER NOT NULL, act TEXT NOT NULL, reply TEXT NOT NULL, PRIMARY KEY (desk, number)) STRICT;";
+pub const ANSWERS: &str =
+    "CREATE TABLE answers (desk INTEGER NOT NULL, number INTEGER NOT NULL, act TEXT NOT NULL, reply TEXT NOT NULL, PRIMARY KEY (desk, number)) STRICT;";
 
 /// The rows of the five requests of a day.
 const ROWS: &str = r#"INSERT INTO desk VALUES (1, 1, NULL, 15376);
@@ -128,7 +130,8 @@ batches 15376 1 3 519622
 ";
 
 /// The numbers of the day's requests, with their acts and replies.
-const REPLIES: &str = r#"1 {"act":"rates","rates":[{"from":"2010-05","rate":"2.00%"},{"from":"2010-11","rate":"3.50%"}]} {"new":2,"same":0}
+const REPLIES: &str =
+    r#"1 {"act":"rates","rates":[{"from":"2010-05","rate":"2.00%"},{"from":"2010-11","rate":"3.50%"}]} {"new":2,"same":0}
 2 {"act":"bonds","bonds":[{"denom":50,"issued":"2010-11","owner":7,"serial":"L1EE"},{"coowner":8,"denom":75,"issued":"2010-10","owner":7,"serial":"K2EE"},{"denom":10000,"issued":"2011-02","owner":7,"serial":"M3EE"}]} {"new":3,"same":0}
 3 {"act":"open","day":"2012-02-06"} {"opened":"2012-02-06"}
 4 {"act":"redeem","day":"2012-02-06","payee":7,"serials":["L1EE","K2EE","M3EE"]} {"day":"2012-02-06","lines":[{"paid":"25.88","serial":"L1EE"},{"paid":"38.34","serial":"K2EE"},{"paid":"5132.00","serial":"M3EE"}],"payee":7,"ticket":1,"total":"5196.22"}
@@ -159,7 +162,11 @@ fn after_word(alloc: Global, word: &str, lines: &str) -> Result<String, Fail> {
 }
 
 /// The rates and the replies of a store with an extension, or without one.
-fn rates_and_replies(alloc: Global, is_extended: bool, word: &str) -> Result<(String, String), Fail> {
+fn rates_and_replies(
+    alloc: Global,
+    is_extended: bool,
+    word: &str,
+) -> Result<(String, String), Fail> {
     let replies = after_word(alloc, word, REPLIES)?;
     if !is_extended {
         return Ok((String::from_str(alloc, RATES)?, replies));

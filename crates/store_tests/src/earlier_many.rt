@@ -1,6 +1,6 @@
 //! Stores of version 1 with many replies, and with little memory.
 
-use crate::earlier::{Earlier, EXTENSIONS, SEVEN_TABLES, make_earlier, rows_after, rows_before};
+use crate::earlier::{EXTENSIONS, Earlier, SEVEN_TABLES, make_earlier, rows_after, rows_before};
 use crate::five::{FIVE, rows_told, served};
 use ee_store::{NotAdopted, OpenFault, SqlKeeper};
 use sqlite::types::ValueRef;
@@ -19,8 +19,7 @@ const ACT: &str = r#"{"act":"close","day":"2012-02-06"}"#;
 const REPLY: &str = r#"{"code":42,"refused":"NoOpenDay"}"#;
 
 /// Kept numbers at the first desk, one that is used again, the same at another desk, and one between.
-const TALK: &str =
-    r#"> POST /day/close {"number":3,"day":"2012-02-06"}
+const TALK: &str = r#"> POST /day/close {"number":3,"day":"2012-02-06"}
 409 {"code":42,"refused":"NoOpenDay"}
 > POST /day/open {"number":30000,"day":"2012-02-06"}
 409 {"code":10,"refused":"NumberReused"}

@@ -254,9 +254,11 @@ returns-clause-stands g c clean =
     let new = state g.S.Store c.migrate.new.conn in
     let before = clean_before middle new c.migrate.ensures.crash clean in
     let it = c.in_ok-all.ensures in
-    let some = c.in_ok-tables.ensures.ok in
-    (it.ours before, has_some new c.in_ok-all.all.form (whole.rows_of c.in_ok-all.all)
-    (c.in_ok-migrate.ensures.made clean (whole.rows_of c.in_ok-all.all) (it.found before) (lists_all c.in_ok-all.all it.order c.deref.result.now c.deref.ensures.value)) some.0 some.2)
+    let some = c.in_ok-tables.ensures.ok in (
+      it.ours before,
+      has_some new c.in_ok-all.all.form (whole.rows_of c.in_ok-all.all)
+          (c.in_ok-migrate.ensures.made clean (whole.rows_of c.in_ok-all.all) (it.found before) (lists_all c.in_ok-all.all it.order c.deref.result.now c.deref.ensures.value)) some.0 some.2,
+    )
 
 -- what was migrated leaves what was committed
 pub returns-clause-goes_on : goal.returns-clause-goes_on
