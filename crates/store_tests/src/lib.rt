@@ -11,13 +11,7 @@ mod devices;
 #[cfg(test)]
 mod earlier;
 #[cfg(test)]
-mod earlier_bytes;
-#[cfg(test)]
-mod earlier_file;
-#[cfg(test)]
 mod earlier_many;
-#[cfg(test)]
-mod earlier_stops;
 #[cfg(test)]
 mod faults;
 #[cfg(test)]
