@@ -1,39 +1,21 @@
-//! Readers and writers that cut and fail.
+//! A reader that cuts.
 
-use std::alloc::Global;
-use std::io::{self, ErrorKind, Read, Write};
+use std::io::{self, Read};
 
-/// Hands out `first` bytes, then at most `step` a read. The read of the number `fails` fails, and the next
-/// one would read on.
+/// Hands out at most `step` bytes a read.
 #[derive(Drop)]
 pub struct Source<'a> {
-    pub bytes: &'a [u8],
-    pub first: usize,
-    pub step: usize,
+    bytes: &'a [u8],
+    step: usize,
     pub reads: usize,
-    pub fails: usize,
 }
 
 impl<'a> Source<'a> {
-    /// No read fails.
-    pub fn of(bytes: &'a [u8], first: usize, step: usize) -> Source<'a> {
+    pub fn of(bytes: &'a [u8], step: usize) -> Source<'a> {
         Source {
             bytes,
-            first,
             step,
             reads: 0,
-            fails: 0,
-        }
-    }
-
-    /// The read of the number `fails` fails.
-    pub fn failing(bytes: &'a [u8], step: usize, fails: usize) -> Source<'a> {
-        Source {
-            bytes,
-            first: step,
-            step,
-            reads: 0,
-            fails,
         }
     }
 }
@@ -41,51 +23,9 @@ impl<'a> Source<'a> {
 impl Read for Source<'_> {
     fn read(&mut self, buf: &mut [u8]) -> io::Result<usize> {
         self.reads = self.reads.saturating_add(1);
-        if self.reads == self.fails {
-            return Err(ErrorKind::Interrupted.into());
-        }
-        let most = if self.reads == 1 {
-            self.first
-        } else {
-            self.step
-        };
-        let count = self.bytes.len().min(buf.len()).min(most);
+        let count = self.bytes.len().min(buf.len()).min(self.step);
         buf[..count].copy_from_slice(&self.bytes[..count]);
         self.bytes = &self.bytes[count..];
         Ok(count)
-    }
-}
-
-/// Takes at most `step` bytes a write, and fails once it has `room` bytes.
-#[derive(Drop)]
-pub struct Narrow {
-    pub text: Vec<u8>,
-    step: usize,
-    room: usize,
-}
-
-impl Narrow {
-    pub fn new(alloc: Global, step: usize, room: usize) -> Narrow {
-        Narrow {
-            text: Vec::new(alloc),
-            step,
-            room,
-        }
-    }
-}
-
-impl Write for Narrow {
-    fn write(&mut self, buf: &[u8]) -> io::Result<usize> {
-        let left = self.room.saturating_sub(self.text.len());
-        if left == 0 {
-            return Err(ErrorKind::Other.into());
-        }
-        let count = buf.len().min(left).min(self.step);
-        self.text.extend_from_slice(&buf[..count])?;
-        Ok(count)
-    }
-
-    fn flush(&mut self) -> io::Result<()> {
-        Ok(())
     }
 }

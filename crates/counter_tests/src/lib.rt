@@ -11,8 +11,6 @@ mod desks;
 #[cfg(test)]
 mod devices;
 #[cfg(test)]
-mod files;
-#[cfg(test)]
 mod lines;
 #[cfg(test)]
 mod streams;

@@ -1,6 +1,7 @@
-//! Connections: streams however they are cut, faults, and devices that fail.
+//! Connections: faults, limits, and messages that end them. Devices that fail and cut are tested over both keepers
+//! (`store_tests`).
 
-use crate::devices::{Narrow, Source};
+use crate::devices::Source;
 use ee_counter::{Ended, serve};
 use ee_keeper::ListKeeper;
 use std::alloc::Global;
@@ -35,22 +36,8 @@ fn told_of(alloc: Global, keeper: &mut ListKeeper, reader: &mut Source) -> Resul
 
 /// What is told of serving a stream over an empty keeper.
 fn alone(alloc: Global, stream: &str) -> Result<String, Fail> {
-    let mut reader = Source::of(stream.as_bytes(), 4_096, 4_096);
+    let mut reader = Source::of(stream.as_bytes(), 4_096);
     told_of(alloc, &mut ListKeeper::empty(alloc), &mut reader)
-}
-
-/// Two messages, cut after each byte in turn.
-#[test]
-fn a_stream_however_it_is_cut(rt: HostRuntime) -> Result<(), Fail> {
-    let alloc = rt.alloc();
-    let stream = format!(in alloc; "{RATE}{VALUE}")?;
-    let wanted = format!(in alloc; "2 Closed\n{ADDED}{ROW}")?;
-    for first in 1..=stream.len() {
-        let mut reader = Source::of(stream.as_bytes(), first, 4_096);
-        let told = told_of(alloc, &mut ListKeeper::empty(alloc), &mut reader)?;
-        assert_eq!(rt; told.as_str(), wanted.as_str(), "cut after {first}");
-    }
-    Ok(())
 }
 
 /// The first message again without the last byte of its body.
@@ -61,7 +48,7 @@ fn a_cut_message_is_truncated(rt: HostRuntime) -> Result<(), Fail> {
     let stream = format!(in alloc; "{RATE}{VALUE}{front}")?;
     let wanted = format!(in alloc; "3 Fault(Truncated)\n{ADDED}{ROW}{CUT}")?;
     for step in [1, 7, 4_096] {
-        let mut reader = Source::of(stream.as_bytes(), step, step);
+        let mut reader = Source::of(stream.as_bytes(), step);
         let told = told_of(alloc, &mut ListKeeper::empty(alloc), &mut reader)?;
         assert_eq!(rt; told.as_str(), wanted.as_str(), "pieces of {step}");
     }
@@ -203,86 +190,11 @@ fn a_message_may_ask_to_close(rt: HostRuntime) -> Result<(), Fail> {
     let missing = "{\"code\":69,\"fault\":\"NotFound\"}";
     let missing = answer(alloc, "404 Not Found", "Connection: close\r\n", missing)?;
     let wanted = format!(in alloc; "1 Asked\n{missing}")?;
-    let mut reader = Source::of(stream.as_bytes(), first.len(), first.len());
+    let mut reader = Source::of(stream.as_bytes(), first.len());
     let told = told_of(alloc, &mut ListKeeper::empty(alloc), &mut reader)?;
     assert_eq!(rt; told.as_str(), wanted.as_str());
     assert_eq!(rt; reader.reads, 1);
     let old = alone(alloc, "GET /ticket/1 HTTP/1.0\r\n\r\n")?;
     assert_eq!(rt; old.as_str(), wanted.as_str());
-    Ok(())
-}
-
-/// The thousandth answer says that the connection ends, also where the input ends there; what comes after isn't
-/// answered.
-#[test]
-fn a_connection_has_a_thousand_messages(rt: HostRuntime) -> Result<(), Fail> {
-    let alloc = rt.alloc();
-    let fault = "{\"code\":66,\"fault\":\"NoRoute\"}";
-    let mut stream = String::new(alloc);
-    let mut wanted = String::from_str(alloc, "1000 Limit\n")?;
-    for _ in 0..999 {
-        stream.push_str("GET /a HTTP/1.1\r\n\r\n")?;
-        wanted.push_str(answer(alloc, "404 Not Found", "", fault)?.as_str())?;
-    }
-    wanted.push_str(answer(alloc, "404 Not Found", "Connection: close\r\n", fault)?.as_str())?;
-    for _ in 0..2 {
-        stream.push_str("GET /a HTTP/1.1\r\n\r\n")?;
-        assert_eq!(rt; alone(alloc, stream.as_str())?.as_str(), wanted.as_str());
-    }
-    Ok(())
-}
-
-/// Each read fails in turn. What was read whole before is answered, and nothing else.
-#[test]
-fn a_failed_read_ends_the_connection(rt: HostRuntime) -> Result<(), Fail> {
-    let alloc = rt.alloc();
-    let stream = format!(in alloc; "{RATE}{VALUE}")?;
-    let one = format!(in alloc; "1 ReadFailed\n{ADDED}")?;
-    let both = format!(in alloc; "2 ReadFailed\n{ADDED}{ROW}")?;
-    for before in 0..=stream.len() {
-        let wanted = match before {
-            _ if before < RATE.len() => "0 ReadFailed\n",
-            _ if before < stream.len() => one.as_str(),
-            _ => both.as_str(),
-        };
-        let mut reader = Source::failing(stream.as_bytes(), 1, before.saturating_add(1));
-        let told = told_of(alloc, &mut ListKeeper::empty(alloc), &mut reader)?;
-        assert_eq!(rt; told.as_str(), wanted, "after {before}");
-    }
-    Ok(())
-}
-
-/// What is told of serving two messages to a writer that takes so many bytes.
-fn cut_short(alloc: Global, keeper: &mut ListKeeper, room: usize) -> Result<String, Fail> {
-    let stream = format!(in alloc; "{RATE}{VALUE}")?;
-    let mut reader = stream.as_bytes();
-    let mut writer = Narrow::new(alloc, 7, room);
-    let ended = serve(alloc, keeper, &mut reader, &mut writer);
-    ended_told(alloc, ended, &writer.text)
-}
-
-/// What is told of it where that is a front of the answers.
-fn wanted_front(alloc: Global, room: usize) -> Result<String, Fail> {
-    let messages: u64 = if room < ADDED.len() { 0 } else { 1 };
-    let whole = format!(in alloc; "{ADDED}{ROW}")?;
-    let front = whole.as_str().get(..room).ok_or("front")?;
-    Ok(format!(in alloc; "{messages} WriteFailed\n{front}")?)
-}
-
-/// The writer fails after each byte in turn. What it took is a front of the answers; the message whose
-/// answer was cut stands, and its repeat has the whole answer.
-#[test]
-fn a_failed_write_ends_the_connection(rt: HostRuntime) -> Result<(), Fail> {
-    let alloc = rt.alloc();
-    let stream = format!(in alloc; "{RATE}{VALUE}")?;
-    let both = format!(in alloc; "2 Closed\n{ADDED}{ROW}")?;
-    for room in 0..ADDED.len().saturating_add(ROW.len()) {
-        let mut keeper = ListKeeper::empty(alloc);
-        let told = cut_short(alloc, &mut keeper, room)?;
-        assert_eq!(rt; told.as_str(), wanted_front(alloc, room)?.as_str());
-        let mut reader = Source::of(stream.as_bytes(), 4_096, 4_096);
-        let again = told_of(alloc, &mut keeper, &mut reader)?;
-        assert_eq!(rt; again.as_str(), both.as_str());
-    }
     Ok(())
 }

@@ -210,17 +210,17 @@ pub const TICKETS: &str =
 200 {"bonds":0,"day":"2012-02-07","tickets":0,"total":"0.00"}
 "#;
 
-/// The last number, customer, serial number, rate and day; and the first ones.
+/// The last desk, number, customer, serial number, rate, extension and day; and the first ones.
 pub const LAST: &str =
-    r#"> POST /rates {"number":1,"rates":[{"from":"2005-05","rate":"20.00"},{"from":"2099-11","rate":"0.00"}]}
+    r#"> POST /rates {"number":1,"rates":[{"from":"2005-05","rate":"20.00","extension":"20.00"},{"from":"2099-11","rate":"0.00"}]}
 200 {"new":2,"same":0}
 > POST /bonds {"number":2,"bonds":[{"serial":"Z9999999999EE","denom":10000,"issued":"2005-05","owner":999999999,"coowner":1},{"serial":"A1EE","denom":10000,"issued":"2099-12","owner":1,"coowner":999999999}]}
 200 {"new":2,"same":0}
 > POST /day/open {"number":3,"day":"2199-12-31"}
 200 {"opened":"2199-12-31"}
-> POST /redeem {"number":9223372036854775807,"day":"2199-12-31","payee":999999999,"serials":["Z9999999999EE","A1EE"]}
+> POST /redeem {"desk":999,"number":9223372036854775807,"day":"2199-12-31","payee":999999999,"serials":["Z9999999999EE","A1EE"]}
 200 {"day":"2199-12-31","lines":[{"paid":"1522468.00","serial":"Z9999999999EE"},{"paid":"10000.00","serial":"A1EE"}],"payee":999999999,"ticket":1,"total":"1532468.00"}
-> POST /redeem {"number":9223372036854775807,"day":"2199-12-31","payee":1,"serials":["Z9999999999EE","A1EE"]}
+> POST /redeem {"desk":999,"number":9223372036854775807,"day":"2199-12-31","payee":1,"serials":["Z9999999999EE","A1EE"]}
 409 {"code":10,"refused":"NumberReused"}
 > POST /day/close {"number":4,"day":"2199-12-31"}
 200 {"bonds":2,"day":"2199-12-31","tickets":1,"total":"1532468.00"}

@@ -11,7 +11,15 @@ mod devices;
 #[cfg(test)]
 mod earlier;
 #[cfg(test)]
+mod earlier_bytes;
+#[cfg(test)]
+mod earlier_file;
+#[cfg(test)]
 mod earlier_many;
+#[cfg(test)]
+mod earlier_stops;
+#[cfg(test)]
+mod failing;
 #[cfg(test)]
 mod faults;
 #[cfg(test)]
@@ -26,6 +34,8 @@ mod noise;
 mod parts;
 #[cfg(test)]
 mod refusals;
+#[cfg(test)]
+mod refused;
 #[cfg(test)]
 mod stores;
 #[cfg(test)]

@@ -3,12 +3,14 @@
 use crate::days::{
     BEGUN, DAY, DESKS, EXTENDED, IMPORTED, LAST, LOST, MERGES, ORDERS, SHOWN, TICKETS,
 };
+use crate::failing::{a_thousand_messages, devices_fail};
 use crate::faults::{CALLS, HEADS, STREAMS, ended, ends};
+use crate::five::rows_told;
 use crate::imports::{FILES, LONG_FILES};
 use crate::lists::LISTS;
 use crate::noise::noise;
 use crate::refusals::{DAYS, FULL, IMPORTS, LONG, MOST};
-use crate::talk::{compare, replay};
+use crate::talk::{By, compare, compare_by, replay_by, requests_of};
 use ee_counter::run;
 use ee_desk_acts::{Reply, Request, Unserved};
 use ee_desk_texts::reply_text;
@@ -26,14 +28,20 @@ use std::test::Fail;
 enum Part {
     /// A transcript, and another after it.
     Talks(&'static str, &'static str),
-    /// A day of a thousand tickets.
-    FullDay,
+    /// The same, its messages sent by such calls.
+    TalksBy(By, &'static str, &'static str),
+    /// A day of a thousand tickets, its messages sent by such calls.
+    FullDay(By),
     /// The requests of a day as one list.
     OneList,
     /// Bytes at random.
     Noise,
     /// Streams that end anywhere.
     Ends,
+    /// Devices that fail.
+    Devices,
+    /// As many messages as a connection has.
+    Thousand,
 }
 
 /// Days, lists and files.
@@ -50,17 +58,40 @@ const DAYS_AND_FILES: [Part; 10] = [
     Part::Talks(LONG_FILES, ""),
 ];
 
+/// By serving and by the keeper's own calls: each refusal and query, the last values, the most rows, and each fault of a
+/// message.
+const BY_CALLS: [Part; 10] = [
+    Part::TalksBy(By::Serve, DAY, ""),
+    Part::TalksBy(By::Calls, DAY, ""),
+    Part::TalksBy(By::Calls, IMPORTS, ""),
+    Part::TalksBy(By::Calls, DAYS, ""),
+    Part::TalksBy(By::Calls, LAST, ""),
+    Part::TalksBy(By::Calls, EXTENDED, ""),
+    Part::TalksBy(By::Calls, MOST, LONG),
+    Part::TalksBy(By::Calls, BEGUN, CALLS),
+    Part::TalksBy(By::Serve, LAST, ""),
+    Part::TalksBy(By::Serve, BEGUN, CALLS),
+];
+
 /// What is at fault leaves a sound store, which gives its first replies.
-const FAULTS: [Part; 5] = [
+const FAULTS: [Part; 7] = [
     Part::Talks(BEGUN, CALLS),
     Part::Talks(BEGUN, STREAMS),
     Part::Talks(BEGUN, HEADS),
     Part::Noise,
     Part::Ends,
+    Part::Devices,
+    Part::Thousand,
 ];
 
 /// A ticket for each of 500 bonds of a letter.
-fn tickets<K: Keeper>(alloc: Global, keeper: &mut K, letter: char, first: u64) -> Result<(), Fail> {
+fn tickets<K: Keeper>(
+    alloc: Global,
+    keeper: &mut K,
+    by: By,
+    letter: char,
+    first: u64,
+) -> Result<(), Fail> {
     let mut talk = String::new(alloc);
     for bond in 1..501 {
         let number = first.saturating_add(bond);
@@ -69,16 +100,16 @@ fn tickets<K: Keeper>(alloc: Global, keeper: &mut K, letter: char, first: u64) -
             "> POST /redeem {{\"number\":{number},\"day\":\"2012-02-06\",\"payee\":7,\"serials\":[\"{letter}{bond}EE\"]}}\n"
         )?;
     }
-    let _answers = replay(alloc, keeper, talk.as_str())?;
+    let _answers = replay_by(alloc, keeper, by, talk.as_str())?;
     Ok(())
 }
 
 /// A day with a thousand tickets.
-fn full_day<K: Keeper>(rt: &impl Abort, alloc: Global, keeper: &mut K) -> Result<(), Fail> {
-    compare(rt, alloc, keeper, MOST)?;
-    tickets(alloc, keeper, 'A', 1_000)?;
-    tickets(alloc, keeper, 'B', 2_000)?;
-    compare(rt, alloc, keeper, FULL)
+fn full_day<K: Keeper>(rt: &impl Abort, alloc: Global, keeper: &mut K, by: By) -> Result<(), Fail> {
+    compare_by(rt, alloc, keeper, by, MOST)?;
+    tickets(alloc, keeper, by, 'A', 1_000)?;
+    tickets(alloc, keeper, by, 'B', 2_000)?;
+    compare_by(rt, alloc, keeper, by, FULL)
 }
 
 /// The request of a line `PATH BODY`.
@@ -91,7 +122,7 @@ fn request(alloc: Global, line: &str) -> Result<Request, Fail> {
 }
 
 /// The requests of a transcript.
-fn requests(alloc: Global, transcript: &str) -> Result<Vec<Request>, Fail> {
+pub fn requests(alloc: Global, transcript: &str) -> Result<Vec<Request>, Fail> {
     let mut requests = Vec::new(alloc);
     for line in transcript.lines() {
         if let Some(line) = line.strip_prefix("> POST ") {
@@ -154,17 +185,35 @@ fn part_over<K: Keeper>(
             compare(rt, alloc, keeper, first)?;
             compare(rt, alloc, keeper, then)
         }
-        Part::FullDay => full_day(rt, alloc, keeper),
+        Part::TalksBy(by, first, then) => {
+            compare_by(rt, alloc, keeper, by, first)?;
+            compare_by(rt, alloc, keeper, by, then)
+        }
+        Part::FullDay(by) => full_day(rt, alloc, keeper, by),
         Part::OneList => {
             runs(rt, alloc, keeper, DAY)?;
             compare(rt, alloc, keeper, SHOWN)
         }
         Part::Noise => noise(rt, alloc, keeper),
         Part::Ends => ends(rt, alloc, keeper),
+        Part::Devices => devices_fail(rt, alloc, keeper),
+        Part::Thousand => a_thousand_messages(rt, alloc, keeper),
     }
 }
 
-/// Requests of a part again, over its store that was taken over again: they have their first replies.
+/// Each request of two transcripts and each import again has what was told of it.
+fn requests_again<K: Keeper>(
+    rt: &impl Abort,
+    alloc: Global,
+    keeper: &mut K,
+    first: &str,
+    then: &str,
+) -> Result<(), Fail> {
+    compare(rt, alloc, keeper, requests_of(alloc, first)?.as_str())?;
+    compare(rt, alloc, keeper, requests_of(alloc, then)?.as_str())
+}
+
+/// Requests of a part again: they have their first replies.
 fn again<K: Keeper>(
     rt: &impl Abort,
     alloc: Global,
@@ -172,10 +221,14 @@ fn again<K: Keeper>(
     part: Part,
 ) -> Result<(), Fail> {
     match part {
-        Part::Talks(first, _) if first == BEGUN => compare(rt, alloc, keeper, BEGUN),
+        Part::Talks(first, then) | Part::TalksBy(_, first, then) => {
+            requests_again(rt, alloc, keeper, first, then)
+        }
+        Part::FullDay(_) => requests_again(rt, alloc, keeper, MOST, FULL),
+        Part::OneList => requests_again(rt, alloc, keeper, DAY, ""),
         Part::Noise => compare(rt, alloc, keeper, BEGUN),
         Part::Ends => ended(rt, alloc, keeper),
-        _ => Ok(()),
+        Part::Devices | Part::Thousand => Ok(()),
     }
 }
 
@@ -206,13 +259,21 @@ fn over_tables(
     Ok(conn)
 }
 
-/// A part over a keeper in memory and over tables. The store of the tables is taken over again, which tests all its
-/// rows.
+/// A part over a keeper in memory and over tables, and its requests again: they have their first replies, and change
+/// nothing. The store of the tables is closed and taken over again before that, which tests all its rows.
 fn over_both(rt: &impl Abort, alloc: Global, part: Part) -> Result<(), Fail> {
-    part_over(rt, alloc, &mut ListKeeper::empty(alloc), part)?;
+    let mut list = ListKeeper::empty(alloc);
+    part_over(rt, alloc, &mut list, part)?;
+    again(rt, alloc, &mut list, part)?;
     let conn = Connection::open_in_memory(alloc)?;
-    let conn = over_tables(rt, alloc, conn, part, false)?;
-    let _conn = over_tables(rt, alloc, conn, part, true)?;
+    let mut conn = over_tables(rt, alloc, conn, part, false)?;
+    let before = rows_told(alloc, &mut conn)?;
+    let mut conn = over_tables(rt, alloc, conn, part, true)?;
+    let after = rows_told(alloc, &mut conn)?;
+    assert!(rt;
+        after.as_str() == before.as_str(),
+        "{after} and not {before}"
+    );
     Ok(())
 }
 
@@ -226,6 +287,11 @@ fn all_over_both(rt: &impl Abort, alloc: Global, parts: &[Part]) -> Result<(), F
 #[test]
 fn days_and_files(rt: HostRuntime) -> Result<(), Fail> {
     all_over_both(&rt, rt.alloc(), &DAYS_AND_FILES)
+}
+
+#[test]
+fn days_by_calls(rt: HostRuntime) -> Result<(), Fail> {
+    all_over_both(&rt, rt.alloc(), &BY_CALLS)
 }
 
 /// Each transcript after the same beginning.
@@ -263,7 +329,8 @@ fn desks_number_their_requests_apart(rt: HostRuntime) -> Result<(), Fail> {
 
 #[test]
 fn a_full_day(rt: HostRuntime) -> Result<(), Fail> {
-    over_both(&rt, rt.alloc(), Part::FullDay)
+    over_both(&rt, rt.alloc(), Part::FullDay(By::Apply))?;
+    over_both(&rt, rt.alloc(), Part::FullDay(By::Calls))
 }
 
 #[test]

@@ -125,6 +125,25 @@ pub fn ends_by_failures(talk: &str) -> bool {
         == line.ends_with("\"StoreFailed\"}"))
 }
 
+/// Whether what was told is nothing, why the store wasn't opened, or the right answers up to a request at which the store
+/// failed; after it each is a failure, or a reply that was told before.
+pub fn is_front_of(told: &str, wanted: &str) -> bool {
+    if told.is_empty() || told == "StoreFailed" {
+        return true;
+    }
+    let Some((front, _)) = told.split_once("StoreFailed 503 ") else {
+        return told == wanted;
+    };
+    for (line, right) in told.lines().zip(wanted.lines()) {
+        let fails = line.starts_with("StoreFailed 503 ");
+        let is_known = line.starts_with("> ") || front.contains(line);
+        if !fails && (line != right || !is_known) {
+            return false;
+        }
+    }
+    wanted.starts_with(front)
+}
+
 /// What two runs tell, the first over files that stop, the second after a crash; and whether the first went to its end.
 #[derive(Drop)]
 struct Runs {
@@ -152,9 +171,9 @@ fn stopped(alloc: Global, log: u64, db: u64) -> Result<Runs, Fail> {
     })
 }
 
-/// One file stops at each of its calls in turn. Where the store fails, `apply` ends by that, also where the store still
-/// answers queries. After a crash the files are opened again and the five requests are sent again: each has its one
-/// reply. Whether a request failed is told.
+/// One file stops at each of its calls in turn, until a run comes to its end. The answers before a stop are a front of the
+/// right ones. Where the store fails, `apply` ends by that, also where the store still answers queries. After a crash the
+/// files are opened again and the five requests are sent again: each has its one reply. Whether a request failed is told.
 fn stops_at_each_call(rt: &impl Abort, alloc: Global, on_log: bool) -> Result<bool, Fail> {
     let mut failed = false;
     for k in 0..10_000 {
@@ -163,14 +182,15 @@ fn stops_at_each_call(rt: &impl Abort, alloc: Global, on_log: bool) -> Result<bo
         } else {
             stopped(alloc, u64::MAX, k)?
         };
+        assert!(rt; is_front_of(&runs.first, FIVE), "{}", runs.first);
         assert!(rt; ends_by_failures(&runs.first), "{}", runs.first);
         assert_eq!(rt; runs.second.as_str(), FIVE, "after {k}");
         failed |= runs.first.contains("\nStoreFailed 503 ");
         if runs.is_whole {
-            break;
+            return Ok(failed);
         }
     }
-    Ok(failed)
+    Err("each run was stopped".into())
 }
 
 #[test]

@@ -15,9 +15,10 @@
 use crate::devices::Narrow;
 use ee_cli_actions::{Outcome, RunFault, StoreFault, apply_to};
 use ee_counter::{export_inventory, import_inventory, import_rates, serve};
-use ee_desk_acts::{Desk, Number, read_desk};
+use ee_desk_acts::{Desk, Number, Unserved, read_desk};
 use ee_desk_texts::reply_text;
 use ee_keeper::Keeper;
+use ee_wire::{Answer, Call, Query, WireFault, decode, write_reply};
 use std::alloc::Global;
 use std::fmt::Write;
 use std::process::Abort;
@@ -75,7 +76,7 @@ fn whole(alloc: Global, transcript: &str) -> Result<String, Fail> {
 }
 
 /// The bytes of a text in which `|` stands for that end of a line, and `~` for the byte FF.
-fn bytes_of(alloc: Global, text: &str, end: &str) -> Result<Vec<u8>, Fail> {
+pub fn bytes_of(alloc: Global, text: &str, end: &str) -> Result<Vec<u8>, Fail> {
     let mut bytes = Vec::new(alloc);
     for byte in text.as_bytes() {
         match byte {
@@ -138,8 +139,19 @@ pub fn applied<K: Keeper>(alloc: Global, keeper: &mut K, stream: &[u8]) -> Resul
     Ok(format!(in alloc; "{end} {}", str::from_utf8(&text)?)?)
 }
 
+/// By which calls the messages of a transcript are sent.
+#[derive(Clone, Copy, Debug, PartialEq, Eq)]
+pub enum By {
+    /// The command `apply`, a connection for each.
+    Apply,
+    /// Serving a connection.
+    Serve,
+    /// The keeper's own calls.
+    Calls,
+}
+
 /// The answer to one message; after how `apply` ends on it, where it isn't done.
-fn ask<K: Keeper>(alloc: Global, keeper: &mut K, line: &str) -> Result<String, Fail> {
+fn ask_apply<K: Keeper>(alloc: Global, keeper: &mut K, line: &str) -> Result<String, Fail> {
     let message = message(alloc, line)?;
     let text = applied(alloc, keeper, message.as_bytes())?;
     let (end, answer) = text.split_once(' ').ok_or("end")?;
@@ -148,6 +160,62 @@ fn ask<K: Keeper>(alloc: Global, keeper: &mut K, line: &str) -> Result<String, F
         return Ok(answer);
     }
     Ok(format!(in alloc; "{end} {answer}")?)
+}
+
+/// The answer to one message on a connection; or why the connection ended, where none was written.
+fn ask_serve<K: Keeper>(alloc: Global, keeper: &mut K, line: &str) -> Result<String, Fail> {
+    let message = message(alloc, line)?;
+    let mut text = Vec::new(alloc);
+    let ended = serve(alloc, keeper, &mut message.as_bytes(), &mut text);
+    if ended.messages == 0 {
+        return Ok(format!(in alloc; "{:?}", ended.why)?);
+    }
+    told(alloc, str::from_utf8(&text)?)
+}
+
+/// What a query finds by the keeper's own call.
+fn found<K: Keeper>(keeper: &mut K, query: Query) -> Result<Answer, Unserved> {
+    Ok(match query {
+        Query::Inventory { customer, month } => Answer::Sheet(keeper.inventory(customer, month)?),
+        Query::Ticket(number) => Answer::Ticket(keeper.ticket(number)?),
+        Query::Batch(day) => Answer::Batch(keeper.batch(day)?),
+        Query::Value {
+            denom,
+            issued,
+            month,
+        } => Answer::Row(keeper.quote(denom, issued, month)?),
+    })
+}
+
+/// What the keeper's own call answers.
+fn called<K: Keeper>(keeper: &mut K, call: &Call) -> Result<Answer, Unserved> {
+    match call {
+        Call::Request(request) => Ok(Answer::Reply(keeper.deliver(request)?)),
+        Call::Query(query) => found(keeper, *query),
+    }
+}
+
+/// The answer to one message, which is read, by the keeper's own call.
+fn ask_calls<K: Keeper>(alloc: Global, keeper: &mut K, line: &str) -> Result<String, Fail> {
+    let (method, rest) = line.split_once(' ').ok_or("method")?;
+    let (path, body) = rest.split_once(' ').unwrap_or((rest, ""));
+    let answer = match decode(alloc, path.as_bytes(), method.as_bytes(), body.as_bytes()) {
+        Ok(call) => called(keeper, &call).unwrap_or_else(|cause| Answer::Unserved(cause)),
+        Err(WireFault::NoMemory) => Answer::Unserved(Unserved::NoMemory),
+        Err(fault) => Answer::Fault(fault),
+    };
+    let mut text = Vec::new(alloc);
+    let written = write_reply(alloc, &mut text, &answer, false);
+    written.ok().ok_or("NoMemory of the text")?;
+    told(alloc, str::from_utf8(&text)?)
+}
+
+fn ask<K: Keeper>(alloc: Global, keeper: &mut K, by: By, line: &str) -> Result<String, Fail> {
+    match by {
+        By::Apply => ask_apply(alloc, keeper, line),
+        By::Serve => ask_serve(alloc, keeper, line),
+        By::Calls => ask_calls(alloc, keeper, line),
+    }
 }
 
 /// What is told of bytes, on a line.
@@ -205,11 +273,16 @@ fn lose<K: Keeper>(alloc: Global, keeper: &mut K, line: &str) -> Result<String, 
     Ok(format!(in alloc; "{} {:?} {front}", ended.messages, ended.why)?)
 }
 
-/// What is told of what a line does; None of a line that tells.
-fn line_told<K: Keeper>(alloc: Global, keeper: &mut K, line: &str) -> Result<Option<String>, Fail> {
+/// What is told of what a line does, its message sent by such calls; None of a line that tells.
+pub fn line_told<K: Keeper>(
+    alloc: Global,
+    keeper: &mut K,
+    by: By,
+    line: &str,
+) -> Result<Option<String>, Fail> {
     let (sign, rest) = line.split_once(' ').unwrap_or(("", line));
     match sign {
-        ">" => ask(alloc, keeper, rest).map(Some),
+        ">" => ask(alloc, keeper, by, rest).map(Some),
         "~" => send(alloc, keeper, rest).map(Some),
         "+" => enter(alloc, keeper, rest).map(Some),
         "-" => leave(alloc, keeper, rest).map(Some),
@@ -231,15 +304,38 @@ pub fn answers<K: Keeper>(alloc: Global, keeper: &mut K, transcript: &str) -> Re
     Ok(text)
 }
 
-/// The transcript that comes of doing the same again.
-pub fn replay<K: Keeper>(alloc: Global, keeper: &mut K, transcript: &str) -> Result<String, Fail> {
+/// The requests of a transcript and its imports, with what is told of each.
+pub fn requests_of(alloc: Global, transcript: &str) -> Result<String, Fail> {
     let mut text = String::new(alloc);
-    for line in transcript.lines() {
-        if let Some(told) = line_told(alloc, keeper, line)? {
+    let mut lines = transcript.lines();
+    while let Some(line) = lines.next() {
+        if line.starts_with("> POST ") || line.starts_with("+ ") {
+            let told = lines.next().ok_or("what is told")?;
             write!(text, "{line}\n{told}\n")?;
         }
     }
     Ok(text)
+}
+
+/// The transcript that comes of doing the same again, its messages sent by such calls.
+pub fn replay_by<K: Keeper>(
+    alloc: Global,
+    keeper: &mut K,
+    by: By,
+    transcript: &str,
+) -> Result<String, Fail> {
+    let mut text = String::new(alloc);
+    for line in transcript.lines() {
+        if let Some(told) = line_told(alloc, keeper, by, line)? {
+            write!(text, "{line}\n{told}\n")?;
+        }
+    }
+    Ok(text)
+}
+
+/// The transcript that comes of doing the same again.
+pub fn replay<K: Keeper>(alloc: Global, keeper: &mut K, transcript: &str) -> Result<String, Fail> {
+    replay_by(alloc, keeper, By::Apply, transcript)
 }
 
 /// Does what a transcript does, and compares what is told.
@@ -249,8 +345,19 @@ pub fn compare<K: Keeper>(
     keeper: &mut K,
     transcript: &str,
 ) -> Result<(), Fail> {
+    compare_by(rt, alloc, keeper, By::Apply, transcript)
+}
+
+/// The same, its messages sent by such calls.
+pub fn compare_by<K: Keeper>(
+    rt: &impl Abort,
+    alloc: Global,
+    keeper: &mut K,
+    by: By,
+    transcript: &str,
+) -> Result<(), Fail> {
     let wanted = whole(alloc, transcript)?;
-    let told = replay(alloc, keeper, wanted.as_str())?;
+    let told = replay_by(alloc, keeper, by, wanted.as_str())?;
     for (line, wanted) in told.lines().zip(wanted.lines()) {
         assert_eq!(rt; line, wanted);
     }
