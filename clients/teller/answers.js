@@ -1,0 +1,103 @@
+// What an answer of the counter is, read exactly: a text that isn't just that of an answer to what was asked is none, whatever a proxy or a fault on the way made of it.
+
+import { readDay, readMoney, readSerial } from "./spelling.js";
+
+const REFUSED_KEYS = ["code", "month", "refused", "serial", "ticket"];
+const FAULT_KEYS = ["code", "fault", "field"];
+
+function parsed(text) {
+  try {
+    const value = JSON.parse(text);
+    return typeof value === "object" && value !== null && !Array.isArray(value) ? value : null;
+  } catch {
+    return null;
+  }
+}
+
+// The value, where its compact text with these keys in this order is the text.
+function exactly(text, keys) {
+  const value = parsed(text);
+  if (value === null) return null;
+  const same = Object.fromEntries(keys.filter((key) => key in value).map((key) => [key, value[key]]));
+  return JSON.stringify(same) === text ? same : null;
+}
+
+function isNumber(value) {
+  return Number.isSafeInteger(value) && value >= 0;
+}
+
+function centsOf(text) {
+  return typeof text === "string" ? readMoney(text) : null;
+}
+
+function isDay(text) {
+  return typeof text === "string" && readDay(text) === text;
+}
+
+function lineOf(line) {
+  const one = exactly(JSON.stringify(line), ["paid", "serial"]);
+  if (one === null || typeof one.serial !== "string" || readSerial(one.serial) !== one.serial) return null;
+  const cents = centsOf(one.paid);
+  return cents === null ? null : { serial: one.serial, cents };
+}
+
+// A ticket whose lines add up to its total.
+export function readTicket(text) {
+  const value = exactly(text, ["day", "lines", "payee", "ticket", "total"]);
+  if (value === null || !isDay(value.day) || !isNumber(value.payee) || !isNumber(value.ticket) || !Array.isArray(value.lines)) return null;
+  const lines = value.lines.map(lineOf);
+  const total = centsOf(value.total);
+  if (total === null || lines.length === 0 || lines.includes(null)) return null;
+  return lines.reduce((cents, line) => cents + line.cents, 0n) === total ? { kind: "ticket", day: value.day, payee: value.payee, ticket: value.ticket, lines, total } : null;
+}
+
+export function readBatch(text) {
+  const value = exactly(text, ["bonds", "day", "tickets", "total"]);
+  if (value === null || !isDay(value.day) || !isNumber(value.bonds) || !isNumber(value.tickets)) return null;
+  const total = centsOf(value.total);
+  return total === null ? null : { kind: "batch", day: value.day, bonds: value.bonds, tickets: value.tickets, total };
+}
+
+function readOpened(text) {
+  const value = exactly(text, ["opened"]);
+  return value !== null && isDay(value.opened) ? { kind: "opened", day: value.opened } : null;
+}
+
+function isTicketOf(ticket, { day, payee, serials }) {
+  return ticket.day === day && ticket.payee === payee && ticket.lines.length === serials.length && ticket.lines.every((line, place) => line.serial === serials[place]);
+}
+
+// The reply to an act, where the text is one and speaks of just what was asked.
+export function replyTo(path, fields, text) {
+  if (path === "/redeem") {
+    const ticket = readTicket(text);
+    return ticket !== null && isTicketOf(ticket, fields) ? ticket : null;
+  }
+  const reply = path === "/day/open" ? readOpened(text) : readBatch(text);
+  return reply !== null && reply.day === fields.day ? reply : null;
+}
+
+function readRefused(text) {
+  const value = exactly(text, REFUSED_KEYS);
+  return value !== null && isNumber(value.code) && typeof value.refused === "string" ? { kind: "refused", name: value.refused, ...value } : null;
+}
+
+function readFault(text) {
+  const value = exactly(text, FAULT_KEYS);
+  return value !== null && isNumber(value.code) && typeof value.fault === "string" ? { kind: "fault", name: value.fault, ...value } : null;
+}
+
+function readUnserved(text) {
+  const value = exactly(text, ["code", "unserved"]);
+  return value !== null && isNumber(value.code) && typeof value.unserved === "string" ? { kind: "unserved", name: value.unserved, ...value } : null;
+}
+
+// What was answered: what `read` makes of a 200, a refusal, a fault, a request that wasn't served, or no answer of the counter.
+export function readAnswer(status, text, read) {
+  const other = { kind: "none", why: status === 401 ? "the password was not accepted" : `something else answered (status ${status})` };
+  if (status === 200) return read(text) ?? other;
+  if (status === 409) return readRefused(text) ?? other;
+  if (status === 503) return readUnserved(text) ?? other;
+  if ([400, 404, 405, 413].includes(status)) return readFault(text) ?? other;
+  return other;
+}

@@ -1,0 +1,79 @@
+// The journal of a desk's request numbers: one record in the browser's storage, which is on the disk before `save` answers, so that it also outlives a browser that is killed.
+//
+// The record: `desk`, and `next`, the least number that no request has had; `open`, the request that has no reply yet, with its number and how often it was sent; `day`, the day
+// that this page works on; and `last`, the number of the last ticket that this page was told. Of bonds and customers it has just what the open request names.
+
+const NAME = "ladwenpik-teller";
+const KEY = "journal";
+
+function answered(request) {
+  return new Promise((resolve, reject) => {
+    request.onsuccess = () => resolve(request.result);
+    request.onerror = () => reject(request.error);
+  });
+}
+
+function completed(transaction) {
+  return new Promise((resolve, reject) => {
+    transaction.oncomplete = () => resolve();
+    transaction.onerror = () => reject(transaction.error);
+    transaction.onabort = () => reject(transaction.error);
+  });
+}
+
+export class Journal {
+  #database;
+  #record;
+  #changes = Promise.resolve();
+
+  constructor(database, record) {
+    this.#database = database;
+    this.#record = record;
+  }
+
+  static async open() {
+    const request = indexedDB.open(NAME, 1);
+    request.onupgradeneeded = () => request.result.createObjectStore(KEY);
+    const database = await answered(request);
+    // A browser that is short of room then drops other pages' storage first. Where it declines, the journal is kept as any page's storage is.
+    navigator.storage.persist().catch(() => false);
+    const record = await answered(database.transaction(KEY).objectStore(KEY).get(KEY));
+    return new Journal(database, record ?? null);
+  }
+
+  get record() {
+    return this.#record;
+  }
+
+  // Once in the life of a browser's storage. The first number is the time in milliseconds, above all that this desk has used before by counting up from an earlier one.
+  async choose(desk) {
+    if (this.#record !== null) throw new Error("the desk was chosen before");
+    await this.#write({ desk, next: Date.now(), open: null, day: null, last: null });
+  }
+
+  // One change after another, each of the record that the one before left.
+  change(changes) {
+    const changed = this.#changes.then(() => this.#write({ ...this.#record, ...changes }));
+    this.#changes = changed.catch(() => {});
+    return changed;
+  }
+
+  async #write(record) {
+    const transaction = this.#database.transaction(KEY, "readwrite", { durability: "strict" });
+    transaction.objectStore(KEY).put(record, KEY);
+    await completed(transaction);
+    this.#record = record;
+  }
+}
+
+// Answers when this page alone has the journal of this browser. `waiting` is called where another page has it now.
+export async function takeJournal(waiting) {
+  const taken = (options) =>
+    new Promise((resolve, reject) => {
+      const held = (lock) => (lock === null ? resolve(false) : new Promise(() => resolve(true)));
+      navigator.locks.request(NAME, options, held).catch(reject);
+    });
+  if (await taken({ ifAvailable: true })) return;
+  waiting();
+  await taken({});
+}

@@ -1,0 +1,82 @@
+// The spellings of docs/FORMATS.md: customers, desks, serial numbers, months, days and money. A reader answers null where the text spells no value.
+
+const MONTHS = ["January", "February", "March", "April", "May", "June", "July", "August", "September", "October", "November", "December"];
+
+function wholeNumber(text, most_digits, least, most) {
+  if (!/^[0-9]+$/.test(text) || text.length > most_digits) return null;
+  const value = Number(text);
+  return value >= least && value <= most ? value : null;
+}
+
+export function readCustomer(text) {
+  return wholeNumber(text.trim(), 9, 1, 999999999);
+}
+
+export function readDesk(text) {
+  return wholeNumber(text.trim(), 3, 0, 999);
+}
+
+export function readTicketNumber(text) {
+  return wholeNumber(text.trim(), 15, 1, Number.MAX_SAFE_INTEGER);
+}
+
+// The one printed spelling of a serial number. What a teller types may have small letters and spaces.
+export function readSerial(text) {
+  const parts = /^([A-Z])-?([0-9]{1,10})-?EE$/.exec(text.replace(/\s/g, "").toUpperCase());
+  if (parts === null || Number(parts[2]) === 0) return null;
+  return `${parts[1]}${Number(parts[2])}EE`;
+}
+
+// A month as YYYY-MM, read from that or from MM/YYYY.
+export function readMonth(text) {
+  const parts = /^([0-9]{4})-([0-9]{2})$/.exec(text.trim()) ?? /^(?<month>[0-9]{2})\/(?<year>[0-9]{4})$/.exec(text.trim());
+  if (parts === null) return null;
+  const [year, month] = parts.groups === undefined ? [parts[1], parts[2]] : [parts.groups.year, parts.groups.month];
+  const spelled = `${year}-${month}`;
+  return month >= "01" && month <= "12" && spelled >= "2005-05" && spelled <= "2199-12" ? spelled : null;
+}
+
+// A real day as YYYY-MM-DD.
+export function readDay(text) {
+  const day = text.trim();
+  if (!/^[0-9]{4}-[0-9]{2}-[0-9]{2}$/.test(day) || readMonth(day.slice(0, 7)) === null) return null;
+  const date = new Date(`${day}T00:00:00Z`);
+  return !Number.isNaN(date.getTime()) && date.toISOString().slice(0, 10) === day ? day : null;
+}
+
+export function monthOf(day) {
+  return day.slice(0, 7);
+}
+
+export function monthInWords(month) {
+  return `${MONTHS[Number(month.slice(5)) - 1]} ${month.slice(0, 4)}`;
+}
+
+export function dayInWords(day) {
+  return `${Number(day.slice(8))} ${monthInWords(monthOf(day))}`;
+}
+
+export function today() {
+  const now = new Date();
+  const two = (number) => String(number).padStart(2, "0");
+  return `${now.getFullYear()}-${two(now.getMonth() + 1)}-${two(now.getDate())}`;
+}
+
+// Cents, from the printed text of money.
+export function readMoney(text) {
+  return /^(0|[1-9][0-9]*)\.[0-9]{2}$/.test(text) ? BigInt(text.replace(".", "")) : null;
+}
+
+export function printMoney(cents) {
+  const digits = cents.toString().padStart(3, "0");
+  return `${digits.slice(0, -2)}.${digits.slice(-2)}`;
+}
+
+// Money as tellers read it, with a comma after each three digits.
+export function moneyInWords(cents) {
+  return `$${printMoney(cents).replace(/\B(?=([0-9]{3})+\.)/g, ",")}`;
+}
+
+export function counted(count, one, many) {
+  return `${count} ${count === 1 ? one : many}`;
+}

@@ -1,0 +1,49 @@
+// Which view is shown: that of the address's hash. The keyboard goes to its heading.
+
+import { byId, show } from "./elements.js";
+
+const VIEWS = ["day", "pay", "tickets", "batches"];
+const OTHERS = ["start", "waiting"];
+
+function showOnly(name) {
+  show(byId("starting"), false);
+  for (const view of [...VIEWS, ...OTHERS]) show(byId(view), view === name);
+  for (const link of document.querySelectorAll("#views a")) {
+    if (link.hash === `#${name}`) link.setAttribute("aria-current", "page");
+    else link.removeAttribute("aria-current");
+  }
+  document.title = `${byId(name).querySelector("h1").textContent} – Counter`;
+}
+
+function focusHeading(name) {
+  byId(name).querySelector("h1").focus({ preventScroll: true });
+  scrollTo(0, 0);
+}
+
+function named() {
+  const name = location.hash.slice(1);
+  return VIEWS.includes(name) ? name : "day";
+}
+
+// A view that has no address: before a desk is chosen, and where another tab has it.
+export function showOther(name) {
+  show(byId("views"), false);
+  showOnly(name);
+}
+
+export function goTo(name) {
+  if (named() === name) showOnly(name);
+  else location.hash = name;
+}
+
+// `entered` is called with the name of each view that is shown.
+export function startViews(entered) {
+  show(byId("views"), true);
+  showOnly(named());
+  entered(named());
+  addEventListener("hashchange", () => {
+    showOnly(named());
+    entered(named());
+    focusHeading(named());
+  });
+}

@@ -1,0 +1,180 @@
+"""The page in Debian's Chromium, as a teller sees it and a keyboard works it."""
+import tempfile
+import time
+
+from selenium import webdriver
+from selenium.common.exceptions import StaleElementReferenceException, TimeoutException, WebDriverException
+from selenium.webdriver.chrome.service import Service
+from selenium.webdriver.common.action_chains import ActionChains
+from selenium.webdriver.common.by import By
+from selenium.webdriver.common.keys import Keys
+from selenium.webdriver.support.ui import WebDriverWait
+
+from bank import PASSWORD, USER
+
+PATIENCE = 60
+
+
+class Page:
+    """A browser of its own, with storage of its own; the same `profile` again is the same browser started again."""
+
+    def __init__(self, bank, profile=None, size=(1100, 820)):
+        self.bank = bank
+        self.profile = profile or tempfile.mkdtemp(dir=bank.folder)
+        options = webdriver.ChromeOptions()
+        options.binary_location = "/usr/bin/chromium"
+        options.accept_insecure_certs = True
+        own = (f"--user-data-dir={self.profile}", f"--window-size={size[0]},{size[1]}")
+        for word in ("--headless=new", "--no-sandbox", "--disable-dev-shm-usage", "--force-device-scale-factor=1", "--hide-scrollbars", *own):
+            options.add_argument(word)
+        options.set_capability("goog:loggingPrefs", {"browser": "ALL"})
+        self.driver = webdriver.Chrome(service=Service("/usr/bin/chromedriver"), options=options)
+        bank.pages.append(self)
+        self.log_in()
+
+    def log_in(self):
+        credentials = f"{USER}:{PASSWORD.replace(' ', '%20')}@"
+        self.load(lambda: self.driver.get(f"https://{credentials}127.0.0.1:{self.bank.port}/teller/icon.svg"))
+        self.load(lambda: self.driver.get(f"https://127.0.0.1:{self.bank.port}/teller/"))
+
+    def load(self, action):
+        """Once more where the machine's network was changed meanwhile, by something else than this test."""
+        for _ in range(10):
+            try:
+                return action()
+            except WebDriverException as failure:
+                if "ERR_NETWORK_CHANGED" not in str(failure):
+                    raise
+        raise AssertionError("the machine's network doesn't rest")
+
+    def reload(self):
+        self.load(self.driver.refresh)
+
+    def quit(self):
+        if self.driver.service.process.poll() is None:
+            self.driver.quit()
+
+    def find(self, selector):
+        return self.driver.find_element(By.CSS_SELECTOR, selector)
+
+    def all(self, selector):
+        return self.driver.find_elements(By.CSS_SELECTOR, selector)
+
+    def run(self, script, *arguments):
+        return self.driver.execute_script(script, *arguments)
+
+    def run_module(self, script, *arguments):
+        """A script that may import the page's own modules and await; what it returns."""
+        text = "const done = arguments[arguments.length - 1]; (async (...given) => {" + script + "})(...arguments).then(done, (error) => done('ERROR ' + error));"
+        return self.driver.execute_async_script(text, *arguments)
+
+    def until(self, condition, what):
+        try:
+            return WebDriverWait(self.driver, PATIENCE, 0.05, [StaleElementReferenceException]).until(lambda _: condition())
+        except TimeoutException:
+            raise AssertionError(f"{what}\n{self.text()}") from None
+
+    def text(self):
+        return self.find("body").text
+
+    def waits_for(self, words, selector="body"):
+        def seen():
+            return any(words in element.text for element in self.all(selector))
+        self.until(seen, f"the page doesn't show: {words}")
+
+    def choose_desk(self, desk):
+        self.waits_for("Choose a desk")
+        self.type("#desk", str(desk))
+        self.press("#start button")
+        self.waits_for(f"Desk {desk}.", "#state")
+
+    def type(self, selector, text):
+        field = self.find(selector)
+        field.send_keys(Keys.CONTROL, "a")
+        field.send_keys(text)
+
+    def press(self, selector):
+        self.find(selector).click()
+
+    def go(self, view):
+        self.until(lambda: self.find("nav").is_displayed(), "the page has started")
+        self.press(f"nav a[href='#{view}']")
+        self.until(lambda: self.find(f"#{view}").is_displayed(), f"the view {view}")
+
+    def keys(self, *keys):
+        """Keys for whatever has the keyboard."""
+        for key in keys:
+            ActionChains(self.driver).send_keys(key).perform()
+
+    def tab_to(self, selector, back=False):
+        """Tabs until that element has the keyboard; how many keys it took."""
+        for count in range(80):
+            if self.run("return document.activeElement !== null && document.activeElement.matches(arguments[0])", selector):
+                return count
+            if back:
+                ActionChains(self.driver).key_down(Keys.SHIFT).send_keys(Keys.TAB).key_up(Keys.SHIFT).perform()
+            else:
+                self.keys(Keys.TAB)
+        raise AssertionError(f"no tab reaches {selector}")
+
+    # ---- the acts of a teller
+
+    def open_day(self, day):
+        self.go("day")
+        self.type("#open-date", day)
+        self.press("#open-day button")
+
+    def join_day(self, day):
+        self.go("day")
+        self.type("#join-date", day)
+        self.press("#join-day button")
+
+    def close_day(self):
+        self.go("day")
+        self.press("#close-day button")
+        self.press("#confirm-yes")
+
+    def show_sheet(self, customer, month=None):
+        self.go("pay")
+        self.type("#customer", str(customer))
+        if month is not None:
+            self.type("#month", month)
+        self.press("#ask-sheet button")
+        self.waits_for(f"ustomer {customer} ", "#sheet")
+
+    def choose(self, *serials):
+        for serial in serials:
+            self.press(f"input[aria-label='Pay bond {serial}']")
+
+    def add(self, *serials):
+        for serial in serials:
+            self.type("#serial", serial)
+            self.press("#add-bond button")
+
+    def pay(self, payee=None):
+        if payee is not None:
+            self.type("#payee", str(payee))
+        self.press("#pay-bonds button:not([type])")
+        self.until(lambda: self.find("#confirm").is_displayed(), "the page asks once more")
+        self.press("#confirm-yes")
+
+    def journal(self):
+        return self.run_module("""
+            const request = indexedDB.open("ladwenpik-teller", 1);
+            const database = await new Promise((resolve) => { request.onsuccess = () => resolve(request.result); });
+            const get = database.transaction("journal").objectStore("journal").get("journal");
+            const record = await new Promise((resolve) => { get.onsuccess = () => resolve(get.result); });
+            database.close();
+            return record ?? null;
+        """)
+
+    def settled(self):
+        """Nothing is open, and no step is shown."""
+        self.until(lambda: (self.journal() or {}).get("open") is None and self.find("#progress").get_attribute("class") == "", "the request is settled")
+
+    def complaints(self):
+        """What the browser's console was told that speaks of a fault of the page itself."""
+        return [entry["message"] for entry in self.driver.get_log("browser") if "Failed to load resource" not in entry["message"]]
+
+    def sleep(self, seconds):
+        time.sleep(seconds)

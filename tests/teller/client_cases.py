@@ -1,0 +1,305 @@
+"""What clients/counter.py does: a day, each fault, used numbers, refusals, journals, files."""
+import json
+import re
+import subprocess
+import sys
+import time
+
+import counter as client
+from bank import PASSWORD, TOP, USER
+from books import Books
+from gate import AFTER, BEFORE
+from samples import TOO_YOUNG, UNISSUED, VALUES, begin, bonds_of, rates, right
+
+SUM = sum(VALUES.values())
+DAY = "2012-02-06"
+
+
+def printed(cents):
+    return f"{cents // 100}.{cents % 100:02}"
+
+
+def books_of(bank):
+    bank.server.end()
+    books = Books(bank.store)
+    books.check()
+    return books
+
+
+def command(bank, *words, journal="desk3.journal", proxied=True):
+    """The client's command, by nginx with its password, or straight to the gate; its status, output and faults."""
+    line = [sys.executable, "-W", "error", "-B", TOP / "clients" / "counter.py", "--journal", bank.folder / journal, "--desk", "3"]
+    if proxied:
+        (bank.folder / "password").write_text(PASSWORD + "\n")
+        line += ["--at", f"https://localhost:{bank.port}", "--user", USER, "--password-file", bank.folder / "password", "--certificate", bank.folder / "certificate.pem"]
+    else:
+        line += ["--at", f"http://127.0.0.1:{bank.gate.port}"]
+    ran = subprocess.run([*line, *words], capture_output=True, text=True, timeout=600)
+    return ran.returncode, ran.stdout, ran.stderr
+
+
+def at_gate(bank, journal="desk3.journal", desk=3, **more):
+    return client.Counter(str(bank.folder / journal), f"http://127.0.0.1:{bank.gate.port}", desk=desk, **more)
+
+
+def a_day(bank):
+    """By the command, through TLS and a password."""
+    sheet = "Total" + " " * 52
+    steps = (
+        (("rates", "samples/rates.csv"), '{"new":32,"same":0}\n'),
+        (("register", "samples/inventory.csv"), '{"new":3,"same":0,"before":0}\n'),
+        (("open", DAY), '{"opened":"2012-02-06"}\n'),
+        (("redeem", DAY, "7", "L1EE", "K2EE"), '{"day":"2012-02-06","lines":[{"paid":"25.16","serial":"L1EE"},{"paid":"38.07","serial":"K2EE"}],"payee":7,"ticket":1,"total":"63.23"}\n'),
+        (("ticket", "1"), '{"day":"2012-02-06","lines":[{"paid":"25.16","serial":"L1EE"},{"paid":"38.07","serial":"K2EE"}],"payee":7,"ticket":1,"total":"63.23"}\n'),
+        (("redeem", DAY, "7", "M3EE"), '{"day":"2012-02-06","lines":[{"paid":"5024.00","serial":"M3EE"}],"payee":7,"ticket":2,"total":"5024.00"}\n'),
+        (("close", DAY), '{"bonds":3,"day":"2012-02-06","tickets":2,"total":"5087.23"}\n'),
+        (("batch", DAY), '{"bonds":3,"day":"2012-02-06","tickets":2,"total":"5087.23"}\n'),
+        (("value", "50", "2010-11", "2012-02"), '{"denom":50,"final":"2040-11","interest":"0.16","issued":"2010-11","next":"2012-03","note":"P5","price":"25.00","rate":"0.60%","value":"25.16"}\n'),
+    )
+    for words, wanted in steps:
+        status, out, told = command(bank, *(str(TOP / word) if word.startswith("samples/") else word for word in words))
+        right((status, out) == (0, wanted), f"{' '.join(words)}: {out.strip()}", (status, out, told))
+    status, out, _ = command(bank, "sheet", "7", "2012-02")
+    right(status == 0 and out.startswith("Serial ") and out.splitlines()[-1].startswith(sheet[:20]), "the sheet is printed as the counter gave it")
+    status, out, told = command(bank, "ticket", "9")
+    right((status, out) == (1, "") and told == "there is no such ticket\n", "a ticket that isn't there has status 1", told)
+    status, out, told = command(bank, "redeem", DAY, "7", "M3EE")
+    right((status, out) == (1, '{"code":42,"refused":"NoOpenDay"}\n') and told == "refused: NoOpenDay (code 42)\n", "a refusal has status 1", (out, told))
+    right((bank.folder / "desk3.journal").stat().st_mode & 0o777 == 0o600, "the journal is its user's alone")
+    right(books_of(bank).rows("SELECT day, tickets, bonds, total FROM batches") == [(15376, 2, 3, SUM)], "the books have the day")
+
+
+def each_fault(bank):
+    """Each act meets each fault, by the module: the same bytes again, and one reply."""
+    faults = [fault for fault in AFTER + BEFORE if fault != "silent"]
+    begin(bank, [])
+    met = []
+    with at_gate(bank, told=met.append) as counter:
+        for place, fault in enumerate(faults):
+            day, owner = f"2012-02-{6 + place:02}", 1000 + place
+            bonds = bonds_of(owner)
+            serials = [bond["serial"] for bond in bonds]
+            acts = (
+                (lambda: counter.add_bonds(bonds), {"new": 3, "same": 0}),
+                (lambda: counter.open_day(day), {"opened": day}),
+                (lambda: counter.redeem(day, owner, serials)["total"], printed(SUM)),
+                (lambda: counter.close_day(day), {"bonds": 3, "day": day, "tickets": 1, "total": printed(SUM)}),
+            )
+            for act, wanted in acts:
+                meets(bank, counter, fault, act, wanted)
+            right(True, f"four acts, each met by: {fault}")
+        silent(bank)
+    sent = sum("no reply" in text for text in met)
+    books = books_of(bank)
+    right(books.one("SELECT count(*) FROM answers WHERE desk = 3") == 4 * len(faults), f"{4 * len(faults)} requests with one reply each; {sent} sendings without a reply, {bank.server.kills} kills")
+
+
+def meets(bank, counter, fault, act, wanted):
+    sent = len(bank.gate.bodies)
+    bank.gate.faults = [fault, fault]
+    found = act()
+    bodies = bank.gate.bodies[sent:]
+    assert found == wanted and counter.again and counter.open_request is None, (fault, found)
+    assert len(bodies) >= 3 and len(set(bodies)) == 1, (fault, bodies)
+
+
+def silent(bank):
+    """A time limit, and a patience that is over: the request stays open, another is not sent, and the same one gives the reply."""
+    with at_gate(bank, journal="silent.journal", desk=4, time_limit=1, patience=0.5) as counter:
+        bank.gate.faults = ["silent"]
+        try:
+            counter.redeem(DAY, 7, ["A1EE"])
+            right(False, "a silent counter")
+        except client.NoReply as failure:
+            right("timed out" in str(failure), f"a silent counter: {failure}")
+    with at_gate(bank, journal="silent.journal", desk=4) as counter:
+        try:
+            counter.redeem(DAY, 7, ["A2EE"])
+            right(False, "a second request while one is open")
+        except client.StillOpen as failure:
+            right(True, f"a second request while one is open: {failure}")
+        for ask in (lambda: counter.redeem(DAY, 7, ["A1EE"]), lambda: counter.finish()):
+            refused_or_none(counter, ask)
+
+
+def refused_or_none(counter, ask):
+    try:
+        right(ask() is None, "then nothing is open")
+    except client.Refused as refusal:
+        right(counter.again and refusal.code in (42, 43), f"the same request again has its reply: {refusal}")
+
+
+def numbers_used(bank):
+    begin(bank, [7], DAY)
+    with at_gate(bank) as counter:
+        number = counter.journal.record["next"]
+        for used in range(number, number + 10):
+            bank.expect(409, "/redeem", {"desk": 3, "number": used, "day": DAY, "payee": 7, "serials": ["A1EE"]})
+        bank.gate.faults = ["lost answer"]
+        ticket = counter.redeem(DAY, 7, ["L7EE"])
+        sent = [json.loads(body)["number"] - number for body in bank.gate.bodies]
+        right(sent == [0, 0, 1, 3, 7, 15] and ticket["ticket"] == 1, "past used numbers by 1, 2, 4 and 8", sent)
+        counter.redeem(DAY, 7, ["K7EE"])
+        right(json.loads(bank.gate.bodies[-1])["number"] == number + 16, "and on from there")
+    books = books_of(bank)
+    right(books.one("SELECT count(*) FROM tickets") == 2, "each was done once")
+
+
+# ---- the document
+
+
+def commands_of(text):
+    """Each command of a document's blocks, with what it prints."""
+    found = []
+    for block in text.split("```")[1::2]:
+        for line in block.splitlines()[1:]:
+            if line.startswith("$ "):
+                found.append((line[2:], []))
+            elif found and block.lstrip("\n").startswith("$ "):
+                found[-1][1].append(line)
+    return found
+
+
+def document(bank):
+    """The commands of docs/TELLERS.md, run as written in one shell, in a folder that has the repository's files by links."""
+    folder = bank.folder / "top"
+    folder.mkdir()
+    for name in ("clients", "samples"):
+        (folder / name).symlink_to(TOP / name)
+    (folder / "ee_cli").symlink_to(bank.server.program)
+    shell = subprocess.Popen(["bash"], stdin=subprocess.PIPE, stdout=subprocess.PIPE, stderr=subprocess.STDOUT, text=True, cwd=folder)
+    try:
+        for line, wanted in commands_of((TOP / "docs" / "TELLERS.md").read_text()):
+            printed_by(shell, line, wanted)
+        shell.stdin.write("kill $(jobs -p)\n")
+    finally:
+        shell.stdin.close()
+        shell.wait(timeout=60)
+
+
+def printed_by(shell, line, wanted):
+    shell.stdin.write(f"{line}\necho END OF IT\n")
+    shell.stdin.flush()
+    found = []
+    while not found or found[-1] != "END OF IT":
+        found.append(shell.stdout.readline().rstrip("\n"))
+    numberless = [[re.sub("^request [0-9]+ ", "request N ", text) for text in texts] for texts in (found[:-1], wanted)]
+    right(numberless[0] == numberless[1], f"as written: {line}", found)
+    if line.endswith("&"):
+        time.sleep(1)
+
+
+# ---- refusals
+
+
+def refusals(bank):
+    """Each refusal that this client can be told, from the true counter: code, name and details."""
+    begin(bank, [7], DAY)
+    bank.expect(200, "/bonds", {"desk": 900, "number": 50, "bonds": [TOO_YOUNG, UNISSUED]})
+    bond = {"serial": "A1EE", "denom": 50, "issued": "2010-11", "owner": 7}
+    with at_gate(bank) as counter:
+        counter.redeem(DAY, 7, ["M7EE"])
+        wanted = (
+            (11, "Empty", {}, lambda: counter.add_bonds([])),
+            (12, "TooMany", {}, lambda: counter.redeem(DAY, 7, [f"A{number}EE" for number in range(1, 102)])),
+            (13, "Repeated", {"serial": "L7EE"}, lambda: counter.redeem(DAY, 7, ["L7EE", "L-007-EE"])),
+            (14, "SameCoowner", {"serial": "A1EE"}, lambda: counter.add_bonds([{**bond, "coowner": 7}])),
+            (20, "NotAnnouncementMonth", {"month": "2010-06"}, lambda: counter.add_rates([{"from": "2010-06", "rate": "1.00"}])),
+            (21, "RateConflict", {"month": "2010-05"}, lambda: counter.add_rates([{"from": "2010-05", "rate": "9.99"}])),
+            (30, "NoRate", {"serial": "A1EE"}, lambda: counter.add_bonds([{**bond, "issued": "2021-06"}])),
+            (31, "SerialConflict", {"serial": "L7EE"}, lambda: counter.add_bonds([{**bond, "serial": "L7EE", "owner": 8}])),
+            (40, "DayOpen", {}, lambda: counter.open_day("2012-02-07")),
+            (43, "DayIsOther", {}, lambda: counter.close_day("2012-02-07")),
+            (50, "UnknownSerial", {"serial": "A1EE"}, lambda: counter.redeem(DAY, 7, ["A1EE"])),
+            (51, "NotPayee", {"serial": "L7EE"}, lambda: counter.redeem(DAY, 8, ["L7EE"])),
+            (52, "AlreadyPaid", {"serial": "M7EE", "ticket": 1}, lambda: counter.redeem(DAY, 7, ["M7EE"])),
+            (53, "NotIssued", {"serial": "Q7EE"}, lambda: counter.redeem(DAY, 7, ["Q7EE"])),
+            (54, "NotEligible", {"serial": "N7EE"}, lambda: counter.redeem(DAY, 7, ["N7EE"])),
+        )
+        for code, name, details, act in wanted:
+            is_refused(code, name, details, act)
+        counter.close_day(DAY)
+        is_refused(41, "DayNotLater", {}, lambda: counter.open_day(DAY))
+        is_refused(42, "NoOpenDay", {}, lambda: counter.close_day(DAY))
+        is_refused(30, "NoRate", {}, lambda: counter.value(50, "2021-06", "2023-01"))
+        misfits(counter)
+
+
+def is_refused(code, name, details, act):
+    try:
+        right(False, name, act())
+    except client.Refused as refusal:
+        right((refusal.code, refusal.name, refusal.details) == (code, name, details), str(refusal), refusal.reply)
+
+
+def misfits(counter):
+    """What the counter can't read is a Fault, and the request is open no more; what this module can't spell is told before it is sent."""
+    try:
+        right(False, "a field that the counter doesn't know", counter.act("/day/open", {"day": DAY, "more": 1}))
+    except client.Fault as fault:
+        right((fault.code, fault.field) == (65, "other") and counter.open_request is None, f"a field that the counter doesn't know: {fault}")
+    sent = counter.journal.record["next"]
+    for wrong in (lambda: counter.open_day("2012-02-30"), lambda: counter.redeem(DAY, 0, ["L1EE"]), lambda: counter.redeem(DAY, 7, ["l1ee"]), lambda: counter.ticket(0)):
+        try:
+            right(False, "a misspelled value", wrong())
+        except client.BadValue as fault:
+            right(counter.journal.record["next"] == sent, f"nothing is sent where {fault}")
+
+
+def journals(bank):
+    """One process has a journal; a journal is of one desk; what is no journal isn't written over."""
+    begin(bank, [7], DAY)
+    with at_gate(bank):
+        status, _, told = command(bank, "ticket", "1", proxied=False)
+        right(status == 3 and "another process has the journal" in told, "a second process on one journal is refused", told)
+    try:
+        at_gate(bank, desk=4)
+        right(False, "a journal of another desk")
+    except client.BadJournal as fault:
+        right("the journal of desk 3" in str(fault), "a journal of another desk is refused", fault)
+    (bank.folder / "other").write_text("no journal\n")
+    status, _, told = command(bank, "ticket", "1", journal="other", proxied=False)
+    right(status == 3 and (bank.folder / "other").read_text() == "no journal\n", "a file that is no journal is left as it is", told)
+    begun = time.monotonic()
+    with at_gate(bank, journal="quick.journal") as counter:
+        for serial in ("K7EE", "L7EE", "M7EE"):
+            counter.redeem(DAY, 7, [serial], bookmark=serial)
+        right(counter.bookmark == "M7EE" and counter.last["reply"]["ticket"] == 3, f"three payments in {time.monotonic() - begun:.2f} seconds; the bookmark is that of the last")
+
+
+# ---- files
+
+
+def bad_files(bank):
+    """Each fault of a file is told by its row, and nothing is sent."""
+    files = (
+        ("serial,denom,issued,owner\n", "row 1: the header isn't serial,denom,issued,owner,coowner"),
+        ("serial,denom,issued,owner,coowner\nL1EE,50,2010-11,7\n", "row 2: it has 4 fields, and not 5"),
+        ("serial,denom,issued,owner,coowner\nL1EE,50,2010-11,7,\nX,50,2010-11,7,\n", "row 3: 'X' is no serial number, as C12EE"),
+        ("serial,denom,issued,owner,coowner\nL1EE,51,2010-11,7,\n", "row 2: '51' is no denomination"),
+        ("serial,denom,issued,owner,coowner\nL1EE,50,2010-11,7,\n\nK1EE,50,2010-11,7,\nL-1-EE,50,2010-11,7,\n", "row 4: L1EE stands in row 2 already"),
+    )
+    for text, wanted in files:
+        (bank.folder / "bad.csv").write_text(text)
+        status, _, told = command(bank, "register", str(bank.folder / "bad.csv"), proxied=False)
+        right((status, told) == (2, wanted + "\n"), wanted, told)
+    right(bank.gate.bodies == [], "and nothing was sent")
+
+
+def refused_rows(bank):
+    """A row that the counter refuses stops a registration; with that row mended it goes on from there."""
+    bank.expect(200, "/rates", {"desk": 900, "number": 1, "rates": rates()})
+    rows = [f"A{number}EE,50,2010-11,7," for number in range(1, 1801)]
+    file = bank.folder / "bonds.csv"
+    file.write_text("\n".join(["serial,denom,issued,owner,coowner", *rows[:1200], rows[1200].replace("2010-11", "2021-06"), *rows[1201:]]) + "\n")
+    status, out, told = command(bank, "register", str(file), proxied=False)
+    right(status == 1 and out == '{"code":30,"refused":"NoRate","serial":"A1201EE"}\n' and "rows 1002 to 1501 of the file" in told, "a row that is refused is told with its rows", (out, told))
+    file.write_text("\n".join(["serial,denom,issued,owner,coowner", *rows]) + "\n")
+    status, out, told = command(bank, "register", str(file), proxied=False)
+    right((status, out) == (0, '{"new":800,"same":0,"before":1000}\n'), "with the row mended the rest is registered, and no row twice", (out, told))
+    status, out, told = command(bank, "register", str(file), proxied=False)
+    right((status, out) == (0, '{"new":0,"same":0,"before":1800}\n'), "run once more it sends nothing", (out, told))
+    books = books_of(bank)
+    refused = '{"code":30,"refused":"NoRate","serial":"A1201EE"}'
+    wanted = [('{"new":500,"same":0}',), ('{"new":500,"same":0}',), (refused,), ('{"new":500,"same":0}',), ('{"new":300,"same":0}',)]
+    right(books.rows("SELECT reply FROM answers WHERE desk = 3 ORDER BY number") == wanted, "the books have the replies")
