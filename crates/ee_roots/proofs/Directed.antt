@@ -1,11 +1,11 @@
 -- What directed products and powers keep.
 use Rattle.std.proofs.Common.{◌≡◌, ℕ, zero, suc, ◌+◌, ◌-◌, ◌*◌, ◌/◌, ◌^◌, ◌<◌, ◌≤◌, arith, add-one, refl, sym, ap, ◌∙◌, subst, inl, inr}
-use Rattle.std.proofs.Math.Nat.{div-mul-le_self, lt-div-mul-add, mul-le-mul_left, lt_of_mul-lt-mul_left}
+use Rattle.std.proofs.Math.Nat.{div-mul-le_self, lt-div-mul-add, lt_of_mul-lt-mul_left}
 use Rattle.std.proofs.lemmas.Grind.{div_ceil_times}
 use Rattle.std.proofs.lemmas.Nat.{pow_pos, pow-add, mul-le}
 use Rattle.std.proofs.Math.Pow.{pow_mono}
 use Rattle.ee_roots.specs.Products.{down, up, power_down, power_up}
-use Rattle.ee_roots.specs.Roots.{IsLow, IsHigh}
+use Rattle.ee_roots.specs.Roots.{IsLow, IsAbove}
 use Rattle.std.proofs.lemmas.Bool.{cases_lt}
 
 pub down_le : (b p q : ℕ) → down b p q * 2 ^ b ≤ p * q
@@ -44,6 +44,19 @@ pub power_down-mono : (b p q k : ℕ) → p ≤ q → power_down b p k ≤ power
 unfolding power_down
 power_down-mono b p q zero h = h
 power_down-mono b p q (suc k) h = down-mono b (power_down b p k) p (power_down b q k) q (power_down-mono b p q k h) h
+
+down-strict : (b p q p' q' : ℕ) → 2 ^ b ≤ q → p < p' → q ≤ q' → down b p q < down b p' q'
+down-strict b p q p' q' one h k =
+    let e : (p + 1) * q ≤ p' * q' = mul-le (p + 1) q p' q' (omega arith) k in
+    let l : (down b p q + 1) * 2 ^ b ≤ p' * q' = omega (arith, down_le b p q, e, one) in
+    omega (arith, le_by_product (2 ^ b) (down b p q + 1) (down b p' q') (p' * q') l (down_gt b p' q'))
+
+-- from one on a larger base has a larger power
+pub power_down-strict : (b p q k : ℕ) → 2 ^ b ≤ p → p < q → power_down b p k < power_down b q k
+unfolding power_down
+power_down-strict b p q zero one h = h
+power_down-strict b p q (suc k) one h =
+    down-strict b (power_down b p k) p (power_down b q k) q one (power_down-strict b p q k one h) (omega arith)
 
 pub power_up-mono : (b p q k : ℕ) → p ≤ q → power_up b p k ≤ power_up b q k
 unfolding power_up
@@ -185,11 +198,6 @@ pub one_fits : (b r s w : ℕ) → s ≡ 2 ^ b → w ≡ 2 ^ b * (20000 + r) →
 one_fits b r s w one wanted =
     let e : power_up b s 5 ≡ 2 ^ b = ap (λ n. power_up b n 5) one ∙ power_up-one b 5 in omega arith
 
-pub one_misses : (b r s w : ℕ) → 0 < r → s ≡ 2 ^ b → w ≡ 2 ^ b * (20000 + r) → power_down b s 5 * 20000 < w
-one_misses b r s w some one wanted =
-    let e : power_down b s 5 ≡ 2 ^ b = ap (λ n. power_down b n 5) one ∙ power_down-one b 5 in
-    let p : 2 ^ b * 1 ≤ 2 ^ b * r = mul-le-mul_left (2 ^ b) some in omega (arith, pow_pos b)
-
 pub top_reaches : (b r s w : ℕ) → 8 ≤ b → r ≤ 2000 → s ≡ 2 ^ b → w ≡ 2 ^ b * (20000 + r) → w < power_down b (s + s / 32) 5 * 20000
 top_reaches b r s w big small one wanted =
     let t : 32 * (s + s / 32) ≡ 33 * 2 ^ b = rw one (one-div-32 b (omega arith)) in
@@ -210,18 +218,31 @@ IsLow-from_next b r p above w wanted from_one next fits exceeds = (
   ],
 )
 
-pub IsHigh-from_last : (b r p below w : ℕ) → w ≡ 2 ^ b * (20000 + r) → 2 ^ b ≤ p → p ≤ below + 1
-    → power_down b below 5 * 20000 < w → w ≤ power_down b p 5 * 20000 → IsHigh b r p
-IsHigh-from_last b r p below w wanted from_one last misses reaches = (
-  from_one,
-  omega arith,
-  λ q one h. elim (cases_lt q p) [
-    | inl lt ↦ absurd (omega (arith, h, power_down-mono b q below 5 (omega arith)))
-    | inr le ↦ le
-  ],
-)
+-- ---- steps up from the low bound
 
-pub IsHigh-one : (b p : ℕ) → p ≡ 2 ^ b → IsHigh b 0 p
-IsHigh-one b p one =
-    let e : power_down b p 5 ≡ 2 ^ b = ap (λ n. power_down b n 5) one ∙ power_down-one b 5 in
-    (omega arith, omega arith, λ q above h. omega arith)
+-- p is at most each number from one on whose power rounded down reaches the wanted one
+abbrev pub IsAtMostHigh : ℕ → ℕ → ℕ → Type 0
+IsAtMostHigh b r p = (q : ℕ) → 2 ^ b ≤ q → IsAbove b r q → p ≤ q
+
+pub low-at_most_high : (b r low : ℕ) → IsLow b r low → IsAtMostHigh b r low
+low-at_most_high b r low l q one h =
+    elim (cases_lt q low) [
+      | inl lt ↦ absurd (omega (arith, l.1, h, power_down-strict b q low 5 one lt, power_down-le-up b low 5))
+      | inr le ↦ le
+    ]
+
+pub next-at_most_high : (b r p w : ℕ) → w ≡ 2 ^ b * (20000 + r) → power_down b p 5 * 20000 < w → IsAtMostHigh b r p → IsAtMostHigh b r (p + 1)
+next-at_most_high b r p w wanted misses least q one h =
+    elim (cases_lt p q) [
+      | inl lt ↦ omega arith
+      | inr le ↦
+          let same : q ≡ p = omega (arith, le, least q one h) in
+          let here : 2 ^ b * (20000 + r) ≤ power_down b p 5 * 20000 = subst (λ n. IsAbove b r n) same h in
+          absurd (omega (arith, here))
+    ]
+
+pub near-from_least : (b r p : ℕ) → 8 ≤ b → r ≤ 2000 → IsAtMostHigh b r p → 32 * p ≤ 33 * 2 ^ b
+near-from_least b r p big small least =
+    let top = top_reaches b r (2 ^ b) (2 ^ b * (20000 + r)) big small refl refl in
+    let le : p ≤ 2 ^ b + 2 ^ b / 32 = least (2 ^ b + 2 ^ b / 32) (omega arith) (omega (arith, top)) in
+    omega (arith, le, one-div-32 b (omega arith))

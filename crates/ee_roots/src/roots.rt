@@ -66,7 +66,7 @@ pub fn root_bounds(rate: Rate, bits: Bits) -> Root
 {
     let one = one(bits);
     let low = low_root(one, rate, bits);
-    let high = high_root(one, rate, bits);
+    let high = high_root(low, one, rate, bits);
     Root { low, high, bits }
 }
 

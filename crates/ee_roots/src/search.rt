@@ -1,4 +1,4 @@
-//! The searches for the bounds, between 1 and 33/32.
+//! The searches for the bounds: for the low one between 1 and 33/32, for the high one from there on.
 
 ghost use Rattle.std.specs.Prelude.{◌≡◌, ◌+◌, ◌*◌, ◌^◌, ◌≤◌};
 ghost use Rattle.ee_roots.specs.Roots.{IsLow, IsHigh};
@@ -37,27 +37,19 @@ pub fn low_root(one: u128, rate: Rate, bits: Bits) -> u128
     low
 }
 
-/// The high bound of the root.
-pub fn high_root(one: u128, rate: Rate, bits: Bits) -> u128
+/// The high bound of the root: it lies at most 3 above the low one.
+pub fn high_root(low: u128, one: u128, rate: Rate, bits: Bits) -> u128
     requires one { one ≡ 2 ^ bits }
     requires precise { 8 ≤ bits }
     requires fits { bits ≤ 62 }
+    requires low { IsLow bits rate low }
     ensures high { IsHigh bits rate result }
     ensures near_one { 32 * result ≤ 33 * 2 ^ bits }
 {
-    if rate.hundredths() == 0 {
-        return one;
-    }
     let wanted = wanted(one, rate);
-    let mut below = one;
-    let mut high = one + one / 32;
-    while high - below > 1 {
-        let middle = below + (high - below) / 2;
-        if raise_down(middle, 5, bits) * 20_000 < wanted {
-            below = middle;
-        } else {
-            high = middle;
-        }
+    let mut high = low;
+    while raise_down(high, 5, bits) * 20_000 < wanted {
+        high += 1;
     }
     high
 }

@@ -1,6 +1,6 @@
 -- At which ages the value may be refused, with b binary places: where the bounds of a month's growth
 -- round to different cents. Rules of this project; no value is defined by them.
-use Rattle.std.specs.Prelude.{◌≡◌, ℕ, zero, suc, ◌+◌, ◌-◌, ◌*◌, ◌/◌, ◌%◌, ◌^◌, ◌<◌, ◌≤◌, ◌==◌, ◌&&◌, not, Bool, true, false, nat_le, nat_lt, if◌then◌else◌, Option, position}
+use Rattle.std.specs.Prelude.{◌≡◌, ◌≢◌, ℕ, zero, suc, ◌+◌, ◌-◌, ◌*◌, ◌/◌, ◌%◌, ◌^◌, ◌<◌, ◌≤◌, ◌==◌, ◌&&◌, not, Bool, true, false, nat_le, nat_lt, if◌then◌else◌, Option, position}
 use Rattle.std.specs.List.{list_any, range_with_len}
 use Rattle.ee_roots.specs.Products.{power_down, power_up}
 use Rattle.ee_roots.specs.Amounts.{cents}
@@ -28,6 +28,10 @@ is_exact r = list_any (λ k. k * k == 2 * (20000 + r)) (range_with_len 200 10)
 unfoldable pub bounds_differ : ℕ → ℕ → ℕ → ℕ → Bool
 bounds_differ u r m b =
     not (cents b (u * power_down b (low_root b r) (m - 1)) == cents b (u * power_up b (high_root b r) (m - 1)))
+
+-- the growth of m months at rate r is left to the bounds: it isn't none, and isn't known as a fraction
+abbrev pub IsLeftToBounds : ℕ → ℕ → Type 0
+IsLeftToBounds r m = (m ≢ 0) × (r ≢ 0) × (m ≡ 3 → is_exact r ≡ false)
 
 -- whether u, grown for m months of a half-year, is left to the bounds, and they don't settle it
 unfoldable pub is_unsettled : ℕ → ℕ → ℕ → ℕ → Bool

@@ -7,11 +7,9 @@ ghost use Rattle.ee_value.specs.Value.{accrued};
 ghost use Rattle.ee_value.specs.Open.{is_open, Close};
 
 use crate::faults::Unsettled;
-use crate::growth::grown_unit;
+use crate::growth::grown_once;
 use crate::halves::start_unit;
-use crate::powers::Powers;
 use crate::rates::Rates;
-use ee_roots::root_bounds;
 use ee_units::{Age, Bits};
 
 /// The age at which interest stops, in months.
@@ -34,6 +32,5 @@ pub fn unit_at(rates: Rates, age: Age, bits: Bits) -> Result<u64, Unsettled>
     let half_year = counted / 6;
     let start = start_unit(&rates, half_year);
     let rate = rates.rate_in(half_year);
-    let powers = Powers::of(root_bounds(rate, bits));
-    grown_unit(start, rate, (counted % 6) as u8, &powers).ok_or(Unsettled { month: age })
+    grown_once(start, rate, (counted % 6) as u8, bits).ok_or(Unsettled { month: age })
 }

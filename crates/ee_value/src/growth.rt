@@ -1,13 +1,14 @@
 //! Months inside a half-year.
 
-ghost use Rattle.std.specs.Prelude.{◌≡◌, ◌≢◌, ◌+◌, ◌*◌, ◌≤◌, true, false, MatchOption};
+ghost use Rattle.std.specs.Prelude.{◌≡◌, ◌≢◌, ℕ, ◌+◌, ◌-◌, ◌*◌, ◌≤◌, true, false, MatchOption};
+ghost use Rattle.ee_roots.specs.Products.{power_down, power_up};
 ghost use Rattle.ee_roots.specs.Roots.{IsLow, IsHigh};
 ghost use Rattle.ee_value.specs.Rounding.{grown};
-ghost use Rattle.ee_value.specs.Open.{is_exact, is_unsettled, bounds_differ, Close};
+ghost use Rattle.ee_value.specs.Open.{is_exact, IsLeftToBounds, is_unsettled, bounds_differ, AreNear, Close};
 
 use crate::powers::Powers;
-use ee_roots::settle;
-use ee_units::Rate;
+use ee_roots::{Root, power_bounds, root_bounds, settle};
+use ee_units::{Bits, Rate};
 
 /// The months of a quarter year, the only ones whose growth can be a fraction.
 const QUARTER: u8 = 3;
@@ -32,6 +33,29 @@ fn exact_root(rate: Rate) -> Option<u64>
     }
 }
 
+/// What the unit grows to in some months of a half-year, where no bounds are needed to tell it: in none,
+/// without interest, and in a quarter year whose growth is a fraction.
+fn exact_unit(unit: u64, rate: Rate, months: u8) -> Option<u64>
+    requires some { 1 ≤ unit }
+    requires small { unit ≤ 380617 }
+    requires few { months ≤ 5 }
+    ensures value { MatchOption result
+        (IsLeftToBounds rate months)
+        (λ cents. ((b : ℕ) → is_unsettled unit rate months b ≡ false) × (cents ≡ grown unit rate months)) }
+    ensures range { rate ≤ 2000 }
+{
+    let hundredths = rate.hundredths();
+    if months == 0 || hundredths == 0 {
+        return Some(unit);
+    }
+    if months == QUARTER {
+        if let Some(growth) = exact_root(rate) {
+            return Some((2 * unit * growth + 100) / 200);
+        }
+    }
+    None
+}
+
 /// What the unit grows to in some months of a half-year, where it can be told.
 pub fn grown_unit(unit: u64, rate: Rate, months: u8, powers: &Powers) -> Option<u64>
     requires some { 1 ≤ unit }
@@ -43,33 +67,47 @@ pub fn grown_unit(unit: u64, rate: Rate, months: u8, powers: &Powers) -> Option<
         ((is_unsettled unit rate months powers.now.bits ≡ true) × Close unit rate months powers.now.bits)
         (λ cents. (is_unsettled unit rate months powers.now.bits ≡ false) × (cents ≡ grown unit rate months)) }
 {
-    let hundredths = rate.hundredths();
-    if months == 0 || hundredths == 0 {
-        return Some(unit);
+    if let Some(cents) = exact_unit(unit, rate, months) {
+        return Some(cents);
     }
-    if months == QUARTER {
-        if let Some(growth) = exact_root(rate) {
-            return Some((2 * unit * growth + 100) / 200);
-        }
-    }
-    bounded_unit(unit, rate, months, powers)
+    bounded_unit(unit, rate, months, powers.root(), powers.at(months))
 }
 
-/// What the unit grows to, where the bounds settle it.
-fn bounded_unit(unit: u64, rate: Rate, months: u8, powers: &Powers) -> Option<u64>
+/// What the unit grows to in some months of a half-year, where it can be told at this precision. It looks
+/// for the bounds of a root only where they are needed.
+pub fn grown_once(unit: u64, rate: Rate, months: u8, bits: Bits) -> Option<u64>
+    requires some { 1 ≤ unit }
+    requires small { unit ≤ 380617 }
+    requires few { months ≤ 5 }
+    ensures { MatchOption result
+        ((is_unsettled unit rate months bits ≡ true) × Close unit rate months bits)
+        (λ cents. (is_unsettled unit rate months bits ≡ false) × (cents ≡ grown unit rate months)) }
+{
+    if let Some(cents) = exact_unit(unit, rate, months) {
+        return Some(cents);
+    }
+    let root = root_bounds(rate, bits);
+    let bounds = power_bounds(&root, months);
+    bounded_unit(unit, rate, months, &root, bounds)
+}
+
+/// What the unit grows to, where the bounds of the growth of these months settle it.
+fn bounded_unit(unit: u64, rate: Rate, months: u8, root: &Root, bounds: (u128, u128)) -> Option<u64>
     requires some { 1 ≤ unit }
     requires small { unit ≤ 380617 }
     requires inside { 1 ≤ months }
     requires few { months ≤ 5 }
     requires at_most_20_percent { rate ≤ 2000 }
-    requires of_low { IsLow powers.now.bits rate powers.now.low }
-    requires of_high { IsHigh powers.now.bits rate powers.now.high }
+    requires of_low { IsLow root.now.bits rate root.now.low }
+    requires of_high { IsHigh root.now.bits rate root.now.high }
+    requires low { bounds.0 ≡ power_down root.now.bits root.now.low (months - 1) }
+    requires high { bounds.1 ≡ power_up root.now.bits root.now.high (months - 1) }
+    requires near { AreNear root.now.bits bounds.0 bounds.1 }
     ensures { MatchOption result
-        ((bounds_differ unit rate months powers.now.bits ≡ true) × Close unit rate months powers.now.bits)
-        (λ cents. (bounds_differ unit rate months powers.now.bits ≡ false) × (cents ≡ grown unit rate months)) }
+        ((bounds_differ unit rate months root.now.bits ≡ true) × Close unit rate months root.now.bits)
+        (λ cents. (bounds_differ unit rate months root.now.bits ≡ false) × (cents ≡ grown unit rate months)) }
 {
-    let bits = powers.bits();
-    let (low, high) = powers.at(months);
+    let bits = root.bits();
     let unit = u128::from(unit);
-    settle(unit * low, unit * high, bits)
+    settle(unit * bounds.0, unit * bounds.1, bits)
 }

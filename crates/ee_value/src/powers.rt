@@ -57,6 +57,13 @@ impl Powers {
         self.root.bits()
     }
 
+    /// The root.
+    pub fn root(&self) -> &Root
+        ensures { result.now ≡ self.now }
+    {
+        &self.root
+    }
+
     /// The bounds of the growth of 1 to 5 months.
     pub fn at(&self, months: u8) -> (u128, u128)
         requires some { 1 ≤ months }

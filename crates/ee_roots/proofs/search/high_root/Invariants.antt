@@ -1,15 +1,13 @@
-use Rattle.std.proofs.Common.{◌-◌, ◌*◌, ◌^◌, ◌<◌, ◌≤◌}
-use Rattle.ee_roots.specs.Products.{power_down}
+use Rattle.std.proofs.Common.{◌-◌, ◌*◌, ◌^◌, ◌≤◌}
+use Rattle.ee_roots.proofs.Directed.{IsAtMostHigh}
 use Rattle.ee_roots.proofs.search.high_root.Given as goal
 
-abbrev pub invariant-loop-high : goal.invariant-loop-high
-invariant-loop-high l = record {
-  from_one : 2 ^ l.bits ≤ l.below;
-  apart : l.below < l.high;
+abbrev pub invariant-loop-bits : goal.invariant-loop-bits
+invariant-loop-bits l = record {
+  from_one : 2 ^ l.bits ≤ l.high;
   near_one : 32 * l.high ≤ 33 * 2 ^ l.bits;
-  below_misses : power_down l.bits l.below 5 * 20000 < l.wanted;
-  high_reaches : l.wanted ≤ power_down l.bits l.high 5 * 20000;
+  least : IsAtMostHigh l.bits l.fn.rate l.high;
 }
 
-abbrev pub decreases-loop-high : goal.decreases-loop-high
-decreases-loop-high l = l.high - l.below
+abbrev pub decreases-loop-bits : goal.decreases-loop-bits
+decreases-loop-bits l = 33 * 2 ^ l.bits - 32 * l.high
