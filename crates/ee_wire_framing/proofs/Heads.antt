@@ -33,9 +33,10 @@ unfolding print_request
 request_length h fields =
     let n = fields_length h.fields fields in simp length-append (omega arith)
 
-pub exceeds_no_short : (lines : List ℕ) → length lines ≤ 16384 → RequestExceeds 5462 lines → ⊥
-exceeds_no_short lines short (front, rest, e, h, reads, many) =
-    let n = request_length h reads.0.fields in
+-- lines within the limit exceed only a room of fewer headers
+pub exceeds_less : (n : ℕ) (lines : List ℕ) → length lines ≤ 16384 → RequestExceeds n lines → n < 5462
+exceeds_less n lines short (front, rest, e, h, reads, many) =
+    let k = request_length h reads.0.fields in
     let whole : front ++ 10 ∷ [] ≡ print_request h = reads.1 ∙ append-nil _ in
     let a = ap length whole in
     let b = length-append front (10 ∷ []) in

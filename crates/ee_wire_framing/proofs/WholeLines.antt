@@ -15,7 +15,7 @@ use Rattle.httparse.specs.declared.Status.TheVariants.{Complete}
 use Rattle.httparse.specs.declared.spans.HeaderSpan.{HeaderSpan}
 use Rattle.httparse.specs.declared.spans.RequestSpans.{RequestSpans}
 use Rattle.httparse.specs.Outcome.{IfComplete}
-use Rattle.httparse.specs.Spans.{SectionExceeds, IsRequestOf}
+use Rattle.httparse.specs.Spans.{RequestExceeds, SectionExceeds, IsRequestOf}
 use Rattle.httparse.proofs.HeadLemmas.{at_complete}
 use Rattle.httparse.proofs.GrammarLemmas.{cons-append, RequestTree, request_tree, request_head, request_pieces, request_from_pieces}
 use Rattle.httparse.proofs.PieceLemmas.{RequestStart_deterministic, Section_skip, Stops_token, newline_not_stopped, print_end_unique}
@@ -296,9 +296,9 @@ empty_newlines text (ends, is) = ap (list_all is_newline) is ∙ blank_newlines 
 
 -- ---- room for the fields
 
-pub section_exceeds_no_short : (text : List ℕ) → length text ≤ 16384 → SectionExceeds 5462 text → ⊥
-section_exceeds_no_short text short (front, rest, e, fields, reads, many) =
-    let n = fields_length fields reads.0 in
+pub section_exceeds_less : (n : ℕ) (text : List ℕ) → length text ≤ 16384 → SectionExceeds n text → n < 5462
+section_exceeds_less n text short (front, rest, e, fields, reads, many) =
+    let k = fields_length fields reads.0 in
     let a = ap length (reads.1 ∙ append-nil (print_section fields lf)) in
     let b = length-append front (10 ∷ []) in
     let c = ap length e in
@@ -321,6 +321,12 @@ all_left p a b e = by (list_all p a) (sym (list_all-append p a b) ∙ e)
     by : (v : Bool) → (v && list_all p b) ≡ true → v ≡ true
     by true same = refl
     by false same = absurd (false≢true same)
+
+-- line ends alone have no headers
+pub empty_no_exceeds : (n : ℕ) (text : List ℕ) → list_all is_newline text ≡ true → RequestExceeds n text → ⊥
+empty_no_exceeds n text all (front, rest, e, h, reads, many) =
+    let here : list_all is_newline front ≡ true = all_left is_newline front rest (ap (list_all is_newline) (sym e) ∙ all) in
+    head_has_more (front ++ 10 ∷ []) h [] reads (list_all-append is_newline front (10 ∷ []) ∙ ap (λ v. v && true) here)
 
 pub started_lines : (text : List ℕ) → IsLines text → list_all is_newline text ≡ false → HasNoRequest text → MayBecomeRequest text → AreFieldLines text
 started_lines text lines started none may = by (may_lines text lines none may)
@@ -375,9 +381,6 @@ whole_empty text lines = (refl, subst AreEmptyLines (sym (take_all (length text)
 -- a rest, as a slice gives it
 pub rest_is : (text : List ℕ) (n : ℕ) → take (length text - n) (drop n text) ≡ drop n text
 rest_is text n = take_all (length text - n) (drop n text) (omega (arith, length-drop n text))
-
-pub rest_short : (text : List ℕ) (n : ℕ) → length text ≤ 16384 → length (take (length text - n) (drop n text)) ≤ 16384
-rest_short text n short = let same = ap length (rest_is text n) in omega (arith, length-drop n text)
 
 pub drop_short : (text : List ℕ) (n : ℕ) → length text ≤ 16384 → length (drop n text) ≤ 16384
 drop_short text n short = omega (arith, length-drop n text)

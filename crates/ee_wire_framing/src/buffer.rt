@@ -5,7 +5,7 @@ ghost use Rattle.ee_wire_framing.specs.Reading.{Answers, Takes, Settles, IsFront
 
 use crate::front::{Front, Progress, judge_front, learn, read_front};
 use crate::head::Lines;
-use crate::{CHUNK, FramingFault, HEADER_ROOM};
+use crate::{CHUNK, FEW_HEADERS, FramingFault};
 use httparse::spans::{EMPTY_HEADER_SPAN, HeaderSpan, Span};
 use std::alloc::Global;
 use std::io::Read;
@@ -115,7 +115,6 @@ impl Buffer {
 
     /// What stands at the front of what is held.
     fn front(&mut self, headers: &mut [HeaderSpan]) -> Front
-        requires room { length headers.old ≡ HEADER_ROOM }
         ensures front { IsFront self.old.held result }
         ensures same { self.new ≡ self.old }
     {
@@ -207,7 +206,7 @@ pub fn next_message<R: Read>(reader: &mut R, buffer: &mut Buffer) -> Result<Next
         Some(Stop::ReadFailed) => return Err(WireEnd::ReadFailed),
     }
     buffer.discard();
-    let mut headers = [EMPTY_HEADER_SPAN; HEADER_ROOM];
+    let mut headers = [EMPTY_HEADER_SPAN; FEW_HEADERS];
     loop {
         match buffer.front(&mut headers) {
             Front::Message(message, len) => {

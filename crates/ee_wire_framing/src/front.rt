@@ -1,5 +1,5 @@
 //! What stands at the front of some bytes.
-ghost use Rattle.std.specs.Prelude.{◌≡◌, ◌≤◌, length};
+ghost use Rattle.std.specs.Prelude.{◌≤◌};
 ghost use Rattle.httparse.specs.Grammar.{RequestHead};
 ghost use Rattle.ee_wire_framing.specs.Framing.{most_head};
 ghost use Rattle.ee_wire_framing.specs.Heads.{IsHeadAt, Finds, Knows};
@@ -7,7 +7,7 @@ ghost use Rattle.ee_wire_framing.specs.Reading.{IsFront};
 
 use crate::buffer::Message;
 use crate::head::{Head, Lines, Verdict, find_head};
-use crate::{FramingFault, HEAD_LIMIT, HEADER_ROOM};
+use crate::{FramingFault, HEAD_LIMIT};
 use httparse::spans::{HeaderSpan, Span};
 
 /// What earlier tests said of some bytes.
@@ -29,8 +29,7 @@ pub enum Front {
 
 /// What the parser says of the bytes; what was tested before isn't tested again.
 pub fn judge_front(bytes: &[u8], progress: Progress, headers: &mut [HeaderSpan]) -> Verdict
-    requires knows { Knows bytes.now progress }
-    requires room { length headers.old ≡ HEADER_ROOM }
+    requires { Knows bytes.now progress }
     ensures { Finds bytes.now result }
 {
     match progress {

@@ -1,5 +1,5 @@
 //! Where a head ends.
-ghost use Rattle.std.specs.Prelude.{◌≡◌, ◌≤◌, ◌<◌, length, take, drop, true, false};
+ghost use Rattle.std.specs.Prelude.{◌≡◌, ◌≤◌, ◌<◌, length, take, drop, true, false, MatchOption};
 ghost use Rattle.std.specs.List.{list_all};
 ghost use Rattle.httparse.specs.Grammar.{RequestHead};
 ghost use Rattle.httparse.specs.Pieces.{is_newline};
@@ -20,8 +20,10 @@ ghost use Rattle.ee_wire_framing.specs.Heads.{
 
 use crate::fields::{body_length, has_close};
 use crate::{FramingFault, HEAD_LIMIT, HEADER_ROOM};
-use httparse::Status;
-use httparse::spans::{HeaderSpan, RequestSpans, Span, parse_headers_from, parse_request};
+use httparse::spans::{
+    EMPTY_HEADER_SPAN, HeaderSpan, RequestSpans, Span, parse_headers_from, parse_request,
+};
+use httparse::{Error, Status};
 
 /// What is kept of a head.
 #[derive(Clone, Copy)]
@@ -51,51 +53,54 @@ pub enum Verdict {
     Partial(Lines),
 }
 
-/// Tests the lines from the first on.
-fn judge(lines: &[u8], headers: &mut [HeaderSpan]) -> Verdict
+/// Tests the lines from the first on, or says None where they have more headers than there is room.
+fn judge(lines: &[u8], headers: &mut [HeaderSpan]) -> Option<Verdict>
     requires lines { IsLines lines.now }
     requires started { list_all is_newline lines.now ≡ false }
     requires limit { length lines.now ≤ most_head }
-    requires room { length headers.old ≡ HEADER_ROOM }
-    ensures { Judges lines.now result }
+    ensures { MatchOption result (length headers.old < HEADER_ROOM) (Judges lines.now) }
 {
     match parse_request(lines, headers) {
-        Ok(Status::Complete(spans)) => Verdict::Found(summary(lines, headers, spans)),
-        Ok(Status::Partial) => Verdict::Partial(Lines::Fields(lines.len())),
-        Err(_) => Verdict::Bad,
+        Ok(Status::Complete(spans)) => Some(Verdict::Found(summary(lines, headers, spans))),
+        Ok(Status::Partial) => Some(Verdict::Partial(Lines::Fields(lines.len()))),
+        Err(error) => match error {
+            Error::TooManyHeaders => None,
+            _ => Some(Verdict::Bad),
+        },
     }
 }
 
-/// Tests line ends that follow so many bytes of empty lines.
-fn judge_empty(lines: &[u8], tested: usize, headers: &mut [HeaderSpan]) -> Verdict
+/// Tests line ends that follow so many bytes of empty lines. They have no headers.
+fn judge_empty(lines: &[u8], tested: usize) -> Verdict
     requires lines { IsLines lines.now }
     requires tested { AreEmptyLines (take tested lines.now) }
     requires more { tested < length lines.now }
     requires empty { list_all is_newline (drop tested lines.now) ≡ true }
-    requires limit { length lines.now ≤ most_head }
-    requires room { length headers.old ≡ HEADER_ROOM }
     ensures { Judges lines.now result }
 {
-    match parse_request(&lines[tested..], headers) {
+    match parse_request(&lines[tested..], &mut []) {
         Ok(Status::Complete(_)) => unreachable!(),
         Ok(Status::Partial) => Verdict::Partial(Lines::Empty(lines.len())),
         Err(_) => Verdict::Bad,
     }
 }
 
-/// Tests the lines that follow so many bytes of a request line and field lines.
-fn judge_fields(lines: &[u8], tested: usize, headers: &mut [HeaderSpan]) -> Verdict
+/// Tests the lines that follow so many bytes of a request line and field lines, or says None where there
+/// are more headers than there is room.
+fn judge_fields(lines: &[u8], tested: usize, headers: &mut [HeaderSpan]) -> Option<Verdict>
     requires lines { IsLines lines.now }
     requires tested { AreFieldLines (take tested lines.now) }
     requires more { tested < length lines.now }
     requires limit { length lines.now ≤ most_head }
-    requires room { length headers.old ≡ HEADER_ROOM }
-    ensures { Judges lines.now result }
+    ensures { MatchOption result (length headers.old < HEADER_ROOM) (Judges lines.now) }
 {
     match parse_headers_from(lines, tested, headers) {
         Ok(Status::Complete(_)) => judge(lines, headers),
-        Ok(Status::Partial) => Verdict::Partial(Lines::Fields(lines.len())),
-        Err(_) => Verdict::Bad,
+        Ok(Status::Partial) => Some(Verdict::Partial(Lines::Fields(lines.len()))),
+        Err(error) => match error {
+            Error::TooManyHeaders => None,
+            _ => Some(Verdict::Bad),
+        },
     }
 }
 
@@ -105,25 +110,42 @@ fn has_line_ends_alone(bytes: &[u8]) -> bool
     bytes.iter().all(|byte| *byte == b'\r' || *byte == b'\n')
 }
 
-/// Tests the lines that follow those that were tested before. A head that ends there is read once
-/// more, as a whole.
-fn judge_after(tested: Lines, lines: &[u8], headers: &mut [HeaderSpan]) -> Verdict
+/// Tests the lines that follow those that were tested before, or says None where there are more headers
+/// than there is room. A head that ends there is read once more, as a whole.
+fn judge_after(tested: Lines, lines: &[u8], headers: &mut [HeaderSpan]) -> Option<Verdict>
     requires lines { IsLines lines.now }
     requires tested { BeginsLines lines.now tested }
     requires more { length_of tested < length lines.now }
     requires limit { length lines.now ≤ most_head }
-    requires room { length headers.old ≡ HEADER_ROOM }
-    ensures { Judges lines.now result }
+    ensures { MatchOption result (length headers.old < HEADER_ROOM) (Judges lines.now) }
 {
     match tested {
         Lines::Fields(len) => judge_fields(lines, len, headers),
         Lines::Empty(len) => {
             if has_line_ends_alone(&lines[len..]) {
-                judge_empty(lines, len, headers)
+                Some(judge_empty(lines, len))
             } else {
                 judge(lines, headers)
             }
         }
+    }
+}
+
+/// The same with room for all headers that the limit of a head leaves. That room lies on the stack, and
+/// is cleared first: so it has a function of its own, for lines of more headers than a head may have.
+#[cold]
+#[inline(never)]
+fn judge_many(tested: Lines, lines: &[u8]) -> Verdict
+    requires lines { IsLines lines.now }
+    requires tested { BeginsLines lines.now tested }
+    requires more { length_of tested < length lines.now }
+    requires limit { length lines.now ≤ most_head }
+    ensures { Judges lines.now result }
+{
+    let mut headers = [EMPTY_HEADER_SPAN; HEADER_ROOM];
+    match judge_after(tested, lines, &mut headers) {
+        Some(verdict) => verdict,
+        None => unreachable!(),
     }
 }
 
@@ -156,15 +178,28 @@ fn last_line_feed(bytes: &[u8], start: usize, end: usize) -> Option<usize>
     None
 }
 
+/// Tests the lines that follow those that were tested before, in this room where it is enough.
+fn judge_lines(tested: Lines, lines: &[u8], headers: &mut [HeaderSpan]) -> Verdict
+    requires lines { IsLines lines.now }
+    requires tested { BeginsLines lines.now tested }
+    requires more { length_of tested < length lines.now }
+    requires limit { length lines.now ≤ most_head }
+    ensures { Judges lines.now result }
+{
+    match judge_after(tested, lines, headers) {
+        Some(verdict) => verdict,
+        None => judge_many(tested, lines),
+    }
+}
+
 /// Looks for a head at the front of the bytes, of which so many were tested before: these lines,
 /// and no line feed after them. One test at the last line feed decides as much as a test at each.
 pub fn find_head(bytes: &[u8], lines: Lines, tested: usize, headers: &mut [HeaderSpan]) -> Verdict
-    requires tested { AreLinesUpTo bytes.now lines tested }
-    requires room { length headers.old ≡ HEADER_ROOM }
+    requires { AreLinesUpTo bytes.now lines tested }
     ensures { Finds bytes.now result }
 {
     match last_line_feed(bytes, tested, bytes.len().min(HEAD_LIMIT)) {
         None => Verdict::Partial(lines),
-        Some(at) => judge_after(lines, &bytes[..at + 1], headers),
+        Some(at) => judge_lines(lines, &bytes[..at + 1], headers),
     }
 }

@@ -1,11 +1,11 @@
 //! Laws of the definitions: the clauses are the laws.
-ghost use Rattle.std.specs.Prelude.{◌≡◌, List, ℕ, length};
+ghost use Rattle.std.specs.Prelude.{◌≡◌, List, ℕ};
 ghost use Rattle.ee_wire_framing.specs.Reading.{IsFront};
 ghost use Rattle.ee_wire_framing.specs.Framing.{most_head, most_fields, most_body, most_held, Message, Ending, ending_of, Splits};
 
 use crate::front::{Front, read_front};
 use crate::head::{Lines, find_head};
-use crate::{BODY_LIMIT, BUFFER_LIMIT, FramingFault, HEAD_LIMIT, HEADER_LIMIT, HEADER_ROOM};
+use crate::{BODY_LIMIT, BUFFER_LIMIT, FEW_HEADERS, FramingFault, HEAD_LIMIT, HEADER_LIMIT};
 use httparse::spans::{EMPTY_HEADER_SPAN, HeaderSpan};
 
 /// The limits of the code are those of the definitions.
@@ -23,7 +23,6 @@ pub const fn one_split()
 
 #[tactic(auto, using(crate::proofs::Tested::none_tested))]
 fn front_of(bytes: &[u8], headers: &mut [HeaderSpan]) -> Front
-    requires room { length headers.old ≡ HEADER_ROOM }
     ensures { IsFront bytes.now result }
 {
     read_front(bytes, find_head(bytes, Lines::Empty(0), 0, headers))
@@ -33,7 +32,7 @@ fn front_of(bytes: &[u8], headers: &mut [HeaderSpan]) -> Front
 pub fn every_split(bytes: &[u8]) -> Option<FramingFault>
     ensures { (ms : List Message) × Splits bytes.now ms (ending_of result) }
 {
-    let mut headers = [EMPTY_HEADER_SPAN; HEADER_ROOM];
+    let mut headers = [EMPTY_HEADER_SPAN; FEW_HEADERS];
     let mut at = 0;
     loop {
         let rest = &bytes[at..];

@@ -27,6 +27,8 @@ pub const BUFFER_LIMIT: usize = HEAD_LIMIT + BODY_LIMIT + CHUNK;
 
 /// Room for headers: no head within the limit has so many.
 const HEADER_ROOM: usize = 5_462;
+/// Room for headers that is tried first: more than a message may have.
+const FEW_HEADERS: usize = 64;
 
 /// Why a stream is no sequence of messages.
 #[derive(Clone, Copy, Debug, PartialEq, Eq, Error)]

@@ -62,7 +62,6 @@ loop-message-preserved g c =
           c.loop-message.buffer.held r.0 c.loop-message.invariant.kept r.3);
       took = read_more c.args.buffer.now.held c.loop-message.buffer.held c.read_more.new.self.held r.0 (g.R.Read.remaining c.args.reader.now) (g.R.Read.remaining c.loop-message.reader) (g.R.Read.remaining c.read_more.new.reader)
           c.loop-message.invariant.took r.3 held;
-      room = search rules;
       unread = λ not. absurd (not (subst NeedsMore (c.loop-message.invariant.unread not).1 (more_needed c.loop-message.buffer.held c.in-More.ensures.front)));
     }
 

@@ -13,7 +13,6 @@ invariant-loop-message g l =
       shown : l.buffer.shown ≡ [];
       kept : Keeps (left l.fn.buffer (remaining l.fn.reader)) (left l.buffer (remaining l.reader));
       took : HasRead l.fn.buffer.held (remaining l.fn.reader) l.buffer.held (remaining l.reader);
-      room : length l.headers ≡ 5462;
       unread : ¬ (NeedsMore l.fn.buffer.held) → (l.reader ≡ l.fn.reader) × (l.buffer.held ≡ l.fn.buffer.held);
     }
 

@@ -1,7 +1,6 @@
-use Rattle.std.proofs.Common.{Err, ap, subst}
-use Rattle.httparse.specs.Spans.{RequestExceeds}
+use Rattle.std.proofs.Common.{Err, ap, length}
 use Rattle.httparse.proofs.HeadLemmas.{on_partial}
-use Rattle.ee_wire_framing.proofs.Heads.{exceeds_no_short, by_error}
+use Rattle.ee_wire_framing.proofs.Heads.{exceeds_less}
 use Rattle.ee_wire_framing.proofs.WholeLines.{started_lines, whole_fields}
 use Rattle.ee_wire_framing.proofs.head.judge.Goals as goal
 
@@ -11,8 +10,6 @@ returns-in-Ok-Partial c =
     (on_partial c.in-Ok-Partial.is c.in-Ok-Partial.field-0-is c.parse_request.ensures.partial)
     (on_partial c.in-Ok-Partial.is c.in-Ok-Partial.field-0-is c.parse_request.ensures.unfinished))
 
-pub returns-in-Err : goal.returns-in-Err
-returns-in-Err c =
-    by_error c.in-Err.field-0 c.in-Err.ensures.invalid (λ y.
-    absurd (exceeds_no_short c.args.lines.now c.requires.limit
-    (subst (λ n. RequestExceeds n c.args.lines.now) c.requires.room (c.in-Err.ensures.too_many (ap Err y)))))
+pub returns-in-TooManyHeaders : goal.returns-in-TooManyHeaders
+returns-in-TooManyHeaders c =
+    exceeds_less (length c.args.headers.now) c.args.lines.now c.requires.limit (c.in-Err.ensures.too_many (ap Err c.in-TooManyHeaders.is))

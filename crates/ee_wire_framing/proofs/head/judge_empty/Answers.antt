@@ -2,10 +2,9 @@ use Rattle.std.proofs.Common.{◌-◌, ◌∙◌, Err, ap, length, take, drop, s
 use Rattle.std.specs.List.{list_all}
 use Rattle.httparse.specs.Grammar.{HasNoRequest, NeverHasRequest, MayBecomeRequest}
 use Rattle.httparse.specs.Pieces.{is_newline}
-use Rattle.httparse.specs.Spans.{RequestExceeds}
 use Rattle.httparse.proofs.HeadLemmas.{on_partial}
-use Rattle.ee_wire_framing.proofs.Heads.{exceeds_no_short, by_error}
-use Rattle.ee_wire_framing.proofs.WholeLines.{no_head_here, empty_after, empty_bad, whole_empty, rest_is, rest_short}
+use Rattle.ee_wire_framing.proofs.Heads.{by_error}
+use Rattle.ee_wire_framing.proofs.WholeLines.{no_head_here, empty_after, empty_bad, whole_empty, rest_is, empty_no_exceeds}
 use Rattle.ee_wire_framing.proofs.head.judge_empty.Goals as goal
 
 pub unreachable-requires : goal.unreachable-requires
@@ -32,5 +31,4 @@ returns-in-Err c =
     empty_bad lines tested c.requires.tested
     (subst NeverHasRequest (rest_is lines tested)
     (by_error c.in-Err.field-0 c.in-Err.ensures.invalid (λ y.
-    absurd (exceeds_no_short rest (rest_short lines tested c.requires.limit)
-    (subst (λ n. RequestExceeds n rest) c.requires.room (c.in-Err.ensures.too_many (ap Err y)))))))
+    absurd (empty_no_exceeds _ rest (ap (list_all is_newline) (rest_is lines tested) ∙ c.requires.empty) (c.in-Err.ensures.too_many (ap Err y))))))

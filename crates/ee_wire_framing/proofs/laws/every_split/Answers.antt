@@ -1,4 +1,4 @@
-use Rattle.std.proofs.Common.{◌-◌, ◌<◌, length, drop, take, arith, rules}
+use Rattle.std.proofs.Common.{◌-◌, ◌<◌, length, drop, take, arith}
 use Rattle.std.proofs.lemmas.Bool.Decides.{nat_tests}
 use Rattle.ee_wire_framing.proofs.Messages.{cut_at, fault_at, message_at}
 use Rattle.ee_wire_framing.proofs.WholeLines.{rest_is}
@@ -10,7 +10,7 @@ loop-len-preserved c =
     let bytes = c.args.bytes.now in
     let more = message_at bytes (take (length bytes - c.loop-len.at) (drop c.loop-len.at bytes)) c.loop-len.at c.in-Message.len c.in-Message.field-0
     (rest_is bytes c.loop-len.at) i.inside i.begins c.in-Message.ensures in
-    record { inside = more.0; room = search rules; begins = more.2 }
+    record { inside = more.0; begins = more.2 }
 
 pub returns-in-Fault : goal.returns-in-Fault
 returns-in-Fault c =

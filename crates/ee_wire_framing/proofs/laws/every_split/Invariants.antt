@@ -1,4 +1,4 @@
-use Rattle.std.proofs.Common.{◌≡◌, ◌≤◌, ◌-◌, List, length, drop}
+use Rattle.std.proofs.Common.{◌≤◌, ◌-◌, List, length, drop}
 use Rattle.ee_wire_framing.specs.Framing.{BeginsMessages, Message}
 use Rattle.ee_wire_framing.proofs.laws.every_split.Given as goal
 
@@ -6,7 +6,6 @@ abbrev pub invariant-loop-len : goal.invariant-loop-len
 invariant-loop-len l =
     record {
       inside : l.at ≤ length l.bytes;
-      room : length l.headers ≡ 5462;
       begins : (ms : List Message) × BeginsMessages l.bytes ms (drop l.at l.bytes);
     }
 
