@@ -8,9 +8,10 @@ ghost use Rattle.ee_keeper.specs.Keeping.{FailsOnlyIf, Shows};
 ghost use Rattle.ee_counter.specs.Answering.{ShowsQuery, Answers, AnswersUnless};
 ghost use Rattle.ee_counter.specs.Serving.{tells_failure};
 
+use crate::decoding::Decoder;
 use ee_desk_acts::{Request, Unserved};
 use ee_keeper::Keeper;
-use ee_wire::{Answer, Call, Query, WireFault, decode};
+use ee_wire::{Answer, Call, Query, WireFault};
 use std::alloc::Global;
 
 fn answer_query<K: Keeper>(keeper: &mut K, query: Query) -> Result<Answer, Unserved>
@@ -55,6 +56,29 @@ fn answer_call<K: Keeper>(keeper: &mut K, call: &Call) -> Result<Answer, Unserve
     }
 }
 
+/// What `answer_message` says, of a message that this decodes.
+pub fn answer_decoded<K: Keeper>(
+    decoder: &Decoder,
+    keeper: &mut K,
+    target: &[u8],
+    method: &[u8],
+    body: &[u8],
+) -> Answer
+    ensures clean { K.is_clean keeper.new → K.is_clean keeper.old }
+    ensures answers { K.is_clean keeper.new → (c : Content) → K.has keeper.old c
+        → Answers c (decoded target.now method.now body.now) result (K.has keeper.new) }
+    ensures failed { tells_failure result ≡ true → K.may_fail }
+{
+    match decoder.decode(target, method, body) {
+        Ok(call) => match answer_call(keeper, &call) {
+            Ok(answer) => answer,
+            Err(cause) => Answer::Unserved(cause),
+        },
+        Err(WireFault::NoMemory) => Answer::Unserved(Unserved::NoMemory),
+        Err(fault) => Answer::Fault(fault),
+    }
+}
+
 /// The answer to a message at the content that the keeper has: the reply to a request, which is delivered
 /// once, what the books show to a query, or the message's first fault. Where memory or the store fails it is
 /// `Unserved`, and nothing has changed; of a store that can't fail it never says `StoreFailed`.
@@ -70,12 +94,5 @@ pub fn answer_message<K: Keeper>(
         → Answers c (decoded target.now method.now body.now) result (K.has keeper.new) }
     ensures failed { tells_failure result ≡ true → K.may_fail }
 {
-    match decode(alloc, target, method, body) {
-        Ok(call) => match answer_call(keeper, &call) {
-            Ok(answer) => answer,
-            Err(cause) => Answer::Unserved(cause),
-        },
-        Err(WireFault::NoMemory) => Answer::Unserved(Unserved::NoMemory),
-        Err(fault) => Answer::Fault(fault),
-    }
+    answer_decoded(&Decoder::new(alloc), keeper, target, method, body)
 }

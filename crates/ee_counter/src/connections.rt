@@ -7,7 +7,8 @@ ghost use Rattle.ee_wire_framing.specs.Reading.{message_in};
 ghost use Rattle.ee_counter.specs.Answering.{Answers, call_of};
 ghost use Rattle.ee_counter.specs.Serving.{Serves, Turns, AnswersOne, FlowFailsOnlyIf, Refuses, tells_failure};
 
-use crate::answering::answer_message;
+use crate::answering::answer_decoded;
+use crate::decoding::Decoder;
 use ee_desk_acts::Unserved;
 use ee_keeper::Keeper;
 use ee_wire::{
@@ -70,7 +71,12 @@ fn has_failed(answer: &Answer, before: bool) -> bool
 }
 
 /// The answer to a message of the buffer.
-fn answer_to<K: Keeper>(alloc: Global, keeper: &mut K, buffer: &Buffer, message: Message) -> Answer
+fn answer_to<K: Keeper>(
+    decoder: &Decoder,
+    keeper: &mut K,
+    buffer: &Buffer,
+    message: Message,
+) -> Answer
     ensures clean { K.is_clean keeper.new → K.is_clean keeper.old }
     ensures answers { K.is_clean keeper.new → (c : Content) → K.has keeper.old c
         → Answers c (call_of (message_in buffer.now.shown message)) result (K.has keeper.new) }
@@ -79,13 +85,13 @@ fn answer_to<K: Keeper>(alloc: Global, keeper: &mut K, buffer: &Buffer, message:
     let target = buffer.part(message.target);
     let method = buffer.part(message.method);
     let body = buffer.part(message.body);
-    answer_message(alloc, keeper, target, method, body)
+    answer_decoded(decoder, keeper, target, method, body)
 }
 
 /// Answers a message, and writes the answer. Where the connection goes on, it says whether an answer told that
 /// the store failed, this one or one before.
 fn answer_one<K: Keeper, W: Write>(
-    alloc: Global,
+    decoder: &Decoder,
     keeper: &mut K,
     writer: &mut W,
     buffer: &Buffer,
@@ -102,9 +108,9 @@ fn answer_one<K: Keeper, W: Write>(
     ensures failed { FlowFailsOnlyIf K.may_fail result }
 {
     let closing = is_last(message.closes, messages);
-    let answer = answer_to(alloc, keeper, buffer, message);
+    let answer = answer_to(decoder, keeper, buffer, message);
     let store_failed = has_failed(&answer, store_failed);
-    match write_reply(alloc, writer, &answer, closing) {
+    match write_reply(decoder.alloc(), writer, &answer, closing) {
         Ok(()) if message.closes => ControlFlow::Break(Ended {
             messages: messages + 1,
             store_failed,
@@ -160,7 +166,7 @@ fn refuse<W: Write>(
 /// Reads a message and answers it. Where the connection goes on, it says whether an answer told that the store
 /// failed, this one or one before.
 fn turn<K: Keeper, R: Read, W: Write>(
-    alloc: Global,
+    decoder: &Decoder,
     keeper: &mut K,
     reader: &mut R,
     writer: &mut W,
@@ -181,7 +187,7 @@ fn turn<K: Keeper, R: Read, W: Write>(
 {
     match next_message(reader, buffer) {
         Ok(Next::Message(message)) => answer_one(
-            alloc,
+            decoder,
             keeper,
             writer,
             buffer,
@@ -195,7 +201,7 @@ fn turn<K: Keeper, R: Read, W: Write>(
             why: Why::Closed,
         }),
         Err(WireEnd::Fault(fault)) => {
-            ControlFlow::Break(refuse(alloc, writer, fault, messages, store_failed))
+            ControlFlow::Break(refuse(decoder.alloc(), writer, fault, messages, store_failed))
         }
         Err(WireEnd::ReadFailed) => ControlFlow::Break(Ended {
             messages,
@@ -231,11 +237,12 @@ pub fn serve<K: Keeper, R: Read, W: Write>(
     ensures few { result.messages ≤ 1000 }
     ensures failed { result.store_failed ≡ true → K.may_fail }
 {
+    let decoder = Decoder::new(alloc);
     let mut buffer = Buffer::new(alloc);
     let mut store_failed = false;
     for messages in 0..MOST_MESSAGES {
         match turn(
-            alloc,
+            &decoder,
             keeper,
             reader,
             writer,

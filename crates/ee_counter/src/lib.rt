@@ -3,6 +3,7 @@
 
 mod answering;
 mod connections;
+mod decoding;
 mod files;
 mod laws;
 mod requests;

@@ -8,7 +8,7 @@ use Rattle.ee_wire_calls.specs.declared.calls.Call.TheVariants as call
 use Rattle.ee_wire_calls.specs.declared.faults.BodyFault.{BodyFault}
 use Rattle.ee_wire_calls.specs.declared.faults.BodyFault.TheVariants as body
 use Rattle.ee_wire_calls.specs.declared.faults.WireFault.{WireFault}
-use Rattle.ee_wire_calls.specs.declared.faults.WireFault.TheVariants.{NoMemory, NoRoute}
+use Rattle.ee_wire_calls.specs.declared.faults.WireFault.TheVariants.{NoRoute}
 use Rattle.ee_wire_calls.specs.Bodies.{Fails}
 use Rattle.ee_wire_calls.specs.declared.routes.Route.{Route}
 use Rattle.ee_wire_calls.specs.Calls.{IsOfBody, IsUnlessMemory, as_call, in_text, decoded, routed, called, ◌>>=◌}
@@ -26,9 +26,6 @@ no_text path h = by (is_utf8 path) (IsUtf8-from_is_utf8 path)
     by : (b : Bool) → (b ≡ true → IsUtf8 path) → cond b (Ok path) (Err NoRoute) ≡ Err NoRoute
     by true text = absurd (h (text refl))
     by false text = refl
-
-pub ok_not_err : {A : Type 0} (x : A) → ¬ (◌≡◌ {A = Result A WireFault} (Ok x) (Err NoMemory))
-ok_not_err x e = cc
 
 pub decoded_none : (path method body : List ℕ) → ¬ (IsUtf8 path) → Err NoRoute ≡ decoded path method body
 unfolding decoded

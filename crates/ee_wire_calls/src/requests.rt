@@ -6,7 +6,7 @@ use crate::bodies::request_of;
 use crate::calls::Call;
 use crate::faults::WireFault;
 use crate::paths::query_of;
-use crate::routes::{Get, Post, Route, route_of, router};
+use crate::routes::{Get, Post, Route, Routes};
 use serde_json::Value;
 use std::alloc::Global;
 
@@ -29,13 +29,10 @@ fn asked(get: Get, path: &str) -> Result<Call, WireFault>
     }
 }
 
-fn routed(alloc: Global, path: &str) -> Result<Route, WireFault>
-    ensures { IsUnlessMemory result (routed path.now) }
+fn routed(routes: &Routes, path: &str) -> Result<Route, WireFault>
+    ensures { result ≡ routed path.now }
 {
-    let Ok(router) = router(alloc) else {
-        return Err(WireFault::NoMemory);
-    };
-    route_of(&router, path).ok_or(WireFault::NoRoute)
+    routes.of(path).ok_or(WireFault::NoRoute)
 }
 
 fn called(
@@ -54,14 +51,30 @@ fn called(
     }
 }
 
-/// What a message asks for.
+/// What a message asks for, by routes that were made before it came.
 #[tactic(auto, unfolding(crate::specs::Calls::decoded))]
-pub fn decode(alloc: Global, path: &[u8], method: &[u8], body: &[u8]) -> Result<Call, WireFault>
+pub fn decode_with(
+    alloc: Global,
+    routes: &Routes,
+    path: &[u8],
+    method: &[u8],
+    body: &[u8],
+) -> Result<Call, WireFault>
     ensures { IsUnlessMemory result (decoded path.now method.now body.now) }
 {
     let Ok(path) = std::str::from_utf8(path) else {
         return Err(WireFault::NoRoute);
     };
-    let route = routed(alloc, path)?;
+    let route = routed(routes, path)?;
     called(alloc, route, path, method, body)
+}
+
+/// What a message asks for.
+pub fn decode(alloc: Global, path: &[u8], method: &[u8], body: &[u8]) -> Result<Call, WireFault>
+    ensures { IsUnlessMemory result (decoded path.now method.now body.now) }
+{
+    match Routes::new(alloc) {
+        Ok(routes) => decode_with(alloc, &routes, path, method, body),
+        Err(_) => Err(WireFault::NoMemory),
+    }
 }

@@ -3,7 +3,8 @@ ghost use Rattle.std.specs.Prelude.{◌≡◌, IfOk};
 ghost use Rattle.ee_wire_calls.specs.Routes.{routes, route_of};
 
 use matchit::{InsertError, Router};
-use std::alloc::Global;
+use std::alloc::{AllocError, Global};
+use std::marker::Model;
 
 /// A route of requests, which are posted.
 #[derive(Clone, Copy, Debug, PartialEq, Eq)]
@@ -31,8 +32,47 @@ pub enum Route {
     Get(Get),
 }
 
+/// The nine routes of the counter. Only `Routes::new` makes them.
+#[derive(Drop)]
+pub struct Routes {
+    router: Router<Route>,
+}
+
+impl Model for Routes {
+    ghost use Rattle.std.specs.Prelude.{◌≡◌};
+    ghost use Rattle.ee_wire_calls.specs.Routes as spec;
+
+    ghost Value = { spec.Routes };
+
+    ghost view = { λ r. r.router };
+
+    ghost invariant = { λ r. r.router ≡ spec.routes };
+}
+
+impl Routes {
+    /// The routes, which are the same for every message.
+    pub fn new(alloc: Global) -> Result<Routes, AllocError>
+        ensures { IfOk result (λ r. r ≡ routes) }
+    {
+        match router(alloc) {
+            Ok(router) => Ok(Routes { router }),
+            Err(_) => Err(AllocError),
+        }
+    }
+
+    /// The route of a path.
+    pub(crate) fn of(&self, path: &str) -> Option<Route>
+        ensures { result ≡ route_of path.now }
+    {
+        match self.router.at(path) {
+            Ok(found) => Some(*found.value),
+            Err(_) => None,
+        }
+    }
+}
+
 /// The router.
-pub fn router(alloc: Global) -> Result<Router<Route>, InsertError>
+fn router(alloc: Global) -> Result<Router<Route>, InsertError>
     ensures { IfOk result (λ r. r ≡ routes) }
 {
     let mut router = Router::new(alloc);
@@ -46,15 +86,4 @@ pub fn router(alloc: Global) -> Result<Router<Route>, InsertError>
     router.insert("/batch/{day}", Route::Get(Get::Batch))?;
     router.insert("/value/{denom}/{issued}/{month}", Route::Get(Get::Value))?;
     Ok(router)
-}
-
-/// The route of a path.
-pub fn route_of(router: &Router<Route>, path: &str) -> Option<Route>
-    requires { router.now ≡ routes }
-    ensures { result ≡ route_of path.now }
-{
-    match router.at(path) {
-        Ok(found) => Some(*found.value),
-        Err(_) => None,
-    }
 }
