@@ -1,0 +1,248 @@
+"""What the scripts of this folder share that run the program behind or over something else: messages, answers, servers, and a load whose answers the rules give."""
+import contextlib, json, re, signal, socket, sqlite3, subprocess, sys, threading, time
+
+# A script that is stopped cleans up as one that ends.
+signal.signal(signal.SIGTERM, lambda *_: sys.exit("stopped"))
+
+DAY_TICKETS = 800
+FIRST_DAY = (2012, 2, 6)
+RATES = [{"from": "2010-05", "rate": "2.00"}, {"from": "2010-11", "rate": "3.50"}]
+# Denomination, issue month, and what such a bond pays in February 2012 at these rates.
+KINDS = [(50, "2010-11", "25.88"), (75, "2010-10", "38.34"), (10000, "2011-02", "5132.00")]
+
+
+def right(is_right, what, found=""):
+    if not is_right:
+        sys.exit(f"WRONG: {what}\n{found}")
+    print(f"right: {what}", flush=True)
+
+
+def free_port():
+    with socket.socket() as free:
+        free.bind(("127.0.0.1", 0))
+        return free.getsockname()[1]
+
+
+def post(path, value, headers=b"Connection: close\r\n"):
+    body = json.dumps(value, separators=(",", ":")).encode()
+    return b"POST %s HTTP/1.1\r\n%sContent-Length: %d\r\n\r\n%s" % (path.encode(), headers, len(body), body)
+
+
+def get(path, headers=b"Connection: close\r\n"):
+    return b"GET %s HTTP/1.1\r\n%s\r\n" % (path.encode(), headers)
+
+
+def read_answer(client):
+    """Status and body of one answer; None where the connection ended before all of it came."""
+    text = b""
+    while b"\r\n\r\n" not in text:
+        more = client.recv(65536)
+        if not more:
+            return None
+        text += more
+    head, body = text.split(b"\r\n\r\n", 1)
+    length = int(re.search(rb"(?i)content-length: *(\d+)", head)[1])
+    while len(body) < length:
+        more = client.recv(65536)
+        if not more:
+            return None
+        body += more
+    return int(head.split(b" ")[1]), body.decode()
+
+
+def ask(port, message, patience=60):
+    """The answer to one message on a connection of its own; None where none came."""
+    try:
+        with socket.create_connection(("127.0.0.1", port), timeout=patience) as client:
+            client.sendall(message)
+            return read_answer(client)
+    except OSError:
+        return None
+
+
+def serve(program, store, port, before=()):
+    return subprocess.Popen([*before, program, "serve", "--db", store, "--port", str(port)], stdout=subprocess.DEVNULL, stderr=subprocess.PIPE, text=True)
+
+
+def wait_for(port, seconds=60):
+    for _ in range(seconds * 20):
+        if ask(port, get("/ticket/1")) is not None:
+            return
+        time.sleep(0.05)
+    sys.exit("the server doesn't listen")
+
+
+def apply(program, store, messages, most=900):
+    """The answers to these messages, by as many connections as it takes."""
+    answers = []
+    for first in range(0, len(messages), most):
+        part = messages[first : first + most]
+        ran = subprocess.run([program, "apply", "--db", store], input=b"".join(part), stdout=subprocess.PIPE, stderr=subprocess.PIPE)
+        found = split_answers(ran.stdout)
+        if len(found) != len(part):
+            sys.exit(f"WRONG: {len(found)} answers to {len(part)} messages, status {ran.returncode}, {ran.stderr.decode().strip()}")
+        answers += found
+    return answers
+
+
+def split_answers(text):
+    answers, at = [], 0
+    while at < len(text):
+        end = text.index(b"\r\n\r\n", at) + 4
+        head = text[at:end]
+        length = int(re.search(rb"(?i)content-length: *(\d+)", head)[1])
+        answers.append((int(head.split(b" ")[1]), text[end : end + length].decode()))
+        at = end + length
+    return answers
+
+
+def rows(store, statement):
+    """What SQLite reads. The file is closed at once: while another process has it open, the program doesn't open it."""
+    with contextlib.closing(sqlite3.connect(store)) as books:
+        return books.execute(statement).fetchall()
+
+
+def day_text(turn):
+    """The day of the turn of this number: a day has so many turns. All are in February 2012 while there are at most 24."""
+    year, month, day = FIRST_DAY
+    return f"{year}-{month:02}-{day + turn // DAY_TICKETS:02}"
+
+
+def bond(turn):
+    denom, issued, _ = KINDS[turn % 3]
+    return {"serial": f"A{turn + 1}EE", "denom": denom, "issued": issued, "owner": 7}
+
+
+def beginning(bonds):
+    """Messages that make a store with these rates and so many bonds of customer 7; desk 0."""
+    imports = [post("/bonds", {"number": 2 + first // 500, "bonds": [bond(turn) for turn in range(first, min(first + 500, bonds))]}, b"") for first in range(0, bonds, 500)]
+    return [post("/rates", {"number": 1, "rates": RATES}, b""), *imports]
+
+
+class Load:
+    """Clients that redeem one bond after another, each at a desk of its own, and send each request again until it has its reply. What was acknowledged is kept, with the time when its reply
+    had come. Turn T is the redemption of bond T. The day is closed and the next opened after so many turns, while no redemption is under way."""
+
+    def __init__(self, ask_now, bonds, clients):
+        self.ask_now, self.bonds, self.clients = ask_now, bonds, clients
+        self.requests, self.replies, self.came, self.delays = {}, {}, {}, []
+        self.turn, self.under_way, self.is_over, self.is_changing = 0, 0, False, False
+        self.lock = threading.Condition()
+        self.wrong = None
+
+    def start(self):
+        self.is_over = False
+        self.threads = [threading.Thread(target=self.run, args=(desk,), daemon=True) for desk in range(1, self.clients + 1)]
+        for thread in self.threads:
+            thread.start()
+
+    def stop(self):
+        """Ends when each request that was sent has its reply."""
+        self.is_over = True
+        for thread in self.threads:
+            thread.join()
+        if self.wrong:
+            sys.exit(f"WRONG: {self.wrong}")
+
+    def run(self, desk):
+        try:
+            while not self.is_over and self.wrong is None:
+                turn = self.take_turn()
+                if turn is None:
+                    return
+                self.deliver(("redeem", turn), "/redeem", {"desk": desk, "number": turn + 1, "day": day_text(turn), "payee": 7, "serials": [bond(turn)["serial"]]})
+                with self.lock:
+                    self.under_way -= 1
+                    self.lock.notify_all()
+        except Exception as fault:
+            with self.lock:
+                self.wrong = f"{type(fault).__name__}: {fault}"
+                self.lock.notify_all()
+
+    def take_turn(self):
+        """The next turn; None where there is none. Who takes the first turn of a day changes the day, while the others wait."""
+        with self.lock:
+            self.lock.wait_for(lambda: not self.is_changing or self.wrong)
+            turn = self.turn
+            if turn >= self.bonds or self.wrong:
+                return None
+            self.turn += 1
+            if turn % DAY_TICKETS == 0:
+                self.change_day(turn)
+            self.under_way += 1
+            return turn
+
+    def change_day(self, turn):
+        self.is_changing = True
+        try:
+            self.lock.wait_for(lambda: self.under_way == 0 or self.wrong)
+            if turn > 0:
+                self.deliver(("close", turn), "/day/close", {"number": 2_000_000 + turn, "day": day_text(turn - 1)})
+            self.deliver(("open", turn), "/day/open", {"number": 1_000_000 + turn, "day": day_text(turn)})
+        finally:
+            self.is_changing = False
+            self.lock.notify_all()
+
+    def deliver(self, name, path, value):
+        self.requests[name] = post(path, value)
+        begun = time.time()
+        while True:
+            answer = self.ask_now(self.requests[name])
+            if answer is not None and answer[0] in (200, 409):
+                break
+            if answer is not None and answer[0] not in (502, 503, 504):
+                raise ValueError(f"{name} was answered {answer}")
+            time.sleep(0.05)
+        self.replies[name], self.came[name] = answer[1], time.time()
+        self.delays.append(self.came[name] - begun)
+        fault = fault_of(name, answer[1])
+        if fault:
+            raise ValueError(fault)
+
+    def in_order(self):
+        """All requests that were sent, in an order in which each can be done."""
+        order = {"close": 0, "open": 1, "redeem": 2}
+        return sorted(self.requests, key=lambda name: (name[1], order[name[0]]))
+
+
+def fault_of(name, reply):
+    """What is wrong with a reply by the rules; None where it is right, whatever its ticket's number is."""
+    kind, turn = name
+    if kind == "open":
+        wanted = '{"opened":"%s"}' % day_text(turn)
+    elif kind == "close":
+        wanted = batch_of(turn // DAY_TICKETS - 1, DAY_TICKETS)
+    else:
+        paid = KINDS[turn % 3][2]
+        wanted = '{"day":"%s","lines":[{"paid":"%s","serial":"%s"}],"payee":7,"ticket":%s,"total":"%s"}' % (day_text(turn), paid, bond(turn)["serial"], (re.search(r'"ticket":(\d+)', reply) or ["", "0"])[1], paid)
+    return None if reply == wanted else f"{name} was answered {reply}, and not {wanted}"
+
+
+def batch_of(day, turns):
+    """The batch of a day of which so many turns were taken."""
+    first = day * DAY_TICKETS
+    cents = sum(int(KINDS[turn % 3][2].replace(".", "")) for turn in range(first, first + turns))
+    return '{"bonds":%d,"day":"%s","tickets":%d,"total":"%d.%02d"}' % (turns, day_text(first), turns, cents // 100, cents % 100)
+
+
+def fault_of_books(store, replies):
+    """Whether the books that SQLite reads have just these tickets, one for each bond; None where they do."""
+    paid = {name[1]: reply for name, reply in replies.items() if name[0] == "redeem"}
+    told = sorted((int(re.search(r'"ticket":(\d+)', reply)[1]), turn + 1) for turn, reply in paid.items())
+    if rows(store, "PRAGMA integrity_check") != [("ok",)]:
+        return "SQLite doesn't find the file whole"
+    held = rows(store, "SELECT ticket, number FROM paid ORDER BY ticket")
+    if held != told:
+        return f"the books have {len(held)} payments, the replies {len(told)}"
+    if [ticket for ticket, _ in held] != list(range(1, len(held) + 1)):
+        return "the tickets aren't numbered one after the other"
+    return None
+
+
+def median(values):
+    values = sorted(values)
+    return values[len(values) // 2]
+
+
+def milliseconds(values):
+    return f"{median(values) * 1000:.0f} milliseconds in the middle, {max(values) * 1000:.0f} at most"
