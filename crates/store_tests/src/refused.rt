@@ -37,7 +37,7 @@ fn is_refused(told: &str) -> bool {
     false
 }
 
-/// The transcript that comes of doing the same, where what memory was refused to is done once more.
+/// The transcript that comes of doing the same, where what memory was refused to is done again, twice at most.
 fn replay_patiently<K: Keeper>(
     alloc: Global,
     keeper: &mut K,
@@ -46,14 +46,14 @@ fn replay_patiently<K: Keeper>(
 ) -> Result<String, Fail> {
     let mut text = String::new(alloc);
     for line in transcript.lines() {
-        let Some(first) = line_told(alloc, keeper, by, line)? else {
+        let Some(mut told) = line_told(alloc, keeper, by, line)? else {
             continue;
         };
-        let told = if is_refused(first.as_str()) {
-            line_told(alloc, keeper, by, line)?.ok_or("told")?
-        } else {
-            first
-        };
+        for _ in 0..2 {
+            if is_refused(told.as_str()) {
+                told = line_told(alloc, keeper, by, line)?.ok_or("told")?;
+            }
+        }
         write!(text, "{line}\n{told}\n")?;
     }
     Ok(text)

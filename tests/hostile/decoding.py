@@ -1,0 +1,149 @@
+"""What a message asks for, or its first fault, by the rules of docs/FORMATS.md, 'Requests': the route, the method, the body field by field."""
+
+import re
+
+from . import json_text, spelling
+
+POSTS = ("/rates", "/bonds", "/day/open", "/day/close", "/redeem")
+GETS = {
+    "inventory": (("customer", spelling.customer), ("month", spelling.month)),
+    "ticket": (("ticket", spelling.ticket),),
+    "batch": (("day", spelling.day),),
+    "value": (("denom", spelling.denomination), ("issued", spelling.issue), ("month", spelling.month)),
+}
+NAMES = {64: "BadJson", 65: "BadField", 66: "NoRoute", 67: "BadMethod"}
+
+
+class Fault(Exception):
+    """The code of a fault, and the field that it names."""
+
+
+def bad(field):
+    return Fault(65, field)
+
+
+def in_range(value, first, last):
+    return value if type(value) is int and first <= value <= last else None
+
+
+def number(value):
+    return in_range(value, 1, spelling.LAST_NUMBER)
+
+
+def desk(value):
+    return in_range(value, 0, 999)
+
+
+def customer(value):
+    return in_range(value, 1, 999_999_999)
+
+
+def denomination(value):
+    return value if type(value) is int and value in spelling.DENOMINATIONS else None
+
+
+def text(read):
+    return lambda value: read(value) if isinstance(value, str) else None
+
+
+def field(members, name, kind):
+    found = kind(members[name]) if name in members else None
+    if found is None:
+        raise bad(name)
+    return found
+
+
+def optional(members, name, kind, other=None):
+    return other if members.get(name) is None else field(members, name, kind)
+
+
+def members_of(value, fault):
+    if not isinstance(value, dict):
+        raise bad(fault)
+    return value
+
+
+def only(members, names):
+    if any(name not in names for name in members):
+        raise bad("other")
+
+
+def rows_in(members, name, row):
+    return tuple(row(value) for value in field(members, name, lambda value: value if isinstance(value, list) else None))
+
+
+def rate_row(value):
+    members = members_of(value, "rates")
+    begins = field(members, "from", text(spelling.issue))
+    rate = field(members, "rate", text(spelling.rate))
+    extension = optional(members, "extension", text(spelling.rate), rate)
+    only(members, ("from", "rate", "extension"))
+    return begins, rate, extension
+
+
+def bond_row(value):
+    members = members_of(value, "bonds")
+    serial = field(members, "serial", text(spelling.serial))
+    dollars = field(members, "denom", denomination)
+    issued = field(members, "issued", text(spelling.issue))
+    owner = field(members, "owner", customer)
+    coowner = optional(members, "coowner", customer)
+    only(members, ("serial", "denom", "issued", "owner", "coowner"))
+    return serial, dollars, issued, owner, coowner
+
+
+def serial_row(value):
+    found = text(spelling.serial)(value)
+    if found is None:
+        raise bad("serials")
+    return found
+
+
+def act_in(path, members):
+    """The act, and the names that its body has beside `desk` and `number`."""
+    if path == "/rates":
+        return ("rates", rows_in(members, "rates", rate_row)), ("rates",)
+    if path == "/bonds":
+        return ("bonds", rows_in(members, "bonds", bond_row)), ("bonds",)
+    day = field(members, "day", text(spelling.day))
+    if path != "/redeem":
+        return (path.removeprefix("/day/"), day), ("day",)
+    payee = field(members, "payee", customer)
+    return ("redeem", day, payee, rows_in(members, "serials", serial_row)), ("day", "payee", "serials")
+
+
+def posted(path, body):
+    try:
+        value = json_text.read(body)
+    except json_text.NoJson:
+        raise Fault(64, None) from None
+    members = members_of(value, "body")
+    key = (optional(members, "desk", desk, 0), field(members, "number", number))
+    act, names = act_in(path, members)
+    only(members, ("desk", "number", *names))
+    return "act", key, act
+
+
+def asked(name, parts):
+    found = []
+    for (field_name, kind), part in zip(GETS[name], parts):
+        value = kind(part)
+        if value is None:
+            raise bad(field_name)
+        found.append(value)
+    return (name, *found)
+
+
+def call(message):
+    """Of a request ("act", its desk and number, the act); of a query its name and parts. A Fault is raised where it asks for neither."""
+    path = message.target.decode("utf-8")
+    if path in POSTS:
+        if message.method != b"POST":
+            raise Fault(67, None)
+        return posted(path, message.body)
+    name, *parts = path[1:].split("/")
+    if not re.match("/", path) or name not in GETS or len(parts) != len(GETS[name]) or not all(parts):
+        raise Fault(66, None)
+    if message.method != b"GET":
+        raise Fault(67, None)
+    return asked(name, parts)

@@ -1,0 +1,224 @@
+"""The model of a disk: what a crash may leave of two files, from the record of what was written to them, cut and synced.
+
+After a crash each byte below the last synced length is the old one or one that was written since; synced bytes are kept; past the last synced length
+there may be anything; and the length is between the synced one and those that were reached since. The two files are independent of one another. A file that was
+made is there for sure once its folder was synced."""
+
+import dataclasses, struct
+
+HEAD = struct.Struct("=IIQQ")
+OPEN, READ, WRITE, TRUNCATE, SYNC = range(5)
+TELL = 11
+DB, LOG, FOLDER, INPUT, OUTPUT = range(1, 6)
+SECTOR = 512
+LAST_FEW = 6
+ALL_OR_NONE = bytes(255 * (byte & 1) for byte in range(256))
+
+
+@dataclasses.dataclass(frozen=True)
+class Step:
+    kind: int
+    file: int
+    at: int
+    size: int
+    bytes_: bytes = b""
+
+
+def read_record(path):
+    with open(path, "rb") as file:
+        text = file.read()
+    steps, at = [], 0
+    while at < len(text):
+        kind, on, offset, size = HEAD.unpack_from(text, at)
+        at += HEAD.size
+        has_bytes = kind in (WRITE, TELL)
+        steps.append(Step(kind, on, offset, size, text[at : at + size] if has_bytes else b""))
+        at += size if has_bytes else 0
+    return steps
+
+
+def overwrite(content, at, bytes_):
+    """Put bytes at a place; a hole is zeros."""
+    if len(content) < at:
+        content.extend(bytes(at - len(content)))
+    content[at : at + len(bytes_)] = bytes_
+
+
+def resize(content, size):
+    if size < len(content):
+        del content[size:]
+    else:
+        content.extend(bytes(size - len(content)))
+
+
+def kept(content, step):
+    if step.kind == WRITE:
+        overwrite(content, step.at, step.bytes_)
+    else:
+        resize(content, step.size)
+
+
+class File:
+    """What is synced of a file (None where it may be missing), and the steps since."""
+
+    def __init__(self, content):
+        self.synced, self.steps, self.is_sure = content, [], content is not None
+        self.now, self.shown = bytearray(content or b""), None
+
+    def take(self, step):
+        if step.kind == OPEN:
+            self.synced, self.steps = b"", []
+        elif step.kind == SYNC:
+            self.synced, self.steps = self.seen(), []
+        else:
+            kept(self.now, step)
+            self.steps.append(step)
+            self.shown = None
+
+    def seen(self):
+        """The content by all steps; None where there is no file."""
+        if self.synced is None:
+            return None
+        if self.shown is None:
+            self.shown = bytes(self.now)
+        return self.shown
+
+    def outcome(self, takes):
+        """The content where each step since the sync is taken so: a function that changes a content by a step."""
+        content = bytearray(self.synced)
+        for step, take in zip(self.steps, takes):
+            take(content, step)
+        return bytes(content)
+
+
+def lost(content, step):
+    """Nothing of a step arrived."""
+
+
+def torn_prefix(length):
+    """Only so many bytes of a write arrived."""
+    return lambda content, step: overwrite(content, step.at, step.bytes_[:length])
+
+
+def mixed(dice, old, new, unit):
+    """Of each unit of bytes the old or the new ones."""
+    count = -(-len(new) // unit)
+    choice = dice.randbytes(count).translate(ALL_OR_NONE)
+    mask = choice if unit == 1 else b"".join(choice[place : place + 1] * unit for place in range(count))[: len(new)]
+    before, after = int.from_bytes(old, "little"), int.from_bytes(new, "little")
+    return (before ^ ((before ^ after) & int.from_bytes(mask, "little"))).to_bytes(len(new), "little")
+
+
+def torn_mixed(dice, unit):
+    """Of each unit of bytes of a write, old or new is there; where the file ended before, zeros may be."""
+
+    def take(content, step):
+        length = len(content)
+        if step.kind != WRITE:
+            resize(content, dice.randint(*sorted((length, step.size))))
+            return
+        old = content[step.at : step.at + step.size].ljust(step.size, b"\0")
+        overwrite(content, step.at, mixed(dice, old, step.bytes_, unit))
+        if len(content) > length and dice.getrandbits(1):
+            resize(content, dice.randint(length, len(content)))
+
+    return take
+
+
+def torn_garbage(dice, synced_length):
+    """Of a write, what lies past the synced length is anything."""
+
+    def take(content, step):
+        kept(content, step)
+        begins, ends = max(synced_length, step.at), step.at + step.size
+        if step.kind == WRITE and ends > begins:
+            content[begins:ends] = dice.randbytes(ends - begins)
+
+    return take
+
+
+def subsets(count, most):
+    """Each choice of so many steps where there are at most `most`, and else of the last ones, with the earlier ones taken or not."""
+    free = min(count, most)
+    for mask in range(2**free):
+        chosen = [bool(mask >> place & 1) for place in range(free)]
+        yield [True] * (count - free) + chosen
+        if count > free:
+            yield [False] * (count - free) + chosen
+
+
+def takes_of(chosen):
+    return [kept if is_taken else lost for is_taken in chosen]
+
+
+class Disk:
+    def __init__(self, db, log):
+        self.files = {DB: File(db), LOG: File(log)}
+
+    def take(self, step):
+        if step.file == FOLDER and step.kind == SYNC:
+            for file in self.files.values():
+                file.is_sure = file.synced is not None
+        elif step.file in self.files:
+            self.files[step.file].take(step)
+
+    def whole(self, is_kept):
+        return tuple(file.seen() if is_kept[on] else file.synced for on, file in self.files.items())
+
+    def plain_images(self):
+        """All unsynced steps of each file lost or kept, and files that may be missing."""
+        found = [self.whole({DB: db, LOG: log}) for db in (True, False) for log in (True, False)]
+        if not all(file.is_sure for file in self.files.values()):
+            for missing in (DB, LOG):
+                if not self.files[missing].is_sure:
+                    found.append(tuple(None if on == missing else content for on, content in zip(self.files, found[0])))
+            found.append(tuple(file.synced if file.is_sure else None for file in self.files.values()))
+        return found
+
+    def subset_images(self):
+        """Each subset of the last few steps of each file, beside the other file with all or nothing."""
+        for on, file in self.files.items():
+            if not file.steps:
+                continue
+            other = self.files[LOG if on == DB else DB]
+            for chosen in subsets(len(file.steps), LAST_FEW):
+                content = file.outcome(takes_of(chosen))
+                for beside in (other.seen(), other.synced)[: 1 if other.seen() == other.synced else 2]:
+                    yield (content, beside) if on == DB else (beside, content)
+
+    def torn_takes(self, file, dice):
+        """Ways in which the last step of a file is torn."""
+        last = file.steps[-1]
+        if last.kind == WRITE:
+            edges = {1, last.size // 2, last.size - 1, SECTOR * (last.size // (2 * SECTOR)), dice.randrange(last.size + 1)}
+            yield from (torn_prefix(edge) for edge in sorted(edges) if 0 < edge < last.size)
+        yield from (torn_mixed(dice, unit) for unit in (SECTOR, SECTOR, 1, 24))
+        yield torn_garbage(dice, len(file.synced))
+
+    def torn_images(self, dice):
+        """The last step of each file torn, after all or some of the steps before it, beside the other file with all or nothing."""
+        for on, file in self.files.items():
+            if not file.steps:
+                continue
+            other = self.files[LOG if on == DB else DB]
+            for take in self.torn_takes(file, dice):
+                for before in (kept, lost):
+                    content = file.outcome([before] * (len(file.steps) - 1) + [take])
+                    beside = dice.choice((other.seen(), other.synced))
+                    yield (content, beside) if on == DB else (beside, content)
+
+    def random_images(self, dice, count):
+        """Each unsynced step of each file taken, lost or torn by chance."""
+        for _ in range(count):
+            yield tuple(
+                file.outcome([dice.choice((kept, kept, lost, torn_mixed(dice, SECTOR), torn_mixed(dice, 1), torn_garbage(dice, len(file.synced or b"")))) for _ in file.steps])
+                for file in self.files.values()
+            )
+
+    def images(self, dice):
+        """Images that a crash now may leave: what is always tried, and what may be chosen from."""
+        if any(file.synced is None for file in self.files.values()):
+            return self.plain_images(), []
+        steps = sum(len(file.steps) for file in self.files.values())
+        more = [*self.subset_images(), *self.torn_images(dice), *self.random_images(dice, 12 if steps > 1 else 0)]
+        return self.plain_images(), more

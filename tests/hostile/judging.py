@@ -1,0 +1,143 @@
+"""Whether a run under faults is right: what it answered is followed by the desk's rules, with the books that may stand after each answer."""
+
+import dataclasses, hashlib
+
+from . import counter, desk, framing, store, talk
+
+FAULTS_TOLD = {"store: StoreFailed", "store: NotWrittenBack", "input or output failed", "no memory"}
+
+
+class Wrong(Exception):
+    """A run that is not right, and why."""
+
+
+@dataclasses.dataclass
+class Heard:
+    """What the answers of a run leave open: the books that may stand, how many messages were answered, and how many of these weren't served."""
+
+    books: list
+    answered: int
+    store_failed: int = 0
+    no_memory: int = 0
+    is_cut: bool = False
+
+    @property
+    def unserved(self):
+        return self.store_failed + self.no_memory
+
+
+def key_of(books):
+    """What tells books from others: a digest of their rows."""
+    return hashlib.blake2b(repr(desk.rows_of(books)).encode(), digest_size=12).hexdigest()
+
+
+def distinct(many):
+    return list({key_of(books): books for books in many}.values())
+
+
+def messages_of(stream):
+    messages, fault = framing.split(stream)
+    if fault:
+        raise ValueError("the stream has a fault")
+    return messages
+
+
+def delivered(books, message):
+    """The books after a message, and its answer."""
+    if not counter.is_act(message):
+        return books, counter.answer(books, message)
+    after = books.copy()
+    return after, counter.answer(after, message)
+
+
+def step(many, message, told, at):
+    """The books that may stand after the next answer, and its length: right at some of the books, or 503."""
+    found, length = [], 0
+    for books in many:
+        after, right = delivered(books, message)
+        if told.startswith(right, at):
+            found.append(after)
+            length = len(right)
+    return distinct(found) if len(found) > 1 else found, length
+
+
+def unserved(many, message, told, at):
+    """The same where the next answer is a 503: which, and the books. A request that met a failed store may stand."""
+    if told.startswith(counter.NO_MEMORY, at):
+        return "no_memory", many, len(counter.NO_MEMORY)
+    if told.startswith(counter.STORE_FAILED, at):
+        return "store_failed", distinct(many + [delivered(books, message)[0] for books in many]), len(counter.STORE_FAILED)
+    return None, many, 0
+
+
+def is_front(many, message, rest):
+    """Whether what is left is a front of the next answer, and not all of it."""
+    rights = [delivered(books, message)[1] for books in many] + [counter.NO_MEMORY, counter.STORE_FAILED]
+    return any(right.startswith(rest) and len(rest) < len(right) for right in rights)
+
+
+def follow(many, messages, told):
+    """Follow the answers to messages from the books that may stand. Answers may end early: then the next message may have been decided."""
+    heard, at = Heard(list(many), 0), 0
+    for message in messages:
+        found, length = step(heard.books, message, told, at)
+        if not found:
+            word, found, length = unserved(heard.books, message, told, at)
+            if word is None:
+                if not is_front(heard.books, message, told[at:]):
+                    raise Wrong(f"answer {heard.answered + 1} is {told[at:][:600]!r}, and not {delivered(heard.books[0], message)[1][:600]!r}")
+                heard.is_cut = True
+                heard.books = distinct(heard.books + [delivered(books, message)[0] for books in heard.books])
+                return heard
+            setattr(heard, word, getattr(heard, word) + 1)
+        heard.books = found
+        heard.answered += 1
+        at += length
+    if at != len(told):
+        raise Wrong(f"more was told: {told[at:][:300]!r}")
+    return heard
+
+
+def is_ample(heard, messages):
+    return heard.answered == len(messages) and heard.unserved == 0
+
+
+def ended_rightly(ran, heard, messages):
+    """Compare the status and the told fault with what the answers say."""
+    fault = ran.faults.strip()
+    if ran.status == 0:
+        if fault or not heard.answered == len(messages) or heard.store_failed:
+            raise Wrong(f"status 0 after {heard}, told {fault!r}")
+        return
+    if ran.status != 3 or fault not in FAULTS_TOLD:
+        raise Wrong(f"status {ran.status}, told {fault!r}")
+    if (fault == "store: StoreFailed") != (heard.store_failed > 0):
+        raise Wrong(f"{fault!r} after {heard.store_failed} answers that the store failed, and {heard.answered} in all")
+    if fault == "store: NotWrittenBack" and not (heard.answered == len(messages) and heard.store_failed == 0):
+        raise Wrong(f"{fault!r} after {heard}")
+
+
+def shows_books(many, found_rows, what):
+    """The books whose rows the store has, of those that may stand."""
+    right = [books for books in many if desk.rows_of(books) == found_rows]
+    if not right:
+        raise Wrong(f"{what}: no books that may stand have these rows; {store.difference(found_rows, desk.rows_of(many[-1]))}")
+    return right
+
+
+def exports_one(many, ran, what):
+    """The books of which an export of customer 7 is what was told."""
+    if ran.status != 0 or ran.faults:
+        raise Wrong(f"{what}: export ended with {ran.status} {ran.faults!r}")
+    right = [books for books in many if books.export(7).encode() == ran.told]
+    if not right:
+        raise Wrong(f"{what}: export told {ran.told!r}")
+    return right
+
+
+def start(transcripts):
+    """The books after transcripts of messages."""
+    books = desk.Books()
+    for transcript in transcripts:
+        counter.connection(books, talk.stream(transcript))
+    return books

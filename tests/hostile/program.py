@@ -1,0 +1,116 @@
+"""The built program under test, run with what shim.c does to it: faults of files, refused memory, a record of its writes."""
+
+import dataclasses, os, shutil, socket, struct, subprocess, sys, tempfile
+
+HERE = os.path.dirname(os.path.abspath(__file__))
+KINDS = ("open", "read", "write", "truncate", "sync", "stat", "lock", "advise", "own", "hear", "tell")
+COUNTS = (*KINDS, "met", "asked", "refused", "told_before", "told")
+SECONDS = 120
+
+
+def work_folder():
+    """A new folder for stores, in memory where the system has a place for that, so that a sync costs nothing."""
+    place = "/dev/shm" if os.access("/dev/shm", os.W_OK) else None
+    return tempfile.mkdtemp(prefix="hostile-", dir=place)
+
+
+def remove(folder):
+    shutil.rmtree(folder, ignore_errors=True)
+
+
+def build_shim(folder):
+    """Compile the shim into a folder."""
+    made = os.path.join(folder, "shim.so")
+    compiled = subprocess.run(["cc", "-O1", "-Wall", "-Wextra", "-shared", "-fPIC", "-o", made, os.path.join(HERE, "shim.c")], capture_output=True, text=True)
+    if compiled.returncode or compiled.stderr:
+        sys.exit(f"the shim can't be compiled:\n{compiled.stderr}")
+    return made
+
+
+@dataclasses.dataclass
+class Ran:
+    """How a command ended, and what the shim counted."""
+
+    status: int
+    told: bytes
+    faults: str
+    counts: dict
+
+    @property
+    def met(self):
+        return self.counts.get("met", 0)
+
+    @property
+    def refused(self):
+        return self.counts.get("refused", 0)
+
+
+class Program:
+    """The program, a shim for it, and a folder in which stores are made."""
+
+    def __init__(self, path):
+        self.path = os.path.abspath(path)
+        if not os.access(self.path, os.X_OK):
+            sys.exit(f"there is no program at {path}")
+        self.folder = work_folder()
+        self.shim = build_shim(self.folder)
+
+    def close(self):
+        remove(self.folder)
+
+    def place(self, name):
+        """An empty folder of that name for a store, whose path is the result."""
+        folder = os.path.join(self.folder, name)
+        shutil.rmtree(folder, ignore_errors=True)
+        os.mkdir(folder)
+        return os.path.join(folder, "day.db")
+
+    def environment(self, store, fault=None, refuse=None, record=None, plant=None, file=None):
+        wanted = {"LD_PRELOAD": self.shim, "HOSTILE_STORE": store, "HOSTILE_COUNTS": store + ".counts"}
+        given = {"HOSTILE_FAULT": fault, "HOSTILE_REFUSE": refuse, "HOSTILE_RECORD": record, "HOSTILE_PLANT": plant, "HOSTILE_FILE": file}
+        for name, value in given.items():
+            if value:
+                wanted[name] = value
+        return wanted
+
+    def run(self, store, words, stream=b"", shimmed=True, limit=None, **hostile):
+        """Run a command whose words are given, over a store, on an input; `limit` is called in the new process."""
+        counts = store + ".counts"
+        if os.path.exists(counts):
+            os.remove(counts)
+        environment = self.environment(store, **hostile) if shimmed else {}
+        try:
+            ran = subprocess.run([self.path, *words], input=stream, capture_output=True, timeout=SECONDS, env=environment, preexec_fn=limit)
+        except subprocess.TimeoutExpired:
+            return Ran(-99, b"", f"didn't end within {SECONDS} seconds", read_counts(counts))
+        return Ran(ran.returncode, ran.stdout, ran.stderr.decode(errors="replace"), read_counts(counts))
+
+    def apply(self, store, stream, **hostile):
+        return self.run(store, ["apply", "--db", store], stream, **hostile)
+
+    def enter(self, store, kind, path, number, desk=0, **hostile):
+        words = ["import", kind, path, "--db", store, "--number", str(number)]
+        return self.run(store, words + (["--desk", str(desk)] if desk else []), **hostile)
+
+    def export(self, store, customer=7, **hostile):
+        return self.run(store, ["export", str(customer), "--db", store], **hostile)
+
+    def sheet(self, store, customer, month, **hostile):
+        return self.run(store, ["sheet", str(customer), month, "--db", store], **hostile)
+
+
+def read_counts(path):
+    """What the shim counted, or nothing where it wasn't loaded."""
+    if not os.path.exists(path):
+        return {}
+    with open(path, "rb") as file:
+        text = file.read()
+    if len(text) < 8 * len(COUNTS):
+        return {}
+    return dict(zip(COUNTS, struct.unpack(f"{len(COUNTS)}Q", text[: 8 * len(COUNTS)])))
+
+
+def free_port():
+    with socket.socket() as free:
+        free.bind(("127.0.0.1", 0))
+        return free.getsockname()[1]

@@ -1,0 +1,33 @@
+"""What is asked of a store after a run that met faults: the next command shows books that the run allows, and the same requests again have their one reply."""
+
+import os
+
+from . import judging, store
+from .judging import Wrong
+
+
+def put(scene, path):
+    """Lay the store of a scene at a path."""
+    store.remove(path)
+    if scene.base:
+        store.copy(scene.base, path)
+
+
+def shows_ample(scene, ran, path):
+    """A run that met nothing has all its answers, and leaves the rows of the day."""
+    many = scene.command.ample(ran, [scene.books])
+    judging.shows_books(many, store.rows(path), "after a run that met nothing")
+
+
+def come_back(program, scene, path, many, is_at_rest, forgets=False):
+    """What the store has, and then the same requests again. One that isn't at rest is brought to it by another command; `forgets` loses the log before that."""
+    if forgets and os.path.exists(store.log_of(path)):
+        os.remove(store.log_of(path))
+    if not is_at_rest:
+        many = judging.exports_one(many, program.export(path), "the next command")
+    many = judging.shows_books(many, store.rows(path), "before the same requests again")
+    ran = scene.command.run(program, path)
+    many = scene.command.ample(ran, many)
+    judging.shows_books(many, store.rows(path), "after the same requests again")
+    if not store.is_whole(path):
+        raise Wrong("SQLite doesn't find the store whole")

@@ -1,0 +1,77 @@
+"""What the scripts run over: stores in the states that a file can be in, and the commands that meet them."""
+
+import dataclasses, os
+
+from . import commands, desk, judging, store, talk
+
+RATES_FILE = b"from,rate\n2010-05,2.00\n2010-11,3.50%\n"
+BONDS_FILE = b"serial,denom,issued,owner,coowner\nL1EE,50,2010-11,7,\nK-0002-EE,75,10/2010,7,8\nM3EE,10000,2011-02,7,\n"
+
+
+@dataclasses.dataclass
+class Scene:
+    """A store that is copied for each run (None: no file), the books that it holds, and a command."""
+
+    name: str
+    base: str
+    books: desk.Books
+    command: object
+
+
+def made(program, name, stream, fault=None):
+    """A store after a stream, at rest, or with its log not written back."""
+    path = program.place(name)
+    ran = program.apply(path, stream, fault=fault)
+    wanted = (3, "store: NotWrittenBack\n") if fault else (0, "")
+    if (ran.status, ran.faults) != wanted:
+        raise judging.Wrong(f"the store {name} wasn't made: {ran}")
+    return path
+
+
+def first_version(program, name, with_extensions):
+    """A store of version 1, and its books."""
+    path = program.place(name)
+    store.make_version_one(path, with_extensions)
+    books = judging.start([talk.texts("five")["FIVE"]] + ([talk.texts("earlier")["NAMED"]] if with_extensions else []))
+    return path, books
+
+
+def written(program, name, file):
+    """A file of that name and content, beside the stores."""
+    path = os.path.join(program.folder, name)
+    with open(path, "wb") as to:
+        to.write(file)
+    return path
+
+
+def connections(program):
+    """A connection over a new store, a store at rest, one with its log not written back, one of each kind of version 1, and one that is served."""
+    days, earlier = talk.texts("days"), talk.texts("earlier")
+    day = talk.stream(days["DAY"])
+    begun, start = talk.stream(days["BEGUN"]), judging.start([days["BEGUN"]])
+    scenes = [Scene("new", None, desk.Books(), commands.Connection(day))]
+    at_rest = made(program, "rest", begun)
+    scenes.append(Scene("at rest", at_rest, start, commands.Connection(day)))
+    scenes.append(Scene("with a log", made(program, "logged", begun, "truncate log 1 1 e 5"), start, commands.Connection(day)))
+    for name, with_extensions in (("version 1", True), ("version 1 without extensions", False)):
+        path, books = first_version(program, name.replace(" ", "_"), with_extensions)
+        talked = talk.stream(talk.texts("five")["FIVE"] + earlier["NAMED"] + earlier["OTHER"])
+        scenes.append(Scene(name, path, books, commands.Connection(talked)))
+    scenes.append(Scene("served", at_rest, start, commands.Served(day)))
+    return scenes
+
+
+def files(program):
+    """Imports into a new store and into one with rates, an export and a sheet."""
+    days = talk.texts("days")
+    rates, bonds = written(program, "rates.csv", RATES_FILE), written(program, "bonds.csv", BONDS_FILE)
+    with_rates = made(program, "rated", talk.exchanges(days["BEGUN"])[0][0])
+    begun, start = made(program, "shown", talk.stream(days["BEGUN"])), judging.start([days["BEGUN"]])
+    rated = desk.Books()
+    rated.deliver((0, 1), ("rates", commands.rates_rows(RATES_FILE)))
+    return [
+        Scene("import rates", None, desk.Books(), commands.Import("rates", rates, RATES_FILE, 1)),
+        Scene("import inventory", with_rates, rated, commands.Import("inventory", bonds, BONDS_FILE, 2, 3)),
+        Scene("export", begun, start, commands.Shown(7)),
+        Scene("sheet", begun, start, commands.Shown(7, "2012-02")),
+    ]

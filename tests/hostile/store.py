@@ -1,0 +1,99 @@
+"""Stores on disk: their rows, read by SQLite; and stores of version 1, made by the statements of that version."""
+
+import os, shutil, sqlite3
+
+from . import talk
+
+ORDERS = {
+    "desk": "SELECT id, version, day, last_day FROM desk ORDER BY id",
+    "rates": "SELECT period, rate FROM rates ORDER BY period",
+    "extensions": "SELECT period, rate FROM extensions ORDER BY period",
+    "bonds": "SELECT letter, number, denom, issued, owner, coowner, ticket FROM bonds ORDER BY letter, number",
+    "tickets": "SELECT ticket, day, payee, bonds, total FROM tickets ORDER BY ticket",
+    "paid": "SELECT ticket, place, letter, number, cents FROM paid ORDER BY ticket, place",
+    "batches": "SELECT day, tickets, bonds, total FROM batches ORDER BY day",
+    "answers": "SELECT desk, number, act, reply FROM answers ORDER BY desk, number",
+    "replies": "SELECT number, act, reply FROM replies ORDER BY number",
+}
+
+
+def log_of(store):
+    return store + "-wal"
+
+
+def copy(store, to):
+    """Copy both files of a store, as far as they are there."""
+    for end in ("", "-wal"):
+        if os.path.exists(store + end):
+            shutil.copyfile(store + end, to + end)
+        elif os.path.exists(to + end):
+            os.remove(to + end)
+
+
+def remove(store):
+    for end in ("", "-wal", "-shm", ".counts", ".record"):
+        if os.path.exists(store + end):
+            os.remove(store + end)
+
+
+def rows(store, with_log=False):
+    """The rows of each table that is there, in order of key, read from a copy: of the one file, or of both."""
+    looked_at = store + ".looked"
+    remove(looked_at)
+    shutil.copyfile(store, looked_at)
+    if with_log and os.path.exists(log_of(store)):
+        shutil.copyfile(log_of(store), log_of(looked_at))
+    try:
+        base = sqlite3.connect(looked_at)
+        try:
+            there = {name for (name,) in base.execute("SELECT name FROM sqlite_master WHERE type = 'table'")}
+            return {table: base.execute(query).fetchall() for table, query in ORDERS.items() if table in there}
+        finally:
+            base.close()
+    except sqlite3.DatabaseError as error:
+        return {"unreadable": str(error)}
+    finally:
+        remove(looked_at)
+
+
+def is_whole(store):
+    """Whether SQLite finds the one file whole."""
+    base = sqlite3.connect(f"file:{store}?mode=ro&immutable=1", uri=True)
+    try:
+        return base.execute("PRAGMA integrity_check").fetchall() == [("ok",)]
+    except sqlite3.DatabaseError:
+        return False
+    finally:
+        base.close()
+
+
+def difference(found, wanted):
+    """The first table in which rows differ, and how; or None."""
+    for table in sorted(set(found) | set(wanted)):
+        if found.get(table) != wanted.get(table):
+            return f"{table}: found {found.get(table)!r:.1500}, wanted {wanted.get(table)!r:.1500}"
+    return None
+
+
+def make_version_one(store, with_extensions):
+    """The store of five requests (and of a sixth, which enters an extension), as a program from before desks made it."""
+    earlier = talk.texts("earlier")
+    remove(store)
+    base = sqlite3.connect(store, isolation_level=None)
+    base.execute("PRAGMA journal_mode = WAL")
+    names = ("SEVEN_TABLES", "EXTENSIONS", "ROWS", "EXTENDED_ROWS") if with_extensions else ("SEVEN_TABLES", "ROWS")
+    base.executescript("BEGIN;" + "".join(earlier[name] for name in names) + "COMMIT;")
+    base.close()
+    if os.path.exists(log_of(store)):
+        os.remove(log_of(store))
+
+
+def migrated(first):
+    """The rows of version 2 that rows of version 1 become."""
+    others = {table: found for table, found in first.items() if table not in ("replies", "desk")}
+    return {
+        **others,
+        "desk": [(identity, 2, *days) for identity, _, *days in first["desk"]],
+        "extensions": first.get("extensions", []),
+        "answers": [(0, *reply) for reply in first["replies"]],
+    }
