@@ -37,7 +37,7 @@ fn is_refused(told: &str) -> bool {
     false
 }
 
-/// The transcript that comes of doing the same, where what memory was refused to is done again, twice at most.
+/// The transcript that comes of doing the same, where what memory was refused to is done once more.
 fn replay_patiently<K: Keeper>(
     alloc: Global,
     keeper: &mut K,
@@ -49,10 +49,8 @@ fn replay_patiently<K: Keeper>(
         let Some(mut told) = line_told(alloc, keeper, by, line)? else {
             continue;
         };
-        for _ in 0..2 {
-            if is_refused(told.as_str()) {
-                told = line_told(alloc, keeper, by, line)?.ok_or("told")?;
-            }
+        if is_refused(told.as_str()) {
+            told = line_told(alloc, keeper, by, line)?.ok_or("told")?;
         }
         write!(text, "{line}\n{told}\n")?;
     }
@@ -94,13 +92,14 @@ fn work_over<K: Keeper>(
             is_told(rt, alloc, keeper, by, SHOWN)
         }
         Work::Files => {
-            is_told(rt, alloc, keeper, By::Calls, FILES)?;
+            let (files, _) = FILES.split_once("- 7 40\n").ok_or("an export that is cut")?;
+            is_told(rt, alloc, keeper, By::Calls, files)?;
             is_told(
                 rt,
                 alloc,
                 keeper,
                 By::Calls,
-                requests_of(alloc, FILES)?.as_str(),
+                requests_of(alloc, files)?.as_str(),
             )
         }
         Work::List => list_over(rt, alloc, keeper),
