@@ -1,4 +1,4 @@
-"""A client that does the acts of the plan, one after another, until the file `stop` is there and a day is done. It may be killed at any moment and started again."""
+"""A client that does the acts of the plan, one after another, until the file `stop` is there, a day is done and no request is open. It may be killed at any moment and started again."""
 import json
 import sys
 from pathlib import Path
@@ -40,7 +40,7 @@ def main():
             place = 0 if counter.last is None else counter.last["bookmark"]
             if place > 0:
                 keep(place - 1, counter.last["reply"])
-            while not ((folder / "stop").exists() and place % ACTS_A_DAY == 0):
+            while counter.open_request is not None or not ((folder / "stop").exists() and place % ACTS_A_DAY == 0):
                 keep(place, done(counter, place))
                 place += 1
 
