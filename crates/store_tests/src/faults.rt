@@ -147,6 +147,43 @@ fn wanted(alloc: Global, messages: usize, is_cut: bool) -> Result<String, Fail> 
     Ok(text)
 }
 
+/// The line of a status.
+fn status_line(status: &str) -> Option<&'static str> {
+    match status {
+        "400" => Some("400 Bad Request"),
+        "404" => Some("404 Not Found"),
+        "405" => Some("405 Method Not Allowed"),
+        "409" => Some("409 Conflict"),
+        _ => None,
+    }
+}
+
+/// The calls at fault on one connection, each followed by a message that is answered well.
+pub fn calls_in_one_stream<K: Keeper>(
+    rt: &impl Abort,
+    alloc: Global,
+    keeper: &mut K,
+) -> Result<(), Fail> {
+    let good = message(alloc, SECOND)?;
+    let row = json(alloc, "200 OK", "", ROW)?;
+    let mut stream = String::new(alloc);
+    let mut wanted = String::from_str(alloc, "Done ")?;
+    for line in CALLS.lines() {
+        if let Some(line) = line.strip_prefix("> ") {
+            stream.push_str(message(alloc, line)?.as_str())?;
+            stream.push_str(good.as_str())?;
+        } else {
+            let (status, body) = line.split_once(' ').ok_or("status")?;
+            let status = status_line(status).ok_or("another status")?;
+            wanted.push_str(json(alloc, status, "", body)?.as_str())?;
+            wanted.push_str(row.as_str())?;
+        }
+    }
+    let told = applied(alloc, keeper, stream.as_bytes())?;
+    assert!(rt; told.as_str() == wanted.as_str(), "{told} and not {wanted}");
+    Ok(())
+}
+
 /// Two messages whose stream ends after each byte in turn.
 pub fn ends<K: Keeper>(rt: &impl Abort, alloc: Global, keeper: &mut K) -> Result<(), Fail> {
     let mut stream = message(alloc, FIRST)?;

@@ -4,7 +4,7 @@ use crate::days::{
     BEGUN, DAY, DESKS, EXTENDED, IMPORTED, LAST, LOST, MERGES, ORDERS, SHOWN, TICKETS,
 };
 use crate::failing::{a_thousand_messages, devices_fail};
-use crate::faults::{CALLS, HEADS, STREAMS, ended, ends};
+use crate::faults::{CALLS, HEADS, STREAMS, calls_in_one_stream, ended, ends};
 use crate::five::rows_told;
 use crate::imports::{FILES, LONG_FILES};
 use crate::lists::LISTS;
@@ -40,6 +40,8 @@ enum Part {
     Ends,
     /// Devices that fail.
     Devices,
+    /// Calls at fault on one connection, each followed by a good one.
+    OneStream,
     /// As many messages as a connection has.
     Thousand,
 }
@@ -74,13 +76,14 @@ const BY_CALLS: [Part; 10] = [
 ];
 
 /// What is at fault leaves a sound store, which gives its first replies.
-const FAULTS: [Part; 7] = [
+const FAULTS: [Part; 8] = [
     Part::Talks(BEGUN, CALLS),
     Part::Talks(BEGUN, STREAMS),
     Part::Talks(BEGUN, HEADS),
     Part::Noise,
     Part::Ends,
     Part::Devices,
+    Part::OneStream,
     Part::Thousand,
 ];
 
@@ -197,6 +200,10 @@ fn part_over<K: Keeper>(
         Part::Noise => noise(rt, alloc, keeper),
         Part::Ends => ends(rt, alloc, keeper),
         Part::Devices => devices_fail(rt, alloc, keeper),
+        Part::OneStream => {
+            compare(rt, alloc, keeper, BEGUN)?;
+            calls_in_one_stream(rt, alloc, keeper)
+        }
         Part::Thousand => a_thousand_messages(rt, alloc, keeper),
     }
 }
@@ -226,7 +233,7 @@ fn again<K: Keeper>(
         }
         Part::FullDay(_) => requests_again(rt, alloc, keeper, MOST, FULL),
         Part::OneList => requests_again(rt, alloc, keeper, DAY, ""),
-        Part::Noise => compare(rt, alloc, keeper, BEGUN),
+        Part::Noise | Part::OneStream => compare(rt, alloc, keeper, BEGUN),
         Part::Ends => ended(rt, alloc, keeper),
         Part::Devices | Part::Thousand => Ok(()),
     }
