@@ -1,5 +1,5 @@
-//! The desk of a paying agent: it keeps rates, bonds, tickets and batches, does acts on them, and
-//! answers each numbered request once.
+//! The desk of a paying agent: books of rates, bonds, tickets and batches, what acts do to them, and what queries
+//! show of them.
 #![tactic(auto)]
 
 mod additions;
