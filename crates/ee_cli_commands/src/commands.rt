@@ -72,7 +72,8 @@ impl From<AllocError> for CommandFault {
 /// What the words ask for, the first of which is the program's name. A request number is at least 1
 /// and below 2^63, a desk from 0 to 999, and 0 where it is left out, a port from 1 to 65535, a count of
 /// connections from 1 to 1,000. That count may be left out: the command then serves `u64::MAX`
-/// connections, as many as come, until it is stopped. Help and the version are asked for by `--help` or `-h`, after a command's name too, and by `--version` or `-V`.
+/// connections, as many as come, until it is stopped. Help and the version are asked for by `--help` or `-h`, after a
+/// command's name too, and by `--version` or `-V`.
 pub fn read_command<'a, S: AsStr>(
     alloc: Global,
     words: &'a [S],

@@ -5,7 +5,18 @@ ghost use Rattle.clap.specs.Words.{first_of, found_of, one_of, rows_of};
 ghost use Rattle.ee_units.specs.Denoms.{denom_of};
 ghost use Rattle.ee_units.specs.Spelling.{customer_of, in_range, issue_of, month_of, rate_of};
 ghost use Rattle.ee_desk_acts.specs.Desks.{desk_of};
-ghost use Rattle.ee_cli_commands.specs.CommandLine.{kind_of_file, most_number, most_port, number_word, numbered, numbered_or, spelled, spelled_or, spelled_or_none, text_of};
+ghost use Rattle.ee_cli_commands.specs.CommandLine.{
+  kind_of_file,
+  most_number,
+  most_port,
+  number_word,
+  numbered,
+  numbered_or,
+  spelled,
+  spelled_or,
+  spelled_or_none,
+  text_of,
+};
 ghost use Rattle.ee_cli_commands.specs.Answer.{Gives};
 
 use crate::commands::{CommandFault, FileKind};

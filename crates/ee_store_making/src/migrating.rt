@@ -74,7 +74,8 @@ fn add_answer<S: Alter>(tx: &mut Transaction<'_, S>, answer: &StoredAnswer) -> R
     ensures inside { HasCleanDisk (state S.Store tx.new.conn.now) → IsInside (state S.Store tx.old.conn.now)
         → OnOk result (IsInside (state S.Store tx.new.conn.now)) }
     ensures added { HasCleanDisk (state S.Store tx.new.conn.now) → OnOk result ((rows : Rows) → Sees (state S.Store tx.old.conn.now) rows
-        → Sees (state S.Store tx.new.conn.now) (record rows { answers = insert rows.answers (answer.now.desk, answer.now.number) (answer_entry answer.now).1 })) }
+        → Sees (state S.Store tx.new.conn.now)
+        (record rows { answers = insert rows.answers (answer.now.desk, answer.now.number) (answer_entry answer.now).1 })) }
     ensures place { HasCleanDisk (state S.Store tx.new.conn.now) → IsInside (state S.Store tx.old.conn.now) → OnOk result ((n : ℕ)
         → HasPlace (n + 1) (state S.Store tx.old.conn.now) → HasPlace n (state S.Store tx.new.conn.now)) }
     ensures cause { FailsIn (λ s. IsInside s × (rows : Rows) × Sees s rows × CanAdd rows.answers (answer_entry answer.now)

@@ -94,7 +94,12 @@ fn has_no_stamps(stamps: &Stamps) -> bool
 /// Whether a table has this name and tree, and no rules but those of its columns and keys.
 fn is_plain_table(table: &Table, name: &str, tree: u32) -> bool
     ensures { (result ≡ true) ↔ (table.now
-        ≡ record (keyed_table name.now tree table.now.columns) { key = table.now.key; primary = table.now.primary; uniques = table.now.uniques; orders = table.now.orders }) }
+        ≡ record (keyed_table name.now tree table.now.columns) {
+          key = table.now.key;
+          primary = table.now.primary;
+          uniques = table.now.uniques;
+          orders = table.now.orders;
+        }) }
 {
     is_name(&table.name, name)
         && table.tree == tree

@@ -44,7 +44,8 @@ pub fn add_answer_texts<S: Alter>(
     ensures same_reference { tx.new.conn.ghost_name ≡ tx.old.conn.ghost_name }
     ensures open { LeavesOpen (state S.Store tx.new.conn.now) result }
     ensures inside { StaysInside (state S.Store tx.old.conn.now) (state S.Store tx.new.conn.now) result }
-    ensures added { Makes (state S.Store tx.old.conn.now) (state S.Store tx.new.conn.now) result (λ rows. with_answer rows (desk, number) (record { act = act.now; reply = reply.now })) }
+    ensures added { Makes (state S.Store tx.old.conn.now) (state S.Store tx.new.conn.now) result
+        (λ rows. with_answer rows (desk, number) (record { act = act.now; reply = reply.now })) }
     ensures sound { LeavesSound (state S.Store tx.old.conn.now) (state S.Store tx.new.conn.now) result }
     ensures room { TakesRoom (state S.Store tx.old.conn.now) (state S.Store tx.new.conn.now) result 1 }
     ensures rises { HasCleanDisk (state S.Store tx.new.conn.now) → IsInside (state S.Store tx.old.conn.now) → OnOk result ((n : ℕ)
@@ -76,7 +77,8 @@ pub fn add_answer<S: Alter>(
     ensures same_reference { tx.new.conn.ghost_name ≡ tx.old.conn.ghost_name }
     ensures open { LeavesOpen (state S.Store tx.new.conn.now) result }
     ensures inside { StaysInside (state S.Store tx.old.conn.now) (state S.Store tx.new.conn.now) result }
-    ensures added { Makes (state S.Store tx.old.conn.now) (state S.Store tx.new.conn.now) result (λ rows. with_answer rows (desk, number) (row_of_reply entry.now)) }
+    ensures added { Makes (state S.Store tx.old.conn.now) (state S.Store tx.new.conn.now) result
+        (λ rows. with_answer rows (desk, number) (row_of_reply entry.now)) }
     ensures sound { LeavesSound (state S.Store tx.old.conn.now) (state S.Store tx.new.conn.now) result }
     ensures room { TakesRoom (state S.Store tx.old.conn.now) (state S.Store tx.new.conn.now) result 1 }
     ensures commit { CommitsNothing (state S.Store tx.old.conn.now) (state S.Store tx.new.conn.now) }
@@ -140,7 +142,8 @@ pub fn find_answer<S: Alter>(
         (λ rows found. option_map row_of_reply found ≡ get rows.answers (desk, number)) }
     ensures same { ChangesNothing (state S.Store tx.old.conn.now) (state S.Store tx.new.conn.now) result }
     ensures err { FailsAlone (state S.Store tx.old.conn.now) (state S.Store tx.new.conn.now) result }
-    ensures cause { FailsByCause (state S.Store tx.old.conn.now) (state S.Store tx.new.conn.now) result (λ rows. IfSome (get rows.answers (desk, number)) IsText) }
+    ensures cause { FailsByCause (state S.Store tx.old.conn.now) (state S.Store tx.new.conn.now) result
+        (λ rows. IfSome (get rows.answers (desk, number)) IsText) }
     ensures crash { LeavesNoMore (state S.Store tx.old.conn.now) (state S.Store tx.new.conn.now) }
 {
     let rows = answer_rows(tx, desk, number)?;
