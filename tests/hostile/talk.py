@@ -1,14 +1,17 @@
-"""Days at the counter that stand as transcripts in crates/store_tests, with the answers that were worked by hand. Their little language is told in its talk.rt."""
+"""Days at the counter that stand as transcripts in crates/store_talks, and those of earlier stores in crates/store_tests_earlier, with the answers
+that were worked by hand. Their little language is told in the talk.rt of the former."""
 
 import os, re
 
-SOURCES = os.path.join(os.path.dirname(os.path.abspath(__file__)), "..", "..", "crates", "store_tests", "src")
+CRATES = os.path.join(os.path.dirname(os.path.abspath(__file__)), "..", "..", "crates")
+SOURCES = [os.path.join(CRATES, name, "src") for name in ("store_talks", "store_tests_earlier")]
 REASONS = {200: "OK", 400: "Bad Request", 404: "Not Found", 405: "Method Not Allowed", 409: "Conflict", 413: "Content Too Large", 503: "Service Unavailable"}
 
 
 def texts(file):
     """The constant texts of a source file, by name: a text, or a list of texts."""
-    with open(os.path.join(SOURCES, file + ".rt"), encoding="utf-8") as source:
+    paths = [os.path.join(folder, file + ".rt") for folder in SOURCES]
+    with open(next(path for path in paths if os.path.exists(path)), encoding="utf-8") as source:
         text = source.read()
     found = {}
     for name, listed, value in re.findall(r'const (\w+): (\[&str; \d+\]|&str) =\s*(.*?);\n(?=\n|\Z|/)', text, re.S):

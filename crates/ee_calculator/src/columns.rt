@@ -1,3 +1,5 @@
+//! The columns of a sheet.
+
 ghost use Rattle.std.specs.Prelude.{◌≡◌, ◌≤◌, ◌++◌, length, replicate};
 ghost use Rattle.ee_calculator.specs.Sheets.{placed, on_left, on_right};
 

@@ -1,3 +1,5 @@
+//! The notes of a row, by the age of its bond.
+
 use ee_units::Age;
 use std::fmt;
 

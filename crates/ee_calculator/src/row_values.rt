@@ -1,3 +1,5 @@
+//! The row of a bond in a month.
+
 ghost use Rattle.std.specs.Prelude.{◌≡◌, ◌+◌, ◌-◌, ◌<◌, ◌≤◌, Some, None};
 ghost use Rattle.ee_calculator.specs.Rows.{columns_in, columns_of, columns_with, shown};
 ghost use Rattle.ee_units.specs.Denoms.{units_of};

@@ -1,3 +1,5 @@
+//! Rows of the calculator.
+
 ghost use Rattle.std.specs.Prelude.{◌≡◌, ◌+◌};
 
 use crate::notes::Note;

@@ -1,3 +1,5 @@
+//! Sheets of rows.
+
 ghost use Rattle.std.specs.Prelude.{◌≡◌, ◌+◌};
 
 use crate::rows::Row;

@@ -1,3 +1,5 @@
+//! The sheet of rows, with their sums.
+
 ghost use Rattle.std.specs.Prelude.{◌≡◌, ◌<◌, ◌^◌, sum_by};
 
 use crate::rows::Row;

@@ -1,3 +1,5 @@
+//! The books of a desk.
+
 ghost use Rattle.std.specs.Prelude.{◌≡◌, map, Some, IfOk, IfSome, OnOk, OnErr, IfErr};
 ghost use Rattle.std.specs.Option.{option_map};
 ghost use Rattle.ee_desk_acts.specs.declared.acts.Act.{Act};

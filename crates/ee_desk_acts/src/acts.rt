@@ -1,3 +1,5 @@
+//! Acts, and requests for them.
+
 ghost use Rattle.std.specs.Prelude.{◌≡◌, IfOk};
 ghost use Rattle.std.specs.Cmp.Lexicographic.{pointwise};
 ghost use Rattle.ee_desk_acts.specs.Acts.{same_act};

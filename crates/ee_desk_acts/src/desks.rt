@@ -1,3 +1,5 @@
+//! The desks of a bank.
+
 ghost use Rattle.std.specs.Prelude.{◌≡◌, ◌≤◌, option_and_then};
 ghost use Rattle.std.specs.Char.{is_ascii_digit};
 ghost use Rattle.std.specs.List.{list_all};

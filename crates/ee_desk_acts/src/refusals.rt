@@ -1,3 +1,5 @@
+//! Why an act is refused, and why a request is unserved.
+
 ghost use Rattle.std.specs.Prelude.{◌≡◌};
 ghost use Rattle.ee_desk_acts.specs.Codes.{code_of, name_of, number_of_unserved};
 

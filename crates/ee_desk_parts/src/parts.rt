@@ -1,3 +1,5 @@
+//! The parts of books, as lists.
+
 use ee_calculator::Bond;
 use ee_desk_acts::{Batch, RateRow, Rows, Ticket};
 use ee_units::Day;

@@ -3,6 +3,7 @@
 ghost use Rattle.std.specs.Prelude.{◌≡◌, IfOk};
 ghost use Rattle.serde_json.specs.View.{view};
 ghost use Rattle.ee_desk_texts.specs.Data.{names, refused_data, refusal_data};
+ghost use Rattle.ee_desk_texts.specs.declared.refusals.Named.TheVariants as named;
 
 use crate::values::{month_value, serial_value};
 use ee_desk_acts::Refusal;
@@ -50,26 +51,53 @@ pub fn names(refusal: &Refusal) -> Named
     }
 }
 
+fn plain_value(alloc: Global, code: u8, name: &str) -> Result<Value, AllocError>
+    ensures { IfOk result (λ v. view v ≡ refused_data code name.now named.Nothing) }
+{
+    json!(in alloc; {"code": code, "refused": name})
+}
+
+fn period_value(alloc: Global, code: u8, name: &str, month: IssueMonth) -> Result<Value, AllocError>
+    ensures { IfOk result (λ v. view v ≡ refused_data code name.now (named.Period month)) }
+{
+    json!(in alloc; {"code": code, "month": month_value(alloc, month)?, "refused": name})
+}
+
+fn age_value(alloc: Global, code: u8, name: &str, age: Age) -> Result<Value, AllocError>
+    ensures { IfOk result (λ v. view v ≡ refused_data code name.now (named.Months age)) }
+{
+    json!(in alloc; {"code": code, "month": age.months(), "refused": name})
+}
+
+fn bond_value(alloc: Global, code: u8, name: &str, serial: Serial) -> Result<Value, AllocError>
+    ensures { IfOk result (λ v. view v ≡ refused_data code name.now (named.Bond serial)) }
+{
+    json!(in alloc; {"code": code, "refused": name, "serial": serial_value(alloc, serial)?})
+}
+
+fn paid_value(
+    alloc: Global,
+    code: u8,
+    name: &str,
+    serial: Serial,
+    ticket: u64,
+) -> Result<Value, AllocError>
+    ensures { IfOk result (λ v. view v ≡ refused_data code name.now (named.Paid serial ticket)) }
+{
+    json!(in alloc; {
+        "code": code, "refused": name, "serial": serial_value(alloc, serial)?, "ticket": ticket
+    })
+}
+
 fn refused_value(alloc: Global, code: u8, name: &str, named: Named) -> Result<Value, AllocError>
     ensures { IfOk result (λ v. view v ≡ refused_data code name.now named) }
 {
     match named {
-        Named::Nothing => json!(in alloc; {"code": code, "refused": name}),
-        Named::Period(month) => {
-            let month = month_value(alloc, month)?;
-            json!(in alloc; {"code": code, "month": month, "refused": name})
-        }
-        Named::Months(age) => {
-            json!(in alloc; {"code": code, "month": age.months(), "refused": name})
-        }
-        Named::Bond(serial) => {
-            let serial = serial_value(alloc, serial)?;
-            json!(in alloc; {"code": code, "refused": name, "serial": serial})
-        }
-        Named::Paid(serial, ticket) => {
-            let serial = serial_value(alloc, serial)?;
-            json!(in alloc; {"code": code, "refused": name, "serial": serial, "ticket": ticket})
-        }
+        Named::Nothing => plain_value(alloc, code, name),
+        Named::Period(month) => period_value(alloc, code, name, month),
+        Named::Months(age) => age_value(alloc, code, name, age),
+        Named::Bond(serial) => bond_value(alloc, code, name, serial),
+        Named::Paid(serial, ticket) => paid_value(alloc, code, name, serial, ticket),
     }
 }
 

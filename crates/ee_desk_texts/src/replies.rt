@@ -18,9 +18,9 @@ use std::alloc::{AllocError, Global};
 fn line_value(alloc: Global, line: &Line) -> Result<Value, AllocError>
     ensures { IfOk result (λ v. view v ≡ line_data line.now) }
 {
-    let paid = cents_value(alloc, line.cents)?;
-    let serial = serial_value(alloc, line.serial)?;
-    json!(in alloc; {"paid": paid, "serial": serial})
+    json!(in alloc; {
+        "paid": cents_value(alloc, line.cents)?, "serial": serial_value(alloc, line.serial)?
+    })
 }
 
 fn line_values(alloc: Global, lines: &[Line]) -> Result<Vec<Value>, AllocError>
@@ -36,19 +36,24 @@ fn line_values(alloc: Global, lines: &[Line]) -> Result<Vec<Value>, AllocError>
 fn ticket_value(alloc: Global, ticket: &Ticket) -> Result<Value, AllocError>
     ensures { IfOk result (λ v. view v ≡ ticket_data ticket.now) }
 {
-    let day = day_value(alloc, ticket.day)?;
-    let lines = Value::Array(line_values(alloc, ticket.lines.as_slice())?);
-    let payee = ticket.payee.number();
-    let total = cents_value(alloc, ticket.total)?;
-    json!(in alloc; {"day": day, "lines": lines, "payee": payee, "ticket": ticket.ticket, "total": total})
+    json!(in alloc; {
+        "day": day_value(alloc, ticket.day)?,
+        "lines": Value::Array(line_values(alloc, ticket.lines.as_slice())?),
+        "payee": ticket.payee.number(),
+        "ticket": ticket.ticket,
+        "total": cents_value(alloc, ticket.total)?
+    })
 }
 
 fn batch_value(alloc: Global, batch: &Batch) -> Result<Value, AllocError>
     ensures { IfOk result (λ v. view v ≡ batch_data batch.now) }
 {
-    let day = day_value(alloc, batch.day)?;
-    let total = cents_value(alloc, batch.total)?;
-    json!(in alloc; {"bonds": batch.bonds, "day": day, "tickets": batch.tickets, "total": total})
+    json!(in alloc; {
+        "bonds": batch.bonds,
+        "day": day_value(alloc, batch.day)?,
+        "tickets": batch.tickets,
+        "total": cents_value(alloc, batch.total)?
+    })
 }
 
 fn added_value(alloc: Global, new: u64, same: u64) -> Result<Value, AllocError>
@@ -60,8 +65,7 @@ fn added_value(alloc: Global, new: u64, same: u64) -> Result<Value, AllocError>
 fn opened_value(alloc: Global, day: Day) -> Result<Value, AllocError>
     ensures { IfOk result (λ v. view v ≡ reply_data (reply.Opened day)) }
 {
-    let day = day_value(alloc, day)?;
-    json!(in alloc; {"opened": day})
+    json!(in alloc; {"opened": day_value(alloc, day)?})
 }
 
 fn reply_value(alloc: Global, reply: &Reply) -> Result<Value, AllocError>

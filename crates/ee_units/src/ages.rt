@@ -1,3 +1,5 @@
+//! Ages of bonds.
+
 ghost use Rattle.std.specs.Prelude.{◌≡◌, ◌≤◌};
 ghost use Rattle.ee_units.specs.Spelling.{in_range};
 

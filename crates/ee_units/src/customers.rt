@@ -1,3 +1,5 @@
+//! Numbers of customers.
+
 ghost use Rattle.std.specs.Prelude.{◌≡◌, ◌≤◌};
 ghost use Rattle.std.specs.Option.{ok_or};
 ghost use Rattle.ee_units.specs.Spelling.{in_range, customer_of};

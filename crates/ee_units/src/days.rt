@@ -1,3 +1,5 @@
+//! Days.
+
 ghost use Rattle.std.specs.Prelude.{◌≡◌, ◌<◌, ◌≤◌, ◌↔◌, IsSome, IfSome, true, pos};
 ghost use Rattle.std.specs.Option.{ok_or};
 ghost use Rattle.jiff_core.specs.Calendar.{days_from_civil};

@@ -1,3 +1,5 @@
+//! Denominations, with their units and prices.
+
 use crate::faults::UnitFault;
 use crate::money::Cents;
 use std::fmt;

@@ -1,3 +1,5 @@
+//! Why a text spells no value.
+
 ghost use Rattle.std.specs.Prelude.{◌≡◌};
 
 use thiserror::Error;

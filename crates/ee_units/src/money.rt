@@ -1,3 +1,5 @@
+//! Amounts of money, and sums of them.
+
 use std::fmt;
 
 /// An amount of money in cents.

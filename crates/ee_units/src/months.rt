@@ -1,3 +1,5 @@
+//! Months, and issue months.
+
 ghost use Rattle.std.specs.Prelude.{◌≡◌, ◌≤◌};
 ghost use Rattle.std.specs.Option.{ok_or};
 ghost use Rattle.ee_units.specs.Spelling.{in_range, month_at, month_of, issue_of};

@@ -1,3 +1,5 @@
+//! The precision of fixed-point numbers.
+
 ghost use Rattle.std.specs.Prelude.{◌≡◌, ◌≤◌};
 ghost use Rattle.ee_units.specs.Spelling.{in_range};
 

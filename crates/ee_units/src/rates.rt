@@ -1,3 +1,5 @@
+//! Rates.
+
 ghost use Rattle.std.specs.Prelude.{◌≡◌, ◌<◌, ◌≤◌, IfSome};
 ghost use Rattle.std.specs.Option.{ok_or};
 ghost use Rattle.std.specs.Io.BufRead.{strip_last};

@@ -1,3 +1,5 @@
+//! The rows that calls answer.
+
 ghost use Rattle.std.specs.Prelude.{◌≡◌};
 ghost use Rattle.ee_calculator.specs.Rows.{columns_in};
 ghost use Rattle.ee_value_c.specs.Answers.{note_number, payable, row_with, refused};

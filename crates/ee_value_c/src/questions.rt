@@ -1,3 +1,5 @@
+//! What a call asks for.
+
 ghost use Rattle.std.specs.Prelude.{◌≡◌};
 ghost use Rattle.ee_value_c.specs.Questions.{question_at};
 

@@ -1,3 +1,5 @@
+//! Why a call has no answer.
+
 ghost use Rattle.std.specs.Prelude.{◌≡◌};
 ghost use Rattle.ee_value_c.specs.Statuses.{status_of};
 

@@ -1,3 +1,5 @@
+//! The texts of statuses.
+
 ghost use Rattle.std.specs.Prelude.{◌≡◌, ◌≤◌, length};
 ghost use Rattle.ee_value_c.specs.Statuses.{status_text, text_into};
 

@@ -51,17 +51,15 @@ fn cents_value(alloc: Global, cents: Cents) -> Result<Value, AllocError>
 pub fn row_value(alloc: Global, row: &Row) -> Result<Value, AllocError>
     ensures { IfOk result (λ v. view v ≡ row_data row.now) }
 {
-    let denom = row.denom.dollars();
-    let last = month_value(alloc, row.final_maturity)?;
-    let interest = cents_value(alloc, row.interest)?;
-    let issued = issue_value(alloc, row.issued)?;
-    let next = month_value(alloc, row.next_accrual)?;
-    let note = note_value(alloc, row.note)?;
-    let price = cents_value(alloc, row.price)?;
-    let rate = rate_value(alloc, row.rate)?;
-    let value = cents_value(alloc, row.value)?;
     json!(in alloc; {
-        "denom": denom, "final": last, "interest": interest, "issued": issued, "next": next,
-        "note": note, "price": price, "rate": rate, "value": value
+        "denom": row.denom.dollars(),
+        "final": month_value(alloc, row.final_maturity)?,
+        "interest": cents_value(alloc, row.interest)?,
+        "issued": issue_value(alloc, row.issued)?,
+        "next": month_value(alloc, row.next_accrual)?,
+        "note": note_value(alloc, row.note)?,
+        "price": cents_value(alloc, row.price)?,
+        "rate": rate_value(alloc, row.rate)?,
+        "value": cents_value(alloc, row.value)?
     })
 }

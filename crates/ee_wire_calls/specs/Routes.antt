@@ -22,18 +22,22 @@ with_read (Err e) route rows = rows
 abbrev pub with_route : List ℕ → Route → Routes → Routes
 with_route text route rows = with_read (parse_route text) route rows
 
+-- the routes of requests
+unfoldable pub posts : Routes
+posts =
+    with_route (codes "/redeem") (Post post.Redeem)
+    (with_route (codes "/day/close") (Post post.DayClose)
+    (with_route (codes "/day/open") (Post post.DayOpen)
+    (with_route (codes "/bonds") (Post post.Bonds)
+    (with_route (codes "/rates") (Post post.Rates) []))))
+
 -- the nine routes
 unfoldable pub routes : Routes
 routes =
     with_route (codes "/value/{denom}/{issued}/{month}") (Get query.Value)
     (with_route (codes "/batch/{day}") (Get query.Batch)
     (with_route (codes "/ticket/{n}") (Get query.Ticket)
-    (with_route (codes "/inventory/{customer}/{month}") (Get query.Inventory)
-    (with_route (codes "/redeem") (Post post.Redeem)
-    (with_route (codes "/day/close") (Post post.DayClose)
-    (with_route (codes "/day/open") (Post post.DayOpen)
-    (with_route (codes "/bonds") (Post post.Bonds)
-    (with_route (codes "/rates") (Post post.Rates) []))))))))
+    (with_route (codes "/inventory/{customer}/{month}") (Get query.Inventory) posts)))
 
 -- the route that a text takes
 abbrev pub route_of : List ℕ → Option Route

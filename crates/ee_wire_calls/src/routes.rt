@@ -1,6 +1,6 @@
 //! The routes of the counter.
-ghost use Rattle.std.specs.Prelude.{◌≡◌, IfOk};
-ghost use Rattle.ee_wire_calls.specs.Routes.{routes, route_of};
+ghost use Rattle.std.specs.Prelude.{◌≡◌, [], IfOk, OnOk};
+ghost use Rattle.ee_wire_calls.specs.Routes.{posts, routes, route_of};
 
 use matchit::{InsertError, Router};
 use std::alloc::{AllocError, Global};
@@ -71,19 +71,35 @@ impl Routes {
     }
 }
 
-/// The router.
-fn router(alloc: Global) -> Result<Router<Route>, InsertError>
-    ensures { IfOk result (λ r. r ≡ routes) }
+/// The routes of requests.
+fn add_posts(router: &mut Router<Route>) -> Result<(), InsertError>
+    ensures { router.old ≡ [] → OnOk result (router.new ≡ posts) }
 {
-    let mut router = Router::new(alloc);
     router.insert("/rates", Route::Post(Post::Rates))?;
     router.insert("/bonds", Route::Post(Post::Bonds))?;
     router.insert("/day/open", Route::Post(Post::DayOpen))?;
     router.insert("/day/close", Route::Post(Post::DayClose))?;
     router.insert("/redeem", Route::Post(Post::Redeem))?;
+    Ok(())
+}
+
+/// The routes of queries beside those of requests.
+fn add_gets(router: &mut Router<Route>) -> Result<(), InsertError>
+    ensures { router.old ≡ posts → OnOk result (router.new ≡ routes) }
+{
     router.insert("/inventory/{customer}/{month}", Route::Get(Get::Inventory))?;
     router.insert("/ticket/{n}", Route::Get(Get::Ticket))?;
     router.insert("/batch/{day}", Route::Get(Get::Batch))?;
     router.insert("/value/{denom}/{issued}/{month}", Route::Get(Get::Value))?;
+    Ok(())
+}
+
+/// The router.
+fn router(alloc: Global) -> Result<Router<Route>, InsertError>
+    ensures { IfOk result (λ r. r ≡ routes) }
+{
+    let mut router = Router::new(alloc);
+    add_posts(&mut router)?;
+    add_gets(&mut router)?;
     Ok(router)
 }

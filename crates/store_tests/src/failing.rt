@@ -1,8 +1,7 @@
 //! Devices that fail under a connection, an import and an export, over any keeper: each read and each write fails in turn,
 //! or is interrupted, or moves one byte.
 
-use crate::devices::{Narrow, Source};
-use crate::talk::{bytes_of, compare, json, message};
+use crate::comparing::compare;
 use ee_counter::{Ended, export_inventory, import_inventory, import_rates, serve};
 use ee_desk_acts::{Desk, Number};
 use ee_desk_texts::reply_text;
@@ -11,6 +10,8 @@ use std::alloc::Global;
 use std::io::{ErrorKind, Read};
 use std::process::Abort;
 use std::test::Fail;
+use store_talks::devices::{Narrow, Source};
+use store_talks::talk::{bytes_of, json, message};
 
 /// How a call of a device fails.
 const KINDS: [ErrorKind; 2] = [ErrorKind::Other, ErrorKind::Interrupted];

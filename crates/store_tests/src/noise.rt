@@ -1,13 +1,14 @@
 //! Bytes at random and a damaged day, by the command `apply`: whatever comes, each answer is whole and has a
 //! status and a body that the formats name.
 
-use crate::days::{BEGUN, DAY};
-use crate::talk::{applied, compare, stream};
+use crate::comparing::compare;
 use ee_desk_texts::read_reply;
 use ee_keeper::Keeper;
 use std::alloc::Global;
 use std::process::Abort;
 use std::test::Fail;
+use store_talks::days::{BEGUN, DAY};
+use store_talks::talk::{applied, stream};
 
 /// How many streams are sent.
 const STREAMS: u64 = 60;

@@ -1,16 +1,9 @@
 //! Days over a keeper in memory and over tables, which answer alike.
 
-use crate::days::{
-    BEGUN, DAY, DESKS, EXTENDED, IMPORTED, LAST, LOST, MERGES, ORDERS, SHOWN, TICKETS,
-};
+use crate::comparing::{compare, compare_by};
 use crate::failing::{a_thousand_messages, devices_fail};
 use crate::faults::{CALLS, HEADS, STREAMS, calls_in_one_stream, ended, ends};
-use crate::five::rows_told;
-use crate::imports::{FILES, LONG_FILES};
-use crate::lists::LISTS;
 use crate::noise::noise;
-use crate::refusals::{DAYS, FULL, IMPORTS, LONG, MOST};
-use crate::talk::{By, compare, compare_by, replay_by, requests_of};
 use ee_counter::run;
 use ee_desk_acts::{Reply, Request, Unserved};
 use ee_desk_texts::reply_text;
@@ -22,6 +15,14 @@ use std::alloc::Global;
 use std::fmt::Write;
 use std::process::Abort;
 use std::test::Fail;
+use store_talks::days::{
+    BEGUN, DAY, DESKS, EXTENDED, IMPORTED, LAST, LOST, MERGES, ORDERS, SHOWN, TICKETS,
+};
+use store_talks::five::rows_told;
+use store_talks::imports::{FILES, LONG_FILES};
+use store_talks::lists::LISTS;
+use store_talks::refusals::{DAYS, FULL, IMPORTS, LONG, MOST};
+use store_talks::talk::{By, replay_by, requests_of};
 
 /// What is done over a new keeper.
 #[derive(Clone, Copy)]

@@ -2,11 +2,11 @@
 //! same rows, and each number is one of the first desk. Those that were made before extensions could be named have seven
 //! tables.
 
-use crate::five::{FIVE, rows_told, served};
 use sqlite::{Alter, Connection, MemStore};
 use std::alloc::Global;
 use std::process::Abort;
 use std::test::Fail;
+use store_talks::five::{FIVE, rows_told, served};
 
 /// Makes the seven tables.
 pub const SEVEN_TABLES: &str = "\

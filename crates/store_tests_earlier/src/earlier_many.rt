@@ -1,7 +1,6 @@
 //! Stores of version 1 with many replies, and with little memory.
 
 use crate::earlier::{EXTENSIONS, Earlier, SEVEN_TABLES, make_earlier, rows_after, rows_before};
-use crate::five::{FIVE, rows_told, served};
 use ee_store::{NotAdopted, OpenFault, SqlKeeper};
 use sqlite::types::ValueRef;
 use sqlite::{Alter, Connection, MemStore};
@@ -9,6 +8,7 @@ use std::alloc::Global;
 use std::fmt::Write;
 use std::process::Abort;
 use std::test::Fail;
+use store_talks::five::{FIVE, rows_told, served};
 
 /// How many replies a store has; each third number is used.
 const COUNT: u64 = 10_000;

@@ -21,7 +21,6 @@ use ee_keeper::Keeper;
 use ee_wire::{Answer, Call, Query, WireFault, decode, write_reply};
 use std::alloc::Global;
 use std::fmt::Write;
-use std::process::Abort;
 use std::test::Fail;
 
 /// So many items, with a text between two.
@@ -66,7 +65,7 @@ fn written_out(alloc: Global, line: &str) -> Result<String, Fail> {
 }
 
 /// A transcript with its lists written out.
-fn whole(alloc: Global, transcript: &str) -> Result<String, Fail> {
+pub fn whole(alloc: Global, transcript: &str) -> Result<String, Fail> {
     let mut text = String::new(alloc);
     for line in transcript.lines() {
         text.push_str(written_out(alloc, line)?.as_str())?;
@@ -336,31 +335,4 @@ pub fn replay_by<K: Keeper>(
 /// The transcript that comes of doing the same again.
 pub fn replay<K: Keeper>(alloc: Global, keeper: &mut K, transcript: &str) -> Result<String, Fail> {
     replay_by(alloc, keeper, By::Apply, transcript)
-}
-
-/// Does what a transcript does, and compares what is told.
-pub fn compare<K: Keeper>(
-    rt: &impl Abort,
-    alloc: Global,
-    keeper: &mut K,
-    transcript: &str,
-) -> Result<(), Fail> {
-    compare_by(rt, alloc, keeper, By::Apply, transcript)
-}
-
-/// The same, its messages sent by such calls.
-pub fn compare_by<K: Keeper>(
-    rt: &impl Abort,
-    alloc: Global,
-    keeper: &mut K,
-    by: By,
-    transcript: &str,
-) -> Result<(), Fail> {
-    let wanted = whole(alloc, transcript)?;
-    let told = replay_by(alloc, keeper, by, wanted.as_str())?;
-    for (line, wanted) in told.lines().zip(wanted.lines()) {
-        assert_eq!(rt; line, wanted);
-    }
-    assert_eq!(rt; told.as_str(), wanted.as_str());
-    Ok(())
 }

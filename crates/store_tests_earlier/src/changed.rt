@@ -1,11 +1,11 @@
 //! Stores that are changed by other statements than this program's.
 
 use crate::earlier::{ANSWERS, EXTENSIONS};
-use crate::five::{FIVE, rows_told, served};
 use sqlite::{Alter, Connection, MemStore};
 use std::alloc::Global;
 use std::process::Abort;
 use std::test::Fail;
+use store_talks::five::{FIVE, rows_told, served};
 
 /// A change of the rows after that day, how it is undone, the answer to the changed store, and a row that
 /// the change made.

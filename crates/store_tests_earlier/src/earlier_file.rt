@@ -4,12 +4,12 @@
 use crate::earlier::{Earlier, NAMED, OTHER, SHOWN};
 use crate::earlier_bytes::{EXTENDED, EXTENDED_LOG, SEVEN, SEVEN_LOG};
 use crate::earlier_stops::{Form, News, shown_on};
-use crate::five::FIVE;
 use sqlite::Files;
 use sqlite_disk::{Disk, Memory};
 use std::alloc::Global;
 use std::process::Abort;
 use std::test::Fail;
+use store_talks::five::FIVE;
 
 fn add_numbers(bytes: &mut Vec<u8>, numbers: &str) -> Result<(), Fail> {
     for number in numbers.split_ascii_whitespace() {

@@ -1,0 +1,9 @@
+use Rattle.std.proofs.Common.{refl}
+use Rattle.matchit.proofs.OnLiterals.{matchit_on_literals}
+use Rattle.ee_wire_calls.specs.Routes.{posts}
+use Rattle.ee_wire_calls.proofs.routes.add_posts.Goals as goal
+
+pub returns : goal.returns
+unfolding matchit_on_literals posts
+returns c is_empty =
+    rw (c.in_ok-insert-5.ensures.1, c.in_ok-insert-4.ensures.1, c.in_ok-insert-3.ensures.1, c.in_ok-insert-2.ensures.1, c.in_ok-insert.ensures.1, is_empty) refl

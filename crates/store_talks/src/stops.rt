@@ -1,0 +1,63 @@
+//! A talk over files of which one may stop, and what such a talk may tell.
+
+use crate::five::served;
+use sqlite::{Connection, Files, Options};
+use sqlite_disk::Disk;
+use std::alloc::Global;
+use std::test::Fail;
+
+/// What a connection keeps in memory: few pages, so that one is opened and dropped in little time.
+pub fn few_pages(seed: u64) -> Options {
+    Options {
+        cache_pages: 64,
+        spill_pages: 64,
+        checkpoint_frames: 1000,
+        seed,
+    }
+}
+
+/// Serves a talk over files, and hands them back; with no text where they don't open.
+pub fn served_on<D: Disk + Drop>(
+    alloc: Global,
+    files: Files<D>,
+    talk: &str,
+) -> (Result<String, Fail>, bool, Files<D>) {
+    if !files.may_be_used() {
+        return (Ok(String::new(alloc)), false, files);
+    }
+    match Connection::open_files(alloc, files, few_pages(1)) {
+        Ok(conn) => {
+            let (text, conn) = served(alloc, conn, talk);
+            match conn.close_files() {
+                Ok(files) => (text, true, files),
+                Err((_, store)) => (text, false, store.close()),
+            }
+        }
+        Err((_, left)) => (Ok(String::new(alloc)), false, left.into_files()),
+    }
+}
+
+/// Whether `apply` ended by `StoreFailed` on each message that was answered so, and on no other.
+pub fn ends_by_failures(talk: &str) -> bool {
+    talk.lines().all(|line| line.starts_with("StoreFailed 503 ")
+        == line.ends_with("\"StoreFailed\"}"))
+}
+
+/// Whether what was told is nothing, why the store wasn't opened, or the right answers up to a request at which the store
+/// failed; after it each is a failure, or a reply that was told before.
+pub fn is_front_of(told: &str, wanted: &str) -> bool {
+    if told.is_empty() || told == "StoreFailed" {
+        return true;
+    }
+    let Some((front, _)) = told.split_once("StoreFailed 503 ") else {
+        return told == wanted;
+    };
+    for (line, right) in told.lines().zip(wanted.lines()) {
+        let fails = line.starts_with("StoreFailed 503 ");
+        let is_known = line.starts_with("> ") || front.contains(line);
+        if !fails && (line != right || !is_known) {
+            return false;
+        }
+    }
+    wanted.starts_with(front)
+}
