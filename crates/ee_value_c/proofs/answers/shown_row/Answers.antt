@@ -1,0 +1,5 @@
+use Rattle.std.proofs.Common.{rules}
+use Rattle.ee_value_c.proofs.answers.shown_row.Goals as goal
+
+pub returns : goal.returns
+returns c = search rules
