@@ -4,3 +4,4 @@ mod Back
 mod Whole
 mod Same
 pub mod Lemmas
+mod Counts

@@ -1,7 +1,7 @@
 //! Acts back from their texts.
 
 ghost use Rattle.std.specs.Prelude.{◌≡◌, IfOk, option_map};
-ghost use Rattle.serde_json.specs.View.{view, items_view};
+ghost use Rattle.json.specs.Value.{value_view, items_view};
 ghost use Rattle.ee_desk_texts.specs.Reading.{
   each,
   rate_row_of,
@@ -25,12 +25,12 @@ use ee_calculator::Bond;
 use ee_desk_acts::{Act, RateRow, Rows};
 use ee_units::{Customer, Denom, Rate, Serial, read_serial};
 use ee_value::Rates;
-use serde_json::Value;
+use json::{Error, Scratch, Value};
 use std::alloc::{AllocError, Global};
 
 #[tactic(auto, unfolding(crate::specs::Reading::rate_row_of))]
-fn rate_row_of(value: &Value) -> Option<RateRow>
-    ensures { result ≡ rate_row_of (view value.now) }
+fn rate_row_of(value: &Value<'_>) -> Option<RateRow>
+    ensures { result ≡ rate_row_of (value_view value.now) }
 {
     let from = issue_at(value, "from")?;
     let fixed = rate_at(value, "rate")?;
@@ -41,7 +41,7 @@ fn rate_row_of(value: &Value) -> Option<RateRow>
     })
 }
 
-fn rate_rows_of(alloc: Global, values: &[Value]) -> Result<Option<Vec<RateRow>>, AllocError>
+fn rate_rows_of(alloc: Global, values: &[Value<'_>]) -> Result<Option<Vec<RateRow>>, AllocError>
     ensures { IfOk result (λ o. option_map (λ v. v.items) o ≡ each rate_row_of (items_view values.now)) }
 {
     let mut rows = Vec::new(alloc);
@@ -55,8 +55,8 @@ fn rate_rows_of(alloc: Global, values: &[Value]) -> Result<Option<Vec<RateRow>>,
 }
 
 #[tactic(auto, unfolding(crate::specs::Reading::bond_with))]
-fn bond_with(coowner: Option<Customer>, value: &Value) -> Option<Bond>
-    ensures { result ≡ bond_with coowner (view value.now) }
+fn bond_with(coowner: Option<Customer>, value: &Value<'_>) -> Option<Bond>
+    ensures { result ≡ bond_with coowner (value_view value.now) }
 {
     let denom = Denom::with_dollars(count_at(value, "denom")?)?;
     let issued = issue_at(value, "issued")?;
@@ -71,7 +71,7 @@ fn bond_with(coowner: Option<Customer>, value: &Value) -> Option<Bond>
     })
 }
 
-fn bonds_of(alloc: Global, values: &[Value]) -> Result<Option<Vec<Bond>>, AllocError>
+fn bonds_of(alloc: Global, values: &[Value<'_>]) -> Result<Option<Vec<Bond>>, AllocError>
     ensures { IfOk result (λ o. option_map (λ v. v.items) o ≡ each bond_of (items_view values.now)) }
 {
     let mut bonds = Vec::new(alloc);
@@ -85,13 +85,13 @@ fn bonds_of(alloc: Global, values: &[Value]) -> Result<Option<Vec<Bond>>, AllocE
     Ok(Some(bonds))
 }
 
-fn serial_in(value: &Value) -> Option<Serial>
-    ensures { result ≡ serial_in (view value.now) }
+fn serial_in(value: &Value<'_>) -> Option<Serial>
+    ensures { result ≡ serial_in (value_view value.now) }
 {
     read_serial(value.as_str()?).ok()
 }
 
-fn serials_of(alloc: Global, values: &[Value]) -> Result<Option<Vec<Serial>>, AllocError>
+fn serials_of(alloc: Global, values: &[Value<'_>]) -> Result<Option<Vec<Serial>>, AllocError>
     ensures { IfOk result (λ o. option_map (λ v. v.items) o ≡ each serial_in (items_view values.now)) }
 {
     let mut serials = Vec::new(alloc);
@@ -104,8 +104,8 @@ fn serials_of(alloc: Global, values: &[Value]) -> Result<Option<Vec<Serial>>, Al
     Ok(Some(serials))
 }
 
-fn add_rates_of(alloc: Global, value: &Value) -> Result<Option<Act>, AllocError>
-    ensures { IfOk result (λ o. o ≡ add_rates_of (view value.now)) }
+fn add_rates_of(alloc: Global, value: &Value<'_>) -> Result<Option<Act>, AllocError>
+    ensures { IfOk result (λ o. o ≡ add_rates_of (value_view value.now)) }
 {
     let Some(list) = items_at(value, "rates") else {
         return Ok(None);
@@ -116,8 +116,8 @@ fn add_rates_of(alloc: Global, value: &Value) -> Result<Option<Act>, AllocError>
     Ok(Some(Act::AddRates(Rows::new(rows))))
 }
 
-fn add_bonds_of(alloc: Global, value: &Value) -> Result<Option<Act>, AllocError>
-    ensures { IfOk result (λ o. o ≡ add_bonds_of (view value.now)) }
+fn add_bonds_of(alloc: Global, value: &Value<'_>) -> Result<Option<Act>, AllocError>
+    ensures { IfOk result (λ o. o ≡ add_bonds_of (value_view value.now)) }
 {
     let Some(list) = items_at(value, "bonds") else {
         return Ok(None);
@@ -128,15 +128,15 @@ fn add_bonds_of(alloc: Global, value: &Value) -> Result<Option<Act>, AllocError>
     Ok(Some(Act::AddBonds(Rows::new(bonds))))
 }
 
-fn open_of(value: &Value) -> Option<Act>
-    ensures { result ≡ open_of (view value.now) }
+fn open_of(value: &Value<'_>) -> Option<Act>
+    ensures { result ≡ open_of (value_view value.now) }
 {
     Some(Act::OpenDay(day_at(value, "day")?))
 }
 
 #[tactic(auto, unfolding(crate::specs::Reading::redeem_of))]
-fn redeem_of(alloc: Global, value: &Value) -> Result<Option<Act>, AllocError>
-    ensures { IfOk result (λ o. o ≡ redeem_of (view value.now)) }
+fn redeem_of(alloc: Global, value: &Value<'_>) -> Result<Option<Act>, AllocError>
+    ensures { IfOk result (λ o. o ≡ redeem_of (value_view value.now)) }
 {
     let Some(day) = day_at(value, "day") else {
         return Ok(None);
@@ -157,14 +157,14 @@ fn redeem_of(alloc: Global, value: &Value) -> Result<Option<Act>, AllocError>
     }))
 }
 
-fn close_of(value: &Value) -> Option<Act>
-    ensures { result ≡ close_of (view value.now) }
+fn close_of(value: &Value<'_>) -> Option<Act>
+    ensures { result ≡ close_of (value_view value.now) }
 {
     Some(Act::CloseDay(day_at(value, "day")?))
 }
 
-fn act_of(alloc: Global, value: &Value) -> Result<Option<Act>, AllocError>
-    ensures { IfOk result (λ o. o ≡ act_of (view value.now)) }
+fn act_of(alloc: Global, value: &Value<'_>) -> Result<Option<Act>, AllocError>
+    ensures { IfOk result (λ o. o ≡ act_of (value_view value.now)) }
 {
     match text_at(value, "act") {
         Some("rates") => add_rates_of(alloc, value),
@@ -181,10 +181,11 @@ fn act_of(alloc: Global, value: &Value) -> Result<Option<Act>, AllocError>
 pub fn read_act(alloc: Global, text: &str) -> Result<Option<Act>, AllocError>
     ensures { IfOk result (λ o. ReadsAct text.now o) }
 {
-    let value = match Value::from_str(alloc, text) {
+    let mut scratch = Scratch::new(alloc);
+    let value = match Value::parse(alloc, text, &mut scratch) {
         Ok(value) => value,
-        Err(e) if e.is_memory() => return Err(AllocError),
-        Err(_) => return Ok(None),
+        Err(Error::Invalid) => return Ok(None),
+        Err(_) => return Err(AllocError),
     };
     let Some(act) = act_of(alloc, &value)? else {
         return Ok(None);

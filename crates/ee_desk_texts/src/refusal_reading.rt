@@ -1,17 +1,17 @@
 //! Refusals back from their JSON.
 
 ghost use Rattle.std.specs.Prelude.{◌≡◌};
-ghost use Rattle.serde_json.specs.View.{view};
+ghost use Rattle.json.specs.Value.{value_view};
 ghost use Rattle.ee_desk_texts.specs.Reading.{age_at, named_by, named_of, refusal_of_nothing, refusal_of_month, refusal_of_serial, refusal_with, refused_of};
 
 use crate::fields::{count_at, issue_at, serial_at};
 use crate::refusals::Named;
 use ee_desk_acts::{Refusal, Reply};
 use ee_units::{Age, IssueMonth, Serial};
-use serde_json::Value;
+use json::Value;
 
-fn age_at(value: &Value, key: &str) -> Option<Age>
-    ensures { result ≡ age_at key.now (view value.now) }
+fn age_at(value: &Value<'_>, key: &str) -> Option<Age>
+    ensures { result ≡ age_at key.now (value_view value.now) }
 {
     let months = count_at(value, key)?;
     if months <= 2335 {
@@ -38,8 +38,8 @@ fn named_by(
     }
 }
 
-fn named_of(value: &Value) -> Named
-    ensures { result ≡ named_of (view value.now) }
+fn named_of(value: &Value<'_>) -> Named
+    ensures { result ≡ named_of (value_view value.now) }
 {
     let serial = serial_at(value, "serial");
     let ticket = count_at(value, "ticket");
@@ -108,8 +108,8 @@ fn refusal_with(code: u64, named: Named) -> Option<Refusal>
 
 /// The refusal that the JSON is, by its code and by what it names.
 #[tactic(auto, unfolding(crate::specs::Reading::refused_of))]
-pub fn refused_of(value: &Value) -> Option<Reply>
-    ensures { result ≡ refused_of (view value.now) }
+pub fn refused_of(value: &Value<'_>) -> Option<Reply>
+    ensures { result ≡ refused_of (value_view value.now) }
 {
     let code = count_at(value, "code")?;
     Some(Reply::Refused(refusal_with(code, named_of(value))?))

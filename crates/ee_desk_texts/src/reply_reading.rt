@@ -1,34 +1,34 @@
 //! Replies back from their texts.
 
 ghost use Rattle.std.specs.Prelude.{◌≡◌, IfOk, option_map};
-ghost use Rattle.serde_json.specs.View.{view, items_view};
+ghost use Rattle.json.specs.Value.{value_view, items_view};
 ghost use Rattle.ee_desk_texts.specs.Reading.{each, added_of, opened_of, batch_of, line_of, ticket_of, short_reply_of, reply_of, ReadsReply};
 
 use crate::fields::{cents_at, count_at, customer_at, day_at, items_at, serial_at};
 use crate::refusal_reading::refused_of;
 use crate::replies::reply_text;
 use ee_desk_acts::{Batch, Line, Reply, Rows, Ticket};
-use serde_json::Value;
+use json::{Error, Scratch, Value};
 use std::alloc::{AllocError, Global};
 
 #[tactic(auto, unfolding(crate::specs::Reading::added_of))]
-fn added_of(value: &Value) -> Option<Reply>
-    ensures { result ≡ added_of (view value.now) }
+fn added_of(value: &Value<'_>) -> Option<Reply>
+    ensures { result ≡ added_of (value_view value.now) }
 {
     let new = count_at(value, "new")?;
     let same = count_at(value, "same")?;
     Some(Reply::Added { new, same })
 }
 
-fn opened_of(value: &Value) -> Option<Reply>
-    ensures { result ≡ opened_of (view value.now) }
+fn opened_of(value: &Value<'_>) -> Option<Reply>
+    ensures { result ≡ opened_of (value_view value.now) }
 {
     Some(Reply::Opened(day_at(value, "opened")?))
 }
 
 #[tactic(auto, unfolding(crate::specs::Reading::batch_of))]
-fn batch_of(value: &Value) -> Option<Reply>
-    ensures { result ≡ batch_of (view value.now) }
+fn batch_of(value: &Value<'_>) -> Option<Reply>
+    ensures { result ≡ batch_of (value_view value.now) }
 {
     let bonds = count_at(value, "bonds")?;
     let day = day_at(value, "day")?;
@@ -43,15 +43,15 @@ fn batch_of(value: &Value) -> Option<Reply>
 }
 
 #[tactic(auto, unfolding(crate::specs::Reading::line_of))]
-fn line_of(value: &Value) -> Option<Line>
-    ensures { result ≡ line_of (view value.now) }
+fn line_of(value: &Value<'_>) -> Option<Line>
+    ensures { result ≡ line_of (value_view value.now) }
 {
     let cents = cents_at(value, "paid")?;
     let serial = serial_at(value, "serial")?;
     Some(Line { serial, cents })
 }
 
-fn lines_of(alloc: Global, values: &[Value]) -> Result<Option<Vec<Line>>, AllocError>
+fn lines_of(alloc: Global, values: &[Value<'_>]) -> Result<Option<Vec<Line>>, AllocError>
     ensures { IfOk result (λ o. option_map (λ v. v.items) o ≡ each line_of (items_view values.now)) }
 {
     let mut lines = Vec::new(alloc);
@@ -65,8 +65,8 @@ fn lines_of(alloc: Global, values: &[Value]) -> Result<Option<Vec<Line>>, AllocE
 }
 
 #[tactic(auto, unfolding(crate::specs::Reading::ticket_of))]
-fn ticket_of(alloc: Global, value: &Value) -> Result<Option<Reply>, AllocError>
-    ensures { IfOk result (λ o. o ≡ ticket_of (view value.now)) }
+fn ticket_of(alloc: Global, value: &Value<'_>) -> Result<Option<Reply>, AllocError>
+    ensures { IfOk result (λ o. o ≡ ticket_of (value_view value.now)) }
 {
     let Some(day) = day_at(value, "day") else {
         return Ok(None);
@@ -95,14 +95,14 @@ fn ticket_of(alloc: Global, value: &Value) -> Result<Option<Reply>, AllocError>
     })))
 }
 
-fn short_reply_of(value: &Value) -> Option<Reply>
-    ensures { result ≡ short_reply_of (view value.now) }
+fn short_reply_of(value: &Value<'_>) -> Option<Reply>
+    ensures { result ≡ short_reply_of (value_view value.now) }
 {
     added_of(value).or(opened_of(value).or(batch_of(value).or(refused_of(value))))
 }
 
-fn reply_of(alloc: Global, value: &Value) -> Result<Option<Reply>, AllocError>
-    ensures { IfOk result (λ o. o ≡ reply_of (view value.now)) }
+fn reply_of(alloc: Global, value: &Value<'_>) -> Result<Option<Reply>, AllocError>
+    ensures { IfOk result (λ o. o ≡ reply_of (value_view value.now)) }
 {
     match short_reply_of(value) {
         Some(reply) => Ok(Some(reply)),
@@ -114,10 +114,11 @@ fn reply_of(alloc: Global, value: &Value) -> Result<Option<Reply>, AllocError>
 pub fn read_reply(alloc: Global, text: &str) -> Result<Option<Reply>, AllocError>
     ensures { IfOk result (λ o. ReadsReply text.now o) }
 {
-    let value = match Value::from_str(alloc, text) {
+    let mut scratch = Scratch::new(alloc);
+    let value = match Value::parse(alloc, text, &mut scratch) {
         Ok(value) => value,
-        Err(e) if e.is_memory() => return Err(AllocError),
-        Err(_) => return Ok(None),
+        Err(Error::Invalid) => return Ok(None),
+        Err(_) => return Err(AllocError),
     };
     let Some(reply) = reply_of(alloc, &value)? else {
         return Ok(None);

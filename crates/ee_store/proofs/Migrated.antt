@@ -1,6 +1,7 @@
 -- Opening a store in two steps: its rows are found and tested, and then a store of version 1 is migrated.
 use Rattle.std.proofs.Common.{◌≡◌, ◌≢◌, ◌⊎◌, inl, inr, IsTrue, map, refl, sym, ap, subst, ◌∙◌}
-use Rattle.std.specs.Prelude.{List}
+use Rattle.std.specs.Prelude.{List, Vec}
+use Rattle.std.specs.declared.alloc.Global.{Global}
 use Rattle.std.specs.FinMap.{entries, entries-from_sorted}
 use Rattle.sqlite.specs.Tree.{Trees}
 use Rattle.sqlite.specs.State.{State, HasCleanDisk, KeepsCommit, Survives}
@@ -27,22 +28,31 @@ use Rattle.ee_store.proofs.Meeting.{LeavesPresent}
 use Rattle.ee_store.specs.Adopted.{HadContent, HadNone, CanMigrate, IsMigrated, KeepsContent, LeavesAsBefore}
 use Rattle.ee_store.proofs.Opened.{kept_form, had_before, nothing_right, nothing_rows}
 
--- the replies that were read are all
-pub lists_all : (all : AllRows) → whole.AreInOrder all → (given : List StoredAnswer) → given ≡ all.answers.items → Lists given (whole.rows_of all)
-lists_all all order given same = subst (λ given. Lists given (whole.rows_of all)) (sym same) (entries-from_sorted pair_cmp (map answer_entry all.answers.items) order.answers)
+-- the replies of a store of version 1 that were left are all
+pub lists_all : (all : AllRows) → whole.AreInOrder all → (left : Vec StoredAnswer Global) → (all.form ≢ Current → left ≡ all.answers) → (given : List StoredAnswer) → given ≡ left.items
+    → all.form ≢ Current → Lists given (whole.rows_of all)
+lists_all all order left is given same earlier =
+    subst (λ given. Lists given (whole.rows_of all)) (sym (same ∙ ap (λ (v : Vec StoredAnswer Global). v.items) (is earlier))) (entries-from_sorted pair_cmp (map answer_entry all.answers.items) order.answers)
+
+-- a store of the present form stays as it was, and one of version 1 becomes one of version 2
+pub made_of : (middle new : State) (form : Form) (rows : Rows) (given : List StoredAnswer) → HadIn form middle rows → (form ≢ Current → Lists given rows) → (form ≡ Current → new ≡ middle)
+    → (Lists given rows → Has new (become form rows)) → Has new (become form rows)
+made_of middle new Current rows given found lists same made = subst (λ s. Has s rows) (sym (same refl)) found
+made_of middle new First rows given found lists same made = made (lists (λ is. absurd cc))
+made_of middle new Earliest rows given found lists same made = made (lists (λ is. absurd cc))
 
 -- of a store of version 1 they fit their new rows
 pub fits_rows : (old middle : State) (all : AllRows) → (HasTables old → KeepsCommit old middle) → IsTrue old.is_open → IsTrue middle.is_open → HadIn all.form middle (whole.rows_of all) → whole.AreInOrder all
-    → (given : List StoredAnswer) → given ≡ all.answers.items → (IsBlank old → all.form ≡ Current) → IsBlank old ⊎ IsOurs old → CanMigrate old
+    → (given : List StoredAnswer) → (all.form ≢ Current → Lists given (whole.rows_of all)) → (IsBlank old → all.form ≡ Current) → IsBlank old ⊎ IsOurs old → CanMigrate old
     → (all.form ≡ Current) ⊎ ((rows : Rows) × HadIn all.form middle rows × Lists given rows × AnswersFit rows)
-fits_rows old middle all kept was_open is_open found order given same current (inl blank) can = inl (current blank)
-fits_rows old middle all kept was_open is_open found order given same current (inr ours) can = by_form all.form refl
+fits_rows old middle all kept was_open is_open found order given lists current (inl blank) can = inl (current blank)
+fits_rows old middle all kept was_open is_open found order given lists current (inr ours) can = by_form all.form refl
   where
     had : HadIn all.form old (whole.rows_of all)
     had = had_before old middle all.form (whole.rows_of all) (kept (ours_tables old ours)) is_open found
 
     fit : all.form ≢ Current → (rows : Rows) × HadIn all.form middle rows × Lists given rows × AnswersFit rows
-    fit earlier = (whole.rows_of all, found, lists_all all order given same, can (lacks_current all.form old earlier (λ o. (had o).0) was_open) all.form (whole.rows_of all) had)
+    fit earlier = (whole.rows_of all, found, lists earlier, can (lacks_current all.form old earlier (λ o. (had o).0) was_open) all.form (whole.rows_of all) had)
 
     by_form : (form : Form) → all.form ≡ form → (all.form ≡ Current) ⊎ ((rows : Rows) × HadIn all.form middle rows × Lists given rows × AnswersFit rows)
     by_form Current is = inl is
@@ -93,14 +103,14 @@ module _ (old middle : State) (form : Form) (rows : Rows) (kept : HasTables old 
   )
 
   -- the store was of version 1 where it was migrated
-  module _ (all : List StoredAnswer) (lists : Lists all rows) (content : Content) (stands : StandAt (version_of form) rows content) where
+  module _ (all : List StoredAnswer) (lists : form ≢ Current → Lists all rows) (content : Content) (stands : StandAt (version_of form) rows content) where
     pub migrated : HasTables old → (db : Trees) → Migrates form all middle db → IsMigrated old db
     migrated tables db migrates =
         let keeps = kept tables in
         record {
           lacked = λ current. migrates.earlier (sym (found_form Current current));
           some = (form, content, record { right = stands.right; rows = had_before old middle form (rows_at (version_of form) content) keeps is_open (subst (HadIn form middle) stands.are found) });
-          stands = λ other content had. record { right = had.right; stores = subst (Stores db) (same_content other content had) (migrates.stores rows found lists) };
+          stands = λ other content had. record { right = had.right; stores = subst (Stores db) (same_content other content had) (migrates.stores rows found (lists migrates.earlier)) };
         }
 
     pub leaves_as_before : (new : State) → ((db : Trees) → IsTrue old.is_open → HasTables old → middle.may_leave db → old.may_leave db)

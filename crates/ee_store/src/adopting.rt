@@ -9,6 +9,7 @@ ghost use Rattle.ee_store_opening.specs.Whole.{rows_of, AreInOrder};
 ghost use Rattle.ee_store_contents.specs.Contents.{tables_for};
 ghost use Rattle.ee_store_contents.specs.Standing.{StandAt};
 ghost use Rattle.ee_store_making.specs.Forms.{version_of};
+ghost use Rattle.ee_store_making.specs.declared.forms.Form.TheVariants.{Current};
 ghost use Rattle.ee_store_lookups.specs.Seen.{StandsFor};
 ghost use Rattle.ee_store.specs.Adopted.{
   BeginsEmpty,
@@ -30,7 +31,7 @@ ghost use Rattle.ee_store_lookups.specs.Causes.{IsReady};
 
 use crate::keeper::SqlKeeper;
 use ee_desk_acts::UnitTables;
-use ee_store_contents::{ContentFault, tables_of};
+use ee_store_contents::{ContentFault, Tested, tables_of};
 use ee_store_making::{OpenFault, migrate};
 use ee_store_opening::{AllRows, open_rows};
 use sqlite::{Alter, Connection};
@@ -45,16 +46,18 @@ pub struct NotAdopted<S: Alter> {
     pub conn: Connection<S>,
 }
 
-/// The tables of unit values for the rates of rows that stand for books and kept replies.
-fn prepared(alloc: Global, all: &AllRows) -> Result<UnitTables, OpenFault>
-    requires { AreInOrder all.now }
-    ensures ok { IfOk result (λ tables. (content : Content) × (tables ≡ tables_for content.books.rates) × StandAt (version_of all.now.form) (rows_of all.now) content) }
-    ensures unusable { IfErr result (λ fault. fault ≡ OpenFault.Unusable → (content : Content) → StandAt (version_of all.now.form) (rows_of all.now) content → ⊥) }
+/// The tables of unit values for the rates of rows that stand for books and kept replies, and the replies that are to be
+/// migrated. The rows are let go.
+fn prepared(alloc: Global, all: AllRows) -> Result<Tested, OpenFault>
+    requires { AreInOrder all }
+    ensures ok { IfOk result (λ tested. (content : Content) × (tested.tables ≡ tables_for content.books.rates) × StandAt (version_of all.form) (rows_of all) content) }
+    ensures left { IfOk result (λ tested. all.form ≢ Current → tested.answers ≡ all.answers) }
+    ensures unusable { IfErr result (λ fault. fault ≡ OpenFault.Unusable → (content : Content) → StandAt (version_of all.form) (rows_of all) content → ⊥) }
     ensures version { IfErr result (λ fault. fault ≢ OpenFault.WrongVersion) }
     ensures settled { IfErr result (λ fault. fault ≢ OpenFault.StoreFailed) }
 {
     match tables_of(alloc, all) {
-        Ok(tables) => Ok(tables),
+        Ok(tested) => Ok(tested),
         Err(ContentFault::Unusable) => Err(OpenFault::Unusable),
         Err(ContentFault::NoMemory) => Err(OpenFault::NoMemory),
     }
@@ -94,8 +97,10 @@ fn ready<S: Alter>(conn: &mut Connection<S>, alloc: Global) -> Result<UnitTables
 {
     let _schema = conn.schema();
     let all = open_rows(conn, alloc)?;
-    let tables = prepared(alloc, &all)?;
-    migrate(conn, all.form, &all.answers)?;
+    let form = all.form;
+    let tested = prepared(alloc, all)?;
+    let Tested { tables, answers } = tested;
+    migrate(conn, form, &answers)?;
     settled(conn);
     Ok(tables)
 }

@@ -1,8 +1,7 @@
 -- What a store stands for, by what is read of its rows.
-use Rattle.std.proofs.Common.{◌≡◌, ◌↔◌, ℕ, Bool, true, false, List, map, sym, ap, ◌∙◌, subst}
+use Rattle.std.proofs.Common.{◌≡◌, ℕ, List, map, refl, sym, ap, ◌∙◌, subst}
 use Rattle.std.specs.Prelude.{Some, None}
 use Rattle.std.specs.List.{AllByRecursion}
-use Rattle.std.proofs.lemmas.Bool.{false≢true}
 use Rattle.ee_value.specs.declared.rates.Rates.{Rates}
 use Rattle.ee_desk_acts.specs.PlainBooks.{PlainBooks}
 use Rattle.ee_desk_acts.specs.Sound.{IsSound}
@@ -22,6 +21,11 @@ use Rattle.ee_store_contents.proofs.KeptTables.{own, tables_made}
 use Rattle.ee_store_contents.proofs.ReadBack.{some_is}
 use Rattle.ee_store_contents.proofs.RowsOfBooks.{rows_of_parts, parts_in_range, parts_read, parts_are, answers_kept, content_stands}
 
+-- the kept replies are no part of the books
+pub same_parts : (stored rest : AllRows) → rest ≡ record stored { answers = rest.answers } → parts_in rest ≡ parts_in stored
+unfolding parts_in
+same_parts stored rest is = ap parts_in is ∙ refl
+
 -- rows that stand for a content are read as its parts
 read_as : (stored : AllRows) (content : Content) → AreInOrder stored → StandAt (version_of stored.form) (rows_of stored) content → parts_in stored ≡ Some (parts_of content.books)
 read_as stored content order stands = parts_read (parts_of content.books) stored (rows_of_parts stored content order stands) (parts_in_range content stands.right) order.rates
@@ -31,9 +35,8 @@ no_parts stored order none content stands =
     let read = none ∙ read_as stored content order stands in
     cc
 
-pub not_kept : (stored : AllRows) (right : Bool) → AreInOrder stored → (right ≡ true) ↔ AllByRecursion KeepsAnswer stored.answers.items → right ≡ false
-    → (content : Content) → StandAt (version_of stored.form) (rows_of stored) content → ⊥
-not_kept stored right order is wrong content stands = false≢true (sym wrong ∙ is.1 (answers_kept stored content order stands))
+pub not_kept : (stored : AllRows) → AreInOrder stored → (AllByRecursion KeepsAnswer stored.answers.items → ⊥) → (content : Content) → StandAt (version_of stored.form) (rows_of stored) content → ⊥
+not_kept stored order wrong content stands = wrong (answers_kept stored content order stands)
 
 pub not_sound : (stored : AllRows) (parts : Parts) → AreInOrder stored → Some parts ≡ parts_in stored → AreUnsound parts
     → (content : Content) → StandAt (version_of stored.form) (rows_of stored) content → ⊥

@@ -1,6 +1,6 @@
 //! The books that the rows of a store stand for.
 
-ghost use Rattle.std.specs.Prelude.{◌≡◌, ◌↔◌, Some, IfOk, IfErr, IfSome, OnOk};
+ghost use Rattle.std.specs.Prelude.{◌≡◌, ◌≢◌, ◌↔◌, Some, None, IfOk, IfErr, IfSome, OnOk};
 ghost use Rattle.std.specs.List.{AllByRecursion};
 ghost use Rattle.ee_desk_acts.specs.Repeats.{Content};
 ghost use Rattle.ee_desk_parts.specs.Parts.{AreUnsound};
@@ -9,6 +9,7 @@ ghost use Rattle.ee_store_contents.specs.Reading.{parts_in};
 ghost use Rattle.ee_store_opening.specs.Whole.{AreInOrder, rows_of};
 ghost use Rattle.ee_store_contents.specs.Standing.{StandAt};
 ghost use Rattle.ee_store_making.specs.Forms.{version_of};
+ghost use Rattle.ee_store_making.specs.declared.forms.Form.TheVariants.{Current};
 ghost use Rattle.ee_store_contents.specs.Contents.{PartsFit, KeepsAnswer, tables_for};
 
 use crate::answers::keep_answers;
@@ -20,8 +21,10 @@ use crate::tickets::tickets_in;
 use crate::unit_tables::kept_tables;
 use ee_desk_acts::{Rows, UnitTables};
 use ee_desk_parts::{Indexes, Parts, PartsFault, checked};
+use ee_store_making::{Form, StoredAnswer};
 use ee_store_opening::AllRows;
 use std::alloc::{AllocError, Global};
+use std::mem;
 use thiserror::Error;
 
 /// Why rows give no books.
@@ -80,21 +83,50 @@ fn parts_in(alloc: Global, stored: &AllRows) -> Result<Option<Parts>, AllocError
     Ok(Some(parts))
 }
 
-/// The parts of the books that the rows of a store stand for, where each reply is one that is kept.
-fn right_parts(alloc: Global, stored: &AllRows) -> Result<Parts, ContentFault>
-    requires { AreInOrder stored.now }
-    ensures found { IfOk result (λ parts. Some parts ≡ parts_in stored.now) }
+/// The parts of the books whose rows these are. The rows are let go.
+fn right_parts(alloc: Global, stored: AllRows) -> Result<Parts, ContentFault>
+    ensures found { IfOk result (λ parts. Some parts ≡ parts_in stored) }
     ensures fits { IfOk result PartsFit }
-    ensures kept { OnOk result (AllByRecursion KeepsAnswer stored.now.answers.items) }
-    ensures unusable { IfErr result (λ fault. fault ≡ ContentFault.Unusable → (content : Content) → StandAt (version_of stored.now.form) (rows_of stored.now) content → ⊥) }
+    ensures none { IfErr result (λ fault. fault ≡ ContentFault.Unusable → None ≡ parts_in stored) }
 {
-    let Some(parts) = parts_in(alloc, stored)? else {
-        return Err(ContentFault::Unusable);
-    };
-    if !keep_answers(alloc, &stored.answers)? {
+    match parts_in(alloc, &stored)? {
+        Some(parts) => Ok(parts),
+        None => Err(ContentFault::Unusable),
+    }
+}
+
+/// Takes the kept replies out of the rows.
+fn take_answers(alloc: Global, stored: &mut AllRows) -> Vec<StoredAnswer>
+    ensures taken { result ≡ stored.old.answers }
+    ensures rest { stored.new ≡ record stored.old { answers = stored.new.answers } }
+{
+    mem::replace(&mut stored.answers, Vec::new(alloc))
+}
+
+/// The kept replies that are to be written anew: those of a store of version 1. The others are let go.
+fn to_migrate(alloc: Global, form: Form, answers: Vec<StoredAnswer>) -> Vec<StoredAnswer>
+    ensures { form ≢ Current → result ≡ answers }
+{
+    match form {
+        Form::Current => Vec::new(alloc),
+        Form::First | Form::Earliest => answers,
+    }
+}
+
+/// Tests that each reply is one that is kept, and answers those that are to be written anew.
+fn tested_answers(
+    alloc: Global,
+    form: Form,
+    answers: Vec<StoredAnswer>,
+) -> Result<Vec<StoredAnswer>, ContentFault>
+    ensures kept { OnOk result (AllByRecursion KeepsAnswer answers.items) }
+    ensures left { IfOk result (λ left. form ≢ Current → left ≡ answers) }
+    ensures unusable { IfErr result (λ fault. fault ≡ ContentFault.Unusable → AllByRecursion KeepsAnswer answers.items → ⊥) }
+{
+    if !keep_answers(alloc, &answers)? {
         return Err(ContentFault::Unusable);
     }
-    Ok(parts)
+    Ok(to_migrate(alloc, form, answers))
 }
 
 /// Parts that no sound books have are unusable.
@@ -118,16 +150,31 @@ fn indexes_of(alloc: Global, parts: &Parts) -> Result<Indexes, ContentFault>
     }
 }
 
+/// What opening goes on with, of rows that stand for books and kept replies.
+#[derive(Drop)]
+pub struct Tested {
+    /// The tables of unit values for the rates of the books.
+    pub tables: UnitTables,
+    /// The kept replies of a store of version 1, which its migration writes anew; those of version 2 are let go.
+    pub answers: Vec<StoredAnswer>,
+}
+
 /// The tables of unit values for the rates of the books that the rows of a store stand for, where they
 /// stand for books and kept replies: one for each pair of rates, which is the one that the test of the
-/// books made. It answers `Unusable` exactly where the rows stand for none.
-pub fn tables_of(alloc: Global, stored: &AllRows) -> Result<UnitTables, ContentFault>
-    requires { AreInOrder stored.now }
-    ensures ok { IfOk result (λ tables. (content : Content) × (tables ≡ tables_for content.books.rates) × StandAt (version_of stored.now.form) (rows_of stored.now) content) }
-    ensures unusable { IfErr result (λ fault. fault ≡ ContentFault.Unusable → (content : Content) → StandAt (version_of stored.now.form) (rows_of stored.now) content → ⊥) }
+/// books made. It answers `Unusable` exactly where the rows stand for none. The rows are let go as soon as
+/// they are tested: the kept replies first, but for those that are to be migrated, and then the others.
+pub fn tables_of(alloc: Global, stored: AllRows) -> Result<Tested, ContentFault>
+    requires { AreInOrder stored }
+    ensures ok { IfOk result (λ tested. (content : Content) × (tested.tables ≡ tables_for content.books.rates) × StandAt (version_of stored.form) (rows_of stored) content) }
+    ensures left { IfOk result (λ tested. stored.form ≢ Current → tested.answers ≡ stored.answers) }
+    ensures unusable { IfErr result (λ fault. fault ≡ ContentFault.Unusable → (content : Content) → StandAt (version_of stored.form) (rows_of stored) content → ⊥) }
 {
-    let parts = right_parts(alloc, stored)?;
+    let form = stored.form;
+    let mut rest = stored;
+    let kept = take_answers(alloc, &mut rest);
+    let answers = tested_answers(alloc, form, kept)?;
+    let parts = right_parts(alloc, rest)?;
     let indexes = indexes_of(alloc, &parts)?;
     let tables = kept_tables(alloc, &indexes.terms)?;
-    Ok(tables)
+    Ok(Tested { tables, answers })
 }

@@ -11,5 +11,5 @@ mod reading;
 mod tickets;
 mod unit_tables;
 
-pub use contents::{ContentFault, tables_of};
+pub use contents::{ContentFault, Tested, tables_of};
 pub use laws::one_content;

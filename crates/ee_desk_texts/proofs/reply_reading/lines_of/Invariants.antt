@@ -1,5 +1,5 @@
 use Rattle.std.proofs.Common.{◌≡◌, ◌++◌, drop, Some}
-use Rattle.serde_json.specs.View.{items_view}
+use Rattle.json.specs.Value.{items_view}
 use Rattle.ee_units.specs.Spelling.{◌>>=◌}
 use Rattle.ee_desk_texts.specs.Reading.{each, line_of}
 use Rattle.ee_desk_texts.proofs.reply_reading.lines_of.Given as goal

@@ -1,4 +1,4 @@
-use Rattle.std.proofs.Common.{rules, ◌≡◌, ◌≢◌, inl, inr, IsTrue, IfErr, ◌∙◌, subst}
+use Rattle.std.proofs.Common.{rules, ◌≡◌, ◌≢◌, inl, inr, IsTrue, IfErr, ap, ◌∙◌, subst}
 use Rattle.sqlite.specs.Held.{state}
 use Rattle.ee_store_tables.specs.Rows.{Rows, Has}
 use Rattle.ee_store_tables.proofs.Lemmas.Transactions.{on_err_from, clean_before}
@@ -17,7 +17,7 @@ use Rattle.ee_store_making.proofs.Lemmas.Forms.{kept_had}
 use Rattle.ee_store_opening.proofs.Lemmas.{one_version}
 use Rattle.ee_store.specs.Adopted.{HadNone, HadNoOtherVersion, FailsToAdopt}
 use Rattle.ee_store.proofs.Opened.{of_nothing, begins_rows, begun_or, begun_survives, of_version}
-use Rattle.ee_store.proofs.Migrated.{lists_all, fits_rows, first_made, keeps_content, has_some, begins, keeps_rows, stood_for_none, leaves_as_before, leaves_present, begun_then}
+use Rattle.ee_store.proofs.Migrated.{lists_all, made_of, fits_rows, first_made, keeps_content, has_some, begins, keeps_rows, stood_for_none, leaves_as_before, leaves_present, begun_then}
 use Rattle.ee_store.proofs.Meeting.{goes_on, carries_world, begins_world, stays_stopped}
 use Rattle.ee_store_contents.proofs.Lemmas.{readable}
 use Rattle.ee_store.proofs.OpenedRoom.{opened_room}
@@ -75,54 +75,54 @@ returns-in_err-all-clause-waits g c clean =
     stays_stopped old new c.schema-schema.ensures.live (g.met.S.Store.settled c.args.conn.now.store) (returns-in_err-all-clause-left g c clean)
 
 -- ---- they stand for no content
-pub returns-in_err-tables-clause-kept : goal.returns-in_err-tables-clause-kept
-returns-in_err-tables-clause-kept g c clean =
+pub returns-in_err-tested-clause-kept : goal.returns-in_err-tested-clause-kept
+returns-in_err-tested-clause-kept g c clean =
     let old = state g.S.Store c.args.conn.now in
     let new = state g.S.Store c.open_rows.new.conn in
     let it = c.in_ok-all.ensures in
-    on_err_from c.from_residual-in_err-tables.result
+    on_err_from c.from_residual-in_err-tested.result
     (it.kept clean, λ blank. inr (of_nothing new (begins_rows new (subst (Has new) (it.made clean blank (it.open clean).0) (it.current clean (it.open clean).0 (inr blank)).1))))
 
-pub returns-in_err-tables-clause-version : goal.returns-in_err-tables-clause-version
-returns-in_err-tables-clause-version g c clean =
-    let told : IfErr c.from_residual-in_err-tables.result (λ e. e ≢ WrongVersion) = search rules in
-    each_fault c.from_residual-in_err-tables.result (λ e other is. absurd (other is)) told
+pub returns-in_err-tested-clause-version : goal.returns-in_err-tested-clause-version
+returns-in_err-tested-clause-version g c clean =
+    let told : IfErr c.from_residual-in_err-tested.result (λ e. e ≢ WrongVersion) = search rules in
+    each_fault c.from_residual-in_err-tested.result (λ e other is. absurd (other is)) told
 
-pub returns-in_err-tables-clause-other : goal.returns-in_err-tables-clause-other
-returns-in_err-tables-clause-other g c clean =
-    let told : IfErr c.from_residual-in_err-tables.result (λ e. e ≢ WrongVersion) = search rules in
-    each_fault c.from_residual-in_err-tables.result (λ e other is. absurd (other is)) told
+pub returns-in_err-tested-clause-other : goal.returns-in_err-tested-clause-other
+returns-in_err-tested-clause-other g c clean =
+    let told : IfErr c.from_residual-in_err-tested.result (λ e. e ≢ WrongVersion) = search rules in
+    each_fault c.from_residual-in_err-tested.result (λ e other is. absurd (other is)) told
 
-pub returns-in_err-tables-clause-unusable : goal.returns-in_err-tables-clause-unusable
-returns-in_err-tables-clause-unusable g c clean =
+pub returns-in_err-tested-clause-unusable : goal.returns-in_err-tested-clause-unusable
+returns-in_err-tested-clause-unusable g c clean =
     let old = state g.S.Store c.args.conn.now in
-    let told : IfErr c.from_residual-in_err-tables.result (λ e. e ≡ Unusable → (content : Content) → StandAt (version_of c.in_ok-all.all.form) (whole.rows_of c.in_ok-all.all) content → ⊥) = search rules in
+    let told : IfErr c.from_residual-in_err-tested.result (λ e. e ≡ Unusable → (content : Content) → StandAt (version_of c.in_ok-all.all.form) (whole.rows_of c.in_ok-all.all) content → ⊥) = search rules in
     let it = c.in_ok-all.ensures in
     let is_open = it.open clean in
-    each_fault c.from_residual-in_err-tables.result (λ e none is. stood_for_none old (state g.S.Store c.open_rows.new.conn) c.in_ok-all.all.form (whole.rows_of c.in_ok-all.all) (it.kept clean) is_open.0 is_open.1 (it.found clean) (it.those clean)
+    each_fault c.from_residual-in_err-tested.result (λ e none is. stood_for_none old (state g.S.Store c.open_rows.new.conn) c.in_ok-all.all.form (whole.rows_of c.in_ok-all.all) (it.kept clean) is_open.0 is_open.1 (it.found clean) (it.those clean)
     (λ blank. ((it.current clean is_open.0 (inr blank)).0, it.made clean blank is_open.0)) (none is)) told
 
-pub returns-in_err-tables-clause-tested : goal.returns-in_err-tables-clause-tested
-returns-in_err-tables-clause-tested g c clean =
-    let told : IfErr c.from_residual-in_err-tables.result (λ e. e ≢ WrongVersion) = search rules in
-    each_fault c.from_residual-in_err-tables.result (λ e _ is is_open form rows had. one_version form rows (c.in_ok-all.ensures.first clean form rows had is_open)) told
+pub returns-in_err-tested-clause-tested : goal.returns-in_err-tested-clause-tested
+returns-in_err-tested-clause-tested g c clean =
+    let told : IfErr c.from_residual-in_err-tested.result (λ e. e ≢ WrongVersion) = search rules in
+    each_fault c.from_residual-in_err-tested.result (λ e _ is is_open form rows had. one_version form rows (c.in_ok-all.ensures.first clean form rows had is_open)) told
 
-pub returns-in_err-tables-clause-cause : goal.returns-in_err-tables-clause-cause
-returns-in_err-tables-clause-cause g c clean =
-    let told : IfErr c.from_residual-in_err-tables.result (λ e. e ≢ StoreFailed) = search rules in
-    each_fault c.from_residual-in_err-tables.result (λ e settled _ _ _ _ is. absurd (settled is)) told
+pub returns-in_err-tested-clause-cause : goal.returns-in_err-tested-clause-cause
+returns-in_err-tested-clause-cause g c clean =
+    let told : IfErr c.from_residual-in_err-tested.result (λ e. e ≢ StoreFailed) = search rules in
+    each_fault c.from_residual-in_err-tested.result (λ e settled _ _ _ _ is. absurd (settled is)) told
 
-pub returns-in_err-tables-clause-crash : goal.returns-in_err-tables-clause-crash
-returns-in_err-tables-clause-crash g c = begun_survives (state g.S.Store c.args.conn.now) (state g.S.Store c.open_rows.new.conn) c.in_ok-all.ensures.crash
+pub returns-in_err-tested-clause-crash : goal.returns-in_err-tested-clause-crash
+returns-in_err-tested-clause-crash g c = begun_survives (state g.S.Store c.args.conn.now) (state g.S.Store c.open_rows.new.conn) c.in_ok-all.ensures.crash
 
-pub returns-in_err-tables-clause-left : goal.returns-in_err-tables-clause-left
-returns-in_err-tables-clause-left g c clean is_open tables db may = inl (c.in_ok-all.ensures.left clean is_open tables db may)
+pub returns-in_err-tested-clause-left : goal.returns-in_err-tested-clause-left
+returns-in_err-tested-clause-left g c clean is_open tables db may = inl (c.in_ok-all.ensures.left clean is_open tables db may)
 
-pub returns-in_err-tables-clause-waits : goal.returns-in_err-tables-clause-waits
-returns-in_err-tables-clause-waits g c clean =
+pub returns-in_err-tested-clause-waits : goal.returns-in_err-tested-clause-waits
+returns-in_err-tested-clause-waits g c clean =
     let old = state g.S.Store c.args.conn.now in
     let new = state g.S.Store c.open_rows.new.conn in
-    stays_stopped old new c.schema-schema.ensures.live (g.met.S.Store.settled c.args.conn.now.store) (returns-in_err-tables-clause-left g c clean)
+    stays_stopped old new c.schema-schema.ensures.live (g.met.S.Store.settled c.args.conn.now.store) (returns-in_err-tested-clause-left g c clean)
 
 -- ---- the table is not made
 pub returns-in_err-migrate-clause-kept : goal.returns-in_err-migrate-clause-kept
@@ -167,7 +167,7 @@ returns-in_err-migrate-clause-cause g c clean =
     let all = c.in_ok-all.all in
     handed_on (FailsToAdopt old new) c.from_residual-in_err-migrate.result c.in_err-migrate.field-0.0 c.from_residual-in_err-migrate.ensures.1
     (λ settled endless any can failed. cause_then old middle new it.crash c.migrate.ensures.crash clean
-    (c.in_err-migrate.ensures.cause clean (it.ended before, fits_rows old middle all (it.kept before) (it.open before).0 (it.open before).1 (it.found before) it.order c.deref.result.now c.deref.ensures.value (λ blank. (it.current before (it.open before).0 (inr blank)).0) any can) (it.crash.limit ∙ endless) failed))
+    (c.in_err-migrate.ensures.cause clean (it.ended before, fits_rows old middle all (it.kept before) (it.open before).0 (it.open before).1 (it.found before) it.order c.deref.result.now (lists_all all it.order c.in_ok-tested.tested.answers c.in_ok-tested.ensures.left c.deref.result.now c.deref.ensures.value) (λ blank. (it.current before (it.open before).0 (inr blank)).0) any can) (it.crash.limit ∙ endless) failed))
 
 pub returns-in_err-migrate-clause-crash : goal.returns-in_err-migrate-clause-crash
 returns-in_err-migrate-clause-crash g c =
@@ -187,9 +187,9 @@ returns-in_err-migrate-clause-left g c clean =
     let new = state g.S.Store c.migrate.new.conn in
     let before = clean_before middle new c.migrate.ensures.crash clean in
     let it = c.in_ok-all.ensures in
-    let some = c.in_ok-tables.ensures.ok in
+    let some = c.in_ok-tested.ensures.ok in
     let all = c.in_ok-all.all in
-    leaves_as_before old middle all.form (whole.rows_of all) (it.kept before) (it.open before).0 (it.open before).1 (it.found before) (it.those before) _ (lists_all all it.order c.deref.result.now c.deref.ensures.value) some.0 some.2
+    leaves_as_before old middle all.form (whole.rows_of all) (it.kept before) (it.open before).0 (it.open before).1 (it.found before) (it.those before) _ (lists_all all it.order c.in_ok-tested.tested.answers c.in_ok-tested.ensures.left c.deref.result.now c.deref.ensures.value) some.0 some.2
     new (λ db is_open tables may. it.left before is_open tables db may) (c.migrate.ensures.crash.crash clean)
 
 pub returns-in_err-migrate-clause-waits : goal.returns-in_err-migrate-clause-waits
@@ -209,7 +209,7 @@ returns-clause-begins g c clean blank =
     let it = c.in_ok-all.ensures in
     let all = c.in_ok-all.all in
     begins new (first_made new all.form (whole.rows_of all) (it.current before (it.open before).0 (inr blank)).0 (it.made before blank (it.open before).0)
-    (c.in_ok-migrate.ensures.made clean (whole.rows_of all) (it.found before) (lists_all all it.order c.deref.result.now c.deref.ensures.value)))
+    (made_of middle new all.form (whole.rows_of all) c.deref.result.now (it.found before) (lists_all all it.order c.in_ok-tested.tested.answers c.in_ok-tested.ensures.left c.deref.result.now c.deref.ensures.value) (λ current. ap (state g.S.Store) (c.migrate.ensures.same current)) (c.in_ok-migrate.ensures.made clean (whole.rows_of all) (it.found before))))
 
 pub returns-clause-left : goal.returns-clause-left
 returns-clause-left g c clean =
@@ -218,9 +218,9 @@ returns-clause-left g c clean =
     let new = state g.S.Store c.migrate.new.conn in
     let before = clean_before middle new c.migrate.ensures.crash clean in
     let it = c.in_ok-all.ensures in
-    let some = c.in_ok-tables.ensures.ok in
+    let some = c.in_ok-tested.ensures.ok in
     let all = c.in_ok-all.all in
-    leaves_as_before old middle all.form (whole.rows_of all) (it.kept before) (it.open before).0 (it.open before).1 (it.found before) (it.those before) _ (lists_all all it.order c.deref.result.now c.deref.ensures.value) some.0 some.2
+    leaves_as_before old middle all.form (whole.rows_of all) (it.kept before) (it.open before).0 (it.open before).1 (it.found before) (it.those before) _ (lists_all all it.order c.in_ok-tested.tested.answers c.in_ok-tested.ensures.left c.deref.result.now c.deref.ensures.value) some.0 some.2
     new (λ db is_open tables may. it.left before is_open tables db may) (c.migrate.ensures.crash.crash clean)
 
 pub returns-clause-begun : goal.returns-clause-begun
@@ -246,7 +246,7 @@ returns-clause-found g c clean =
     let it = c.in_ok-all.ensures in
     let all = c.in_ok-all.all in
     keeps_content old middle all.form (whole.rows_of all) (it.kept before) (it.open before).0 (it.open before).1 (it.found before) (it.those before) new
-    (c.in_ok-migrate.ensures.made clean (whole.rows_of all) (it.found before) (lists_all all it.order c.deref.result.now c.deref.ensures.value))
+    (made_of middle new all.form (whole.rows_of all) c.deref.result.now (it.found before) (lists_all all it.order c.in_ok-tested.tested.answers c.in_ok-tested.ensures.left c.deref.result.now c.deref.ensures.value) (λ current. ap (state g.S.Store) (c.migrate.ensures.same current)) (c.in_ok-migrate.ensures.made clean (whole.rows_of all) (it.found before)))
 
 pub returns-clause-stands : goal.returns-clause-stands
 returns-clause-stands g c clean =
@@ -254,10 +254,10 @@ returns-clause-stands g c clean =
     let new = state g.S.Store c.migrate.new.conn in
     let before = clean_before middle new c.migrate.ensures.crash clean in
     let it = c.in_ok-all.ensures in
-    let some = c.in_ok-tables.ensures.ok in (
+    let some = c.in_ok-tested.ensures.ok in (
       it.ours before,
       has_some new c.in_ok-all.all.form (whole.rows_of c.in_ok-all.all)
-          (c.in_ok-migrate.ensures.made clean (whole.rows_of c.in_ok-all.all) (it.found before) (lists_all c.in_ok-all.all it.order c.deref.result.now c.deref.ensures.value)) some.0 some.2,
+          (made_of middle new c.in_ok-all.all.form (whole.rows_of c.in_ok-all.all) c.deref.result.now (it.found before) (lists_all c.in_ok-all.all it.order c.in_ok-tested.tested.answers c.in_ok-tested.ensures.left c.deref.result.now c.deref.ensures.value) (λ current. ap (state g.S.Store) (c.migrate.ensures.same current)) (c.in_ok-migrate.ensures.made clean (whole.rows_of c.in_ok-all.all) (it.found before))) some.0 some.2,
     )
 
 -- what was migrated leaves what was committed
@@ -308,7 +308,7 @@ returns-clause-room g c clean =
     (λ blank.
     let all = c.in_ok-all.all in
     first_made new all.form (whole.rows_of all) (it.current before (it.open before).0 (inr blank)).0 (it.made before blank (it.open before).0)
-    (c.in_ok-migrate.ensures.made clean (whole.rows_of all) (it.found before) (lists_all all it.order c.deref.result.now c.deref.ensures.value)))
+    (made_of middle new all.form (whole.rows_of all) c.deref.result.now (it.found before) (lists_all all it.order c.in_ok-tested.tested.answers c.in_ok-tested.ensures.left c.deref.result.now c.deref.ensures.value) (λ current. ap (state g.S.Store) (c.migrate.ensures.same current)) (c.in_ok-migrate.ensures.made clean (whole.rows_of all) (it.found before))))
 
 pub returns-clause-waits : goal.returns-clause-waits
 returns-clause-waits g c clean =
