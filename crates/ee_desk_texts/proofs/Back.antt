@@ -1,5 +1,5 @@
 -- The text of an act, and of a reply, is that of its JSON.
-use Rattle.std.proofs.Common.{◌≡◌, ℕ, ◌<◌, ◌≤◌, ◌^◌, List, [], ◌∷◌, ◌++◌, Some, None, Option, IfSome, refl, sym, ap, ◌∙◌, arith, lit<, map, option_and_then, append-nil}
+use Rattle.std.proofs.Common.{◌≡◌, ℕ, ◌<◌, ◌≤◌, ◌^◌, List, [], ◌∷◌, ◌++◌, Some, None, Option, IfSome, sym, ap, ◌∙◌, arith, lit<, map, option_and_then, append-nil}
 use Rattle.std.specs.Prelude.{codes}
 use Rattle.std.specs.List.{AllByRecursion}
 use Rattle.json.specs.Lex.{tokens}

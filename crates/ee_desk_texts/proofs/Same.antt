@@ -27,13 +27,11 @@ use Rattle.ee_desk_texts.specs.Data.{serial_data, rate_row_data, bond_data, act_
 use Rattle.ee_desk_texts.specs.Texts.{act_text, reply_text}
 use Rattle.ee_desk_texts.specs.Ranges.{IsCustomer, IsSerial, RateRowFits, BondFits, ActFits, LineFits, TicketFits, BatchFits, NamedFits, ReplyFits}
 use Rattle.ee_desk_texts.specs.Reading.{each, rate_row_of, bond_with, bond_of, serial_in, redeem_of, act_of, ReadsAct, added_of, batch_of, line_of, ticket_of, refused_of, reply_of, ReadsReply}
-use Rattle.ee_units.proofs.Lemmas.{rate_back, issue_back, day_back, serial_back, in_range_back, denom_with-dollars}
-use Rattle.ee_units.proofs.Lemmas.{dollars_small}
+use Rattle.ee_units.proofs.Lemmas.{rate_back, issue_back, day_back, serial_back, in_range_back, denom_with-dollars, dollars_small}
 use Rattle.ee_units.specs.Denoms.{dollars}
-use Rattle.ee_desk_acts.specs.Codes.{code_of}
 use Rattle.ee_desk_texts.proofs.Amounts.{cents_back}
 use Rattle.ee_desk_texts.proofs.Counts.{count_back}
-use Rattle.ee_desk_texts.proofs.Back.{data_back, act_back, reply_back, small, code_small}
+use Rattle.ee_desk_texts.proofs.Back.{data_back, act_back, reply_back, small}
 
 each_back : {A : Type 0} (f : A → Data) (row : Json → Option A) (Fits : A → Type 0) → ((x : A) → Fits x → row (outline (f x)) ≡ Some x)
     → (xs : List A) → AllByRecursion Fits xs → each row (items_outline (items_of (map f xs))) ≡ Some xs
