@@ -6,3 +6,4 @@ mod Meeting
 mod NextRun
 mod History
 mod OpenedRoom
+mod Asked

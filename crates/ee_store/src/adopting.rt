@@ -28,10 +28,12 @@ ghost use Rattle.ee_store.specs.Adopted.{
   OpensWithRoom,
 };
 ghost use Rattle.ee_store_lookups.specs.Causes.{IsReady};
+ghost use Rattle.ee_store_delivery.specs.Known.{IsInformed};
 
 use crate::keeper::SqlKeeper;
 use ee_desk_acts::UnitTables;
 use ee_store_contents::{ContentFault, Tested, tables_of};
+use ee_store_delivery::Known;
 use ee_store_making::{OpenFault, migrate};
 use ee_store_opening::{AllRows, open_rows};
 use sqlite::{Alter, Connection};
@@ -119,6 +121,7 @@ impl<S: Alter> SqlKeeper<S> {
     ///   it in version 2, each number as one of the first desk, and every kept reply as it was.
     /// - `stands`: so the keeper serves from a content, and never from rows that stand for none, nor from
     ///   other tables.
+    /// - `informed`: what the keeper knows of its books is so: as it is made it knows nothing.
     /// - `follows`: the store follows the events of the law of stops and retries as it did.
     /// - `goes_on`: a store over trees that a crash left, which stand for a content, is opened with just that
     ///   content, and the events of the law go on from there.
@@ -152,6 +155,7 @@ impl<S: Alter> SqlKeeper<S> {
         ensures begun { IfOk result (λ keeper. HasCleanDisk (state S.Store keeper.conn) → BeginsWorld (state S.Store conn) (state S.Store keeper.conn)) }
         ensures found { IfOk result (λ keeper. HasCleanDisk (state S.Store keeper.conn) → KeepsContent (state S.Store conn) (state S.Store keeper.conn)) }
         ensures stands { IfOk result (λ keeper. HasCleanDisk (state S.Store keeper.conn) → HasSome (state S.Store conn) (state S.Store keeper.conn)) }
+        ensures informed { IfOk result (λ keeper. IsInformed (state S.Store keeper.conn) keeper.known) }
         ensures follows { IfOk result (λ keeper. HasCleanDisk (state S.Store keeper.conn) → CarriesWorld (state S.Store conn) (state S.Store keeper.conn)) }
         ensures goes_on { IfOk result (λ keeper. HasCleanDisk (state S.Store keeper.conn) → GoesOn (state S.Store conn) (state S.Store keeper.conn)) }
         ensures kept { IfErr result (λ not. HasCleanDisk (state S.Store not.conn) → KeepsRows (state S.Store conn) (state S.Store not.conn)) }
@@ -175,6 +179,7 @@ impl<S: Alter> SqlKeeper<S> {
             Ok(tables) => Ok(SqlKeeper {
                 alloc,
                 tables,
+                known: Known::nothing(alloc),
                 conn: own,
             }),
             Err(fault) => Err(NotAdopted { fault, conn: own }),
@@ -188,6 +193,7 @@ impl<S: Alter> SqlKeeper<S> {
         let SqlKeeper {
             alloc: _,
             tables: _,
+            known: _,
             conn,
         } = self;
         conn

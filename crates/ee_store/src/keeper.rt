@@ -14,6 +14,7 @@ ghost use Rattle.ee_keeper.specs.Keeping.{Delivers};
 ghost use Rattle.ee_store_tables.specs.Statements.{HasCause};
 ghost use Rattle.ee_store_lookups.specs.Causes.{IsReady};
 ghost use Rattle.ee_store_delivery.specs.Causes.{TakesRequestRoom, CanDeliver};
+ghost use Rattle.ee_store_delivery.specs.Known.{IsInformed};
 ghost use Rattle.ee_store_lookups.specs.Seen.{StandsFor, HasContent};
 ghost use Rattle.ee_store.specs.Served.{FollowsWorld};
 ghost use Rattle.ee_store.specs.History.{Goes};
@@ -21,15 +22,18 @@ ghost use Rattle.ee_store.specs.History.{Goes};
 use crate::failures::unserved;
 use ee_desk_acts::{Reply, Request, UnitTables, Unserved};
 use ee_desk_laws::{StoreOfContents, ties_to_stores};
-use ee_store_delivery::deliver_on;
+use ee_store_delivery::{Known, deliver_on};
 use sqlite::{Alter, Connection};
 use std::alloc::Global;
 
-/// Keeps books and replies in the tables of a store.
+/// Keeps books and replies in the tables of a store. Beside them it knows the open day, the last closed one, how many
+/// tickets there are, and the terms of periods, as its redemptions found and left them, so that the next one doesn't read
+/// them again.
 #[derive(Drop)]
 pub struct SqlKeeper<S: Alter> {
     pub(crate) alloc: Global,
     pub(crate) tables: UnitTables,
+    pub(crate) known: Known,
     pub(crate) conn: Connection<S>,
 }
 
@@ -38,6 +42,9 @@ impl<S: Alter> SqlKeeper<S> {
     /// A number that has a kept reply gets that reply where the act is the same, and else
     /// `NumberReused`. Where it answers `Unserved` nothing has changed.
     ///
+    /// - `informed`: what the keeper knows of its books is so (`IsInformed`), as it was when the keeper was made
+    ///   (`SqlKeeper::adopt`) and as each call leaves it. Where a request isn't served it forgets what it knew. The clauses
+    ///   that tell what a request does suppose it.
     /// - `crash`: whenever the keeper stops, a crash leaves what it could leave before, or the rows of
     ///   the content with this request decided.
     /// - `durable`: with the reply to a number that wasn't kept it leaves the new rows alone.
@@ -49,11 +56,13 @@ impl<S: Alter> SqlKeeper<S> {
     ///   once more, or the store was shut before.
     pub fn deliver(&mut self, request: &Request) -> Result<Reply, Unserved>
         ensures clean { HasCleanDisk (state S.Store self.new.conn) → HasCleanDisk (state S.Store self.old.conn) }
-        ensures delivers { HasCleanDisk (state S.Store self.new.conn) → (content : Content) → HasContent (state S.Store self.old.conn) content
+        ensures informed { IsInformed (state S.Store self.old.conn) self.old.known → IsInformed (state S.Store self.new.conn) self.new.known }
+        ensures delivers { HasCleanDisk (state S.Store self.new.conn) → IsInformed (state S.Store self.old.conn) self.old.known
+            → (content : Content) → HasContent (state S.Store self.old.conn) content
             → Delivers content request.now result (HasContent (state S.Store self.new.conn)) }
-        ensures crash { Survives (state S.Store self.old.conn) (state S.Store self.new.conn)
-            (λ db. (content : Content) → HasContent (state S.Store self.old.conn) content → StandsFor db (content_after content (request.now ∷ []))) }
-        ensures durable { HasCleanDisk (state S.Store self.new.conn) → OnOk result
+        ensures crash { Survives (state S.Store self.old.conn) (state S.Store self.new.conn) (λ db. IsInformed (state S.Store self.old.conn) self.old.known
+            → (content : Content) → HasContent (state S.Store self.old.conn) content → StandsFor db (content_after content (request.now ∷ []))) }
+        ensures durable { HasCleanDisk (state S.Store self.new.conn) → IsInformed (state S.Store self.old.conn) self.old.known → OnOk result
             ((content : Content) → HasContent (state S.Store self.old.conn) content → finite.contains_key content.kept (number_of request.now) ≡ false
             → (db : Trees) → (state S.Store self.new.conn).may_leave db → StandsFor db (content_after content (request.now ∷ []))) }
         ensures again { HasCleanDisk (state S.Store self.new.conn) → OnOk result
@@ -61,20 +70,27 @@ impl<S: Alter> SqlKeeper<S> {
             → (db : Trees) → (state S.Store self.new.conn).may_leave db → (state S.Store self.old.conn).may_leave db) }
         ensures ready { IsReady (state S.Store self.old.conn) → IsReady (state S.Store self.new.conn) }
         ensures room { TakesRequestRoom (state S.Store self.old.conn) (state S.Store self.new.conn) }
-        ensures cause { HasCleanDisk (state S.Store self.new.conn) → (content : Content) → CanDeliver (state S.Store self.old.conn) content request.now
+        ensures cause { HasCleanDisk (state S.Store self.new.conn) → IsInformed (state S.Store self.old.conn) self.old.known
+            → (content : Content) → CanDeliver (state S.Store self.old.conn) content request.now
             → IfErr result (λ e. e ≡ Unserved.StoreFailed → HasCause (state S.Store self.old.conn) (state S.Store self.new.conn)) }
-        ensures decided { HasCleanDisk (state S.Store self.new.conn)
+        ensures decided { HasCleanDisk (state S.Store self.new.conn) → IsInformed (state S.Store self.old.conn) self.old.known
             → OnOk result ((w : World) (told : List Told) → FollowsWorld (state S.Store self.old.conn) w
             → FollowsWorld (state S.Store self.new.conn) (decided w request.now told)) }
-        ensures unserved { HasCleanDisk (state S.Store self.new.conn)
+        ensures unserved { HasCleanDisk (state S.Store self.new.conn) → IsInformed (state S.Store self.old.conn) self.old.known
             → OnErr result ((w : World) → FollowsWorld (state S.Store self.old.conn) w → FollowsWorld (state S.Store self.new.conn) (unserved w request.now)) }
-        ensures goes { HasCleanDisk (state S.Store self.new.conn) → MatchResult result
+        ensures goes { HasCleanDisk (state S.Store self.new.conn) → IsInformed (state S.Store self.old.conn) self.old.known → MatchResult result
             (λ reply. Goes (state S.Store self.old.conn) (Deliver request.now ∷ []) (state S.Store self.new.conn)
             × Goes (state S.Store self.old.conn) (Lose request.now ∷ []) (state S.Store self.new.conn))
             (λ cause. Goes (state S.Store self.old.conn) (NotServed request.now ∷ []) (state S.Store self.new.conn)) }
     {
         ties_to_stores::<SqlKeeper<S>>();
-        match deliver_on(&mut self.conn, self.alloc, &mut self.tables, request) {
+        match deliver_on(
+            &mut self.conn,
+            self.alloc,
+            &mut self.tables,
+            &mut self.known,
+            request,
+        ) {
             Ok(reply) => {
                 let _schema = self.conn.schema();
                 Ok(reply)

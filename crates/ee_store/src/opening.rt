@@ -8,6 +8,7 @@ ghost use Rattle.sqlite.specs.WalFiles.{image_at};
 ghost use Rattle.sqlite_std_file.specs.File.{IsFresh};
 ghost use Rattle.sqlite.specs.FileStore.{view};
 ghost use Rattle.sqlite.specs.View.{IsClean};
+ghost use Rattle.ee_store_delivery.specs.Known.{IsInformed};
 ghost use Rattle.ee_store.specs.Adopted.{IsOpenedFrom, IsRefusedFrom, IfConnection, IfFiles};
 ghost use Rattle.ee_store.specs.NextRun.{IsNumbered, LeavesStanding, FollowsOn};
 
@@ -40,6 +41,7 @@ pub struct NotOpened<S: Alter, L> {
 ///
 /// - `opened`: the keeper has what was found: the empty content where there was no store, and else the
 ///   content that the store had, as `SqlKeeper::adopt` tells it.
+/// - `informed`: what the keeper knows of its books is so, as `SqlKeeper::adopt` tells it.
 /// - `follows`: where the file held a database that stands for a content which a crash might leave, by the
 ///   law of stops and retries, the keeper has it and goes on from there. The law `next_run` puts both
 ///   runs together.
@@ -60,6 +62,7 @@ pub fn open_as<F: Start>(
     NotOpened<FileStore<FileFrom<F>>, Leftover<FileFrom<F>>>,
 >
     ensures opened { IfOk result (λ keeper. HasCleanDisk (file_state keeper.conn) → IsOpenedFrom (image_at F.Start) keeper.conn) }
+    ensures informed { IfOk result (λ keeper. IsInformed (file_state keeper.conn) keeper.known) }
     ensures follows { IfOk result (λ keeper. HasCleanDisk (file_state keeper.conn) → FollowsOn (image_at F.Start) keeper.conn) }
     ensures refused { IfErr result (λ not. IfConnection not.rest (λ conn. HasCleanDisk (file_state conn) → IsRefusedFrom (image_at F.Start) not.fault conn)) }
     ensures fault { IfErr result (λ not. IfFiles not.rest (λ _. (not.fault ≡ OpenFault.NoMemory) ⊎ (not.fault ≡ OpenFault.StoreFailed))) }
@@ -96,6 +99,7 @@ impl SqlKeeper<FileStore<File>> {
         path: &str,
     ) -> Result<SqlKeeper<FileStore<File>>, NotOpened<FileStore<File>, Leftover<File>>>
         ensures opened { IfOk result (λ keeper. HasCleanDisk (file_state keeper.conn) → (start : Image) × IsOpenedFrom start keeper.conn) }
+        ensures informed { IfOk result (λ keeper. IsInformed (file_state keeper.conn) keeper.known) }
         ensures refused { IfErr result
             (λ not. IfConnection not.rest (λ conn. HasCleanDisk (file_state conn) → (start : Image) × IsRefusedFrom start not.fault conn)) }
         ensures fault { IfErr result (λ not. IfFiles not.rest (λ _. (not.fault ≡ OpenFault.NoMemory) ⊎ (not.fault ≡ OpenFault.StoreFailed))) }

@@ -8,6 +8,7 @@ ghost use Rattle.ee_desk_acts.specs.Queries.{ticket_numbered, batch_on, bonds_of
 ghost use Rattle.ee_desk_laws.specs.Events.{World};
 ghost use Rattle.ee_keeper.specs.Keeping.{Shows, IsInventory, IsQuote};
 ghost use Rattle.ee_store_lookups.specs.Causes.{IsReady};
+ghost use Rattle.ee_store_delivery.specs.Known.{IsInformed};
 ghost use Rattle.ee_store.specs.Served.{ServesOrFails};
 ghost use Rattle.ee_store_lookups.specs.Seen.{HasContent};
 ghost use Rattle.ee_store.specs.Served.{FollowsWorld};
@@ -24,6 +25,7 @@ use sqlite::Alter;
 /// Each query is one transaction that is read and rolled back.
 ///
 /// - `clean`, `shows`: what is shown is right, and the content stays, also where it answers `Unserved`.
+/// - `informed`: what the keeper knows of its books stays so.
 /// - `crash`: whenever the keeper stops, a crash leaves what it could leave before.
 /// - `ready`, `cause`: it is asked as before; and where its store was ready, it answers `StoreFailed` only where the
 ///   device failed once more, or the store was shut before.
@@ -35,6 +37,7 @@ impl<S: Alter> SqlKeeper<S> {
     /// The sheet in a month of the unpaid bonds whose owner is this customer, in order of serial.
     pub fn inventory(&mut self, customer: Customer, month: Month) -> Result<Sheet, Unserved>
         ensures clean { HasCleanDisk (state S.Store self.new.conn) → HasCleanDisk (state S.Store self.old.conn) }
+        ensures informed { IsInformed (state S.Store self.old.conn) self.old.known → IsInformed (state S.Store self.new.conn) self.new.known }
         ensures shows { HasCleanDisk (state S.Store self.new.conn) → (content : Content) → HasContent (state S.Store self.old.conn) content
             → Shows (IsInventory content.books customer month) result (HasContent (state S.Store self.new.conn) content) }
         ensures crash { Survives (state S.Store self.old.conn) (state S.Store self.new.conn) (λ _. ⊥) }
@@ -58,6 +61,7 @@ impl<S: Alter> SqlKeeper<S> {
     /// The unpaid bonds whose owner is this customer, in order of serial.
     pub fn bonds_of(&mut self, customer: Customer) -> Result<Vec<Bond>, Unserved>
         ensures clean { HasCleanDisk (state S.Store self.new.conn) → HasCleanDisk (state S.Store self.old.conn) }
+        ensures informed { IsInformed (state S.Store self.old.conn) self.old.known → IsInformed (state S.Store self.new.conn) self.new.known }
         ensures shows { HasCleanDisk (state S.Store self.new.conn) → (content : Content) → HasContent (state S.Store self.old.conn) content
             → Shows (λ bonds. bonds.items ≡ bonds_of content.books customer) result (HasContent (state S.Store self.new.conn) content) }
         ensures crash { Survives (state S.Store self.old.conn) (state S.Store self.new.conn) (λ _. ⊥) }
@@ -75,6 +79,7 @@ impl<S: Alter> SqlKeeper<S> {
     /// The ticket of a number, where there is one.
     pub fn ticket(&mut self, number: u64) -> Result<Option<Ticket>, Unserved>
         ensures clean { HasCleanDisk (state S.Store self.new.conn) → HasCleanDisk (state S.Store self.old.conn) }
+        ensures informed { IsInformed (state S.Store self.old.conn) self.old.known → IsInformed (state S.Store self.new.conn) self.new.known }
         ensures shows { HasCleanDisk (state S.Store self.new.conn) → (content : Content) → HasContent (state S.Store self.old.conn) content
             → Shows (λ ticket. ticket ≡ ticket_numbered content.books number) result (HasContent (state S.Store self.new.conn) content) }
         ensures crash { Survives (state S.Store self.old.conn) (state S.Store self.new.conn) (λ _. ⊥) }
@@ -92,6 +97,7 @@ impl<S: Alter> SqlKeeper<S> {
     /// The batch of a day, where that day is closed.
     pub fn batch(&mut self, day: Day) -> Result<Option<Batch>, Unserved>
         ensures clean { HasCleanDisk (state S.Store self.new.conn) → HasCleanDisk (state S.Store self.old.conn) }
+        ensures informed { IsInformed (state S.Store self.old.conn) self.old.known → IsInformed (state S.Store self.new.conn) self.new.known }
         ensures shows { HasCleanDisk (state S.Store self.new.conn) → (content : Content) → HasContent (state S.Store self.old.conn) content
             → Shows (λ batch. batch ≡ batch_on content.books day) result (HasContent (state S.Store self.new.conn) content) }
         ensures crash { Survives (state S.Store self.old.conn) (state S.Store self.new.conn) (λ _. ⊥) }
@@ -115,6 +121,7 @@ impl<S: Alter> SqlKeeper<S> {
         month: Month,
     ) -> Result<Option<Row>, Unserved>
         ensures clean { HasCleanDisk (state S.Store self.new.conn) → HasCleanDisk (state S.Store self.old.conn) }
+        ensures informed { IsInformed (state S.Store self.old.conn) self.old.known → IsInformed (state S.Store self.new.conn) self.new.known }
         ensures shows { HasCleanDisk (state S.Store self.new.conn) → (content : Content) → HasContent (state S.Store self.old.conn) content
             → Shows (IsQuote content.books denom issued month) result (HasContent (state S.Store self.new.conn) content) }
         ensures crash { Survives (state S.Store self.old.conn) (state S.Store self.new.conn) (λ _. ⊥) }
@@ -141,14 +148,16 @@ impl<S: Alter> Keeper for SqlKeeper<S> {
     ghost use Rattle.sqlite.specs.Held.{state};
     ghost use Rattle.sqlite.specs.State.{HasCleanDisk};
     ghost use Rattle.ee_store_lookups.specs.Seen.{HasContent};
+    ghost use Rattle.ee_store_delivery.specs.Known.{IsInformed};
 
-    ghost has = { λ k content. HasContent (state S.Store k.conn) content };
+    // The last commit left the content, and what the keeper knows of its books is so.
+    ghost has = { λ k content. HasContent (state S.Store k.conn) content × IsInformed (state S.Store k.conn) k.known };
 
     ghost is_clean = { λ k. HasCleanDisk (state S.Store k.conn) };
 
     ghost may_fail = { Unit {0} };
 
-    ghost sound = { λ _ _ has. has.right.sound };
+    ghost sound = { λ _ _ has. has.0.right.sound };
 
     fn deliver(&mut self, request: &Request) -> Result<Reply, Unserved> {
         SqlKeeper::deliver(self, request)

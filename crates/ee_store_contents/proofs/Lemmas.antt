@@ -16,7 +16,7 @@ use Rattle.ee_calculator.specs.declared.bonds.Bond.{Bond}
 use Rattle.ee_store_contents.specs.Contents.{PartsFit}
 use Rattle.ee_desk_parts.specs.Parts.{parts_of}
 use Rattle.ee_desk_acts.specs.Repeats.{Content}
-use Rattle.ee_store_contents.specs.Standing.{bond_row, bond_rows, desk_rows, extension_rows, key_of, paid_rows, rate_rows, reply_row, reply_rows, ticket_rows, IsRight, rows_at, rows_of}
+use Rattle.ee_store_contents.specs.Standing.{bond_row, bond_rows, desk_rows, extension_rows, key_of, paid_rows, rate_rows, reply_row, reply_rows, ticket_rows, IsRight, StandAt, rows_at, rows_of}
 use Rattle.ee_store_making.specs.declared.forms.Form.{Form}
 use Rattle.ee_store_making.specs.Forms.{version_of}
 use Rattle.ee_store_making.specs.Migrating.{become}
@@ -28,7 +28,7 @@ use Rattle.ee_value.specs.Chain.{rates_with, named_extension}
 use Rattle.ee_value.specs.declared.rates.Rates.{Rates}
 use Rattle.std.specs.FinMap as finite
 use Rattle.ee_desk_texts.specs.Ranges.{IsSerial}
-use Rattle.ee_store_tables.specs.Rows.{IsText}
+use Rattle.ee_store_tables.specs.Rows.{Rows, IsText}
 use Rattle.ee_store_opening.specs.Opening.{AreReadable, IsOfForm}
 use Rattle.ee_store_contents.proofs.Images
 use Rattle.ee_store_contents.proofs.OneContent
@@ -131,6 +131,10 @@ readable = Readable.readable
 -- the texts that a content keeps are UTF-8
 pub kept_texts : (content : Content) → IsRight content → (n : Number) → IfSome (finite.get (rows_of content).answers n) IsText
 kept_texts = Readable.kept_texts
+
+-- rows stand for one content at most
+pub one_content : (version : ℕ) (rows : Rows) (one other : Content) → StandAt version rows one → StandAt version rows other → one ≡ other
+one_content = OneContent.one_content
 
 -- ---- the rows of version 1
 -- the rows of a content in some form become its rows of version 2

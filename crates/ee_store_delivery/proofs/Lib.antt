@@ -10,3 +10,5 @@ mod NewNumbers
 mod Writable
 mod WriteCauses
 mod RoomAfter
+mod Knowing
+mod Informed

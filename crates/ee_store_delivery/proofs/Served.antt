@@ -12,8 +12,10 @@ use Rattle.ee_desk_acts.specs.declared.changes.Kept.{Kept}
 use Rattle.ee_desk_acts.specs.Numbers.{Number, number_of}
 use Rattle.ee_desk_acts.specs.Seen.{shown}
 use Rattle.ee_desk_acts.specs.Effects.{effects_of}
+use Rattle.ee_desk_acts.specs.Outcomes.{act}
 use Rattle.ee_desk_acts.specs.Repeats.{Content}
-use Rattle.ee_desk_acts.proofs.Lemmas.Requests.{answer_again, content_after-kept, answer_new}
+use Rattle.ee_desk_acts.specs.Contents.{content_after}
+use Rattle.ee_desk_acts.proofs.Lemmas.Requests.{answer_again, content_after-kept, content_after-new, answer_new}
 use Rattle.ee_store_tables.proofs.Lemmas.Transactions.{unchanged_sees}
 use Rattle.ee_store_contents.proofs.Lemmas.{get_reply_row}
 use Rattle.ee_desk_texts.specs.Ranges.{ActFits, ReplyFits}
@@ -22,7 +24,9 @@ use Rattle.ee_store_tables.specs.Rows.{Rows, ReplyRow, Sees, with_answer}
 use Rattle.ee_store_contents.specs.Standing.{rows_of, reply_row, IsRight, IsKept}
 use Rattle.ee_store_delivery.specs.Written.{applied_rows}
 use Rattle.ee_store_lookups.specs.Seen.{SeesContent}
-use Rattle.ee_store_delivery.specs.Delivered.{IsDecided, IsServed}
+use Rattle.ee_store_delivery.specs.declared.known.Known.{Known}
+use Rattle.ee_store_delivery.specs.Known.{AreKnown}
+use Rattle.ee_store_delivery.specs.Delivered.{IsDecided, IsToldIn}
 use Rattle.ee_store_delivery.proofs.Again.{IsAgain}
 use Rattle.ee_store_delivery.proofs.Delivered.{rows_after, right_after}
 
@@ -57,19 +61,28 @@ kept_by row None is = absurd (cc)
 kept_by row (Some kept) is = (kept, refl, ap (λ o. unwrap_or o row) is)
 
 -- a number that is kept: nothing changes
-pub is_again : (old new : State) (q : Request) (S : Content) (row : ReplyRow) (reply : Reply) → IsUnchanged old new → SeesContent old S
-    → Some row ≡ finite.get (rows_of S).answers (number_of q) → ActFits q.act → IsAgain row.act row.reply (act_text q.act) reply → IsServed new q S false reply
-is_again old new q S row reply same sees is fits again =
+pub is_again : (old new : State) (known : Known) (q : Request) (S : Content) (row : ReplyRow) (reply : Reply) → IsUnchanged old new → SeesContent old S
+    → Some row ≡ finite.get (rows_of S).answers (number_of q) → ActFits q.act → IsAgain row.act row.reply (act_text q.act) reply → IsToldIn new known q S false reply
+is_again old new known q S row reply same sees is fits again =
     let found = kept_by row (finite.get S.kept (number_of q)) (is ∙ get_reply_row S.kept (number_of q)) in
     let kept = found.0 in
     let kept_is = found.1 in
     let right = subst (λ o. IfSome o (IsKept (number_of q))) kept_is (sees.right.kept (number_of q)) in
     let stays = content_after-kept S q kept kept_is in
     record {
-      told = again (number_of q) kept q.act right fits (ap (λ r. r.act) found.2) (ap (λ r. r.reply) found.2) refl ∙ answer_again S q kept kept_is;
-      seen = subst (SeesContent new) stays (record { right = sees.right; rows = unchanged_sees old new (rows_of S) same sees.rows });
       first = sym (ap (λ o. not (is_some o)) kept_is);
+      served = λ _. record {
+        told = again (number_of q) kept q.act right fits (ap (λ r. r.act) found.2) (ap (λ r. r.reply) found.2) refl ∙ answer_again S q kept kept_is;
+        seen = subst (SeesContent new) stays (record { right = sees.right; rows = unchanged_sees old new (rows_of S) same sees.rows });
+      };
     }
+
+-- and what is known stays so
+pub known_again : (known : Known) (q : Request) (S : Content) (row : ReplyRow) → Some row ≡ finite.get (rows_of S).answers (number_of q)
+    → AreKnown known S.books → AreKnown known (content_after S (q ∷ [])).books
+known_again known q S row is are =
+    let found = kept_by row (finite.get S.kept (number_of q)) (is ∙ get_reply_row S.kept (number_of q)) in
+    subst (λ (s : Content). AreKnown known s.books) (content_after-kept S q found.0 found.1) are
 
 not_kept : (o : Option Kept) → None ≡ option_map reply_row o → o ≡ None
 not_kept None is = refl
@@ -78,9 +91,14 @@ not_kept (Some kept) is = absurd (cc)
 pub is_new : (S : Content) (n : Number) → None ≡ finite.get (rows_of S).answers n → finite.get S.kept n ≡ None
 is_new S n is = not_kept (finite.get S.kept n) (is ∙ get_reply_row S.kept n)
 
-pub is_first : (new : State) (q : Request) (S : Content) (reply : Reply) → finite.get S.kept (number_of q) ≡ None → IsDecided new q S reply → IsServed new q S true reply
-is_first new q S reply none is = record {
-  told = is.told ∙ answer_new S q none;
-  seen = is.seen;
+pub is_first : (new : State) (known : Known) (q : Request) (S : Content) (reply : Reply) → finite.get S.kept (number_of q) ≡ None
+    → (AreKnown known S.books → IsDecided new q S reply) → IsToldIn new known q S true reply
+is_first new known q S reply none is = record {
   first = sym (ap (λ o. not (is_some o)) none);
+  served = λ are. record { told = (is are).told ∙ answer_new S q none; seen = (is are).seen };
 }
+
+-- what is known of the books after the act of a new number is known of the content after its request
+pub known_first : (known : Known) (q : Request) (S : Content) → finite.get S.kept (number_of q) ≡ None
+    → AreKnown known (act S.books q.act).books → AreKnown known (content_after S (q ∷ [])).books
+known_first known q S none are = subst (λ (s : Content). AreKnown known s.books) (sym (content_after-new S q (ap is_some none))) are

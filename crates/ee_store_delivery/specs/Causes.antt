@@ -10,6 +10,8 @@ use Rattle.ee_store_tables.specs.declared.failures.Failure.{Failure}
 use Rattle.ee_store_lookups.specs.Seen.{HasContent, SeesContent}
 use Rattle.ee_store_lookups.specs.Causes.{IsReady}
 use Rattle.ee_store_tables.specs.Statements.{IsExcused}
+use Rattle.ee_store_delivery.specs.declared.known.Known.{Known}
+use Rattle.ee_store_delivery.specs.Known.{IsInformed}
 
 -- in a transaction that sees rows, room is left for that many rows less
 abbrev pub LeavesRoom : {X : Type 0} → State → State → Result X Failure → ℕ → Type 0
@@ -27,8 +29,8 @@ LeavesRoomAfter old new result = HasCleanDisk new → IsInside old → OnOk resu
 abbrev pub CanDeliver : State → Content → Request → Type 0
 CanDeliver old content request = IsReady old × HasContent old content × TextsFit content request × HasRoom 501 old
 
-abbrev pub DeliversOrFails : {X : Type 0} → State → State → Request → Result X Failure → Type 0
-DeliversOrFails old new request result = HasCleanDisk new → (content : Content) → CanDeliver old content request → IfErr result (IsExcused old new)
+abbrev pub DeliversOrFails : {X : Type 0} → State → State → Known → Request → Result X Failure → Type 0
+DeliversOrFails old new known request result = HasCleanDisk new → IsInformed old known → (content : Content) → CanDeliver old content request → IfErr result (IsExcused old new)
 
 -- a request takes room for 501 rows at most
 abbrev pub TakesRequestRoom : State → State → Type 0

@@ -1,5 +1,5 @@
 -- What a request is answered in a transaction, and what is seen then.
-use Rattle.std.specs.Prelude.{◌≡◌, ◌≢◌, ℕ, Option, None, Bool, not, [], ◌∷◌, Result, IfOk}
+use Rattle.std.specs.Prelude.{◌≡◌, ◌≢◌, ℕ, Option, None, Bool, not, [], ◌∷◌, Result, IfOk, OnOk}
 use Rattle.std.specs.FinMap as finite
 use Rattle.sqlite.specs.State.{State, HasCleanDisk}
 use Rattle.ee_desk_acts.specs.declared.acts.Act.{Act}
@@ -15,6 +15,8 @@ use Rattle.ee_desk_acts.specs.Contents.{content_after}
 use Rattle.ee_desk_acts.specs.Answers.{answer}
 use Rattle.ee_store_tables.specs.Rows.{IsInside}
 use Rattle.ee_store_lookups.specs.Seen.{SeesContent}
+use Rattle.ee_store_delivery.specs.declared.known.Known.{Known}
+use Rattle.ee_store_delivery.specs.Known.{AreKnown}
 
 -- the effects of an act on the books that are seen, and, where it changes something, the day that these closed last
 abbrev pub AreEffects : Act → Content → Effects × Option ℕ → Type 0
@@ -26,15 +28,24 @@ pub record IsDecided (new : State) (request : Request) (content : Content) (repl
   pub seen : SeesContent new (content_after content (request ∷ []))
 
 -- what a request of a new number leaves
-abbrev pub Decides : {E : Type 0} → State → State → Request → Result Reply E → Type 0
-Decides old new request result = HasCleanDisk new → IsInside old → IfOk result (λ reply. (content : Content) → SeesContent old content
-    → finite.get content.kept (number_of request) ≡ None → IsDecided new request content reply)
+abbrev pub Decides : {E : Type 0} → State → State → Known → Request → Result Reply E → Type 0
+Decides old new known request result = HasCleanDisk new → IsInside old → IfOk result (λ reply. (content : Content) → SeesContent old content
+    → AreKnown known content.books → finite.get content.kept (number_of request) ≡ None → IsDecided new request content reply)
 
 -- what a request is answered in a transaction, and what is seen then
-pub record IsServed (new : State) (request : Request) (content : Content) (is_new : Bool) (reply : Reply) : Type 0 where
+pub record IsServed (new : State) (request : Request) (content : Content) (reply : Reply) : Type 0 where
   pub told : reply ≡ answer content [] request
   pub seen : SeesContent new (content_after content (request ∷ []))
-  pub first : is_new ≡ not (finite.contains_key content.kept (number_of request))
 
-abbrev pub Serves : {E : Type 0} → State → State → Request → Result (Bool × Reply) E → Type 0
-Serves old new request result = HasCleanDisk new → IsInside old → IfOk result (λ r. (content : Content) → SeesContent old content → IsServed new request content r.0 r.1)
+-- its number is new where it isn't kept, and where what is known is so, it is answered and what it does is seen
+pub record IsToldIn (new : State) (known : Known) (request : Request) (content : Content) (is_new : Bool) (reply : Reply) : Type 0 where
+  pub first : is_new ≡ not (finite.contains_key content.kept (number_of request))
+  pub served : AreKnown known content.books → IsServed new request content reply
+
+abbrev pub Serves : {E : Type 0} → State → State → Known → Request → Result (Bool × Reply) E → Type 0
+Serves old new known request result = HasCleanDisk new → IsInside old → IfOk result (λ r. (content : Content) → SeesContent old content → IsToldIn new known request content r.0 r.1)
+
+-- what is known follows the books
+abbrev pub Follows : {X E : Type 0} → State → State → Known → Known → Request → Result X E → Type 0
+Follows old new before after request result = HasCleanDisk new → IsInside old → OnOk result ((content : Content) → SeesContent old content
+    → AreKnown before content.books → AreKnown after (content_after content (request ∷ [])).books)

@@ -1,3 +1,4 @@
 pub mod Written
+pub mod Known
 pub mod Causes
 pub mod Delivered

@@ -16,12 +16,15 @@ ghost use Rattle.sqlite.specs.Held.{state};
 ghost use Rattle.ee_store_tables.specs.Statements.{LeavesOpen, StaysOpen, StaysInside, LeavesSound, CommitsNothing, LeavesNoMore};
 ghost use Rattle.ee_store_lookups.specs.Causes.{FailsByCause, IsReady};
 ghost use Rattle.ee_store_delivery.specs.Causes.{LeavesRoomAfter, TextsFit, TakesRequestRoom, DeliversOrFails};
-ghost use Rattle.ee_store_delivery.specs.Delivered.{Decides, Serves};
+ghost use Rattle.ee_store_delivery.specs.Delivered.{Decides, Serves, Follows};
+ghost use Rattle.ee_store_delivery.specs.Known.{AreKnown, LearnsIn, IsInformed};
+ghost use Rattle.ee_desk_acts.specs.Acts.{books_after};
 ghost use Rattle.sqlite.specs.Tree.{Trees};
 ghost use Rattle.ee_desk_acts.specs.Repeats.{Content};
 ghost use Rattle.ee_desk_acts.specs.Contents.{content_after};
 ghost use Rattle.ee_store_lookups.specs.Seen.{StandsFor, HasContent};
 
+use crate::known::Known;
 use crate::view::effects_in;
 use crate::writing::write_changes;
 use ee_desk_acts::{Effects, Refusal, Reply, Request, UnitTables};
@@ -29,6 +32,7 @@ use ee_desk_texts::{canonical, read_reply, reply_text};
 use ee_store_tables::{Failure, ReplyRow, add_answer, find_answer};
 use sqlite::{Alter, Connection, Transaction};
 use std::alloc::Global;
+use std::mem;
 
 /// The reply to a number that comes again, by the kept texts of its act and its reply, and by the text of
 /// the act that is asked now: the kept reply where the acts are the same, and else `NumberReused`.
@@ -52,6 +56,7 @@ fn decide_in<S: Alter>(
     tx: &mut Transaction<'_, S>,
     alloc: Global,
     tables: &mut UnitTables,
+    known: &mut Known,
     request: &Request,
     act: String,
 ) -> Result<Reply, Failure>
@@ -60,21 +65,25 @@ fn decide_in<S: Alter>(
     ensures same_reference { tx.new.conn.ghost_name ≡ tx.old.conn.ghost_name }
     ensures open { StaysOpen (state S.Store tx.old.conn.now) (state S.Store tx.new.conn.now) result }
     ensures inside { StaysInside (state S.Store tx.old.conn.now) (state S.Store tx.new.conn.now) result }
-    ensures decides { Decides (state S.Store tx.old.conn.now) (state S.Store tx.new.conn.now) request.now result }
+    ensures decides { Decides (state S.Store tx.old.conn.now) (state S.Store tx.new.conn.now) known.old request.now result }
+    ensures learns { LearnsIn (state S.Store tx.old.conn.now) (state S.Store tx.new.conn.now) result
+        (AreKnown known.old) (λ books. AreKnown known.new (books_after books request.now.act)) }
     ensures sound { LeavesSound (state S.Store tx.old.conn.now) (state S.Store tx.new.conn.now) result }
     ensures commit { CommitsNothing (state S.Store tx.old.conn.now) (state S.Store tx.new.conn.now) }
     ensures crash { LeavesNoMore (state S.Store tx.old.conn.now) (state S.Store tx.new.conn.now) }
     ensures room { LeavesRoomAfter (state S.Store tx.old.conn.now) (state S.Store tx.new.conn.now) result }
     ensures cause { FailsByCause (state S.Store tx.old.conn.now) (state S.Store tx.new.conn.now) result
-        (λ content. (finite.get content.kept (number_of request.now) ≡ None) × TextsFit content request.now × HasRoom 501 (state S.Store tx.old.conn.now)) }
+        (λ content. AreKnown known.old content.books × (finite.get content.kept (number_of request.now) ≡ None) × TextsFit content request.now
+        × HasRoom 501 (state S.Store tx.old.conn.now)) }
 {
-    let (effects, last_day) = effects_in(tx, alloc, tables, &request.act)?;
+    let (effects, last_day) = effects_in(tx, alloc, tables, known, &request.act)?;
     let Effects { changes, reply } = effects;
     let words = reply_text(alloc, &reply)?;
     write_changes(tx, alloc, last_day, changes.as_slice())?;
     let entry = ReplyRow { act, reply: words };
     let desk = request.desk.number() as u64;
     add_answer(tx, desk, request.number.value(), &entry)?;
+    known.follow(alloc, &request.act, &reply);
     Ok(reply)
 }
 
@@ -83,19 +92,21 @@ pub fn serve_in<S: Alter>(
     tx: &mut Transaction<'_, S>,
     alloc: Global,
     tables: &mut UnitTables,
+    known: &mut Known,
     request: &Request,
 ) -> Result<(bool, Reply), Failure>
     ensures same_reference { tx.new.conn.ghost_name ≡ tx.old.conn.ghost_name }
     ensures open { LeavesOpen (state S.Store tx.new.conn.now) result }
     ensures inside { StaysInside (state S.Store tx.old.conn.now) (state S.Store tx.new.conn.now) result }
-    ensures serves { Serves (state S.Store tx.old.conn.now) (state S.Store tx.new.conn.now) request.now result }
+    ensures serves { Serves (state S.Store tx.old.conn.now) (state S.Store tx.new.conn.now) known.old request.now result }
+    ensures learns { Follows (state S.Store tx.old.conn.now) (state S.Store tx.new.conn.now) known.old known.new request.now result }
     ensures sound { HasCleanDisk (state S.Store tx.new.conn.now) → IsInside (state S.Store tx.old.conn.now)
         → IfOk result (λ r. IsTrue r.0 → IsTrue (state S.Store tx.new.conn.now).is_open → IsDatabase (state S.Store tx.new.conn.now).now) }
     ensures commit { CommitsNothing (state S.Store tx.old.conn.now) (state S.Store tx.new.conn.now) }
     ensures crash { LeavesNoMore (state S.Store tx.old.conn.now) (state S.Store tx.new.conn.now) }
     ensures room { LeavesRoomAfter (state S.Store tx.old.conn.now) (state S.Store tx.new.conn.now) result }
     ensures cause { FailsByCause (state S.Store tx.old.conn.now) (state S.Store tx.new.conn.now) result
-        (λ content. TextsFit content request.now × HasRoom 501 (state S.Store tx.old.conn.now)) }
+        (λ content. AreKnown known.old content.books × TextsFit content request.now × HasRoom 501 (state S.Store tx.old.conn.now)) }
 {
     let act = canonical(alloc, &request.act)?;
     let desk = request.desk.number() as u64;
@@ -106,25 +117,30 @@ pub fn serve_in<S: Alter>(
         let reply = reply_again(alloc, kept_act, kept_reply, asked)?;
         return Ok((false, reply));
     }
-    let reply = decide_in(tx, alloc, tables, request, act)?;
+    let reply = decide_in(tx, alloc, tables, known, request, act)?;
     Ok((true, reply))
 }
 
 /// The reply to a request, which acts once: all that it does and its reply are committed together.
+///
+/// Each clause that tells what a request does supposes that what is known of the store is so (`IsInformed`), and the
+/// call leaves it so (`informed`): where it fails nothing stays known.
 pub fn deliver_on<S: Alter>(
     conn: &mut Connection<S>,
     alloc: Global,
     tables: &mut UnitTables,
+    known: &mut Known,
     request: &Request,
 ) -> Result<Reply, Failure>
-    ensures told { HasCleanDisk (state S.Store conn.new)
+    ensures told { HasCleanDisk (state S.Store conn.new) → IsInformed (state S.Store conn.old) known.old
         → IfOk result (λ reply. (content : Content) → HasContent (state S.Store conn.old) content → reply ≡ answer content [] request.now) }
-    ensures kept { HasCleanDisk (state S.Store conn.new) → OnOk result
+    ensures kept { HasCleanDisk (state S.Store conn.new) → IsInformed (state S.Store conn.old) known.old → OnOk result
         ((content : Content) → HasContent (state S.Store conn.old) content → HasContent (state S.Store conn.new) (content_after content (request.now ∷ []))) }
     ensures failed { HasCleanDisk (state S.Store conn.new)
         → OnErr result ((content : Content) → HasContent (state S.Store conn.old) content → HasContent (state S.Store conn.new) content) }
-    ensures crash { Survives (state S.Store conn.old) (state S.Store conn.new)
-        (λ db. (content : Content) → HasContent (state S.Store conn.old) content → StandsFor db (content_after content (request.now ∷ []))) }
+    ensures informed { IsInformed (state S.Store conn.old) known.old → IsInformed (state S.Store conn.new) known.new }
+    ensures crash { Survives (state S.Store conn.old) (state S.Store conn.new) (λ db. IsInformed (state S.Store conn.old) known.old
+        → (content : Content) → HasContent (state S.Store conn.old) content → StandsFor db (content_after content (request.now ∷ []))) }
     ensures opened { HasCleanDisk (state S.Store conn.new)
         → OnOk result ((content : Content) → HasContent (state S.Store conn.old) content → finite.contains_key content.kept (number_of request.now) ≡ false
         → IsTrue (state S.Store conn.new).is_open) }
@@ -136,16 +152,19 @@ pub fn deliver_on<S: Alter>(
         → (db : Trees) → (state S.Store conn.new).may_leave db → (state S.Store conn.old).may_leave db) }
     ensures ready { IsReady (state S.Store conn.old) → IsReady (state S.Store conn.new) }
     ensures room { TakesRequestRoom (state S.Store conn.old) (state S.Store conn.new) }
-    ensures cause { DeliversOrFails (state S.Store conn.old) (state S.Store conn.new) request.now result }
+    ensures cause { DeliversOrFails (state S.Store conn.old) (state S.Store conn.new) known.old request.now result }
 {
     if !conn.is_autocommit() {
         return Err(Failure::StoreFailed);
     }
+    let mut own = mem::replace(known, Known::nothing(alloc));
     let mut tx = conn.transaction();
-    let (is_new, reply) = serve_in(&mut tx, alloc, tables, request)?;
+    let (is_new, reply) = serve_in(&mut tx, alloc, tables, &mut own, request)?;
     if !is_new {
+        *known = own;
         return Ok(reply);
     }
     tx.commit()?;
+    *known = own;
     Ok(reply)
 }

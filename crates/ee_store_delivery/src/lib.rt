@@ -2,9 +2,11 @@
 #![tactic(auto)]
 
 mod delivery;
+mod known;
 mod named_by_act;
 mod to_rows;
 mod view;
 mod writing;
 
 pub use delivery::deliver_on;
+pub use known::Known;

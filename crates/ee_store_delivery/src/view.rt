@@ -1,6 +1,6 @@
-//! What an act sees of the books, read by its keys in a transaction.
+//! What an act sees of the books, as it is known, or else read by its keys in a transaction.
 
-ghost use Rattle.std.specs.Prelude.{◌≡◌, IfOk, IfSome, IsSome, Some, None, length, ⊤};
+ghost use Rattle.std.specs.Prelude.{◌≡◌, ◌≤◌, IfOk, IfSome, IsSome, Some, None, length, ⊤};
 ghost use Rattle.std.specs.Result.{IsOk};
 ghost use Rattle.std.specs.Option.{option_map};
 ghost use Rattle.std.specs.FinMap as finite;
@@ -18,11 +18,14 @@ ghost use Rattle.ee_store_lookups.specs.Causes.{FailsByCause};
 ghost use Rattle.ee_store_lookups.specs.Found.{terms_found, bonds_found};
 ghost use Rattle.ee_store_lookups.specs.Seen.{FindsIn, OnlyReads};
 ghost use Rattle.ee_store_delivery.specs.Delivered.{AreEffects};
+ghost use Rattle.ee_store_delivery.specs.Written.{all_added_rows};
+ghost use Rattle.ee_store_delivery.specs.Known.{IsDesk, AreTermsOf, AreKnown, LearnsIn};
 
+use crate::known::{Desk, Known, known_terms, learn_terms};
 use crate::named_by_act::{periods_of, serials_of};
 use ee_desk_acts::{Act, Effects, Held, Terms, UnitTables};
 use ee_desk_decide::{DayCounts, View, ViewParts, decide, length_refusal};
-use ee_store_lookups::{counted_in, held_in, terms_in, tickets_in};
+use ee_store_lookups::{counted_in, find_terms, held_in, no_terms, note_terms, tickets_in};
 use ee_store_tables as tables;
 use ee_store_tables::{Failure, find_desk};
 use ee_units::{Day, IssueMonth, Serial};
@@ -84,6 +87,54 @@ fn days_in<S: Alter>(tx: &mut Transaction<'_, S>) -> Result<Days, Failure>
     days_shown(found)
 }
 
+/// The terms of a period, as they are known, or as they are read now and known from then on.
+fn terms_of<S: Alter>(
+    tx: &mut Transaction<'_, S>,
+    alloc: Global,
+    tables: &mut UnitTables,
+    known: &mut BTreeMap<IssueMonth, Terms>,
+    period: IssueMonth,
+) -> Result<Option<Terms>, Failure>
+    ensures same_reference { tx.new.conn.ghost_name ≡ tx.old.conn.ghost_name }
+    ensures only_reads { OnlyReads (state S.Store tx.old.conn.now) (state S.Store tx.new.conn.now) result }
+    ensures found { FindsIn (state S.Store tx.old.conn.now) (state S.Store tx.new.conn.now) result
+        (λ content terms. AreTermsOf (terms_found known.old.entries) content.books → terms ≡ finite.get content.books.rates period) }
+    ensures learns { LearnsIn (state S.Store tx.old.conn.now) (state S.Store tx.new.conn.now) result
+        (AreTermsOf (terms_found known.old.entries)) (AreTermsOf (terms_found known.new.entries)) }
+    ensures cause { FailsByCause (state S.Store tx.old.conn.now) (state S.Store tx.new.conn.now) result (λ _. ⊤) }
+{
+    if let Some(terms) = known_terms(known, period)? {
+        return Ok(Some(terms));
+    }
+    let terms = find_terms(tx, alloc, tables, period)?;
+    learn_terms(known, period, &terms)?;
+    Ok(terms)
+}
+
+/// The terms of periods. Those that are read are known from then on.
+fn terms_for<S: Alter>(
+    tx: &mut Transaction<'_, S>,
+    alloc: Global,
+    tables: &mut UnitTables,
+    known: &mut BTreeMap<IssueMonth, Terms>,
+    periods: &[IssueMonth],
+) -> Result<BTreeMap<IssueMonth, Terms>, Failure>
+    ensures same_reference { tx.new.conn.ghost_name ≡ tx.old.conn.ghost_name }
+    ensures only_reads { OnlyReads (state S.Store tx.old.conn.now) (state S.Store tx.new.conn.now) result }
+    ensures found { FindsIn (state S.Store tx.old.conn.now) (state S.Store tx.new.conn.now) result (λ content found.
+        AreTermsOf (terms_found known.old.entries) content.books → terms_found found.entries ≡ picked (finite.get content.books.rates) periods.now) }
+    ensures learns { LearnsIn (state S.Store tx.old.conn.now) (state S.Store tx.new.conn.now) result
+        (AreTermsOf (terms_found known.old.entries)) (AreTermsOf (terms_found known.new.entries)) }
+    ensures cause { FailsByCause (state S.Store tx.old.conn.now) (state S.Store tx.new.conn.now) result (λ _. ⊤) }
+{
+    let mut found = no_terms(alloc);
+    for period in periods {
+        let terms = terms_of(tx, alloc, tables, known, *period)?;
+        note_terms(&mut found, *period, terms)?;
+    }
+    Ok(found)
+}
+
 /// The terms and the bonds that an act names.
 #[derive(Drop)]
 struct Keys {
@@ -91,18 +142,22 @@ struct Keys {
     bonds: BTreeMap<Serial, Held>,
 }
 
-/// The terms and the bonds that an act names.
+/// The terms and the bonds that an act names. Terms that are read are known from then on.
 fn keys_in<S: Alter>(
     tx: &mut Transaction<'_, S>,
     alloc: Global,
     tables: &mut UnitTables,
+    known: &mut BTreeMap<IssueMonth, Terms>,
     act: &Act,
 ) -> Result<Keys, Failure>
     ensures same_reference { tx.new.conn.ghost_name ≡ tx.old.conn.ghost_name }
     ensures only_reads { OnlyReads (state S.Store tx.old.conn.now) (state S.Store tx.new.conn.now) result }
     ensures found { FindsIn (state S.Store tx.old.conn.now) (state S.Store tx.new.conn.now) result (λ content keys.
-        (terms_found keys.terms.entries ≡ picked (finite.get content.books.rates) (is.periods_of content.books act.now))
+        AreTermsOf (terms_found known.old.entries) content.books
+        → (terms_found keys.terms.entries ≡ picked (finite.get content.books.rates) (is.periods_of content.books act.now))
         × (bonds_found keys.bonds.entries ≡ picked (held_of content.books) (is.serials_of act.now))) }
+    ensures learns { LearnsIn (state S.Store tx.old.conn.now) (state S.Store tx.new.conn.now) result
+        (AreTermsOf (terms_found known.old.entries)) (AreTermsOf (terms_found known.new.entries)) }
     ensures cause { FailsByCause (state S.Store tx.old.conn.now) (state S.Store tx.new.conn.now) result (λ _. ⊤) }
 {
     let serials = serials_of(alloc, act)?;
@@ -110,7 +165,7 @@ fn keys_in<S: Alter>(
     let bonds = held_in(tx, alloc, named)?;
     let periods = periods_of(alloc, &bonds, act)?;
     let asked = periods.as_slice();
-    let terms = terms_in(tx, alloc, tables, asked)?;
+    let terms = terms_for(tx, alloc, tables, known, asked)?;
     Ok(Keys { terms, bonds })
 }
 
@@ -143,41 +198,78 @@ fn counts_in<S: Alter>(
     })
 }
 
-fn view_from(keys: Keys, days: Days, counts: Counts) -> Result<View, Failure>
+/// The days, and the counts of tickets for an act.
+fn desk_in<S: Alter>(tx: &mut Transaction<'_, S>, alloc: Global, act: &Act) -> Result<Desk, Failure>
+    ensures same_reference { tx.new.conn.ghost_name ≡ tx.old.conn.ghost_name }
+    ensures only_reads { OnlyReads (state S.Store tx.old.conn.now) (state S.Store tx.new.conn.now) result }
+    ensures found { FindsIn (state S.Store tx.old.conn.now) (state S.Store tx.new.conn.now) result
+        (λ content desk. IsDesk desk content.books (is.needed_counts content.books act.now)) }
+    ensures cause { FailsByCause (state S.Store tx.old.conn.now) (state S.Store tx.new.conn.now) result (λ _. ⊤) }
+{
+    let days = days_in(tx)?;
+    let counts = counts_in(tx, alloc, act, days.day)?;
+    Ok(Desk {
+        day: days.day,
+        last_day: days.last_day,
+        tickets: counts.tickets,
+        counts: counts.day,
+    })
+}
+
+/// The same: as it is known, or else as it is read.
+fn desk_for<S: Alter>(
+    tx: &mut Transaction<'_, S>,
+    alloc: Global,
+    known: &Known,
+    act: &Act,
+) -> Result<Desk, Failure>
+    ensures same_reference { tx.new.conn.ghost_name ≡ tx.old.conn.ghost_name }
+    ensures only_reads { OnlyReads (state S.Store tx.old.conn.now) (state S.Store tx.new.conn.now) result }
+    ensures found { FindsIn (state S.Store tx.old.conn.now) (state S.Store tx.new.conn.now) result
+        (λ content desk. AreKnown known.now content.books → IsDesk desk content.books (is.needed_counts content.books act.now)) }
+    ensures cause { FailsByCause (state S.Store tx.old.conn.now) (state S.Store tx.new.conn.now) result (λ _. ⊤) }
+{
+    match known.desk_for(act) {
+        Some(desk) => Ok(desk),
+        None => desk_in(tx, alloc, act),
+    }
+}
+
+fn view_from(keys: Keys, desk: &Desk) -> Result<View, Failure>
     ensures fits { (books : PlainBooks) → IsSound books → (asked : Act)
         → record {
           rates = terms_found keys.terms.entries;
           bonds = bonds_found keys.bonds.entries;
-          day = days.day;
-          last_day = days.last_day;
-          tickets = counts.tickets;
-          day_tickets = counts.day.tickets;
-          day_bonds = counts.day.bonds;
-          day_total = counts.day.total.0;
+          day = desk.now.day;
+          last_day = desk.now.last_day;
+          tickets = desk.now.tickets;
+          day_tickets = desk.now.counts.tickets;
+          day_bonds = desk.now.counts.bonds;
+          day_total = desk.now.counts.total.0;
         } ≡ is.needed_of books asked
         → IsOk result }
     ensures view { IfOk result
         (λ view. view ≡ record {
           rates = terms_found keys.terms.entries;
           bonds = bonds_found keys.bonds.entries;
-          day = days.day;
-          last_day = days.last_day;
-          tickets = counts.tickets;
-          day_tickets = counts.day.tickets;
-          day_bonds = counts.day.bonds;
-          day_total = counts.day.total.0;
+          day = desk.now.day;
+          last_day = desk.now.last_day;
+          tickets = desk.now.tickets;
+          day_tickets = desk.now.counts.tickets;
+          day_bonds = desk.now.counts.bonds;
+          day_total = desk.now.counts.total.0;
         }) }
 {
     let Keys { terms, bonds } = keys;
     let parts = ViewParts {
         rates: terms,
         bonds,
-        day: days.day,
-        last_day: days.last_day,
-        tickets: counts.tickets,
-        day_tickets: counts.day.tickets,
-        day_bonds: counts.day.bonds,
-        day_total: counts.day.total,
+        day: desk.day,
+        last_day: desk.last_day,
+        tickets: desk.tickets,
+        day_tickets: desk.counts.tickets,
+        day_bonds: desk.counts.bonds,
+        day_total: desk.counts.total,
     };
     match View::from_parts(parts) {
         Some(view) => Ok(view),
@@ -190,18 +282,21 @@ fn view_within<S: Alter>(
     tx: &mut Transaction<'_, S>,
     alloc: Global,
     tables: &mut UnitTables,
+    known: &mut Known,
     act: &Act,
 ) -> Result<View, Failure>
     ensures same_reference { tx.new.conn.ghost_name ≡ tx.old.conn.ghost_name }
     ensures only_reads { OnlyReads (state S.Store tx.old.conn.now) (state S.Store tx.new.conn.now) result }
     ensures found { FindsIn (state S.Store tx.old.conn.now) (state S.Store tx.new.conn.now) result
-        (λ content view. view ≡ is.needed_within content.books act.now) }
-    ensures cause { FailsByCause (state S.Store tx.old.conn.now) (state S.Store tx.new.conn.now) result (λ _. length_refusal act.now ≡ None) }
+        (λ content view. AreKnown known.old content.books → view ≡ is.needed_within content.books act.now) }
+    ensures learns { LearnsIn (state S.Store tx.old.conn.now) (state S.Store tx.new.conn.now) result (AreKnown known.old) (AreKnown known.new) }
+    ensures cause { FailsByCause (state S.Store tx.old.conn.now) (state S.Store tx.new.conn.now) result
+        (λ content. AreKnown known.old content.books × (length_refusal act.now ≡ None)) }
 {
-    let days = days_in(tx)?;
-    let keys = keys_in(tx, alloc, tables, act)?;
-    let counts = counts_in(tx, alloc, act, days.day)?;
-    view_from(keys, days, counts)
+    let desk = desk_for(tx, alloc, known, act)?;
+    let keys = keys_in(tx, alloc, tables, &mut known.terms, act)?;
+    known.note_desk(act, &desk);
+    view_from(keys, &desk)
 }
 
 /// What an act is decided by. Where the length of its list refuses it nothing is read.
@@ -209,16 +304,19 @@ fn view_in<S: Alter>(
     tx: &mut Transaction<'_, S>,
     alloc: Global,
     tables: &mut UnitTables,
+    known: &mut Known,
     act: &Act,
 ) -> Result<View, Failure>
     ensures same_reference { tx.new.conn.ghost_name ≡ tx.old.conn.ghost_name }
     ensures only_reads { OnlyReads (state S.Store tx.old.conn.now) (state S.Store tx.new.conn.now) result }
-    ensures found { FindsIn (state S.Store tx.old.conn.now) (state S.Store tx.new.conn.now) result (λ content view. view ≡ is.needed_of content.books act.now) }
-    ensures cause { FailsByCause (state S.Store tx.old.conn.now) (state S.Store tx.new.conn.now) result (λ _. ⊤) }
+    ensures found { FindsIn (state S.Store tx.old.conn.now) (state S.Store tx.new.conn.now) result
+        (λ content view. AreKnown known.old content.books → view ≡ is.needed_of content.books act.now) }
+    ensures learns { LearnsIn (state S.Store tx.old.conn.now) (state S.Store tx.new.conn.now) result (AreKnown known.old) (AreKnown known.new) }
+    ensures cause { FailsByCause (state S.Store tx.old.conn.now) (state S.Store tx.new.conn.now) result (λ content. AreKnown known.old content.books) }
 {
     match length_refusal(act) {
         Some(_) => Ok(View::of_nothing(alloc)),
-        None => view_within(tx, alloc, tables, act),
+        None => view_within(tx, alloc, tables, known, act),
     }
 }
 
@@ -237,14 +335,18 @@ pub fn effects_in<S: Alter>(
     tx: &mut Transaction<'_, S>,
     alloc: Global,
     tables: &mut UnitTables,
+    known: &mut Known,
     act: &Act,
 ) -> Result<(Effects, Option<u64>), Failure>
     ensures same_reference { tx.new.conn.ghost_name ≡ tx.old.conn.ghost_name }
     ensures only_reads { OnlyReads (state S.Store tx.old.conn.now) (state S.Store tx.new.conn.now) result }
-    ensures found { FindsIn (state S.Store tx.old.conn.now) (state S.Store tx.new.conn.now) result (AreEffects act.now) }
-    ensures cause { FailsByCause (state S.Store tx.old.conn.now) (state S.Store tx.new.conn.now) result (λ _. ⊤) }
+    ensures found { FindsIn (state S.Store tx.old.conn.now) (state S.Store tx.new.conn.now) result
+        (λ content found. AreKnown known.old content.books → AreEffects act.now content found) }
+    ensures learns { LearnsIn (state S.Store tx.old.conn.now) (state S.Store tx.new.conn.now) result (AreKnown known.old) (AreKnown known.new) }
+    ensures few { IfOk result (λ found. all_added_rows found.0.changes ≤ 500) }
+    ensures cause { FailsByCause (state S.Store tx.old.conn.now) (state S.Store tx.new.conn.now) result (λ content. AreKnown known.old content.books) }
 {
-    let view = view_in(tx, alloc, tables, act)?;
+    let view = view_in(tx, alloc, tables, known, act)?;
     let effects = decide(alloc, &view, act)?;
     let closed = view.last_day();
     let last_day = count_of(closed);

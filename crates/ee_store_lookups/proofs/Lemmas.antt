@@ -1,5 +1,5 @@
 -- Lemmas that the proofs of crates above use: transactions, what is seen in them, and why calls there fail.
-use Rattle.std.proofs.Common.{◌≡◌, ◌≤◌, Option, Result, IfErr, IsErrAnd, List, IsTrue}
+use Rattle.std.proofs.Common.{◌≡◌, ◌≤◌, ◌<◌, ◌+◌, ℕ, Option, Result, IfErr, IsErrAnd, List, IsTrue, length, take, get_or}
 use Rattle.std.specs.Prelude.{Result, IfErr, OnOk}
 use Rattle.std.specs.Result.{IsOk}
 use Rattle.sqlite.specs.State.{State, HasCleanDisk, IsUnchanged, Survives}
@@ -23,6 +23,11 @@ use Rattle.ee_store_lookups.proofs.Transactions
 pub use Rattle.ee_store_lookups.proofs.Transactions.{inside_content, sees_content, still_content, committed_content}
 pub use Rattle.ee_store_lookups.proofs.Causes.{excused}
 pub use Rattle.ee_store_lookups.proofs.InTurn.{Stays, nothing_done, done_then}
+use Rattle.std.specs.Cmp.{IsTotalOrder}
+use Rattle.std.specs.declared.cmp.Ordering.{Ordering}
+use Rattle.std.proofs.lemmas.Map.Lookups.{CmpEqualImpliesEq}
+use Rattle.ee_desk_acts.specs.Views.{picked}
+use Rattle.ee_store_lookups.specs.Found.{with_found}
 
 -- ---- what a call in a transaction leaves
 
@@ -45,6 +50,10 @@ stands_when_open = Transactions.stands_when_open
 -- what the last commit left stands for the content
 pub stands_committed : (s : State) (S : Content) → HasContent s S → IsTrue s.is_open → IsDatabase s.committed → (db : Trees) → db ≡ s.committed.trees → StandsFor db S
 stands_committed = Transactions.stands_committed
+
+-- a store that is open has one content at most
+pub one_content : (s : State) (one other : Content) → IsTrue s.is_open → HasContent s one → HasContent s other → one ≡ other
+one_content = Transactions.one_content
 
 -- ---- why a call fails
 
@@ -89,3 +98,8 @@ commit_excused = Causes.commit_excused
 -- what is found alike in each place
 pub same_found : {A B : Type 0} (f g : A → Option B) (xs : List A) → AllByRecursion (λ x. f x ≡ g x) xs → filter_map f xs ≡ filter_map g xs
 same_found = ByKeys.same_found
+
+-- one more key of those picked
+pub found_next : {K V : Type 0} {R : K → K → Ordering} (o : IsTotalOrder R) (exact : CmpEqualImpliesEq R) (look : K → Option V) (ks : List K) (i : ℕ) (d : K) → i < length ks
+    → picked {R = R} look (take (i + 1) ks) ≡ with_found (picked look (take i ks)) (get_or ks i d) (look (get_or ks i d))
+found_next = ByKeys.found_next

@@ -1,5 +1,5 @@
 -- A transaction that is begun, seen and ended.
-use Rattle.std.proofs.Common.{◌≡◌, ◌⊎◌, inl, inr, false, IsTrue, sym, subst}
+use Rattle.std.proofs.Common.{◌≡◌, ◌⊎◌, inl, inr, false, IsTrue, refl, sym, subst}
 use Rattle.sqlite.specs.Effect.{IsDatabase}
 use Rattle.sqlite.specs.Tree.{Trees}
 use Rattle.sqlite.specs.State.{State, HasCleanDisk, Survives, KeepsCommit, Shows}
@@ -7,7 +7,10 @@ use Rattle.ee_desk_acts.specs.Repeats.{Content}
 use Rattle.ee_store_tables.proofs.Lemmas.Transactions.{begun, begun_inside, begun_sees, still_has, committed_has}
 use Rattle.ee_store_tables.specs.Rows.{IsInside, Stores}
 use Rattle.ee_store_tables.proofs.Lemmas.Meeting.{stored_has, stored_sees}
+use Rattle.ee_store_making.specs.declared.forms.Form.TheVariants.{Current}
+use Rattle.ee_store_opening.proofs.Lemmas.{one_rows}
 use Rattle.ee_store_contents.specs.Standing.{rows_of}
+use Rattle.ee_store_contents.proofs.Lemmas as contents
 use Rattle.ee_store_lookups.specs.Seen.{StandsFor, HasContent, SeesContent}
 
 module _ (old start : State) (is : start ≡ begun old) (settled : IsTrue old.is_open → old.now ≡ old.committed) where
@@ -46,3 +49,9 @@ stands_when_open s S sees is_open sound = record { right = sees.right; stores = 
 -- what the last commit left stands for the content
 pub stands_committed : (s : State) (S : Content) → HasContent s S → IsTrue s.is_open → IsDatabase s.committed → (db : Trees) → db ≡ s.committed.trees → StandsFor db S
 stands_committed s S has is_open sound db is = record { right = has.right; stores = subst (λ d. Stores d (rows_of S)) (sym is) (stored_has s (rows_of S) is_open sound has.rows) }
+
+-- a store that is open has one content at most
+pub one_content : (s : State) (one other : Content) → IsTrue s.is_open → HasContent s one → HasContent s other → one ≡ other
+one_content s one other is_open h k =
+    let same = one_rows Current s.committed.trees (rows_of one) (rows_of other) (h.rows is_open).1 (k.rows is_open).1 in
+    contents.one_content 2 (rows_of one) one other (record { are = refl; right = h.right }) (record { are = same; right = k.right })

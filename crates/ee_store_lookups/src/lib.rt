@@ -6,5 +6,5 @@ mod terms;
 mod ticket_counts;
 
 pub use held_bonds::{held_from, held_in};
-pub use terms::{find_terms, terms_in};
+pub use terms::{find_terms, no_terms, note_terms, terms_in};
 pub use ticket_counts::{counted_in, tickets_in};

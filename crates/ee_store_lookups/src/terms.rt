@@ -121,7 +121,7 @@ fn put(
 }
 
 /// Notes the terms of a period, where it has some.
-fn note_terms(
+pub fn note_terms(
     found: &mut BTreeMap<IssueMonth, Terms>,
     period: IssueMonth,
     terms: Option<Terms>,
@@ -134,7 +134,8 @@ fn note_terms(
     }
 }
 
-fn no_terms(alloc: Global) -> BTreeMap<IssueMonth, Terms>
+/// The terms of no period. It takes no memory.
+pub fn no_terms(alloc: Global) -> BTreeMap<IssueMonth, Terms>
     ensures { terms_found result.entries ≡ finite.empty }
 {
     BTreeMap::new(alloc)

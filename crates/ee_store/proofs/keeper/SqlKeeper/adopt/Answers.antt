@@ -17,3 +17,8 @@ returns-in-Err-clause-cause g c clean = c.in-Err.ensures.cause clean
 
 pub returns-in-Ok-clause-room : goal.returns-in-Ok-clause-room
 returns-in-Ok-clause-room g c clean = c.in-Ok.ensures.room clean
+
+pub returns-in-Ok-clause-informed : goal.returns-in-Ok-clause-informed
+returns-in-Ok-clause-informed g c clean =
+    let some = (c.in-Ok.ensures.stands clean).1 in
+    (some.0, some.1, c.nothing.ensures some.0.books)

@@ -1,0 +1,26 @@
+use Rattle.std.proofs.Common.{◌≡◌, take}
+use Rattle.std.specs.FinMap as finite
+use Rattle.sqlite.specs.Held.{state}
+use Rattle.sqlite.specs.State.{HasCleanDisk}
+use Rattle.ee_desk_acts.specs.Views.{picked}
+use Rattle.ee_desk_acts.specs.Repeats.{Content}
+use Rattle.ee_store_tables.specs.Rows.{Rows, IsInside, Sees}
+use Rattle.ee_store_lookups.specs.Found.{terms_found}
+use Rattle.ee_store_lookups.specs.Seen.{SeesContent, StaysSeen}
+use Rattle.ee_store_lookups.proofs.Lemmas.{Stays}
+use Rattle.ee_store_delivery.specs.Known.{AreTermsOf}
+use Rattle.ee_store_delivery.proofs.view.terms_for.Given as goal
+
+abbrev pub invariant-loop-period : goal.invariant-loop-period
+invariant-loop-period g l =
+    let old = state g.S.Store l.fn.tx.conn.now in
+    let now = state g.S.Store l.tx.conn.now in
+    record {
+      same_reference : l.tx.conn.ghost_name ≡ l.fn.tx.conn.ghost_name;
+      stays : Stays old now;
+      rows : HasCleanDisk now → IsInside old → (rows : Rows) → Sees old rows → StaysSeen old now rows;
+      learns : HasCleanDisk now → IsInside old → (content : Content) → SeesContent old content
+          → AreTermsOf (terms_found l.fn.known.entries) content.books → AreTermsOf (terms_found l.known.entries) content.books;
+      found : HasCleanDisk now → IsInside old → (content : Content) → SeesContent old content → AreTermsOf (terms_found l.fn.known.entries) content.books
+          → terms_found l.found.entries ≡ picked (finite.get content.books.rates) (take l.period-index l.periods);
+    }

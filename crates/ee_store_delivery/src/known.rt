@@ -1,0 +1,157 @@
+//! What is known of a store's books, so that a redemption doesn't read it again.
+
+ghost use Rattle.std.specs.Prelude.{◌≡◌, ℕ, ◌+◌, List, IfOk, IfSome, OnOk};
+ghost use Rattle.std.specs.FinMap as finite;
+ghost use Rattle.std.specs.Option.{option_copied};
+ghost use Rattle.ee_desk_acts.specs.Acts.{books_after, reply_to};
+ghost use Rattle.ee_desk_acts.specs.PlainBooks.{PlainBooks};
+ghost use Rattle.ee_desk_acts.specs.declared.acts.Act.TheVariants as act;
+ghost use Rattle.ee_units.specs.Spelling.{SerialNumber};
+ghost use Rattle.ee_desk_acts.specs.Views.{needed_counts};
+ghost use Rattle.ee_store_lookups.specs.Found.{terms_found, with_found};
+ghost use Rattle.ee_store_delivery.specs.Known.{IsDesk, IsDeskAfter, AreKnown, redeemed_counts};
+
+use ee_desk_acts::{Act, Reply, Terms};
+use ee_desk_decide::DayCounts;
+use ee_store_lookups::{no_terms, note_terms};
+use ee_units::{Day, IssueMonth};
+use std::alloc::{AllocError, Global};
+use std::collections::BTreeMap;
+
+/// The days, how many tickets there are, and those of the open day, for the acts that count them.
+#[derive(Clone, Copy)]
+pub struct Desk {
+    pub(crate) day: Option<Day>,
+    pub(crate) last_day: Option<Day>,
+    pub(crate) tickets: u64,
+    pub(crate) counts: DayCounts,
+}
+
+/// What is known of the books of a store without reading it: the desk as a redemption counts it, and the
+/// terms of periods.
+///
+/// A redemption that was served leaves it known for the next one. Any other act of a new number, and each
+/// failure, leaves nothing known, and then the next redemption reads it again.
+#[derive(Drop)]
+pub struct Known {
+    pub(crate) desk: Option<Desk>,
+    pub(crate) terms: BTreeMap<IssueMonth, Terms>,
+}
+
+fn found(known: &BTreeMap<IssueMonth, Terms>, period: IssueMonth) -> Option<&Terms>
+    ensures { option_copied result ≡ finite.get (terms_found known.now.entries) period }
+{
+    known.get(&period)
+}
+
+/// The terms that are known of a period.
+pub fn known_terms(
+    known: &BTreeMap<IssueMonth, Terms>,
+    period: IssueMonth,
+) -> Result<Option<Terms>, AllocError>
+    ensures { IfOk result (λ terms. terms ≡ finite.get (terms_found known.now.entries) period) }
+{
+    match found(known, period) {
+        Some(terms) => Ok(Some(terms.share()?)),
+        None => Ok(None),
+    }
+}
+
+fn shared(terms: &Option<Terms>) -> Result<Option<Terms>, AllocError>
+    ensures { IfOk result (λ own. own ≡ terms.now) }
+{
+    match terms {
+        Some(terms) => Ok(Some(terms.share()?)),
+        None => Ok(None),
+    }
+}
+
+/// Keeps the terms of a period, where it has some.
+pub fn learn_terms(
+    known: &mut BTreeMap<IssueMonth, Terms>,
+    period: IssueMonth,
+    terms: &Option<Terms>,
+) -> Result<(), AllocError>
+    ensures { OnOk result (terms_found known.new.entries ≡ with_found (terms_found known.old.entries) period terms.now) }
+{
+    note_terms(known, period, shared(terms)?)
+}
+
+impl Desk {
+    /// The desk with one ticket more of the open day; None above 2^64 - 1.
+    fn with_ticket(self) -> Option<Desk>
+        ensures { IfSome result (λ desk. (desk.day ≡ self.day) × (desk.last_day ≡ self.last_day) × (desk.tickets ≡ self.tickets + 1)
+            × (desk.counts.tickets ≡ self.counts.tickets + 1) × (desk.counts.bonds ≡ self.counts.bonds) × (desk.counts.total.0 ≡ self.counts.total.0)) }
+    {
+        let tickets = self.tickets.checked_add(1)?;
+        let day_tickets = self.counts.tickets.checked_add(1)?;
+        Some(Desk {
+            day: self.day,
+            last_day: self.last_day,
+            tickets,
+            counts: DayCounts {
+                tickets: day_tickets,
+                bonds: self.counts.bonds,
+                total: self.counts.total,
+            },
+        })
+    }
+}
+
+/// A desk that is known, after a redemption with this reply.
+fn after_redemption(desk: Option<Desk>, reply: &Reply) -> Option<Desk>
+    ensures { (books : PlainBooks) (day payee : ℕ) (serials : List SerialNumber) → IfSome desk (λ desk. IsDesk desk books (redeemed_counts books))
+        → reply.now ≡ reply_to books (act.Redeem day payee serials) → IfSome result (IsDeskAfter books (act.Redeem day payee serials)) }
+{
+    match reply {
+        Reply::Refused(_) => desk,
+        Reply::Ticket(_) => match desk {
+            Some(desk) => desk.with_ticket(),
+            None => None,
+        },
+        Reply::Added { .. } | Reply::Opened(_) | Reply::Batch(_) => None,
+    }
+}
+
+impl Known {
+    /// Nothing. It takes no memory.
+    pub fn nothing(alloc: Global) -> Known
+        ensures { (books : PlainBooks) → AreKnown result books }
+    {
+        Known {
+            desk: None,
+            terms: no_terms(alloc),
+        }
+    }
+
+    /// The desk, where it is known as this act counts it.
+    pub fn desk_for(&self, act: &Act) -> Option<Desk>
+        ensures { (books : PlainBooks) → AreKnown self.now books → IfSome result (λ desk. IsDesk desk books (needed_counts books act.now)) }
+    {
+        match act {
+            Act::Redeem { .. } => self.desk,
+            Act::AddRates(_) | Act::AddBonds(_) | Act::OpenDay(_) | Act::CloseDay(_) => None,
+        }
+    }
+
+    /// Keeps the desk, if it is as a redemption counts it.
+    pub fn note_desk(&mut self, act: &Act, desk: &Desk)
+        ensures { (books : PlainBooks) → AreKnown self.old books → IsDesk desk.now books (needed_counts books act.now) → AreKnown self.new books }
+    {
+        if matches!(act, Act::Redeem { .. }) {
+            self.desk = Some(*desk);
+        }
+    }
+
+    /// Follows an act that had this reply: a redemption, or else nothing stays known.
+    pub fn follow(&mut self, alloc: Global, act: &Act, reply: &Reply)
+        ensures { (books : PlainBooks) → AreKnown self.old books → reply.now ≡ reply_to books act.now → AreKnown self.new (books_after books act.now) }
+    {
+        match act {
+            Act::Redeem { .. } => self.desk = after_redemption(self.desk, reply),
+            Act::AddRates(_) | Act::AddBonds(_) | Act::OpenDay(_) | Act::CloseDay(_) => {
+                *self = Known::nothing(alloc);
+            }
+        }
+    }
+}
