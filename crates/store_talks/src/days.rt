@@ -210,6 +210,37 @@ pub const TICKETS: &str =
 200 {"bonds":0,"day":"2012-02-07","tickets":0,"total":"0.00"}
 "#;
 
+/// Redemptions with other acts between: rates and bonds of another period, a refused one, a day that closes and the next
+/// one that opens. Tickets are numbered on over the days, and each batch has its own day's.
+pub const TURNS: &str =
+    r#"> POST /redeem {"number":4,"day":"2012-02-06","payee":7,"serials":["L1EE"]}
+200 {"day":"2012-02-06","lines":[{"paid":"25.88","serial":"L1EE"}],"payee":7,"ticket":1,"total":"25.88"}
++ 5 from,rate|2009-05,0.00|
+{"new":1,"same":0}
+> POST /bonds {"number":6,"bonds":[{"serial":"N4EE","denom":100,"issued":"2009-06","owner":7},{"serial":"P5EE","denom":50,"issued":"2010-11","owner":7}]}
+200 {"new":2,"same":0}
+> POST /redeem {"number":7,"day":"2012-02-06","payee":7,"serials":["K2EE","N4EE"]}
+200 {"day":"2012-02-06","lines":[{"paid":"38.34","serial":"K2EE"},{"paid":"50.00","serial":"N4EE"}],"payee":7,"ticket":2,"total":"88.34"}
+> POST /redeem {"number":8,"day":"2012-02-06","payee":7,"serials":["L1EE"]}
+409 {"code":52,"refused":"AlreadyPaid","serial":"L1EE","ticket":1}
+> POST /redeem {"number":4,"day":"2012-02-06","payee":7,"serials":["L1EE"]}
+200 {"day":"2012-02-06","lines":[{"paid":"25.88","serial":"L1EE"}],"payee":7,"ticket":1,"total":"25.88"}
+> POST /redeem {"number":9,"day":"2012-02-06","payee":7,"serials":["M3EE"]}
+200 {"day":"2012-02-06","lines":[{"paid":"5132.00","serial":"M3EE"}],"payee":7,"ticket":3,"total":"5132.00"}
+> POST /day/close {"number":10,"day":"2012-02-06"}
+200 {"bonds":4,"day":"2012-02-06","tickets":3,"total":"5246.22"}
+> POST /redeem {"number":11,"day":"2012-02-06","payee":7,"serials":["P5EE"]}
+409 {"code":42,"refused":"NoOpenDay"}
+> POST /day/open {"number":12,"day":"2012-02-07"}
+200 {"opened":"2012-02-07"}
+> POST /redeem {"number":13,"day":"2012-02-07","payee":7,"serials":["M3EE"]}
+409 {"code":52,"refused":"AlreadyPaid","serial":"M3EE","ticket":3}
+> POST /redeem {"number":14,"day":"2012-02-07","payee":7,"serials":["P5EE"]}
+200 {"day":"2012-02-07","lines":[{"paid":"25.88","serial":"P5EE"}],"payee":7,"ticket":4,"total":"25.88"}
+> POST /day/close {"number":15,"day":"2012-02-07"}
+200 {"bonds":1,"day":"2012-02-07","tickets":1,"total":"25.88"}
+"#;
+
 /// The last desk, number, customer, serial number, rate, extension and day; and the first ones.
 pub const LAST: &str =
     r#"> POST /rates {"number":1,"rates":[{"from":"2005-05","rate":"20.00","extension":"20.00"},{"from":"2099-11","rate":"0.00"}]}

@@ -16,7 +16,7 @@ use std::fmt::Write;
 use std::process::Abort;
 use std::test::Fail;
 use store_talks::days::{
-    BEGUN, DAY, DESKS, EXTENDED, IMPORTED, LAST, LOST, MERGES, ORDERS, SHOWN, TICKETS,
+    BEGUN, DAY, DESKS, EXTENDED, IMPORTED, LAST, LOST, MERGES, ORDERS, SHOWN, TICKETS, TURNS,
 };
 use store_talks::five::rows_told;
 use store_talks::imports::{FILES, LONG_FILES};
@@ -312,7 +312,7 @@ fn begun_over_both(rt: &impl Abort, alloc: Global, talks: &[&'static str]) -> Re
 
 #[test]
 fn days_that_begin_alike(rt: HostRuntime) -> Result<(), Fail> {
-    begun_over_both(&rt, rt.alloc(), &[LOST, TICKETS])?;
+    begun_over_both(&rt, rt.alloc(), &[LOST, TICKETS, TURNS])?;
     begun_over_both(&rt, rt.alloc(), &ORDERS)?;
     begun_over_both(&rt, rt.alloc(), &MERGES)
 }
