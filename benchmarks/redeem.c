@@ -1,6 +1,7 @@
 /* What a delivery of the counter costs in C over SQLite's own library: the same tables, reads and writes, and one
-   synchronous commit for each redemption of one bond. It decides nothing: the sums and texts are made up.
-   Build: cc -O2 -o redeem redeem.c -lsqlite3.  Run: ./redeem FILE BONDS TICKETS TICKETS_A_DAY (the file must not be there). */
+   synchronous commit for each redemption. It decides nothing: the sums and texts are made up.
+   Build: cc -O2 -o redeem redeem.c -lsqlite3.  Run: ./redeem FILE BONDS TICKETS TICKETS_A_DAY [BONDS_A_TICKET]
+   (the file must not be there; 1 bond a ticket without the last, at most 100). */
 #include <sqlite3.h>
 #include <stdio.h>
 #include <stdlib.h>
@@ -59,14 +60,27 @@ static void make(long bonds) {
         " PRIMARY KEY (desk, number)) STRICT;"
         "INSERT INTO desk VALUES (1, 2, 16559, NULL); INSERT INTO rates VALUES (60, 350)");
     sqlite3_stmt *add = prepare("INSERT INTO bonds VALUES (1, ?1, 50, 60, ?2, NULL, NULL)");
-    for (long i = 1; i <= bonds; i++) WITH(add, i, i / 100 + 1);
+    for (long i = 1; i <= bonds; i++) WITH(add, i, (i - 1) / 100 + 1);
     sqlite3_finalize(add);
     run("COMMIT");
 }
 
+/* The texts of a redemption of some bonds, from a serial number on, and of its reply. */
+static void write_texts(char *act, char *reply, long ticket, long serial, long each) {
+    act += sprintf(act, "{\"act\":\"redeem\",\"day\":\"2015-05-04\",\"payee\":7,\"serials\":[");
+    reply += sprintf(reply, "{\"day\":\"2015-05-04\",\"lines\":[");
+    for (long i = 0; i < each; i++) {
+        act += sprintf(act, "%s\"A%ldEE\"", i ? "," : "", serial + i);
+        reply += sprintf(reply, "%s{\"paid\":\"29.74\",\"serial\":\"A%ldEE\"}", i ? "," : "", serial + i);
+    }
+    sprintf(act, "]}");
+    sprintf(reply, "],\"payee\":7,\"ticket\":%ld,\"total\":\"%ld.%02ld\"}", ticket, each * 2974 / 100, each * 2974 % 100);
+}
+
 int main(int count, char **words) {
-    if (count != 5) return 2;
-    long bonds = atol(words[2]), tickets = atol(words[3]), a_day = atol(words[4]);
+    if (count != 5 && count != 6) return 2;
+    long bonds = atol(words[2]), tickets = atol(words[3]), a_day = atol(words[4]), each = count == 6 ? atol(words[5]) : 1;
+    if (each < 1 || each > 100 || bonds < tickets * each) return 2;
     if (sqlite3_open(words[1], &db)) fail("open");
     make(bonds);
     sqlite3_stmt *begin = prepare("BEGIN"), *commit = prepare("COMMIT");
@@ -83,27 +97,28 @@ int main(int count, char **words) {
     sqlite3_stmt *add_answer = prepare("INSERT INTO answers (desk, number, act, reply) VALUES (?1, ?2, ?3, ?4)");
     double start = now();
     for (long i = 1; i <= tickets; i++) {
-        long serial = (i - 1) * (bonds / tickets) + 1, day = 16559 + (i - 1) / a_day;
-        char act[200], reply[200];
-        sprintf(act, "{\"act\":\"redeem\",\"day\":\"2015-05-04\",\"payee\":7,\"serials\":[\"A%ldEE\"]}", serial);
-        sprintf(reply, "{\"day\":\"2015-05-04\",\"lines\":[{\"cents\":\"29.74\",\"serial\":\"A%ldEE\"}],\"payee\":7,\"ticket\":%ld,\"total\":\"29.74\"}", serial, i);
+        long serial = (i - 1) * (bonds / each / tickets) * each + 1, day = 16559 + (i - 1) / a_day;
+        char act[4096], reply[8192];
+        write_texts(act, reply, i, serial, each);
         with(begin, 0, 0);
         WITH(find_answer, 0, 1000 + i);
         WITH(find_desk, 1);
-        WITH(find_bond, 1, serial);
+        for (long k = 0; k < each; k++) WITH(find_bond, 1, serial + k);
         WITH(find_rate, 60);
         WITH(find_extension, 60);
         with(last, 0, 0);
         WITH(first, day);
-        WITH(add_ticket, i, day, 7, 1, 2974);
-        WITH(add_paid, i, 1, 1, serial, 2974);
-        WITH(mark, 1, serial, i);
+        WITH(add_ticket, i, day, 7, each, 2974 * each);
+        for (long k = 0; k < each; k++) {
+            WITH(add_paid, i, k + 1, 1, serial + k, 2974);
+            WITH(mark, 1, serial + k, i);
+        }
         sqlite3_bind_text(add_answer, 3, act, -1, SQLITE_STATIC);
         sqlite3_bind_text(add_answer, 4, reply, -1, SQLITE_STATIC);
         WITH(add_answer, 0, 1000 + i);
         with(commit, 0, 0);
     }
     double took = now() - start;
-    printf("%ld bonds, %ld tickets, %ld a day: %.1f microseconds a redemption, %.0f a second\n", bonds, tickets, a_day, took / tickets * 1e6, tickets / took);
+    printf("%ld bonds, %ld tickets, %ld a day, %ld bonds each: %.1f microseconds a redemption, %.0f a second\n", bonds, tickets, a_day, each, took / tickets * 1e6, tickets / took);
     return 0;
 }

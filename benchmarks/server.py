@@ -31,17 +31,21 @@ def dollars(cents):
     return f"{cents // 100}.{cents % 100:02}"
 
 
+def rounded(cents):
+    return int(cents.quantize(decimal.Decimal(1), decimal.ROUND_HALF_UP))
+
+
 @cache
 def unit_values(rate, extension):
     """The cents of one unit at each age, 0 to 360: half-years are rounded to the cent and grow on, and at 20 years it has doubled."""
-    starts, values = [decimal.Decimal(1250)], []
-    whole = lambda cents: cents.quantize(decimal.Decimal(1), decimal.ROUND_HALF_UP)
-    growth = [1 + decimal.Decimal(rate if half < 40 else extension) / 20000 for half in range(60)]
+    start, values = 1250, []
     for half in range(60):
-        values += [int(whole(starts[half] * growth[half] ** (decimal.Decimal(months) / 6))) for months in range(6)]
-        grown = whole(starts[half] * growth[half])
-        starts.append(max(grown, decimal.Decimal(2500)) if half == 39 else grown)
-    return values + [int(starts[60])]
+        growth = 1 + decimal.Decimal(rate if half < 40 else extension) / 20000
+        *within, start = [rounded(start * growth ** (decimal.Decimal(months) / 6)) for months in range(7)]
+        values += within
+        if half == 39:
+            start = max(start, 2500)
+    return values + [start]
 
 
 def terms(issued):

@@ -85,6 +85,7 @@ fn measure(rt: &HostRuntime, bonds: u64) -> Result<()> {
         bonds,
         tickets: TICKETS,
         a_day: TICKETS,
+        each: 1,
     };
     let requests = redemptions(rt.alloc(), size, 0)?;
     timed(rt, &mut keeper, &requests, "new")?;

@@ -1,8 +1,8 @@
 //! Runs redemptions over many bonds, in memory and over a store, splits streams into messages, and times it.
 //!
-//! The first argument chooses: `desk [BONDS]`, `wire [ROUNDS]` or `store [FILE BONDS TICKETS TICKETS_A_DAY]`; without
-//! one, the three are run at a small size, one after the other. Standard output has what was done, standard
-//! error how long it took.
+//! The first argument chooses: `desk [BONDS]`, `wire [ROUNDS]` or `store [FILE BONDS TICKETS TICKETS_A_DAY
+//! [BONDS_A_TICKET]]`; without one, the three are run at a small size, one after the other. Standard output has
+//! what was done, standard error how long it took.
 #![tactic(auto)]
 
 mod desk;

@@ -1,4 +1,4 @@
-//! Requests about many bonds: imports of them, and redemptions of one bond each from all over the register.
+//! Requests about many bonds: imports of them, and redemptions of one or several bonds each from all over the register.
 
 use anyhow::{Context, Result};
 use ee_calculator::Bond;
@@ -10,12 +10,13 @@ use std::alloc::Global;
 /// The bonds of an import.
 const ROWS: u64 = 500;
 
-/// How many bonds, how many tickets of one bond each, and how many of them a day.
+/// How many bonds, how many tickets, how many of them a day, and how many bonds a ticket: a divisor of 100.
 #[derive(Clone, Copy, Debug)]
 pub struct Size {
     pub bonds: u64,
     pub tickets: u64,
     pub a_day: u64,
+    pub each: u64,
 }
 
 /// The request of an act under a number of the first desk.
@@ -27,7 +28,7 @@ pub fn ask(number: u64, act: Act) -> Result<Request> {
 
 /// A hundred bonds belong to one customer.
 fn owner(number: u64) -> Result<Customer> {
-    Ok(Customer::new(number / 100 + 1).context("customer")?)
+    Ok(Customer::new(number.saturating_sub(1) / 100 + 1).context("customer")?)
 }
 
 fn serial(number: u64) -> Result<Serial> {
@@ -72,14 +73,25 @@ pub fn import(alloc: Global, bonds: u64, place: u64) -> Result<Request> {
     ask(place.saturating_add(2), Act::AddBonds(Rows::new(items)))
 }
 
-/// The redemption of a ticket's bond, taken from all over the register.
+/// Bonds that follow one another.
+fn serials(alloc: Global, first: u64, count: u64) -> Result<Vec<Serial>> {
+    let mut serials = Vec::new(alloc);
+    for number in first..first.saturating_add(count) {
+        serials.push(serial(number)?)?;
+    }
+    Ok(serials)
+}
+
+/// The redemption of a ticket's bonds, taken from all over the register.
 fn redemption(alloc: Global, size: Size, ticket: u64) -> Result<Request> {
-    let step = (size.bonds / size.tickets.max(1)).max(1);
-    let number = (ticket.wrapping_mul(step) % size.bonds.max(1)).saturating_add(1);
+    let groups = (size.bonds / size.each.max(1)).max(1);
+    let step = (groups / size.tickets.max(1)).max(1);
+    let group = ticket.wrapping_mul(step) % groups;
+    let number = group.wrapping_mul(size.each).saturating_add(1);
     let act = Act::Redeem {
         day: day(ticket / size.a_day.max(1))?,
         payee: owner(number)?,
-        serials: Rows::new(vec![in alloc; serial(number)?]?),
+        serials: Rows::new(serials(alloc, number, size.each)?),
     };
     ask(ticket.saturating_add(1_000_000_000), act)
 }

@@ -15,25 +15,32 @@ const SMALL: Size = Size {
     bonds: 1000,
     tickets: 900,
     a_day: 1000,
+    each: 1,
 };
 
 /// The arguments are the file, which must not be there, how many bonds it holds, how many tickets are
-/// paid of them, and how many a day; without any, a store in memory with 1,000 bonds and 900 tickets of
-/// one day.
+/// paid of them, how many a day, and how many bonds a ticket, a divisor of 100 and 1 where it is left out;
+/// without any, a store in memory with 1,000 bonds and 900 tickets of one day.
 pub fn bench(rt: &HostRuntime, arguments: &[String]) -> Result<()> {
     match arguments {
         [] => in_memory(rt, SMALL),
-        [path, bonds, tickets, a_day] => in_file(
-            rt,
-            path,
-            Size {
-                bonds: bonds.parse()?,
-                tickets: tickets.parse()?,
-                a_day: a_day.parse()?,
-            },
-        ),
-        _ => bail!("store FILE BONDS TICKETS TICKETS_A_DAY"),
+        [path, numbers @ ..] => in_file(rt, path, size_of(numbers)?),
     }
+}
+
+/// The size that numbers name.
+fn size_of(numbers: &[String]) -> Result<Size> {
+    let (bonds, tickets, a_day, each) = match numbers {
+        [bonds, tickets, a_day] => (bonds, tickets, a_day, 1),
+        [bonds, tickets, a_day, each] => (bonds, tickets, a_day, each.parse()?),
+        _ => bail!("store FILE BONDS TICKETS TICKETS_A_DAY [BONDS_A_TICKET]"),
+    };
+    Ok(Size {
+        bonds: bonds.parse()?,
+        tickets: tickets.parse()?,
+        a_day: a_day.parse()?,
+        each,
+    })
 }
 
 fn deliver<K: Keeper>(keeper: &mut K, request: &Request) -> Result<()> {
