@@ -1,6 +1,6 @@
 //! The columns of a sheet.
 
-ghost use Rattle.std.specs.Prelude.{◌≡◌, ◌≤◌, ◌++◌, length, replicate};
+ghost use Rattle.std.specs.Prelude.{◌≡◌, ◌+◌, ◌≤◌, ◌++◌, length, replicate};
 ghost use Rattle.ee_calculator.specs.Sheets.{placed, on_left, on_right};
 
 use arrayvec::ArrayString;
@@ -36,52 +36,52 @@ pub const COLUMNS: [Column; 11] = [
     Column::Note,
 ];
 
-/// A text in its column: with the space before it, and those that fill it up.
-pub type Placed = ArrayString<64>;
+/// The text of a line, in a fixed room: each of its columns has at most 45 bytes.
+pub type LineText = ArrayString<512>;
 
-/// The text in its column.
-pub fn place(column: Column, text: &str) -> Placed
-    requires { length text.now ≤ 44 }
-    ensures { result.bytes ≡ placed column text.now }
+/// Appends a text in its column: with the space before it, and those that fill it up.
+#[tactic(auto, using(std::proofs::Common::append_assoc))]
+pub fn push_placed(line: &mut LineText, column: Column, text: &str)
+    requires short { length text.now ≤ 44 }
+    requires room { length line.old.bytes ≤ 460 }
+    ensures { line.new.bytes ≡ line.old.bytes ++ placed column text.now }
 {
-    let mut piece = Placed::new();
     if column == Column::Serial {
-        push_left(&mut piece, 13, text);
-        return piece;
+        push_left(line, 13, text);
+        return;
     }
     if column == Column::Note && text.is_empty() {
-        return piece;
+        return;
     }
-    piece.push(' ');
+    line.push(' ');
     match column {
-        Column::Denom | Column::Rate => push_right(&mut piece, 6, text),
-        Column::Price => push_right(&mut piece, 12, text),
-        Column::Interest | Column::Value => push_right(&mut piece, 14, text),
-        Column::Series => push_left(&mut piece, 6, text),
-        Column::Note => piece.push_str(text),
-        _ => push_left(&mut piece, 7, text),
+        Column::Denom | Column::Rate => push_right(line, 6, text),
+        Column::Price => push_right(line, 12, text),
+        Column::Interest | Column::Value => push_right(line, 14, text),
+        Column::Series => push_left(line, 6, text),
+        Column::Note => line.push_str(text),
+        _ => push_left(line, 7, text),
     }
-    piece
 }
 
-fn push_left(piece: &mut Placed, width: usize, text: &str)
+fn push_left(line: &mut LineText, width: usize, text: &str)
     requires width { width ≤ 14 }
     requires short { length text.now ≤ 44 }
-    requires room { length piece.old.bytes ≤ 1 }
-    ensures { piece.new.bytes ≡ piece.old.bytes ++ on_left width text.now }
+    requires room { length line.old.bytes ≤ 461 }
+    ensures { line.new.bytes ≡ line.old.bytes ++ on_left width text.now }
 {
-    piece.push_str(text);
-    piece.push_str(spaces(width.saturating_sub(text.len())));
+    line.push_str(text);
+    line.push_str(spaces(width.saturating_sub(text.len())));
 }
 
-fn push_right(piece: &mut Placed, width: usize, text: &str)
+fn push_right(line: &mut LineText, width: usize, text: &str)
     requires width { width ≤ 14 }
     requires short { length text.now ≤ 44 }
-    requires room { length piece.old.bytes ≤ 1 }
-    ensures { piece.new.bytes ≡ piece.old.bytes ++ on_right width text.now }
+    requires room { length line.old.bytes ≤ 461 }
+    ensures { line.new.bytes ≡ line.old.bytes ++ on_right width text.now }
 {
-    piece.push_str(spaces(width.saturating_sub(text.len())));
-    piece.push_str(text);
+    line.push_str(spaces(width.saturating_sub(text.len())));
+    line.push_str(text);
 }
 
 const SPACES: &str = "              ";

@@ -1,13 +1,13 @@
-//! The text of a sheet, written column by column, so that it takes no memory.
+//! The text of a sheet, written line by line from a fixed room, so that it takes no memory.
 
-ghost use Rattle.std.specs.Prelude.{◌≡◌, ◌≤◌, ◌++◌, length, is_ok};
+ghost use Rattle.std.specs.Prelude.{◌≡◌, ◌*◌, ◌≤◌, ◌++◌, [], length, is_ok};
 ghost use Rattle.std.specs.List.{flat_map};
 ghost use Rattle.ee_device.specs.Written.{WritesFront};
 ghost use Rattle.ee_calculator.specs.Lines.{cell_of};
 ghost use Rattle.ee_calculator.specs.Sheets.{heading as heading_cell, line as line_text, placed, row_cell, sheet_text};
 
 use crate::cells::{Cell, heading, row_cell, total_cell};
-use crate::columns::{COLUMNS, Column, place};
+use crate::columns::{COLUMNS, Column, LineText, push_placed};
 use crate::rows::Row;
 use crate::sheets::Sheet;
 use ee_device::write_whole;
@@ -66,32 +66,31 @@ fn write_rows<W: Write>(writer: &mut W, rows: &[Row]) -> bool
     true
 }
 
-#[tactic(auto, unfolding(crate::specs::Sheets::line))]
 fn write_line<W: Write>(writer: &mut W, line: Line) -> bool
     ensures { WritesFront (W.contents writer.old) (W.contents writer.new) (line_text (cell_of line.entry)) result }
 {
-    write_cells(writer, line, &COLUMNS) && write_whole(writer, b"\n")
+    write_whole(writer, line_text(line).as_str().as_bytes())
 }
 
-fn write_cells<W: Write>(writer: &mut W, line: Line, columns: &[Column]) -> bool
-    ensures { WritesFront (W.contents writer.old) (W.contents writer.new)
-        (flat_map (λ column. placed column (cell_of line.entry column)) columns.now) result }
+#[tactic(auto, unfolding(crate::specs::Sheets::line))]
+fn line_text(line: Line) -> LineText
+    ensures { result.bytes ≡ line_text (cell_of line.entry) }
+{
+    let mut text = LineText::new();
+    push_cells(&mut text, line, &COLUMNS);
+    text.push('\n');
+    text
+}
+
+fn push_cells(text: &mut LineText, line: Line, columns: &[Column])
+    requires empty { text.old.bytes ≡ [] }
+    requires few { length columns.now ≤ 11 }
+    ensures text { text.new.bytes ≡ flat_map (λ column. placed column (cell_of line.entry column)) columns.now }
+    ensures short { length text.new.bytes ≤ 45 * 11 }
 {
     for column in columns {
-        if !write_cell(writer, line, column) {
-            return false;
-        }
+        push_placed(text, *column, cell(line, *column).as_str());
     }
-    true
-}
-
-fn write_cell<W: Write>(writer: &mut W, line: Line, column: &Column) -> bool
-    ensures { WritesFront (W.contents writer.old) (W.contents writer.new)
-        (placed column.now (cell_of line.entry column.now)) result }
-{
-    let cell = cell(line, *column);
-    let placed = place(*column, cell.as_str());
-    write_whole(writer, placed.as_str().as_bytes())
 }
 
 fn cell(line: Line, column: Column) -> Cell

@@ -1,4 +1,4 @@
--- What is added to the tokens of a writer, for private clauses.
+-- What is added to the tokens of a writer of JSON.
 use Rattle.std.specs.Prelude.{◌≡◌, ℕ, List, ◌∷◌, ◌++◌, Result, OnOk}
 use Rattle.json.specs.Token as token
 use Rattle.json.specs.Tree.{json_tokens}

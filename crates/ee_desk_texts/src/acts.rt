@@ -1,7 +1,6 @@
 //! Acts as JSON, and its text.
 
 ghost use Rattle.std.specs.Prelude.{◌≡◌, IfOk, codes, string_bytes, [], ◌∷◌};
-ghost use Rattle.json.specs.Print.{print};
 ghost use Rattle.json.specs.Token as token;
 ghost use Rattle.serde_json.specs.Data.{string, object, member, no_members};
 ghost use Rattle.ee_desk_acts.specs.declared.acts.Act.TheVariants as act;
@@ -12,7 +11,7 @@ ghost use Rattle.ee_desk_texts.specs.Writing.{Adds, AddsData};
 
 use crate::ranges::act_fits;
 use crate::writing::{
-    Row, write_list_member, write_number_member, write_string, write_string_member,
+    Row, text_of, write_list_member, write_number_member, write_string, write_string_member,
 };
 use ee_calculator::Bond;
 use ee_desk_acts::{Act, RateRow};
@@ -126,16 +125,6 @@ fn write_act(alloc: Global, out: &mut Writer, act: &Act) -> Result<(), AllocErro
             serials,
         } => write_redeem(alloc, out, *day, *payee, serials.as_slice()),
         Act::CloseDay(day) => write_day_act(alloc, out, "close", *day),
-    }
-}
-
-fn text_of(out: Writer) -> String
-    requires { out.before ≡ [] }
-    ensures { string_bytes result ≡ print out.tokens }
-{
-    match String::from_utf8(out.into_inner()) {
-        Ok(text) => text,
-        Err(_) => unreachable!(),
     }
 }
 

@@ -1,5 +1,5 @@
 //! The JSON texts of acts and replies: canonical texts of acts, by which acts are kept and compared,
-//! texts of replies, and both read back.
+//! texts of replies, and both read back; and JSON that is written a value at a time.
 #![tactic(auto)]
 
 mod act_reading;
@@ -12,7 +12,6 @@ mod refusal_reading;
 mod refusals;
 mod replies;
 mod reply_reading;
-mod values;
 mod writing;
 
 pub use act_reading::read_act;
@@ -21,3 +20,4 @@ pub use laws::texts_law;
 pub use ranges::{batch_fits, bonds_fit, rate_rows_fit, ticket_fits};
 pub use replies::reply_text;
 pub use reply_reading::read_reply;
+pub use writing::{text_of, write_number_member, write_string_member, write_text_member};

@@ -1,14 +1,14 @@
 //! Refusals as JSON.
 
-ghost use Rattle.std.specs.Prelude.{◌≡◌, IfOk};
-ghost use Rattle.serde_json.specs.View.{view};
+ghost use Rattle.std.specs.Prelude.{◌≡◌};
 ghost use Rattle.ee_desk_texts.specs.Data.{names, refused_data, refusal_data};
+ghost use Rattle.ee_desk_texts.specs.Writing.{AddsData};
 ghost use Rattle.ee_desk_texts.specs.declared.refusals.Named.TheVariants as named;
 
-use crate::values::{month_value, serial_value};
+use crate::writing::{write_number_member, write_string_member, write_text_member};
 use ee_desk_acts::Refusal;
 use ee_units::{Age, IssueMonth, Serial};
-use serde_json::{Value, json};
+use json::Writer;
 use std::alloc::{AllocError, Global};
 
 /// What a refusal names.
@@ -51,58 +51,96 @@ pub fn names(refusal: &Refusal) -> Named
     }
 }
 
-fn plain_value(alloc: Global, code: u8, name: &str) -> Result<Value, AllocError>
-    ensures { IfOk result (λ v. view v ≡ refused_data code name.now named.Nothing) }
+fn write_plain(out: &mut Writer, code: u8, name: &str) -> Result<(), AllocError>
+    ensures { AddsData result out.old out.new (refused_data code name.now named.Nothing) }
 {
-    json!(in alloc; {"code": code, "refused": name})
+    out.begin_object()?;
+    write_number_member(out, "code", u64::from(code))?;
+    write_text_member(out, "refused", name)?;
+    out.end_object()
 }
 
-fn period_value(alloc: Global, code: u8, name: &str, month: IssueMonth) -> Result<Value, AllocError>
-    ensures { IfOk result (λ v. view v ≡ refused_data code name.now (named.Period month)) }
-{
-    json!(in alloc; {"code": code, "month": month_value(alloc, month)?, "refused": name})
-}
-
-fn age_value(alloc: Global, code: u8, name: &str, age: Age) -> Result<Value, AllocError>
-    ensures { IfOk result (λ v. view v ≡ refused_data code name.now (named.Months age)) }
-{
-    json!(in alloc; {"code": code, "month": age.months(), "refused": name})
-}
-
-fn bond_value(alloc: Global, code: u8, name: &str, serial: Serial) -> Result<Value, AllocError>
-    ensures { IfOk result (λ v. view v ≡ refused_data code name.now (named.Bond serial)) }
-{
-    json!(in alloc; {"code": code, "refused": name, "serial": serial_value(alloc, serial)?})
-}
-
-fn paid_value(
+fn write_period(
     alloc: Global,
+    out: &mut Writer,
+    code: u8,
+    name: &str,
+    month: IssueMonth,
+) -> Result<(), AllocError>
+    ensures { AddsData result out.old out.new (refused_data code name.now (named.Period month)) }
+{
+    out.begin_object()?;
+    write_number_member(out, "code", u64::from(code))?;
+    write_string_member(alloc, out, "month", &month)?;
+    write_text_member(out, "refused", name)?;
+    out.end_object()
+}
+
+fn write_months(out: &mut Writer, code: u8, name: &str, age: Age) -> Result<(), AllocError>
+    ensures { AddsData result out.old out.new (refused_data code name.now (named.Months age)) }
+{
+    out.begin_object()?;
+    write_number_member(out, "code", u64::from(code))?;
+    write_number_member(out, "month", u64::from(age.months()))?;
+    write_text_member(out, "refused", name)?;
+    out.end_object()
+}
+
+fn write_bond(
+    alloc: Global,
+    out: &mut Writer,
+    code: u8,
+    name: &str,
+    serial: Serial,
+) -> Result<(), AllocError>
+    ensures { AddsData result out.old out.new (refused_data code name.now (named.Bond serial)) }
+{
+    out.begin_object()?;
+    write_number_member(out, "code", u64::from(code))?;
+    write_text_member(out, "refused", name)?;
+    write_string_member(alloc, out, "serial", &serial)?;
+    out.end_object()
+}
+
+fn write_paid(
+    alloc: Global,
+    out: &mut Writer,
     code: u8,
     name: &str,
     serial: Serial,
     ticket: u64,
-) -> Result<Value, AllocError>
-    ensures { IfOk result (λ v. view v ≡ refused_data code name.now (named.Paid serial ticket)) }
+) -> Result<(), AllocError>
+    ensures { AddsData result out.old out.new (refused_data code name.now (named.Paid serial ticket)) }
 {
-    json!(in alloc; {
-        "code": code, "refused": name, "serial": serial_value(alloc, serial)?, "ticket": ticket
-    })
+    out.begin_object()?;
+    write_number_member(out, "code", u64::from(code))?;
+    write_text_member(out, "refused", name)?;
+    write_string_member(alloc, out, "serial", &serial)?;
+    write_number_member(out, "ticket", ticket)?;
+    out.end_object()
 }
 
-fn refused_value(alloc: Global, code: u8, name: &str, named: Named) -> Result<Value, AllocError>
-    ensures { IfOk result (λ v. view v ≡ refused_data code name.now named) }
+fn write_refused(
+    alloc: Global,
+    out: &mut Writer,
+    code: u8,
+    name: &str,
+    named: Named,
+) -> Result<(), AllocError>
+    ensures { AddsData result out.old out.new (refused_data code name.now named) }
 {
     match named {
-        Named::Nothing => plain_value(alloc, code, name),
-        Named::Period(month) => period_value(alloc, code, name, month),
-        Named::Months(age) => age_value(alloc, code, name, age),
-        Named::Bond(serial) => bond_value(alloc, code, name, serial),
-        Named::Paid(serial, ticket) => paid_value(alloc, code, name, serial, ticket),
+        Named::Nothing => write_plain(out, code, name),
+        Named::Period(month) => write_period(alloc, out, code, name, month),
+        Named::Months(age) => write_months(out, code, name, age),
+        Named::Bond(serial) => write_bond(alloc, out, code, name, serial),
+        Named::Paid(serial, ticket) => write_paid(alloc, out, code, name, serial, ticket),
     }
 }
 
-pub fn refusal_value(alloc: Global, refusal: &Refusal) -> Result<Value, AllocError>
-    ensures { IfOk result (λ v. view v ≡ refusal_data refusal.now) }
+/// Writes a refusal: its code, its name and what it names.
+pub fn write_refusal(alloc: Global, out: &mut Writer, refusal: &Refusal) -> Result<(), AllocError>
+    ensures { AddsData result out.old out.new (refusal_data refusal.now) }
 {
-    refused_value(alloc, refusal.code(), refusal.name(), names(refusal))
+    write_refused(alloc, out, refusal.code(), refusal.name(), names(refusal))
 }

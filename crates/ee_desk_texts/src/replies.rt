@@ -1,82 +1,82 @@
 //! Replies as JSON, and its text.
 
-ghost use Rattle.std.specs.Prelude.{◌≡◌, IfOk, string_bytes, map};
-ghost use Rattle.serde_json.specs.View.{view};
+ghost use Rattle.std.specs.Prelude.{◌≡◌, IfOk, string_bytes};
 ghost use Rattle.ee_desk_acts.specs.declared.replies.Reply.TheVariants as reply;
-ghost use Rattle.ee_desk_texts.specs.Data.{line_data, ticket_data, batch_data, reply_data};
+ghost use Rattle.ee_desk_texts.specs.Data.{ticket_data, batch_data, reply_data};
 ghost use Rattle.ee_desk_texts.specs.Texts.{reply_text};
 ghost use Rattle.ee_desk_texts.specs.Ranges.{ReplyFits};
+ghost use Rattle.ee_desk_texts.specs.Writing.{AddsData};
 
 use crate::ranges::reply_fits;
-use crate::refusals::refusal_value;
-use crate::values::{cents_value, day_value, serial_value};
+use crate::refusals::write_refusal;
+use crate::writing::{Row, text_of, write_list_member, write_number_member, write_string_member};
 use ee_desk_acts::{Batch, Line, Reply, Ticket};
 use ee_units::Day;
-use serde_json::{Value, json};
+use json::Writer;
 use std::alloc::{AllocError, Global};
 
-fn line_value(alloc: Global, line: &Line) -> Result<Value, AllocError>
-    ensures { IfOk result (λ v. view v ≡ line_data line.now) }
-{
-    json!(in alloc; {
-        "paid": cents_value(alloc, line.cents)?, "serial": serial_value(alloc, line.serial)?
-    })
-}
+impl Row for Line {
+    ghost use Rattle.ee_desk_texts.specs.Data.{line_data};
 
-fn line_values(alloc: Global, lines: &[Line]) -> Result<Vec<Value>, AllocError>
-    ensures { IfOk result (λ v. map view v.items ≡ map line_data lines.now) }
-{
-    let mut values = Vec::new(alloc);
-    for line in lines {
-        values.push(line_value(alloc, line)?)?;
+    ghost row_data = { line_data };
+
+    fn write(&self, alloc: Global, out: &mut Writer) -> Result<(), AllocError> {
+        out.begin_object()?;
+        write_string_member(alloc, out, "paid", &self.cents)?;
+        write_string_member(alloc, out, "serial", &self.serial)?;
+        out.end_object()
     }
-    Ok(values)
 }
 
-fn ticket_value(alloc: Global, ticket: &Ticket) -> Result<Value, AllocError>
-    ensures { IfOk result (λ v. view v ≡ ticket_data ticket.now) }
+fn write_ticket(alloc: Global, out: &mut Writer, ticket: &Ticket) -> Result<(), AllocError>
+    ensures { AddsData result out.old out.new (ticket_data ticket.now) }
 {
-    json!(in alloc; {
-        "day": day_value(alloc, ticket.day)?,
-        "lines": Value::Array(line_values(alloc, ticket.lines.as_slice())?),
-        "payee": ticket.payee.number(),
-        "ticket": ticket.ticket,
-        "total": cents_value(alloc, ticket.total)?
-    })
+    out.begin_object()?;
+    write_string_member(alloc, out, "day", &ticket.day)?;
+    write_list_member(alloc, out, "lines", ticket.lines.as_slice())?;
+    write_number_member(out, "payee", u64::from(ticket.payee.number()))?;
+    write_number_member(out, "ticket", ticket.ticket)?;
+    write_string_member(alloc, out, "total", &ticket.total)?;
+    out.end_object()
 }
 
-fn batch_value(alloc: Global, batch: &Batch) -> Result<Value, AllocError>
-    ensures { IfOk result (λ v. view v ≡ batch_data batch.now) }
+fn write_batch(alloc: Global, out: &mut Writer, batch: &Batch) -> Result<(), AllocError>
+    ensures { AddsData result out.old out.new (batch_data batch.now) }
 {
-    json!(in alloc; {
-        "bonds": batch.bonds,
-        "day": day_value(alloc, batch.day)?,
-        "tickets": batch.tickets,
-        "total": cents_value(alloc, batch.total)?
-    })
+    out.begin_object()?;
+    write_number_member(out, "bonds", batch.bonds)?;
+    write_string_member(alloc, out, "day", &batch.day)?;
+    write_number_member(out, "tickets", batch.tickets)?;
+    write_string_member(alloc, out, "total", &batch.total)?;
+    out.end_object()
 }
 
-fn added_value(alloc: Global, new: u64, same: u64) -> Result<Value, AllocError>
-    ensures { IfOk result (λ v. view v ≡ reply_data (reply.Added new same)) }
+fn write_added(out: &mut Writer, new: u64, same: u64) -> Result<(), AllocError>
+    ensures { AddsData result out.old out.new (reply_data (reply.Added new same)) }
 {
-    json!(in alloc; {"new": new, "same": same})
+    out.begin_object()?;
+    write_number_member(out, "new", new)?;
+    write_number_member(out, "same", same)?;
+    out.end_object()
 }
 
-fn opened_value(alloc: Global, day: Day) -> Result<Value, AllocError>
-    ensures { IfOk result (λ v. view v ≡ reply_data (reply.Opened day)) }
+fn write_opened(alloc: Global, out: &mut Writer, day: Day) -> Result<(), AllocError>
+    ensures { AddsData result out.old out.new (reply_data (reply.Opened day)) }
 {
-    json!(in alloc; {"opened": day_value(alloc, day)?})
+    out.begin_object()?;
+    write_string_member(alloc, out, "opened", &day)?;
+    out.end_object()
 }
 
-fn reply_value(alloc: Global, reply: &Reply) -> Result<Value, AllocError>
-    ensures { IfOk result (λ v. view v ≡ reply_data reply.now) }
+fn write_reply(alloc: Global, out: &mut Writer, reply: &Reply) -> Result<(), AllocError>
+    ensures { AddsData result out.old out.new (reply_data reply.now) }
 {
     match reply {
-        Reply::Added { new, same } => added_value(alloc, *new, *same),
-        Reply::Opened(day) => opened_value(alloc, *day),
-        Reply::Ticket(ticket) => ticket_value(alloc, ticket),
-        Reply::Batch(batch) => batch_value(alloc, batch),
-        Reply::Refused(refusal) => refusal_value(alloc, refusal),
+        Reply::Added { new, same } => write_added(out, *new, *same),
+        Reply::Opened(day) => write_opened(alloc, out, *day),
+        Reply::Ticket(ticket) => write_ticket(alloc, out, ticket),
+        Reply::Batch(batch) => write_batch(alloc, out, batch),
+        Reply::Refused(refusal) => write_refusal(alloc, out, refusal),
     }
 }
 
@@ -87,5 +87,7 @@ pub fn reply_text(alloc: Global, reply: &Reply) -> Result<String, AllocError>
     ensures fits { ReplyFits reply.now }
 {
     reply_fits(reply);
-    reply_value(alloc, reply)?.to_string(alloc)
+    let mut out = Writer::new(Vec::new(alloc));
+    write_reply(alloc, &mut out, reply)?;
+    Ok(text_of(out))
 }

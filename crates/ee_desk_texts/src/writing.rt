@@ -1,6 +1,7 @@
 //! JSON that is written a value at a time, with no tree of it in memory.
 
-ghost use Rattle.std.specs.Prelude.{IfSome};
+ghost use Rattle.std.specs.Prelude.{◌≡◌, IfSome, [], string_bytes};
+ghost use Rattle.json.specs.Print.{print};
 ghost use Rattle.serde_json.specs.Data.{string};
 ghost use Rattle.ee_desk_texts.specs.Data.{number_data, list_data};
 ghost use Rattle.ee_desk_texts.specs.Writing.{AddsData, AddsMember};
@@ -32,6 +33,14 @@ pub fn write_string_member<D: Display>(
 {
     out.key(name)?;
     write_string(alloc, out, value)
+}
+
+/// Writes a member whose value is this text.
+pub fn write_text_member(out: &mut Writer, name: &str, text: &str) -> Result<(), AllocError>
+    ensures { AddsMember result out.old out.new name.now (string text.now) }
+{
+    out.key(name)?;
+    out.string(text)
 }
 
 /// Writes a member whose value is a whole number.
@@ -69,4 +78,15 @@ pub fn write_list_member<R: Row>(
         row.write(alloc, out)?;
     }
     out.end_array()
+}
+
+/// The text that was written.
+pub fn text_of(out: Writer) -> String
+    requires { out.before ≡ [] }
+    ensures { string_bytes result ≡ print out.tokens }
+{
+    match String::from_utf8(out.into_inner()) {
+        Ok(text) => text,
+        Err(_) => unreachable!(),
+    }
 }

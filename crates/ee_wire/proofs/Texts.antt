@@ -1,14 +1,8 @@
 -- The texts of answers, put together.
-use Rattle.std.proofs.Common.{◌≡◌, ℕ, Bool, true, false, List, [], ◌++◌, Option, Some, None, codes, refl, ap, ◌∙◌}
+use Rattle.std.proofs.Common.{◌≡◌, ℕ, Bool, true, List, [], ◌++◌, Option, Some, codes, refl, ap, ◌∙◌}
 use Rattle.std.specs.Prelude.{decimal}
-use Rattle.serde_json.specs.Written.{has_float}
 use Rattle.ee_device.specs.Written.{WritesFront}
-use Rattle.ee_wire_calls.specs.declared.faults.Field.{Field}
-use Rattle.ee_wire_calls.specs.declared.faults.WireFault.{WireFault}
-use Rattle.ee_wire_calls.specs.Faults.{code_of, name_of}
 use Rattle.ee_wire.specs.Heads.{line, status_line, kind_line, closing_line, head_text}
-use Rattle.serde_json.specs.Data.{string, object, member}
-use Rattle.ee_wire.specs.Answers.{number_data, fault_data, field_in, field_member}
 use Rattle.ee_wire.specs.declared.answers.Status.{Status}
 use Rattle.ee_wire.specs.declared.answers.Kind.{Kind}
 
@@ -26,11 +20,3 @@ joined status kind length closes a b c d e f ha hb hc hd he hf =
 -- what an empty list took whole
 pub taken : (new text : List ℕ) → WritesFront (Some []) (Some new) text true → new ≡ text
 taken new text written = written.written ∙ written.whole refl
-
-fault_with : (code : ℕ) (name : List ℕ) (o : Option Field)
-    → has_float (object (member (codes "code") (number_data code) (member (codes "fault") (string name) (field_member o)))) ≡ false
-fault_with code name None = refl
-fault_with code name (Some field) = refl
-
-pub fault_whole : (f : WireFault) → has_float (fault_data f) ≡ false
-fault_whole f = fault_with (code_of f) (name_of f) (field_in f)

@@ -1,18 +1,18 @@
 //! The bodies of answers.
 ghost use Rattle.std.specs.Prelude.{◌≡◌, IfOk, string_bytes};
-ghost use Rattle.serde_json.specs.View.{view};
 ghost use Rattle.serde_json.specs.Written.{compact_text};
 ghost use Rattle.ee_calculator.specs.Sheets.{sheet_text};
 ghost use Rattle.ee_desk_texts.specs.Texts.{reply_text};
+ghost use Rattle.ee_desk_texts.specs.Writing.{AddsData};
 ghost use Rattle.ee_wire.specs.Answers.{field_in, fault_data, fault_text, unserved_text, row_data, body_of};
 
 use crate::answers::Answer;
-use crate::rows::row_value;
+use crate::rows::write_row;
 use ee_calculator::{Row, Sheet, write_sheet};
 use ee_desk_acts::{Reply, Unserved};
-use ee_desk_texts::reply_text;
+use ee_desk_texts::{reply_text, text_of, write_number_member, write_text_member};
 use ee_wire_calls::{Field, WireFault};
-use serde_json::{Value, json};
+use json::Writer;
 use std::alloc::{AllocError, Global};
 
 fn field_in(fault: WireFault) -> Option<Field>
@@ -24,30 +24,32 @@ fn field_in(fault: WireFault) -> Option<Field>
     }
 }
 
-fn fault_value(alloc: Global, fault: WireFault) -> Result<Value, AllocError>
-    ensures { IfOk result (λ v. view v ≡ fault_data fault) }
+fn write_fault(out: &mut Writer, fault: WireFault) -> Result<(), AllocError>
+    ensures { AddsData result out.old out.new (fault_data fault) }
 {
-    let code = fault.code();
-    let name = fault.name();
-    match field_in(fault) {
-        Some(field) => {
-            let field = field.name();
-            json!(in alloc; {"code": code, "fault": name, "field": field})
-        }
-        None => json!(in alloc; {"code": code, "fault": name}),
+    out.begin_object()?;
+    write_number_member(out, "code", u64::from(fault.code()))?;
+    write_text_member(out, "fault", fault.name())?;
+    if let Some(field) = field_in(fault) {
+        write_text_member(out, "field", field.name())?;
     }
+    out.end_object()
 }
 
 fn fault_text(alloc: Global, fault: WireFault) -> Result<String, AllocError>
     ensures { IfOk result (λ s. string_bytes s ≡ compact_text (fault_data fault)) }
 {
-    fault_value(alloc, fault)?.to_string(alloc)
+    let mut out = Writer::new(Vec::new(alloc));
+    write_fault(&mut out, fault)?;
+    Ok(text_of(out))
 }
 
 fn row_text(alloc: Global, row: &Row) -> Result<String, AllocError>
     ensures { IfOk result (λ s. string_bytes s ≡ compact_text (row_data row.now)) }
 {
-    row_value(alloc, row)?.to_string(alloc)
+    let mut out = Writer::new(Vec::new(alloc));
+    write_row(alloc, &mut out, row)?;
+    Ok(text_of(out))
 }
 
 fn sheet_bytes(alloc: Global, sheet: &Sheet) -> Result<Vec<u8>, AllocError>

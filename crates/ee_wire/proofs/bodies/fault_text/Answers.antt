@@ -1,9 +1,13 @@
-use Rattle.std.proofs.Common.{ap, ◌∙◌}
-use Rattle.std.proofs.lemmas.Result.{IfOk-weaker}
-use Rattle.serde_json.specs.Written.{has_float, compact_text}
-use Rattle.ee_wire.proofs.Texts.{fault_whole}
+use Rattle.std.proofs.Common.{◌++◌, ap, ◌∙◌}
+use Rattle.json.specs.Print.{print}
+use Rattle.json.specs.Tree.{json_tokens}
+use Rattle.serde_json.specs.Written.{outline}
+use Rattle.serde_json.proofs.Texts.{print-outline}
+use Rattle.ee_wire.specs.Answers.{fault_data}
 use Rattle.ee_wire.proofs.bodies.fault_text.Goals as goal
 
 pub returns : goal.returns
 returns c =
-    IfOk-weaker c.to_string.result _ _ (λ s text. text (ap has_float c.in_ok-fault_value.ensures ∙ fault_whole c.args.fault) ∙ ap compact_text c.in_ok-fault_value.ensures) c.to_string.ensures.text
+    let d = fault_data c.args.fault in
+    let tokens = c.in_ok-write_fault.ensures.1 ∙ ap (λ before. before ++ json_tokens (outline d)) c.new-out.ensures.tokens in
+    c.text_of.ensures ∙ ap print tokens ∙ print-outline d
