@@ -1,11 +1,15 @@
 -- Lemmas that the proofs of crates above use.
-use Rattle.std.proofs.Common.{IsUtf8, Option, Some, ◌≡◌}
+use Rattle.std.proofs.Common.{IsUtf8, List, Option, Some, ◌++◌, ◌≡◌}
+use Rattle.json.specs.Token as token
+use Rattle.json.specs.Written.{Written}
 use Rattle.ee_desk_acts.specs.declared.acts.Act.{Act}
 use Rattle.ee_desk_acts.specs.declared.replies.Reply.{Reply}
 use Rattle.ee_desk_texts.specs.Ranges.{ActFits, ReplyFits}
 use Rattle.ee_desk_texts.specs.Reading.{ReadsReply}
 use Rattle.ee_desk_texts.specs.Texts.{act_text, reply_text}
+use Rattle.ee_desk_texts.specs.Writing.{Added}
 use Rattle.ee_desk_texts.proofs.Ascii
+use Rattle.ee_desk_texts.proofs.Pieces
 use Rattle.ee_desk_texts.proofs.Same
 
 -- ---- texts of acts and replies
@@ -28,3 +32,8 @@ act_text-utf8 = Ascii.act_text-utf8
 -- so is the text of a reply
 pub reply_text-utf8 : (r : Reply) → ReplyFits r → IsUtf8 (reply_text r)
 reply_text-utf8 = Ascii.reply_text-utf8
+
+-- ---- JSON that is written a value at a time
+-- one piece after another
+pub and_then : (old mid new : Written) (a b : List token.Token) → Added old mid a → Added mid new b → Added old new (a ++ b)
+and_then = Pieces.and_then

@@ -4,3 +4,4 @@ mod Back
 mod Same
 pub mod Lemmas
 mod Counts
+mod Pieces

@@ -6,9 +6,13 @@ use Rattle.json.specs.Written.{Written}
 use Rattle.serde_json.specs.Data.{Data}
 use Rattle.serde_json.specs.Written.{outline}
 
+-- these tokens were added
+abbrev pub Added : Written → Written → List token.Token → Type 0
+Added old new added = (new.before ≡ old.before) × (new.tokens ≡ old.tokens ++ added)
+
 -- these tokens are added, unless there was no memory
 abbrev pub Adds : {E : Type 0} → Result (Unit {0}) E → Written → Written → List token.Token → Type 0
-Adds result old new added = OnOk result ((new.before ≡ old.before) × (new.tokens ≡ old.tokens ++ added))
+Adds result old new added = OnOk result (Added old new added)
 
 -- a JSON
 abbrev pub AddsData : {E : Type 0} → Result (Unit {0}) E → Written → Written → Data → Type 0

@@ -51,11 +51,11 @@ pub fn names(refusal: &Refusal) -> Named
     }
 }
 
-fn write_plain(out: &mut Writer, code: u8, name: &str) -> Result<(), AllocError>
+fn write_plain(out: &mut Writer, code: u64, name: &str) -> Result<(), AllocError>
     ensures { AddsData result out.old out.new (refused_data code name.now named.Nothing) }
 {
     out.begin_object()?;
-    write_number_member(out, "code", u64::from(code))?;
+    write_number_member(out, "code", code)?;
     write_text_member(out, "refused", name)?;
     out.end_object()
 }
@@ -63,25 +63,25 @@ fn write_plain(out: &mut Writer, code: u8, name: &str) -> Result<(), AllocError>
 fn write_period(
     alloc: Global,
     out: &mut Writer,
-    code: u8,
+    code: u64,
     name: &str,
     month: IssueMonth,
 ) -> Result<(), AllocError>
     ensures { AddsData result out.old out.new (refused_data code name.now (named.Period month)) }
 {
     out.begin_object()?;
-    write_number_member(out, "code", u64::from(code))?;
+    write_number_member(out, "code", code)?;
     write_string_member(alloc, out, "month", &month)?;
     write_text_member(out, "refused", name)?;
     out.end_object()
 }
 
-fn write_months(out: &mut Writer, code: u8, name: &str, age: Age) -> Result<(), AllocError>
-    ensures { AddsData result out.old out.new (refused_data code name.now (named.Months age)) }
+fn write_months(out: &mut Writer, code: u64, name: &str, months: u64) -> Result<(), AllocError>
+    ensures { AddsData result out.old out.new (refused_data code name.now (named.Months months)) }
 {
     out.begin_object()?;
-    write_number_member(out, "code", u64::from(code))?;
-    write_number_member(out, "month", u64::from(age.months()))?;
+    write_number_member(out, "code", code)?;
+    write_number_member(out, "month", months)?;
     write_text_member(out, "refused", name)?;
     out.end_object()
 }
@@ -89,14 +89,14 @@ fn write_months(out: &mut Writer, code: u8, name: &str, age: Age) -> Result<(), 
 fn write_bond(
     alloc: Global,
     out: &mut Writer,
-    code: u8,
+    code: u64,
     name: &str,
     serial: Serial,
 ) -> Result<(), AllocError>
     ensures { AddsData result out.old out.new (refused_data code name.now (named.Bond serial)) }
 {
     out.begin_object()?;
-    write_number_member(out, "code", u64::from(code))?;
+    write_number_member(out, "code", code)?;
     write_text_member(out, "refused", name)?;
     write_string_member(alloc, out, "serial", &serial)?;
     out.end_object()
@@ -105,7 +105,7 @@ fn write_bond(
 fn write_paid(
     alloc: Global,
     out: &mut Writer,
-    code: u8,
+    code: u64,
     name: &str,
     serial: Serial,
     ticket: u64,
@@ -113,7 +113,7 @@ fn write_paid(
     ensures { AddsData result out.old out.new (refused_data code name.now (named.Paid serial ticket)) }
 {
     out.begin_object()?;
-    write_number_member(out, "code", u64::from(code))?;
+    write_number_member(out, "code", code)?;
     write_text_member(out, "refused", name)?;
     write_string_member(alloc, out, "serial", &serial)?;
     write_number_member(out, "ticket", ticket)?;
@@ -123,7 +123,7 @@ fn write_paid(
 fn write_refused(
     alloc: Global,
     out: &mut Writer,
-    code: u8,
+    code: u64,
     name: &str,
     named: Named,
 ) -> Result<(), AllocError>
@@ -132,7 +132,7 @@ fn write_refused(
     match named {
         Named::Nothing => write_plain(out, code, name),
         Named::Period(month) => write_period(alloc, out, code, name, month),
-        Named::Months(age) => write_months(out, code, name, age),
+        Named::Months(age) => write_months(out, code, name, u64::from(age.months())),
         Named::Bond(serial) => write_bond(alloc, out, code, name, serial),
         Named::Paid(serial, ticket) => write_paid(alloc, out, code, name, serial, ticket),
     }
@@ -142,5 +142,11 @@ fn write_refused(
 pub fn write_refusal(alloc: Global, out: &mut Writer, refusal: &Refusal) -> Result<(), AllocError>
     ensures { AddsData result out.old out.new (refusal_data refusal.now) }
 {
-    write_refused(alloc, out, refusal.code(), refusal.name(), names(refusal))
+    write_refused(
+        alloc,
+        out,
+        u64::from(refusal.code()),
+        refusal.name(),
+        names(refusal),
+    )
 }

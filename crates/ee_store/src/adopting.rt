@@ -52,7 +52,8 @@ pub struct NotAdopted<S: Alter> {
 /// migrated. The rows are let go.
 fn prepared(alloc: Global, all: AllRows) -> Result<Tested, OpenFault>
     requires { AreInOrder all }
-    ensures ok { IfOk result (λ tested. (content : Content) × (tested.tables ≡ tables_for content.books.rates) × StandAt (version_of all.form) (rows_of all) content) }
+    ensures ok { IfOk result (λ tested. (content : Content)
+        × (tested.tables ≡ tables_for content.books.rates) × StandAt (version_of all.form) (rows_of all) content) }
     ensures left { IfOk result (λ tested. all.form ≢ Current → tested.answers ≡ all.answers) }
     ensures unusable { IfErr result (λ fault. fault ≡ OpenFault.Unusable → (content : Content) → StandAt (version_of all.form) (rows_of all) content → ⊥) }
     ensures version { IfErr result (λ fault. fault ≢ OpenFault.WrongVersion) }

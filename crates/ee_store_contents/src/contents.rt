@@ -165,9 +165,11 @@ pub struct Tested {
 /// they are tested: the kept replies first, but for those that are to be migrated, and then the others.
 pub fn tables_of(alloc: Global, stored: AllRows) -> Result<Tested, ContentFault>
     requires { AreInOrder stored }
-    ensures ok { IfOk result (λ tested. (content : Content) × (tested.tables ≡ tables_for content.books.rates) × StandAt (version_of stored.form) (rows_of stored) content) }
+    ensures ok { IfOk result (λ tested. (content : Content)
+        × (tested.tables ≡ tables_for content.books.rates) × StandAt (version_of stored.form) (rows_of stored) content) }
     ensures left { IfOk result (λ tested. stored.form ≢ Current → tested.answers ≡ stored.answers) }
-    ensures unusable { IfErr result (λ fault. fault ≡ ContentFault.Unusable → (content : Content) → StandAt (version_of stored.form) (rows_of stored) content → ⊥) }
+    ensures unusable { IfErr result (λ fault. fault ≡ ContentFault.Unusable
+        → (content : Content) → StandAt (version_of stored.form) (rows_of stored) content → ⊥) }
 {
     let form = stored.form;
     let mut rest = stored;

@@ -6,7 +6,17 @@ ghost use Rattle.ee_store_tables.specs.AsRows.{Fits};
 ghost use Rattle.ee_store_tables.specs.Rows.{HasRoom};
 ghost use Rattle.ee_store_tables.specs.Statements.{LeavesOpen, StaysOpen, StaysInside, CommitsNothing, LeavesNoMore, Makes, FailsByCause, KeepsRoom};
 ghost use Rattle.ee_store_delivery.specs.Causes.{LeavesRoom};
-ghost use Rattle.ee_store_delivery.specs.Written.{with_named, changed_rows, applied_rows, CanPayTicket, CanClose, CanWrite, CanWriteAll, added_rows, all_added_rows};
+ghost use Rattle.ee_store_delivery.specs.Written.{
+  with_named,
+  changed_rows,
+  applied_rows,
+  CanPayTicket,
+  CanClose,
+  CanWrite,
+  CanWriteAll,
+  added_rows,
+  all_added_rows,
+};
 
 use crate::to_rows::{batch_row, bond_row, line_rows, ticket_row, whole, whole_option};
 use ee_calculator::Bond;
