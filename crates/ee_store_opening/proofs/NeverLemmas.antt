@@ -1,5 +1,5 @@
 -- Queries that `sqlite` refuses for no rows of these tables.
-use Rattle.std.proofs.Common.{◌≡◌, ◌≢◌, inl, inr, ℕ, List, [], ◌∷◌, codes, None, Ok, Err, Result, refl, subst, arith}
+use Rattle.std.proofs.Common.{◌≡◌, ◌≢◌, inl, inr, ℕ, List, [], ◌∷◌, codes, None, Ok, Err, Result, refl, subst, true≢false, arith}
 use Rattle.sqlite.specs.Order.{Row}
 use Rattle.sqlite.specs.Term.{Term}
 use Rattle.sqlite.specs.Schema.{Schema}
@@ -50,9 +50,9 @@ one_desk First = (omega arith, refl, refl, refl)
 one_desk Earliest = (omega arith, refl, refl, refl)
 
 accepted_desk : (form : Form) → ¬ IsMistyped (schema_of form) (whole_table 0 desk_terms by_key) []
-accepted_desk Current mistyped = cc
-accepted_desk First mistyped = cc
-accepted_desk Earliest mistyped = cc
+accepted_desk Current mistyped = true≢false mistyped
+accepted_desk First mistyped = true≢false mistyped
+accepted_desk Earliest mistyped = true≢false mistyped
 
 pub never_desk : (form : Form) → IsNeverRefused (schema_of form) (codes "SELECT id, version, day, last_day FROM desk ORDER BY id") []
 never_desk form = whole (schema_of form) _ 0 desk_terms by_key (asks_desk form) (one_desk form) (accepted_desk form)
@@ -64,9 +64,9 @@ one_rates First = (omega arith, refl, refl, refl)
 one_rates Earliest = (omega arith, refl, refl, refl)
 
 accepted_rates : (form : Form) → ¬ IsMistyped (schema_of form) (whole_table 1 rate_terms by_key) []
-accepted_rates Current mistyped = cc
-accepted_rates First mistyped = cc
-accepted_rates Earliest mistyped = cc
+accepted_rates Current mistyped = true≢false mistyped
+accepted_rates First mistyped = true≢false mistyped
+accepted_rates Earliest mistyped = true≢false mistyped
 
 pub never_rates : (form : Form) → IsNeverRefused (schema_of form) (codes "SELECT period, rate FROM rates ORDER BY period") []
 never_rates form = whole (schema_of form) _ 1 rate_terms by_key (asks_rates form) (one_rates form) (accepted_rates form)
@@ -78,9 +78,9 @@ one_bonds First = (omega arith, refl, refl, refl)
 one_bonds Earliest = (omega arith, refl, refl, refl)
 
 accepted_bonds : (form : Form) → ¬ IsMistyped (schema_of form) (whole_table 2 bond_terms by_pair) []
-accepted_bonds Current mistyped = cc
-accepted_bonds First mistyped = cc
-accepted_bonds Earliest mistyped = cc
+accepted_bonds Current mistyped = true≢false mistyped
+accepted_bonds First mistyped = true≢false mistyped
+accepted_bonds Earliest mistyped = true≢false mistyped
 
 pub never_bonds : (form : Form) → IsNeverRefused (schema_of form) (codes "SELECT letter, number, denom, issued, owner, coowner, ticket FROM bonds ORDER BY letter, number") []
 never_bonds form = whole (schema_of form) _ 2 bond_terms by_pair (asks_bonds form) (one_bonds form) (accepted_bonds form)
@@ -92,9 +92,9 @@ one_bond_rowids First = (omega arith, refl, refl, refl)
 one_bond_rowids Earliest = (omega arith, refl, refl, refl)
 
 accepted_bond_rowids : (form : Form) → ¬ IsMistyped (schema_of form) (whole_table 2 rowid_terms by_key) []
-accepted_bond_rowids Current mistyped = cc
-accepted_bond_rowids First mistyped = cc
-accepted_bond_rowids Earliest mistyped = cc
+accepted_bond_rowids Current mistyped = true≢false mistyped
+accepted_bond_rowids First mistyped = true≢false mistyped
+accepted_bond_rowids Earliest mistyped = true≢false mistyped
 
 pub never_bond_rowids : (form : Form) → IsNeverRefused (schema_of form) (codes "SELECT rowid FROM bonds ORDER BY rowid") []
 never_bond_rowids form = whole (schema_of form) _ 2 rowid_terms by_key (asks_bond_rowids form) (one_bond_rowids form) (accepted_bond_rowids form)
@@ -106,9 +106,9 @@ one_tickets First = (omega arith, refl, refl, refl)
 one_tickets Earliest = (omega arith, refl, refl, refl)
 
 accepted_tickets : (form : Form) → ¬ IsMistyped (schema_of form) (whole_table 5 ticket_terms by_key) []
-accepted_tickets Current mistyped = cc
-accepted_tickets First mistyped = cc
-accepted_tickets Earliest mistyped = cc
+accepted_tickets Current mistyped = true≢false mistyped
+accepted_tickets First mistyped = true≢false mistyped
+accepted_tickets Earliest mistyped = true≢false mistyped
 
 pub never_tickets : (form : Form) → IsNeverRefused (schema_of form) (codes "SELECT ticket, day, payee, bonds, total FROM tickets ORDER BY ticket") []
 never_tickets form = whole (schema_of form) _ 5 ticket_terms by_key (asks_tickets form) (one_tickets form) (accepted_tickets form)
@@ -120,9 +120,9 @@ one_lines First = (omega arith, refl, refl, refl)
 one_lines Earliest = (omega arith, refl, refl, refl)
 
 accepted_lines : (form : Form) → ¬ IsMistyped (schema_of form) (whole_table 7 line_terms by_pair) []
-accepted_lines Current mistyped = cc
-accepted_lines First mistyped = cc
-accepted_lines Earliest mistyped = cc
+accepted_lines Current mistyped = true≢false mistyped
+accepted_lines First mistyped = true≢false mistyped
+accepted_lines Earliest mistyped = true≢false mistyped
 
 pub never_lines : (form : Form) → IsNeverRefused (schema_of form) (codes "SELECT ticket, place, letter, number, cents FROM paid ORDER BY ticket, place") []
 never_lines form = whole (schema_of form) _ 7 line_terms by_pair (asks_lines form) (one_lines form) (accepted_lines form)
@@ -134,9 +134,9 @@ one_line_rowids First = (omega arith, refl, refl, refl)
 one_line_rowids Earliest = (omega arith, refl, refl, refl)
 
 accepted_line_rowids : (form : Form) → ¬ IsMistyped (schema_of form) (whole_table 7 rowid_terms by_key) []
-accepted_line_rowids Current mistyped = cc
-accepted_line_rowids First mistyped = cc
-accepted_line_rowids Earliest mistyped = cc
+accepted_line_rowids Current mistyped = true≢false mistyped
+accepted_line_rowids First mistyped = true≢false mistyped
+accepted_line_rowids Earliest mistyped = true≢false mistyped
 
 pub never_line_rowids : (form : Form) → IsNeverRefused (schema_of form) (codes "SELECT rowid FROM paid ORDER BY rowid") []
 never_line_rowids form = whole (schema_of form) _ 7 rowid_terms by_key (asks_line_rowids form) (one_line_rowids form) (accepted_line_rowids form)
@@ -148,9 +148,9 @@ one_batches First = (omega arith, refl, refl, refl)
 one_batches Earliest = (omega arith, refl, refl, refl)
 
 accepted_batches : (form : Form) → ¬ IsMistyped (schema_of form) (whole_table 10 batch_terms by_key) []
-accepted_batches Current mistyped = cc
-accepted_batches First mistyped = cc
-accepted_batches Earliest mistyped = cc
+accepted_batches Current mistyped = true≢false mistyped
+accepted_batches First mistyped = true≢false mistyped
+accepted_batches Earliest mistyped = true≢false mistyped
 
 pub never_batches : (form : Form) → IsNeverRefused (schema_of form) (codes "SELECT day, tickets, bonds, total FROM batches ORDER BY day") []
 never_batches form = whole (schema_of form) _ 10 batch_terms by_key (asks_batches form) (one_batches form) (accepted_batches form)
@@ -163,8 +163,8 @@ one_replies Earliest earlier = (omega arith, refl, refl, refl)
 
 accepted_replies : (form : Form) → form ≢ Current → ¬ IsMistyped (schema_of form) (whole_table 11 reply_terms by_key) []
 accepted_replies Current earlier mistyped = earlier refl
-accepted_replies First earlier mistyped = cc
-accepted_replies Earliest earlier mistyped = cc
+accepted_replies First earlier mistyped = true≢false mistyped
+accepted_replies Earliest earlier mistyped = true≢false mistyped
 
 pub never_replies : (form : Form) → form ≢ Current → IsNeverRefused (schema_of form) (codes "SELECT number, act, reply FROM replies ORDER BY number") []
 never_replies form earlier = whole (schema_of form) _ 11 reply_terms by_key (asks_replies form earlier) (one_replies form earlier) (accepted_replies form earlier)
@@ -174,7 +174,7 @@ unfolding understood everything
 one_answers = (omega arith, refl, refl, refl)
 
 accepted_answers : ¬ IsMistyped counter_schema (whole_table 13 answer_terms by_pair) []
-accepted_answers mistyped = cc
+accepted_answers mistyped = true≢false mistyped
 
 pub never_answers : IsNeverRefused counter_schema (codes "SELECT desk, number, act, reply FROM answers ORDER BY desk, number") []
 never_answers = whole counter_schema _ 13 answer_terms by_pair asks_answers one_answers accepted_answers
@@ -184,7 +184,7 @@ unfolding understood everything
 one_answer_rowids = (omega arith, refl, refl, refl)
 
 accepted_answer_rowids : ¬ IsMistyped counter_schema (whole_table 13 rowid_terms by_key) []
-accepted_answer_rowids mistyped = cc
+accepted_answer_rowids mistyped = true≢false mistyped
 
 pub never_answer_rowids : IsNeverRefused counter_schema (codes "SELECT rowid FROM answers ORDER BY rowid") []
 never_answer_rowids = whole counter_schema _ 13 rowid_terms by_key asks_answer_rowids one_answer_rowids accepted_answer_rowids
@@ -196,8 +196,8 @@ one_extensions First later = (omega arith, refl, refl, refl)
 one_extensions Earliest later = absurd (later refl)
 
 accepted_extensions : (form : Form) → form ≢ Earliest → ¬ IsMistyped (schema_of form) (whole_table 12 rate_terms by_key) []
-accepted_extensions Current later mistyped = cc
-accepted_extensions First later mistyped = cc
+accepted_extensions Current later mistyped = true≢false mistyped
+accepted_extensions First later mistyped = true≢false mistyped
 accepted_extensions Earliest later mistyped = later refl
 
 pub never_extensions : (form : Form) → form ≢ Earliest → IsNeverRefused (schema_of form) (codes "SELECT period, rate FROM extensions ORDER BY period") []
@@ -212,9 +212,9 @@ one_version First = (omega arith, refl, refl, refl)
 one_version Earliest = (omega arith, refl, refl, refl)
 
 accepted_version : (form : Form) → ¬ IsMistyped (schema_of form) version_query given_id
-accepted_version Current mistyped = cc
-accepted_version First mistyped = cc
-accepted_version Earliest mistyped = cc
+accepted_version Current mistyped = true≢false mistyped
+accepted_version First mistyped = true≢false mistyped
+accepted_version Earliest mistyped = true≢false mistyped
 
 module _ (schema : Schema) (accepted : ¬ IsMistyped schema version_query given_id) where
   version_never : (r : Result Compiled CompileError) → command_of r ≡ Select (record { lets = []; body = version_query }) (codes "version" ∷ []) → IsPlain r → NeverRefuses schema given_id r
