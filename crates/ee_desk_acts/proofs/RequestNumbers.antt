@@ -1,24 +1,18 @@
 -- The order of numbers.
 use Rattle.std.proofs.Common.{◌≡◌, ◌==◌, ◌&&◌, true, refl, ◌∙◌}
 use Rattle.std.specs.Cmp.{IsTotalOrder, nat_cmp_total, unsigned_tied}
-use Rattle.std.specs.Ordering.{nat_cmp, eq_by_cmp, is_eq, ordering_then}
-use Rattle.std.specs.declared.cmp.Ordering.{Ordering}
-use Rattle.std.specs.declared.cmp.Ordering.TheVariants.{Less, Equal, Greater}
+use Rattle.std.specs.Ordering.{nat_cmp, eq_by_cmp}
 use Rattle.std.proofs.lemmas.Cmp.{on_total, then_total}
 use Rattle.std.proofs.lemmas.Bool.{eq-eqb, eqb-true, and_parts, and_from}
 use Rattle.std.proofs.lemmas.Map.Lookups.{CmpEqualImpliesEq, exact_pairs, exact_unsigned}
 use Rattle.ee_desk_acts.specs.Numbers.{Number, number_cmp, same_number}
+use Rattle.ee_desk_acts.proofs.Maps.{eq_then}
 
 pub numbers_total : IsTotalOrder number_cmp
 numbers_total = then_total (on_total (λ n. n.0) nat_cmp_total) (on_total (λ n. n.1) nat_cmp_total)
 
-then_eq : (a b : Ordering) → is_eq (ordering_then a b) ≡ (is_eq a && is_eq b)
-then_eq Less b = refl
-then_eq Equal b = refl
-then_eq Greater b = refl
-
 pub numbers_tied : (m n : Number) → eq_by_cmp number_cmp m n ≡ same_number m n
-numbers_tied m n = then_eq (nat_cmp m.0 n.0) (nat_cmp m.1 n.1) ∙ (λ i. unsigned_tied m.0 n.0 i && unsigned_tied m.1 n.1 i)
+numbers_tied m n = eq_then (nat_cmp m.0 n.0) (nat_cmp m.1 n.1) ∙ (λ i. unsigned_tied m.0 n.0 i && unsigned_tied m.1 n.1 i)
 
 pub number_is : (m n : Number) → same_number m n ≡ true → m ≡ n
 number_is m n h = let p = and_parts (m.0 == n.0) (m.1 == n.1) h in λ i. (eqb-true m.0 n.0 p.0 i, eqb-true m.1 n.1 p.1 i)
