@@ -6,24 +6,23 @@ use std::io;
 use std::process::ExitCode;
 
 fn main(rt: HostRuntime) -> ExitCode {
-    let status = match words(&rt) {
-        Ok(words) => {
-            let stores = StoreFiles {
-                rt: &rt,
-                start: Untold,
-            };
-            run_words(
-                &rt,
-                &stores,
-                words.as_slice(),
-                &mut rt.stdin(),
-                &mut rt.stdout(),
-                &mut rt.stderr(),
-            )
-        }
+    ExitCode::from(match words(&rt) {
+        Ok(words) => run(&rt, words.as_slice()),
         Err(error) => refuse_words(&error, &mut rt.stderr()),
-    };
-    ExitCode::from(status)
+    })
+}
+
+/// Runs the line of these words over stores in files, and gives its exit status.
+fn run(rt: &HostRuntime, words: &[String]) -> u8 {
+    let stores = StoreFiles { rt, start: Untold };
+    run_words(
+        rt,
+        &stores,
+        words,
+        &mut rt.stdin(),
+        &mut rt.stdout(),
+        &mut rt.stderr(),
+    )
 }
 
 fn words(rt: &HostRuntime) -> io::Result<Vec<String>> {

@@ -6,8 +6,6 @@ mod opening;
 mod run;
 mod store;
 mod stores;
-#[cfg(test)]
-mod tests;
 
 pub use carrying::carry_out;
 pub use run::{BAD_LINE, DONE, FAILED, REFUSED, refuse_words, run_words};

@@ -9,29 +9,55 @@ use anyhow::{Context, Result};
 use csv::Reader;
 use published::Published;
 use rate_tables::RateTables;
+use std::fs::File;
 
 /// At most so many rows that differ are printed.
 const SHOWN: u64 = 10;
 
+/// How many rows were compared, and how many of them differ.
+#[derive(Clone, Copy)]
+struct Tally {
+    compared: u64,
+    differing: u64,
+}
+
 fn main(rt: HostRuntime) -> Result<()> {
-    let tables = RateTables::read(&rt, "rates.csv")?;
-    let mut rows = Reader::from_path(&rt, rt.alloc(), "published-values.csv")
-        .ok()
-        .context("published-values.csv doesn't open")?;
-    let mut compared = 0u64;
-    let mut differing = 0u64;
-    for record in rows.records() {
-        let record = record.ok().context("published-values.csv can't be read")?;
-        let row = Published::from_record(&record)?;
-        compared = compared.saturating_add(1);
-        if !tables.agree_with(&row) {
-            differing = differing.saturating_add(1);
-            if differing <= SHOWN {
-                println!(rt; "differs: {row}")?;
-            }
-        }
-    }
-    let equal = compared.saturating_sub(differing);
+    let rates = opened(&rt, "rates.csv").context("rates.csv doesn't open")?;
+    let tables = RateTables::of_rows(rt.alloc(), rates)?;
+    let rows = opened(&rt, "published-values.csv").context("published-values.csv doesn't open")?;
+    let tally = compare(&rt, &tables, rows)?;
+    let compared = tally.compared;
+    let equal = compared.saturating_sub(tally.differing);
     println!(rt; "compared {compared} rows: {equal} equal")?;
     Ok(())
+}
+
+/// The file of rows under a header at a path, where it opens.
+fn opened(rt: &HostRuntime, path: &str) -> Option<Reader<File>> {
+    Reader::from_path(rt, rt.alloc(), path).ok()
+}
+
+/// Compares each row with ours.
+fn compare(rt: &HostRuntime, tables: &RateTables, mut rows: Reader<File>) -> Result<Tally> {
+    let mut tally = Tally {
+        compared: 0,
+        differing: 0,
+    };
+    for record in rows.records() {
+        let row = Published::from_record(record.ok())?;
+        tally = counted(rt, tally, row, tables.agree_with(&row))?;
+    }
+    Ok(tally)
+}
+
+/// Counts a row, and prints it where it is one of the first that differ.
+fn counted(rt: &HostRuntime, tally: Tally, row: Published, agrees: bool) -> Result<Tally> {
+    let differing = tally.differing.saturating_add(u64::from(!agrees));
+    if !agrees && differing <= SHOWN {
+        println!(rt; "differs: {row}")?;
+    }
+    Ok(Tally {
+        compared: tally.compared.saturating_add(1),
+        differing,
+    })
 }

@@ -14,8 +14,12 @@ pub struct Published {
 }
 
 impl Published {
-    /// The row of a record of the columns `issued,redeemed,unit_cents`.
-    pub fn from_record(record: &StringRecord) -> Result<Published> {
+    /// The row of a record of the columns `issued,redeemed,unit_cents`, where it was read.
+    pub fn from_record(record: Option<StringRecord>) -> Result<Published> {
+        Published::of_fields(&record.context("the published values can't be read")?)
+    }
+
+    fn of_fields(record: &StringRecord) -> Result<Published> {
         let issued = record.get(0).context("no issue month")?;
         let redeemed = record.get(1).context("no month of redemption")?;
         let unit = record.get(2).context("no value")?;

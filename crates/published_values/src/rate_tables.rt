@@ -14,6 +14,7 @@ use ee_units::{Age, Bits, Cents, Denom, IssueMonth, Rate, calendar, units};
 use ee_value::{Quote, Rates, UnitTable, bond_value, unit_table};
 use std::alloc::Global;
 use std::collections::BTreeMap;
+use std::fs::File;
 
 /// The unit values of each rate period, by the period's first month.
 #[derive(Drop)]
@@ -22,20 +23,23 @@ pub struct RateTables {
 }
 
 impl RateTables {
-    /// The tables of a file of the columns `from,rate`.
-    pub fn read(rt: &HostRuntime, path: &str) -> Result<RateTables> {
-        let mut rows = Reader::from_path(rt, rt.alloc(), path)
-            .ok()
-            .context("rates.csv doesn't open")?;
-        let mut periods = BTreeMap::new(rt.alloc());
+    /// The tables of rows of the columns `from,rate`.
+    pub fn of_rows(alloc: Global, mut rows: Reader<File>) -> Result<RateTables> {
+        let mut tables = RateTables {
+            periods: BTreeMap::new(alloc),
+        };
         for record in rows.records() {
-            let record = record.ok().context("rates.csv can't be read")?;
-            let (from, rate) = period(&record)?;
-            let bits = Bits::from_places(62);
-            let table = unit_table(rt.alloc(), Rates::new(rate, None), bits)?;
-            periods.insert(from, table)?;
+            tables.add(alloc, record.ok())?;
         }
-        Ok(RateTables { periods })
+        Ok(tables)
+    }
+
+    /// Adds the table of a record, where it was read.
+    fn add(&mut self, alloc: Global, record: Option<StringRecord>) -> Result<()> {
+        let (from, rate) = period(&record.context("the rates can't be read")?)?;
+        let table = unit_table(alloc, Rates::new(rate, None), Bits::from_places(62))?;
+        self.periods.insert(from, table)?;
+        Ok(())
     }
 
     /// Whether a bond of that issue month pays the published value in that month.

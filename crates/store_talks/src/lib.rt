@@ -1,12 +1,5 @@
-//! Transcripts of talks with a counter, and how one is replayed over a keeper: what the tests of the store share. The texts are
-//! worked by hand from the rules, and none of them was told by the code.
+//! Talks over a store, and over files of which one may stop, with all rows of the tables: what the tests of the store share.
 #![tactic(auto)]
 
-pub mod days;
-pub mod devices;
 pub mod five;
-pub mod imports;
-pub mod lists;
-pub mod refusals;
 pub mod stops;
-pub mod talk;

@@ -1,10 +1,10 @@
 //! Doing what a transcript does, and comparing what is told.
 
+use counter_talks::talk::{By, replay_by, whole};
 use ee_keeper::Keeper;
 use std::alloc::Global;
 use std::process::Abort;
 use std::test::Fail;
-use store_talks::talk::{By, replay_by, whole};
 
 /// Does what a transcript does, and compares what is told.
 pub fn compare<K: Keeper>(

@@ -2,6 +2,8 @@
 //! or is interrupted, or moves one byte.
 
 use crate::comparing::compare;
+use counter_talks::devices::{Narrow, Source};
+use counter_talks::talk::{bytes_of, json, message};
 use ee_counter::{Ended, export_inventory, import_inventory, import_rates, serve};
 use ee_desk_acts::{Desk, Number};
 use ee_desk_texts::reply_text;
@@ -10,8 +12,6 @@ use std::alloc::Global;
 use std::io::{ErrorKind, Read};
 use std::process::Abort;
 use std::test::Fail;
-use store_talks::devices::{Narrow, Source};
-use store_talks::talk::{bytes_of, json, message};
 
 /// How a call of a device fails.
 const KINDS: [ErrorKind; 2] = [ErrorKind::Other, ErrorKind::Interrupted];

@@ -1,11 +1,11 @@
 //! Calls at fault, bytes that are no message, and streams that end anywhere, by the command `apply`: each
 //! has its answer and its end.
 
+use counter_talks::talk::{applied, json, message};
 use ee_keeper::Keeper;
 use std::alloc::Global;
 use std::process::Abort;
 use std::test::Fail;
-use store_talks::talk::{applied, json, message};
 
 /// Calls at fault, after each of which the connection goes on; and a body that a query ignores.
 pub const CALLS: &str = r#"> POST /day/open

@@ -2,13 +2,13 @@
 //! status and a body that the formats name.
 
 use crate::comparing::compare;
+use counter_talks::days::{BEGUN, DAY};
+use counter_talks::talk::{applied, stream};
 use ee_desk_texts::read_reply;
 use ee_keeper::Keeper;
 use std::alloc::Global;
 use std::process::Abort;
 use std::test::Fail;
-use store_talks::days::{BEGUN, DAY};
-use store_talks::talk::{applied, stream};
 
 /// How many streams are sent.
 const STREAMS: u64 = 60;

@@ -4,6 +4,13 @@ use crate::comparing::{compare, compare_by};
 use crate::failing::{a_thousand_messages, devices_fail};
 use crate::faults::{CALLS, HEADS, STREAMS, calls_in_one_stream, ended, ends};
 use crate::noise::noise;
+use counter_talks::days::{
+    BEGUN, DAY, DESKS, EXTENDED, IMPORTED, LAST, LOST, MERGES, ORDERS, SHOWN, TICKETS, TURNS,
+};
+use counter_talks::imports::{FILES, LONG_FILES};
+use counter_talks::lists::LISTS;
+use counter_talks::refusals::{DAYS, FULL, IMPORTS, LONG, MOST};
+use counter_talks::talk::{By, replay_by, requests_of};
 use ee_counter::run;
 use ee_desk_acts::{Reply, Request, Unserved};
 use ee_desk_texts::reply_text;
@@ -15,14 +22,7 @@ use std::alloc::Global;
 use std::fmt::Write;
 use std::process::Abort;
 use std::test::Fail;
-use store_talks::days::{
-    BEGUN, DAY, DESKS, EXTENDED, IMPORTED, LAST, LOST, MERGES, ORDERS, SHOWN, TICKETS, TURNS,
-};
 use store_talks::five::rows_told;
-use store_talks::imports::{FILES, LONG_FILES};
-use store_talks::lists::LISTS;
-use store_talks::refusals::{DAYS, FULL, IMPORTS, LONG, MOST};
-use store_talks::talk::{By, replay_by, requests_of};
 
 /// What is done over a new keeper.
 #[derive(Clone, Copy)]

@@ -2,6 +2,9 @@
 //! served when it comes again. The script `tests/refused_memory` refuses each request for memory in turn.
 
 use crate::parts::requests;
+use counter_talks::days::{DAY, SHOWN};
+use counter_talks::imports::FILES;
+use counter_talks::talk::{By, line_told, requests_of};
 use ee_counter::run;
 use ee_desk_acts::{Reply, Request, Unserved};
 use ee_desk_texts::reply_text;
@@ -12,10 +15,7 @@ use std::alloc::Global;
 use std::fmt::Write;
 use std::process::Abort;
 use std::test::Fail;
-use store_talks::days::{DAY, SHOWN};
 use store_talks::five::rows_told;
-use store_talks::imports::FILES;
-use store_talks::talk::{By, line_told, requests_of};
 
 /// How begins what is told where memory was refused: in an answer, as why a connection ended, to the writer of a connection
 /// or of an export, of a file, and of an export.

@@ -1,5 +1,9 @@
 //! Stores in files: days in a file that is closed and opened again, and stops at each call of a file.
 
+use counter_talks::days::{DAY, DESKS, EXTENDED, LAST};
+use counter_talks::lists::LISTS;
+use counter_talks::refusals::{DAYS, IMPORTS};
+use counter_talks::talk::answers;
 use ee_keeper::ListKeeper;
 use ee_store::SqlKeeper;
 use sqlite::{Connection, Files, Options};
@@ -8,12 +12,8 @@ use std::alloc::Global;
 use std::fs;
 use std::process::Abort;
 use std::test::Fail;
-use store_talks::days::{DAY, DESKS, EXTENDED, LAST};
 use store_talks::five::{FIVE, fault_told};
-use store_talks::lists::LISTS;
-use store_talks::refusals::{DAYS, IMPORTS};
 use store_talks::stops::{ends_by_failures, is_front_of, served_on};
-use store_talks::talk::answers;
 
 /// Days that are told as transcripts.
 const TALKS: [&str; 6] = [DAY, IMPORTS, DAYS, LAST, LISTS, EXTENDED];

@@ -1,0 +1,186 @@
+//! Lines that ask for values, for help or for nothing that the program does, and what is printed where the output fails. The
+//! values are worked by hand from the rules of 31 CFR Part 351.
+
+use crate::ran::{InMemory, assert_prints, assert_tells, run, words};
+use ee_cli_program::{refuse_words, run_words};
+use std::io::{self, ErrorKind, Write};
+use std::test::Fail;
+
+/// Lines that ask for a value, and what they print. Where an extension is named, the fixed rate grows the value
+/// up to the age of 240 months, at which it is at least doubled, and the extension grows it from there on.
+const VALUES: &str = "\
+value 50 05/2010 05/2015 3.5% => 29.74
+value 50 2010-05 2010-04 3.50 => 0.00 NI
+value 50 2010-05 2011-04 3.50 => 25.00 NE
+value 50 2010-05 2011-05 20 => 28.84 P5
+value 75 2010-05 2011-08 2.00 => 38.28 P5
+value 50 2010-05 2015-04 3.50 => 29.38 P5
+value 50 2010-05 2030-04 3.40 => 48.90
+value 50 2010-05 2030-05 3.40 => 50.00
+value 50 2010-05 2030-06 3.40 => 50.14
+value 50 2010-05 2030-05 3.60 => 51.04
+value 10000 2005-05 2035-04 20.00 => 1498472.00
+value 10000 2005-05 2199-12 20.00 => 1522468.00 MA
+value 10000 2005-05 2025-04 0 => 5000.00
+value 10000 2005-05 2025-05 0 => 10000.00
+value 50 2010-05 2010-04 3.40 4.00 => 0.00 NI
+value 50 2010-05 2015-05 3.50 9.99 => 29.74
+value 50 2010-05 2015-05 3.50 3.50 => 29.74
+value 50 2010-05 2030-04 3.40 4.00 => 48.90
+value 50 2010-05 2030-05 3.40 4.00 => 50.00
+value 50 2010-05 2030-06 3.40 4.00 => 50.16
+value 50 2010-05 2030-07 3.40 4.00 => 50.34
+value 50 2010-05 2030-08 3.40 4.00 => 50.50
+value 50 2010-05 2030-10 3.40 4.00 => 50.84
+value 50 2010-05 2030-11 3.40 4.00 => 51.00
+value 50 2010-05 2030-12 3.40 4.00 => 51.16
+value 50 2010-05 2040-04 3.40 4.00 => 74.04
+value 50 2010-05 2040-05 3.40 4.00 => 74.28 MA
+value 50 2010-05 2199-12 3.40 0.00 => 50.00 MA
+value 50 2010-05 2030-11 3.40 4.04 => 51.02
+value 50 2010-05 2030-08 3.50 4.02 => 50.50
+value 50 2010-05 2030-05 3.60 0.00 => 51.04
+value 50 2010-05 2040-04 3.60 0.00 => 51.04
+value 50 2010-05 2030-11 3.60 2.00 => 51.56
+value 10000 2005-05 2025-04 0.00 20.00 => 5000.00
+value 10000 2005-05 2025-05 0.00 20.00 => 10000.00
+value 10000 2005-05 2025-11 0.00 20.00 => 11000.00
+value 10000 2005-05 2035-05 0.00 20.00 => 67304.00 MA
+value 10000 2005-05 2199-12 20.00 0.00 => 226304.00 MA
+";
+
+#[test]
+fn values(rt: HostRuntime) -> Result<(), Fail> {
+    for row in VALUES.lines() {
+        let (line, value) = row.split_once(" => ").ok_or("row")?;
+        let wanted = format!(in rt.alloc(); "{value}\n")?;
+        assert_prints(&rt, &run(&rt, line, "")?, &wanted);
+    }
+    Ok(())
+}
+
+#[test]
+fn bad_arguments(rt: HostRuntime) -> Result<(), Fail> {
+    for (line, wanted) in [
+        ("value 51 2010-13 2015-5 x", "bad argument: denom\n"),
+        ("value 50 2005-04 2015-5 x", "bad argument: issued\n"),
+        ("value 50 2010-05 2200-01 x", "bad argument: month\n"),
+        ("value 50 2010-05 2015-05 20.01", "bad argument: rate\n"),
+        ("value 50 2010-05 2015-05 x y", "bad argument: rate\n"),
+        (
+            "value 50 2010-05 2015-05 3.50 20.01",
+            "bad argument: extension\n",
+        ),
+        ("export 0 --db no/where", "bad argument: customer\n"),
+        ("sheet 7 2012-13 --db no/where", "bad argument: month\n"),
+    ] {
+        assert_tells(&rt, &run(&rt, line, "")?, wanted, 2);
+    }
+    Ok(())
+}
+
+#[test]
+fn bad_lines(rt: HostRuntime) -> Result<(), Fail> {
+    for line in [
+        "",
+        "help",
+        "value 50 2010-05 2015-05",
+        "value 50 2010-05 2015-05 3.50 3.50 3.50",
+        "apply",
+        "import rats r.csv --db no/where --number 1",
+        "import rates r.csv --db no/where --number 0",
+        "serve --db no/where --port 65536 --connections 1",
+        "serve --db no/where --port 1 --connections 1001",
+    ] {
+        let ran = run(&rt, line, "")?;
+        assert!(rt; !ran.told.is_empty(), "{line}");
+        assert!(rt; ran.printed.is_empty(), "{line}");
+        assert_eq!(rt; ran.status, 2, "{line}");
+    }
+    Ok(())
+}
+
+#[test]
+fn help_is_no_fault(rt: HostRuntime) -> Result<(), Fail> {
+    for (line, part) in [
+        ("--help", "Usage: ee_cli <COMMAND>"),
+        ("-h", "500 rows a request, 100 serial numbers a redemption"),
+        ("--help", "One process at a time uses a store."),
+        ("value --help", "ee_cli value 50 2010-05 2015-05 3.50"),
+        ("value --help", "<rate> [extension]"),
+        ("serve --help", "ee_cli serve --db day.db --port 8377"),
+    ] {
+        let ran = run(&rt, line, "")?;
+        assert!(rt; ran.printed.contains(part), "{line}");
+        assert!(rt; ran.told.is_empty(), "{line}");
+        assert_eq!(rt; ran.status, 0, "{line}");
+    }
+    Ok(())
+}
+
+#[test]
+fn versions(rt: HostRuntime) -> Result<(), Fail> {
+    for line in ["--version", "-V"] {
+        assert_prints(&rt, &run(&rt, line, "")?, "ee_cli 1.0.0, store version 2\n");
+    }
+    Ok(())
+}
+
+/// Takes so many bytes, and then fails.
+#[derive(Drop)]
+struct Failing {
+    bytes: Vec<u8>,
+    room: usize,
+}
+
+impl Write for Failing {
+    fn write(&mut self, buf: &[u8]) -> io::Result<usize> {
+        let count = buf.len().min(self.room);
+        if count == 0 {
+            return Err(ErrorKind::Interrupted.into());
+        }
+        self.bytes.extend_from_slice(&buf[..count])?;
+        self.room -= count;
+        Ok(count)
+    }
+
+    fn flush(&mut self) -> io::Result<()> {
+        Ok(())
+    }
+}
+
+#[test]
+fn failing_output(rt: HostRuntime) -> Result<(), Fail> {
+    let words = words(&rt, "value 50 2010-05 2015-05 3.50")?;
+    for room in 0..6 {
+        let bytes = Vec::new(rt.alloc());
+        let mut output = Failing { bytes, room };
+        let mut told = Vec::new(rt.alloc());
+        let stores = InMemory { alloc: rt.alloc() };
+        let mut input = io::empty();
+        let status = run_words(&rt, &stores, &words, &mut input, &mut output, &mut told);
+        assert_eq!(rt; &output.bytes[..], &b"29.74\n"[..room]);
+        assert_eq!(rt; &told[..], b"input or output failed\n".as_slice());
+        assert_eq!(rt; status, 3);
+    }
+    Ok(())
+}
+
+/// A word that isn't UTF-8 is a bad line, and want of memory is told as such.
+#[test]
+fn words_that_are_not_read(rt: HostRuntime) -> Result<(), Fail> {
+    for (kind, wanted, status) in [
+        (
+            ErrorKind::InvalidData,
+            b"bad argument: a word isn't UTF-8\n".as_slice(),
+            2u8,
+        ),
+        (ErrorKind::OutOfMemory, b"no memory\n".as_slice(), 3),
+    ] {
+        let mut told = Vec::new(rt.alloc());
+        let error = io::Error::from(kind);
+        assert_eq!(rt; refuse_words(&error, &mut told), status);
+        assert_eq!(rt; &told[..], wanted);
+    }
+    Ok(())
+}
