@@ -1,6 +1,6 @@
 //! The rows of the program.
 
-ghost use Rattle.std.specs.Prelude.{◌≡◌, IfOk, Some, List, false, map, codes};
+ghost use Rattle.std.specs.Prelude.{◌≡◌, IfOk, Ok, Some, List, false, map, codes};
 ghost use Rattle.std.specs.Borrow.{Bor};
 ghost use Rattle.clap.specs.Words.{Text, app_of, new_app, rule_of, with_rule, with_subcommand};
 ghost use Rattle.clap.specs.declared.builder.command.Command.TheViews.{out-Command as fields_of};
@@ -45,10 +45,11 @@ static KINDS: [&str; 2] = ["rates", "inventory"];
 pub fn program<'a>(alloc: Global) -> Result<Command<'a>, AllocError>
     ensures { IfOk result (λ c. (kinds : Bor (List (Bor Text))) × (map (λ k. k.now) kinds.now ≡ is.kind_words) × (app_of c ≡ is.program kinds)) }
 {
-    let rows = with_row(first_rows(alloc)?, import_command(alloc)?)?;
-    let rows = with_row(rows, export_command(alloc)?)?;
-    let rows = with_row(rows, sheet_command(alloc)?)?;
-    with_row(rows, serve_command(alloc)?)
+    let rows = first_rows(alloc)?;
+    let rows = with_row(rows, import_command(alloc))?;
+    let rows = with_row(rows, export_command(alloc))?;
+    let rows = with_row(rows, sheet_command(alloc))?;
+    with_row(rows, serve_command(alloc))
 }
 
 fn first_rows<'a>(alloc: Global) -> Result<Command<'a>, AllocError>
@@ -59,15 +60,19 @@ fn first_rows<'a>(alloc: Global) -> Result<Command<'a>, AllocError>
         .version(VERSION)
         .subcommand_required(true)
         .disable_help_subcommand(true);
-    let rows = with_row(rows, value_command(alloc)?)?;
-    with_row(rows, apply_command(alloc)?)
+    let rows = with_row(rows, value_command(alloc))?;
+    with_row(rows, apply_command(alloc))
 }
 
-fn with_row<'a>(rows: Command<'a>, row: Command<'a>) -> Result<Command<'a>, AllocError>
-    requires { (fields_of row).has_globals ≡ false }
-    ensures { IfOk result (λ c. app_of c ≡ with_subcommand (app_of rows.entry) (app_of row.entry).top) }
+/// A further row, where it was made.
+fn with_row<'a>(
+    rows: Command<'a>,
+    row: Result<Command<'a>, AllocError>,
+) -> Result<Command<'a>, AllocError>
+    requires { IfOk row (λ r. (fields_of r).has_globals ≡ false) }
+    ensures { IfOk result (λ c. (r : _) × (row.entry ≡ Ok r) × (app_of c ≡ with_subcommand (app_of rows.entry) (app_of r).top)) }
 {
-    rows.subcommand(row)
+    rows.subcommand(row?)
 }
 
 fn value_command<'a>(alloc: Global) -> Result<Command<'a>, AllocError>
