@@ -5,11 +5,11 @@ ghost use Rattle.sqlite.specs.Held.{state};
 ghost use Rattle.sqlite.specs.State.{HasCleanDisk, IsLive, Survives};
 ghost use Rattle.ee_desk_acts.specs.Repeats.{Content, nothing};
 ghost use Rattle.ee_store_making.specs.Making.{IsBlank};
-ghost use Rattle.ee_store_opening.specs.Whole.{rows_of, AreInOrder};
-ghost use Rattle.ee_store_contents.specs.Contents.{tables_for};
+ghost use Rattle.ee_store_opening.specs.Whole.{AreInOrder, AreRead};
+ghost use Rattle.ee_store_contents.specs.Contents.{KeepsAnswer, tables_for};
 ghost use Rattle.ee_store_contents.specs.Standing.{StandAt};
 ghost use Rattle.ee_store_making.specs.Forms.{version_of};
-ghost use Rattle.ee_store_making.specs.declared.forms.Form.TheVariants.{Current};
+ghost use Rattle.ee_store_tables.specs.Rows.{Rows};
 ghost use Rattle.ee_store_lookups.specs.Seen.{StandsFor};
 ghost use Rattle.ee_store.specs.Adopted.{
   BeginsEmpty,
@@ -32,7 +32,7 @@ ghost use Rattle.ee_store_delivery.specs.Known.{IsInformed};
 
 use crate::keeper::SqlKeeper;
 use ee_desk_acts::UnitTables;
-use ee_store_contents::{ContentFault, Tested, tables_of};
+use ee_store_contents::{ContentFault, KeptReply, Tested, tables_of};
 use ee_store_delivery::Known;
 use ee_store_making::{OpenFault, migrate};
 use ee_store_opening::{AllRows, open_rows};
@@ -52,10 +52,11 @@ pub struct NotAdopted<S: Alter> {
 /// migrated. The rows are let go.
 fn prepared(alloc: Global, all: AllRows) -> Result<Tested, OpenFault>
     requires { AreInOrder all }
-    ensures ok { IfOk result (λ tested. (content : Content)
-        × (tested.tables ≡ tables_for content.books.rates) × StandAt (version_of all.form) (rows_of all) content) }
-    ensures left { IfOk result (λ tested. all.form ≢ Current → tested.answers ≡ all.answers) }
-    ensures unusable { IfErr result (λ fault. fault ≡ OpenFault.Unusable → (content : Content) → StandAt (version_of all.form) (rows_of all) content → ⊥) }
+    ensures ok { IfOk result (λ tested. (rows : Rows) → AreRead KeepsAnswer all rows → (content : Content)
+        × (tested.tables ≡ tables_for content.books.rates) × StandAt (version_of all.form) rows content) }
+    ensures left { IfOk result (λ tested. tested.answers ≡ all.replies.earlier) }
+    ensures unusable { IfErr result (λ fault. fault ≡ OpenFault.Unusable → (rows : Rows) → AreRead KeepsAnswer all rows
+        → (content : Content) → StandAt (version_of all.form) rows content → ⊥) }
     ensures version { IfErr result (λ fault. fault ≢ OpenFault.WrongVersion) }
     ensures settled { IfErr result (λ fault. fault ≢ OpenFault.StoreFailed) }
 {
@@ -99,7 +100,7 @@ fn ready<S: Alter>(conn: &mut Connection<S>, alloc: Global) -> Result<UnitTables
     ensures waits { HasCleanDisk (state S.Store conn.new) → StaysStopped (state S.Store conn.old) (state S.Store conn.new) }
 {
     let _schema = conn.schema();
-    let all = open_rows(conn, alloc)?;
+    let all = open_rows::<S, KeptReply>(conn, alloc)?;
     let form = all.form;
     let tested = prepared(alloc, all)?;
     let Tested { tables, answers } = tested;

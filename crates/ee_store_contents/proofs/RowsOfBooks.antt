@@ -41,8 +41,8 @@ use Rattle.ee_store_making.specs.Forms.{version_of}
 use Rattle.ee_store_making.specs.Migrating.{answer_entry}
 use Rattle.ee_store_opening.specs.declared.whole.AllRows.{AllRows}
 use Rattle.ee_store_contents.specs.Standing.{rate_rows, extension_entry, extension_rows, bond_rows, bond_row, key_of, ticket_rows, paid_rows, paid_row, placed, batch_rows, reply_rows, reply_row, desk_rows, IsKept, IsRight, StandAt}
-use Rattle.ee_store_opening.specs.Shown.{desk_entry, rate_entry, bond_entry, ticket_entry, line_entry, batch_entry}
-use Rattle.ee_store_opening.specs.Whole.{AreInOrder, rows_of}
+use Rattle.ee_store_opening.specs.Shown.{answer_map, desk_entry, rate_entry, bond_entry, ticket_entry, line_entry, batch_entry}
+use Rattle.ee_store_opening.specs.Whole.{AreInOrder, rows_with}
 use Rattle.ee_store_contents.specs.Contents.{stored_desk, stored_rate, extension_row, stored_extension, stored_bond, stored_ticket, placed_lines, stored_lines, stored_batch, AreRowsOf, PartsFit, KeepsAnswer}
 use Rattle.ee_store_contents.specs.Reading.{each, days_in, rates_in, bond_in, tickets_in, batch_in, parts_in}
 use Rattle.ee_store_contents.proofs.Images.{pair_total, pair_same, sorted_entries, extension_entries}
@@ -168,8 +168,9 @@ module _ {K X : Type 0} {R : K → K → Ordering} where
   map_of : (es : List (K × X)) (m : FinMap R X) → T (is_sorted R es) → es ≡ entries m → from_sorted es ≡ m
   map_of es m sorted is = same_entries_map (from_sorted es) m (entries-from_sorted R es sorted ∙ is)
 
-pub rows_of_parts : (stored : AllRows) (content : Content) → AreInOrder stored → StandAt (version_of stored.form) (rows_of stored) content → AreRowsOf (parts_of content.books) stored
-rows_of_parts stored content order stands =
+pub rows_of_parts : (stored : AllRows) (kept : FinMap pair_cmp ReplyRow) (content : Content) → AreInOrder stored → StandAt (version_of stored.form) (rows_with kept stored) content
+    → AreRowsOf (parts_of content.books) stored
+rows_of_parts stored kept content order stands =
     let books = content.books in
     let sound = stands.right.sound in
     record {
@@ -269,10 +270,11 @@ keeps (row ∷ rows) (k ∷ es) all e =
       keeps rows es all.1 (ap tail_of e),
     )
 
-pub answers_kept : (stored : AllRows) (content : Content) → AreInOrder stored → StandAt (version_of stored.form) (rows_of stored) content → AllByRecursion KeepsAnswer stored.answers.items
-answers_kept stored content order stands =
-    keeps stored.answers.items (entries content.kept) (all_entries numbers_total pair_same IsKept content.kept stands.right.kept)
-    (entries_of _ _ order.answers (ap (λ (r : Rows). r.answers) stands.are) ∙ reply_entries content.kept)
+pub answers_kept : (stored : AllRows) (kept : List StoredAnswer) (content : Content) → T (is_sorted pair_cmp (map answer_entry kept))
+    → StandAt (version_of stored.form) (rows_with (answer_map kept) stored) content → AllByRecursion KeepsAnswer kept
+answers_kept stored kept content sorted stands =
+    keeps kept (entries content.kept) (all_entries numbers_total pair_same IsKept content.kept stands.right.kept)
+    (entries_of _ _ sorted (ap (λ (r : Rows). r.answers) stands.are) ∙ reply_entries content.kept)
 
 -- ---- rows of parts stand for the books of these parts
 values_fit : (books : PlainBooks) → AllByRecursion BondFits (finite.values books.bonds) → (s : SerialNumber) → IfSome (finite.get books.bonds s) BondFits
@@ -280,10 +282,10 @@ values_fit books all s =
     subst (λ m. IfSome (finite.get m s) BondFits) (map_of_entries serial_cmp serials_total serials_exact books.bonds)
     (get_all serials_total serials_exact (λ s bond. BondFits bond) (entries books.bonds) (all_unmapped BondFits (λ (e : SerialNumber × Bond). e.1) (entries books.bonds) all) s)
 
-pub content_stands : (stored : AllRows) (books : PlainBooks) → AreInOrder stored → AreRowsOf (parts_of books) stored → PartsFit (parts_of books) → IsSound books
-    → AllByRecursion KeepsAnswer stored.answers.items → (content : Content) × (content.books ≡ books) × StandAt (version_of stored.form) (rows_of stored) content
-content_stands stored books order are fit sound all =
-    let rows = stored.answers.items in
+pub content_stands : (stored : AllRows) (rows : List StoredAnswer) (books : PlainBooks) → AreInOrder stored → T (is_sorted pair_cmp (map answer_entry rows)) → AreRowsOf (parts_of books) stored
+    → PartsFit (parts_of books) → IsSound books → AllByRecursion KeepsAnswer rows
+    → (content : Content) × (content.books ≡ books) × StandAt (version_of stored.form) (rows_with (answer_map rows) stored) content
+content_stands stored rows books order sorted are fit sound all =
     let desk = map_of (map desk_entry stored.desk.items) (desk_rows (version_of stored.form) books.day books.last_day) order.desk (ap (map desk_entry) are.desk ∙ sym (desk_entries (version_of stored.form) books.day books.last_day)) in
     let rates = map_of (map rate_entry stored.rates.items) (rate_rows books.rates) order.rates (ap (map rate_entry) are.rates ∙ rates_as books.rates) in
     let extensions = map_of (map rate_entry stored.extensions.items) (extension_rows books.rates) order.extensions (ap (map rate_entry) are.extensions ∙ extensions_as books.rates) in
@@ -291,8 +293,8 @@ content_stands stored books order are fit sound all =
     let tickets = map_of (map ticket_entry stored.tickets.items) (ticket_rows books.tickets) order.tickets (ap (map ticket_entry) are.tickets ∙ tickets_as books.tickets ∙ sym (ticket_entries books.tickets sound.numbered)) in
     let paid = map_of (map line_entry stored.lines.items) (paid_rows books.tickets) order.lines (ap (map line_entry) are.lines ∙ lines_as books.tickets ∙ sym (paid_entries books.tickets sound.numbered)) in
     let batches = map_of (map batch_entry stored.batches.items) (batch_rows books.batches) order.batches (ap (map batch_entry) are.batches ∙ batches_as books.batches ∙ sym (closed_entries books sound)) in
-    let answers = map_of (map answer_entry rows) (reply_rows (kept_of rows all)) order.answers
-    (sym (kept_rows rows all) ∙ ap (map (λ e. (e.0, reply_row e.1))) (sym (kept_entries rows all order.answers)) ∙ sym (reply_entries (kept_of rows all))) in (
+    let answers = map_of (map answer_entry rows) (reply_rows (kept_of rows all)) sorted
+    (sym (kept_rows rows all) ∙ ap (map (λ e. (e.0, reply_row e.1))) (sym (kept_entries rows all sorted)) ∙ sym (reply_entries (kept_of rows all))) in (
       record { books = books; kept = kept_of rows all },
       refl,
       record {

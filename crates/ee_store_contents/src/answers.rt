@@ -1,7 +1,6 @@
 //! Kept replies.
 
 ghost use Rattle.std.specs.Prelude.{◌≡◌, ◌↔◌, true, IfOk};
-ghost use Rattle.std.specs.List.{AllByRecursion};
 ghost use Rattle.ee_desk_acts.specs.declared.replies.Reply.TheVariants.{Refused};
 ghost use Rattle.ee_desk_acts.specs.declared.refusals.Refusal.TheVariants.{NumberReused};
 ghost use Rattle.ee_store_contents.specs.Contents.{KeepsAnswer};
@@ -9,6 +8,7 @@ ghost use Rattle.ee_store_contents.specs.Contents.{KeepsAnswer};
 use ee_desk_acts::{Refusal, Reply};
 use ee_desk_texts::{read_act, read_reply};
 use ee_store_making::StoredAnswer;
+use ee_store_opening::RowTest;
 use std::alloc::{AllocError, Global};
 
 /// Whether a reply says that the number was used for another act.
@@ -38,14 +38,13 @@ fn keeps_answer(alloc: Global, row: &StoredAnswer) -> Result<bool, AllocError>
     Ok(!is_reuse(&reply))
 }
 
-/// Whether each row is of an act and of a reply that is kept.
-pub fn keep_answers(alloc: Global, rows: &[StoredAnswer]) -> Result<bool, AllocError>
-    ensures { IfOk result (λ right. (right ≡ true) ↔ AllByRecursion KeepsAnswer rows.now) }
-{
-    for row in rows {
-        if !keeps_answer(alloc, row)? {
-            return Ok(false);
-        }
+/// The test that a row is of an act and of a reply that is kept.
+pub struct KeptReply;
+
+impl RowTest<StoredAnswer> for KeptReply {
+    ghost passes = { KeepsAnswer };
+
+    fn test(alloc: Global, row: &StoredAnswer) -> Result<bool, AllocError> {
+        keeps_answer(alloc, row)
     }
-    Ok(true)
 }

@@ -1,18 +1,16 @@
 //! The books that the rows of a store stand for.
 
-ghost use Rattle.std.specs.Prelude.{◌≡◌, ◌≢◌, ◌↔◌, Some, None, IfOk, IfErr, IfSome, OnOk};
-ghost use Rattle.std.specs.List.{AllByRecursion};
+ghost use Rattle.std.specs.Prelude.{◌≡◌, ◌↔◌, Some, None, IfOk, IfErr, IfSome};
 ghost use Rattle.ee_desk_acts.specs.Repeats.{Content};
 ghost use Rattle.ee_desk_parts.specs.Parts.{AreUnsound};
 ghost use Rattle.ee_desk_parts.specs.Made.{IsMadeOf};
 ghost use Rattle.ee_store_contents.specs.Reading.{parts_in};
-ghost use Rattle.ee_store_opening.specs.Whole.{AreInOrder, rows_of};
+ghost use Rattle.ee_store_tables.specs.Rows.{Rows as TableRows};
+ghost use Rattle.ee_store_opening.specs.Whole.{AreInOrder, AreRead};
 ghost use Rattle.ee_store_contents.specs.Standing.{StandAt};
 ghost use Rattle.ee_store_making.specs.Forms.{version_of};
-ghost use Rattle.ee_store_making.specs.declared.forms.Form.TheVariants.{Current};
 ghost use Rattle.ee_store_contents.specs.Contents.{PartsFit, KeepsAnswer, tables_for};
 
-use crate::answers::keep_answers;
 use crate::marks::marks_of;
 use crate::ranges::parts_fit;
 use crate::rates::rates_in;
@@ -21,7 +19,7 @@ use crate::tickets::tickets_in;
 use crate::unit_tables::kept_tables;
 use ee_desk_acts::{Rows, UnitTables};
 use ee_desk_parts::{Indexes, Parts, PartsFault, checked};
-use ee_store_making::{Form, StoredAnswer};
+use ee_store_making::StoredAnswer;
 use ee_store_opening::AllRows;
 use std::alloc::{AllocError, Global};
 use std::mem;
@@ -95,38 +93,12 @@ fn right_parts(alloc: Global, stored: AllRows) -> Result<Parts, ContentFault>
     }
 }
 
-/// Takes the kept replies out of the rows.
-fn take_answers(alloc: Global, stored: &mut AllRows) -> Vec<StoredAnswer>
-    ensures taken { result ≡ stored.old.answers }
-    ensures rest { stored.new ≡ record stored.old { answers = stored.new.answers } }
+/// Takes the kept replies of version 1 out of what was read.
+fn take_earlier(alloc: Global, stored: &mut AllRows) -> Vec<StoredAnswer>
+    ensures taken { result ≡ stored.old.replies.earlier }
+    ensures rest { stored.new ≡ record stored.old { replies = stored.new.replies } }
 {
-    mem::replace(&mut stored.answers, Vec::new(alloc))
-}
-
-/// The kept replies that are to be written anew: those of a store of version 1. The others are let go.
-fn to_migrate(alloc: Global, form: Form, answers: Vec<StoredAnswer>) -> Vec<StoredAnswer>
-    ensures { form ≢ Current → result ≡ answers }
-{
-    match form {
-        Form::Current => Vec::new(alloc),
-        Form::First | Form::Earliest => answers,
-    }
-}
-
-/// Tests that each reply is one that is kept, and answers those that are to be written anew.
-fn tested_answers(
-    alloc: Global,
-    form: Form,
-    answers: Vec<StoredAnswer>,
-) -> Result<Vec<StoredAnswer>, ContentFault>
-    ensures kept { OnOk result (AllByRecursion KeepsAnswer answers.items) }
-    ensures left { IfOk result (λ left. form ≢ Current → left ≡ answers) }
-    ensures unusable { IfErr result (λ fault. fault ≡ ContentFault.Unusable → AllByRecursion KeepsAnswer answers.items → ⊥) }
-{
-    if !keep_answers(alloc, &answers)? {
-        return Err(ContentFault::Unusable);
-    }
-    Ok(to_migrate(alloc, form, answers))
+    mem::replace(&mut stored.replies.earlier, Vec::new(alloc))
 }
 
 /// Parts that no sound books have are unusable.
@@ -155,26 +127,28 @@ fn indexes_of(alloc: Global, parts: &Parts) -> Result<Indexes, ContentFault>
 pub struct Tested {
     /// The tables of unit values for the rates of the books.
     pub tables: UnitTables,
-    /// The kept replies of a store of version 1, which its migration writes anew; those of version 2 are let go.
+    /// The kept replies of a store of version 1, which its migration writes anew; of version 2 none.
     pub answers: Vec<StoredAnswer>,
 }
 
 /// The tables of unit values for the rates of the books that the rows of a store stand for, where they
 /// stand for books and kept replies: one for each pair of rates, which is the one that the test of the
-/// books made. It answers `Unusable` exactly where the rows stand for none. The rows are let go as soon as
-/// they are tested: the kept replies first, but for those that are to be migrated, and then the others.
+/// books made. The rows are those that were read, of which the kept replies were tested (`KeptReply`) and
+/// all others are given. It answers `Unusable` exactly where the rows stand for none. They are let go as soon
+/// as they are tested.
 pub fn tables_of(alloc: Global, stored: AllRows) -> Result<Tested, ContentFault>
     requires { AreInOrder stored }
-    ensures ok { IfOk result (λ tested. (content : Content)
-        × (tested.tables ≡ tables_for content.books.rates) × StandAt (version_of stored.form) (rows_of stored) content) }
-    ensures left { IfOk result (λ tested. stored.form ≢ Current → tested.answers ≡ stored.answers) }
+    ensures ok { IfOk result (λ tested. (rows : TableRows) → AreRead KeepsAnswer stored rows → (content : Content)
+        × (tested.tables ≡ tables_for content.books.rates) × StandAt (version_of stored.form) rows content) }
+    ensures left { IfOk result (λ tested. tested.answers ≡ stored.replies.earlier) }
     ensures unusable { IfErr result (λ fault. fault ≡ ContentFault.Unusable
-        → (content : Content) → StandAt (version_of stored.form) (rows_of stored) content → ⊥) }
+        → (rows : TableRows) → AreRead KeepsAnswer stored rows → (content : Content) → StandAt (version_of stored.form) rows content → ⊥) }
 {
-    let form = stored.form;
+    if !stored.replies.pass {
+        return Err(ContentFault::Unusable);
+    }
     let mut rest = stored;
-    let kept = take_answers(alloc, &mut rest);
-    let answers = tested_answers(alloc, form, kept)?;
+    let answers = take_earlier(alloc, &mut rest);
     let parts = right_parts(alloc, rest)?;
     let indexes = indexes_of(alloc, &parts)?;
     let tables = kept_tables(alloc, &indexes.terms)?;

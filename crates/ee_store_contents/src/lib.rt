@@ -11,5 +11,6 @@ mod reading;
 mod tickets;
 mod unit_tables;
 
+pub use answers::KeptReply;
 pub use contents::{ContentFault, Tested, tables_of};
 pub use laws::one_content;

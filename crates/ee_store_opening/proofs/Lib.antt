@@ -17,3 +17,4 @@ mod CanRead
 mod FiveLemmas
 mod FirstAnswers
 mod LastLemmas
+mod TestLemmas

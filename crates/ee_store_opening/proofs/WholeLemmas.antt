@@ -6,6 +6,7 @@ use Rattle.sqlite.specs.Tree.{Trees}
 use Rattle.sqlite.specs.State.{State, IsLive, IsUnchanged}
 use Rattle.ee_store_tables.specs.Keyed.{pair_cmp, HoldsMap}
 use Rattle.ee_store_tables.specs.Rows.{Rows, ReplyRow, rate_columns}
+use Rattle.ee_store_making.specs.declared.answers.StoredAnswer.{StoredAnswer}
 use Rattle.ee_store_making.specs.declared.forms.Form.{Form}
 use Rattle.ee_store_making.specs.declared.forms.Form.TheVariants.{Current, First, Earliest}
 use Rattle.ee_store_making.specs.Forms.{HoldsReplies, HoldsIn, SeesForm, HasForm, SeesIn, HadIn}
@@ -13,7 +14,8 @@ use Rattle.ee_store_opening.specs.Reading.{IsSoundNow}
 use Rattle.ee_store_opening.specs.declared.entries.StoredRate.{StoredRate}
 use Rattle.ee_store_opening.specs.declared.whole.AllRows.{AllRows}
 use Rattle.ee_store_opening.specs.Shown.{desk_map, rate_map, bond_map, ticket_map, line_map, batch_map, answer_map}
-use Rattle.ee_store_opening.specs.Whole.{rows_of, ListsAll, AreInOrder, HoldsKept, HoldsExtensions}
+use Rattle.ee_store_opening.specs.declared.tables.KeptReplies.{KeptReplies}
+use Rattle.ee_store_opening.specs.Whole.{rows_with, ListsAll, AreInOrder, HoldsKept, HoldsTested, HoldsExtensions}
 use Rattle.ee_store_making.proofs.Lemmas.Forms.{HoldsCommon, had_form}
 use Rattle.ee_store_opening.proofs.OneLemmas.{one_rows}
 
@@ -42,9 +44,9 @@ module _ (form : Form) (old : State) (settled : IsTrue old.is_open → old.now �
 no_rates : rate_map [] ≡ empty
 no_rates = empty_of_len (rate_map []) (len-entries (rate_map []) ∙ ap length (entries-from_sorted nat_cmp [] tt))
 
-pub holds_all : (form : Form) (db : Trees) (all : AllRows) → HoldsCommon db (rows_of all) → HoldsKept form db (answer_map all.answers.items) → HoldsExtensions form db all.extensions.items
-    → HoldsIn form db (rows_of all)
-holds_all Current db all h answers extensions = record {
+pub holds_all : (form : Form) (db : Trees) (all : AllRows) (kept : FinMap pair_cmp ReplyRow) → HoldsCommon db (rows_with kept all) → HoldsKept form db kept → HoldsExtensions form db all.extensions.items
+    → HoldsIn form db (rows_with kept all)
+holds_all Current db all kept h answers extensions = record {
   desk = h.desk;
   rates = h.rates;
   bonds = h.bonds;
@@ -54,7 +56,7 @@ holds_all Current db all h answers extensions = record {
   extensions = extensions;
   answers = answers;
 }
-holds_all First db all h answers extensions = record {
+holds_all First db all kept h answers extensions = record {
   desk = h.desk;
   rates = h.rates;
   bonds = h.bonds;
@@ -64,7 +66,7 @@ holds_all First db all h answers extensions = record {
   answers = answers;
   extensions = extensions;
 }
-holds_all Earliest db all h answers none = record {
+holds_all Earliest db all kept h answers none = record {
   desk = h.desk;
   rates = h.rates;
   bonds = h.bonds;
@@ -106,6 +108,14 @@ first_kept Current db answers earlier held = absurd (earlier refl)
 first_kept First db answers earlier held = held
 first_kept Earliest db answers earlier held = held
 
+-- replies of version 1 that were tested
+pub tested_first : {Passes : StoredAnswer → Type 0} (form : Form) (db : Trees) (read : KeptReplies) → form ≢ Current → HoldsTested Passes First db read → HoldsTested Passes form db read
+tested_first form db read later it = record {
+  kept = it.kept;
+  tested = record { in_order = it.tested.in_order; pass = it.tested.pass; earlier = λ _. it.tested.earlier (λ is. absurd cc) };
+  held = first_kept form db (answer_map it.kept) later it.held;
+}
+
 pub kept_first : (form : Form) (db : Trees) (answers : FinMap pair_cmp ReplyRow) → form ≢ Current → HoldsKept form db answers → HoldsReplies db answers
 kept_first Current db answers earlier held = absurd (earlier refl)
 kept_first First db answers earlier held = held
@@ -121,5 +131,4 @@ are_in_order all lists = record {
   lines = subst (λ es. T (is_sorted pair_cmp es)) lists.lines (entries_sorted (line_map all.lines.items));
   batches = subst (λ es. T (is_sorted nat_cmp es)) lists.batches (entries_sorted (batch_map all.batches.items));
   extensions = subst (λ es. T (is_sorted nat_cmp es)) lists.extensions (entries_sorted (rate_map all.extensions.items));
-  answers = subst (λ es. T (is_sorted pair_cmp es)) lists.answers (entries_sorted (answer_map all.answers.items));
 }

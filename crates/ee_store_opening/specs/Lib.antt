@@ -2,3 +2,4 @@ pub mod Reading
 pub mod Shown
 pub mod Whole
 pub mod Opening
+pub mod Testing

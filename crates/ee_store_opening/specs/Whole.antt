@@ -1,24 +1,28 @@
--- What all rows of a store are together.
-use Rattle.std.specs.Prelude.{◌≡◌, ◌≢◌, List, [], T, map}
+-- What all rows of a store are together, and what is read of them.
+use Rattle.std.specs.Prelude.{◌≡◌, ◌≢◌, ◌↔◌, true, List, [], T, map}
+use Rattle.std.specs.List.{AllByRecursion}
 use Rattle.std.specs.Ordering.{nat_cmp}
 use Rattle.std.specs.FinMap.{FinMap, entries, is_sorted}
 use Rattle.sqlite.specs.Tree.{Trees}
 use Rattle.sqlite.specs.State.{State}
 use Rattle.ee_store_tables.specs.Keyed.{pair_cmp, HoldsMap, HoldsPairs}
 use Rattle.ee_store_tables.specs.Rows.{Rows, ReplyRow, desk_columns, rate_columns, bond_columns, ticket_columns, paid_columns, batch_columns, reply_columns}
+use Rattle.ee_store_making.specs.declared.answers.StoredAnswer.{StoredAnswer}
 use Rattle.ee_store_making.specs.declared.forms.Form.{Form}
 use Rattle.ee_store_making.specs.declared.forms.Form.TheVariants.{Current, First, Earliest}
 use Rattle.ee_store_making.specs.Forms.{SeesForm, HoldsReplies}
 use Rattle.ee_store_making.specs.Migrating.{answer_entry}
 use Rattle.ee_store_opening.specs.declared.entries.StoredRate.{StoredRate}
+use Rattle.ee_store_opening.specs.declared.tables.KeptReplies.{KeptReplies}
 use Rattle.ee_store_opening.specs.declared.whole.AllRows.{AllRows}
 use Rattle.ee_store_opening.specs.declared.whole.Register.{Register}
 use Rattle.ee_store_opening.specs.declared.whole.Payments.{Payments}
 use Rattle.ee_store_opening.specs.declared.whole.Records.{Records}
 use Rattle.ee_store_opening.specs.Shown.{desk_map, rate_map, bond_map, ticket_map, line_map, batch_map, answer_map, desk_entry, rate_entry, bond_entry, ticket_entry, line_entry, batch_entry}
 
-abbrev pub rows_of : AllRows → Rows
-rows_of all = record {
+-- all rows that were read, where these are the kept replies
+abbrev pub rows_with : FinMap pair_cmp ReplyRow → AllRows → Rows
+rows_with kept all = record {
   desk = desk_map all.desk.items;
   rates = rate_map all.rates.items;
   bonds = bond_map all.bonds.items;
@@ -26,10 +30,10 @@ rows_of all = record {
   paid = line_map all.lines.items;
   batches = batch_map all.batches.items;
   extensions = rate_map all.extensions.items;
-  answers = answer_map all.answers.items;
+  answers = kept;
 }
 
--- Each table's rows are in order of their keys, and no key stands twice.
+-- Each table's rows that were read are in order of their keys, and no key stands twice.
 pub record AreInOrder (all : AllRows) : Type 0 where
   pub desk : T (is_sorted nat_cmp (map desk_entry all.desk.items))
   pub rates : T (is_sorted nat_cmp (map rate_entry all.rates.items))
@@ -38,7 +42,6 @@ pub record AreInOrder (all : AllRows) : Type 0 where
   pub lines : T (is_sorted pair_cmp (map line_entry all.lines.items))
   pub batches : T (is_sorted nat_cmp (map batch_entry all.batches.items))
   pub extensions : T (is_sorted nat_cmp (map rate_entry all.extensions.items))
-  pub answers : T (is_sorted pair_cmp (map answer_entry all.answers.items))
 
 -- The entries of each map are the rows that were read, in their order.
 pub record ListsAll (all : AllRows) : Type 0 where
@@ -49,7 +52,18 @@ pub record ListsAll (all : AllRows) : Type 0 where
   pub lines : entries (line_map all.lines.items) ≡ map line_entry all.lines.items
   pub batches : entries (batch_map all.batches.items) ≡ map batch_entry all.batches.items
   pub extensions : entries (rate_map all.extensions.items) ≡ map rate_entry all.extensions.items
-  pub answers : entries (answer_map all.answers.items) ≡ map answer_entry all.answers.items
+
+-- These are the kept replies that were read, in order of their keys. It says whether each passed its test, and has those of version 1.
+pub record AreTested (Passes : StoredAnswer → Type 0) (form : Form) (read : KeptReplies) (kept : List StoredAnswer) : Type 0 where
+  pub in_order : T (is_sorted pair_cmp (map answer_entry kept))
+  pub pass : (read.pass ≡ true) ↔ AllByRecursion Passes kept
+  pub earlier : form ≢ Current → read.earlier.items ≡ kept
+
+-- These rows were read: the kept replies were tested, and all others are here.
+pub record AreRead (Passes : StoredAnswer → Type 0) (all : AllRows) (rows : Rows) : Type 0 where
+  pub kept : List StoredAnswer
+  pub tested : AreTested Passes all.form all.replies kept
+  pub are : rows ≡ rows_with (answer_map kept) all
 
 -- ---- parts of the whole
 
@@ -64,7 +78,6 @@ pub record ListsPayments (part : Payments) : Type 0 where
 
 pub record ListsRecords (part : Records) : Type 0 where
   pub batches : entries (batch_map part.batches.items) ≡ map batch_entry part.batches.items
-  pub answers : entries (answer_map part.answers.items) ≡ map answer_entry part.answers.items
 
 pub record HoldsRegister (db : Trees) (part : Register) : Type 0 where
   pub desk : HoldsMap desk_columns (db 0) (desk_map part.desk.items)
@@ -85,9 +98,15 @@ HoldsKept Current db answers = HoldsPairs reply_columns (db 13) answers
 HoldsKept First db answers = HoldsReplies db answers
 HoldsKept Earliest db answers = HoldsReplies db answers
 
-pub record HoldsRecords (form : Form) (db : Trees) (part : Records) : Type 0 where
+-- the table of this form holds just these kept replies, and they were tested
+pub record HoldsTested (Passes : StoredAnswer → Type 0) (form : Form) (db : Trees) (read : KeptReplies) : Type 0 where
+  pub kept : List StoredAnswer
+  pub tested : AreTested Passes form read kept
+  pub held : HoldsKept form db (answer_map kept)
+
+pub record HoldsRecords (Passes : StoredAnswer → Type 0) (form : Form) (db : Trees) (part : Records) : Type 0 where
   pub batches : HoldsMap batch_columns (db 10) (batch_map part.batches.items)
-  pub answers : HoldsKept form db (answer_map part.answers.items)
+  pub replies : HoldsTested Passes form db part.replies
 
 -- the rows of the table of extensions, and none where it is lacking
 abbrev pub HoldsExtensions : Form → Trees → List StoredRate → Type 0

@@ -6,6 +6,7 @@ mod opening;
 mod ours;
 mod reading;
 mod tables;
+mod testing;
 mod version;
 mod whole;
 
@@ -13,5 +14,7 @@ pub use entries::{
     StoredBatch, StoredBond, StoredDesk, StoredLine, StoredRate, StoredReply, StoredTicket,
 };
 pub use opening::open_rows;
+pub use tables::KeptReplies;
+pub use testing::RowTest;
 pub use version::STORE_VERSION;
 pub use whole::AllRows;

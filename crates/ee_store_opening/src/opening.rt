@@ -11,21 +11,25 @@ ghost use Rattle.ee_store_making.specs.declared.forms.Form.TheVariants.{Current}
 ghost use Rattle.ee_store_making.specs.Faults.{IsExcused, FailsForCause};
 ghost use Rattle.ee_store_making.specs.Forms.{HasForm, IsOurs, HadIn};
 ghost use Rattle.ee_store_making.specs.Making.{IsBlank, first_rows};
-ghost use Rattle.ee_store_opening.specs.Whole.{rows_of, AreInOrder};
+ghost use Rattle.ee_store_opening.specs.Whole.{AreRead, AreInOrder};
 ghost use Rattle.ee_store_opening.specs.Opening.{HasTables, IsOfForm, IsOtherVersion, AreReadable};
 
 use crate::ours::{form_of, has_no_tables};
+use crate::testing::RowTest;
 use crate::version::known_version;
 use crate::whole::{AllRows, read_all};
-use ee_store_making::{Form, OpenFault, make_tables};
+use ee_store_making::{Form, OpenFault, StoredAnswer, make_tables};
 use sqlite::{Alter, Connection};
 use std::alloc::Global;
 
 /// Makes the tables, and reads their rows.
-fn open_blank<S: Alter>(conn: &mut Connection<S>, alloc: Global) -> Result<AllRows, OpenFault>
-    ensures found { HasCleanDisk (state S.Store conn.new) → IfOk result (λ all. IsBlank (state S.Store conn.old) → Has (state S.Store conn.new) (rows_of all)) }
+fn open_blank<S: Alter, P: RowTest<StoredAnswer>>(
+    conn: &mut Connection<S>,
+    alloc: Global,
+) -> Result<AllRows, OpenFault>
     ensures form { IfOk result (λ all. all.form ≡ Current) }
-    ensures made { HasCleanDisk (state S.Store conn.new) → IfOk result (λ all. IsBlank (state S.Store conn.old) → rows_of all ≡ first_rows) }
+    ensures made { HasCleanDisk (state S.Store conn.new) → IfOk result (λ all. IsBlank (state S.Store conn.old)
+        → Has (state S.Store conn.new) first_rows × AreRead P.passes all first_rows) }
     ensures order { IfOk result AreInOrder }
     ensures open { HasCleanDisk (state S.Store conn.new) → OnOk result (IsTrue (state S.Store conn.old).is_open × IsTrue (state S.Store conn.new).is_open) }
     ensures begun { HasCleanDisk (state S.Store conn.new) → OnOk result (IsBlank (state S.Store conn.old) → (db : Trees)
@@ -39,7 +43,7 @@ fn open_blank<S: Alter>(conn: &mut Connection<S>, alloc: Global) -> Result<AllRo
     ensures crash { Survives (state S.Store conn.old) (state S.Store conn.new) (λ db. IsBlank (state S.Store conn.old) → Stores db first_rows) }
 {
     make_tables(conn)?;
-    read_all(conn, alloc, Form::Current)
+    read_all::<S, P>(conn, alloc, Form::Current)
 }
 
 /// Why a store with other tables isn't opened.
@@ -62,8 +66,14 @@ fn refusal<S: Alter>(conn: &mut Connection<S>) -> OpenFault
 /// version 1 (`migrate` makes version 2 of them). Where a store has no table, index or view the tables are made
 /// in one transaction, with the desk's row: version 2, no open day and no last day. Any other store is
 /// refused, one with our tables in another order or with fewer of them too, and nothing is committed in it.
-/// The version is tested before all else is read. Each table's rows come in order of their keys. It takes
-/// time and memory in proportion to the rows.
+/// The version is tested before all else is read. Each table's rows come in order of their keys. Each kept reply is
+/// tested by `P`; those of version 2 are let go as soon as they are, so that memory is needed for one of them at a time.
+/// It takes time in proportion to the rows, and memory to those that come.
+///
+/// - `found`: a store whose tables are of this form has these rows, and they were read: all but the kept replies come, and of
+///   those it is told whether each passed. What a store has determines its rows.
+/// - `those`: the rows that the store had before were read.
+/// - `made`: a store that had no tables has its first rows, and those were read.
 ///
 /// # Errors
 ///
@@ -74,15 +84,18 @@ fn refusal<S: Alter>(conn: &mut Connection<S>) -> OpenFault
 /// new tables and the desk's row are there. Where there is a table, an index or a view, nothing is
 /// committed. Outside a transaction and with no limit on steps, a store with no tables or with those
 /// of either version gives `StoreFailed` only where its device fails during the call or it was shut before.
-pub fn open_rows<S: Alter>(conn: &mut Connection<S>, alloc: Global) -> Result<AllRows, OpenFault>
-    ensures found { HasCleanDisk (state S.Store conn.new) → IfOk result (λ all. HadIn all.form (state S.Store conn.new) (rows_of all)) }
+pub fn open_rows<S: Alter, P: RowTest<StoredAnswer>>(
+    conn: &mut Connection<S>,
+    alloc: Global,
+) -> Result<AllRows, OpenFault>
+    ensures found { HasCleanDisk (state S.Store conn.new) → IfOk result (λ all. (rows : Rows) × HadIn all.form (state S.Store conn.new) rows × AreRead P.passes all rows) }
     ensures current { HasCleanDisk (state S.Store conn.new) → IfOk result (λ all. IsTrue (state S.Store conn.old).is_open
-        → HasForm Current (state S.Store conn.old) ⊎ IsBlank (state S.Store conn.old) → (all.form ≡ Current) × Has (state S.Store conn.new) (rows_of all)) }
+        → HasForm Current (state S.Store conn.old) ⊎ IsBlank (state S.Store conn.old) → all.form ≡ Current) }
     ensures ours { HasCleanDisk (state S.Store conn.new) → OnOk result (IsOurs (state S.Store conn.old) ⊎ IsBlank (state S.Store conn.old)) }
     ensures made { HasCleanDisk (state S.Store conn.new) → IfOk result (λ all. IsBlank (state S.Store conn.old) → IsTrue (state S.Store conn.old).is_open
-        → rows_of all ≡ first_rows) }
+        → Has (state S.Store conn.new) first_rows × AreRead P.passes all first_rows) }
     ensures those { HasCleanDisk (state S.Store conn.new) → IfOk result (λ all. (form : Form) (rows : Rows) → HadIn form (state S.Store conn.old) rows
-        → IsTrue (state S.Store conn.old).is_open → rows_of all ≡ rows) }
+        → IsTrue (state S.Store conn.old).is_open → AreRead P.passes all rows) }
     ensures order { IfOk result AreInOrder }
     ensures open { HasCleanDisk (state S.Store conn.new) → OnOk result (IsTrue (state S.Store conn.old).is_open × IsTrue (state S.Store conn.new).is_open) }
     ensures begun { HasCleanDisk (state S.Store conn.new) → OnOk result (IsBlank (state S.Store conn.old) → (db : Trees)
@@ -116,10 +129,10 @@ pub fn open_rows<S: Alter>(conn: &mut Connection<S>, alloc: Global) -> Result<Al
         return Err(OpenFault::StoreFailed);
     }
     if has_no_tables(conn.schema()) {
-        return open_blank(conn, alloc);
+        return open_blank::<S, P>(conn, alloc);
     }
     match form_of(conn.schema()) {
-        Some(form) => read_all(conn, alloc, form),
+        Some(form) => read_all::<S, P>(conn, alloc, form),
         None => Err(refusal(conn)),
     }
 }

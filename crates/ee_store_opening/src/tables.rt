@@ -1,4 +1,4 @@
-//! Reading the whole of each table.
+//! Reading the whole of each table, and testing the kept replies as they are read.
 
 ghost use Rattle.std.specs.Prelude.{◌≡◌, ◌≢◌, IsTrue, IfOk, IfErr, OnOk, map, ℕ};
 ghost use Rattle.std.specs.FinMap.{FinMap, entries};
@@ -23,7 +23,7 @@ ghost use Rattle.ee_store_tables.specs.Rows.{
   reply_columns,
 };
 ghost use Rattle.ee_store_making.specs.Faults.{FailsForCause};
-ghost use Rattle.ee_store_making.specs.declared.forms.Form.TheVariants.{Current};
+ghost use Rattle.ee_store_making.specs.declared.forms.Form.TheVariants.{Current, First};
 ghost use Rattle.ee_store_making.specs.Forms.{at_first_desk, HasOurTables, SeesForm, HoldsIn, HoldsReplies};
 ghost use Rattle.ee_store_making.specs.Migrating.{answer_entry};
 ghost use Rattle.ee_store_opening.specs.Reading.{IsSoundNow};
@@ -46,12 +46,13 @@ ghost use Rattle.ee_store_opening.specs.Shown.{
   batch_entry,
   reply_entry,
 };
-ghost use Rattle.ee_store_opening.specs.Whole.{HasFirstTables, HoldsKept, HoldsExtensions};
+ghost use Rattle.ee_store_opening.specs.Whole.{HasFirstTables, HoldsKept, HoldsTested, HoldsExtensions};
 
 use crate::entries::{
     Rowid, StoredBatch, StoredBond, StoredDesk, StoredLine, StoredRate, StoredReply, StoredTicket,
 };
 use crate::reading::read_table;
+use crate::testing::{RowTest, all_pass, test_table};
 use ee_store_making::{Form, OpenFault, StoredAnswer};
 use sqlite::{Alter, Connection};
 use std::alloc::Global;
@@ -213,14 +214,43 @@ fn read_first_answers<S: Alter>(
     with_first_desk(alloc, replies)
 }
 
-/// The kept replies of a store of version 2, in order of their desks and numbers.
-fn read_current_answers<S: Alter>(
+/// What was read of the kept replies of a store.
+#[derive(Drop)]
+pub struct KeptReplies {
+    /// Whether each passed its test.
+    pub pass: bool,
+    /// Those of a store of version 1, which is to be migrated; of version 2 none, since each is let go as soon as it is tested.
+    pub earlier: Vec<StoredAnswer>,
+}
+
+/// Tests the kept replies of a store of version 1.
+fn test_first_answers<S: Alter, P: RowTest<StoredAnswer>>(
     conn: &mut Connection<S>,
     alloc: Global,
-) -> Result<Vec<StoredAnswer>, OpenFault>
+) -> Result<KeptReplies, OpenFault>
+    ensures found { HasCleanDisk (state S.Store conn.new) → HasFirstTables (state S.Store conn.old) → IsSoundNow (state S.Store conn.old)
+        → IfOk result (HoldsTested P.passes First (state S.Store conn.old).now.trees) }
+    ensures usable { HasCleanDisk (state S.Store conn.new) → IfErr result (λ e. e ≡ OpenFault.Unusable → HasFirstTables (state S.Store conn.old)
+        → IsTrue (state S.Store conn.old).is_open → (m : FinMap pair_cmp ReplyRow) → AreWritten m
+        → ¬ HoldsReplies (state S.Store conn.old).now.trees m) }
+    ensures same { HasCleanDisk (state S.Store conn.new) → OnOk result (IsUnchanged (state S.Store conn.old) (state S.Store conn.new)) }
+    ensures kept { HasCleanDisk (state S.Store conn.new) → KeepsCommit (state S.Store conn.old) (state S.Store conn.new) }
+    ensures other { IfErr result (λ e. e ≢ OpenFault.WrongVersion) }
+    ensures cause { FailsForCause HasFirstTables (state S.Store conn.old) (state S.Store conn.new) result }
+    ensures crash { Survives (state S.Store conn.old) (state S.Store conn.new) (λ _. ⊥) }
+{
+    let earlier = read_first_answers(conn, alloc)?;
+    let pass = all_pass::<StoredAnswer, P>(alloc, &earlier)?;
+    Ok(KeptReplies { pass, earlier })
+}
+
+/// Tests the kept replies of a store of version 2, each as it is read.
+fn test_current_answers<S: Alter, P: RowTest<StoredAnswer>>(
+    conn: &mut Connection<S>,
+    alloc: Global,
+) -> Result<KeptReplies, OpenFault>
     ensures found { HasCleanDisk (state S.Store conn.new) → SeesForm Current (state S.Store conn.old) → IsSoundNow (state S.Store conn.old)
-        → IfOk result (λ found. HoldsPairs reply_columns ((state S.Store conn.old).now.trees 13) (answer_map found.items)) }
-    ensures listed { IfOk result (λ found. entries (answer_map found.items) ≡ map answer_entry found.items) }
+        → IfOk result (HoldsTested P.passes Current (state S.Store conn.old).now.trees) }
     ensures usable { HasCleanDisk (state S.Store conn.new) → IfErr result (λ e. e ≡ OpenFault.Unusable → SeesForm Current (state S.Store conn.old)
         → IsTrue (state S.Store conn.old).is_open → (m : FinMap pair_cmp ReplyRow) → AreWritten m
         → ¬ HoldsPairs reply_columns ((state S.Store conn.old).now.trees 13) m) }
@@ -230,24 +260,26 @@ fn read_current_answers<S: Alter>(
     ensures cause { FailsForCause (SeesForm Current) (state S.Store conn.old) (state S.Store conn.new) result }
     ensures crash { Survives (state S.Store conn.old) (state S.Store conn.new) (λ _. ⊥) }
 {
-    let found = read_table(
+    let pass = test_table::<S, StoredAnswer, P>(
         conn,
         alloc,
         "SELECT desk, number, act, reply FROM answers ORDER BY desk, number",
     )?;
     let _rowids: Vec<Rowid> = read_table(conn, alloc, "SELECT rowid FROM answers ORDER BY rowid")?;
-    Ok(found)
+    Ok(KeptReplies {
+        pass,
+        earlier: Vec::new(alloc),
+    })
 }
 
-/// The kept replies, in order of their desks and numbers.
-pub(crate) fn read_answers<S: Alter>(
+/// Tests the kept replies, in order of their desks and numbers.
+pub(crate) fn test_answers<S: Alter, P: RowTest<StoredAnswer>>(
     conn: &mut Connection<S>,
     alloc: Global,
     form: Form,
-) -> Result<Vec<StoredAnswer>, OpenFault>
+) -> Result<KeptReplies, OpenFault>
     ensures found { HasCleanDisk (state S.Store conn.new) → SeesForm form (state S.Store conn.old) → IsSoundNow (state S.Store conn.old)
-        → IfOk result (λ found. HoldsKept form (state S.Store conn.old).now.trees (answer_map found.items)) }
-    ensures listed { IfOk result (λ found. entries (answer_map found.items) ≡ map answer_entry found.items) }
+        → IfOk result (HoldsTested P.passes form (state S.Store conn.old).now.trees) }
     ensures usable { HasCleanDisk (state S.Store conn.new) → IfErr result (λ e. e ≡ OpenFault.Unusable → SeesForm form (state S.Store conn.old)
         → IsTrue (state S.Store conn.old).is_open → (m : FinMap pair_cmp ReplyRow) → AreWritten m
         → ¬ HoldsKept form (state S.Store conn.old).now.trees m) }
@@ -258,8 +290,8 @@ pub(crate) fn read_answers<S: Alter>(
     ensures crash { Survives (state S.Store conn.old) (state S.Store conn.new) (λ _. ⊥) }
 {
     match form {
-        Form::Current => read_current_answers(conn, alloc),
-        Form::First | Form::Earliest => read_first_answers(conn, alloc),
+        Form::Current => test_current_answers::<S, P>(conn, alloc),
+        Form::First | Form::Earliest => test_first_answers::<S, P>(conn, alloc),
     }
 }
 

@@ -11,7 +11,7 @@ ghost use Rattle.ee_store_opening.specs.Shown.{AreWritten};
 ghost use Rattle.ee_store_making.specs.Faults.{FailsForCause};
 ghost use Rattle.ee_store_opening.specs.Reading.{IsSoundNow};
 ghost use Rattle.ee_store_opening.specs.Whole.{
-  rows_of,
+  AreRead,
   HoldsRegister,
   HoldsPayments,
   HoldsRecords,
@@ -24,15 +24,16 @@ ghost use Rattle.ee_store_opening.specs.Whole.{
 
 use crate::entries::{StoredBatch, StoredBond, StoredDesk, StoredLine, StoredRate, StoredTicket};
 use crate::tables::{
-    read_answers, read_batches, read_bonds, read_desk, read_extensions, read_lines, read_rates,
-    read_tickets,
+    KeptReplies, read_batches, read_bonds, read_desk, read_extensions, read_lines, read_rates,
+    read_tickets, test_answers,
 };
+use crate::testing::RowTest;
 use crate::version::known_version;
 use ee_store_making::{Form, OpenFault, StoredAnswer};
 use sqlite::{Alter, Connection};
 use std::alloc::Global;
 
-/// All rows of a store, each table in order of its keys.
+/// What was read of a store: the rows of each table in order of its keys, but the kept replies only where they are to be migrated.
 #[derive(Drop)]
 pub struct AllRows {
     /// The form of the tables that they were read from.
@@ -51,8 +52,8 @@ pub struct AllRows {
     pub batches: Vec<StoredBatch>,
     /// The extensions: the rates of extended maturity that are others than the fixed ones.
     pub extensions: Vec<StoredRate>,
-    /// The kept acts and replies.
-    pub answers: Vec<StoredAnswer>,
+    /// What was read of the kept acts and replies.
+    pub replies: KeptReplies,
 }
 
 /// The rows of the register.
@@ -74,7 +75,7 @@ pub(crate) struct Payments {
 #[derive(Drop)]
 pub(crate) struct Records {
     batches: Vec<StoredBatch>,
-    answers: Vec<StoredAnswer>,
+    replies: KeptReplies,
 }
 
 /// Reads the desk, the rates and the bonds.
@@ -114,14 +115,14 @@ fn read_payments<S: Alter>(conn: &mut Connection<S>, alloc: Global) -> Result<Pa
     Ok(Payments { tickets, lines })
 }
 
-/// Reads the batches and the kept replies.
-fn read_records<S: Alter>(
+/// Reads the batches, and tests the kept replies.
+fn read_records<S: Alter, P: RowTest<StoredAnswer>>(
     conn: &mut Connection<S>,
     alloc: Global,
     form: Form,
 ) -> Result<Records, OpenFault>
     ensures found { HasCleanDisk (state S.Store conn.new) → SeesForm form (state S.Store conn.old) → IsSoundNow (state S.Store conn.old)
-        → IfOk result (λ found. HoldsRecords form (state S.Store conn.old).now.trees found) }
+        → IfOk result (HoldsRecords P.passes form (state S.Store conn.old).now.trees) }
     ensures listed { IfOk result ListsRecords }
     ensures usable { HasCleanDisk (state S.Store conn.new) → IfErr result (λ e. e ≡ OpenFault.Unusable → SeesForm form (state S.Store conn.old)
         → IsTrue (state S.Store conn.old).is_open → (rows : Rows) → AreWritten rows.answers
@@ -133,18 +134,18 @@ fn read_records<S: Alter>(
     ensures crash { Survives (state S.Store conn.old) (state S.Store conn.new) (λ _. ⊥) }
 {
     let batches = read_batches(conn, alloc)?;
-    let answers = read_answers(conn, alloc, form)?;
-    Ok(Records { batches, answers })
+    let replies = test_answers::<S, P>(conn, alloc, form)?;
+    Ok(Records { batches, replies })
 }
 
 /// Reads all tables.
-fn read_in<S: Alter>(
+fn read_in<S: Alter, P: RowTest<StoredAnswer>>(
     conn: &mut Connection<S>,
     alloc: Global,
     form: Form,
 ) -> Result<AllRows, OpenFault>
     ensures found { HasCleanDisk (state S.Store conn.new) → SeesForm form (state S.Store conn.old) → IsSoundNow (state S.Store conn.old)
-        → IfOk result (λ found. HoldsIn form (state S.Store conn.old).now.trees (rows_of found)) }
+        → IfOk result (λ all. (rows : Rows) × HoldsIn form (state S.Store conn.old).now.trees rows × AreRead P.passes all rows) }
     ensures listed { IfOk result ListsAll }
     ensures form { IfOk result (λ all. all.form ≡ form) }
     ensures usable { HasCleanDisk (state S.Store conn.new) → IfErr result (λ e. e ≡ OpenFault.Unusable → SeesForm form (state S.Store conn.old)
@@ -157,7 +158,7 @@ fn read_in<S: Alter>(
 {
     let register = read_register(conn, alloc)?;
     let payments = read_payments(conn, alloc)?;
-    let records = read_records(conn, alloc, form)?;
+    let records = read_records::<S, P>(conn, alloc, form)?;
     let extensions = read_extensions(conn, alloc, form)?;
     Ok(AllRows {
         form,
@@ -168,18 +169,18 @@ fn read_in<S: Alter>(
         lines: payments.lines,
         batches: records.batches,
         extensions,
-        answers: records.answers,
+        replies: records.replies,
     })
 }
 
 /// Tests the version, and then reads all tables.
-fn read_of_version<S: Alter>(
+fn read_of_version<S: Alter, P: RowTest<StoredAnswer>>(
     conn: &mut Connection<S>,
     alloc: Global,
     form: Form,
 ) -> Result<AllRows, OpenFault>
     ensures found { HasCleanDisk (state S.Store conn.new) → SeesForm form (state S.Store conn.old) → IsSoundNow (state S.Store conn.old)
-        → IfOk result (λ found. HoldsIn form (state S.Store conn.old).now.trees (rows_of found)) }
+        → IfOk result (λ all. (rows : Rows) × HoldsIn form (state S.Store conn.old).now.trees rows × AreRead P.passes all rows) }
     ensures listed { IfOk result ListsAll }
     ensures form { IfOk result (λ all. all.form ≡ form) }
     ensures first { HasCleanDisk (state S.Store conn.new) → OnOk result ((rows : Rows) → SeesIn form (state S.Store conn.old) rows → IsOfForm form rows) }
@@ -198,28 +199,28 @@ fn read_of_version<S: Alter>(
     if version != form.version() {
         return Err(OpenFault::Unusable);
     }
-    read_in(conn, alloc, form)
+    read_in::<S, P>(conn, alloc, form)
 }
 
-/// Reads all rows of a store that has tables of this form.
+/// Reads all rows of a store that has tables of this form, and tests its kept replies.
 ///
 /// The version is tested first. The store keeps what was committed, and a stop leaves what it could
-/// leave before. It takes time and memory in proportion to the rows.
+/// leave before. It takes time in proportion to the rows, and memory to those but the kept replies of version 2.
 ///
 /// # Errors
 ///
 /// `WrongVersion` where the desk's row is of neither version. `Unusable` where it is of the version of another form,
 /// a row has a value that no row of this program has, or a table or the desk's row is missing. `NoMemory` where there is not
 /// enough memory, and else `StoreFailed`, as where the connection is in a transaction.
-pub(crate) fn read_all<S: Alter>(
+pub(crate) fn read_all<S: Alter, P: RowTest<StoredAnswer>>(
     conn: &mut Connection<S>,
     alloc: Global,
     form: Form,
 ) -> Result<AllRows, OpenFault>
     ensures found { HasCleanDisk (state S.Store conn.new) → IfOk result (λ all. HasForm form (state S.Store conn.old)
-        → HadIn form (state S.Store conn.new) (rows_of all)) }
+        → (rows : Rows) × HadIn form (state S.Store conn.new) rows × AreRead P.passes all rows) }
     ensures those { HasCleanDisk (state S.Store conn.new) → IfOk result (λ all. (rows : Rows) → HadIn form (state S.Store conn.old) rows
-        → IsTrue (state S.Store conn.old).is_open → rows_of all ≡ rows) }
+        → IsTrue (state S.Store conn.old).is_open → AreRead P.passes all rows) }
     ensures order { IfOk result AreInOrder }
     ensures form { IfOk result (λ all. all.form ≡ form) }
     ensures first { HasCleanDisk (state S.Store conn.new) → OnOk result ((rows : Rows) → HadIn form (state S.Store conn.old) rows → IsOfForm form rows) }
@@ -239,5 +240,5 @@ pub(crate) fn read_all<S: Alter>(
         return Err(OpenFault::StoreFailed);
     }
     let _schema = conn.schema();
-    read_of_version(conn, alloc, form)
+    read_of_version::<S, P>(conn, alloc, form)
 }

@@ -1,6 +1,6 @@
 use Rattle.std.proofs.Common.{rules, ◌≡◌, ◌≢◌, inl, inr, IsTrue, IfErr, ap, ◌∙◌, subst}
 use Rattle.sqlite.specs.Held.{state}
-use Rattle.ee_store_tables.specs.Rows.{Rows, Has}
+use Rattle.ee_store_tables.specs.Rows.{Rows}
 use Rattle.ee_store_tables.proofs.Lemmas.Transactions.{on_err_from, clean_before}
 use Rattle.ee_store_making.specs.declared.faults.OpenFault.TheVariants.{WrongVersion, Unusable, StoreFailed}
 use Rattle.ee_store_making.specs.declared.forms.Form.{Form}
@@ -10,6 +10,7 @@ use Rattle.ee_store_making.specs.Making.{IsBlank}
 use Rattle.ee_store_opening.specs.Whole as whole
 use Rattle.ee_store_opening.specs.Opening.{IsOtherVersion, AreReadable}
 use Rattle.ee_desk_acts.specs.Repeats.{Content, nothing}
+use Rattle.ee_store_contents.specs.Contents.{KeepsAnswer}
 use Rattle.ee_store_contents.specs.Standing.{rows_at, rows_of, StandAt}
 use Rattle.ee_store_making.proofs.Lemmas.Faults.{each_fault, two_faults, handed_on}
 use Rattle.ee_store_making.proofs.Lemmas.Causes.{cause_then}
@@ -81,7 +82,7 @@ returns-in_err-tested-clause-kept g c clean =
     let new = state g.S.Store c.open_rows.new.conn in
     let it = c.in_ok-all.ensures in
     on_err_from c.from_residual-in_err-tested.result
-    (it.kept clean, λ blank. inr (of_nothing new (begins_rows new (subst (Has new) (it.made clean blank (it.open clean).0) (it.current clean (it.open clean).0 (inr blank)).1))))
+    (it.kept clean, λ blank. inr (of_nothing new (begins_rows new (it.made clean blank (it.open clean).0).0)))
 
 pub returns-in_err-tested-clause-version : goal.returns-in_err-tested-clause-version
 returns-in_err-tested-clause-version g c clean =
@@ -96,11 +97,14 @@ returns-in_err-tested-clause-other g c clean =
 pub returns-in_err-tested-clause-unusable : goal.returns-in_err-tested-clause-unusable
 returns-in_err-tested-clause-unusable g c clean =
     let old = state g.S.Store c.args.conn.now in
-    let told : IfErr c.from_residual-in_err-tested.result (λ e. e ≡ Unusable → (content : Content) → StandAt (version_of c.in_ok-all.all.form) (whole.rows_of c.in_ok-all.all) content → ⊥) = search rules in
+    let told : IfErr c.from_residual-in_err-tested.result (λ e. e ≡ Unusable → (rows : Rows) → whole.AreRead KeepsAnswer c.in_ok-all.all rows
+    → (content : Content) → StandAt (version_of c.in_ok-all.all.form) rows content → ⊥)
+    = handed_on _ c.from_residual-in_err-tested.result c.in_err-tested.field-0.0 c.from_residual-in_err-tested.ensures.1 c.in_err-tested.ensures.unusable in
     let it = c.in_ok-all.ensures in
     let is_open = it.open clean in
-    each_fault c.from_residual-in_err-tested.result (λ e none is. stood_for_none old (state g.S.Store c.open_rows.new.conn) c.in_ok-all.all.form (whole.rows_of c.in_ok-all.all) (it.kept clean) is_open.0 is_open.1 (it.found clean) (it.those clean)
-    (λ blank. ((it.current clean is_open.0 (inr blank)).0, it.made clean blank is_open.0)) (none is)) told
+    let found = it.found clean in
+    each_fault c.from_residual-in_err-tested.result (λ e none is. stood_for_none old (state g.S.Store c.open_rows.new.conn) c.in_ok-all.all.form found.0 (it.kept clean) is_open.0 is_open.1 found.1
+    (λ blank. (it.current clean is_open.0 (inr blank), (it.made clean blank is_open.0).0)) (none is found.0 found.2)) told
 
 pub returns-in_err-tested-clause-tested : goal.returns-in_err-tested-clause-tested
 returns-in_err-tested-clause-tested g c clean =
@@ -136,7 +140,7 @@ returns-in_err-migrate-clause-kept g c clean =
     on_err_from c.from_residual-in_err-migrate.result (
       keeps_rows old middle new (it.kept before) keeps,
       λ blank. inr (of_nothing new (kept_had Current middle new (rows_of nothing) keeps
-          (begins_rows middle (subst (Has middle) (it.made before blank (it.open before).0) (it.current before (it.open before).0 (inr blank)).1)))),
+          (begins_rows middle (it.made before blank (it.open before).0).0))),
     )
 
 pub returns-in_err-migrate-clause-version : goal.returns-in_err-migrate-clause-version
@@ -164,10 +168,11 @@ returns-in_err-migrate-clause-cause g c clean =
     let new = state g.S.Store c.migrate.new.conn in
     let before = clean_before middle new c.migrate.ensures.crash clean in
     let it = c.in_ok-all.ensures in
+    let found = it.found before in
     let all = c.in_ok-all.all in
     handed_on (FailsToAdopt old new) c.from_residual-in_err-migrate.result c.in_err-migrate.field-0.0 c.from_residual-in_err-migrate.ensures.1
     (λ settled endless any can failed. cause_then old middle new it.crash c.migrate.ensures.crash clean
-    (c.in_err-migrate.ensures.cause clean (it.ended before, fits_rows old middle all (it.kept before) (it.open before).0 (it.open before).1 (it.found before) it.order c.deref.result.now (lists_all all it.order c.in_ok-tested.tested.answers c.in_ok-tested.ensures.left c.deref.result.now c.deref.ensures.value) (λ blank. (it.current before (it.open before).0 (inr blank)).0) any can) (it.crash.limit ∙ endless) failed))
+    (c.in_err-migrate.ensures.cause clean (it.ended before, fits_rows old middle all.form found.0 (it.kept before) (it.open before).0 (it.open before).1 found.1 c.deref.result.now (lists_all c.in_ok-all.all found.0 found.2 c.in_ok-tested.tested.answers c.in_ok-tested.ensures.left c.deref.result.now c.deref.ensures.value) (λ blank. it.current before (it.open before).0 (inr blank)) any can) (it.crash.limit ∙ endless) failed))
 
 pub returns-in_err-migrate-clause-crash : goal.returns-in_err-migrate-clause-crash
 returns-in_err-migrate-clause-crash g c =
@@ -177,7 +182,7 @@ returns-in_err-migrate-clause-crash g c =
     let it = c.in_ok-all.ensures in
     begun_then old middle new c.in_ok-all.all.form _ (λ clean blank.
     let before = clean_before middle new c.migrate.ensures.crash clean in
-    (it.current before (it.open before).0 (inr blank)).0)
+    (it.current before (it.open before).0 (inr blank)))
     it.crash c.migrate.ensures.crash
 
 pub returns-in_err-migrate-clause-left : goal.returns-in_err-migrate-clause-left
@@ -187,9 +192,10 @@ returns-in_err-migrate-clause-left g c clean =
     let new = state g.S.Store c.migrate.new.conn in
     let before = clean_before middle new c.migrate.ensures.crash clean in
     let it = c.in_ok-all.ensures in
-    let some = c.in_ok-tested.ensures.ok in
+    let found = it.found before in
+    let some = c.in_ok-tested.ensures.ok found.0 found.2 in
     let all = c.in_ok-all.all in
-    leaves_as_before old middle all.form (whole.rows_of all) (it.kept before) (it.open before).0 (it.open before).1 (it.found before) (it.those before) _ (lists_all all it.order c.in_ok-tested.tested.answers c.in_ok-tested.ensures.left c.deref.result.now c.deref.ensures.value) some.0 some.2
+    leaves_as_before old middle all.form found.0 (it.kept before) (it.open before).0 (it.open before).1 found.1 _ (lists_all c.in_ok-all.all found.0 found.2 c.in_ok-tested.tested.answers c.in_ok-tested.ensures.left c.deref.result.now c.deref.ensures.value) some.0 some.2
     new (λ db is_open tables may. it.left before is_open tables db may) (c.migrate.ensures.crash.crash clean)
 
 pub returns-in_err-migrate-clause-waits : goal.returns-in_err-migrate-clause-waits
@@ -208,8 +214,7 @@ returns-clause-begins g c clean blank =
     let before = clean_before middle new c.migrate.ensures.crash clean in
     let it = c.in_ok-all.ensures in
     let all = c.in_ok-all.all in
-    begins new (first_made new all.form (whole.rows_of all) (it.current before (it.open before).0 (inr blank)).0 (it.made before blank (it.open before).0)
-    (made_of middle new all.form (whole.rows_of all) c.deref.result.now (it.found before) (lists_all all it.order c.in_ok-tested.tested.answers c.in_ok-tested.ensures.left c.deref.result.now c.deref.ensures.value) (λ current. ap (state g.S.Store) (c.migrate.ensures.same current)) (c.in_ok-migrate.ensures.made clean (whole.rows_of all) (it.found before))))
+    begins new (first_made middle new all.form (it.current before (it.open before).0 (inr blank)) (λ current. ap (state g.S.Store) (c.migrate.ensures.same current)) (it.made before blank (it.open before).0).0)
 
 pub returns-clause-left : goal.returns-clause-left
 returns-clause-left g c clean =
@@ -218,9 +223,10 @@ returns-clause-left g c clean =
     let new = state g.S.Store c.migrate.new.conn in
     let before = clean_before middle new c.migrate.ensures.crash clean in
     let it = c.in_ok-all.ensures in
-    let some = c.in_ok-tested.ensures.ok in
+    let found = it.found before in
+    let some = c.in_ok-tested.ensures.ok found.0 found.2 in
     let all = c.in_ok-all.all in
-    leaves_as_before old middle all.form (whole.rows_of all) (it.kept before) (it.open before).0 (it.open before).1 (it.found before) (it.those before) _ (lists_all all it.order c.in_ok-tested.tested.answers c.in_ok-tested.ensures.left c.deref.result.now c.deref.ensures.value) some.0 some.2
+    leaves_as_before old middle all.form found.0 (it.kept before) (it.open before).0 (it.open before).1 found.1 _ (lists_all c.in_ok-all.all found.0 found.2 c.in_ok-tested.tested.answers c.in_ok-tested.ensures.left c.deref.result.now c.deref.ensures.value) some.0 some.2
     new (λ db is_open tables may. it.left before is_open tables db may) (c.migrate.ensures.crash.crash clean)
 
 pub returns-clause-begun : goal.returns-clause-begun
@@ -233,7 +239,7 @@ returns-clause-begun g c clean =
       is_open,
       λ blank.
           let has = returns-clause-begins g c clean blank in
-          let same = c.migrate.ensures.same (it.current before (it.open before).0 (inr blank)).0 in
+          let same = c.migrate.ensures.same (it.current before (it.open before).0 (inr blank)) in
           begins_world new is_open has (λ db may. it.begun before blank db (subst (λ conn. (state g.S.Store conn).may_leave db) same may)),
     )
 
@@ -244,9 +250,10 @@ returns-clause-found g c clean =
     let new = state g.S.Store c.migrate.new.conn in
     let before = clean_before middle new c.migrate.ensures.crash clean in
     let it = c.in_ok-all.ensures in
+    let found = it.found before in
     let all = c.in_ok-all.all in
-    keeps_content old middle all.form (whole.rows_of all) (it.kept before) (it.open before).0 (it.open before).1 (it.found before) (it.those before) new
-    (made_of middle new all.form (whole.rows_of all) c.deref.result.now (it.found before) (lists_all all it.order c.in_ok-tested.tested.answers c.in_ok-tested.ensures.left c.deref.result.now c.deref.ensures.value) (λ current. ap (state g.S.Store) (c.migrate.ensures.same current)) (c.in_ok-migrate.ensures.made clean (whole.rows_of all) (it.found before)))
+    keeps_content old middle all.form found.0 (it.kept before) (it.open before).0 (it.open before).1 found.1 new
+    (made_of middle new all.form found.0 c.deref.result.now found.1 (lists_all c.in_ok-all.all found.0 found.2 c.in_ok-tested.tested.answers c.in_ok-tested.ensures.left c.deref.result.now c.deref.ensures.value) (λ current. ap (state g.S.Store) (c.migrate.ensures.same current)) (c.in_ok-migrate.ensures.made clean found.0 found.1))
 
 pub returns-clause-stands : goal.returns-clause-stands
 returns-clause-stands g c clean =
@@ -254,10 +261,11 @@ returns-clause-stands g c clean =
     let new = state g.S.Store c.migrate.new.conn in
     let before = clean_before middle new c.migrate.ensures.crash clean in
     let it = c.in_ok-all.ensures in
-    let some = c.in_ok-tested.ensures.ok in (
+    let found = it.found before in
+    let some = c.in_ok-tested.ensures.ok found.0 found.2 in (
       it.ours before,
-      has_some new c.in_ok-all.all.form (whole.rows_of c.in_ok-all.all)
-          (made_of middle new c.in_ok-all.all.form (whole.rows_of c.in_ok-all.all) c.deref.result.now (it.found before) (lists_all c.in_ok-all.all it.order c.in_ok-tested.tested.answers c.in_ok-tested.ensures.left c.deref.result.now c.deref.ensures.value) (λ current. ap (state g.S.Store) (c.migrate.ensures.same current)) (c.in_ok-migrate.ensures.made clean (whole.rows_of c.in_ok-all.all) (it.found before))) some.0 some.2,
+      has_some new c.in_ok-all.all.form found.0
+          (made_of middle new c.in_ok-all.all.form found.0 c.deref.result.now found.1 (lists_all c.in_ok-all.all found.0 found.2 c.in_ok-tested.tested.answers c.in_ok-tested.ensures.left c.deref.result.now c.deref.ensures.value) (λ current. ap (state g.S.Store) (c.migrate.ensures.same current)) (c.in_ok-migrate.ensures.made clean found.0 found.1)) some.0 some.2,
     )
 
 -- what was migrated leaves what was committed
@@ -268,8 +276,9 @@ returns-clause-goes_on g c clean =
     let new = state g.S.Store c.migrate.new.conn in
     let before = clean_before middle new c.migrate.ensures.crash clean in
     let it = c.in_ok-all.ensures in
+    let found = it.found before in
     goes_on old new c.schema-schema.ensures.live c.settled.ensures.live (g.met.S.Store.settled c.args.conn.now.store) (returns-clause-left g c clean)
-    (leaves_present old middle c.in_ok-all.all.form (whole.rows_of c.in_ok-all.all) (it.kept before) (it.open before).0 (it.open before).1 (it.found before) (it.those before) new (c.in_ok-migrate.ensures.durable clean))
+    (leaves_present old middle c.in_ok-all.all.form found.0 (it.kept before) (it.open before).0 (it.open before).1 found.1 new (c.in_ok-migrate.ensures.durable clean))
     (returns-clause-found g c clean) (it.open before).0 (returns-clause-begun g c clean).0
 
 pub returns-clause-follows : goal.returns-clause-follows
@@ -279,8 +288,9 @@ returns-clause-follows g c clean =
     let new = state g.S.Store c.migrate.new.conn in
     let before = clean_before middle new c.migrate.ensures.crash clean in
     let it = c.in_ok-all.ensures in
+    let found = it.found before in
     carries_world old new c.schema-schema.ensures.live c.settled.ensures.live (g.met.S.Store.settled c.args.conn.now.store) (returns-clause-left g c clean)
-    (leaves_present old middle c.in_ok-all.all.form (whole.rows_of c.in_ok-all.all) (it.kept before) (it.open before).0 (it.open before).1 (it.found before) (it.those before) new (c.in_ok-migrate.ensures.durable clean))
+    (leaves_present old middle c.in_ok-all.all.form found.0 (it.kept before) (it.open before).0 (it.open before).1 found.1 new (c.in_ok-migrate.ensures.durable clean))
     (returns-clause-found g c clean) (it.open before).0 (returns-clause-begun g c clean).0
 
 pub returns-clause-ready : goal.returns-clause-ready
@@ -294,7 +304,7 @@ returns-clause-crash g c =
     let it = c.in_ok-all.ensures in
     begun_then old middle new c.in_ok-all.all.form _ (λ clean blank.
     let before = clean_before middle new c.migrate.ensures.crash clean in
-    (it.current before (it.open before).0 (inr blank)).0)
+    (it.current before (it.open before).0 (inr blank)))
     it.crash c.migrate.ensures.crash
 
 pub returns-clause-room : goal.returns-clause-room
@@ -307,8 +317,7 @@ returns-clause-room g c clean =
     opened_room old new (c.settled.ensures.committed c.in_ok-migrate.ensures.ended) c.settled.ensures.live
     (λ blank.
     let all = c.in_ok-all.all in
-    first_made new all.form (whole.rows_of all) (it.current before (it.open before).0 (inr blank)).0 (it.made before blank (it.open before).0)
-    (made_of middle new all.form (whole.rows_of all) c.deref.result.now (it.found before) (lists_all all it.order c.in_ok-tested.tested.answers c.in_ok-tested.ensures.left c.deref.result.now c.deref.ensures.value) (λ current. ap (state g.S.Store) (c.migrate.ensures.same current)) (c.in_ok-migrate.ensures.made clean (whole.rows_of all) (it.found before))))
+    first_made middle new all.form (it.current before (it.open before).0 (inr blank)) (λ current. ap (state g.S.Store) (c.migrate.ensures.same current)) (it.made before blank (it.open before).0).0)
 
 pub returns-clause-waits : goal.returns-clause-waits
 returns-clause-waits g c clean =

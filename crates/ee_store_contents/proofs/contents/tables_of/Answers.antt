@@ -1,11 +1,10 @@
 use Rattle.std.proofs.Common.{◌≡◌, sym, ◌∙◌, subst}
-use Rattle.std.specs.Prelude.{Result, Ok, Err, IfErr, IsErrAnd, Vec}
-use Rattle.std.specs.List.{AllByRecursion}
-use Rattle.std.specs.declared.alloc.Global.{Global}
-use Rattle.ee_store_making.specs.declared.answers.StoredAnswer.{StoredAnswer}
-use Rattle.ee_store_contents.specs.Contents.{KeepsAnswer}
+use Rattle.std.specs.Prelude.{Result, Ok, Err, IfErr, IsErrAnd}
+use Rattle.std.proofs.lemmas.Bool.{not-true, not-false}
 use Rattle.ee_desk_acts.specs.Repeats.{Content}
-use Rattle.ee_store_opening.specs.Whole.{rows_of}
+use Rattle.ee_store_tables.specs.Rows.{Rows}
+use Rattle.ee_store_opening.specs.Whole.{AreRead}
+use Rattle.ee_store_contents.specs.Contents.{KeepsAnswer}
 use Rattle.ee_store_contents.specs.Standing.{StandAt}
 use Rattle.ee_store_making.specs.Forms.{version_of}
 use Rattle.ee_store_contents.specs.declared.contents.ContentFault.{ContentFault}
@@ -17,38 +16,30 @@ handed_on : {A : Type 0} (P : ContentFault → Type 0) (r : Result A ContentFaul
 handed_on P (Ok x) fault is p = tt
 handed_on P (Err told) fault is p = subst P (sym is) p
 
-pub returns-in_err-answers-clause-unusable : goal.returns-in_err-answers-clause-unusable
-returns-in_err-answers-clause-unusable c =
-    let stored = c.args.stored in
-    handed_on (λ fault. fault ≡ Unusable → (content : Content) → StandAt (version_of stored.form) (rows_of stored) content → ⊥) c.from_residual.result c.in_err-answers.field-0.0
-    c.from_residual.ensures.1
-    (λ is content stands. not_kept stored c.requires (λ all. c.in_err-answers.ensures.unusable is (subst (λ (v : Vec StoredAnswer Global). AllByRecursion KeepsAnswer v.items) (sym c.take_answers-kept.ensures.taken) all)) content stands)
+pub returns-then-not-stored-clause-unusable : goal.returns-then-not-stored-clause-unusable
+returns-then-not-stored-clause-unusable c is rows read content stands = not_kept c.args.stored rows c.requires read (not-true c.args.stored.replies.pass c.if-not-stored.true) content stands
 
 pub returns-in_err-parts-clause-unusable : goal.returns-in_err-parts-clause-unusable
 returns-in_err-parts-clause-unusable c =
     let stored = c.args.stored in
-    let rest = c.take_answers-kept.new.stored in
-    handed_on (λ fault. fault ≡ Unusable → (content : Content) → StandAt (version_of stored.form) (rows_of stored) content → ⊥) c.from_residual-in_err-parts.result c.in_err-parts.field-0.0
-    c.from_residual-in_err-parts.ensures.1
-    (λ is content stands. no_parts stored c.requires (c.in_err-parts.ensures.none is ∙ same_parts stored rest c.take_answers-kept.ensures.rest) content stands)
+    let rest = c.take_earlier-answers.new.stored in
+    handed_on (λ fault. fault ≡ Unusable → (rows : Rows) → AreRead KeepsAnswer stored rows → (content : Content) → StandAt (version_of stored.form) rows content → ⊥) c.from_residual.result c.in_err-parts.field-0.0
+    c.from_residual.ensures.1
+    (λ is rows read content stands. no_parts stored rows c.requires read (c.in_err-parts.ensures.none is ∙ same_parts stored rest c.take_earlier-answers.ensures.rest) content stands)
 
 pub returns-in_err-indexes-clause-unusable : goal.returns-in_err-indexes-clause-unusable
 returns-in_err-indexes-clause-unusable c =
     let stored = c.args.stored in
-    let rest = c.take_answers-kept.new.stored in
-    handed_on (λ fault. fault ≡ Unusable → (content : Content) → StandAt (version_of stored.form) (rows_of stored) content → ⊥) c.from_residual-in_err-indexes.result c.in_err-indexes.field-0.0
+    let rest = c.take_earlier-answers.new.stored in
+    handed_on (λ fault. fault ≡ Unusable → (rows : Rows) → AreRead KeepsAnswer stored rows → (content : Content) → StandAt (version_of stored.form) rows content → ⊥) c.from_residual-in_err-indexes.result c.in_err-indexes.field-0.0
     c.from_residual-in_err-indexes.ensures.1
-    (λ is content stands. not_sound stored c.in_ok-parts.parts c.requires (c.in_ok-parts.ensures.found ∙ same_parts stored rest c.take_answers-kept.ensures.rest) (c.in_err-indexes.ensures.unusable is) content stands)
+    (λ is rows read content stands. not_sound stored rows c.requires read c.in_ok-parts.parts (c.in_ok-parts.ensures.found ∙ same_parts stored rest c.take_earlier-answers.ensures.rest) (c.in_err-indexes.ensures.unusable is) content stands)
 
 pub returns-clause-ok : goal.returns-clause-ok
-returns-clause-ok c =
+returns-clause-ok c rows read =
     let stored = c.args.stored in
-    let rest = c.take_answers-kept.new.stored in
+    let rest = c.take_earlier-answers.new.stored in
     let made = c.in_ok-indexes.ensures.ok in
-    let kept = subst (λ (v : Vec StoredAnswer Global). AllByRecursion KeepsAnswer v.items) c.take_answers-kept.ensures.taken c.in_ok-answers.ensures.kept in
-    let found = tables_founded stored c.in_ok-parts.parts c.in_ok-indexes.indexes.terms.entries c.requires (c.in_ok-parts.ensures.found ∙ same_parts stored rest c.take_answers-kept.ensures.rest) c.in_ok-parts.ensures.fits
-    kept made.sound made.rates in
+    let found = tables_founded stored rows c.requires read c.in_ok-parts.parts c.in_ok-indexes.indexes.terms.entries
+    (c.in_ok-parts.ensures.found ∙ same_parts stored rest c.take_earlier-answers.ensures.rest) c.in_ok-parts.ensures.fits (not-false stored.replies.pass c.if-not-stored.false) made.sound made.rates in
     (found.0, c.in_ok-tables.ensures ∙ found.1, found.2)
-
-pub returns-clause-left : goal.returns-clause-left
-returns-clause-left c earlier = c.in_ok-answers.ensures.left earlier ∙ c.take_answers-kept.ensures.taken

@@ -8,16 +8,9 @@ use Rattle.ee_store_making.specs.Making.{IsBlank, first_rows}
 use Rattle.ee_store_making.proofs.Lemmas.Faults.{two_faults, handed_on}
 use Rattle.ee_store_opening.proofs.OpenLemmas.{still_ok, leaves_less, first_is_first, first_readable}
 use Rattle.ee_store_making.specs.declared.forms.Form.TheVariants.{Current}
-use Rattle.ee_store_making.proofs.Lemmas.Forms.{had_form, kept_had}
+use Rattle.ee_store_making.proofs.Lemmas.Forms.{kept_had}
 use Rattle.ee_store_opening.proofs.VersionLemmas.{one_version}
 use Rattle.ee_store_opening.proofs.opening.open_blank.Goals as goal
-
-pub returns-clause-found : goal.returns-clause-found
-returns-clause-found g c clean =
-    let middle = state g.S.Store c.make_tables.new.conn in
-    let new = state g.S.Store c.read_all.new.conn in
-    let made = c.in_ok-make_tables.ensures.made (clean_before middle new c.read_all.ensures.crash clean) in
-    IfOk-weaker c.read_all.result _ _ (λ all found blank. found (had_form Current middle first_rows (made blank))) (c.read_all.ensures.found clean)
 
 pub returns-clause-made : goal.returns-clause-made
 returns-clause-made g c clean =
@@ -25,7 +18,10 @@ returns-clause-made g c clean =
     let new = state g.S.Store c.read_all.new.conn in
     let before = clean_before middle new c.read_all.ensures.crash clean in
     let made = c.in_ok-make_tables.ensures.made before in
-    IfOk-weaker c.read_all.result _ _ (λ all those blank. those first_rows (made blank) (c.in_ok-make_tables.ensures.open before).1) (c.read_all.ensures.those clean)
+    IfOk-weaker c.read_all.result _ _ (λ all those blank. (
+      kept_had Current middle new first_rows (c.read_all.ensures.kept clean) (made blank),
+      those first_rows (made blank) (c.in_ok-make_tables.ensures.open before).1,
+    )) (c.read_all.ensures.those clean)
 
 pub returns-clause-failed : goal.returns-clause-failed
 returns-clause-failed g c clean =

@@ -6,9 +6,8 @@ use Rattle.sqlite.proofs.StateLemmas.{survives_weaker}
 use Rattle.ee_store_tables.specs.Rows.{Stores}
 use Rattle.ee_store_tables.proofs.Lemmas.Transactions.{on_err_from}
 use Rattle.ee_store_making.specs.Making.{IsBlank, first_rows}
-use Rattle.ee_store_opening.specs.Whole.{rows_of}
 use Rattle.ee_store_making.proofs.Lemmas.Causes.{excused_if_open, never_both}
-use Rattle.ee_store_making.proofs.Lemmas.Forms.{form_found, found_current, current_form, one_form, had_as, none_found, not_blank}
+use Rattle.ee_store_making.proofs.Lemmas.Forms.{form_found, current_form, one_form, had_as, none_found, not_blank}
 use Rattle.ee_store_opening.proofs.OpenLemmas.{leaves_less}
 use Rattle.ee_store_making.proofs.Lemmas.Faults.{always, each_fault}
 use Rattle.ee_store_making.specs.Forms.{HadIn}
@@ -16,22 +15,30 @@ use Rattle.ee_store_opening.specs.Opening.{IsOfForm, AreReadable}
 use Rattle.ee_store_opening.proofs.ReadLemmas.{both_ok, each_ok}
 use Rattle.ee_store_opening.proofs.opening.open_rows.Goals as goal
 
+pub returns-then-has_no_tables-clause-found : goal.returns-then-has_no_tables-clause-found
+returns-then-has_no_tables-clause-found g c clean =
+    let settled = c.is_autocommit.ensures.settled c.if-not-is_autocommit.false in
+    let new = state g.S.Store c.open_blank.new.conn in
+    both_ok c.open_blank.result (λ all made is.
+    let it = made (λ is_open. ap (λ (d : Database). d.schema) (sym (settled is_open)) ∙ sym c.schema.ensures.value ∙ c.has_no_tables.ensures.0 c.if-has_no_tables.true) in
+    (first_rows, subst (λ f. HadIn f new first_rows) (sym is) it.0, it.1)) (c.open_blank.ensures.made clean) c.open_blank.ensures.form
+
 pub returns-in-Some-clause-found : goal.returns-in-Some-clause-found
 returns-in-Some-clause-found g c clean =
     let old = state g.S.Store c.args.conn.now in
     let form = c.in-Some.form in
     let ours = form_found old (c.is_autocommit.ensures.settled c.if-not-is_autocommit.false) c.schema-2.result.now c.schema-2.ensures.value form ((c.form_of.ensures form).0 c.in-Some.is) in
     let new = state g.S.Store c.read_all.new.conn in
-    both_ok c.read_all.result (λ all found is. subst (λ f. HadIn f new (rows_of all)) (sym is) (found ours)) (c.read_all.ensures.found clean) c.read_all.ensures.form
+    both_ok c.read_all.result (λ all found is.
+    let it = found ours in
+    (it.0, subst (λ f. HadIn f new it.0) (sym is) it.1, it.2)) (c.read_all.ensures.found clean) c.read_all.ensures.form
 
 pub returns-in-Some-clause-current : goal.returns-in-Some-clause-current
 returns-in-Some-clause-current g c clean =
     let old = state g.S.Store c.args.conn.now in
-    let new = state g.S.Store c.read_all.new.conn in
     let form = c.in-Some.form in
     let ours = form_found old (c.is_autocommit.ensures.settled c.if-not-is_autocommit.false) c.schema-2.result.now c.schema-2.ensures.value form ((c.form_of.ensures form).0 c.in-Some.is) in
-    both_ok c.read_all.result (λ all found is was_open which.
-    (is ∙ current_form form old ours was_open which, found_current form old new (rows_of all) ours (c.read_all.ensures.kept clean) (found ours) which)) (c.read_all.ensures.found clean) c.read_all.ensures.form
+    each_ok c.read_all.result (λ all is was_open which. is ∙ current_form form old ours was_open which) c.read_all.ensures.form
 
 pub returns-in-Some-clause-ours : goal.returns-in-Some-clause-ours
 returns-in-Some-clause-ours g c clean =

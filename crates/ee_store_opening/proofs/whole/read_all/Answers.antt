@@ -1,8 +1,8 @@
-use Rattle.std.proofs.Common.{sym, ◌∙◌}
+use Rattle.std.proofs.Common.{sym, subst, ◌∙◌}
 use Rattle.sqlite.specs.Held.{state}
 use Rattle.std.proofs.lemmas.Result.{on_ok_weaker}
 use Rattle.std.proofs.lemmas.Bool.{not-true}
-use Rattle.ee_store_opening.specs.Whole.{rows_of}
+use Rattle.ee_store_opening.specs.Whole.{AreRead}
 use Rattle.ee_store_making.proofs.Lemmas.Faults.{each_fault}
 use Rattle.ee_store_opening.proofs.ReadLemmas.{each_ok, under_ok, ok_then}
 use Rattle.ee_store_opening.proofs.WholeLemmas.{are_in_order, has_ours, sound_now, sees_what_it_has, are_those, has_read}
@@ -15,15 +15,17 @@ returns-clause-found g c clean =
     let new = state g.S.Store c.read_of_version.new.conn in
     let settled = c.is_autocommit.ensures.settled c.if-not-is_autocommit.false in
     let sound = sound_now old c.schema-schema.ensures.live in
-    under_ok _ c.read_of_version.result (λ ours. ok_then c.read_of_version.result (λ all holds same. has_read c.args.form old settled new same (rows_of all) ours holds) (c.read_of_version.ensures.found clean (has_ours c.args.form old settled ours) sound)
-    (c.read_of_version.ensures.same clean))
+    under_ok _ c.read_of_version.result (λ ours. ok_then c.read_of_version.result (λ all it same. (it.0, has_read c.args.form old settled new same it.0 ours it.1, it.2))
+    (c.read_of_version.ensures.found clean (has_ours c.args.form old settled ours) sound) (c.read_of_version.ensures.same clean))
 
 pub returns-clause-those : goal.returns-clause-those
 returns-clause-those g c clean =
     let old = state g.S.Store c.args.conn.now in
     let settled = c.is_autocommit.ensures.settled c.if-not-is_autocommit.false in
     let sound = sound_now old c.schema-schema.ensures.live in
-    each_ok c.read_of_version.result (λ all holds rows has is_open. are_those c.args.form old settled (rows_of all) rows (holds (had_form c.args.form old rows has)) has is_open)
+    each_ok c.read_of_version.result (λ all it rows has is_open.
+    let found = it (had_form c.args.form old rows has) in
+    subst (AreRead g.P.RowTest.passes all) (are_those c.args.form old settled found.0 rows found.1 has is_open) found.2)
     (under_ok _ c.read_of_version.result (λ ours. c.read_of_version.ensures.found clean (has_ours c.args.form old settled ours) sound))
 
 pub returns-clause-order : goal.returns-clause-order

@@ -1,4 +1,4 @@
-use Rattle.std.proofs.Common.{sym, subst, ◌∙◌}
+use Rattle.std.proofs.Common.{refl, sym, subst, ◌∙◌}
 use Rattle.sqlite.specs.Effect.{Database}
 use Rattle.sqlite.specs.Held.{state}
 use Rattle.sqlite.proofs.Callers.{unchanged_then}
@@ -7,7 +7,8 @@ use Rattle.ee_store_tables.proofs.Lemmas.Transactions.{clean_before}
 use Rattle.ee_store_opening.specs.declared.whole.AllRows.{AllRows}
 use Rattle.ee_store_making.specs.Faults.{IsExcused}
 use Rattle.ee_store_making.specs.Forms.{HoldsIn}
-use Rattle.ee_store_opening.specs.Whole.{HoldsPayments, HoldsRecords, HoldsExtensions}
+use Rattle.ee_store_opening.specs.Shown.{answer_map}
+use Rattle.ee_store_opening.specs.Whole.{rows_with, HoldsPayments, HoldsRecords, HoldsExtensions}
 use Rattle.ee_store_making.proofs.Lemmas.Causes.{excused_then, then_survives}
 use Rattle.ee_store_making.proofs.Lemmas.Faults.{handed_on}
 use Rattle.ee_store_opening.proofs.ReadLemmas.{sound_after, still_form}
@@ -99,7 +100,7 @@ returns-clause-found g c clean ours_0 sound_0 =
     let back_2 = same_2.0.now_is ∙ same_1.0.now_is in
     let register = c.in_ok-register.ensures.found clean_1 (c.args.form, ours_0) sound_0 in
     let payments = subst (λ (d : Database). HoldsPayments d.trees c.in_ok-payments.payments) same_1.0.now_is (c.in_ok-payments.ensures.found clean_2 (c.args.form, ours_1) sound_1) in
-    let records = subst (λ (d : Database). HoldsRecords c.args.form d.trees c.in_ok-records.records) back_2 (c.in_ok-records.ensures.found clean_3 ours_2 sound_2) in
+    let records = subst (λ (d : Database). HoldsRecords g.P.RowTest.passes c.args.form d.trees c.in_ok-records.records) back_2 (c.in_ok-records.ensures.found clean_3 ours_2 sound_2) in
     let extensions = subst (λ (d : Database). HoldsExtensions c.args.form d.trees c.in_ok-extensions.extensions.items) (same_3.0.now_is ∙ back_2) (c.in_ok-extensions.ensures.found clean_4 ours_3 sound_3) in
     let all : AllRows
     = record {
@@ -111,10 +112,14 @@ returns-clause-found g c clean ours_0 sound_0 =
       lines = c.in_ok-payments.payments.lines;
       batches = c.in_ok-records.records.batches;
       extensions = c.in_ok-extensions.extensions;
-      answers = c.in_ok-records.records.answers;
+      replies = c.in_ok-records.records.replies;
     } in
-    holds_all c.args.form at_0.now.trees all
-    (record { desk = register.desk; rates = register.rates; bonds = register.bonds; tickets = payments.tickets; paid = payments.lines; batches = records.batches }) records.answers extensions
+    let kept = answer_map records.replies.kept in (
+      rows_with kept all,
+      holds_all c.args.form at_0.now.trees all kept
+          (record { desk = register.desk; rates = register.rates; bonds = register.bonds; tickets = payments.tickets; paid = payments.lines; batches = records.batches }) records.replies.held extensions,
+      record { kept = records.replies.kept; tested = records.replies.tested; are = refl },
+    )
 
 pub returns-clause-listed : goal.returns-clause-listed
 returns-clause-listed g c =
@@ -129,7 +134,6 @@ returns-clause-listed g c =
       lines = payments.lines;
       batches = records.batches;
       extensions = c.in_ok-extensions.ensures.listed;
-      answers = records.answers;
     }
 
 pub returns-in_err-register-clause-usable : goal.returns-in_err-register-clause-usable

@@ -5,7 +5,7 @@ use Rattle.sqlite.proofs.InsideLemmas.{keeps_then}
 use Rattle.ee_store_making.specs.Forms.{HoldsIn}
 use Rattle.ee_store_tables.proofs.Lemmas.Transactions.{clean_before}
 use Rattle.ee_store_making.proofs.Lemmas.Faults.{handed_on, each_fault}
-use Rattle.ee_store_opening.proofs.ReadLemmas.{still_form}
+use Rattle.ee_store_opening.proofs.ReadLemmas.{each_ok, sound_after, still_form}
 use Rattle.ee_store_opening.proofs.VersionLemmas.{one_version, of_form, names_form, known_is_no_other}
 use Rattle.ee_store_making.specs.Faults.{IsExcused}
 use Rattle.ee_store_making.proofs.Lemmas.Causes.{excused_then}
@@ -34,6 +34,15 @@ returns-then-version-clause-tested g c clean told ours is_open rows sees =
     known_is_no_other c.in_ok-version.version rows (c.in_ok-version.ensures.named clean c.args.form rows sees) c.in_ok-version.ensures.known
 
 -- ---- the tables are read
+
+pub returns-clause-found : goal.returns-clause-found
+returns-clause-found g c clean ours sound =
+    let old = state g.S.Store c.args.conn.now in
+    let middle = state g.S.Store c.known_version.new.conn in
+    let new = state g.S.Store c.read_in.new.conn in
+    let same = c.in_ok-version.ensures.same (clean_before middle new c.read_in.ensures.crash clean) in
+    each_ok c.read_in.result (λ all it. (it.0, subst (λ (d : Database). HoldsIn c.args.form d.trees it.0) same.0.now_is it.1, it.2))
+    (c.read_in.ensures.found clean (still_form c.args.form old middle same ours) (sound_after old middle same sound))
 
 pub returns-clause-usable : goal.returns-clause-usable
 returns-clause-usable g c clean =
