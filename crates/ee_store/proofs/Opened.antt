@@ -2,7 +2,7 @@
 use Rattle.std.proofs.Common.{◌≡◌, ◌⊎◌, inl, inr, ℕ, List, [], map, IsTrue, sym, ap, ◌∙◌, subst}
 use Rattle.std.specs.Prelude.{IfSome, filter_map}
 use Rattle.std.specs.Ordering.{nat_cmp}
-use Rattle.std.specs.FinMap.{empty, from_entries, get-empty}
+use Rattle.std.specs.FinMap.{from_entries, get-empty}
 use Rattle.sqlite.specs.Held.{Held}
 use Rattle.sqlite.specs.Effect.{Database}
 use Rattle.sqlite.specs.Tree.{Trees}

@@ -52,7 +52,7 @@ use crate::entries::{
     Rowid, StoredBatch, StoredBond, StoredDesk, StoredLine, StoredRate, StoredReply, StoredTicket,
 };
 use crate::reading::read_table;
-use crate::testing::{RowTest, all_pass, test_table};
+use crate::testing::{AnyRow, RowTest, all_pass, test_table};
 use ee_store_making::{Form, OpenFault, StoredAnswer};
 use sqlite::{Alter, Connection};
 use std::alloc::Global;
@@ -265,7 +265,11 @@ fn test_current_answers<S: Alter, P: RowTest<StoredAnswer>>(
         alloc,
         "SELECT desk, number, act, reply FROM answers ORDER BY desk, number",
     )?;
-    let _rowids: Vec<Rowid> = read_table(conn, alloc, "SELECT rowid FROM answers ORDER BY rowid")?;
+    let _rowids = test_table::<S, Rowid, AnyRow>(
+        conn,
+        alloc,
+        "SELECT rowid FROM answers ORDER BY rowid",
+    )?;
     Ok(KeptReplies {
         pass,
         earlier: Vec::new(alloc),
@@ -316,7 +320,11 @@ pub(crate) fn read_bonds<S: Alter>(
         alloc,
         "SELECT letter, number, denom, issued, owner, coowner, ticket FROM bonds ORDER BY letter, number",
     )?;
-    let _rowids: Vec<Rowid> = read_table(conn, alloc, "SELECT rowid FROM bonds ORDER BY rowid")?;
+    let _rowids = test_table::<S, Rowid, AnyRow>(
+        conn,
+        alloc,
+        "SELECT rowid FROM bonds ORDER BY rowid",
+    )?;
     Ok(found)
 }
 
@@ -341,7 +349,11 @@ pub(crate) fn read_lines<S: Alter>(
         alloc,
         "SELECT ticket, place, letter, number, cents FROM paid ORDER BY ticket, place",
     )?;
-    let _rowids: Vec<Rowid> = read_table(conn, alloc, "SELECT rowid FROM paid ORDER BY rowid")?;
+    let _rowids = test_table::<S, Rowid, AnyRow>(
+        conn,
+        alloc,
+        "SELECT rowid FROM paid ORDER BY rowid",
+    )?;
     Ok(found)
 }
 

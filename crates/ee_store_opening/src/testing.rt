@@ -1,6 +1,6 @@
 //! Reading the rows of a table one after the other, where each is tested and let go before the next.
 
-ghost use Rattle.std.specs.Prelude.{◌≡◌, ◌≢◌, ◌↔◌, List, [], ◌∷◌, ◌++◌, Bool, true, None, IsTrue, IfOk, IfErr, OnOk, map, ℕ};
+ghost use Rattle.std.specs.Prelude.{◌≡◌, ◌≢◌, ◌↔◌, List, [], ◌∷◌, ◌++◌, Bool, true, None, IsTrue, IfOk, IfErr, OnOk, ⊤, map, ℕ};
 ghost use Rattle.std.specs.List.{AllByRecursion};
 ghost use Rattle.std.specs.Option.{option_map_or};
 ghost use Rattle.sqlite.specs.State.{HasCleanDisk, IsUnchanged, KeepsCommit, Survives, Shown};
@@ -29,6 +29,17 @@ pub trait RowTest<T> {
     /// Whether the row passes.
     fn test(alloc: Global, row: &T) -> Result<bool, AllocError>
         ensures { IfOk result (λ right. (right ≡ true) ↔ passes row.now) };
+}
+
+/// The test that each row passes, so that its key alone is tested.
+pub(crate) struct AnyRow;
+
+impl<T> RowTest<T> for AnyRow {
+    ghost passes = { λ _. ⊤ };
+
+    fn test(_alloc: Global, _row: &T) -> Result<bool, AllocError> {
+        Ok(true)
+    }
 }
 
 /// What is known of the rows that were read: the last of them, whether their keys rise, and whether each passed.

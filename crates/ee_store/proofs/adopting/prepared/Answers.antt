@@ -1,4 +1,3 @@
-use Rattle.std.proofs.Common.{refl}
 use Rattle.ee_store.proofs.adopting.prepared.Goals as goal
 
 pub returns-in-Err-Unusable-clause-unusable : goal.returns-in-Err-Unusable-clause-unusable

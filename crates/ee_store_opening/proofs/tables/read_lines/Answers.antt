@@ -24,33 +24,33 @@ use Rattle.ee_store_opening.proofs.tables.read_lines.Goals as goal
 pub read_table-requires : goal.read_table-requires
 read_table-requires g c = only_lines
 
-pub read_table-requires-2 : goal.read_table-requires-2
-read_table-requires-2 g c = only_line_rowids
+pub test_table-requires : goal.test_table-requires
+test_table-requires g c = only_line_rowids
 
 pub returns-in_err-_rowids-clause-kept : goal.returns-in_err-_rowids-clause-kept
 returns-in_err-_rowids-clause-kept g c clean =
     let at_0 = state g.S.Store c.args.conn.now in
     let at_1 = state g.S.Store c.read_table.new.conn in
-    let at_2 = state g.S.Store c.read_table-2.new.conn in
+    let at_2 = state g.S.Store c.test_table.new.conn in
     let clean_2 = clean in
-    let clean_1 = clean_before at_1 at_2 c.read_table-2.ensures.crash clean_2 in
-    keeps_then at_0 at_1 at_2 (c.read_table.ensures.kept clean_1) (c.read_table-2.ensures.kept clean_2)
+    let clean_1 = clean_before at_1 at_2 c.test_table.ensures.crash clean_2 in
+    keeps_then at_0 at_1 at_2 (c.read_table.ensures.kept clean_1) (c.test_table.ensures.kept clean_2)
 
 pub returns-clause-kept : goal.returns-clause-kept
 returns-clause-kept g c clean =
     let at_0 = state g.S.Store c.args.conn.now in
     let at_1 = state g.S.Store c.read_table.new.conn in
-    let at_2 = state g.S.Store c.read_table-2.new.conn in
+    let at_2 = state g.S.Store c.test_table.new.conn in
     let clean_2 = clean in
-    let clean_1 = clean_before at_1 at_2 c.read_table-2.ensures.crash clean_2 in
-    keeps_then at_0 at_1 at_2 (c.read_table.ensures.kept clean_1) (c.read_table-2.ensures.kept clean_2)
+    let clean_1 = clean_before at_1 at_2 c.test_table.ensures.crash clean_2 in
+    keeps_then at_0 at_1 at_2 (c.read_table.ensures.kept clean_1) (c.test_table.ensures.kept clean_2)
 
 pub returns-clause-same : goal.returns-clause-same
 returns-clause-same g c clean =
     let old = state g.S.Store c.args.conn.now in
     let middle = state g.S.Store c.read_table.new.conn in
-    let new = state g.S.Store c.read_table-2.new.conn in
-    let before = clean_before middle new c.read_table-2.ensures.crash clean in
+    let new = state g.S.Store c.test_table.new.conn in
+    let before = clean_before middle new c.test_table.ensures.crash clean in
     let same = c.in_ok-found.ensures.same before in
     unchanged_then old middle new same (c.in_ok-_rowids.ensures.same clean)
 
@@ -58,15 +58,16 @@ pub returns-clause-found : goal.returns-clause-found
 returns-clause-found g c clean ours sound =
     let old = state g.S.Store c.args.conn.now in
     let middle = state g.S.Store c.read_table.new.conn in
-    let new = state g.S.Store c.read_table-2.new.conn in
-    let before = clean_before middle new c.read_table-2.ensures.crash clean in
+    let new = state g.S.Store c.test_table.new.conn in
+    let before = clean_before middle new c.test_table.ensures.crash clean in
     let same = c.in_ok-found.ensures.same before in
     let ours_then = still_form ours.0 old middle same ours.1 in
     let shows = c.in_ok-found.ensures.found before (schema_of ours.0) 7 line_terms by_pair (asks_lines ours.0) ours.1 in
-    let numbers = c.in_ok-_rowids.ensures.found clean (schema_of ours.0) 7 rowid_terms by_key (asks_line_rowids ours.0) ours_then in
-    let ids = c.in_ok-_rowids._rowids.items in
+    let numbered = c.in_ok-_rowids.ensures.found clean in
+    let numbers = numbered.1 (schema_of ours.0) 7 rowid_terms by_key (asks_line_rowids ours.0) ours_then in
+    let ids = numbered.0 in
     holds_lines ours.0 old.now (sound shows.0) (ours.1 shows.0) c.in_ok-found.found.items ids shows.1 c.in_ok-found.ensures.rises
-    (subst (λ (d : Database). ShowsAll d.trees 7 rowid_terms (map (λ (it : Rowid). Int it.rowid ∷ []) ids)) same.0.now_is numbers.1) c.in_ok-_rowids.ensures.rises
+    (subst (λ (d : Database). ShowsAll d.trees 7 rowid_terms (map (λ (it : Rowid). Int it.rowid ∷ []) ids)) same.0.now_is numbers.1) numbered.2
 
 pub returns-clause-listed : goal.returns-clause-listed
 returns-clause-listed g c = listed_lines c.in_ok-found.found.items c.in_ok-found.ensures.rises
@@ -81,9 +82,9 @@ pub returns-in_err-_rowids-clause-usable : goal.returns-in_err-_rowids-clause-us
 returns-in_err-_rowids-clause-usable g c clean =
     let old = state g.S.Store c.args.conn.now in
     let middle = state g.S.Store c.read_table.new.conn in
-    let new = state g.S.Store c.read_table-2.new.conn in
+    let new = state g.S.Store c.test_table.new.conn in
     handed_on _ c.from_residual-in_err-_rowids.result c.in_err-_rowids.field-0.0 c.from_residual-in_err-_rowids.ensures.1 (λ unusable ours is_open m holds.
-    let before = clean_before middle new c.read_table-2.ensures.crash clean in
+    let before = clean_before middle new c.test_table.ensures.crash clean in
     let same = c.in_ok-found.ensures.same before in
     let ours_then = still_form ours.0 old middle same ours.1 in
     c.in_err-_rowids.ensures.usable clean unusable (schema_of ours.0) 7 rowid_terms by_key (asks_line_rowids ours.0) ours_then same.0.is_open (can_read_line_rowids middle.now.trees m (subst (λ (d : Database). HoldsPairs paid_columns (d.trees 7) m) (sym same.0.now_is) holds)))
@@ -98,8 +99,8 @@ pub returns-in_err-_rowids-clause-cause : goal.returns-in_err-_rowids-clause-cau
 returns-in_err-_rowids-clause-cause g c clean ours limit =
     let old = state g.S.Store c.args.conn.now in
     let middle = state g.S.Store c.read_table.new.conn in
-    let new = state g.S.Store c.read_table-2.new.conn in
+    let new = state g.S.Store c.test_table.new.conn in
     let first = c.read_table.ensures.crash in
-    let ours_then = still_form ours.0 old middle (c.in_ok-found.ensures.same (clean_before middle new c.read_table-2.ensures.crash clean)) ours.1 in
+    let ours_then = still_form ours.0 old middle (c.in_ok-found.ensures.same (clean_before middle new c.test_table.ensures.crash clean)) ours.1 in
     handed_on (IsExcused old new) c.from_residual-in_err-_rowids.result c.in_err-_rowids.field-0.0 c.from_residual-in_err-_rowids.ensures.1
-    (excused_then old middle new first c.read_table-2.ensures.crash clean _ (c.in_err-_rowids.ensures.cause (schema_of ours.0) (never_line_rowids ours.0) clean ours_then (first.limit ∙ limit)))
+    (excused_then old middle new first c.test_table.ensures.crash clean _ (c.in_err-_rowids.ensures.cause (schema_of ours.0) (never_line_rowids ours.0) clean ours_then (first.limit ∙ limit)))

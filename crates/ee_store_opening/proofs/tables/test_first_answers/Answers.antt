@@ -1,7 +1,6 @@
-use Rattle.std.proofs.Common.{◌≡◌, ◌↔◌, true, T, refl, subst}
+use Rattle.std.proofs.Common.{◌≡◌, ◌↔◌, true, T, subst}
 use Rattle.std.specs.List.{AllByRecursion}
 use Rattle.std.specs.FinMap.{entries_sorted, is_sorted}
-use Rattle.sqlite.specs.Held.{state}
 use Rattle.ee_store_tables.specs.Keyed.{pair_cmp}
 use Rattle.ee_store_making.proofs.Lemmas.Faults.{handed_on}
 use Rattle.ee_store_opening.specs.Shown.{answer_map}
@@ -15,7 +14,7 @@ returns-clause-found g c clean ours sound =
       tested = record {
         in_order = subst (λ es. T (is_sorted pair_cmp es)) c.in_ok-earlier.ensures.listed (entries_sorted (answer_map kept));
         pass = subst (λ rows. (c.in_ok-pass.pass ≡ true) ↔ AllByRecursion g.P.RowTest.passes rows) c.deref.ensures.value c.in_ok-pass.ensures.exact;
-        earlier = λ _. refl;
+        earlier = λ _ i. kept;
       };
       held = c.in_ok-earlier.ensures.found clean ours sound;
     }

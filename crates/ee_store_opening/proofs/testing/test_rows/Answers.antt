@@ -1,4 +1,4 @@
-use Rattle.std.proofs.Common.{◌≡◌, IfErr, rules, arith, refl, sym, subst, inl, [], ◌∷◌, ◌++◌, map, ◌∙◌}
+use Rattle.std.proofs.Common.{IfErr, rules, arith, refl, sym, subst, inl, [], ◌∷◌, ◌++◌, map, ◌∙◌}
 use Rattle.sqlite.specs.Effect.{Database}
 use Rattle.sqlite.specs.Held.{state}
 use Rattle.sqlite.specs.Given.{HasGiven, IsPlain}
@@ -90,14 +90,16 @@ rows-preserved g c =
     let next = c.in_ok-next.next in (
       moved.same_reference ∙ before.0,
       survives_then old middle (state g.S.Store now) _ _ _ (λ _ db h. h) (λ _ db h. h) before.1 moved.survives,
-      (before.2.0 ++ next ∷ [],
-      λ clean.
-          let was = before.2.1 (omega (arith, moved.survives.clean)) in
-          let step = (rw (c.in_ok-row.was, c.in-Some.is) at (moved.ok clean)) c.args.sql.now [] (map g.T.Record.shown before.2.0) was.0 in
-          let same : IsUnchanged middle (state g.S.Store now) = rw c.in_ok-row.was at (moved.same clean) in
-          let more = shown_more g.T.Record.shown before.2.0 next c.in-Some.row.now c.in_ok-next.ensures.exact in
-          (subst (HasGiven g.S.Store c.args.sql.now [] now) more step, unchanged_then old middle (state g.S.Store now) was.1 same),
-      c.in_ok-seen.ensures.told before.2.0 before.2.2),
+      (
+        before.2.0 ++ next ∷ [],
+        λ clean.
+            let was = before.2.1 (omega (arith, moved.survives.clean)) in
+            let step = (rw (c.in_ok-row.was, c.in-Some.is) at (moved.ok clean)) c.args.sql.now [] (map g.T.Record.shown before.2.0) was.0 in
+            let same : IsUnchanged middle (state g.S.Store now) = rw c.in_ok-row.was at (moved.same clean) in
+            let more = shown_more g.T.Record.shown before.2.0 next c.in-Some.row.now c.in_ok-next.ensures.exact in
+            (subst (HasGiven g.S.Store c.args.sql.now [] now) more step, unchanged_then old middle (state g.S.Store now) was.1 same),
+        c.in_ok-seen.ensures.told before.2.0 before.2.2,
+      ),
     )
 
 pub returns-in_err-rows-clause-cause : goal.returns-in_err-rows-clause-cause

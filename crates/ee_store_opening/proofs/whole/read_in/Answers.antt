@@ -1,4 +1,4 @@
-use Rattle.std.proofs.Common.{refl, sym, subst, ◌∙◌}
+use Rattle.std.proofs.Common.{sym, subst, ◌∙◌}
 use Rattle.sqlite.specs.Effect.{Database}
 use Rattle.sqlite.specs.Held.{state}
 use Rattle.sqlite.proofs.Callers.{unchanged_then}
@@ -118,7 +118,7 @@ returns-clause-found g c clean ours_0 sound_0 =
       rows_with kept all,
       holds_all c.args.form at_0.now.trees all kept
           (record { desk = register.desk; rates = register.rates; bonds = register.bonds; tickets = payments.tickets; paid = payments.lines; batches = records.batches }) records.replies.held extensions,
-      record { kept = records.replies.kept; tested = records.replies.tested; are = refl },
+      record { kept = records.replies.kept; tested = records.replies.tested; are = λ i. rows_with kept all },
     )
 
 pub returns-clause-listed : goal.returns-clause-listed
