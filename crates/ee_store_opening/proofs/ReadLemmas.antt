@@ -1,7 +1,5 @@
 -- What reading several tables in turn gives.
-use Rattle.std.specs.Result.{is_ok, is_err}
-use Rattle.std.specs.Prelude.{if◌then◌else◌}
-use Rattle.std.proofs.Common.{◌≡◌, ◌+◌, false, length, length-append, List, [], ◌∷◌, ◌++◌, map, refl, Ok, Err, Result, IfOk, OnOk, sym, ap, subst, ◌∙◌}
+use Rattle.std.proofs.Common.{Ok, Err, Result, IfOk, OnOk, sym, ap, subst, ◌∙◌}
 use Rattle.sqlite.specs.Effect.{Database, IsDatabase}
 use Rattle.sqlite.specs.State.{State, IsUnchanged}
 use Rattle.ee_store_making.specs.declared.forms.Form.{Form}
@@ -38,17 +36,3 @@ under_ok P (Err e) f = tt
 pub ok_then : {X E Q : Type 0} {P R : X → Type 0} (r : Result X E) → ((x : X) → P x → Q → R x) → IfOk r P → OnOk r Q → IfOk r R
 ok_then (Ok x) f p q = f x p q
 ok_then (Err e) f p q = tt
-
--- ---- one more row
-
-pub one_more : {A B E F : Type 0} (f : A → B) (r : Result E F) → false ≡ is_err r → (ys xs : List A) (x : A) → ys ≡ (if is_ok r then xs ++ x ∷ [] else xs) → map f xs ++ f x ∷ [] ≡ map f ys
-one_more f (Ok e) done ys xs x is = sym (ap (map f) is ∙ mapped xs)
-  where
-    mapped : (zs : List _) → map f (zs ++ x ∷ []) ≡ map f zs ++ f x ∷ []
-    mapped [] = refl
-    mapped (z ∷ zs) = ap (λ more. f z ∷ more) (mapped zs)
-one_more f (Err e) done ys xs x is = absurd cc
-
-pub one_longer : {A E F : Type 0} (r : Result E F) → false ≡ is_err r → (ys xs : List A) (x : A) → ys ≡ (if is_ok r then xs ++ x ∷ [] else xs) → length ys ≡ length xs + 1
-one_longer (Ok e) done ys xs x is = ap length is ∙ length-append xs (x ∷ [])
-one_longer (Err e) done ys xs x is = absurd cc

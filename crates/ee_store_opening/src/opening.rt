@@ -88,7 +88,8 @@ pub fn open_rows<S: Alter, P: RowTest<StoredAnswer>>(
     conn: &mut Connection<S>,
     alloc: Global,
 ) -> Result<AllRows, OpenFault>
-    ensures found { HasCleanDisk (state S.Store conn.new) → IfOk result (λ all. (rows : Rows) × HadIn all.form (state S.Store conn.new) rows × AreRead P.passes all rows) }
+    ensures found { HasCleanDisk (state S.Store conn.new) → IfOk result (λ all. (rows : Rows)
+        × HadIn all.form (state S.Store conn.new) rows × AreRead P.passes all rows) }
     ensures current { HasCleanDisk (state S.Store conn.new) → IfOk result (λ all. IsTrue (state S.Store conn.old).is_open
         → HasForm Current (state S.Store conn.old) ⊎ IsBlank (state S.Store conn.old) → all.form ≡ Current) }
     ensures ours { HasCleanDisk (state S.Store conn.new) → OnOk result (IsOurs (state S.Store conn.old) ⊎ IsBlank (state S.Store conn.old)) }

@@ -1,6 +1,7 @@
-//! Reading the rows of a table, and testing that their keys rise.
+//! Reading the rows of a table one after the other, where each key is tested to be above the one before it.
 
-ghost use Rattle.std.specs.Prelude.{◌≡◌, ◌≢◌, List, Bool, true, IsTrue, IfOk, IfErr, OnOk, map, ℕ, []};
+ghost use Rattle.std.specs.Prelude.{◌≡◌, ◌≢◌, List, Bool, true, IsTrue, IfOk, IfErr, OnOk, map, ℕ, [], ◌∷◌, ◌++◌};
+ghost use Rattle.std.specs.Option.{option_copied, option_map_or};
 ghost use Rattle.sqlite.specs.State.{HasCleanDisk, IsUnchanged, KeepsCommit, Survives, Shown};
 ghost use Rattle.sqlite.specs.Given.{IsPlain};
 ghost use Rattle.sqlite.specs.Held.{state};
@@ -41,31 +42,39 @@ pub trait Record: Sized {
         ensures { result ≡ stands_before self.now next.now };
 }
 
-/// Whether each key is below the next.
-fn keys_rise<T: Record>(found: &[T]) -> bool
-    ensures { result ≡ rises T.stands_before found.now }
-{
-    let mut rest = found;
-    while let Some((first, more)) = rest.split_first() {
-        if let Some(next) = more.first() {
-            if !first.precedes(next) {
-                return false;
-            }
-        }
-        rest = more;
-    }
-    true
+/// What is made of rows as they are read.
+pub(crate) trait Gather<T>: Sized {
+    // It is made of these rows.
+    ghost is_of: { Self → List T → Type 0 };
+
+    /// Takes the next row.
+    fn take(self, alloc: Global, next: T) -> Result<Self, OpenFault>
+        ensures taken { IfOk result (λ more. (rows : List T) → is_of self rows → is_of more (rows ++ next ∷ [])) }
+        ensures memory { IfErr result (λ e. e ≡ OpenFault.NoMemory) };
 }
 
-/// The rows that a query shows, read one after the other, so that nobody holds its answer as a whole.
-fn read_rows<S: Alter, T: Record + Drop>(
+/// Whether the key of a row is above that of the row before it, if there is one.
+pub(crate) fn follows<T: Record>(last: Option<&T>, next: &T) -> bool
+    ensures { result ≡ option_map_or (λ (it : T). T.stands_before it next.now) (option_copied last.entry) true }
+{
+    match last {
+        Some(last) => last.precedes(next),
+        None => true,
+    }
+}
+
+/// Takes the rows that a query shows, one after the other, so that nobody holds its answer as a whole.
+pub(crate) fn gather_rows<S: Alter, T: Record + Drop, G: Gather<T> + Drop>(
     conn: &mut Connection<S>,
     alloc: Global,
     sql: &str,
-) -> Result<Vec<T>, OpenFault>
-    requires { OnlyAsks sql.now }
-    ensures shown { HasCleanDisk (state S.Store conn.new)
-        → IfOk result (λ found. Shown sql.now [] (state S.Store conn.old) (state S.Store conn.new) (map T.shown found.items)) }
+    first: G,
+) -> Result<G, OpenFault>
+    requires asks { OnlyAsks sql.now }
+    requires begins { G.is_of first [] }
+    ensures shown { HasCleanDisk (state S.Store conn.new) → IfOk result (λ gathered. (rows : List T)
+        × Shown sql.now [] (state S.Store conn.old) (state S.Store conn.new) (map T.shown rows) × G.is_of gathered rows) }
+    ensures made { IfOk result (λ gathered. (rows : List T) × G.is_of gathered rows) }
     ensures usable { HasCleanDisk (state S.Store conn.new) → IfErr result (λ e. e ≡ OpenFault.Unusable
         → IsPlain (understood (state S.Store conn.old).now.schema sql.now)
         → ShowsUnreadable T.is_readable sql.now (state S.Store conn.old)) }
@@ -75,19 +84,37 @@ fn read_rows<S: Alter, T: Record + Drop>(
     ensures cause { FailsForCause (λ s. IsNeverRefused s.now.schema sql.now []) (state S.Store conn.old) (state S.Store conn.new) result }
     ensures crash { Survives (state S.Store conn.old) (state S.Store conn.new) (λ _. ⊥) }
 {
-    let mut found = Vec::new(alloc);
+    let mut gathered = first;
     let mut rows = conn.query(sql, &[])?;
     'rows: for _ in 0..usize::MAX {
         let Some(row) = rows.next()? else {
-            return Ok(found);
+            return Ok(gathered);
         };
         let next = T::read(row)?;
-        if found.push(next).is_err() {
-            return Err(OpenFault::NoMemory);
-        }
+        gathered = gathered.take(alloc, next)?;
     }
     // No store has so many rows.
-    Err(OpenFault::StoreFailed)
+    Err(OpenFault::NoMemory)
+}
+
+/// The rows of a table, and whether their keys rise.
+#[derive(Drop)]
+struct Rows<T> {
+    all: Vec<T>,
+    rise: bool,
+}
+
+impl<T: Record + Drop> Gather<T> for Rows<T> {
+    ghost is_of = { λ it rows. (it.all.items ≡ rows) × (it.rise ≡ rises T.stands_before rows) };
+
+    fn take(self, _alloc: Global, next: T) -> Result<Rows<T>, OpenFault> {
+        let Rows { mut all, rise } = self;
+        let rise = rise & follows(all.last(), &next);
+        if all.push(next).is_err() {
+            return Err(OpenFault::NoMemory);
+        }
+        Ok(Rows { all, rise })
+    }
 }
 
 /// The rows of a table, in order of their keys.
@@ -112,9 +139,13 @@ pub(crate) fn read_table<S: Alter, T: Record + Drop>(
         → FailsForCause (SeesSchema schema) (state S.Store conn.old) (state S.Store conn.new) result }
     ensures crash { Survives (state S.Store conn.old) (state S.Store conn.new) (λ _. ⊥) }
 {
-    let found: Vec<T> = read_rows(conn, alloc, sql)?;
-    if !keys_rise(&found) {
+    let none = Rows {
+        all: Vec::new(alloc),
+        rise: true,
+    };
+    let found: Rows<T> = gather_rows(conn, alloc, sql, none)?;
+    if !found.rise {
         return Err(OpenFault::Unusable);
     }
-    Ok(found)
+    Ok(found.all)
 }

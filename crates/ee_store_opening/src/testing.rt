@@ -1,25 +1,23 @@
 //! Reading the rows of a table one after the other, where each is tested and let go before the next.
 
-ghost use Rattle.std.specs.Prelude.{◌≡◌, ◌≢◌, ◌↔◌, List, [], ◌∷◌, ◌++◌, Bool, true, None, IsTrue, IfOk, IfErr, OnOk, ⊤, map, ℕ};
+ghost use Rattle.std.specs.Prelude.{◌≡◌, ◌≢◌, ◌↔◌, List, [], true, IsTrue, IfOk, IfErr, OnOk, ⊤, map, ℕ};
 ghost use Rattle.std.specs.List.{AllByRecursion};
-ghost use Rattle.std.specs.Option.{option_map_or};
-ghost use Rattle.sqlite.specs.State.{HasCleanDisk, IsUnchanged, KeepsCommit, Survives, Shown};
-ghost use Rattle.sqlite.specs.Given.{IsPlain};
+ghost use Rattle.sqlite.specs.State.{HasCleanDisk, IsUnchanged, KeepsCommit, Survives};
 ghost use Rattle.sqlite.specs.Held.{state};
-ghost use Rattle.sqlite.specs.Listing.{understood};
 ghost use Rattle.sqlite.specs.Schema.{Schema};
 ghost use Rattle.sqlite.specs.Term.{Term};
 ghost use Rattle.sqlite_value.specs.declared.keys.Key.{Key};
 ghost use Rattle.ee_store_making.specs.Faults.{FailsForCause};
 ghost use Rattle.ee_store_making.specs.Forms.{SeesSchema};
 ghost use Rattle.ee_store_making.specs.Asking.{IsNeverRefused};
-ghost use Rattle.ee_store_opening.specs.Reading.{rises, whole_table, AsksForAll, ShowsAll, ShowsUnreadable, CanBeRead, OnlyAsks};
+ghost use Rattle.ee_store_opening.specs.Reading.{rises, whole_table, AsksForAll, ShowsAll, CanBeRead, OnlyAsks};
 ghost use Rattle.ee_store_opening.specs.Testing.{Tells};
 
-use crate::reading::Record;
+use crate::reading::{Gather, Record, follows, gather_rows};
 use ee_store_making::OpenFault;
 use sqlite::{Alter, Connection};
 use std::alloc::{AllocError, Global};
+use std::marker::PhantomData;
 
 /// A test of a row.
 pub trait RowTest<T> {
@@ -42,78 +40,29 @@ impl<T> RowTest<T> for AnyRow {
     }
 }
 
-/// What is known of the rows that were read: the last of them, whether their keys rise, and whether each passed.
+/// What is known of the rows that were read: the last of them, whether their keys rise, and whether each passed its test.
 #[derive(Drop)]
-pub(crate) struct Seen<T> {
+struct Tested<T, P> {
     last: Option<T>,
-    rises: bool,
+    rise: bool,
     pass: bool,
+    test: PhantomData<P>,
 }
 
-/// Whether the key of a row is above that of the row before it, if there is one.
-fn follows<T: Record>(last: &Option<T>, next: &T) -> bool
-    ensures { result ≡ option_map_or (λ (it : T). T.stands_before it next.now) last.now true }
-{
-    match last {
-        Some(last) => last.precedes(next),
-        None => true,
-    }
-}
+impl<T: Record + Drop, P: RowTest<T>> Gather<T> for Tested<T, P> {
+    ghost is_of = { λ it rows. Tells T.stands_before P.passes it.last it.rise it.pass rows };
 
-/// Tests the next row, and lets the one before it go.
-fn take<T: Record + Drop, P: RowTest<T>>(
-    alloc: Global,
-    seen: Seen<T>,
-    next: T,
-) -> Result<Seen<T>, OpenFault>
-    ensures told { IfOk result (λ more. (rows : List T) → Tells T.stands_before P.passes seen rows
-        → Tells T.stands_before P.passes more (rows ++ next ∷ [])) }
-    ensures memory { IfErr result (λ e. e ≡ OpenFault.NoMemory) }
-{
-    let Ok(right) = P::test(alloc, &next) else {
-        return Err(OpenFault::NoMemory);
-    };
-    let follows = follows(&seen.last, &next);
-    Ok(Seen {
-        rises: seen.rises & follows,
-        pass: seen.pass & right,
-        last: Some(next),
-    })
-}
-
-/// Tests the rows that a query shows, so that nobody holds two of them.
-fn test_rows<S: Alter, T: Record + Drop, P: RowTest<T>>(
-    conn: &mut Connection<S>,
-    alloc: Global,
-    sql: &str,
-) -> Result<Seen<T>, OpenFault>
-    requires { OnlyAsks sql.now }
-    ensures shown { HasCleanDisk (state S.Store conn.new) → IfOk result (λ seen. (rows : List T)
-        × Shown sql.now [] (state S.Store conn.old) (state S.Store conn.new) (map T.shown rows) × Tells T.stands_before P.passes seen rows) }
-    ensures usable { HasCleanDisk (state S.Store conn.new) → IfErr result (λ e. e ≡ OpenFault.Unusable
-        → IsPlain (understood (state S.Store conn.old).now.schema sql.now)
-        → ShowsUnreadable T.is_readable sql.now (state S.Store conn.old)) }
-    ensures same { HasCleanDisk (state S.Store conn.new) → OnOk result (IsUnchanged (state S.Store conn.old) (state S.Store conn.new)) }
-    ensures kept { HasCleanDisk (state S.Store conn.new) → KeepsCommit (state S.Store conn.old) (state S.Store conn.new) }
-    ensures other { IfErr result (λ e. e ≢ OpenFault.WrongVersion) }
-    ensures cause { FailsForCause (λ s. IsNeverRefused s.now.schema sql.now []) (state S.Store conn.old) (state S.Store conn.new) result }
-    ensures crash { Survives (state S.Store conn.old) (state S.Store conn.new) (λ _. ⊥) }
-{
-    let mut seen = Seen {
-        last: None,
-        rises: true,
-        pass: true,
-    };
-    let mut rows = conn.query(sql, &[])?;
-    'rows: for _ in 0..usize::MAX {
-        let Some(row) = rows.next()? else {
-            return Ok(seen);
+    fn take(self, alloc: Global, next: T) -> Result<Tested<T, P>, OpenFault> {
+        let Ok(right) = P::test(alloc, &next) else {
+            return Err(OpenFault::NoMemory);
         };
-        let next = T::read(row)?;
-        seen = take::<T, P>(alloc, seen, next)?;
+        Ok(Tested {
+            rise: self.rise & follows(self.last.as_ref(), &next),
+            pass: self.pass & right,
+            last: Some(next),
+            test: PhantomData,
+        })
     }
-    // No store has so many rows.
-    Err(OpenFault::NoMemory)
 }
 
 /// Whether each row of a table passes a test. The rows are read in order of their keys, and none is kept.
@@ -139,11 +88,17 @@ pub(crate) fn test_table<S: Alter, T: Record + Drop, P: RowTest<T>>(
         → FailsForCause (SeesSchema schema) (state S.Store conn.old) (state S.Store conn.new) result }
     ensures crash { Survives (state S.Store conn.old) (state S.Store conn.new) (λ _. ⊥) }
 {
-    let seen = test_rows::<S, T, P>(conn, alloc, sql)?;
-    if !seen.rises {
+    let none = Tested {
+        last: None,
+        rise: true,
+        pass: true,
+        test: PhantomData,
+    };
+    let found: Tested<T, P> = gather_rows(conn, alloc, sql, none)?;
+    if !found.rise {
         return Err(OpenFault::Unusable);
     }
-    Ok(seen.pass)
+    Ok(found.pass)
 }
 
 /// Whether each of these rows passes a test.

@@ -10,10 +10,10 @@ use Rattle.ee_store_tables.proofs.Lemmas.Transactions.{query_keeps}
 use Rattle.ee_store_making.specs.Faults.{IsExcused}
 use Rattle.ee_store_making.specs.Asking.{IsNeverRefused}
 use Rattle.ee_store_making.proofs.Lemmas.Faults.{query_usable, told_as, handed_on}
-use Rattle.ee_store_opening.proofs.TestLemmas.{none_tested, shown_more}
+use Rattle.ee_store_opening.proofs.TestLemmas.{shown_more}
 use Rattle.ee_store_making.proofs.Lemmas.Causes.{query_excused, cause_then}
 use Rattle.ee_store_opening.proofs.AskLemmas.{commits_nothing, begun_asking, shown_after, begins_before, last_of}
-use Rattle.ee_store_opening.proofs.testing.test_rows.Goals as goal
+use Rattle.ee_store_opening.proofs.reading.gather_rows.Goals as goal
 
 pub returns-in_err-rows-clause-usable : goal.returns-in_err-rows-clause-usable
 returns-in_err-rows-clause-usable g c clean =
@@ -37,12 +37,12 @@ returns-in_err-rows-clause-crash g c =
     let new = state g.S.Store c.query.follows.lender-at-none in
     let held = c.query.follows.holds-at-none in
     let kept : Survives old new (CommitsShowing c.args.sql.now [] old) = search rules in
-    commits_nothing c.args.sql.now c.requires [] old new kept
+    commits_nothing c.args.sql.now c.requires.asks [] old new kept
 
 pub rows-init : goal.rows-init
 rows-init g c =
     let made = c.in_ok-rows.ensures in
-    (refl, commits_nothing c.args.sql.now c.requires [] _ _ made.survives, ([], λ clean. begun_asking c.args.sql.now c.requires [] g.S.Store c.args.conn.now _ (made.begun clean), none_tested g.T.Record.stands_before g.P.RowTest.passes))
+    (refl, commits_nothing c.args.sql.now c.requires.asks [] _ _ made.survives, ([], λ clean. begun_asking c.args.sql.now c.requires.asks [] g.S.Store c.args.conn.now _ (made.begun clean), c.requires.begins))
 
 pub returns-in_err-row-clause-usable : goal.returns-in_err-row-clause-usable
 returns-in_err-row-clause-usable g c clean =
@@ -63,7 +63,7 @@ returns-in_default-clause-shown g c clean =
     let was = c.rows.invariant.2.1 (omega (arith, moved.survives.clean)) in
     let shown = (rw (c.in_ok-row.was, c.in_default.is) at (moved.ok late)) c.args.sql.now [] _ was.0 in
     let all : Shown c.args.sql.now [] (state g.S.Store c.args.conn.now) (state g.S.Store now) (map g.T.Record.shown found)
-    = shown_after c.args.sql.now c.requires [] (state g.S.Store c.args.conn.now) (state g.S.Store c.rows.rows.conn.now) (state g.S.Store now) _ was.1 shown in
+    = shown_after c.args.sql.now c.requires.asks [] (state g.S.Store c.args.conn.now) (state g.S.Store c.rows.rows.conn.now) (state g.S.Store now) _ was.1 shown in
     (found, search rules, c.rows.invariant.2.2)
 
 pub returns-in_err-next-clause-usable : goal.returns-in_err-next-clause-usable
@@ -98,7 +98,7 @@ rows-preserved g c =
             let same : IsUnchanged middle (state g.S.Store now) = rw c.in_ok-row.was at (moved.same clean) in
             let more = shown_more g.T.Record.shown before.2.0 next c.in-Some.row.now c.in_ok-next.ensures.exact in
             (subst (HasGiven g.S.Store c.args.sql.now [] now) more step, unchanged_then old middle (state g.S.Store now) was.1 same),
-        c.in_ok-seen.ensures.told before.2.0 before.2.2,
+        c.in_ok-gathered.ensures.taken before.2.0 before.2.2,
       ),
     )
 
@@ -124,3 +124,6 @@ returns-in_err-row-clause-cause g c clean never limit =
     = told_as (IsExcused old (state g.S.Store now)) c.from_residual-in_err-row.result c.in_err-row.field-0.0 c.from_residual-in_err-row.ensures.1 (λ told.
     cause_then old middle (state g.S.Store now) before.1 moved.survives late (query_excused middle (state g.S.Store now) c.args.sql.now [] still (before.1.limit ∙ limit) _ fails told)) in
     search rules
+
+pub returns-in_default-clause-made : goal.returns-in_default-clause-made
+returns-in_default-clause-made g c = (c.rows.invariant.2.0, c.rows.invariant.2.2)
