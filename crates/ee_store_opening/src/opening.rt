@@ -67,7 +67,7 @@ fn refusal<S: Alter>(conn: &mut Connection<S>) -> OpenFault
 /// in one transaction, with the desk's row: version 2, no open day and no last day. Any other store is
 /// refused, one with our tables in another order or with fewer of them too, and nothing is committed in it.
 /// The version is tested before all else is read. Each table's rows come in order of their keys. Each kept reply is
-/// tested by `P`; those of version 2 are let go as soon as they are, so that memory is needed for one of them at a time.
+/// tested by `P`; those of version 2 are let go as soon as they are, so that no more than two of them are in memory.
 /// It takes time in proportion to the rows, and memory to those that come.
 ///
 /// - `found`: a store whose tables are of this form has these rows, and they were read: all but the kept replies come, and of

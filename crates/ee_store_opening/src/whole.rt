@@ -205,7 +205,8 @@ fn read_of_version<S: Alter, P: RowTest<StoredAnswer>>(
 /// Reads all rows of a store that has tables of this form, and tests its kept replies.
 ///
 /// The version is tested first. The store keeps what was committed, and a stop leaves what it could
-/// leave before. It takes time in proportion to the rows, and memory to those but the kept replies of version 2.
+/// leave before. It takes time in proportion to the rows, and memory to all of them but the kept replies of
+/// version 2.
 ///
 /// # Errors
 ///
