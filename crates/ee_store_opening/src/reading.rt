@@ -99,21 +99,21 @@ pub(crate) fn gather_rows<S: Alter, T: Record + Drop, G: Gather<T> + Drop>(
 
 /// The rows of a table, and whether their keys rise.
 #[derive(Drop)]
-struct Rows<T> {
+struct TableRows<T> {
     all: Vec<T>,
     rise: bool,
 }
 
-impl<T: Record + Drop> Gather<T> for Rows<T> {
+impl<T: Record + Drop> Gather<T> for TableRows<T> {
     ghost is_of = { λ it rows. (it.all.items ≡ rows) × (it.rise ≡ rises T.stands_before rows) };
 
-    fn take(self, _alloc: Global, next: T) -> Result<Rows<T>, OpenFault> {
-        let Rows { mut all, rise } = self;
+    fn take(self, _alloc: Global, next: T) -> Result<TableRows<T>, OpenFault> {
+        let TableRows { mut all, rise } = self;
         let rise = rise & follows(all.last(), &next);
         if all.push(next).is_err() {
             return Err(OpenFault::NoMemory);
         }
-        Ok(Rows { all, rise })
+        Ok(TableRows { all, rise })
     }
 }
 
@@ -139,11 +139,11 @@ pub(crate) fn read_table<S: Alter, T: Record + Drop>(
         → FailsForCause (SeesSchema schema) (state S.Store conn.old) (state S.Store conn.new) result }
     ensures crash { Survives (state S.Store conn.old) (state S.Store conn.new) (λ _. ⊥) }
 {
-    let none = Rows {
+    let none = TableRows {
         all: Vec::new(alloc),
         rise: true,
     };
-    let found: Rows<T> = gather_rows(conn, alloc, sql, none)?;
+    let found: TableRows<T> = gather_rows(conn, alloc, sql, none)?;
     if !found.rise {
         return Err(OpenFault::Unusable);
     }

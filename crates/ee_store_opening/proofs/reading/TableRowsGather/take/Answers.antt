@@ -1,7 +1,7 @@
 use Rattle.std.proofs.Common.{ap, refl, sym, ◌∙◌, ◌∷◌, ◌++◌, [], length}
 use Rattle.std.specs.Prelude.{◌-◌, slice_get}
 use Rattle.ee_store_opening.proofs.TestLemmas.{last_is, pushed, rise_more}
-use Rattle.ee_store_opening.proofs.reading.RowsGather.take.Goals as goal
+use Rattle.ee_store_opening.proofs.reading.TableRowsGather.take.Goals as goal
 
 pub returns-clause-taken : goal.returns-clause-taken
 returns-clause-taken g c rows is =
