@@ -131,4 +131,5 @@ are_in_order all lists = record {
   lines = subst (λ es. T (is_sorted pair_cmp es)) lists.lines (entries_sorted (line_map all.lines.items));
   batches = subst (λ es. T (is_sorted nat_cmp es)) lists.batches (entries_sorted (batch_map all.batches.items));
   extensions = subst (λ es. T (is_sorted nat_cmp es)) lists.extensions (entries_sorted (rate_map all.extensions.items));
+  earlier = subst (λ es. T (is_sorted pair_cmp es)) lists.earlier (entries_sorted (answer_map all.replies.earlier.items));
 }

@@ -42,6 +42,7 @@ pub record AreInOrder (all : AllRows) : Type 0 where
   pub lines : T (is_sorted pair_cmp (map line_entry all.lines.items))
   pub batches : T (is_sorted nat_cmp (map batch_entry all.batches.items))
   pub extensions : T (is_sorted nat_cmp (map rate_entry all.extensions.items))
+  pub earlier : T (is_sorted pair_cmp (map answer_entry all.replies.earlier.items))
 
 -- The entries of each map are the rows that were read, in their order.
 pub record ListsAll (all : AllRows) : Type 0 where
@@ -52,6 +53,7 @@ pub record ListsAll (all : AllRows) : Type 0 where
   pub lines : entries (line_map all.lines.items) ≡ map line_entry all.lines.items
   pub batches : entries (batch_map all.batches.items) ≡ map batch_entry all.batches.items
   pub extensions : entries (rate_map all.extensions.items) ≡ map rate_entry all.extensions.items
+  pub earlier : entries (answer_map all.replies.earlier.items) ≡ map answer_entry all.replies.earlier.items
 
 -- These are the kept replies that were read, in order of their keys. It says whether each passed its test, and has those of version 1.
 pub record AreTested (Passes : StoredAnswer → Type 0) (form : Form) (read : KeptReplies) (kept : List StoredAnswer) : Type 0 where
@@ -78,6 +80,7 @@ pub record ListsPayments (part : Payments) : Type 0 where
 
 pub record ListsRecords (part : Records) : Type 0 where
   pub batches : entries (batch_map part.batches.items) ≡ map batch_entry part.batches.items
+  pub earlier : entries (answer_map part.replies.earlier.items) ≡ map answer_entry part.replies.earlier.items
 
 pub record HoldsRegister (db : Trees) (part : Register) : Type 0 where
   pub desk : HoldsMap desk_columns (db 0) (desk_map part.desk.items)

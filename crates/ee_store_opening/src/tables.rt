@@ -230,6 +230,7 @@ fn test_first_answers<S: Alter, P: RowTest<StoredAnswer>>(
 ) -> Result<KeptReplies, OpenFault>
     ensures found { HasCleanDisk (state S.Store conn.new) → HasFirstTables (state S.Store conn.old) → IsSoundNow (state S.Store conn.old)
         → IfOk result (HoldsTested P.passes First (state S.Store conn.old).now.trees) }
+    ensures listed { IfOk result (λ found. entries (answer_map found.earlier.items) ≡ map answer_entry found.earlier.items) }
     ensures usable { HasCleanDisk (state S.Store conn.new) → IfErr result (λ e. e ≡ OpenFault.Unusable → HasFirstTables (state S.Store conn.old)
         → IsTrue (state S.Store conn.old).is_open → (m : FinMap pair_cmp ReplyRow) → AreWritten m
         → ¬ HoldsReplies (state S.Store conn.old).now.trees m) }
@@ -251,6 +252,7 @@ fn test_current_answers<S: Alter, P: RowTest<StoredAnswer>>(
 ) -> Result<KeptReplies, OpenFault>
     ensures found { HasCleanDisk (state S.Store conn.new) → SeesForm Current (state S.Store conn.old) → IsSoundNow (state S.Store conn.old)
         → IfOk result (HoldsTested P.passes Current (state S.Store conn.old).now.trees) }
+    ensures listed { IfOk result (λ found. entries (answer_map found.earlier.items) ≡ map answer_entry found.earlier.items) }
     ensures usable { HasCleanDisk (state S.Store conn.new) → IfErr result (λ e. e ≡ OpenFault.Unusable → SeesForm Current (state S.Store conn.old)
         → IsTrue (state S.Store conn.old).is_open → (m : FinMap pair_cmp ReplyRow) → AreWritten m
         → ¬ HoldsPairs reply_columns ((state S.Store conn.old).now.trees 13) m) }
@@ -284,6 +286,7 @@ pub(crate) fn test_answers<S: Alter, P: RowTest<StoredAnswer>>(
 ) -> Result<KeptReplies, OpenFault>
     ensures found { HasCleanDisk (state S.Store conn.new) → SeesForm form (state S.Store conn.old) → IsSoundNow (state S.Store conn.old)
         → IfOk result (HoldsTested P.passes form (state S.Store conn.old).now.trees) }
+    ensures listed { IfOk result (λ found. entries (answer_map found.earlier.items) ≡ map answer_entry found.earlier.items) }
     ensures usable { HasCleanDisk (state S.Store conn.new) → IfErr result (λ e. e ≡ OpenFault.Unusable → SeesForm form (state S.Store conn.old)
         → IsTrue (state S.Store conn.old).is_open → (m : FinMap pair_cmp ReplyRow) → AreWritten m
         → ¬ HoldsKept form (state S.Store conn.old).now.trees m) }

@@ -1,5 +1,5 @@
 use Rattle.std.proofs.Common.{◌≡◌, ◌≢◌, ◌∙◌, [], ◌∷◌, map, T, refl, sym, subst}
-use Rattle.std.specs.FinMap.{entries_sorted, is_sorted}
+use Rattle.std.specs.FinMap.{entries, entries_sorted, is_sorted}
 use Rattle.sqlite.specs.declared.types.Value.TheVariants.{Int}
 use Rattle.sqlite.specs.Effect.{Database}
 use Rattle.sqlite.specs.Held.{state}
@@ -16,6 +16,7 @@ use Rattle.ee_store_making.specs.declared.forms.Form.TheVariants.{Current}
 use Rattle.ee_store_opening.proofs.AskLemmas.{only_answers, only_answer_rowids}
 use Rattle.ee_store_opening.proofs.QuestionLemmas.{by_key, by_pair, answer_terms, rowid_terms, asks_answers, asks_answer_rowids}
 use Rattle.ee_store_opening.proofs.ReadLemmas.{still_form}
+use Rattle.ee_store_making.specs.Migrating.{answer_entry}
 use Rattle.ee_store_making.proofs.Lemmas.Faults.{handed_on}
 use Rattle.ee_store_opening.proofs.CanRead.{can_read_answers, can_read_answer_rowids}
 use Rattle.ee_store_opening.proofs.EachTable.{holds_answers, listed_answers}
@@ -114,3 +115,6 @@ returns-in_err-_rowids-clause-cause g c clean ours limit =
     let ours_then = still_form Current old middle (c.in_ok-pass.ensures.same (clean_before middle new c.test_table-2.ensures.crash clean)) ours in
     handed_on (IsExcused old new) c.from_residual-in_err-_rowids.result c.in_err-_rowids.field-0.0 c.from_residual-in_err-_rowids.ensures.1
     (excused_then old middle new first c.test_table-2.ensures.crash clean _ (c.in_err-_rowids.ensures.cause counter_schema never_answer_rowids clean ours_then (first.limit ∙ limit)))
+
+pub returns-clause-listed : goal.returns-clause-listed
+returns-clause-listed g c = subst (λ all. entries (answer_map all) ≡ map answer_entry all) (sym c.new.ensures.items) (listed_answers [] refl)

@@ -134,6 +134,7 @@ returns-clause-listed g c =
       lines = payments.lines;
       batches = records.batches;
       extensions = c.in_ok-extensions.ensures.listed;
+      earlier = records.earlier;
     }
 
 pub returns-in_err-register-clause-usable : goal.returns-in_err-register-clause-usable

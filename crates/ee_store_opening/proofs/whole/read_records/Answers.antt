@@ -57,7 +57,7 @@ returns-clause-found g c clean ours sound =
     record { batches = batches_held; replies = replies_held }
 
 pub returns-clause-listed : goal.returns-clause-listed
-returns-clause-listed g c = record { batches = c.in_ok-batches.ensures.listed }
+returns-clause-listed g c = record { batches = c.in_ok-batches.ensures.listed; earlier = c.in_ok-replies.ensures.listed }
 
 pub returns-in_err-batches-clause-usable : goal.returns-in_err-batches-clause-usable
 returns-in_err-batches-clause-usable g c clean =
