@@ -5,7 +5,6 @@ use Rattle.sqlite.specs.State.{State, IsUnchanged}
 use Rattle.ee_store_making.specs.declared.forms.Form.{Form}
 use Rattle.ee_store_making.specs.Forms.{SeesForm, HasOurTables}
 use Rattle.ee_store_opening.specs.Reading.{IsSoundNow}
-use Rattle.ee_store_opening.specs.Whole.{HasFirstTables}
 
 pub both_ok : {X E : Type 0} {P Q R : X → Type 0} (r : Result X E) → ((x : X) → P x → Q x → R x) → IfOk r P → IfOk r Q → IfOk r R
 both_ok (Ok x) f p q = f x p q
@@ -20,9 +19,6 @@ each_ok (Err e) f p = tt
 
 pub still_form : (form : Form) (a b : State) → IsUnchanged a b → SeesForm form a → SeesForm form b
 still_form form a b same ours is_open = ap (λ (d : Database). d.schema) same.0.now_is ∙ ours same.0.was_open
-
-pub still_first : (a b : State) → IsUnchanged a b → HasFirstTables a → HasFirstTables b
-still_first a b same ours = (ours.0, ours.1, still_form ours.0 a b same ours.2)
 
 pub still_ours : (a b : State) → IsUnchanged a b → HasOurTables a → HasOurTables b
 still_ours a b same ours = (ours.0, still_form ours.0 a b same ours.1)

@@ -1,5 +1,6 @@
 -- One more row that was read.
-use Rattle.std.proofs.Common.{◌≡◌, ◌↔◌, ℕ, suc, arith, ◌&&◌, Bool, true, false, List, [], ◌∷◌, ◌++◌, map, Option, Some, None, Ok, Err, Result, refl, sym, ap, ◌∙◌}
+use Rattle.std.proofs.Common.{◌≡◌, ◌↔◌, ℕ, suc, arith, ◌&&◌, Bool, true, false, List, [], ◌∷◌, ◌++◌, map, Option, Some, Ok, Err, Result, refl, sym, ap, ◌∙◌}
+use Rattle.std.proofs.Math.Bool.{and-true, and_assoc}
 use Rattle.std.specs.Prelude.{◌-◌, length, slice_get, if◌then◌else◌}
 use Rattle.std.specs.Result.{is_ok, is_err}
 use Rattle.std.specs.Option.{option_map_or}
@@ -13,20 +14,12 @@ last_more (r ∷ []) x = refl
 last_more (r ∷ s ∷ rows) x = last_more (s ∷ rows) x
 
 module _ {X : Type 0} (precedes : X → X → Bool) where
-  both_true : (b : Bool) → b && true ≡ b
-  both_true true = refl
-  both_true false = refl
-
-  and_then : (a b c : Bool) → a && (b && c) ≡ (a && b) && c
-  and_then true b c = refl
-  and_then false b c = refl
-
   rises_more : (rows : List X) (x : X) → rises precedes (rows ++ x ∷ []) ≡ rises precedes rows && option_map_or (λ it. precedes it x) (last_of rows) true
   rises_more [] x = refl
-  rises_more (r ∷ []) x = both_true (precedes r x)
+  rises_more (r ∷ []) x = and-true (precedes r x)
   rises_more (r ∷ s ∷ rows) x =
       ap (λ b. precedes r s && b) (rises_more (s ∷ rows) x)
-      ∙ and_then (precedes r s) (rises precedes (s ∷ rows)) (option_map_or (λ it. precedes it x) (last_of (s ∷ rows)) true)
+      ∙ sym (and_assoc (precedes r s) (rises precedes (s ∷ rows)) (option_map_or (λ it. precedes it x) (last_of (s ∷ rows)) true))
 
 module _ {X : Type 0} (P : X → Type 0) where
   all_more : (rows : List X) (x : X) → AllByRecursion P rows → P x → AllByRecursion P (rows ++ x ∷ [])
@@ -67,10 +60,6 @@ one_tested precedes P last rise pass more_rise more_pass rows x follows right te
   rise_is = rise_more precedes last rise follows more_rise rows x tells.last_is tells.rise_is follow up;
   pass_is = pass_more P rows x pass right more_pass tells.pass_is one passed;
 }
-
--- of no rows
-pub none_tested : {X : Type 0} (precedes : X → X → Bool) (P : X → Type 0) → Tells precedes P None true true []
-none_tested precedes P = record { last_is = refl; rise_is = refl; pass_is = (λ _. tt, λ _. refl) }
 
 -- what a query showed grows by it
 pub shown_more : {A B : Type 0} (f : A → B) (xs : List A) (x : A) (row : B) → row ≡ f x → map f xs ++ row ∷ [] ≡ map f (xs ++ x ∷ [])

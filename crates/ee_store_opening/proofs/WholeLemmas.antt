@@ -6,16 +6,14 @@ use Rattle.sqlite.specs.Tree.{Trees}
 use Rattle.sqlite.specs.State.{State, IsLive, IsUnchanged}
 use Rattle.ee_store_tables.specs.Keyed.{pair_cmp, HoldsMap}
 use Rattle.ee_store_tables.specs.Rows.{Rows, ReplyRow, rate_columns}
-use Rattle.ee_store_making.specs.declared.answers.StoredAnswer.{StoredAnswer}
 use Rattle.ee_store_making.specs.declared.forms.Form.{Form}
 use Rattle.ee_store_making.specs.declared.forms.Form.TheVariants.{Current, First, Earliest}
-use Rattle.ee_store_making.specs.Forms.{HoldsReplies, HoldsIn, SeesForm, HasForm, SeesIn, HadIn}
+use Rattle.ee_store_making.specs.Forms.{HoldsIn, SeesForm, HasForm, SeesIn, HadIn}
 use Rattle.ee_store_opening.specs.Reading.{IsSoundNow}
 use Rattle.ee_store_opening.specs.declared.entries.StoredRate.{StoredRate}
 use Rattle.ee_store_opening.specs.declared.whole.AllRows.{AllRows}
 use Rattle.ee_store_opening.specs.Shown.{desk_map, rate_map, bond_map, ticket_map, line_map, batch_map, answer_map}
-use Rattle.ee_store_opening.specs.declared.tables.KeptReplies.{KeptReplies}
-use Rattle.ee_store_opening.specs.Whole.{rows_with, ListsAll, AreInOrder, HoldsKept, HoldsTested, HoldsExtensions}
+use Rattle.ee_store_opening.specs.Whole.{rows_with, ListsAll, AreInOrder, HoldsKept, HoldsExtensions}
 use Rattle.ee_store_making.proofs.Lemmas.Forms.{HoldsCommon, had_form}
 use Rattle.ee_store_opening.proofs.OneLemmas.{one_rows}
 
@@ -97,29 +95,6 @@ pub holds_extended : (form : Form) (db : Trees) (rows : Rows) → form ≢ Earli
 holds_extended Current db rows later held = held.extensions
 holds_extended First db rows later held = held.extensions
 holds_extended Earliest db rows later held = absurd (later refl)
-
--- the others are of version 1
-pub is_first : (form : Form) → (form ≡ First) ⊎ (form ≡ Earliest) → form ≢ Current
-is_first form (inl first) current = let e = sym first ∙ current in cc
-is_first form (inr earliest) current = let e = sym earliest ∙ current in cc
-
-pub first_kept : (form : Form) (db : Trees) (answers : FinMap pair_cmp ReplyRow) → form ≢ Current → HoldsReplies db answers → HoldsKept form db answers
-first_kept Current db answers earlier held = absurd (earlier refl)
-first_kept First db answers earlier held = held
-first_kept Earliest db answers earlier held = held
-
--- replies of version 1 that were tested
-pub tested_first : {Passes : StoredAnswer → Type 0} (form : Form) (db : Trees) (read : KeptReplies) → form ≢ Current → HoldsTested Passes First db read → HoldsTested Passes form db read
-tested_first form db read later it = record {
-  kept = it.kept;
-  tested = record { in_order = it.tested.in_order; pass = it.tested.pass; earlier = λ _. it.tested.earlier (λ is. absurd cc) };
-  held = first_kept form db (answer_map it.kept) later it.held;
-}
-
-pub kept_first : (form : Form) (db : Trees) (answers : FinMap pair_cmp ReplyRow) → form ≢ Current → HoldsKept form db answers → HoldsReplies db answers
-kept_first Current db answers earlier held = absurd (earlier refl)
-kept_first First db answers earlier held = held
-kept_first Earliest db answers earlier held = held
 
 -- entries of maps are in order
 pub are_in_order : (all : AllRows) → ListsAll all → AreInOrder all

@@ -93,13 +93,6 @@ pub current_form : (form : Form) (old : State) → HasForm form old → IsTrue o
 current_form form old ours is_open (inl current) = one_form form Current (sym (ours is_open) ∙ current is_open)
 current_form form old ours is_open (inr blank) = absurd (not_blank form old ours blank is_open)
 
--- rows that were found in a store of the present form are in that form
-pub found_current : (form : Form) (old new : State) (rows : Rows) → HasForm form old → KeepsCommit old new → HadIn form new rows → HasForm Current old ⊎ IsBlank old → Has new rows
-found_current form old new rows ours keeps had (inl current) is_open =
-    let open_before = keeps.was_open is_open in
-    subst (λ f. (new.committed.schema ≡ schema_of f) × HoldsIn f new.committed.trees rows) (one_form form Current (sym (ours open_before) ∙ current open_before)) (had is_open)
-found_current form old new rows ours keeps had (inr blank) is_open = absurd (not_blank form old ours blank (keeps.was_open is_open))
-
 -- a store that has an earlier form lacks the present one
 pub lacks_current : (form : Form) (s : State) → form ≢ Current → HasForm form s → IsTrue s.is_open → ¬ HasForm Current s
 lacks_current form s earlier ours is_open current = earlier (one_form form Current (sym (ours is_open) ∙ current is_open))
