@@ -1,13 +1,15 @@
-//! Runs redemptions over many bonds, in memory and over a store, splits streams into messages, and times it.
+//! Makes tables of values, runs redemptions over many bonds, in memory and over a store, splits streams into messages,
+//! and times it.
 //!
-//! The first argument chooses: `desk [BONDS]`, `wire [ROUNDS]` or `store [FILE BONDS TICKETS TICKETS_A_DAY
-//! [BONDS_A_TICKET]]`; without one, the three are run at a small size, one after the other. Standard output has
-//! what was done, standard error how long it took.
+//! The first argument chooses: `values [SWEEPS]`, `desk [BONDS]`, `wire [ROUNDS]` or `store [FILE BONDS TICKETS
+//! TICKETS_A_DAY [BONDS_A_TICKET]]`; without one, the four are run at a small size, one after the other. Standard
+//! output has what was done, standard error how long it took.
 #![tactic(auto)]
 
 mod desk;
 mod requests;
 mod store;
+mod values;
 mod wire;
 
 use anyhow::{Result, bail};
@@ -16,6 +18,7 @@ use std::env;
 /// The benchmark of that name, whose arguments are these.
 fn chosen(rt: &HostRuntime, name: &str, arguments: &[String]) -> Result<()> {
     match name {
+        "values" => values::bench(rt, arguments),
         "desk" => desk::bench(rt, arguments),
         "wire" => wire::bench(rt, arguments),
         "store" => store::bench(rt, arguments),
@@ -28,7 +31,7 @@ fn main(rt: HostRuntime) -> Result<()> {
     if let Some((name, arguments)) = words.split_first() {
         return chosen(&rt, name, arguments);
     }
-    for name in ["desk", "wire", "store"] {
+    for name in ["values", "desk", "wire", "store"] {
         chosen(&rt, name, &[])?;
     }
     Ok(())

@@ -6,7 +6,7 @@ use ee_counter::run;
 use ee_desk_acts::{Act, Reply, Request};
 use ee_keeper::Keeper;
 use ee_store::SqlKeeper;
-use sqlite::{Alter, Connection};
+use sqlite::{Alter, Connection, File, FileStore};
 use std::alloc::Global;
 use std::time::{Duration, Instant};
 
@@ -168,14 +168,13 @@ fn adopted<S: Alter + Drop>(conn: Connection<S>, alloc: Global) -> Result<SqlKee
     }
 }
 
-fn in_file(rt: &HostRuntime, path: &str, size: Size) -> Result<()> {
-    fill(rt, path, size)?;
-    let start = Instant::now(rt)?;
-    let mut keeper = SqlKeeper::open(rt, path).ok().context("store")?;
-    opened(rt, &start, &mut keeper)
+/// A keeper over the store in a file, if it opens.
+fn open(rt: &HostRuntime, path: &str) -> Option<SqlKeeper<FileStore<File>>> {
+    SqlKeeper::open(rt, path).ok()
 }
 
-fn fill(rt: &HostRuntime, path: &str, size: Size) -> Result<()> {
-    let mut keeper = SqlKeeper::open(rt, path).ok().context("store")?;
-    measure(rt, &mut keeper, size)
+fn in_file(rt: &HostRuntime, path: &str, size: Size) -> Result<()> {
+    measure(rt, &mut open(rt, path).context("store")?, size)?;
+    let start = Instant::now(rt)?;
+    opened(rt, &start, &mut open(rt, path).context("store")?)
 }

@@ -1,15 +1,9 @@
-//! Makes the unit tables of all rates from 0.00 to 20.00 %, and as many of a rate with another extension,
-//! and times that.
-//!
-//! The argument is the number of sweeps over the rates, 100 without one. Standard output has what was
-//! made, standard error how long it took.
-#![tactic(auto)]
+//! The unit tables of all rates from 0.00 to 20.00 %, and as many of a rate with another extension.
 
 use anyhow::Result;
 use ee_units::{Age, Bits, Rate};
 use ee_value::{Rates, UnitTable, ValueFault, unit_table};
 use std::alloc::Global;
-use std::env;
 use std::time::Instant;
 
 /// The rates of a sweep, in hundredths of a percent, and so the tables that it makes.
@@ -81,16 +75,12 @@ fn measure(rt: &HostRuntime, sweep: Sweep, sweeps: u32) -> Result<()> {
     Ok(())
 }
 
-/// The count of sweeps that the command line asks for.
-fn sweeps(rt: &HostRuntime) -> Result<u32> {
-    match env::args(rt)?.nth(1) {
-        Some(text) => Ok(text.parse()?),
-        None => Ok(100),
-    }
-}
-
-fn main(rt: HostRuntime) -> Result<()> {
-    let sweeps = sweeps(&rt)?;
-    measure(&rt, Sweep::EachRate, sweeps)?;
-    measure(&rt, Sweep::OnePair, sweeps)
+/// The argument is the number of sweeps over the rates, 100 without one.
+pub fn bench(rt: &HostRuntime, arguments: &[String]) -> Result<()> {
+    let sweeps = match arguments.first() {
+        Some(text) => text.parse()?,
+        None => 100,
+    };
+    measure(rt, Sweep::EachRate, sweeps)?;
+    measure(rt, Sweep::OnePair, sweeps)
 }
