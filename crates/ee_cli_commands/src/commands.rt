@@ -1,7 +1,7 @@
 //! The words of a command line, read by clap.
 
 ghost use Rattle.std.specs.Prelude.{◌≡◌, IfOk, Some, List, map, true};
-ghost use Rattle.clap.specs.Words.{Row, Text, has_subcommand, kind_of, subcommand_rows_of};
+ghost use Rattle.clap.specs.Words.{Row, Text, found_of, has_subcommand, kind_of, rows_of, subcommand_rows_of};
 ghost use Rattle.ee_cli_commands.specs.CommandLine.{asked};
 ghost use Rattle.ee_cli_commands.specs.Answer.{Gives, IsAnswer, Refuses, view_of};
 
@@ -24,7 +24,7 @@ pub enum FileKind {
 }
 
 /// What a command line asks for.
-#[derive(Clone, Copy, Debug, PartialEq, Eq)]
+#[derive(Clone, Copy)]
 pub enum Command<'a> {
     /// The value in a month of a bond of that denomination and issue month, at that fixed rate and that
     /// extension: the rate from original to final maturity, where the line names one.
@@ -80,8 +80,7 @@ pub fn read_command<'a, S: AsStr>(
 ) -> Result<Command<'a>, CommandFault>
     ensures { IsAnswer (map S.text words.entry.now) result }
 {
-    let rows = program(alloc)?;
-    match rows.try_get_matches_from(words) {
+    match program(alloc)?.try_get_matches_from(words) {
         Ok(matches) => line(&matches),
         Err(error) => Err(refusal(alloc, &error)?),
     }
@@ -94,13 +93,21 @@ fn line<'a>(matches: &ArgMatches<'a>) -> Result<Command<'a>, CommandFault>
         → Gives view_of result (asked (name, rows)) }
 {
     match matches.subcommand() {
-        Some(("value", row)) => value_line(row),
-        Some(("apply", row)) => apply_line(row),
-        Some(("import", row)) => import_line(row),
-        Some(("export", row)) => export_line(row),
-        Some(("sheet", row)) => sheet_line(row),
-        Some((_, row)) => serve_line(row),
+        Some((name, row)) => row_line(name, row),
         None => unreachable!(),
+    }
+}
+
+fn row_line<'a>(name: &str, row: &ArgMatches<'a>) -> Result<Command<'a>, CommandFault>
+    ensures { Gives view_of result (asked (name.now, rows_of (found_of row.now))) }
+{
+    match name {
+        "value" => value_line(row),
+        "apply" => apply_line(row),
+        "import" => import_line(row),
+        "export" => export_line(row),
+        "sheet" => sheet_line(row),
+        _ => serve_line(row),
     }
 }
 
