@@ -3,10 +3,11 @@
 ghost use Rattle.std.specs.Prelude.{◌≡◌, IfOk, Some, List, map, true};
 ghost use Rattle.clap.specs.Words.{Row, Text, found_of, has_subcommand, kind_of, rows_of, subcommand_rows_of};
 ghost use Rattle.ee_cli_commands.specs.CommandLine.{asked};
-ghost use Rattle.ee_cli_commands.specs.Answer.{Gives, IsAnswer, Refuses, view_of};
+ghost use Rattle.ee_cli_commands.specs.Answer.{Gives, IsAnswer, Refuses, Spells, view_of};
 
 use crate::lines::{apply_line, export_line, import_line, serve_line, sheet_line, value_line};
 use crate::rows::program;
+use crate::words::WordName;
 use clap::error::ErrorKind;
 use clap::{ArgMatches, Error};
 use ee_desk_acts::{Desk, Number};
@@ -44,7 +45,7 @@ pub enum Command<'a> {
 }
 
 /// Why a command line asks for nothing.
-#[derive(Debug, Drop)]
+#[derive(Drop)]
 pub enum CommandFault {
     /// The words ask for help: the text of clap.
     Help(String),
@@ -93,13 +94,16 @@ fn line<'a>(matches: &ArgMatches<'a>) -> Result<Command<'a>, CommandFault>
         → Gives view_of result (asked (name, rows)) }
 {
     match matches.subcommand() {
-        Some((name, row)) => row_line(name, row),
+        Some((name, row)) => match row_line(name, row) {
+            Ok(command) => Ok(command),
+            Err(name) => Err(CommandFault::Argument(name)),
+        },
         None => unreachable!(),
     }
 }
 
-fn row_line<'a>(name: &str, row: &ArgMatches<'a>) -> Result<Command<'a>, CommandFault>
-    ensures { Gives view_of result (asked (name.now, rows_of (found_of row.now))) }
+fn row_line<'a>(name: &str, row: &ArgMatches<'a>) -> Result<Command<'a>, WordName>
+    ensures { Spells view_of result (asked (name.now, rows_of (found_of row.now))) }
 {
     match name {
         "value" => value_line(row),
