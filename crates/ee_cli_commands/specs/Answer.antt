@@ -77,7 +77,12 @@ IsAnswer words (Err fault.Version) = AsksForVersion words
 IsAnswer words (Err (fault.Line text)) = IsRefused words
 IsAnswer words (Err fault.NoMemory) = ⊤
 
--- a value that was read, seen by view, or the name of the word that spells none
+-- the value that words spell, seen by view, or the name of the word that spells none
+abbrev pub Spells : {X Y : Type 0} → (X → Y) → Result X (Bor Text) → Result Y Text → Type 0
+Spells view (Ok x) read = read ≡ Ok (view x)
+Spells view (Err name) read = read ≡ Err name.now
+
+-- the same, where the fault names the word
 abbrev pub Gives : {X Y : Type 0} → (X → Y) → Result X CommandFault → Result Y Text → Type 0
 Gives view (Ok x) read = read ≡ Ok (view x)
 Gives view (Err (fault.Argument name)) read = read ≡ Err name.now

@@ -1,12 +1,13 @@
 //! The words of a command line, read by clap.
 
 ghost use Rattle.std.specs.Prelude.{◌≡◌, IfOk, Some, List, map, true};
-ghost use Rattle.clap.specs.Words.{Row, Text, has_subcommand, kind_of, subcommand_rows_of};
+ghost use Rattle.clap.specs.Words.{Row, Text, found_of, has_subcommand, kind_of, rows_of, subcommand_rows_of};
 ghost use Rattle.ee_cli_commands.specs.CommandLine.{asked};
-ghost use Rattle.ee_cli_commands.specs.Answer.{Gives, IsAnswer, Refuses, view_of};
+ghost use Rattle.ee_cli_commands.specs.Answer.{Gives, IsAnswer, Refuses, Spells, view_of};
 
 use crate::lines::{apply_line, export_line, import_line, serve_line, sheet_line, value_line};
 use crate::rows::program;
+use crate::words::WordName;
 use clap::error::ErrorKind;
 use clap::{ArgMatches, Error};
 use ee_desk_acts::{Desk, Number};
@@ -24,7 +25,7 @@ pub enum FileKind {
 }
 
 /// What a command line asks for.
-#[derive(Clone, Copy, Debug, PartialEq, Eq)]
+#[derive(Clone, Copy)]
 pub enum Command<'a> {
     /// The value in a month of a bond of that denomination and issue month, at that fixed rate and that
     /// extension: the rate from original to final maturity, where the line names one.
@@ -44,7 +45,7 @@ pub enum Command<'a> {
 }
 
 /// Why a command line asks for nothing.
-#[derive(Debug, Drop)]
+#[derive(Drop)]
 pub enum CommandFault {
     /// The words ask for help: the text of clap.
     Help(String),
@@ -80,8 +81,7 @@ pub fn read_command<'a, S: AsStr>(
 ) -> Result<Command<'a>, CommandFault>
     ensures { IsAnswer (map S.text words.entry.now) result }
 {
-    let rows = program(alloc)?;
-    match rows.try_get_matches_from(words) {
+    match program(alloc)?.try_get_matches_from(words) {
         Ok(matches) => line(&matches),
         Err(error) => Err(refusal(alloc, &error)?),
     }
@@ -94,13 +94,24 @@ fn line<'a>(matches: &ArgMatches<'a>) -> Result<Command<'a>, CommandFault>
         → Gives view_of result (asked (name, rows)) }
 {
     match matches.subcommand() {
-        Some(("value", row)) => value_line(row),
-        Some(("apply", row)) => apply_line(row),
-        Some(("import", row)) => import_line(row),
-        Some(("export", row)) => export_line(row),
-        Some(("sheet", row)) => sheet_line(row),
-        Some((_, row)) => serve_line(row),
+        Some((name, row)) => match row_line(name, row) {
+            Ok(command) => Ok(command),
+            Err(name) => Err(CommandFault::Argument(name)),
+        },
         None => unreachable!(),
+    }
+}
+
+fn row_line<'a>(name: &str, row: &ArgMatches<'a>) -> Result<Command<'a>, WordName>
+    ensures { Spells view_of result (asked (name.now, rows_of (found_of row.now))) }
+{
+    match name {
+        "value" => value_line(row),
+        "apply" => apply_line(row),
+        "import" => import_line(row),
+        "export" => export_line(row),
+        "sheet" => sheet_line(row),
+        _ => serve_line(row),
     }
 }
 

@@ -2,12 +2,12 @@
 
 ghost use Rattle.clap.specs.Words.{found_of, rows_of};
 ghost use Rattle.ee_cli_commands.specs.CommandLine.{apply_asked, export_asked, import_asked, serve_asked, sheet_asked, value_asked};
-ghost use Rattle.ee_cli_commands.specs.Answer.{Gives, view_of};
+ghost use Rattle.ee_cli_commands.specs.Answer.{Spells, view_of};
 
-use crate::commands::{Command, CommandFault};
+use crate::commands::Command;
 use crate::words::{
-    customer, denom, desk, issue, kind, month, number_or, port, rate, rate_or_none, request_number,
-    text,
+    WordName, customer, denom, desk, issue, kind, month, number_or, port, rate, rate_or_none,
+    request_number, text,
 };
 use clap::ArgMatches;
 
@@ -17,8 +17,8 @@ const UNLIMITED: u64 = u64::MAX;
 
 /// The command of the row `value`.
 #[tactic(auto, unfolding(crate::specs::CommandLine::value_asked))]
-pub fn value_line<'a>(matches: &ArgMatches<'a>) -> Result<Command<'a>, CommandFault>
-    ensures { Gives view_of result (value_asked (rows_of (found_of matches.now))) }
+pub fn value_line<'a>(matches: &ArgMatches<'a>) -> Result<Command<'a>, WordName>
+    ensures { Spells view_of result (value_asked (rows_of (found_of matches.now))) }
 {
     Ok(Command::Value(
         denom(matches, "denom")?,
@@ -31,16 +31,16 @@ pub fn value_line<'a>(matches: &ArgMatches<'a>) -> Result<Command<'a>, CommandFa
 
 /// The command of the row `apply`.
 #[tactic(auto, unfolding(crate::specs::CommandLine::apply_asked))]
-pub fn apply_line<'a>(matches: &ArgMatches<'a>) -> Result<Command<'a>, CommandFault>
-    ensures { Gives view_of result (apply_asked (rows_of (found_of matches.now))) }
+pub fn apply_line<'a>(matches: &ArgMatches<'a>) -> Result<Command<'a>, WordName>
+    ensures { Spells view_of result (apply_asked (rows_of (found_of matches.now))) }
 {
     Ok(Command::Apply(text(matches, "db")?))
 }
 
 /// The command of the row `import`.
 #[tactic(auto, unfolding(crate::specs::CommandLine::import_asked))]
-pub fn import_line<'a>(matches: &ArgMatches<'a>) -> Result<Command<'a>, CommandFault>
-    ensures { Gives view_of result (import_asked (rows_of (found_of matches.now))) }
+pub fn import_line<'a>(matches: &ArgMatches<'a>) -> Result<Command<'a>, WordName>
+    ensures { Spells view_of result (import_asked (rows_of (found_of matches.now))) }
 {
     let kind = kind(matches, "kind")?;
     let file = text(matches, "file")?;
@@ -51,16 +51,16 @@ pub fn import_line<'a>(matches: &ArgMatches<'a>) -> Result<Command<'a>, CommandF
 
 /// The command of the row `export`.
 #[tactic(auto, unfolding(crate::specs::CommandLine::export_asked))]
-pub fn export_line<'a>(matches: &ArgMatches<'a>) -> Result<Command<'a>, CommandFault>
-    ensures { Gives view_of result (export_asked (rows_of (found_of matches.now))) }
+pub fn export_line<'a>(matches: &ArgMatches<'a>) -> Result<Command<'a>, WordName>
+    ensures { Spells view_of result (export_asked (rows_of (found_of matches.now))) }
 {
     Ok(Command::Export(customer(matches, "customer")?, text(matches, "db")?))
 }
 
 /// The command of the row `sheet`.
 #[tactic(auto, unfolding(crate::specs::CommandLine::sheet_asked))]
-pub fn sheet_line<'a>(matches: &ArgMatches<'a>) -> Result<Command<'a>, CommandFault>
-    ensures { Gives view_of result (sheet_asked (rows_of (found_of matches.now))) }
+pub fn sheet_line<'a>(matches: &ArgMatches<'a>) -> Result<Command<'a>, WordName>
+    ensures { Spells view_of result (sheet_asked (rows_of (found_of matches.now))) }
 {
     Ok(Command::Sheet(
         customer(matches, "customer")?,
@@ -71,8 +71,8 @@ pub fn sheet_line<'a>(matches: &ArgMatches<'a>) -> Result<Command<'a>, CommandFa
 
 /// The command of the row `serve`.
 #[tactic(auto, unfolding(crate::specs::CommandLine::serve_asked))]
-pub fn serve_line<'a>(matches: &ArgMatches<'a>) -> Result<Command<'a>, CommandFault>
-    ensures { Gives view_of result (serve_asked (rows_of (found_of matches.now))) }
+pub fn serve_line<'a>(matches: &ArgMatches<'a>) -> Result<Command<'a>, WordName>
+    ensures { Spells view_of result (serve_asked (rows_of (found_of matches.now))) }
 {
     Ok(Command::Serve(
         text(matches, "db")?,

@@ -2,7 +2,7 @@
 
 ghost use Rattle.std.specs.Prelude.{◌≡◌, IfOk, Ok, Some, List, false, map, codes};
 ghost use Rattle.std.specs.Borrow.{Bor};
-ghost use Rattle.clap.specs.Words.{Text, app_of, new_app, rule_of, with_rule, with_subcommand};
+ghost use Rattle.clap.specs.Words.{App, Rule, Text, app_of, new_app, rule_of, with_rule, with_subcommand};
 ghost use Rattle.clap.specs.declared.builder.command.Command.TheViews.{out-Command as fields_of};
 ghost use Rattle.clap.specs.declared.builder.ValueParser.TheVariants.{Names};
 ghost use Rattle.ee_cli_commands.specs.CommandLine as is;
@@ -45,10 +45,10 @@ static KINDS: [&str; 2] = ["rates", "inventory"];
 pub fn program<'a>(alloc: Global) -> Result<Command<'a>, AllocError>
     ensures { IfOk result (λ c. (kinds : Bor (List (Bor Text))) × (map (λ k. k.now) kinds.now ≡ is.kind_words) × (app_of c ≡ is.program kinds)) }
 {
-    let rows = first_rows(alloc)?;
-    let rows = with_row(rows, import_command(alloc))?;
-    let rows = with_row(rows, export_command(alloc))?;
-    let rows = with_row(rows, sheet_command(alloc))?;
+    let rows = first_rows(alloc);
+    let rows = with_row(rows, import_command(alloc));
+    let rows = with_row(rows, export_command(alloc));
+    let rows = with_row(rows, sheet_command(alloc));
     with_row(rows, serve_command(alloc))
 }
 
@@ -60,19 +60,20 @@ fn first_rows<'a>(alloc: Global) -> Result<Command<'a>, AllocError>
         .version(VERSION)
         .subcommand_required(true)
         .disable_help_subcommand(true);
-    let rows = with_row(rows, value_command(alloc))?;
+    let rows = with_row(Ok(rows), value_command(alloc));
     with_row(rows, apply_command(alloc))
 }
 
-/// A further row, where it was made.
+/// Rows with a further row, where both were made.
 fn with_row<'a>(
-    rows: Command<'a>,
+    rows: Result<Command<'a>, AllocError>,
     row: Result<Command<'a>, AllocError>,
 ) -> Result<Command<'a>, AllocError>
     requires { IfOk row (λ r. (fields_of r).has_globals ≡ false) }
-    ensures { IfOk result (λ c. (r : _) × (row.entry ≡ Ok r) × (app_of c ≡ with_subcommand (app_of rows.entry) (app_of r).top)) }
+    ensures { IfOk result (λ c. (before further : _) × (rows.entry ≡ Ok before) × (row.entry ≡ Ok further)
+        × (app_of c ≡ with_subcommand (app_of before) (app_of further).top)) }
 {
-    rows.subcommand(row?)
+    rows?.subcommand(row?)
 }
 
 fn value_command<'a>(alloc: Global) -> Result<Command<'a>, AllocError>
@@ -86,21 +87,21 @@ fn value_command<'a>(alloc: Global) -> Result<Command<'a>, AllocError>
         VALUE_EXAMPLES,
     );
     let row = with(
-        row,
+        Ok(row),
         positional(alloc, "denom", "Denomination in dollars, as 50"),
-    )?;
+    );
     let row = with(
         row,
         positional(alloc, "issued", "Issue month, as 2010-05 or 05/2010"),
-    )?;
+    );
     let row = with(
         row,
         positional(alloc, "month", "Month of the value, as 2015-05"),
-    )?;
+    );
     let row = with(
         row,
         positional(alloc, "rate", "Fixed rate in percent, as 3.50"),
-    )?;
+    );
     with(row, extension(alloc))
 }
 
@@ -114,7 +115,7 @@ fn apply_command<'a>(alloc: Global) -> Result<Command<'a>, AllocError>
         "Answer the messages of standard input",
         "Example:\n  ee_cli apply --db day.db < requests.http",
     );
-    with(row, store(alloc))
+    with(Ok(row), store(alloc))
 }
 
 fn import_command<'a>(alloc: Global) -> Result<Command<'a>, AllocError>
@@ -127,10 +128,10 @@ fn import_command<'a>(alloc: Global) -> Result<Command<'a>, AllocError>
         "Import a CSV file of rates or bonds as one request",
         IMPORT_EXAMPLES,
     );
-    let row = with(row, kind(alloc))?;
-    let row = with(row, positional(alloc, "file", "The CSV file"))?;
-    let row = with(row, store(alloc))?;
-    let row = with(row, request_number(alloc))?;
+    let row = with(Ok(row), kind(alloc));
+    let row = with(row, positional(alloc, "file", "The CSV file"));
+    let row = with(row, store(alloc));
+    let row = with(row, request_number(alloc));
     with(row, desk(alloc))
 }
 
@@ -144,7 +145,7 @@ fn export_command<'a>(alloc: Global) -> Result<Command<'a>, AllocError>
         "Print a customer's unpaid bonds as CSV",
         "Example:\n  ee_cli export 7 --db day.db",
     );
-    let row = with(row, customer(alloc))?;
+    let row = with(Ok(row), customer(alloc));
     with(row, store(alloc))
 }
 
@@ -158,11 +159,11 @@ fn sheet_command<'a>(alloc: Global) -> Result<Command<'a>, AllocError>
         "Print the sheet of a customer's unpaid bonds",
         "Example:\n  ee_cli sheet 7 2012-02 --db day.db",
     );
-    let row = with(row, customer(alloc))?;
+    let row = with(Ok(row), customer(alloc));
     let row = with(
         row,
         positional(alloc, "month", "Month of the values, as 2015-05"),
-    )?;
+    );
     with(row, store(alloc))
 }
 
@@ -176,8 +177,8 @@ fn serve_command<'a>(alloc: Global) -> Result<Command<'a>, AllocError>
         "Answer connections on 127.0.0.1, one after the other, until it is stopped",
         "Example:\n  ee_cli serve --db day.db --port 8377",
     );
-    let row = with(row, store(alloc))?;
-    let row = with(row, port(alloc))?;
+    let row = with(Ok(row), store(alloc));
+    let row = with(row, port(alloc));
     with(row, connections(alloc))
 }
 
@@ -189,13 +190,15 @@ fn named<'a>(alloc: Global, name: &'a str, about: &'a str, below: &'a str) -> Co
     Command::new(alloc, name).about(about).after_help(below)
 }
 
-fn with<'a>(row: Command<'a>, arg: Arg<'a>) -> Result<Command<'a>, AllocError>
-    requires row { (fields_of row).has_globals ≡ false }
+/// A row with a further argument, where the row was made.
+fn with<'a>(row: Result<Command<'a>, AllocError>, arg: Arg<'a>) -> Result<Command<'a>, AllocError>
+    requires row { IfOk row (λ r. (fields_of r).has_globals ≡ false) }
     requires arg { arg.global ≡ false }
-    ensures shape { IfOk result (λ c. app_of c ≡ with_rule (app_of row.entry) (rule_of arg.entry)) }
+    ensures shape { (app : App) (rule : Rule) → rule_of arg.entry ≡ rule → IfOk row.entry (λ r. app_of r ≡ app)
+        → IfOk result (λ c. app_of c ≡ with_rule app rule) }
     ensures local { IfOk result (λ c. (fields_of c).has_globals ≡ false) }
 {
-    row.arg(arg)
+    row?.arg(arg)
 }
 
 fn positional<'a>(alloc: Global, id: &'a str, help: &'a str) -> Arg<'a>

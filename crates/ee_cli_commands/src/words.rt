@@ -17,9 +17,9 @@ ghost use Rattle.ee_cli_commands.specs.CommandLine.{
   spelled_or_none,
   text_of,
 };
-ghost use Rattle.ee_cli_commands.specs.Answer.{Gives};
+ghost use Rattle.ee_cli_commands.specs.Answer.{Spells};
 
-use crate::commands::{CommandFault, FileKind};
+use crate::commands::FileKind;
 use clap::ArgMatches;
 use ee_desk_acts::{Desk, Number, read_desk};
 use ee_units::{
@@ -27,66 +27,69 @@ use ee_units::{
     read_rate,
 };
 
+/// The name of a word, as that of one which spells no value.
+pub type WordName = &'static str;
+
 const MOST_NUMBER: u64 = 9_223_372_036_854_775_807;
 
 const MOST_PORT: u64 = 65_535;
 
-fn word<'a>(matches: &ArgMatches<'a>, name: &'static str) -> Option<&'a str>
+fn word<'a>(matches: &ArgMatches<'a>, name: WordName) -> Option<&'a str>
     ensures { option_map (λ s. s.now) result ≡ first_of name.now (rows_of (found_of matches.now)) }
 {
     matches.get_str(name)
 }
 
 /// The word of a name, as it stands.
-pub fn text<'a>(matches: &ArgMatches<'a>, name: &'static str) -> Result<&'a str, CommandFault>
-    ensures { Gives (λ s. s.now) result (spelled name.now text_of (rows_of (found_of matches.now))) }
+pub fn text<'a>(matches: &ArgMatches<'a>, name: WordName) -> Result<&'a str, WordName>
+    ensures { Spells (λ s. s.now) result (spelled name.now text_of (rows_of (found_of matches.now))) }
 {
-    word(matches, name).ok_or(CommandFault::Argument(name))
+    word(matches, name).ok_or(name)
 }
 
 /// The denomination.
-pub fn denom(matches: &ArgMatches, name: &'static str) -> Result<Denom, CommandFault>
-    ensures { Gives (λ v. v) result (spelled name.now denom_of (rows_of (found_of matches.now))) }
+pub fn denom(matches: &ArgMatches, name: WordName) -> Result<Denom, WordName>
+    ensures { Spells (λ v. v) result (spelled name.now denom_of (rows_of (found_of matches.now))) }
 {
     match word(matches, name) {
-        Some(word) => read_denom(word).map_err(|_| CommandFault::Argument(name)),
-        None => Err(CommandFault::Argument(name)),
+        Some(word) => read_denom(word).or(Err(name)),
+        None => Err(name),
     }
 }
 
 /// An issue month.
-pub fn issue(matches: &ArgMatches, name: &'static str) -> Result<IssueMonth, CommandFault>
-    ensures { Gives (λ v. v) result (spelled name.now issue_of (rows_of (found_of matches.now))) }
+pub fn issue(matches: &ArgMatches, name: WordName) -> Result<IssueMonth, WordName>
+    ensures { Spells (λ v. v) result (spelled name.now issue_of (rows_of (found_of matches.now))) }
 {
     match word(matches, name) {
-        Some(word) => read_issue(word).map_err(|_| CommandFault::Argument(name)),
-        None => Err(CommandFault::Argument(name)),
+        Some(word) => read_issue(word).or(Err(name)),
+        None => Err(name),
     }
 }
 
 /// A month.
-pub fn month(matches: &ArgMatches, name: &'static str) -> Result<Month, CommandFault>
-    ensures { Gives (λ v. v) result (spelled name.now month_of (rows_of (found_of matches.now))) }
+pub fn month(matches: &ArgMatches, name: WordName) -> Result<Month, WordName>
+    ensures { Spells (λ v. v) result (spelled name.now month_of (rows_of (found_of matches.now))) }
 {
     match word(matches, name) {
-        Some(word) => read_month(word).map_err(|_| CommandFault::Argument(name)),
-        None => Err(CommandFault::Argument(name)),
+        Some(word) => read_month(word).or(Err(name)),
+        None => Err(name),
     }
 }
 
 /// A rate.
-pub fn rate(matches: &ArgMatches, name: &'static str) -> Result<Rate, CommandFault>
-    ensures { Gives (λ v. v) result (spelled name.now rate_of (rows_of (found_of matches.now))) }
+pub fn rate(matches: &ArgMatches, name: WordName) -> Result<Rate, WordName>
+    ensures { Spells (λ v. v) result (spelled name.now rate_of (rows_of (found_of matches.now))) }
 {
     match word(matches, name) {
-        Some(word) => read_rate(word).map_err(|_| CommandFault::Argument(name)),
-        None => Err(CommandFault::Argument(name)),
+        Some(word) => read_rate(word).or(Err(name)),
+        None => Err(name),
     }
 }
 
 /// A rate, or none where there is no such word.
-pub fn rate_or_none(matches: &ArgMatches, name: &'static str) -> Result<Option<Rate>, CommandFault>
-    ensures { Gives (λ v. v) result (spelled_or_none name.now rate_of (rows_of (found_of matches.now))) }
+pub fn rate_or_none(matches: &ArgMatches, name: WordName) -> Result<Option<Rate>, WordName>
+    ensures { Spells (λ v. v) result (spelled_or_none name.now rate_of (rows_of (found_of matches.now))) }
 {
     match word(matches, name) {
         Some(_) => Ok(Some(rate(matches, name)?)),
@@ -95,27 +98,27 @@ pub fn rate_or_none(matches: &ArgMatches, name: &'static str) -> Result<Option<R
 }
 
 /// A customer.
-pub fn customer(matches: &ArgMatches, name: &'static str) -> Result<Customer, CommandFault>
-    ensures { Gives (λ v. v) result (spelled name.now customer_of (rows_of (found_of matches.now))) }
+pub fn customer(matches: &ArgMatches, name: WordName) -> Result<Customer, WordName>
+    ensures { Spells (λ v. v) result (spelled name.now customer_of (rows_of (found_of matches.now))) }
 {
     match word(matches, name) {
-        Some(word) => read_customer(word).map_err(|_| CommandFault::Argument(name)),
-        None => Err(CommandFault::Argument(name)),
+        Some(word) => read_customer(word).or(Err(name)),
+        None => Err(name),
     }
 }
 
 /// A kind of file.
-pub fn kind(matches: &ArgMatches, name: &'static str) -> Result<FileKind, CommandFault>
-    ensures { Gives (λ v. v) result (spelled name.now kind_of_file (rows_of (found_of matches.now))) }
+pub fn kind(matches: &ArgMatches, name: WordName) -> Result<FileKind, WordName>
+    ensures { Spells (λ v. v) result (spelled name.now kind_of_file (rows_of (found_of matches.now))) }
 {
     match word(matches, name) {
         Some("rates") => Ok(FileKind::Rates),
         Some("inventory") => Ok(FileKind::Inventory),
-        _ => Err(CommandFault::Argument(name)),
+        _ => Err(name),
     }
 }
 
-fn whole_number(matches: &ArgMatches, name: &'static str, most: u64) -> Option<u64>
+fn whole_number(matches: &ArgMatches, name: WordName, most: u64) -> Option<u64>
     ensures { option_and_then (in_range 1 most) result
         ≡ option_and_then (number_word most) (one_of name.now (rows_of (found_of matches.now))) }
 {
@@ -123,25 +126,25 @@ fn whole_number(matches: &ArgMatches, name: &'static str, most: u64) -> Option<u
 }
 
 /// A whole number from 1 to that one.
-pub fn number(matches: &ArgMatches, name: &'static str, most: u64) -> Result<u64, CommandFault>
-    ensures number { Gives (λ v. v) result (numbered name.now most (rows_of (found_of matches.now))) }
+pub fn number(matches: &ArgMatches, name: WordName, most: u64) -> Result<u64, WordName>
+    ensures number { Spells (λ v. v) result (numbered name.now most (rows_of (found_of matches.now))) }
     ensures low { IfOk result (λ n. 1 ≤ n) }
     ensures high { IfOk result (λ n. n ≤ most) }
 {
     match whole_number(matches, name, most) {
         Some(number) if number >= 1 && number <= most => Ok(number),
-        _ => Err(CommandFault::Argument(name)),
+        _ => Err(name),
     }
 }
 
 /// A whole number from 1 to that one, or `otherwise` where there is no such word.
 pub fn number_or(
     matches: &ArgMatches,
-    name: &'static str,
+    name: WordName,
     most: u64,
     otherwise: u64,
-) -> Result<u64, CommandFault>
-    ensures { Gives (λ v. v) result (numbered_or otherwise name.now most (rows_of (found_of matches.now))) }
+) -> Result<u64, WordName>
+    ensures { Spells (λ v. v) result (numbered_or otherwise name.now most (rows_of (found_of matches.now))) }
 {
     match word(matches, name) {
         Some(_) => number(matches, name, most),
@@ -150,28 +153,28 @@ pub fn number_or(
 }
 
 /// A request number.
-pub fn request_number(matches: &ArgMatches, name: &'static str) -> Result<Number, CommandFault>
-    ensures { Gives (λ v. v) result (numbered name.now most_number (rows_of (found_of matches.now))) }
+pub fn request_number(matches: &ArgMatches, name: WordName) -> Result<Number, WordName>
+    ensures { Spells (λ v. v) result (numbered name.now most_number (rows_of (found_of matches.now))) }
 {
     match Number::new(number(matches, name, MOST_NUMBER)?) {
         Some(number) => Ok(number),
-        None => Err(CommandFault::Argument(name)),
+        None => Err(name),
     }
 }
 
 /// A desk, or the first where there is no such word.
-pub fn desk(matches: &ArgMatches, name: &'static str) -> Result<Desk, CommandFault>
-    ensures { Gives (λ v. v) result (spelled_or 0 name.now desk_of (rows_of (found_of matches.now))) }
+pub fn desk(matches: &ArgMatches, name: WordName) -> Result<Desk, WordName>
+    ensures { Spells (λ v. v) result (spelled_or 0 name.now desk_of (rows_of (found_of matches.now))) }
 {
     match word(matches, name) {
-        Some(word) => read_desk(word).ok_or(CommandFault::Argument(name)),
+        Some(word) => read_desk(word).ok_or(name),
         None => Ok(Desk::first()),
     }
 }
 
 /// A port.
-pub fn port(matches: &ArgMatches, name: &'static str) -> Result<u16, CommandFault>
-    ensures { Gives (λ v. v) result (numbered name.now most_port (rows_of (found_of matches.now))) }
+pub fn port(matches: &ArgMatches, name: WordName) -> Result<u16, WordName>
+    ensures { Spells (λ v. v) result (numbered name.now most_port (rows_of (found_of matches.now))) }
 {
     Ok(number(matches, name, MOST_PORT)? as u16)
 }

@@ -41,11 +41,11 @@ fn nothing(alloc: Global) -> BTreeMap<Rates, Terms>
     BTreeMap::new(alloc)
 }
 
-fn put(kept: &mut BTreeMap<Rates, Terms>, rates: Rates, terms: Terms) -> Result<(), AllocError>
-    ensures ok { OnOk result (tables_in kept.new.entries ≡ finite.insert (tables_in kept.old.entries) rates terms) }
+fn put(kept: &mut BTreeMap<Rates, Terms>, terms: &Terms) -> Result<(), AllocError>
+    ensures ok { OnOk result (tables_in kept.new.entries ≡ finite.insert (tables_in kept.old.entries) terms.now terms.now) }
     ensures err { OnErr result (kept.new.entries ≡ kept.old.entries) }
 {
-    kept.insert(rates, terms)?;
+    kept.insert(terms.rates(), terms.share()?)?;
     Ok(())
 }
 
@@ -92,8 +92,7 @@ impl UnitTables {
             return Ok(terms);
         }
         let terms = Terms::new(alloc, rates)?;
-        put(&mut self.kept, rates, terms.share()?)?;
-        Ok(terms)
+        Ok(self.keep(&terms)?)
     }
 
     /// These terms, with the table that is kept of their rates. Where none is, theirs is kept. Where
@@ -107,7 +106,7 @@ impl UnitTables {
             return Ok(kept);
         }
         let kept = terms.share()?;
-        put(&mut self.kept, terms.rates(), terms.share()?)?;
+        put(&mut self.kept, terms)?;
         Ok(kept)
     }
 }

@@ -2,14 +2,20 @@
 ghost use Rattle.std.specs.Prelude.{◌≡◌, ◌==◌};
 ghost use Rattle.std.specs.List.{before_first, after_first, list_all};
 ghost use Rattle.std.specs.Char.{is_ascii_digit};
-ghost use Rattle.ee_wire_calls.specs.Paths.{segment, query_of};
+ghost use Rattle.ee_wire_calls.specs.Paths.{part, segment, query_of};
 ghost use Rattle.ee_wire_calls.specs.Kinds.{number_text};
+ghost use Rattle.ee_units.specs.Denoms.{denom_of};
+ghost use Rattle.ee_units.specs.Spelling.{customer_of, day_of, issue_of, month_of};
+ghost use Rattle.ee_wire_calls.specs.declared.faults.Field.TheVariants as at;
 ghost use Rattle.ee_wire_calls.specs.declared.routes.Get.TheVariants as Get;
 
 use crate::calls::Query;
 use crate::faults::Field;
 use crate::routes::Get;
-use ee_units::{read_customer, read_day, read_denom, read_issue, read_month};
+use ee_units::{
+    Customer, Day, Denom, IssueMonth, Month, read_customer, read_day, read_denom, read_issue,
+    read_month,
+};
 
 fn before_slash(text: &str) -> &str
     ensures { result.now ≡ before_first (λ b. b == 47) text.now }
@@ -59,12 +65,42 @@ fn number_text(text: &str) -> Option<u64>
     }
 }
 
+fn customer_at(path: &str, slashes: usize) -> Result<Customer, Field>
+    ensures { result ≡ part slashes customer_of at.Customer path.now }
+{
+    read_customer(segment(path, slashes)).or(Err(Field::Customer))
+}
+
+fn month_at(path: &str, slashes: usize) -> Result<Month, Field>
+    ensures { result ≡ part slashes month_of at.Month path.now }
+{
+    read_month(segment(path, slashes)).or(Err(Field::Month))
+}
+
+fn day_at(path: &str, slashes: usize) -> Result<Day, Field>
+    ensures { result ≡ part slashes day_of at.Day path.now }
+{
+    read_day(segment(path, slashes)).or(Err(Field::Day))
+}
+
+fn denom_at(path: &str, slashes: usize) -> Result<Denom, Field>
+    ensures { result ≡ part slashes denom_of at.Denom path.now }
+{
+    read_denom(segment(path, slashes)).or(Err(Field::Denom))
+}
+
+fn issued_at(path: &str, slashes: usize) -> Result<IssueMonth, Field>
+    ensures { result ≡ part slashes issue_of at.Issued path.now }
+{
+    read_issue(segment(path, slashes)).or(Err(Field::Issued))
+}
+
 #[tactic(auto, unfolding(crate::specs::Paths::query_of))]
 fn inventory_of(path: &str) -> Result<Query, Field>
     ensures { result ≡ query_of Get.Inventory path.now }
 {
-    let customer = read_customer(segment(path, 2)).map_err(|_| Field::Customer)?;
-    let month = read_month(segment(path, 3)).map_err(|_| Field::Month)?;
+    let customer = customer_at(path, 2)?;
+    let month = month_at(path, 3)?;
     Ok(Query::Inventory { customer, month })
 }
 
@@ -80,7 +116,7 @@ fn ticket_of(path: &str) -> Result<Query, Field>
 fn batch_of(path: &str) -> Result<Query, Field>
     ensures { result ≡ query_of Get.Batch path.now }
 {
-    let day = read_day(segment(path, 2)).map_err(|_| Field::Day)?;
+    let day = day_at(path, 2)?;
     Ok(Query::Batch(day))
 }
 
@@ -88,9 +124,9 @@ fn batch_of(path: &str) -> Result<Query, Field>
 fn value_of(path: &str) -> Result<Query, Field>
     ensures { result ≡ query_of Get.Value path.now }
 {
-    let denom = read_denom(segment(path, 2)).map_err(|_| Field::Denom)?;
-    let issued = read_issue(segment(path, 3)).map_err(|_| Field::Issued)?;
-    let month = read_month(segment(path, 4)).map_err(|_| Field::Month)?;
+    let denom = denom_at(path, 2)?;
+    let issued = issued_at(path, 3)?;
+    let month = month_at(path, 4)?;
     Ok(Query::Value {
         denom,
         issued,

@@ -6,7 +6,7 @@ use Rattle.ee_cli_commands.proofs.commands.read_command.Goals as goal
 
 pub returns-in-Ok : goal.returns-in-Ok
 returns-in-Ok g c =
-    let (k, known, shape) = c.in_ok-rows.ensures in
+    let (k, known, shape) = c.in_ok-program.ensures in
     let words = map g.S.AsStr.text c.args.words.now in
     let none : fault_of (program k) words ≡ [] = ap (λ (a : App). fault_of a words) (sym shape) ∙ c.in-Ok.ensures.kinds (ap is_simple_and_free shape ∙ is_free k) in
     let found : subcommand_rows_of c.in-Ok.matches ≡ subcommand_of (program k) words = (c.in-Ok.ensures.matches (ap is_simple shape ∙ is_plain k)).1 ∙ ap (λ (a : App). subcommand_of a words) shape in
@@ -14,7 +14,7 @@ returns-in-Ok g c =
 
 pub returns-in_ok-refusal-in-Err : goal.returns-in_ok-refusal-in-Err
 returns-in_ok-refusal-in-Err g c =
-    let (k, known, shape) = c.in_ok-rows.ensures in
+    let (k, known, shape) = c.in_ok-program.ensures in
     let words = map g.S.AsStr.text c.args.words.now in
     let kind = c.in-Err.ensures.kinds (ap is_simple_and_free shape ∙ is_free k) in
     refuses k words c.in-Err.error c.in_ok-refusal-in-Err.field-0 known (subst (λ (a : App). HasKind (fault_of a words) c.in-Err.error) shape kind) c.in_ok-refusal-in-Err.ensures

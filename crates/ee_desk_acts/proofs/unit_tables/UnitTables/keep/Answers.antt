@@ -11,5 +11,5 @@ returns-in-Some-clause-ok c =
 
 pub invariant_of-self-2 : goal.invariant_of-self-2
 invariant_of-self-2 c =
-    subst AreOwn (sym (c.in_ok-put.ensures.ok ∙ (λ i. finite.insert (tables_in c.self.inside.kept.entries) (c.rates-2.ensures.value i) (c.in_ok-share.ensures i))))
+    subst AreOwn (sym c.in_ok-put.ensures.ok)
     (own_more (tables_in c.self.inside.kept.entries) c.args.terms.now c.self.invariant)

@@ -1,0 +1,4 @@
+use Rattle.ee_cli_commands.proofs.rows.apply_command.Goals as goal
+
+pub returns-clause-shape : goal.returns-clause-shape
+returns-clause-shape c = c.with.ensures.shape _ _ c.store.ensures.rule c.named-row.ensures.shape
