@@ -5,52 +5,71 @@ ghost use Rattle.ee_desk_acts.specs.Codes.{code_of, name_of, number_of_unserved}
 
 use ee_units::{Age, IssueMonth, Serial};
 use std::alloc::AllocError;
-use std::fmt;
 use thiserror::Error;
 
 /// Why an act is refused. The first that holds is answered, in the order of the codes; those from 50
 /// on are tested serial by serial. A refusal changes nothing.
-#[derive(Clone, Copy, Debug, PartialEq, Eq)]
+#[derive(Clone, Copy, Debug, PartialEq, Eq, Error)]
 pub enum Refusal {
     /// The number has a kept reply for another act. This answer isn't kept.
+    #[error("the number stands for another act")]
     NumberReused,
     /// There is no row, or no serial.
+    #[error("nothing is asked")]
     Empty,
     /// There are more than 500 rows, or more than 100 serials.
+    #[error("too much is asked at once")]
     TooMany,
     /// The serial stands earlier in the request.
+    #[error("a serial stands twice")]
     Repeated(Serial),
     /// The coowner is the owner.
+    #[error("the coowner is the owner")]
     SameCoowner(Serial),
     /// Rates are announced in May and November alone.
+    #[error("no month of announcement")]
     NotAnnouncementMonth(IssueMonth),
     /// The month holds other rates, in the books or in an earlier row.
+    #[error("the month has other rates")]
     RateConflict(IssueMonth),
     /// Some value at these rates can't be settled to the cent; this is the least such age.
+    #[error("a value at these rates is unsettled")]
     RateUnsettled(Age),
     /// There are no rates for the period of issue.
+    #[error("no rates for the period of issue")]
     NoRate(Serial),
     /// The serial is registered with other content.
+    #[error("the serial is registered with other content")]
     SerialConflict(Serial),
     /// A day is open.
+    #[error("a day is open")]
     DayOpen,
     /// The day is not after the last closed one.
+    #[error("the day is not after the last closed day")]
     DayNotLater,
     /// No day is open.
+    #[error("no day is open")]
     NoOpenDay,
     /// Another day is open.
+    #[error("another day is open")]
     DayIsOther,
     /// The day has 1,000 tickets.
+    #[error("the day has 1,000 tickets")]
     DayFull,
     /// The serial isn't registered.
+    #[error("the serial is not registered")]
     UnknownSerial(Serial),
     /// The payee is neither owner nor coowner.
+    #[error("the payee is neither owner nor coowner")]
     NotPayee(Serial),
     /// The bond stands on that ticket.
+    #[error("the bond is paid already")]
     AlreadyPaid(Serial, u64),
     /// The day's month is before the month of issue.
+    #[error("the bond is not issued yet")]
     NotIssued(Serial),
     /// The bond is younger than 12 months (31 CFR Part 351).
+    #[error("the bond is younger than 12 months")]
     NotEligible(Serial),
 }
 
@@ -110,41 +129,7 @@ impl Refusal {
             Refusal::NotEligible(_) => "NotEligible",
         }
     }
-
-    /// The refusal in words.
-    fn text(&self) -> &'static str {
-        match self {
-            Refusal::NumberReused => "the number stands for another act",
-            Refusal::Empty => "nothing is asked",
-            Refusal::TooMany => "too much is asked at once",
-            Refusal::Repeated(_) => "a serial stands twice",
-            Refusal::SameCoowner(_) => "the coowner is the owner",
-            Refusal::NotAnnouncementMonth(_) => "no month of announcement",
-            Refusal::RateConflict(_) => "the month has other rates",
-            Refusal::RateUnsettled(_) => "a value at these rates is unsettled",
-            Refusal::NoRate(_) => "no rates for the period of issue",
-            Refusal::SerialConflict(_) => "the serial is registered with other content",
-            Refusal::DayOpen => "a day is open",
-            Refusal::DayNotLater => "the day is not after the last closed day",
-            Refusal::NoOpenDay => "no day is open",
-            Refusal::DayIsOther => "another day is open",
-            Refusal::DayFull => "the day has 1,000 tickets",
-            Refusal::UnknownSerial(_) => "the serial is not registered",
-            Refusal::NotPayee(_) => "the payee is neither owner nor coowner",
-            Refusal::AlreadyPaid(_, _) => "the bond is paid already",
-            Refusal::NotIssued(_) => "the bond is not issued yet",
-            Refusal::NotEligible(_) => "the bond is younger than 12 months",
-        }
-    }
 }
-
-impl fmt::Display for Refusal {
-    fn fmt<W: fmt::Write>(&self, f: &mut fmt::Formatter<W>) -> fmt::Result {
-        f.write_str(self.text())
-    }
-}
-
-impl std::error::Error for Refusal {}
 
 /// Why a request got no reply. It then changed nothing, and its number stays as it was.
 #[derive(Clone, Copy, Debug, PartialEq, Eq, Error)]
