@@ -1,4 +1,4 @@
-use Rattle.std.proofs.Common.{refl, rules}
+use Rattle.std.proofs.Common.{refl}
 use Rattle.ee_desk_acts.proofs.KeptTables.{kept_again, there}
 use Rattle.ee_desk_acts.proofs.unit_tables.UnitTables.add.Goals as goal
 

@@ -1,5 +1,4 @@
-use Rattle.std.proofs.Common.{sym, ◌∙◌, subst}
-use Rattle.std.specs.FinMap as finite
+use Rattle.std.proofs.Common.{sym, subst}
 use Rattle.ee_desk_acts.specs.UnitTables.{tables_in, AreOwn}
 use Rattle.ee_desk_acts.proofs.KeptTables.{kept_again, own_more, there}
 use Rattle.ee_desk_acts.proofs.unit_tables.UnitTables.keep.Goals as goal
