@@ -5,39 +5,15 @@
 use ee_calculator::Bond;
 use ee_desk::{Books, Parts, PartsFault};
 use ee_desk_acts::{Batch, Line, RateRow, Rows, Ticket};
-use ee_desk_texts::{read_act, reply_text};
 use ee_units::{Cents, Day};
 use ee_value::Rates;
 use std::alloc::Global;
 use std::fmt::Write;
-use std::process::Abort;
 use std::test::Fail;
 
 /// Three bonds on one ticket, and the day is closed.
 const WORKED: &str =
     "rate 2010-05 2.00%; rate 2010-11 3.50%; bond K2EE 75 2010-10 7 8; bond L1EE 50 2010-11 7 -; bond M3EE 10000 2011-02 7 -; ticket 1 2012-02-06 7 519622 L1EE=2588 K2EE=3834 M3EE=513200; batch 2012-02-06 1 3 519622; day -; last 2012-02-06;";
-
-/// The acts that begin that day, each with its reply.
-pub const BEGUN: &str =
-    r#"{"act":"rates","rates":[{"from":"2010-05","rate":"2.00%"},{"from":"2010-11","rate":"3.50%"}]}
-{"new":2,"same":0}
-{"act":"bonds","bonds":[{"denom":50,"issued":"2010-11","owner":7,"serial":"L1EE"},{"coowner":8,"denom":75,"issued":"2010-10","owner":7,"serial":"K2EE"},{"denom":10000,"issued":"2011-02","owner":7,"serial":"M3EE"}]}
-{"new":3,"same":0}
-{"act":"open","day":"2012-02-06"}
-{"opened":"2012-02-06"}
-"#;
-
-/// The act of the ticket, and its reply.
-pub const REDEEM: &str =
-    r#"{"act":"redeem","day":"2012-02-06","payee":7,"serials":["L1EE","K2EE","M3EE"]}"#;
-
-pub const TICKET: &str =
-    r#"{"day":"2012-02-06","lines":[{"paid":"25.88","serial":"L1EE"},{"paid":"38.34","serial":"K2EE"},{"paid":"5132.00","serial":"M3EE"}],"payee":7,"ticket":1,"total":"5196.22"}"#;
-
-/// The act that closes the day, and its reply.
-pub const CLOSE: &str = r#"{"act":"close","day":"2012-02-06"}"#;
-
-pub const BATCH: &str = r#"{"bonds":3,"day":"2012-02-06","tickets":1,"total":"5196.22"}"#;
 
 /// Changes of these books that leave them sound.
 const SOUND: &str = "\
@@ -280,7 +256,7 @@ fn add_day(text: &mut String, kind: &str, day: Option<Day>) -> Result<(), Fail> 
 }
 
 /// The parts in words.
-fn written(alloc: Global, parts: &Parts) -> Result<String, Fail> {
+pub fn written(alloc: Global, parts: &Parts) -> Result<String, Fail> {
     let mut text = String::new(alloc);
     add_rows(&mut text, parts.rates.as_slice())?;
     add_rows(&mut text, parts.bonds.as_slice())?;
@@ -290,49 +266,6 @@ fn written(alloc: Global, parts: &Parts) -> Result<String, Fail> {
     text.push_str(" ")?;
     add_day(&mut text, "last", parts.last_day)?;
     Ok(text)
-}
-
-/// Does the act of a canonical text, and compares the text of its reply.
-pub fn does(
-    rt: &impl Abort,
-    alloc: Global,
-    books: &mut Books,
-    act: &str,
-    wanted: &str,
-) -> Result<(), Fail> {
-    let act = read_act(alloc, act)?.ok_or("act")?;
-    let reply = reply_text(alloc, &books.step(&act)?)?;
-    assert_eq!(rt; reply.as_str(), wanted);
-    Ok(())
-}
-
-/// The books as the day has begun.
-pub fn begun(rt: &impl Abort, alloc: Global) -> Result<Books, Fail> {
-    let mut books = Books::empty(alloc);
-    let mut lines = BEGUN.lines();
-    while let Some(act) = lines.next() {
-        does(rt, alloc, &mut books, act, lines.next().ok_or("reply")?)?;
-    }
-    Ok(books)
-}
-
-/// The books after the day.
-pub fn closed(rt: &impl Abort, alloc: Global) -> Result<Books, Fail> {
-    let mut books = begun(rt, alloc)?;
-    does(rt, alloc, &mut books, REDEEM, TICKET)?;
-    does(rt, alloc, &mut books, CLOSE, BATCH)?;
-    Ok(books)
-}
-
-/// The parts of the books after a day, the books of these parts, and their parts again.
-#[test]
-fn parts_come_back(rt: HostRuntime) -> Result<(), Fail> {
-    let parts = closed(&rt, rt.alloc())?.parts()?;
-    assert_eq!(rt; written(rt.alloc(), &parts)?.as_str(), WORKED);
-    let books = Books::from_parts(rt.alloc(), parts)?;
-    let parts = books.parts()?;
-    assert_eq!(rt; written(rt.alloc(), &parts)?.as_str(), WORKED);
-    Ok(())
 }
 
 /// Why the changed books are refused.

@@ -7,8 +7,6 @@ mod books;
 #[cfg(test)]
 mod calls;
 #[cfg(test)]
-mod desks;
-#[cfg(test)]
 mod devices;
 #[cfg(test)]
 mod lines;
