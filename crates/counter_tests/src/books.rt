@@ -2,8 +2,9 @@
 //! `ticket NUMBER DAY PAYEE CENTS SERIAL=CENTS ..`, `batch DAY TICKETS BONDS CENTS`, `day DAY` and
 //! `last DAY`, each ended by a semicolon; `-` stands for what is missing.
 
+use crate::comparing::{Cases, compare};
 use ee_calculator::Bond;
-use ee_desk::{Books, Parts, PartsFault};
+use ee_desk::{Books, Parts};
 use ee_desk_acts::{Batch, Line, RateRow, Rows, Ticket};
 use ee_units::{Cents, Day};
 use ee_value::Rates;
@@ -15,50 +16,47 @@ use std::test::Fail;
 const WORKED: &str =
     "rate 2010-05 2.00%; rate 2010-11 3.50%; bond K2EE 75 2010-10 7 8; bond L1EE 50 2010-11 7 -; bond M3EE 10000 2011-02 7 -; ticket 1 2012-02-06 7 519622 L1EE=2588 K2EE=3834 M3EE=513200; batch 2012-02-06 1 3 519622; day -; last 2012-02-06;";
 
-/// Changes of these books that leave them sound.
-const SOUND: &str = "\
-day - => day 2012-02-07
-batch => batch 2012-02-05 0 0 0; batch
-batch 2012-02-06 1 3 519622; => | day - => day 2012-02-06 | last 2012-02-06 => last -
-ticket 1 2012-02-06 7 519622 L1EE=2588 K2EE=3834 M3EE=513200; => | 1 3 519622 => 0 0 0
+/// Changes of these books, and why the changed ones are refused: first those that leave them sound; then of rates, of bonds,
+/// of the ticket, of the batch, of the days.
+const CHANGES: &str = "\
+day - -> day 2012-02-07 => None
+batch -> batch 2012-02-05 0 0 0; batch => None
+batch 2012-02-06 1 3 519622; -> | day - -> day 2012-02-06 | last 2012-02-06 -> last - => None
+ticket 1 2012-02-06 7 519622 L1EE=2588 K2EE=3834 M3EE=513200; -> | 1 3 519622 -> 0 0 0 => None
+rate 2010-05 2.00%; -> rate 2010-05 2.00%; rate 2010-05 2.00%; => Some(Unsound)
+rate 2010-05 2.00%; -> | rate 2010-11 3.50%; -> rate 2010-11 3.50%; rate 2010-05 2.00%; => Some(Unsound)
+rate 2010-05 2.00%; -> rate 2010-05 2.00%; rate 2010-06 2.00%; => Some(Unsound)
+bond K2EE 75 2010-10 7 8; -> | bond M3EE -> bond K2EE 75 2010-10 7 8; bond M3EE => Some(Unsound)
+bond M3EE -> bond L1EE 50 2010-11 7 -; bond M3EE => Some(Unsound)
+bond M3EE -> bond L2EE 100 2009-10 9 -; bond M3EE => Some(Unsound)
+bond M3EE -> bond L2EE 100 2010-11 9 9; bond M3EE => Some(Unsound)
+ticket 1 -> ticket 2 => Some(Unsound)
+519622 L1EE=2588 K2EE=3834 M3EE=513200 -> 0 | 3 519622 -> 0 0 => Some(Unsound)
+7 519622 L1EE -> 7 519623 L1EE | 3 519622 -> 3 519623 => Some(Unsound)
+7 519622 L1EE=2588 -> 7 519623 L1EE=2589 | 3 519622 -> 3 519623 => Some(Unsound)
+06 7 519622 -> 06 8 519622 => Some(Unsound)
+bond M3EE 10000 2011-02 7 -; -> => Some(Unsound)
+bond M3EE 10000 2011-02 7 -; -> bond M3EE 50 2011-03 7 -; | 7 519622 -> 7 8922 | 513200 -> 2500 | 519622 -> 8922 => Some(Unsound)
+M3EE=513200 -> L1EE=2588 | 7 519622 -> 7 9010 | 519622 -> 9010 => Some(Unsound)
+batch -> ticket 2 2012-02-06 7 2588 L1EE=2588; batch | 1 3 519622 -> 2 4 522210 => Some(Unsound)
+ticket 1 2012-02-06 7 519622 L1EE=2588 K2EE=3834 M3EE=513200; batch 2012-02-06 1 3 519622; -> ticket 1 2012-02-07 7 2588 L1EE=2588; ticket 2 2012-02-06 7 3834 K2EE=3834; batch 2012-02-06 1 1 3834; batch 2012-02-07 1 1 2588; | last 2012-02-06 -> last 2012-02-07 => Some(Unsound)
+batch 2012-02-06 1 3 519622; -> | last 2012-02-06 -> last - => Some(Unsound)
+batch 2012-02-06 -> batch 2012-02-05 | last 2012-02-06 -> last 2012-02-05 => Some(Unsound)
+1 3 519622 -> 2 3 519622 => Some(Unsound)
+1 3 519622 -> 1 4 519622 => Some(Unsound)
+3 519622 -> 3 519621 => Some(Unsound)
+day - -> batch 2012-02-05 0 0 0; day - | last 2012-02-06 -> last 2012-02-05 => Some(Unsound)
+day - -> batch 2012-02-06 1 3 519622; day - => Some(Unsound)
+last 2012-02-06 -> last 2012-02-07 => Some(Unsound)
+last 2012-02-06 -> last - => Some(Unsound)
+day - -> day 2012-02-06 => Some(Unsound)
 ";
 
-/// Changes that leave no sound books: of rates, of bonds, of the ticket, of the batch, of the days.
-const UNSOUND: &str = "\
-rate 2010-05 2.00%; => rate 2010-05 2.00%; rate 2010-05 2.00%;
-rate 2010-05 2.00%; => | rate 2010-11 3.50%; => rate 2010-11 3.50%; rate 2010-05 2.00%;
-rate 2010-05 2.00%; => rate 2010-05 2.00%; rate 2010-06 2.00%;
-bond K2EE 75 2010-10 7 8; => | bond M3EE => bond K2EE 75 2010-10 7 8; bond M3EE
-bond M3EE => bond L1EE 50 2010-11 7 -; bond M3EE
-bond M3EE => bond L2EE 100 2009-10 9 -; bond M3EE
-bond M3EE => bond L2EE 100 2010-11 9 9; bond M3EE
-ticket 1 => ticket 2
-519622 L1EE=2588 K2EE=3834 M3EE=513200 => 0 | 3 519622 => 0 0
-7 519622 L1EE => 7 519623 L1EE | 3 519622 => 3 519623
-7 519622 L1EE=2588 => 7 519623 L1EE=2589 | 3 519622 => 3 519623
-06 7 519622 => 06 8 519622
-bond M3EE 10000 2011-02 7 -; =>
-bond M3EE 10000 2011-02 7 -; => bond M3EE 50 2011-03 7 -; | 7 519622 => 7 8922 | 513200 => 2500 | 519622 => 8922
-M3EE=513200 => L1EE=2588 | 7 519622 => 7 9010 | 519622 => 9010
-batch => ticket 2 2012-02-06 7 2588 L1EE=2588; batch | 1 3 519622 => 2 4 522210
-ticket 1 2012-02-06 7 519622 L1EE=2588 K2EE=3834 M3EE=513200; batch 2012-02-06 1 3 519622; => ticket 1 2012-02-07 7 2588 L1EE=2588; ticket 2 2012-02-06 7 3834 K2EE=3834; batch 2012-02-06 1 1 3834; batch 2012-02-07 1 1 2588; | last 2012-02-06 => last 2012-02-07
-batch 2012-02-06 1 3 519622; => | last 2012-02-06 => last -
-batch 2012-02-06 => batch 2012-02-05 | last 2012-02-06 => last 2012-02-05
-1 3 519622 => 2 3 519622
-1 3 519622 => 1 4 519622
-3 519622 => 3 519621
-day - => batch 2012-02-05 0 0 0; day - | last 2012-02-06 => last 2012-02-05
-day - => batch 2012-02-06 1 3 519622; day -
-last 2012-02-06 => last 2012-02-07
-last 2012-02-06 => last -
-day - => day 2012-02-06
-";
-
-/// The worked books with changes `OLD => NEW | OLD => NEW ..`, each made where the old text stands first.
+/// The worked books with changes `OLD -> NEW | OLD -> NEW ..`, each made where the old text stands first.
 fn changed(alloc: Global, changes: &str) -> Result<String, Fail> {
     let mut text = String::from_str(alloc, WORKED)?;
     for change in changes.split('|') {
-        let (old, new) = change.split_once("=>").ok_or("change")?;
+        let (old, new) = change.split_once("->").ok_or("change")?;
         let (front, back) = text.as_str().split_once(old.trim()).ok_or("old")?;
         text = format!(in alloc; "{front}{}{back}", new.trim())?;
     }
@@ -269,19 +267,17 @@ pub fn written(alloc: Global, parts: &Parts) -> Result<String, Fail> {
 }
 
 /// Why the changed books are refused.
-fn fault_of(alloc: Global, changes: &str) -> Result<Option<PartsFault>, Fail> {
-    let text = changed(alloc, changes)?;
-    Ok(Books::from_parts(alloc, read(alloc, text.as_str())?).err())
+struct ChangeCases;
+
+impl Cases for ChangeCases {
+    fn told(alloc: Global, case: &str) -> Result<String, Fail> {
+        let text = changed(alloc, case)?;
+        let fault = Books::from_parts(alloc, read(alloc, text.as_str())?).err();
+        Ok(format!(in alloc; "{fault:?}")?)
+    }
 }
 
 #[test]
 fn parts_are_told_sound_or_not(rt: HostRuntime) -> Result<(), Fail> {
-    for changes in SOUND.lines() {
-        assert_eq!(rt; fault_of(rt.alloc(), changes)?, None, "{changes}");
-    }
-    for changes in UNSOUND.lines() {
-        let fault = fault_of(rt.alloc(), changes)?;
-        assert_eq!(rt; fault, Some(PartsFault::Unsound), "{changes}");
-    }
-    Ok(())
+    compare::<ChangeCases>(&rt, rt.alloc(), CHANGES)
 }

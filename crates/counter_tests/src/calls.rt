@@ -1,6 +1,7 @@
 //! Calls of books that take memory, and that the other tests reach only through others, with ample memory.
 
 use crate::books::written;
+use crate::comparing::same;
 use ee_calculator::{Sheet, write_sheet};
 use ee_counter::answer_message;
 use ee_desk::{Books, Parts};
@@ -284,7 +285,7 @@ fn compare_over(
     for row in calls.trim_start_matches("> ").split("\n> ") {
         let (call, wanted) = row.split_once('\n').ok_or("row")?;
         let told = told(alloc, books, keeper, call)?;
-        assert_eq!(rt; told.as_str(), wanted, "{call}");
+        same(rt, told.as_str(), wanted, call);
     }
     Ok(())
 }

@@ -7,6 +7,8 @@ mod books;
 #[cfg(test)]
 mod calls;
 #[cfg(test)]
+mod comparing;
+#[cfg(test)]
 mod devices;
 #[cfg(test)]
 mod lines;

@@ -1,5 +1,6 @@
 //! Command lines, and what they ask for.
 
+use crate::comparing::{Cases, compare};
 use ee_cli_commands::{Command, CommandFault, FileKind, read_command};
 use ee_units::Rate;
 use std::alloc::Global;
@@ -131,20 +132,19 @@ fn words_of<'a>(alloc: Global, line: &'a str) -> Result<Vec<&'a str>, Fail> {
     Ok(words)
 }
 
-/// What a line asks for, or what is wrong with it.
-fn told(alloc: Global, line: &str) -> Result<String, Fail> {
-    let words = words_of(alloc, line)?;
-    let mut text = String::new(alloc);
-    add_told(alloc, &mut text, words.as_slice())?;
-    Ok(text)
+/// Lines: what they ask for, or what is wrong with them.
+struct LineCases;
+
+impl Cases for LineCases {
+    fn told(alloc: Global, case: &str) -> Result<String, Fail> {
+        let words = words_of(alloc, case)?;
+        let mut text = String::new(alloc);
+        add_told(alloc, &mut text, words.as_slice())?;
+        Ok(text)
+    }
 }
 
 #[test]
 fn lines_are_read(rt: HostRuntime) -> Result<(), Fail> {
-    for row in LINES.lines() {
-        let (line, wanted) = row.split_once(" => ").ok_or("row")?;
-        let told = told(rt.alloc(), line)?;
-        assert_eq!(rt; told.as_str(), wanted, "{line}");
-    }
-    Ok(())
+    compare::<LineCases>(&rt, rt.alloc(), LINES)
 }

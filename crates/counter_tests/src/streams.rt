@@ -1,6 +1,7 @@
 //! Connections: faults, limits, and messages that end them. Devices that fail and cut are tested over both keepers
 //! (`store_tests`).
 
+use crate::comparing::{Cases, compare};
 use crate::devices::Source;
 use ee_counter::serve;
 use ee_keeper::ListKeeper;
@@ -15,23 +16,23 @@ use std::test::Fail;
 /// the most headers and bytes, and of one more; a body that nests too deep, after which the connection goes on; and
 /// messages that ask to close, after which nothing is read.
 const STREAMS: &str =
-    r#"1 POST /rates HTTP/1.1|Content-Length: 55||{"number":1,"rates":[{"from":"2010-11","rate":"3.50"}]}GET /value/50/2010-11/2012-02 HTTP/1.1||POST /rates HTTP/1.1|Content-Length: 55||{"number":1,"rates":[{"from":"2010-11","rate":"3.50"}] => 3 Fault(Truncated) 0 => HTTP/1.1 200 OK|Content-Type: application/json|Content-Length: 18||{"new":1,"same":0}HTTP/1.1 200 OK|Content-Type: application/json|Content-Length: 143||{"denom":50,"final":"2040-11","interest":"0.88","issued":"2010-11","next":"2012-03","note":"P5","price":"25.00","rate":"3.50%","value":"25.88"}HTTP/1.1 400 Bad Request|Content-Type: application/json|Content-Length: 31|Connection: close||{"code":68,"fault":"Truncated"}
-7 POST /rates HTTP/1.1|Content-Length: 55||{"number":1,"rates":[{"from":"2010-11","rate":"3.50"}]}GET /value/50/2010-11/2012-02 HTTP/1.1||POST /rates HTTP/1.1|Content-Length: 55||{"number":1,"rates":[{"from":"2010-11","rate":"3.50"}] => 3 Fault(Truncated) 0 => HTTP/1.1 200 OK|Content-Type: application/json|Content-Length: 18||{"new":1,"same":0}HTTP/1.1 200 OK|Content-Type: application/json|Content-Length: 143||{"denom":50,"final":"2040-11","interest":"0.88","issued":"2010-11","next":"2012-03","note":"P5","price":"25.00","rate":"3.50%","value":"25.88"}HTTP/1.1 400 Bad Request|Content-Type: application/json|Content-Length: 31|Connection: close||{"code":68,"fault":"Truncated"}
-4096 POST /rates HTTP/1.1|Content-Length: 55||{"number":1,"rates":[{"from":"2010-11","rate":"3.50"}]}GET /value/50/2010-11/2012-02 HTTP/1.1||POST /rates HTTP/1.1|Content-Length: 55||{"number":1,"rates":[{"from":"2010-11","rate":"3.50"}] => 3 Fault(Truncated) 0 => HTTP/1.1 200 OK|Content-Type: application/json|Content-Length: 18||{"new":1,"same":0}HTTP/1.1 200 OK|Content-Type: application/json|Content-Length: 143||{"denom":50,"final":"2040-11","interest":"0.88","issued":"2010-11","next":"2012-03","note":"P5","price":"25.00","rate":"3.50%","value":"25.88"}HTTP/1.1 400 Bad Request|Content-Type: application/json|Content-Length: 31|Connection: close||{"code":68,"fault":"Truncated"}
-4096 GET /ticket/1 HTTP/1.1|Content-Length: 1|Content-Length: 1||GET /value/50/2010-11/2012-02 HTTP/1.1|| => 1 Fault(BadLength) 0 => HTTP/1.1 400 Bad Request|Content-Type: application/json|Content-Length: 31|Connection: close||{"code":63,"fault":"BadLength"}
-4096 GET /ticket/1 HTTP/1.1|Transfer-Encoding: chunked||GET /value/50/2010-11/2012-02 HTTP/1.1|| => 1 Fault(BadLength) 0 => HTTP/1.1 400 Bad Request|Content-Type: application/json|Content-Length: 31|Connection: close||{"code":63,"fault":"BadLength"}
-4096 GET /ticket/1 HTTP/1.1|Content-Length: 1x||GET /value/50/2010-11/2012-02 HTTP/1.1|| => 1 Fault(BadLength) 0 => HTTP/1.1 400 Bad Request|Content-Type: application/json|Content-Length: 31|Connection: close||{"code":63,"fault":"BadLength"}
-4096 GET /ticket/1 HTTP/1.1|Content-Length: ||GET /value/50/2010-11/2012-02 HTTP/1.1|| => 1 Fault(BadLength) 0 => HTTP/1.1 400 Bad Request|Content-Type: application/json|Content-Length: 31|Connection: close||{"code":63,"fault":"BadLength"}
-4096 GET /ticket/1 HTTP/1.1|Content-Length: 999999999999999999999999999999||GET /value/50/2010-11/2012-02 HTTP/1.1|| => 1 Fault(BodyTooLong) 0 => HTTP/1.1 413 Content Too Large|Content-Type: application/json|Content-Length: 33|Connection: close||{"code":62,"fault":"BodyTooLong"}
-4096 GET /ticket/1 HTTP/1.1|Content-Length: 1048577||GET /value/50/2010-11/2012-02 HTTP/1.1|| => 1 Fault(BodyTooLong) 0 => HTTP/1.1 413 Content Too Large|Content-Type: application/json|Content-Length: 33|Connection: close||{"code":62,"fault":"BodyTooLong"}
-4096 GET /ticket/1 HTTP/1.1|no header||GET /value/50/2010-11/2012-02 HTTP/1.1|| => 1 Fault(BadHead) 0 => HTTP/1.1 400 Bad Request|Content-Type: application/json|Content-Length: 29|Connection: close||{"code":60,"fault":"BadHead"}
-4096 GET /ticket/1 HTTP/1.1|a: b|a: b|a: b|a: b|a: b|a: b|a: b|a: b|a: b|a: b|a: b|a: b|a: b|a: b|a: b|a: b|a: b|a: b|a: b|a: b|a: b|a: b|a: b|a: b|a: b|a: b|a: b|a: b|a: b|a: b|a: b|c:|| => 1 Closed 0 => HTTP/1.1 404 Not Found|Content-Type: application/json|Content-Length: 30||{"code":69,"fault":"NotFound"}
-4096 GET /ticket/1 HTTP/1.1|a: b|a: b|a: b|a: b|a: b|a: b|a: b|a: b|a: b|a: b|a: b|a: b|a: b|a: b|a: b|a: b|a: b|a: b|a: b|a: b|a: b|a: b|a: b|a: b|a: b|a: b|a: b|a: b|a: b|a: b|a: b|a: b|c:|| => 1 Fault(BadHead) 0 => HTTP/1.1 400 Bad Request|Content-Type: application/json|Content-Length: 29|Connection: close||{"code":60,"fault":"BadHead"}
-4096 GET /ticket/1 HTTP/1.1|a: b|a: b|a: b|a: b|a: b|a: b|a: b|a: b|a: b|a: b|a: b|a: b|a: b|a: b|a: b|a: b|a: b|a: b|a: b|a: b|a: b|a: b|a: b|a: b|a: b|a: b|a: b|a: b|a: b|a: b|a: b|c:*|| => 1 Closed 0 => HTTP/1.1 404 Not Found|Content-Type: application/json|Content-Length: 30||{"code":69,"fault":"NotFound"}
-4096 GET /ticket/1 HTTP/1.1|a: b|a: b|a: b|a: b|a: b|a: b|a: b|a: b|a: b|a: b|a: b|a: b|a: b|a: b|a: b|a: b|a: b|a: b|a: b|a: b|a: b|a: b|a: b|a: b|a: b|a: b|a: b|a: b|a: b|a: b|a: b|c:*d|| => 1 Fault(HeadTooLong) 1 => HTTP/1.1 413 Content Too Large|Content-Type: application/json|Content-Length: 33|Connection: close||{"code":61,"fault":"HeadTooLong"}
-4096 POST /rates HTTP/1.1|Content-Length: 128||[[[[[[[[[[[[[[[[[[[[[[[[[[[[[[[[[[[[[[[[[[[[[[[[[[[[[[[[[[[[[[[[[[[[[[[[[[[[[[[[[[[[[[[[[[[[[[[[[[[[[[[[[[[[[[[[[[[[[[[[[[[[[[[[POST /rates HTTP/1.1|Content-Length: 55||{"number":1,"rates":[{"from":"2010-11","rate":"3.50"}]} => 2 Closed 0 => HTTP/1.1 400 Bad Request|Content-Type: application/json|Content-Length: 29||{"code":64,"fault":"BadJson"}HTTP/1.1 200 OK|Content-Type: application/json|Content-Length: 18||{"new":1,"same":0}
-45 GET /ticket/1 HTTP/1.1|Connection: Close||GET /value/50/2010-11/2012-02 HTTP/1.1|| => 1 Asked 42 => HTTP/1.1 404 Not Found|Content-Type: application/json|Content-Length: 30|Connection: close||{"code":69,"fault":"NotFound"}
-4096 GET /ticket/1 HTTP/1.0|| => 1 Asked 0 => HTTP/1.1 404 Not Found|Content-Type: application/json|Content-Length: 30|Connection: close||{"code":69,"fault":"NotFound"}
+    r#"1 POST /rates HTTP/1.1|Content-Length: 55||{"number":1,"rates":[{"from":"2010-11","rate":"3.50"}]}GET /value/50/2010-11/2012-02 HTTP/1.1||POST /rates HTTP/1.1|Content-Length: 55||{"number":1,"rates":[{"from":"2010-11","rate":"3.50"}] => 3 Fault(Truncated) 0 HTTP/1.1 200 OK|Content-Type: application/json|Content-Length: 18||{"new":1,"same":0}HTTP/1.1 200 OK|Content-Type: application/json|Content-Length: 143||{"denom":50,"final":"2040-11","interest":"0.88","issued":"2010-11","next":"2012-03","note":"P5","price":"25.00","rate":"3.50%","value":"25.88"}HTTP/1.1 400 Bad Request|Content-Type: application/json|Content-Length: 31|Connection: close||{"code":68,"fault":"Truncated"}
+7 POST /rates HTTP/1.1|Content-Length: 55||{"number":1,"rates":[{"from":"2010-11","rate":"3.50"}]}GET /value/50/2010-11/2012-02 HTTP/1.1||POST /rates HTTP/1.1|Content-Length: 55||{"number":1,"rates":[{"from":"2010-11","rate":"3.50"}] => 3 Fault(Truncated) 0 HTTP/1.1 200 OK|Content-Type: application/json|Content-Length: 18||{"new":1,"same":0}HTTP/1.1 200 OK|Content-Type: application/json|Content-Length: 143||{"denom":50,"final":"2040-11","interest":"0.88","issued":"2010-11","next":"2012-03","note":"P5","price":"25.00","rate":"3.50%","value":"25.88"}HTTP/1.1 400 Bad Request|Content-Type: application/json|Content-Length: 31|Connection: close||{"code":68,"fault":"Truncated"}
+4096 POST /rates HTTP/1.1|Content-Length: 55||{"number":1,"rates":[{"from":"2010-11","rate":"3.50"}]}GET /value/50/2010-11/2012-02 HTTP/1.1||POST /rates HTTP/1.1|Content-Length: 55||{"number":1,"rates":[{"from":"2010-11","rate":"3.50"}] => 3 Fault(Truncated) 0 HTTP/1.1 200 OK|Content-Type: application/json|Content-Length: 18||{"new":1,"same":0}HTTP/1.1 200 OK|Content-Type: application/json|Content-Length: 143||{"denom":50,"final":"2040-11","interest":"0.88","issued":"2010-11","next":"2012-03","note":"P5","price":"25.00","rate":"3.50%","value":"25.88"}HTTP/1.1 400 Bad Request|Content-Type: application/json|Content-Length: 31|Connection: close||{"code":68,"fault":"Truncated"}
+4096 GET /ticket/1 HTTP/1.1|Content-Length: 1|Content-Length: 1||GET /value/50/2010-11/2012-02 HTTP/1.1|| => 1 Fault(BadLength) 0 HTTP/1.1 400 Bad Request|Content-Type: application/json|Content-Length: 31|Connection: close||{"code":63,"fault":"BadLength"}
+4096 GET /ticket/1 HTTP/1.1|Transfer-Encoding: chunked||GET /value/50/2010-11/2012-02 HTTP/1.1|| => 1 Fault(BadLength) 0 HTTP/1.1 400 Bad Request|Content-Type: application/json|Content-Length: 31|Connection: close||{"code":63,"fault":"BadLength"}
+4096 GET /ticket/1 HTTP/1.1|Content-Length: 1x||GET /value/50/2010-11/2012-02 HTTP/1.1|| => 1 Fault(BadLength) 0 HTTP/1.1 400 Bad Request|Content-Type: application/json|Content-Length: 31|Connection: close||{"code":63,"fault":"BadLength"}
+4096 GET /ticket/1 HTTP/1.1|Content-Length: ||GET /value/50/2010-11/2012-02 HTTP/1.1|| => 1 Fault(BadLength) 0 HTTP/1.1 400 Bad Request|Content-Type: application/json|Content-Length: 31|Connection: close||{"code":63,"fault":"BadLength"}
+4096 GET /ticket/1 HTTP/1.1|Content-Length: 999999999999999999999999999999||GET /value/50/2010-11/2012-02 HTTP/1.1|| => 1 Fault(BodyTooLong) 0 HTTP/1.1 413 Content Too Large|Content-Type: application/json|Content-Length: 33|Connection: close||{"code":62,"fault":"BodyTooLong"}
+4096 GET /ticket/1 HTTP/1.1|Content-Length: 1048577||GET /value/50/2010-11/2012-02 HTTP/1.1|| => 1 Fault(BodyTooLong) 0 HTTP/1.1 413 Content Too Large|Content-Type: application/json|Content-Length: 33|Connection: close||{"code":62,"fault":"BodyTooLong"}
+4096 GET /ticket/1 HTTP/1.1|no header||GET /value/50/2010-11/2012-02 HTTP/1.1|| => 1 Fault(BadHead) 0 HTTP/1.1 400 Bad Request|Content-Type: application/json|Content-Length: 29|Connection: close||{"code":60,"fault":"BadHead"}
+4096 GET /ticket/1 HTTP/1.1|a: b|a: b|a: b|a: b|a: b|a: b|a: b|a: b|a: b|a: b|a: b|a: b|a: b|a: b|a: b|a: b|a: b|a: b|a: b|a: b|a: b|a: b|a: b|a: b|a: b|a: b|a: b|a: b|a: b|a: b|a: b|c:|| => 1 Closed 0 HTTP/1.1 404 Not Found|Content-Type: application/json|Content-Length: 30||{"code":69,"fault":"NotFound"}
+4096 GET /ticket/1 HTTP/1.1|a: b|a: b|a: b|a: b|a: b|a: b|a: b|a: b|a: b|a: b|a: b|a: b|a: b|a: b|a: b|a: b|a: b|a: b|a: b|a: b|a: b|a: b|a: b|a: b|a: b|a: b|a: b|a: b|a: b|a: b|a: b|a: b|c:|| => 1 Fault(BadHead) 0 HTTP/1.1 400 Bad Request|Content-Type: application/json|Content-Length: 29|Connection: close||{"code":60,"fault":"BadHead"}
+4096 GET /ticket/1 HTTP/1.1|a: b|a: b|a: b|a: b|a: b|a: b|a: b|a: b|a: b|a: b|a: b|a: b|a: b|a: b|a: b|a: b|a: b|a: b|a: b|a: b|a: b|a: b|a: b|a: b|a: b|a: b|a: b|a: b|a: b|a: b|a: b|c:*|| => 1 Closed 0 HTTP/1.1 404 Not Found|Content-Type: application/json|Content-Length: 30||{"code":69,"fault":"NotFound"}
+4096 GET /ticket/1 HTTP/1.1|a: b|a: b|a: b|a: b|a: b|a: b|a: b|a: b|a: b|a: b|a: b|a: b|a: b|a: b|a: b|a: b|a: b|a: b|a: b|a: b|a: b|a: b|a: b|a: b|a: b|a: b|a: b|a: b|a: b|a: b|a: b|c:*d|| => 1 Fault(HeadTooLong) 1 HTTP/1.1 413 Content Too Large|Content-Type: application/json|Content-Length: 33|Connection: close||{"code":61,"fault":"HeadTooLong"}
+4096 POST /rates HTTP/1.1|Content-Length: 128||[[[[[[[[[[[[[[[[[[[[[[[[[[[[[[[[[[[[[[[[[[[[[[[[[[[[[[[[[[[[[[[[[[[[[[[[[[[[[[[[[[[[[[[[[[[[[[[[[[[[[[[[[[[[[[[[[[[[[[[[[[[[[[[[POST /rates HTTP/1.1|Content-Length: 55||{"number":1,"rates":[{"from":"2010-11","rate":"3.50"}]} => 2 Closed 0 HTTP/1.1 400 Bad Request|Content-Type: application/json|Content-Length: 29||{"code":64,"fault":"BadJson"}HTTP/1.1 200 OK|Content-Type: application/json|Content-Length: 18||{"new":1,"same":0}
+45 GET /ticket/1 HTTP/1.1|Connection: Close||GET /value/50/2010-11/2012-02 HTTP/1.1|| => 1 Asked 42 HTTP/1.1 404 Not Found|Content-Type: application/json|Content-Length: 30|Connection: close||{"code":69,"fault":"NotFound"}
+4096 GET /ticket/1 HTTP/1.0|| => 1 Asked 0 HTTP/1.1 404 Not Found|Content-Type: application/json|Content-Length: 30|Connection: close||{"code":69,"fault":"NotFound"}
 "#;
 
 fn add_letters(text: &mut String) -> Result<(), Fail> {
@@ -41,7 +42,7 @@ fn add_letters(text: &mut String) -> Result<(), Fail> {
     Ok(())
 }
 
-/// The row with its line ends and its letters.
+/// The bytes of a text with its line ends and its letters.
 fn written_out(alloc: Global, row: &str) -> Result<String, Fail> {
     let mut text = String::new(alloc);
     for letter in row.chars() {
@@ -54,6 +55,17 @@ fn written_out(alloc: Global, row: &str) -> Result<String, Fail> {
     Ok(text)
 }
 
+/// A text with `|` for each of its line ends.
+fn marked(alloc: Global, text: &str) -> Result<String, Fail> {
+    let mut marked = String::new(alloc);
+    for line in text.split("\r\n") {
+        marked.push_str(line)?;
+        marked.push_str("|")?;
+    }
+    let _last = marked.pop();
+    Ok(marked)
+}
+
 /// What is told of serving a stream over an empty keeper.
 fn served(alloc: Global, stream: &str, step: usize) -> Result<String, Fail> {
     let mut reader = Source::of(stream.as_bytes(), step);
@@ -61,22 +73,22 @@ fn served(alloc: Global, stream: &str, step: usize) -> Result<String, Fail> {
     let ended = serve(alloc, &mut ListKeeper::empty(alloc), &mut reader, &mut text);
     let (messages, why, left) = (ended.messages, ended.why, reader.bytes.len());
     let answers = str::from_utf8(&text)?;
-    Ok(format!(in alloc; "{messages} {why:?} {left} => {answers}")?)
+    Ok(format!(in alloc; "{messages} {why:?} {left} {answers}")?)
 }
 
-/// What is told of a case `STEP STREAM`.
-fn told(alloc: Global, case: &str) -> Result<String, Fail> {
-    let (step, stream) = case.split_once(' ').ok_or("step")?;
-    served(alloc, stream, step.parse()?)
+/// Streams `STEP STREAM`.
+struct StreamCases;
+
+impl Cases for StreamCases {
+    fn told(alloc: Global, case: &str) -> Result<String, Fail> {
+        let (step, stream) = case.split_once(' ').ok_or("step")?;
+        let (step, stream) = (step.parse()?, written_out(alloc, stream)?);
+        let told = served(alloc, stream.as_str(), step)?;
+        marked(alloc, told.as_str())
+    }
 }
 
 #[test]
 fn connections_end(rt: HostRuntime) -> Result<(), Fail> {
-    for row in STREAMS.lines() {
-        let row = written_out(rt.alloc(), row)?;
-        let (case, wanted) = row.as_str().split_once(" => ").ok_or("row")?;
-        let told = told(rt.alloc(), case)?;
-        assert!(rt; told.as_str() == wanted, "{case}: {told} and not {wanted}");
-    }
-    Ok(())
+    compare::<StreamCases>(&rt, rt.alloc(), STREAMS)
 }
