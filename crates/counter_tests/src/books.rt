@@ -2,87 +2,61 @@
 //! `ticket NUMBER DAY PAYEE CENTS SERIAL=CENTS ..`, `batch DAY TICKETS BONDS CENTS`, `day DAY` and
 //! `last DAY`, each ended by a semicolon; `-` stands for what is missing.
 
+use crate::comparing::{Cases, compare};
 use ee_calculator::Bond;
-use ee_desk::{Books, Parts, PartsFault};
+use ee_desk::{Books, Parts};
 use ee_desk_acts::{Batch, Line, RateRow, Rows, Ticket};
-use ee_desk_texts::{read_act, reply_text};
 use ee_units::{Cents, Day};
 use ee_value::Rates;
 use std::alloc::Global;
 use std::fmt::Write;
-use std::process::Abort;
 use std::test::Fail;
 
 /// Three bonds on one ticket, and the day is closed.
 const WORKED: &str =
     "rate 2010-05 2.00%; rate 2010-11 3.50%; bond K2EE 75 2010-10 7 8; bond L1EE 50 2010-11 7 -; bond M3EE 10000 2011-02 7 -; ticket 1 2012-02-06 7 519622 L1EE=2588 K2EE=3834 M3EE=513200; batch 2012-02-06 1 3 519622; day -; last 2012-02-06;";
 
-/// The acts that begin that day, each with its reply.
-pub const BEGUN: &str =
-    r#"{"act":"rates","rates":[{"from":"2010-05","rate":"2.00%"},{"from":"2010-11","rate":"3.50%"}]}
-{"new":2,"same":0}
-{"act":"bonds","bonds":[{"denom":50,"issued":"2010-11","owner":7,"serial":"L1EE"},{"coowner":8,"denom":75,"issued":"2010-10","owner":7,"serial":"K2EE"},{"denom":10000,"issued":"2011-02","owner":7,"serial":"M3EE"}]}
-{"new":3,"same":0}
-{"act":"open","day":"2012-02-06"}
-{"opened":"2012-02-06"}
-"#;
-
-/// The act of the ticket, and its reply.
-pub const REDEEM: &str =
-    r#"{"act":"redeem","day":"2012-02-06","payee":7,"serials":["L1EE","K2EE","M3EE"]}"#;
-
-pub const TICKET: &str =
-    r#"{"day":"2012-02-06","lines":[{"paid":"25.88","serial":"L1EE"},{"paid":"38.34","serial":"K2EE"},{"paid":"5132.00","serial":"M3EE"}],"payee":7,"ticket":1,"total":"5196.22"}"#;
-
-/// The act that closes the day, and its reply.
-pub const CLOSE: &str = r#"{"act":"close","day":"2012-02-06"}"#;
-
-pub const BATCH: &str = r#"{"bonds":3,"day":"2012-02-06","tickets":1,"total":"5196.22"}"#;
-
-/// Changes of these books that leave them sound.
-const SOUND: &str = "\
-day - => day 2012-02-07
-batch => batch 2012-02-05 0 0 0; batch
-batch 2012-02-06 1 3 519622; => | day - => day 2012-02-06 | last 2012-02-06 => last -
-ticket 1 2012-02-06 7 519622 L1EE=2588 K2EE=3834 M3EE=513200; => | 1 3 519622 => 0 0 0
+/// Changes of these books, and why the changed ones are refused: first those that leave them sound; then of rates, of bonds,
+/// of the ticket, of the batch, of the days.
+const CHANGES: &str = "\
+day - -> day 2012-02-07 => None
+batch -> batch 2012-02-05 0 0 0; batch => None
+batch 2012-02-06 1 3 519622; -> | day - -> day 2012-02-06 | last 2012-02-06 -> last - => None
+ticket 1 2012-02-06 7 519622 L1EE=2588 K2EE=3834 M3EE=513200; -> | 1 3 519622 -> 0 0 0 => None
+rate 2010-05 2.00%; -> rate 2010-05 2.00%; rate 2010-05 2.00%; => Some(Unsound)
+rate 2010-05 2.00%; -> | rate 2010-11 3.50%; -> rate 2010-11 3.50%; rate 2010-05 2.00%; => Some(Unsound)
+rate 2010-05 2.00%; -> rate 2010-05 2.00%; rate 2010-06 2.00%; => Some(Unsound)
+bond K2EE 75 2010-10 7 8; -> | bond M3EE -> bond K2EE 75 2010-10 7 8; bond M3EE => Some(Unsound)
+bond M3EE -> bond L1EE 50 2010-11 7 -; bond M3EE => Some(Unsound)
+bond M3EE -> bond L2EE 100 2009-10 9 -; bond M3EE => Some(Unsound)
+bond M3EE -> bond L2EE 100 2010-11 9 9; bond M3EE => Some(Unsound)
+ticket 1 -> ticket 2 => Some(Unsound)
+519622 L1EE=2588 K2EE=3834 M3EE=513200 -> 0 | 3 519622 -> 0 0 => Some(Unsound)
+7 519622 L1EE -> 7 519623 L1EE | 3 519622 -> 3 519623 => Some(Unsound)
+7 519622 L1EE=2588 -> 7 519623 L1EE=2589 | 3 519622 -> 3 519623 => Some(Unsound)
+06 7 519622 -> 06 8 519622 => Some(Unsound)
+bond M3EE 10000 2011-02 7 -; -> => Some(Unsound)
+bond M3EE 10000 2011-02 7 -; -> bond M3EE 50 2011-03 7 -; | 7 519622 -> 7 8922 | 513200 -> 2500 | 519622 -> 8922 => Some(Unsound)
+M3EE=513200 -> L1EE=2588 | 7 519622 -> 7 9010 | 519622 -> 9010 => Some(Unsound)
+batch -> ticket 2 2012-02-06 7 2588 L1EE=2588; batch | 1 3 519622 -> 2 4 522210 => Some(Unsound)
+ticket 1 2012-02-06 7 519622 L1EE=2588 K2EE=3834 M3EE=513200; batch 2012-02-06 1 3 519622; -> ticket 1 2012-02-07 7 2588 L1EE=2588; ticket 2 2012-02-06 7 3834 K2EE=3834; batch 2012-02-06 1 1 3834; batch 2012-02-07 1 1 2588; | last 2012-02-06 -> last 2012-02-07 => Some(Unsound)
+batch 2012-02-06 1 3 519622; -> | last 2012-02-06 -> last - => Some(Unsound)
+batch 2012-02-06 -> batch 2012-02-05 | last 2012-02-06 -> last 2012-02-05 => Some(Unsound)
+1 3 519622 -> 2 3 519622 => Some(Unsound)
+1 3 519622 -> 1 4 519622 => Some(Unsound)
+3 519622 -> 3 519621 => Some(Unsound)
+day - -> batch 2012-02-05 0 0 0; day - | last 2012-02-06 -> last 2012-02-05 => Some(Unsound)
+day - -> batch 2012-02-06 1 3 519622; day - => Some(Unsound)
+last 2012-02-06 -> last 2012-02-07 => Some(Unsound)
+last 2012-02-06 -> last - => Some(Unsound)
+day - -> day 2012-02-06 => Some(Unsound)
 ";
 
-/// Changes that leave no sound books: of rates, of bonds, of the ticket, of the batch, of the days.
-const UNSOUND: &str = "\
-rate 2010-05 2.00%; => rate 2010-05 2.00%; rate 2010-05 2.00%;
-rate 2010-05 2.00%; => | rate 2010-11 3.50%; => rate 2010-11 3.50%; rate 2010-05 2.00%;
-rate 2010-05 2.00%; => rate 2010-05 2.00%; rate 2010-06 2.00%;
-bond K2EE 75 2010-10 7 8; => | bond M3EE => bond K2EE 75 2010-10 7 8; bond M3EE
-bond M3EE => bond L1EE 50 2010-11 7 -; bond M3EE
-bond M3EE => bond L2EE 100 2009-10 9 -; bond M3EE
-bond M3EE => bond L2EE 100 2010-11 9 9; bond M3EE
-ticket 1 => ticket 2
-519622 L1EE=2588 K2EE=3834 M3EE=513200 => 0 | 3 519622 => 0 0
-7 519622 L1EE => 7 519623 L1EE | 3 519622 => 3 519623
-7 519622 L1EE=2588 => 7 519623 L1EE=2589 | 3 519622 => 3 519623
-06 7 519622 => 06 8 519622
-bond M3EE 10000 2011-02 7 -; =>
-bond M3EE 10000 2011-02 7 -; => bond M3EE 50 2011-03 7 -; | 7 519622 => 7 8922 | 513200 => 2500 | 519622 => 8922
-M3EE=513200 => L1EE=2588 | 7 519622 => 7 9010 | 519622 => 9010
-batch => ticket 2 2012-02-06 7 2588 L1EE=2588; batch | 1 3 519622 => 2 4 522210
-ticket 1 2012-02-06 7 519622 L1EE=2588 K2EE=3834 M3EE=513200; batch 2012-02-06 1 3 519622; => ticket 1 2012-02-07 7 2588 L1EE=2588; ticket 2 2012-02-06 7 3834 K2EE=3834; batch 2012-02-06 1 1 3834; batch 2012-02-07 1 1 2588; | last 2012-02-06 => last 2012-02-07
-batch 2012-02-06 1 3 519622; => | last 2012-02-06 => last -
-batch 2012-02-06 => batch 2012-02-05 | last 2012-02-06 => last 2012-02-05
-1 3 519622 => 2 3 519622
-1 3 519622 => 1 4 519622
-3 519622 => 3 519621
-day - => batch 2012-02-05 0 0 0; day - | last 2012-02-06 => last 2012-02-05
-day - => batch 2012-02-06 1 3 519622; day -
-last 2012-02-06 => last 2012-02-07
-last 2012-02-06 => last -
-day - => day 2012-02-06
-";
-
-/// The worked books with changes `OLD => NEW | OLD => NEW ..`, each made where the old text stands first.
+/// The worked books with changes `OLD -> NEW | OLD -> NEW ..`, each made where the old text stands first.
 fn changed(alloc: Global, changes: &str) -> Result<String, Fail> {
     let mut text = String::from_str(alloc, WORKED)?;
     for change in changes.split('|') {
-        let (old, new) = change.split_once("=>").ok_or("change")?;
+        let (old, new) = change.split_once("->").ok_or("change")?;
         let (front, back) = text.as_str().split_once(old.trim()).ok_or("old")?;
         text = format!(in alloc; "{front}{}{back}", new.trim())?;
     }
@@ -280,7 +254,7 @@ fn add_day(text: &mut String, kind: &str, day: Option<Day>) -> Result<(), Fail> 
 }
 
 /// The parts in words.
-fn written(alloc: Global, parts: &Parts) -> Result<String, Fail> {
+pub fn written(alloc: Global, parts: &Parts) -> Result<String, Fail> {
     let mut text = String::new(alloc);
     add_rows(&mut text, parts.rates.as_slice())?;
     add_rows(&mut text, parts.bonds.as_slice())?;
@@ -292,63 +266,18 @@ fn written(alloc: Global, parts: &Parts) -> Result<String, Fail> {
     Ok(text)
 }
 
-/// Does the act of a canonical text, and compares the text of its reply.
-pub fn does(
-    rt: &impl Abort,
-    alloc: Global,
-    books: &mut Books,
-    act: &str,
-    wanted: &str,
-) -> Result<(), Fail> {
-    let act = read_act(alloc, act)?.ok_or("act")?;
-    let reply = reply_text(alloc, &books.step(&act)?)?;
-    assert_eq!(rt; reply.as_str(), wanted);
-    Ok(())
-}
-
-/// The books as the day has begun.
-pub fn begun(rt: &impl Abort, alloc: Global) -> Result<Books, Fail> {
-    let mut books = Books::empty(alloc);
-    let mut lines = BEGUN.lines();
-    while let Some(act) = lines.next() {
-        does(rt, alloc, &mut books, act, lines.next().ok_or("reply")?)?;
-    }
-    Ok(books)
-}
-
-/// The books after the day.
-pub fn closed(rt: &impl Abort, alloc: Global) -> Result<Books, Fail> {
-    let mut books = begun(rt, alloc)?;
-    does(rt, alloc, &mut books, REDEEM, TICKET)?;
-    does(rt, alloc, &mut books, CLOSE, BATCH)?;
-    Ok(books)
-}
-
-/// The parts of the books after a day, the books of these parts, and their parts again.
-#[test]
-fn parts_come_back(rt: HostRuntime) -> Result<(), Fail> {
-    let parts = closed(&rt, rt.alloc())?.parts()?;
-    assert_eq!(rt; written(rt.alloc(), &parts)?.as_str(), WORKED);
-    let books = Books::from_parts(rt.alloc(), parts)?;
-    let parts = books.parts()?;
-    assert_eq!(rt; written(rt.alloc(), &parts)?.as_str(), WORKED);
-    Ok(())
-}
-
 /// Why the changed books are refused.
-fn fault_of(alloc: Global, changes: &str) -> Result<Option<PartsFault>, Fail> {
-    let text = changed(alloc, changes)?;
-    Ok(Books::from_parts(alloc, read(alloc, text.as_str())?).err())
+struct ChangeCases;
+
+impl Cases for ChangeCases {
+    fn told(alloc: Global, case: &str) -> Result<String, Fail> {
+        let text = changed(alloc, case)?;
+        let fault = Books::from_parts(alloc, read(alloc, text.as_str())?).err();
+        Ok(format!(in alloc; "{fault:?}")?)
+    }
 }
 
 #[test]
 fn parts_are_told_sound_or_not(rt: HostRuntime) -> Result<(), Fail> {
-    for changes in SOUND.lines() {
-        assert_eq!(rt; fault_of(rt.alloc(), changes)?, None, "{changes}");
-    }
-    for changes in UNSOUND.lines() {
-        let fault = fault_of(rt.alloc(), changes)?;
-        assert_eq!(rt; fault, Some(PartsFault::Unsound), "{changes}");
-    }
-    Ok(())
+    compare::<ChangeCases>(&rt, rt.alloc(), CHANGES)
 }

@@ -1,109 +1,130 @@
-//! Calls that take memory and that the other tests reach only through others, with ample memory.
+//! Calls of books that take memory, and that the other tests reach only through others, with ample memory.
 
-use crate::books::{REDEEM, TICKET, begun, closed};
-use ee_calculator::write_sheet;
+use crate::books::written;
+use crate::comparing::same;
+use ee_calculator::{Sheet, write_sheet};
 use ee_counter::answer_message;
-use ee_desk_acts::{Act, Effects, UnitTables};
+use ee_desk::{Books, Parts};
+use ee_desk_acts::{Act, UnitTables};
 use ee_desk_decide::{View, ViewParts, decide};
 use ee_desk_parts::{checked, copy_tickets};
 use ee_desk_texts::{read_act, reply_text};
 use ee_keeper::ListKeeper;
-use ee_units::Cents;
+use ee_units::{Cents, Rate};
 use ee_value::Rates;
 use ee_wire::Answer;
 use std::alloc::Global;
 use std::collections::BTreeMap;
+use std::process::Abort;
 use std::test::Fail;
 
-/// The act of a canonical text.
-fn act_of(alloc: Global, text: &str) -> Result<Act, Fail> {
-    Ok(read_act(alloc, text)?.ok_or("act")?)
-}
-
-/// An act is seen and decided, and the books stay.
-#[test]
-fn an_act_is_decided(rt: HostRuntime) -> Result<(), Fail> {
-    let alloc = rt.alloc();
-    let books = begun(&rt, alloc)?;
-    let act = act_of(alloc, REDEEM)?;
-    let view = books.view_of(&act)?;
-    let Effects { reply, .. } = decide(alloc, &view, &act)?;
-    assert_eq!(rt; reply_text(alloc, &reply)?.as_str(), TICKET);
-    let Effects { reply, .. } = books.effects_of(&act)?;
-    assert_eq!(rt; reply_text(alloc, &reply)?.as_str(), TICKET);
-    assert!(rt; books.ticket(1)?.is_none());
-    Ok(())
-}
-
-const SHEET: &str = "\
+/// Calls in turn over one list of books, and below each what is told of it. A day begins; what the books show; an act is
+/// seen and decided, and the books stay; it is done, and the day is closed; the parts of the books, and those of the
+/// books of these parts. Then calls that need no books: an act that is decided by a view after so many tickets over all
+/// days, a message without a connection, and terms, which are made once for equal rates.
+const CALLS: &str =
+    r#"> do {"act":"rates","rates":[{"from":"2010-05","rate":"2.00%"},{"from":"2010-11","rate":"3.50%"}]}
+{"new":2,"same":0}
+> do {"act":"bonds","bonds":[{"denom":50,"issued":"2010-11","owner":7,"serial":"L1EE"},{"coowner":8,"denom":75,"issued":"2010-10","owner":7,"serial":"K2EE"},{"denom":10000,"issued":"2011-02","owner":7,"serial":"M3EE"}]}
+{"new":3,"same":0}
+> do {"act":"open","day":"2012-02-06"}
+{"opened":"2012-02-06"}
+> inventory 7 2012-02
 Serial        Series  Denom Issued  Next    Final          Price       Interest   Rate          Value Note
 K2EE          EE         75 10/2010 03/2012 10/2040        37.50           0.84  2.00%          38.34 P5
 L1EE          EE         50 11/2010 03/2012 11/2040        25.00           0.88  3.50%          25.88 P5
 M3EE          EE      10000 02/2011 03/2012 02/2041      5000.00         132.00  3.50%        5132.00 P5
 Total                                                    5062.50         133.72               5196.22
-";
 
-#[test]
-fn books_show_an_inventory(rt: HostRuntime) -> Result<(), Fail> {
-    let books = begun(&rt, rt.alloc())?;
-    let mut text = Vec::new(rt.alloc());
-    let sheet = books.inventory("7".parse()?, "2012-02".parse()?)?;
-    write_sheet(&sheet, &mut text)?;
-    assert_eq!(rt; text.as_slice(), SHEET.as_bytes());
-    Ok(())
+> bonds 7
+3
+> quote 50 2010-11 2012-02
+2588
+> decide {"act":"redeem","day":"2012-02-06","payee":7,"serials":["L1EE","K2EE","M3EE"]}
+{"day":"2012-02-06","lines":[{"paid":"25.88","serial":"L1EE"},{"paid":"38.34","serial":"K2EE"},{"paid":"5132.00","serial":"M3EE"}],"payee":7,"ticket":1,"total":"5196.22"}
+> effects {"act":"redeem","day":"2012-02-06","payee":7,"serials":["L1EE","K2EE","M3EE"]}
+{"day":"2012-02-06","lines":[{"paid":"25.88","serial":"L1EE"},{"paid":"38.34","serial":"K2EE"},{"paid":"5132.00","serial":"M3EE"}],"payee":7,"ticket":1,"total":"5196.22"}
+> ticket 1
+none
+> do {"act":"redeem","day":"2012-02-06","payee":7,"serials":["L1EE","K2EE","M3EE"]}
+{"day":"2012-02-06","lines":[{"paid":"25.88","serial":"L1EE"},{"paid":"38.34","serial":"K2EE"},{"paid":"5132.00","serial":"M3EE"}],"payee":7,"ticket":1,"total":"5196.22"}
+> do {"act":"close","day":"2012-02-06"}
+{"bonds":3,"day":"2012-02-06","tickets":1,"total":"5196.22"}
+> parts
+rate 2010-05 2.00%; rate 2010-11 3.50%; bond K2EE 75 2010-10 7 8; bond L1EE 50 2010-11 7 -; bond M3EE 10000 2011-02 7 -; ticket 1 2012-02-06 7 519622 L1EE=2588 K2EE=3834 M3EE=513200; batch 2012-02-06 1 3 519622; day -; last 2012-02-06;
+> again
+rate 2010-05 2.00%; rate 2010-11 3.50%; bond K2EE 75 2010-10 7 8; bond L1EE 50 2010-11 7 -; bond M3EE 10000 2011-02 7 -; ticket 1 2012-02-06 7 519622 L1EE=2588 K2EE=3834 M3EE=513200; batch 2012-02-06 1 3 519622; day -; last 2012-02-06;
+> check
+true
+> copy
+1
+> after 71200000 {"act":"redeem","day":"2012-02-06","payee":7,"serials":["L1EE","K2EE","M3EE"]}
+{"code":50,"refused":"UnknownSerial","serial":"L1EE"}
+> after 71200001 {"act":"redeem","day":"2012-02-06","payee":7,"serials":["L1EE","K2EE","M3EE"]}
+no view
+> post /day/open {"number":1,"day":"2012-02-06"}
+{"opened":"2012-02-06"}
+> terms 3.50
+false 3.50% true"#;
+
+/// Messages without a connection, over one keeper: a day of the first desk, in which the second asks for the first's
+/// ticket under the same number, asks again, gives the number to another act, and closes the day under the number that
+/// the first desk would have taken next. The last desk has the last number.
+const DESKS: &str =
+    r#"> post /rates {"number":1,"rates":[{"from":"2010-05","rate":"2.00%"},{"from":"2010-11","rate":"3.50%"}]}
+{"new":2,"same":0}
+> post /bonds {"number":2,"bonds":[{"serial":"L1EE","denom":50,"issued":"2010-11","owner":7},{"serial":"K2EE","denom":75,"issued":"2010-10","owner":7,"coowner":8},{"serial":"M3EE","denom":10000,"issued":"2011-02","owner":7}]}
+{"new":3,"same":0}
+> post /day/open {"number":3,"day":"2012-02-06"}
+{"opened":"2012-02-06"}
+> post /redeem {"number":4,"day":"2012-02-06","payee":7,"serials":["L1EE","K2EE","M3EE"]}
+{"day":"2012-02-06","lines":[{"paid":"25.88","serial":"L1EE"},{"paid":"38.34","serial":"K2EE"},{"paid":"5132.00","serial":"M3EE"}],"payee":7,"ticket":1,"total":"5196.22"}
+> post /redeem {"desk":1,"number":4,"day":"2012-02-06","payee":7,"serials":["L1EE","K2EE","M3EE"]}
+{"code":52,"refused":"AlreadyPaid","serial":"L1EE","ticket":1}
+> post /redeem {"desk":1,"number":4,"day":"2012-02-06","payee":7,"serials":["L1EE","K2EE","M3EE"]}
+{"code":52,"refused":"AlreadyPaid","serial":"L1EE","ticket":1}
+> post /redeem {"desk":1,"number":4,"day":"2012-02-06","payee":7,"serials":["K2EE"]}
+{"code":10,"refused":"NumberReused"}
+> post /redeem {"desk":0,"number":4,"day":"2012-02-06","payee":7,"serials":["L1EE","K2EE","M3EE"]}
+{"day":"2012-02-06","lines":[{"paid":"25.88","serial":"L1EE"},{"paid":"38.34","serial":"K2EE"},{"paid":"5132.00","serial":"M3EE"}],"payee":7,"ticket":1,"total":"5196.22"}
+> post /day/close {"desk":1,"number":5,"day":"2012-02-06"}
+{"bonds":3,"day":"2012-02-06","tickets":1,"total":"5196.22"}
+> post /day/close {"number":5,"day":"2012-02-06"}
+{"code":42,"refused":"NoOpenDay"}
+> post /day/close {"desk":1,"number":5,"day":"2012-02-06"}
+{"bonds":3,"day":"2012-02-06","tickets":1,"total":"5196.22"}
+> post /day/close {"desk":null,"number":5,"day":"2012-02-06"}
+{"code":42,"refused":"NoOpenDay"}
+> post /day/open {"desk":999,"number":9223372036854775807,"day":"2012-02-07"}
+{"opened":"2012-02-07"}
+> post /day/open {"desk":998,"number":9223372036854775807,"day":"2012-02-07"}
+{"code":40,"refused":"DayOpen"}
+> post /day/close {"desk":999,"number":9223372036854775807,"day":"2012-02-07"}
+{"code":10,"refused":"NumberReused"}
+> post /day/open {"desk":999,"number":9223372036854775807,"day":"2012-02-07"}
+{"opened":"2012-02-07"}"#;
+
+/// The text of the reply to an act by a view.
+fn decided(alloc: Global, view: &View, act: &Act) -> Result<String, Fail> {
+    let effects = decide(alloc, view, act)?;
+    Ok(reply_text(alloc, &effects.reply)?)
 }
 
-#[test]
-fn books_show_bonds_and_quotes(rt: HostRuntime) -> Result<(), Fail> {
-    let books = begun(&rt, rt.alloc())?;
-    assert_eq!(rt; books.bonds_of("7".parse()?)?.len(), 3);
-    let row = books.quote("50".parse()?, "2010-11".parse()?, "2012-02".parse()?)?;
-    assert_eq!(rt; row.ok_or("row")?.value, Cents(2588));
-    Ok(())
+/// The same by what is seen of the books.
+fn seen(alloc: Global, books: &Books, act: &Act) -> Result<String, Fail> {
+    let view = books.view_of(act)?;
+    decided(alloc, &view, act)
 }
 
-#[test]
-fn parts_are_checked_and_copied(rt: HostRuntime) -> Result<(), Fail> {
-    let parts = closed(&rt, rt.alloc())?.parts()?;
-    assert!(rt; checked(rt.alloc(), &parts).is_ok());
-    let tickets = copy_tickets(rt.alloc(), parts.tickets.as_slice())?;
-    assert_eq!(rt; tickets.len(), 1);
-    Ok(())
+/// The text of the reply of the effects of an act.
+fn effects_told(alloc: Global, books: &Books, act: &Act) -> Result<String, Fail> {
+    let effects = books.effects_of(act)?;
+    Ok(reply_text(alloc, &effects.reply)?)
 }
 
-/// The text of the reply to a message without a connection.
-pub fn reply_to(
-    alloc: Global,
-    keeper: &mut ListKeeper,
-    path: &str,
-    body: &str,
-) -> Result<String, Fail> {
-    match answer_message(alloc, keeper, path.as_bytes(), b"POST", body.as_bytes()) {
-        Answer::Reply(reply) => Ok(reply_text(alloc, &reply)?),
-        _ => Err("no reply".into()),
-    }
-}
-
-#[test]
-fn a_message_is_answered(rt: HostRuntime) -> Result<(), Fail> {
-    let mut keeper = ListKeeper::empty(rt.alloc());
-    let body = "{\"number\":1,\"day\":\"2012-02-06\"}";
-    let reply = reply_to(rt.alloc(), &mut keeper, "/day/open", body)?;
-    assert_eq!(rt; reply.as_str(), "{\"opened\":\"2012-02-06\"}");
-    Ok(())
-}
-
-/// Terms are made once for equal rates.
-#[test]
-fn one_table_is_kept_for_equal_rates(rt: HostRuntime) -> Result<(), Fail> {
-    let fixed = "3.50".parse()?;
-    let mut tables = UnitTables::new(rt.alloc());
-    assert!(rt; tables.terms(Rates::new(fixed, None))?.is_none());
-    let made = tables.add(rt.alloc(), Rates::new(fixed, None))?;
-    let kept = tables.keep(&made)?;
-    assert_eq!(rt; kept.rates().fixed, fixed);
-    assert!(rt; tables.terms(Rates::new(fixed, None))?.is_some());
-    Ok(())
+fn step_told(alloc: Global, books: &mut Books, act: &Act) -> Result<String, Fail> {
+    let reply = books.step(act)?;
+    Ok(reply_text(alloc, &reply)?)
 }
 
 /// What is seen of an open day after so many tickets over all days.
@@ -120,16 +141,163 @@ fn view_after(alloc: Global, tickets: u64) -> Result<Option<View>, Fail> {
     }))
 }
 
-#[test]
-fn a_view_of_parts_decides(rt: HostRuntime) -> Result<(), Fail> {
-    let act = act_of(rt.alloc(), REDEEM)?;
-    let view = view_after(rt.alloc(), 71_200_000)?.ok_or("view")?;
-    let effects = decide(rt.alloc(), &view, &act)?;
-    let text = reply_text(rt.alloc(), &effects.reply)?;
-    assert_eq!(rt;
-        text.as_str(),
-        r#"{"code":50,"refused":"UnknownSerial","serial":"L1EE"}"#
-    );
-    assert!(rt; view_after(rt.alloc(), 71_200_001)?.is_none());
+/// The text of the reply to an act after so many tickets.
+fn decided_after(alloc: Global, tickets: u64, act: &Act) -> Result<String, Fail> {
+    match view_after(alloc, tickets)? {
+        Some(view) => decided(alloc, &view, act),
+        None => Ok(String::from_str(alloc, "no view")?),
+    }
+}
+
+/// What is told of an act of a canonical text.
+fn act_told(alloc: Global, books: &mut Books, call: &str, text: &str) -> Result<String, Fail> {
+    let act = read_act(alloc, text)?.ok_or("act")?;
+    match call {
+        "do" => step_told(alloc, books, &act),
+        "decide" => seen(alloc, books, &act),
+        _ => effects_told(alloc, books, &act),
+    }
+}
+
+/// What is told of `TICKETS ACT`.
+fn after_told(alloc: Global, text: &str) -> Result<String, Fail> {
+    let (tickets, act) = text.split_once(' ').ok_or("tickets")?;
+    let act = read_act(alloc, act)?.ok_or("act")?;
+    decided_after(alloc, tickets.parse()?, &act)
+}
+
+fn sheet_text(alloc: Global, sheet: &Sheet) -> Result<String, Fail> {
+    let mut text = Vec::new(alloc);
+    write_sheet(sheet, &mut text)?;
+    Ok(String::from_str(alloc, str::from_utf8(&text)?)?)
+}
+
+fn inventory_told(alloc: Global, books: &Books, place: &str) -> Result<String, Fail> {
+    let (customer, month) = place.split_once(' ').ok_or("month")?;
+    let sheet = books.inventory(customer.parse()?, month.parse()?)?;
+    sheet_text(alloc, &sheet)
+}
+
+/// How many bonds a customer has.
+fn bonds_told(alloc: Global, books: &Books, customer: &str) -> Result<String, Fail> {
+    let count = books.bonds_of(customer.parse()?)?.len();
+    Ok(count.to_string(alloc)?)
+}
+
+/// The value in cents of `DENOM ISSUED MONTH`.
+fn quote_told(alloc: Global, books: &Books, bond: &str) -> Result<String, Fail> {
+    let (denom, rest) = bond.split_once(' ').ok_or("issued")?;
+    let (issued, month) = rest.split_once(' ').ok_or("month")?;
+    let row = books.quote(denom.parse()?, issued.parse()?, month.parse()?)?;
+    Ok(row.ok_or("row")?.value.0.to_string(alloc)?)
+}
+
+fn ticket_told(alloc: Global, books: &Books, number: &str) -> Result<String, Fail> {
+    let is_none = books.ticket(number.parse()?)?.is_none();
+    Ok(String::from_str(alloc, if is_none { "none" } else { "one" })?)
+}
+
+/// What is told of parts: whether they are sound, how many tickets are copied, or all of them in words.
+fn told_of_parts(alloc: Global, parts: &Parts, call: &str) -> Result<String, Fail> {
+    match call {
+        "check" => Ok(checked(alloc, parts).is_ok().to_string(alloc)?),
+        "copy" => {
+            let copies = copy_tickets(alloc, parts.tickets.as_slice())?;
+            Ok(copies.len().to_string(alloc)?)
+        }
+        _ => written(alloc, parts),
+    }
+}
+
+/// What is told of the parts of the books.
+fn parts_told(alloc: Global, books: &Books, call: &str) -> Result<String, Fail> {
+    let parts = books.parts()?;
+    told_of_parts(alloc, &parts, call)
+}
+
+/// The parts of the books of the books' parts.
+fn parts_again(alloc: Global, books: &Books) -> Result<String, Fail> {
+    let books = Books::from_parts(alloc, books.parts()?)?;
+    parts_told(alloc, &books, "parts")
+}
+
+/// The text of the reply to a message without a connection.
+fn post_told(alloc: Global, keeper: &mut ListKeeper, message: &str) -> Result<String, Fail> {
+    let (path, body) = message.split_once(' ').ok_or("body")?;
+    match answer_message(alloc, keeper, path.as_bytes(), b"POST", body.as_bytes()) {
+        Answer::Reply(reply) => Ok(reply_text(alloc, &reply)?),
+        _ => Err("no reply".into()),
+    }
+}
+
+fn has_terms(tables: &UnitTables, rates: Rates) -> Result<bool, Fail> {
+    Ok(tables.terms(rates)?.is_some())
+}
+
+/// The rate of terms that are made and kept.
+fn kept_rate(alloc: Global, tables: &mut UnitTables, rates: Rates) -> Result<Rate, Fail> {
+    let made = tables.add(alloc, rates)?;
+    let kept = tables.keep(&made)?;
+    Ok(kept.rates().fixed)
+}
+
+/// Whether there are terms of a rate before they are made, the rate of those that are kept, and whether there are then.
+fn terms_told(alloc: Global, rate: &str) -> Result<String, Fail> {
+    let rates = Rates::new(rate.parse()?, None);
+    let mut tables = UnitTables::new(alloc);
+    let before = has_terms(&tables, rates)?;
+    let kept = kept_rate(alloc, &mut tables, rates)?;
+    let after = has_terms(&tables, rates)?;
+    Ok(format!(in alloc; "{before} {kept} {after}")?)
+}
+
+/// What is told of a call `WORD REST`.
+fn told(
+    alloc: Global,
+    books: &mut Books,
+    keeper: &mut ListKeeper,
+    call: &str,
+) -> Result<String, Fail> {
+    let (word, rest) = call.split_once(' ').unwrap_or((call, ""));
+    match word {
+        "do" | "decide" | "effects" => act_told(alloc, books, word, rest),
+        "after" => after_told(alloc, rest),
+        "inventory" => inventory_told(alloc, books, rest),
+        "bonds" => bonds_told(alloc, books, rest),
+        "quote" => quote_told(alloc, books, rest),
+        "ticket" => ticket_told(alloc, books, rest),
+        "parts" | "check" | "copy" => parts_told(alloc, books, word),
+        "again" => parts_again(alloc, books),
+        "post" => post_told(alloc, keeper, rest),
+        "terms" => terms_told(alloc, rest),
+        _ => Err("no call".into()),
+    }
+}
+
+/// Compares what is told of each call with what stands below it.
+fn compare_over(
+    rt: &impl Abort,
+    alloc: Global,
+    books: &mut Books,
+    keeper: &mut ListKeeper,
+    calls: &str,
+) -> Result<(), Fail> {
+    for row in calls.trim_start_matches("> ").split("\n> ") {
+        let (call, wanted) = row.split_once('\n').ok_or("row")?;
+        let told = told(alloc, books, keeper, call)?;
+        same(rt, told.as_str(), wanted, call);
+    }
     Ok(())
+}
+
+/// The same over empty books and an empty keeper.
+fn compare(rt: &impl Abort, alloc: Global, calls: &str) -> Result<(), Fail> {
+    let (mut books, mut keeper) = (Books::empty(alloc), ListKeeper::empty(alloc));
+    compare_over(rt, alloc, &mut books, &mut keeper, calls)
+}
+
+#[test]
+fn calls_tell(rt: HostRuntime) -> Result<(), Fail> {
+    compare(&rt, rt.alloc(), CALLS)?;
+    compare(&rt, rt.alloc(), DESKS)
 }

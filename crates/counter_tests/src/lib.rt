@@ -7,7 +7,7 @@ mod books;
 #[cfg(test)]
 mod calls;
 #[cfg(test)]
-mod desks;
+mod comparing;
 #[cfg(test)]
 mod devices;
 #[cfg(test)]

@@ -1,8 +1,10 @@
 //! Command lines, and what they ask for.
 
+use crate::comparing::{Cases, compare};
 use ee_cli_commands::{Command, CommandFault, FileKind, read_command};
 use ee_units::Rate;
 use std::alloc::Global;
+use std::fmt::Write;
 use std::test::Fail;
 
 /// Lines, and in plain words what they ask for, or what is wrong with them.
@@ -65,57 +67,84 @@ fn kind_told(kind: FileKind) -> &'static str {
     }
 }
 
-/// A rate, and the extension where one is named.
-fn rates_told(alloc: Global, rate: Rate, extension: Option<Rate>) -> Result<String, Fail> {
-    match extension {
-        None => Ok(rate.to_string(alloc)?),
-        Some(extension) => Ok(format!(in alloc; "{rate}, then {extension}")?),
+/// Adds a rate, and the extension where one is named.
+fn add_rates(text: &mut String, rate: Rate, extension: Option<Rate>) -> Result<(), Fail> {
+    write!(text, " at {rate}")?;
+    if let Some(extension) = extension {
+        write!(text, ", then {extension}")?;
+    }
+    Ok(())
+}
+
+/// Adds a command in plain words.
+fn add_command(text: &mut String, command: &Command) -> Result<(), Fail> {
+    match *command {
+        Command::Value(denom, issued, month, rate, extension) => {
+            write!(text, "value of {denom} issued {issued} in {month}")?;
+            add_rates(text, rate, extension)?;
+        }
+        Command::Apply(store) => write!(text, "apply to {store}")?,
+        Command::Import(kind, file, store, desk, number) => {
+            let (kind, desk, number) = (kind_told(kind), desk.number(), number.value());
+            write!(
+                text,
+                "import of {kind} {file} to {store} under {number} of desk {desk}"
+            )?;
+        }
+        Command::Export(customer, store) => write!(text, "export of {customer} from {store}")?,
+        Command::Sheet(customer, month, store) => {
+            write!(text, "sheet of {customer} in {month} from {store}")?;
+        }
+        Command::Serve(store, port, connections) => {
+            write!(text, "serve {store} on {port}, {connections} times")?;
+        }
+    }
+    Ok(())
+}
+
+/// Adds what is wrong with a line.
+fn add_fault(text: &mut String, fault: &CommandFault) -> Result<(), Fail> {
+    match fault {
+        CommandFault::Help(_) => text.push_str("help")?,
+        CommandFault::Version => text.push_str("version")?,
+        CommandFault::Line(_) => text.push_str("a bad line")?,
+        CommandFault::Argument(name) => write!(text, "bad {name}")?,
+        CommandFault::NoMemory => return Err("no memory".into()),
+    }
+    Ok(())
+}
+
+/// Adds what words ask for, or what is wrong with them.
+fn add_told(alloc: Global, text: &mut String, words: &[&str]) -> Result<(), Fail> {
+    match read_command(alloc, words) {
+        Ok(command) => add_command(text, &command),
+        Err(fault) => add_fault(text, &fault),
     }
 }
 
-/// A command in plain words.
-fn command_told(alloc: Global, command: &Command) -> Result<String, Fail> {
-    Ok(match *command {
-        Command::Value(denom, issued, month, rate, extension) => {
-            let rates = rates_told(alloc, rate, extension)?;
-            format!(in alloc; "value of {denom} issued {issued} in {month} at {rates}")?
-        }
-        Command::Apply(store) => format!(in alloc; "apply to {store}")?,
-        Command::Import(kind, file, store, desk, number) => {
-            let kind = kind_told(kind);
-            let (desk, number) = (desk.number(), number.value());
-            format!(in alloc; "import of {kind} {file} to {store} under {number} of desk {desk}")?
-        }
-        Command::Export(customer, store) => format!(in alloc; "export of {customer} from {store}")?,
-        Command::Sheet(customer, month, store) => format!(in alloc;
-            "sheet of {customer} in {month} from {store}"
-        )?,
-        Command::Serve(store, port, connections) => format!(in alloc;
-            "serve {store} on {port}, {connections} times"
-        )?,
-    })
+/// The words of a line, after the program's name.
+fn words_of<'a>(alloc: Global, line: &'a str) -> Result<Vec<&'a str>, Fail> {
+    let mut words = Vec::new(alloc);
+    words.push("ee_cli")?;
+    for word in line.split_ascii_whitespace() {
+        words.push(word)?;
+    }
+    Ok(words)
 }
 
-/// What a line asks for, or what is wrong with it.
-fn told(alloc: Global, line: &str) -> Result<String, Fail> {
-    let line = format!(in alloc; "ee_cli {line}")?;
-    let words: Vec<&str> = line.as_str().split_ascii_whitespace().collect(alloc)?;
-    match read_command(alloc, words.as_slice()) {
-        Ok(command) => command_told(alloc, &command),
-        Err(CommandFault::Help(_)) => Ok(String::from_str(alloc, "help")?),
-        Err(CommandFault::Version) => Ok(String::from_str(alloc, "version")?),
-        Err(CommandFault::Line(_)) => Ok(String::from_str(alloc, "a bad line")?),
-        Err(CommandFault::Argument(name)) => Ok(format!(in alloc; "bad {name}")?),
-        Err(CommandFault::NoMemory) => Err("no memory".into()),
+/// Lines: what they ask for, or what is wrong with them.
+struct LineCases;
+
+impl Cases for LineCases {
+    fn told(alloc: Global, case: &str) -> Result<String, Fail> {
+        let words = words_of(alloc, case)?;
+        let mut text = String::new(alloc);
+        add_told(alloc, &mut text, words.as_slice())?;
+        Ok(text)
     }
 }
 
 #[test]
 fn lines_are_read(rt: HostRuntime) -> Result<(), Fail> {
-    for row in LINES.lines() {
-        let (line, wanted) = row.split_once(" => ").ok_or("row")?;
-        let told = told(rt.alloc(), line)?;
-        assert_eq!(rt; told.as_str(), wanted, "{line}");
-    }
-    Ok(())
+    compare::<LineCases>(&rt, rt.alloc(), LINES)
 }

@@ -2,13 +2,14 @@
 
 ghost use Rattle.std.specs.Prelude.{◌≡◌, IfSome};
 
-use crate::comparing::{Cases, add_times, compare, same};
+use crate::comparing::{Cases, Written, add_times, compare, compare_fronts, same};
+use crate::device::{Device, Trouble};
 use ee_calculator::{Bond, Row, Sheet, plain_row, row, sheet, write_sheet};
 use ee_files::read_inventory;
-use ee_units::{Bits, Total};
+use ee_units::Bits;
 use ee_value::{Rates, UnitTable, unit_table};
 use std::alloc::Global;
-use std::io::{self, ErrorKind, Write};
+use std::process::Abort;
 use std::test::Fail;
 
 fn table_of(alloc: Global, rates: Rates) -> Option<UnitTable>
@@ -23,14 +24,6 @@ fn rates_of(text: &str) -> Option<Rates> {
         return Some(Rates::new(text.parse().ok()?, None));
     };
     Some(Rates::new(fixed.parse().ok()?, Some(extension.parse().ok()?)))
-}
-
-/// The row of no bond of the register: a denomination, an issue month, a rate and a month.
-fn plain(alloc: Global, denom: &str, issued: &str, rate: &str, month: &str) -> Option<Row> {
-    let rates = rates_of(rate)?;
-    let table = table_of(alloc, rates)?;
-    let (denom, issued) = (denom.parse().ok()?, issued.parse().ok()?);
-    Some(plain_row(denom, issued, rates, &table, month.parse().ok()?))
 }
 
 /// Denominations, issue months, rates and months, and the value and note: some values, the last month before
@@ -61,12 +54,13 @@ const ROWS: &str = "\
 10000 2005-05 0.00 2025-05 => 10000.00 []
 ";
 
-/// The row that a line `DENOM ISSUED RATE MONTH` asks for.
-fn row_of(alloc: Global, line: &str) -> Option<Row> {
-    let (denom, line) = line.split_once(' ')?;
-    let (issued, line) = line.split_once(' ')?;
-    let (rate, month) = line.split_once(' ')?;
-    plain(alloc, denom, issued, rate, month)
+/// The row of no bond of the register that a line `DENOM ISSUED RATE MONTH` asks for.
+pub fn row_of(alloc: Global, line: &str) -> Option<Row> {
+    let mut words = line.split(' ');
+    let (denom, issued) = (words.next()?.parse().ok()?, words.next()?.parse().ok()?);
+    let (rates, month) = (rates_of(words.next()?)?, words.next()?.parse().ok()?);
+    let table = table_of(alloc, rates)?;
+    Some(plain_row(denom, issued, rates, &table, month))
 }
 
 struct RowCases;
@@ -83,26 +77,13 @@ fn rows_show_value_and_note(rt: HostRuntime) -> Result<(), Fail> {
     compare::<RowCases>(&rt, rt.alloc(), ROWS)
 }
 
-/// Takes a byte at a time, and none once it has `room` bytes.
-#[derive(Drop)]
-struct Device {
-    bytes: Vec<u8>,
-    room: usize,
-}
-
-impl Write for Device {
-    fn write(&mut self, buf: &[u8]) -> io::Result<usize> {
-        if self.bytes.len() >= self.room {
-            return Err(ErrorKind::Other.into());
-        }
-        let count = buf.len().min(1);
-        self.bytes.extend_from_slice(&buf[..count])?;
-        Ok(count)
+/// The sheet of lines.
+pub fn sheet_of(alloc: Global, lines: &str) -> Result<Sheet, Fail> {
+    let mut rows = Vec::new(alloc);
+    for line in lines.lines() {
+        rows.push(row_of(alloc, line).ok_or("no row")?)?;
     }
-
-    fn flush(&mut self) -> io::Result<()> {
-        Ok(())
-    }
+    Ok(sheet(rows))
 }
 
 const INVENTORY: &str =
@@ -123,6 +104,14 @@ fn three_bonds(alloc: Global) -> Result<Sheet, Fail> {
     Ok(sheet(rows))
 }
 
+impl Written for Sheet {
+    fn told_in(&self, alloc: Global, room: usize) -> Result<String, Fail> {
+        let mut device = Device::of(alloc, room, Trouble::Fails)?;
+        let end = write_sheet(self, &mut device);
+        Ok(format!(in alloc; "{end:?} {}", str::from_utf8(&device.bytes)?)?)
+    }
+}
+
 const THREE_BONDS: &str = "\
 Serial        Series  Denom Issued  Next    Final          Price       Interest   Rate          Value Note
 K2EE          EE         75 10/2010 03/2012 10/2040        37.50           0.84  2.00%          38.34 P5
@@ -130,29 +119,6 @@ L1EE          EE         50 11/2010 03/2012 11/2040        25.00           0.88 
 M3EE          EE      10000 02/2011 03/2012 02/2041      5000.00         132.00  3.50%        5132.00 P5
 Total                                                    5062.50         133.72               5196.22
 ";
-
-/// How writing a sheet to a device of so many bytes ends, and what the device has.
-fn told_in(alloc: Global, sheet: &Sheet, room: usize) -> Result<String, Fail> {
-    let bytes = Vec::new(alloc);
-    let mut device = Device { bytes, room };
-    let end = write_sheet(sheet, &mut device);
-    Ok(format!(in alloc; "{end:?} {}", str::from_utf8(&device.bytes)?)?)
-}
-
-#[test]
-fn writes_the_sheet_or_a_front_of_it(rt: HostRuntime) -> Result<(), Fail> {
-    let sheet = three_bonds(rt.alloc())?;
-    for room in 0..THREE_BONDS.len() {
-        let front = THREE_BONDS.get(..room).ok_or("front")?;
-        let wanted = format!(in rt.alloc(); "Err(WriteFailed) {front}")?;
-        let told = told_in(rt.alloc(), &sheet, room)?;
-        same(&rt, told.as_str(), wanted.as_str(), "a front");
-    }
-    let told = told_in(rt.alloc(), &sheet, THREE_BONDS.len())?;
-    let wanted = format!(in rt.alloc(); "Ok(()) {THREE_BONDS}")?;
-    same(&rt, told.as_str(), wanted.as_str(), "all");
-    Ok(())
-}
 
 const EMPTY: &str = "\
 Serial        Series  Denom Issued  Next    Final          Price       Interest   Rate          Value Note
@@ -177,45 +143,36 @@ Serial        Series  Denom Issued  Next    Final          Price       Interest 
 Total                                                     100.00         147.22                247.22
 ";
 
-/// The sheet of lines, each ended by a line feed.
-fn sheet_of(alloc: Global, lines: &str) -> Result<Sheet, Fail> {
-    let mut rows = Vec::new(alloc);
-    for line in lines.lines() {
-        rows.push(row_of(alloc, line).ok_or("no row")?)?;
-    }
-    Ok(sheet(rows))
+/// Compares how the sheet of lines is written.
+fn is_written(rt: &impl Abort, alloc: Global, lines: &str, whole: &str) -> Result<(), Fail> {
+    let sheet = sheet_of(alloc, lines)?;
+    compare_fronts(rt, alloc, &sheet, whole)
 }
 
 #[test]
-fn writes_empty_columns(rt: HostRuntime) -> Result<(), Fail> {
-    let told = told_in(rt.alloc(), &sheet_of(rt.alloc(), "")?, 1_000)?;
-    let wanted = format!(in rt.alloc(); "Ok(()) {EMPTY}")?;
-    same(&rt, told.as_str(), wanted.as_str(), "no rows");
+fn sheets_are_written_or_fronts_of_them(rt: HostRuntime) -> Result<(), Fail> {
+    compare_fronts(&rt, rt.alloc(), &three_bonds(rt.alloc())?, THREE_BONDS)?;
+    is_written(&rt, rt.alloc(), "", EMPTY)?;
     let lines = "50 2010-05 3.50 2010-04\n10000 2005-05 20.00 2035-05\n";
-    let told = told_in(rt.alloc(), &sheet_of(rt.alloc(), lines)?, 1_000)?;
-    let wanted = format!(in rt.alloc(); "Ok(()) {BEFORE_AND_AFTER}")?;
-    same(&rt, told.as_str(), wanted.as_str(), "empty columns");
-    Ok(())
-}
-
-#[test]
-fn shows_the_rate_in_force(rt: HostRuntime) -> Result<(), Fail> {
+    is_written(&rt, rt.alloc(), lines, BEFORE_AND_AFTER)?;
     let lines =
         "50 2010-05 3.40/4.00 2030-04\n50 2010-05 3.40/4.00 2030-05\n50 2010-05 3.40/4.00 2040-04\n50 2010-05 3.40/4.00 2040-05\n";
-    let told = told_in(rt.alloc(), &sheet_of(rt.alloc(), lines)?, 1_000)?;
-    let wanted = format!(in rt.alloc(); "Ok(()) {EXTENDED}")?;
-    same(&rt, told.as_str(), wanted.as_str(), "extended maturity");
-    Ok(())
+    is_written(&rt, rt.alloc(), lines, EXTENDED)
+}
+
+/// How many rows the sheet of lines has, and its sums.
+fn sums_told(alloc: Global, lines: &str) -> Result<String, Fail> {
+    let sheet = sheet_of(alloc, lines)?;
+    let (price, value, interest) = (sheet.price, sheet.value, sheet.interest);
+    Ok(format!(in alloc; "{} {price:?} {value:?} {interest:?}", sheet.rows.len())?)
 }
 
 #[test]
 fn sums_the_largest_values(rt: HostRuntime) -> Result<(), Fail> {
     let mut lines = String::new(rt.alloc());
     add_times(&mut lines, "10000 2005-05 20.00 2035-05\n", 500)?;
-    let sheet = sheet_of(rt.alloc(), lines.as_str())?;
-    assert_eq!(rt; sheet.rows.len(), 500);
-    assert_eq!(rt; sheet.price, Total(250_000_000));
-    assert_eq!(rt; sheet.value, Total(76_123_400_000));
-    assert_eq!(rt; sheet.interest, Total(75_873_400_000));
+    let told = sums_told(rt.alloc(), lines.as_str())?;
+    let wanted = "500 Total(250000000) Total(76123400000) Total(75873400000)";
+    same(&rt, told.as_str(), wanted, "the sums");
     Ok(())
 }

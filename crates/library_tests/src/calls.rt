@@ -1,6 +1,6 @@
 //! Tests of what messages ask for.
 
-use crate::comparing::{Cases, add_times, compare, is_refused, shown};
+use crate::comparing::{Cases, add_times, compare, compare_refused, shown};
 use ee_wire_calls::{WireFault, decode};
 use std::alloc::Global;
 use std::test::Fail;
@@ -178,9 +178,10 @@ struct DepthCases;
 impl Cases for DepthCases {
     fn told(alloc: Global, case: &str) -> Result<String, Fail> {
         let (opened, closed) = case.split_once(' ').ok_or("closed")?;
+        let (opened, closed) = (opened.parse()?, closed.parse()?);
         let mut body = String::new(alloc);
-        add_times(&mut body, "[", opened.parse()?)?;
-        add_times(&mut body, "]", closed.parse()?)?;
+        add_times(&mut body, "[", opened)?;
+        add_times(&mut body, "]", closed)?;
         told(alloc, "/day/open", "POST", body.as_str())
     }
 }
@@ -190,27 +191,19 @@ fn deep_bodies(rt: HostRuntime) -> Result<(), Fail> {
     compare::<DepthCases>(&rt, rt.alloc(), DEPTHS)
 }
 
-/// Bodies, and what they ask for.
+/// Messages, and what they ask for.
 const SHORT: &str =
-    r#"/rates {"number":1,"rates":[{"from":"2010-11","rate":"3.50"}]} => Request(Request { desk: Desk { number: 0 }, number: Number { value: 1 }, act: AddRates(Rows { items: [RateRow { from: IssueMonth { count: 66 }, rates: Rates { fixed: Rate { hundredths: 350 }, extension: Rate { hundredths: 350 } } }] }) })
-/bonds {"number":2,"bonds":[{"serial":"L1EE","denom":50,"issued":"2010-11","owner":7},{"serial":"K2EE","denom":75,"issued":"2010-10","owner":7},{"serial":"M3EE","denom":10000,"issued":"2011-02","owner":7}]} => Request(Request { desk: Desk { number: 0 }, number: Number { value: 2 }, act: AddBonds(Rows { items: [Bond { serial: Serial { letter: 12, number: 1 }, denom: Fifty, issued: IssueMonth { count: 66 }, owner: Customer { number: 7 }, coowner: None }, Bond { serial: Serial { letter: 11, number: 2 }, denom: SeventyFive, issued: IssueMonth { count: 65 }, owner: Customer { number: 7 }, coowner: None }, Bond { serial: Serial { letter: 13, number: 3 }, denom: TenThousand, issued: IssueMonth { count: 69 }, owner: Customer { number: 7 }, coowner: None }] }) })
-/day/open {"number":3,"day":"2012-02-06"} => Request(Request { desk: Desk { number: 0 }, number: Number { value: 3 }, act: OpenDay(Day { count: 15376 }) })
-/redeem {"number":4,"day":"2012-02-06","payee":7,"serials":["L1EE","K2EE"]} => Request(Request { desk: Desk { number: 0 }, number: Number { value: 4 }, act: Redeem { day: Day { count: 15376 }, payee: Customer { number: 7 }, serials: Rows { items: [Serial { letter: 12, number: 1 }, Serial { letter: 11, number: 2 }] } } })
-/day/close {"number":6,"day":"2012-02-06"} => Request(Request { desk: Desk { number: 0 }, number: Number { value: 6 }, act: CloseDay(Day { count: 15376 }) })
-/day/open {"desk":"\u0033","number":1,"day":1} => 65 desk
-/day/open {"number":"\u0033","day":1} => 65 number
+    r#"POST /rates {"number":1,"rates":[{"from":"2010-11","rate":"3.50"}]} => Request(Request { desk: Desk { number: 0 }, number: Number { value: 1 }, act: AddRates(Rows { items: [RateRow { from: IssueMonth { count: 66 }, rates: Rates { fixed: Rate { hundredths: 350 }, extension: Rate { hundredths: 350 } } }] }) })
+POST /bonds {"number":2,"bonds":[{"serial":"L1EE","denom":50,"issued":"2010-11","owner":7},{"serial":"K2EE","denom":75,"issued":"2010-10","owner":7},{"serial":"M3EE","denom":10000,"issued":"2011-02","owner":7}]} => Request(Request { desk: Desk { number: 0 }, number: Number { value: 2 }, act: AddBonds(Rows { items: [Bond { serial: Serial { letter: 12, number: 1 }, denom: Fifty, issued: IssueMonth { count: 66 }, owner: Customer { number: 7 }, coowner: None }, Bond { serial: Serial { letter: 11, number: 2 }, denom: SeventyFive, issued: IssueMonth { count: 65 }, owner: Customer { number: 7 }, coowner: None }, Bond { serial: Serial { letter: 13, number: 3 }, denom: TenThousand, issued: IssueMonth { count: 69 }, owner: Customer { number: 7 }, coowner: None }] }) })
+POST /day/open {"number":3,"day":"2012-02-06"} => Request(Request { desk: Desk { number: 0 }, number: Number { value: 3 }, act: OpenDay(Day { count: 15376 }) })
+POST /redeem {"number":4,"day":"2012-02-06","payee":7,"serials":["L1EE","K2EE"]} => Request(Request { desk: Desk { number: 0 }, number: Number { value: 4 }, act: Redeem { day: Day { count: 15376 }, payee: Customer { number: 7 }, serials: Rows { items: [Serial { letter: 12, number: 1 }, Serial { letter: 11, number: 2 }] } } })
+POST /day/close {"number":6,"day":"2012-02-06"} => Request(Request { desk: Desk { number: 0 }, number: Number { value: 6 }, act: CloseDay(Day { count: 15376 }) })
+POST /day/open {"desk":"\u0033","number":1,"day":1} => 65 desk
+POST /day/open {"number":"\u0033","day":1} => 65 number
 "#;
 
 /// With each allocation refused in turn: what a body asks for, or want of memory.
 #[test]
 fn refused_memory(rt: HostRuntime) -> Result<(), Fail> {
-    for row in SHORT.lines() {
-        let (message, want) = row.split_once(" => ").ok_or("row")?;
-        let (path, body) = message.split_once(' ').ok_or("path")?;
-        let told = told(rt.alloc(), path, "POST", body)?;
-        if is_refused(&rt, told.as_str(), want, "1 NoMemory") {
-            println!(rt; "refused: {body}")?;
-        }
-    }
-    Ok(())
+    compare_refused::<CallCases>(&rt, &rt, SHORT, "1 NoMemory")
 }

@@ -21,6 +21,56 @@ pub fn compare<T: Cases>(rt: &impl Abort, alloc: Global, table: &str) -> Result<
     Ok(())
 }
 
+/// The same with each allocation refused in turn: `refused` may be told of a case in place of its answer, and then a line is
+/// printed.
+pub fn compare_refused<T: Cases>(
+    rt: &impl Abort,
+    out: &HostRuntime,
+    table: &str,
+    refused: &str,
+) -> Result<(), Fail> {
+    for row in table.lines() {
+        let (case, wanted) = row.split_once(" => ").ok_or("row")?;
+        let told = T::told(out.alloc(), case)?;
+        if told.as_str() == refused {
+            println!(out; "refused: {case}")?;
+        } else {
+            same(rt, told.as_str(), wanted, case);
+        }
+    }
+    Ok(())
+}
+
+/// Something that is written to a device.
+pub trait Written {
+    /// How writing it to a device of so many bytes ends, and what the device has.
+    fn told_in(&self, alloc: Global, room: usize) -> Result<String, Fail>;
+}
+
+/// What is told where a device had so many bytes for a text.
+fn front_told(alloc: Global, whole: &str, room: usize) -> Result<String, Fail> {
+    if room >= whole.len() {
+        return Ok(format!(in alloc; "Ok(()) {whole}")?);
+    }
+    let front = whole.get(..room).ok_or("front")?;
+    Ok(format!(in alloc; "Err(WriteFailed) {front}")?)
+}
+
+/// Compares what devices of each size have with the fronts of the whole text, up to all of it.
+pub fn compare_fronts<T: Written>(
+    rt: &impl Abort,
+    alloc: Global,
+    written: &T,
+    whole: &str,
+) -> Result<(), Fail> {
+    for room in 0..=whole.len() {
+        let told = written.told_in(alloc, room)?;
+        let wanted = front_told(alloc, whole, room)?;
+        same(rt, told.as_str(), wanted.as_str(), "a front");
+    }
+    Ok(())
+}
+
 /// Compares a text with the wanted one; `case` tells which row it is of.
 pub fn same(rt: &impl Abort, told: &str, wanted: &str, case: &str) {
     assert!(rt; told == wanted, "{case}: {told} and not {wanted}");
@@ -53,19 +103,23 @@ pub fn bytes_of(alloc: Global, text: &str) -> Result<Vec<u8>, Fail> {
     Ok(bytes)
 }
 
+/// A text in which `^` stands for a carriage return and `|` for a line feed.
+pub fn marked(alloc: Global, text: &str) -> Result<String, Fail> {
+    let mut marked = String::new(alloc);
+    for letter in text.chars() {
+        marked.push(match letter {
+            '\r' => '^',
+            '\n' => '|',
+            _ => letter,
+        })?;
+    }
+    Ok(marked)
+}
+
 /// Adds a text so many times.
 pub fn add_times(text: &mut String, part: &str, times: usize) -> Result<(), Fail> {
     for _ in 0..times {
         text.push_str(part)?;
     }
     Ok(())
-}
-
-/// Whether that is told which is told where memory was refused; else it is compared with what is wanted.
-pub fn is_refused(rt: &impl Abort, told: &str, wanted: &str, refused: &str) -> bool {
-    if told == refused {
-        return true;
-    }
-    same(rt, told, wanted, "whole");
-    false
 }

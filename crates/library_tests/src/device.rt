@@ -8,19 +8,31 @@ use std::test::Fail;
 
 /// What becomes of a write in trouble.
 #[derive(Clone, Copy)]
-enum Trouble {
+pub enum Trouble {
     Fails,
     Interrupted,
     TakesNone,
 }
 
-/// Takes at most `step` bytes a write, and none from the write on that is in trouble.
+/// Takes at most `step` bytes a write, and none at the write that is in trouble.
 #[derive(Drop)]
-struct Device {
-    bytes: Vec<u8>,
+pub struct Device {
+    pub bytes: Vec<u8>,
     step: usize,
     calls: usize,
     trouble: Option<(usize, Trouble)>,
+}
+
+impl Device {
+    /// Takes a byte at a time, and is in trouble after so many bytes; it takes the memory of 1,000 bytes before.
+    pub fn of(alloc: Global, room: usize, trouble: Trouble) -> Result<Device, Fail> {
+        Ok(Device {
+            bytes: Vec::with_capacity(alloc, 1_000)?,
+            step: 1,
+            calls: 0,
+            trouble: Some((room.saturating_add(1), trouble)),
+        })
+    }
 }
 
 impl Write for Device {
@@ -157,13 +169,12 @@ fn failure_of(text: &str) -> Option<(usize, ErrorKind)> {
     Some((call.parse().ok()?, kind))
 }
 
-/// What was read of a source, or why not, and what the source still has.
-fn read_of(alloc: Global, mut source: Source, most: usize) -> Result<String, Fail> {
-    let read = match read_whole(alloc, &mut source, most) {
-        Ok(bytes) => format!(in alloc; "all {}", str::from_utf8(&bytes)?)?,
-        Err(fault) => fault.to_string(alloc)?,
-    };
-    Ok(format!(in alloc; "{read}|{}", str::from_utf8(source.bytes)?)?)
+/// What was read of a source, or why not.
+fn read_of(alloc: Global, source: &mut Source, most: usize) -> Result<String, Fail> {
+    match read_whole(alloc, source, most) {
+        Ok(bytes) => Ok(format!(in alloc; "all {}", str::from_utf8(&bytes)?)?),
+        Err(fault) => Ok(fault.to_string(alloc)?),
+    }
 }
 
 /// Texts, the most bytes, steps and troubles; and what is read, and what is left.
@@ -196,8 +207,10 @@ impl Cases for ReadCases {
         let (text, rest) = case.split_once('|').ok_or("text")?;
         let (most, rest) = rest.split_once('|').ok_or("most")?;
         let (step, trouble) = rest.split_once('|').ok_or("step")?;
-        let source = Source::of(text.as_bytes(), step.parse()?, failure_of(trouble));
-        read_of(alloc, source, most.parse()?)
+        let (most, step) = (most.parse()?, step.parse()?);
+        let mut source = Source::of(text.as_bytes(), step, failure_of(trouble));
+        let read = read_of(alloc, &mut source, most)?;
+        Ok(format!(in alloc; "{read}|{}", str::from_utf8(source.bytes)?)?)
     }
 }
 

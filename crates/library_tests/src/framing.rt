@@ -98,6 +98,22 @@ fn pieces_tell(
     Ok(())
 }
 
+/// The same for each size of a piece.
+fn sizes_tell(rt: &impl Abort, alloc: Global, stream: &str, sizes: &[usize]) -> Result<(), Fail> {
+    for size in sizes {
+        pieces_tell(rt, alloc, stream, *size, *size)?;
+    }
+    Ok(())
+}
+
+/// The same for two pieces, cut at each byte.
+fn cuts_tell(rt: &impl Abort, alloc: Global, stream: &str) -> Result<(), Fail> {
+    for first in 1..=stream.len() {
+        pieces_tell(rt, alloc, stream, first, 4_096)?;
+    }
+    Ok(())
+}
+
 const RATES: &str =
     "POST /rates HTTP/1.1\r\nContent-Length: 55\r\n\r\n{\"number\":1,\"rates\":[{\"from\":\"2010-11\",\"rate\":\"3.50\"}]}";
 
@@ -111,13 +127,8 @@ const TOLD: &str =
 fn cuts_change_nothing(rt: HostRuntime) -> Result<(), Fail> {
     let front = RATES.strip_suffix("}").ok_or("front")?;
     let stream = format!(in rt.alloc(); "{RATES}{VALUE}{front}")?;
-    for first in 1..=stream.len() {
-        pieces_tell(&rt, rt.alloc(), &stream, first, 4_096)?;
-    }
-    for step in [1, 2, 3, 7, 4_096] {
-        pieces_tell(&rt, rt.alloc(), &stream, step, step)?;
-    }
-    Ok(())
+    cuts_tell(&rt, rt.alloc(), &stream)?;
+    sizes_tell(&rt, rt.alloc(), &stream, &[1, 2, 3, 7, 4_096])
 }
 
 /// With each allocation refused in turn: no byte is lost.
@@ -125,10 +136,7 @@ fn cuts_change_nothing(rt: HostRuntime) -> Result<(), Fail> {
 fn refused_memory(rt: HostRuntime) -> Result<(), Fail> {
     let stream =
         "POST /rates HTTP/1.1\r\nContent-Length: 55\r\n\r\n{\"number\":1,\"rates\":[{\"from\":\"2010-11\",\"rate\":\"3.50\"}]}GET /value/50/2010-11/2012-02 HTTP/1.1\r\n\r\nPOST";
-    for step in [1, 64, 4_096] {
-        pieces_tell(&rt, rt.alloc(), stream, step, step)?;
-    }
-    Ok(())
+    sizes_tell(&rt, rt.alloc(), stream, &[1, 64, 4_096])
 }
 
 /// What bytes tell, whole and in pieces of one byte.

@@ -20,270 +20,177 @@ fn read_alike<T: Debug>(
 
 /// Spellings of rates, and what is read.
 const RATES: &str = "\
-3.5 => Ok(Rate { hundredths: 350 })
-3.50% => Ok(Rate { hundredths: 350 })
-3.05 => Ok(Rate { hundredths: 305 })
-03.50 => Ok(Rate { hundredths: 350 })
-20 => Ok(Rate { hundredths: 2000 })
-20.00% => Ok(Rate { hundredths: 2000 })
-0 => Ok(Rate { hundredths: 0 })
-0.00 => Ok(Rate { hundredths: 0 })
-20.01 => Err(BadRate)
-100 => Err(BadRate)
-3. => Err(BadRate)
-.5 => Err(BadRate)
-3.505 => Err(BadRate)
-+3 => Err(BadRate)
--3 => Err(BadRate)
-3,5 => Err(BadRate)
-3%% => Err(BadRate)
-% => Err(BadRate)
- 3 => Err(BadRate)
- => Err(BadRate)
-3.5é => Err(BadRate)
+rate 3.5 => Ok(Rate { hundredths: 350 })
+rate 3.50% => Ok(Rate { hundredths: 350 })
+rate 3.05 => Ok(Rate { hundredths: 305 })
+rate 03.50 => Ok(Rate { hundredths: 350 })
+rate 20 => Ok(Rate { hundredths: 2000 })
+rate 20.00% => Ok(Rate { hundredths: 2000 })
+rate 0 => Ok(Rate { hundredths: 0 })
+rate 0.00 => Ok(Rate { hundredths: 0 })
+rate 20.01 => Err(BadRate)
+rate 100 => Err(BadRate)
+rate 3. => Err(BadRate)
+rate .5 => Err(BadRate)
+rate 3.505 => Err(BadRate)
+rate +3 => Err(BadRate)
+rate -3 => Err(BadRate)
+rate 3,5 => Err(BadRate)
+rate 3%% => Err(BadRate)
+rate % => Err(BadRate)
+rate  3 => Err(BadRate)
+rate  => Err(BadRate)
+rate 3.5é => Err(BadRate)
 ";
-
-struct RateCases;
-
-impl Cases for RateCases {
-    fn told(alloc: Global, case: &str) -> Result<String, Fail> {
-        read_alike(alloc, &read_rate(case), &case.parse::<Rate>())
-    }
-}
-
-#[test]
-fn rates(rt: HostRuntime) -> Result<(), Fail> {
-    compare::<RateCases>(&rt, rt.alloc(), RATES)
-}
 
 /// Spellings of months, what is read as a month, and what as an issue month.
 const MONTHS: &str = "\
-2010-05 => Ok(Month { count: 60 }) and Ok(IssueMonth { count: 60 })
-05/2010 => Ok(Month { count: 60 }) and Ok(IssueMonth { count: 60 })
-2005-05 => Ok(Month { count: 0 }) and Ok(IssueMonth { count: 0 })
-2099-12 => Ok(Month { count: 1135 }) and Ok(IssueMonth { count: 1135 })
-2100-01 => Ok(Month { count: 1136 }) and Err(BadMonth)
-2199-12 => Ok(Month { count: 2335 }) and Err(BadMonth)
-12/2199 => Ok(Month { count: 2335 }) and Err(BadMonth)
-2005-04 => Err(BadMonth) and Err(BadMonth)
-2200-01 => Err(BadMonth) and Err(BadMonth)
-2010-13 => Err(BadMonth) and Err(BadMonth)
-2010-00 => Err(BadMonth) and Err(BadMonth)
-2010-5 => Err(BadMonth) and Err(BadMonth)
-5/2010 => Err(BadMonth) and Err(BadMonth)
-2010/05 => Err(BadMonth) and Err(BadMonth)
-05-2010 => Err(BadMonth) and Err(BadMonth)
-2010-05-01 => Err(BadMonth) and Err(BadMonth)
-201005 => Err(BadMonth) and Err(BadMonth)
-+010-05 => Err(BadMonth) and Err(BadMonth)
- => Err(BadMonth) and Err(BadMonth)
-2010-0é => Err(BadMonth) and Err(BadMonth)
+month 2010-05 => Ok(Month { count: 60 }) and Ok(IssueMonth { count: 60 })
+month 05/2010 => Ok(Month { count: 60 }) and Ok(IssueMonth { count: 60 })
+month 2005-05 => Ok(Month { count: 0 }) and Ok(IssueMonth { count: 0 })
+month 2099-12 => Ok(Month { count: 1135 }) and Ok(IssueMonth { count: 1135 })
+month 2100-01 => Ok(Month { count: 1136 }) and Err(BadMonth)
+month 2199-12 => Ok(Month { count: 2335 }) and Err(BadMonth)
+month 12/2199 => Ok(Month { count: 2335 }) and Err(BadMonth)
+month 2005-04 => Err(BadMonth) and Err(BadMonth)
+month 2200-01 => Err(BadMonth) and Err(BadMonth)
+month 2010-13 => Err(BadMonth) and Err(BadMonth)
+month 2010-00 => Err(BadMonth) and Err(BadMonth)
+month 2010-5 => Err(BadMonth) and Err(BadMonth)
+month 5/2010 => Err(BadMonth) and Err(BadMonth)
+month 2010/05 => Err(BadMonth) and Err(BadMonth)
+month 05-2010 => Err(BadMonth) and Err(BadMonth)
+month 2010-05-01 => Err(BadMonth) and Err(BadMonth)
+month 201005 => Err(BadMonth) and Err(BadMonth)
+month +010-05 => Err(BadMonth) and Err(BadMonth)
+month  => Err(BadMonth) and Err(BadMonth)
+month 2010-0é => Err(BadMonth) and Err(BadMonth)
 ";
-
-struct MonthCases;
-
-impl Cases for MonthCases {
-    fn told(alloc: Global, case: &str) -> Result<String, Fail> {
-        let month = read_alike(alloc, &read_month(case), &case.parse::<Month>())?;
-        let issue = read_alike(alloc, &read_issue(case), &case.parse::<IssueMonth>())?;
-        Ok(format!(in alloc; "{month} and {issue}")?)
-    }
-}
-
-#[test]
-fn months(rt: HostRuntime) -> Result<(), Fail> {
-    compare::<MonthCases>(&rt, rt.alloc(), MONTHS)
-}
 
 /// Spellings of days, and what is read.
 const DAYS: &str = "\
-2005-05-01 => Ok(Day { count: 12904 })
-2012-02-29 => Ok(Day { count: 15399 })
-2012-03-01 => Ok(Day { count: 15400 })
-2199-12-31 => Ok(Day { count: 84005 })
-2011-02-29 => Err(BadDay)
-2100-02-29 => Err(BadDay)
-2005-04-30 => Err(BadDay)
-2200-01-01 => Err(BadDay)
-2012-02-00 => Err(BadDay)
-2012-04-31 => Err(BadDay)
-2012-2-6 => Err(BadDay)
-02/06/2012 => Err(BadDay)
-2012-02 => Err(BadDay)
-2012-02-06- => Err(BadDay)
- => Err(BadDay)
-2012-02-0é => Err(BadDay)
+day 2005-05-01 => Ok(Day { count: 12904 })
+day 2012-02-29 => Ok(Day { count: 15399 })
+day 2012-03-01 => Ok(Day { count: 15400 })
+day 2199-12-31 => Ok(Day { count: 84005 })
+day 2011-02-29 => Err(BadDay)
+day 2100-02-29 => Err(BadDay)
+day 2005-04-30 => Err(BadDay)
+day 2200-01-01 => Err(BadDay)
+day 2012-02-00 => Err(BadDay)
+day 2012-04-31 => Err(BadDay)
+day 2012-2-6 => Err(BadDay)
+day 02/06/2012 => Err(BadDay)
+day 2012-02 => Err(BadDay)
+day 2012-02-06- => Err(BadDay)
+day  => Err(BadDay)
+day 2012-02-0é => Err(BadDay)
 ";
-
-struct DayCases;
-
-impl Cases for DayCases {
-    fn told(alloc: Global, case: &str) -> Result<String, Fail> {
-        read_alike(alloc, &read_day(case), &case.parse::<Day>())
-    }
-}
-
-#[test]
-fn days(rt: HostRuntime) -> Result<(), Fail> {
-    compare::<DayCases>(&rt, rt.alloc(), DAYS)
-}
 
 /// Spellings of serial numbers, and what is read.
 const SERIALS: &str = "\
-L1EE => Ok(Serial { letter: 12, number: 1 })
-K-0002-EE => Ok(Serial { letter: 11, number: 2 })
-C-12-EE => Ok(Serial { letter: 3, number: 12 })
-C0012EE => Ok(Serial { letter: 3, number: 12 })
-C-12EE => Ok(Serial { letter: 3, number: 12 })
-C12-EE => Ok(Serial { letter: 3, number: 12 })
-Z9999999999EE => Ok(Serial { letter: 26, number: 9999999999 })
-A0000000001EE => Ok(Serial { letter: 1, number: 1 })
-c12EE => Err(BadSerial)
-C0EE => Err(BadSerial)
-C12345678901EE => Err(BadSerial)
-C12 => Err(BadSerial)
-C12ee => Err(BadSerial)
-C--12EE => Err(BadSerial)
-C12--EE => Err(BadSerial)
-CEE => Err(BadSerial)
-C-EE => Err(BadSerial)
-12EE => Err(BadSerial)
-C+12EE => Err(BadSerial)
-C12EEE => Err(BadSerial)
- => Err(BadSerial)
-É12EE => Err(BadSerial)
+serial L1EE => Ok(Serial { letter: 12, number: 1 })
+serial K-0002-EE => Ok(Serial { letter: 11, number: 2 })
+serial C-12-EE => Ok(Serial { letter: 3, number: 12 })
+serial C0012EE => Ok(Serial { letter: 3, number: 12 })
+serial C-12EE => Ok(Serial { letter: 3, number: 12 })
+serial C12-EE => Ok(Serial { letter: 3, number: 12 })
+serial Z9999999999EE => Ok(Serial { letter: 26, number: 9999999999 })
+serial A0000000001EE => Ok(Serial { letter: 1, number: 1 })
+serial c12EE => Err(BadSerial)
+serial C0EE => Err(BadSerial)
+serial C12345678901EE => Err(BadSerial)
+serial C12 => Err(BadSerial)
+serial C12ee => Err(BadSerial)
+serial C--12EE => Err(BadSerial)
+serial C12--EE => Err(BadSerial)
+serial CEE => Err(BadSerial)
+serial C-EE => Err(BadSerial)
+serial 12EE => Err(BadSerial)
+serial C+12EE => Err(BadSerial)
+serial C12EEE => Err(BadSerial)
+serial  => Err(BadSerial)
+serial É12EE => Err(BadSerial)
 ";
-
-struct SerialCases;
-
-impl Cases for SerialCases {
-    fn told(alloc: Global, case: &str) -> Result<String, Fail> {
-        read_alike(alloc, &read_serial(case), &case.parse::<Serial>())
-    }
-}
-
-#[test]
-fn serials(rt: HostRuntime) -> Result<(), Fail> {
-    compare::<SerialCases>(&rt, rt.alloc(), SERIALS)
-}
 
 /// Spellings of denominations, and what is read.
 const DENOMS: &str = "\
-50 => Ok(Fifty)
-75 => Ok(SeventyFive)
-100 => Ok(Hundred)
-200 => Ok(TwoHundred)
-500 => Ok(FiveHundred)
-1000 => Ok(Thousand)
-5000 => Ok(FiveThousand)
-10000 => Ok(TenThousand)
-25 => Err(BadDenom)
-050 => Err(BadDenom)
-50.00 => Err(BadDenom)
-$50 => Err(BadDenom)
- => Err(BadDenom)
-50é => Err(BadDenom)
+denom 50 => Ok(Fifty)
+denom 75 => Ok(SeventyFive)
+denom 100 => Ok(Hundred)
+denom 200 => Ok(TwoHundred)
+denom 500 => Ok(FiveHundred)
+denom 1000 => Ok(Thousand)
+denom 5000 => Ok(FiveThousand)
+denom 10000 => Ok(TenThousand)
+denom 25 => Err(BadDenom)
+denom 050 => Err(BadDenom)
+denom 50.00 => Err(BadDenom)
+denom $50 => Err(BadDenom)
+denom  => Err(BadDenom)
+denom 50é => Err(BadDenom)
 ";
-
-struct DenomCases;
-
-impl Cases for DenomCases {
-    fn told(alloc: Global, case: &str) -> Result<String, Fail> {
-        read_alike(alloc, &read_denom(case), &case.parse::<Denom>())
-    }
-}
-
-#[test]
-fn denominations(rt: HostRuntime) -> Result<(), Fail> {
-    compare::<DenomCases>(&rt, rt.alloc(), DENOMS)
-}
 
 /// Spellings of customers, and what is read.
 const CUSTOMERS: &str = "\
-7 => Ok(Customer { number: 7 })
-007 => Ok(Customer { number: 7 })
-999999999 => Ok(Customer { number: 999999999 })
-0 => Err(BadCustomer)
-1000000000 => Err(BadCustomer)
-0000000007 => Err(BadCustomer)
-+7 => Err(BadCustomer)
-7  => Err(BadCustomer)
- => Err(BadCustomer)
-7é => Err(BadCustomer)
+customer 7 => Ok(Customer { number: 7 })
+customer 007 => Ok(Customer { number: 7 })
+customer 999999999 => Ok(Customer { number: 999999999 })
+customer 0 => Err(BadCustomer)
+customer 1000000000 => Err(BadCustomer)
+customer 0000000007 => Err(BadCustomer)
+customer +7 => Err(BadCustomer)
+customer 7  => Err(BadCustomer)
+customer  => Err(BadCustomer)
+customer 7é => Err(BadCustomer)
 ";
-
-struct CustomerCases;
-
-impl Cases for CustomerCases {
-    fn told(alloc: Global, case: &str) -> Result<String, Fail> {
-        read_alike(alloc, &read_customer(case), &case.parse::<Customer>())
-    }
-}
-
-#[test]
-fn customers(rt: HostRuntime) -> Result<(), Fail> {
-    compare::<CustomerCases>(&rt, rt.alloc(), CUSTOMERS)
-}
 
 /// Spellings of desks, and what is read.
 const DESKS: &str = "\
-0 => Some(Desk { number: 0 })
-7 => Some(Desk { number: 7 })
-07 => Some(Desk { number: 7 })
-007 => Some(Desk { number: 7 })
-999 => Some(Desk { number: 999 })
-1000 => None
-0007 => None
-+1 => None
-+5 => None
--1 => None
-1  => None
- 1 => None
- 7 => None
-1. => None
-x => None
-٣ => None
- => None
+desk 0 => Some(Desk { number: 0 })
+desk 7 => Some(Desk { number: 7 })
+desk 07 => Some(Desk { number: 7 })
+desk 007 => Some(Desk { number: 7 })
+desk 999 => Some(Desk { number: 999 })
+desk 1000 => None
+desk 0007 => None
+desk +1 => None
+desk +5 => None
+desk -1 => None
+desk 1  => None
+desk  1 => None
+desk  7 => None
+desk 1. => None
+desk x => None
+desk ٣ => None
+desk  => None
 ";
-
-struct DeskCases;
-
-impl Cases for DeskCases {
-    fn told(alloc: Global, case: &str) -> Result<String, Fail> {
-        shown(alloc, &read_desk(case))
-    }
-}
-
-#[test]
-fn desks(rt: HostRuntime) -> Result<(), Fail> {
-    compare::<DeskCases>(&rt, rt.alloc(), DESKS)
-}
 
 /// Values by their kind and number, and their printed text.
 const PRINTED_NUMBERS: &str = "\
-cents 0 => 0.00
-cents 7 => 0.07
-cents 2588 => 25.88
-cents 152246800 => 1522468.00
-cents 18446744073709551615 => 184467440737095516.15
-total 0 => 0.00
-total 519622 => 5196.22
-total 340282366920938463463374607431768211455 => 3402823669209384634633746074317682114.55
-rate 0 => 0.00%
-rate 350 => 3.50%
-rate 2000 => 20.00%
-month 60 => 2010-05
-month 2335 => 2199-12
-issue 0 => 2005-05
+print cents 0 => 0.00
+print cents 7 => 0.07
+print cents 2588 => 25.88
+print cents 152246800 => 1522468.00
+print cents 18446744073709551615 => 184467440737095516.15
+print total 0 => 0.00
+print total 519622 => 5196.22
+print total 340282366920938463463374607431768211455 => 3402823669209384634633746074317682114.55
+print rate 0 => 0.00%
+print rate 350 => 3.50%
+print rate 2000 => 20.00%
+print month 60 => 2010-05
+print month 2335 => 2199-12
+print issue 0 => 2005-05
 ";
 
 /// Values by their kind and spelling, and their printed text.
 const PRINTED_SPELLINGS: &str = "\
-day 2012-02-06 => 2012-02-06
-serial C-0012-EE => C12EE
-denom 10000 => 10000
-customer 007 => 7
-fault 25 => bad denomination
+print day 2012-02-06 => 2012-02-06
+print serial C-0012-EE => C12EE
+print denom 10000 => 10000
+print customer 007 => 7
+print fault 25 => bad denomination
 ";
 
 fn printed<T: Display + Drop>(alloc: Global, value: Option<T>) -> Result<String, Fail> {
@@ -302,130 +209,125 @@ fn printed_number(alloc: Global, kind: &str, text: &str) -> Result<String, Fail>
     }
 }
 
-/// The printed text of a value that is told by its spelling.
-fn printed_spelling(alloc: Global, kind: &str, text: &str) -> Result<String, Fail> {
+/// The printed text of a value `KIND TEXT`, that is told by its spelling or its number.
+fn printed_value(alloc: Global, value: &str) -> Result<String, Fail> {
+    let (kind, text) = value.split_once(' ').ok_or("kind")?;
     match kind {
         "day" => printed(alloc, read_day(text).ok()),
         "serial" => printed(alloc, read_serial(text).ok()),
         "denom" => printed(alloc, read_denom(text).ok()),
         "customer" => printed(alloc, read_customer(text).ok()),
-        _ => printed(alloc, read_denom(text).err()),
+        "fault" => printed(alloc, read_denom(text).err()),
+        _ => printed_number(alloc, kind, text),
     }
-}
-
-struct NumberCases;
-
-impl Cases for NumberCases {
-    fn told(alloc: Global, case: &str) -> Result<String, Fail> {
-        let (kind, text) = case.split_once(' ').ok_or("kind")?;
-        printed_number(alloc, kind, text)
-    }
-}
-
-struct SpellingCases;
-
-impl Cases for SpellingCases {
-    fn told(alloc: Global, case: &str) -> Result<String, Fail> {
-        let (kind, text) = case.split_once(' ').ok_or("kind")?;
-        printed_spelling(alloc, kind, text)
-    }
-}
-
-#[test]
-fn printed_texts(rt: HostRuntime) -> Result<(), Fail> {
-    compare::<NumberCases>(&rt, rt.alloc(), PRINTED_NUMBERS)?;
-    compare::<SpellingCases>(&rt, rt.alloc(), PRINTED_SPELLINGS)
 }
 
 /// Issue months, months, and the age in months.
 const AGES: &str = "\
-2010-05 2010-04 => None
-2010-05 2010-05 => Some(Age { months: 0 })
-2010-05 2015-05 => Some(Age { months: 60 })
-2005-05 2199-12 => Some(Age { months: 2335 })
+age 2010-05 2010-04 => None
+age 2010-05 2010-05 => Some(Age { months: 0 })
+age 2010-05 2015-05 => Some(Age { months: 60 })
+age 2005-05 2199-12 => Some(Age { months: 2335 })
 ";
-
-struct AgeCases;
-
-impl Cases for AgeCases {
-    fn told(alloc: Global, case: &str) -> Result<String, Fail> {
-        let (issued, month) = case.split_once(' ').ok_or("month")?;
-        let age = calendar::age(read_issue(issued)?, read_month(month)?);
-        shown(alloc, &age)
-    }
-}
-
-#[test]
-fn ages(rt: HostRuntime) -> Result<(), Fail> {
-    compare::<AgeCases>(&rt, rt.alloc(), AGES)
-}
 
 /// Issue months, and the first month of their rate's period.
 const PERIODS: &str = "\
-2005-05 => 2005-05
-2005-10 => 2005-05
-2005-11 => 2005-11
-2010-04 => 2009-11
-2099-12 => 2099-11
+period 2005-05 => 2005-05
+period 2005-10 => 2005-05
+period 2005-11 => 2005-11
+period 2010-04 => 2009-11
+period 2099-12 => 2099-11
 ";
-
-struct PeriodCases;
-
-impl Cases for PeriodCases {
-    fn told(alloc: Global, case: &str) -> Result<String, Fail> {
-        printed(alloc, Some(calendar::period_of(read_issue(case)?)))
-    }
-}
-
-#[test]
-fn periods(rt: HostRuntime) -> Result<(), Fail> {
-    compare::<PeriodCases>(&rt, rt.alloc(), PERIODS)
-}
 
 /// Days, and their month.
 const MONTHS_OF_DAYS: &str = "\
-2005-05-01 => 2005-05
-2012-02-29 => 2012-02
-2012-03-01 => 2012-03
-2199-12-31 => 2199-12
+month_of_day 2005-05-01 => 2005-05
+month_of_day 2012-02-29 => 2012-02
+month_of_day 2012-03-01 => 2012-03
+month_of_day 2199-12-31 => 2199-12
 ";
-
-struct MonthOfDayCases;
-
-impl Cases for MonthOfDayCases {
-    fn told(alloc: Global, case: &str) -> Result<String, Fail> {
-        printed(alloc, Some(calendar::month_of(read_day(case)?)))
-    }
-}
-
-#[test]
-fn months_of_days(rt: HostRuntime) -> Result<(), Fail> {
-    compare::<MonthOfDayCases>(&rt, rt.alloc(), MONTHS_OF_DAYS)
-}
 
 /// Denominations, their units and their price in cents.
 const UNITS: &str = "\
-50 => 2 2500
-75 => 3 3750
-100 => 4 5000
-200 => 8 10000
-500 => 20 25000
-1000 => 40 50000
-5000 => 200 250000
-10000 => 400 500000
+units 50 => 2 2500
+units 75 => 3 3750
+units 100 => 4 5000
+units 200 => 8 10000
+units 500 => 20 25000
+units 1000 => 40 50000
+units 5000 => 200 250000
+units 10000 => 400 500000
 ";
 
+/// What is read as a month, and what as an issue month.
+fn months_told(alloc: Global, text: &str) -> Result<String, Fail> {
+    let month = read_alike(alloc, &read_month(text), &text.parse::<Month>())?;
+    let issue = read_alike(alloc, &read_issue(text), &text.parse::<IssueMonth>())?;
+    Ok(format!(in alloc; "{month} and {issue}")?)
+}
+
+/// The age in a month of what is issued in another.
+fn age_told(alloc: Global, text: &str) -> Result<String, Fail> {
+    let (issued, month) = text.split_once(' ').ok_or("month")?;
+    let age = calendar::age(read_issue(issued)?, read_month(month)?);
+    shown(alloc, &age)
+}
+
+/// The units and the price of a denomination.
+fn units_told(alloc: Global, text: &str) -> Result<String, Fail> {
+    let denom = read_denom(text)?;
+    let (count, price) = (units(denom), price(denom).0);
+    Ok(format!(in alloc; "{count} {price}")?)
+}
+
+/// What is told of a text by a word for it.
 struct UnitCases;
 
 impl Cases for UnitCases {
     fn told(alloc: Global, case: &str) -> Result<String, Fail> {
-        let denom = read_denom(case)?;
-        let (count, price) = (units(denom), price(denom).0);
-        Ok(format!(in alloc; "{count} {price}")?)
+        let (word, text) = case.split_once(' ').ok_or("word")?;
+        match word {
+            "rate" => read_alike(alloc, &read_rate(text), &text.parse::<Rate>()),
+            "month" => months_told(alloc, text),
+            "day" => read_alike(alloc, &read_day(text), &text.parse::<Day>()),
+            "serial" => read_alike(alloc, &read_serial(text), &text.parse::<Serial>()),
+            "denom" => read_alike(alloc, &read_denom(text), &text.parse::<Denom>()),
+            "customer" => read_alike(alloc, &read_customer(text), &text.parse::<Customer>()),
+            "desk" => shown(alloc, &read_desk(text)),
+            "print" => printed_value(alloc, text),
+            "age" => age_told(alloc, text),
+            "period" => printed(alloc, Some(calendar::period_of(read_issue(text)?))),
+            "month_of_day" => printed(alloc, Some(calendar::month_of(read_day(text)?))),
+            _ => units_told(alloc, text),
+        }
     }
 }
 
+/// Spellings that are read.
+const READ: [&str; 7] = [RATES, MONTHS, DAYS, SERIALS, DENOMS, CUSTOMERS, DESKS];
+
 #[test]
-fn units_and_prices(rt: HostRuntime) -> Result<(), Fail> {
-    compare::<UnitCases>(&rt, rt.alloc(), UNITS)
+fn spellings_are_read(rt: HostRuntime) -> Result<(), Fail> {
+    for table in READ {
+        compare::<UnitCases>(&rt, rt.alloc(), table)?;
+    }
+    Ok(())
+}
+
+/// Values that are printed, and what is told of months, days and denominations.
+const TOLD: [&str; 6] = [
+    PRINTED_NUMBERS,
+    PRINTED_SPELLINGS,
+    AGES,
+    PERIODS,
+    MONTHS_OF_DAYS,
+    UNITS,
+];
+
+#[test]
+fn values_are_told(rt: HostRuntime) -> Result<(), Fail> {
+    for table in TOLD {
+        compare::<UnitCases>(&rt, rt.alloc(), table)?;
+    }
+    Ok(())
 }

@@ -130,8 +130,9 @@ struct ChainCases;
 impl Cases for ChainCases {
     fn told(alloc: Global, case: &str) -> Result<String, Fail> {
         let (rate, first) = case.split_once(' ').ok_or("half-year")?;
-        let table = unit_table(alloc, rates(rate)?, bits(62))?;
-        shown(alloc, &starts(&table, first.parse()?))
+        let (rates, first) = (rates(rate)?, first.parse()?);
+        let table = unit_table(alloc, rates, bits(62))?;
+        shown(alloc, &starts(&table, first))
     }
 }
 
@@ -228,11 +229,9 @@ impl Cases for QuoteCases {
     fn told(alloc: Global, case: &str) -> Result<String, Fail> {
         let (rate, case) = case.split_once(' ').ok_or("denom")?;
         let (denom, months) = case.split_once(' ').ok_or("months")?;
-        let table = unit_table(alloc, rates(rate)?, bits(62))?;
-        shown(
-            alloc,
-            &bond_value(&table, denom.parse()?, age(months.parse()?)),
-        )
+        let (rates, denom, age) = (rates(rate)?, denom.parse()?, age(months.parse()?));
+        let table = unit_table(alloc, rates, bits(62))?;
+        shown(alloc, &bond_value(&table, denom, age))
     }
 }
 

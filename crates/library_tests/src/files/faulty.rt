@@ -26,6 +26,12 @@ fn bond_fault(alloc: Global, mut file: &[u8]) -> Result<String, Fail> {
     fault_told(alloc, read_inventory(alloc, &mut file))
 }
 
+/// The faults of a file of rates and of an inventory.
+fn both_told(alloc: Global, rates: &[u8], bonds: &[u8]) -> Result<String, Fail> {
+    let (rates, bonds) = (rate_fault(alloc, rates)?, bond_fault(alloc, bonds)?);
+    Ok(format!(in alloc; "{rates}, {bonds}")?)
+}
+
 /// Files of rates, and their first fault.
 const RATE_FAULTS: &str = "\
 from;rate|2010-05;2.00| => 1 BadHeader
@@ -145,8 +151,7 @@ impl Cases for LongFileCases {
         let rates = long_file(alloc, "from,rate\n", "2010-05,2.00\n", count, &last)?;
         let header = "serial,denom,issued,owner,coowner\n";
         let bonds = long_file(alloc, header, "L1EE,50,2010-11,7,\n", count, &last)?;
-        let (rates, bonds) = (rate_fault(alloc, &rates)?, bond_fault(alloc, &bonds)?);
-        Ok(format!(in alloc; "{rates}, {bonds}")?)
+        both_told(alloc, &rates, &bonds)
     }
 }
 
@@ -169,8 +174,7 @@ impl Cases for EmptyLineCases {
     fn told(alloc: Global, case: &str) -> Result<String, Fail> {
         let (first, count) = case.split_once(' ').unwrap_or(("", case));
         let file = long_file(alloc, first, "\n", count.parse()?, b"")?;
-        let (rates, bonds) = (rate_fault(alloc, &file)?, bond_fault(alloc, &file)?);
-        Ok(format!(in alloc; "{rates}, {bonds}")?)
+        both_told(alloc, &file, &file)
     }
 }
 

@@ -41,7 +41,7 @@ pub fn bonds_told(alloc: Global, mut file: &[u8]) -> Result<String, Fail> {
 }
 
 /// `what` where the text is the known one, else the text.
-fn named(alloc: Global, text: String, known: &str, what: &str) -> Result<String, Fail> {
+pub fn named(alloc: Global, text: String, known: &str, what: &str) -> Result<String, Fail> {
     if text.as_str() == known {
         return Ok(String::from_str(alloc, what)?);
     }

@@ -1,13 +1,11 @@
 //! Inventories that are written, the texts of faults, and want of memory.
 
-use super::devices::Page;
-use super::samples::{INVENTORY, RATES, THREE_BONDS, TWO_RATES, bonds_told, rates_told};
-use crate::comparing::{is_refused, same, shown};
+use super::samples::{INVENTORY, RATES, THREE_BONDS, TWO_RATES, bonds_told, named, rates_told};
+use crate::comparing::{Cases, Written, compare_fronts, compare_refused, marked, same, shown};
+use crate::device::{Device, Trouble};
 use ee_calculator::Bond;
 use ee_files::{Column, FileCode, FileFault, WriteFault, read_inventory, write_inventory};
 use std::alloc::Global;
-use std::io::ErrorKind;
-use std::process::Abort;
 use std::test::Fail;
 
 const EXPORT: &str =
@@ -22,43 +20,34 @@ fn bonds_in_order(alloc: Global) -> Result<Vec<Bond>, Fail> {
     Ok(read_inventory(alloc, &mut EXPORT.as_bytes())?)
 }
 
-/// How writing the bonds to a page in that trouble ends, and what the page has.
-fn told(
-    alloc: Global,
-    bonds: &[Bond],
-    trouble: Option<(usize, ErrorKind)>,
-) -> Result<String, Fail> {
-    let mut page = Page::new(trouble);
-    let written = write_inventory(alloc, &mut page, bonds);
-    Ok(format!(in alloc; "{written:?} {}", str::from_utf8(page.text())?)?)
+/// Bonds that are written, and the trouble where there is no more room for them.
+#[derive(Clone, Copy)]
+struct Export<'a> {
+    bonds: &'a [Bond],
+    trouble: Trouble,
 }
 
-/// Bonds that are written in trouble at each write in turn.
-fn fails_at_each_write(
-    rt: &impl Abort,
-    alloc: Global,
-    bonds: &[Bond],
-    kind: ErrorKind,
-) -> Result<(), Fail> {
-    for taken in 0..EXPORT.len() {
-        let front = EXPORT.get(..taken).ok_or("front")?;
-        let wanted = format!(in alloc; "Err(WriteFailed) {front}")?;
-        let told = told(alloc, bonds, Some((taken.saturating_add(1), kind)))?;
-        same(rt, told.as_str(), wanted.as_str(), "written");
+impl Written for Export<'_> {
+    fn told_in(&self, alloc: Global, room: usize) -> Result<String, Fail> {
+        let mut device = Device::of(alloc, room, self.trouble)?;
+        let end = write_inventory(alloc, &mut device, self.bonds);
+        Ok(format!(in alloc; "{end:?} {}", str::from_utf8(&device.bytes)?)?)
     }
-    Ok(())
+}
+
+/// How writing bonds where there is room ends, and what is written.
+fn told(alloc: Global, bonds: &[Bond]) -> Result<String, Fail> {
+    let trouble = Trouble::Fails;
+    Export { bonds, trouble }.told_in(alloc, 1_000)
 }
 
 #[test]
 fn bonds_are_written_in_order_or_a_front_of_them(rt: HostRuntime) -> Result<(), Fail> {
     let bonds = bonds_in_order(rt.alloc())?;
-    for kind in [ErrorKind::Other, ErrorKind::Interrupted] {
-        fails_at_each_write(&rt, rt.alloc(), &bonds, kind)?;
+    let bonds = bonds.as_slice();
+    for trouble in [Trouble::Fails, Trouble::Interrupted] {
+        compare_fronts(&rt, rt.alloc(), &Export { bonds, trouble }, EXPORT)?;
     }
-    let after = EXPORT.len().saturating_add(1);
-    let told = told(rt.alloc(), &bonds, Some((after, ErrorKind::Other)))?;
-    let wanted = format!(in rt.alloc(); "Ok(()) {EXPORT}")?;
-    same(&rt, told.as_str(), wanted.as_str(), "all");
     Ok(())
 }
 
@@ -66,7 +55,7 @@ fn bonds_are_written_in_order_or_a_front_of_them(rt: HostRuntime) -> Result<(), 
 fn a_written_file_is_read_back(rt: HostRuntime) -> Result<(), Fail> {
     let bonds = bonds_in_order(rt.alloc())?;
     same(&rt, shown(rt.alloc(), &bonds)?.as_str(), EXPORTED, "bonds");
-    let told = told(rt.alloc(), &[], None)?;
+    let told = told(rt.alloc(), &[])?;
     let wanted = "Ok(()) serial,denom,issued,owner,coowner\n";
     same(&rt, told.as_str(), wanted, "no bonds");
     Ok(())
@@ -133,23 +122,41 @@ fn texts_of_write_faults(rt: HostRuntime) -> Result<(), Fail> {
     Ok(())
 }
 
-/// What the three calls answer in a run with one allocation refused: the whole, or want of memory in row 1 and nothing
-/// written. A line is printed where memory was refused.
+/// What the three calls answer, by a name.
+struct MemoryCases;
+
+impl Cases for MemoryCases {
+    fn told(alloc: Global, case: &str) -> Result<String, Fail> {
+        match case {
+            "rates" => named(
+                alloc,
+                rates_told(alloc, RATES.as_bytes())?,
+                TWO_RATES,
+                "all",
+            ),
+            "bonds" => named(
+                alloc,
+                bonds_told(alloc, INVENTORY.as_bytes())?,
+                THREE_BONDS,
+                "all",
+            ),
+            _ => marked(alloc, told(alloc, &bonds_in_order(alloc)?)?.as_str()),
+        }
+    }
+}
+
+const READ: &str = "\
+rates => all
+bonds => all
+";
+
+const WRITTEN: &str =
+    "export => Ok(()) serial,denom,issued,owner,coowner|K2EE,75,2010-10,7,8|L1EE,50,2010-11,7,|M3EE,10000,2011-02,7,|\n";
+
+/// With each allocation refused in turn: the whole, or want of memory in row 1, and nothing is written. A line is printed
+/// where memory was refused.
 #[test]
 fn refused_memory(rt: HostRuntime) -> Result<(), Fail> {
-    let alloc = rt.alloc();
-    let rates = rates_told(alloc, RATES.as_bytes())?;
-    if is_refused(&rt, rates.as_str(), TWO_RATES, "row 1 code 74") {
-        println!(rt; "refused: rates")?;
-    }
-    let bonds = bonds_told(alloc, INVENTORY.as_bytes())?;
-    if is_refused(&rt, bonds.as_str(), THREE_BONDS, "row 1 code 74") {
-        println!(rt; "refused: bonds")?;
-    }
-    let export = told(alloc, &bonds_in_order(alloc)?, None)?;
-    let wanted = format!(in alloc; "Ok(()) {EXPORT}")?;
-    if is_refused(&rt, export.as_str(), wanted.as_str(), "Err(NoMemory) ") {
-        println!(rt; "refused: export")?;
-    }
-    Ok(())
+    compare_refused::<MemoryCases>(&rt, &rt, READ, "row 1 code 74")?;
+    compare_refused::<MemoryCases>(&rt, &rt, WRITTEN, "Err(NoMemory) ")
 }
