@@ -1,10 +1,10 @@
-"""Days at the counter that stand as transcripts in crates/counter_talks and crates/store_talks, and those of earlier stores in crates/store_tests_earlier,
+"""Days at the counter that stand as transcripts in crates/counter_talks and crates/store_talks, and those of earlier stores in crates/store_tests,
 with the answers that were worked by hand. Their little language is told in counter_talks' talk.rt."""
 
 import os, re
 
 CRATES = os.path.join(os.path.dirname(os.path.abspath(__file__)), "..", "..", "crates")
-SOURCES = [os.path.join(CRATES, name, "src") for name in ("counter_talks", "store_talks", "store_tests_earlier")]
+SOURCES = [os.path.join(CRATES, name, "src") for name in ("counter_talks", "store_talks", "store_tests")]
 REASONS = {200: "OK", 400: "Bad Request", 404: "Not Found", 405: "Method Not Allowed", 409: "Conflict", 413: "Content Too Large", 503: "Service Unavailable"}
 
 

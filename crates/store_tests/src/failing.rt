@@ -101,13 +101,14 @@ impl Talk {
 
     /// What is told where reading failed after so many bytes.
     fn read(&self, alloc: Global, before: usize) -> Result<String, Fail> {
-        if before < self.first {
-            return Ok(String::from_str(alloc, "0 ReadFailed\n")?);
-        }
-        if before < self.stream.len() {
-            return Ok(format!(in alloc; "1 ReadFailed\n{}", self.added)?);
-        }
-        Ok(format!(in alloc; "2 ReadFailed\n{}", self.both)?)
+        let (messages, text) = if before < self.first {
+            (0, "")
+        } else if before < self.stream.len() {
+            (1, self.added.as_str())
+        } else {
+            (2, self.both.as_str())
+        };
+        Ok(format!(in alloc; "{messages} ReadFailed\n{text}")?)
     }
 
     /// What is told where so many bytes were written.

@@ -1,9 +1,31 @@
-//! Tests of the keeper over the tables by public calls alone: the same days over it and over a keeper in memory, devices and files
-//! that fail or stop, and refused memory.
+//! Tests over stores, by public calls alone: the same days over tables and over a keeper in memory; devices and files that fail or
+//! stop, and refused memory; tables and stores of version 1; and whole command lines.
 #![tactic(auto)]
 
 #[cfg(test)]
+mod answering;
+#[cfg(test)]
+mod changed;
+#[cfg(test)]
+mod command_clients;
+#[cfg(test)]
+mod command_files;
+#[cfg(test)]
+mod command_lines;
+#[cfg(test)]
+mod commands;
+#[cfg(test)]
 mod comparing;
+#[cfg(test)]
+mod earlier;
+#[cfg(test)]
+mod earlier_bytes;
+#[cfg(test)]
+mod earlier_file;
+#[cfg(test)]
+mod earlier_many;
+#[cfg(test)]
+mod earlier_stops;
 #[cfg(test)]
 mod failing;
 #[cfg(test)]
@@ -13,6 +35,10 @@ mod noise;
 #[cfg(test)]
 mod parts;
 #[cfg(test)]
+mod paths;
+#[cfg(test)]
 mod refused;
 #[cfg(test)]
 mod stores;
+#[cfg(test)]
+mod tables;

@@ -54,13 +54,17 @@ fn is_fault(status: &str, body: &str) -> bool {
     false
 }
 
+/// Whether a body is the text of a reply.
+fn is_reply(alloc: Global, body: &str) -> Result<bool, Fail> {
+    Ok(read_reply(alloc, body)?.is_some())
+}
+
 /// Whether a body is the text of a reply, a row of a value or a sheet.
 fn is_shown(alloc: Global, body: &str) -> Result<bool, Fail> {
-    Ok(
-        body.starts_with("Serial ")
-            || body.starts_with("{\"denom\":")
-            || read_reply(alloc, body)?.is_some(),
-    )
+    if body.starts_with("Serial ") || body.starts_with("{\"denom\":") {
+        return Ok(true);
+    }
+    is_reply(alloc, body)
 }
 
 /// Whether an answer, from its status on, is whole and named.

@@ -1,6 +1,7 @@
 //! Days with little memory, over any keeper: a request to which memory is refused isn't served, and changes nothing; it is
 //! served when it comes again. The script `tests/refused_memory` refuses each request for memory in turn.
 
+use crate::answering::has_rows;
 use crate::parts::requests;
 use counter_talks::days::{DAY, SHOWN};
 use counter_talks::imports::FILES;
@@ -184,8 +185,7 @@ fn work_over_tables(rt: &impl Abort, alloc: Global, work: Work) -> Result<(), Fa
     outcome?;
     let before = rows_told(alloc, &mut conn)?;
     let mut conn = adopted(alloc, conn)?.close();
-    assert_eq!(rt; rows_told(alloc, &mut conn)?.as_str(), before.as_str());
-    Ok(())
+    has_rows(rt, alloc, &mut conn, before.as_str(), "again")
 }
 
 fn work_over_list(rt: &impl Abort, alloc: Global, work: Work) -> Result<(), Fail> {

@@ -1,5 +1,6 @@
 //! Stores in files: days in a file that is closed and opened again, and stops at each call of a file.
 
+use crate::paths::{forget, fresh};
 use counter_talks::days::{DAY, DESKS, EXTENDED, LAST};
 use counter_talks::lists::LISTS;
 use counter_talks::refusals::{DAYS, IMPORTS};
@@ -9,7 +10,6 @@ use ee_store::SqlKeeper;
 use sqlite::{Connection, Files, Options};
 use sqlite_disk::{Crash, Disk, Fuse, Memory};
 use std::alloc::Global;
-use std::fs;
 use std::process::Abort;
 use std::test::Fail;
 use store_talks::five::{FIVE, fault_told};
@@ -17,23 +17,6 @@ use store_talks::stops::{ends_by_failures, is_front_of, served_on};
 
 /// Days that are told as transcripts.
 const TALKS: [&str; 6] = [DAY, IMPORTS, DAYS, LAST, LISTS, EXTENDED];
-
-/// A path for a file of this test alone; no file is there.
-fn fresh(rt: &HostRuntime, name: &str) -> Result<String, Fail> {
-    let folder = std::env::temp_dir(rt)?;
-    let folder = folder.as_path().to_str().ok_or("a folder's name")?;
-    let path = format!(in rt.alloc(); "{folder}/store_tests_{name}")?;
-    forget(rt, &path)?;
-    Ok(path)
-}
-
-/// Removes the file of a path, and the log beside it.
-fn forget(rt: &HostRuntime, path: &str) -> Result<(), Fail> {
-    let log = format!(in rt.alloc(); "{path}-wal")?;
-    let _gone = fs::remove_file(rt, path);
-    let _gone = fs::remove_file(rt, log.as_str());
-    Ok(())
-}
 
 /// The answers to a talk over the store in a file, which is opened for it and closed.
 fn in_file(rt: &HostRuntime, path: &str, talk: &str) -> Result<String, Fail> {
@@ -50,7 +33,7 @@ fn in_file(rt: &HostRuntime, path: &str, talk: &str) -> Result<String, Fail> {
 /// A day of several desks over a file that is closed and opened again between its parts.
 #[test]
 fn desks_in_a_file(rt: HostRuntime) -> Result<(), Fail> {
-    let path = fresh(&rt, "desks.db")?;
+    let path = fresh(&rt, "desks")?;
     let mut list = ListKeeper::empty(rt.alloc());
     for talk in DESKS {
         let wanted = answers(rt.alloc(), &mut list, talk)?;
@@ -64,7 +47,7 @@ fn desks_in_a_file(rt: HostRuntime) -> Result<(), Fail> {
 /// more: the answers are the same, byte for byte.
 #[test]
 fn days_in_a_file(rt: HostRuntime) -> Result<(), Fail> {
-    let path = fresh(&rt, "days.db")?;
+    let path = fresh(&rt, "days")?;
     for talk in TALKS {
         forget(&rt, &path)?;
         let mut list = ListKeeper::empty(rt.alloc());
@@ -80,7 +63,7 @@ fn days_in_a_file(rt: HostRuntime) -> Result<(), Fail> {
 /// A file that is closed and opened again gives each number the bytes of its first answer.
 #[test]
 fn a_file_keeps_its_replies(rt: HostRuntime) -> Result<(), Fail> {
-    let path = fresh(&rt, "replies.db")?;
+    let path = fresh(&rt, "replies")?;
     let wanted = answers(rt.alloc(), &mut ListKeeper::empty(rt.alloc()), FIVE)?;
     for _ in 0..3 {
         let told = in_file(&rt, &path, FIVE)?;

@@ -52,16 +52,16 @@ impl Form {
     ) -> Result<Option<Form>, Fail> {
         let is_extended = earlier == Earlier::Extended;
         let will_be = is_extended || news == News::Extension;
-        let entered = rows_after(alloc, will_be, news == News::Desk)?;
-        Ok(if rows == rows_before(alloc, earlier)?.as_str() {
-            Some(Form::Earlier)
-        } else if rows == entered.as_str() {
-            Some(Form::Entered)
-        } else if rows == rows_after(alloc, is_extended, false)?.as_str() {
-            Some(Form::Migrated)
-        } else {
-            None
-        })
+        if rows == rows_before(alloc, earlier)?.as_str() {
+            return Ok(Some(Form::Earlier));
+        }
+        if rows == rows_after(alloc, will_be, news == News::Desk)?.as_str() {
+            return Ok(Some(Form::Entered));
+        }
+        if rows == rows_after(alloc, is_extended, false)?.as_str() {
+            return Ok(Some(Form::Migrated));
+        }
+        Ok(None)
     }
 }
 
@@ -119,28 +119,34 @@ pub struct Shown {
     pub after: String,
 }
 
+impl Shown {
+    pub fn new(alloc: Global) -> Shown {
+        Shown {
+            before: String::new(alloc),
+            told: String::new(alloc),
+            after: String::new(alloc),
+        }
+    }
+}
+
+/// Shows files and what a talk over them tells, and hands them back.
 pub fn shown_on<D: Disk + Drop>(
     alloc: Global,
     files: Files<D>,
     talk: &str,
-) -> Result<(Shown, Files<D>), Fail> {
+    shown: &mut Shown,
+) -> Result<Files<D>, Fail> {
     if !files.may_be_used() {
         return Err("a file may not be used".into());
     }
     let Ok(mut conn) = Connection::open_files(alloc, files, few_pages(3)) else {
         return Err("the files don't open".into());
     };
-    let before = rows_told(alloc, &mut conn)?;
+    shown.before = rows_told(alloc, &mut conn)?;
     let (told, mut conn) = served(alloc, conn, talk);
-    let told = told?;
-    let after = rows_told(alloc, &mut conn)?;
-    let files = closed(conn)?;
-    let shown = Shown {
-        before,
-        told,
-        after,
-    };
-    Ok((shown, files))
+    shown.told = told?;
+    shown.after = rows_told(alloc, &mut conn)?;
+    closed(conn)
 }
 
 /// An earlier store, its files, and what is asked of it.
@@ -177,19 +183,24 @@ struct Runs {
     shown: Shown,
 }
 
-/// The talk over an earlier store of which the log stops at one call and the other file at another; then again over what
-/// a crash leaves.
-fn stopped(alloc: Global, case: &Case, log: u64, db: u64) -> Result<Runs, Fail> {
-    let talk = case.talk.as_str();
-    let files = Files {
+/// The files of an earlier store, of which the log stops at one call and the other file at another.
+fn fused(alloc: Global, case: &Case, log: u64, db: u64) -> Result<Files<Fuse<Memory>>, Fail> {
+    Ok(Files {
         log: Fuse::new(copied(alloc, &case.files.log)?, log),
         db: Fuse::new(copied(alloc, &case.files.db)?, db),
-    };
+    })
+}
+
+/// The talk over such files; then again over what a crash leaves.
+fn stopped(alloc: Global, case: &Case, log: u64, db: u64) -> Result<Runs, Fail> {
+    let talk = case.talk.as_str();
+    let files = fused(alloc, case, log, db)?;
     let (first, closed, mut files) = served_on(alloc, files, talk);
     let first = first?;
     files.log.crash();
     files.db.crash();
-    let (shown, _files) = shown_on(alloc, files, talk)?;
+    let mut shown = Shown::new(alloc);
+    let _files = shown_on(alloc, files, talk, &mut shown)?;
     let is_whole = closed && first.as_str() == talk;
     Ok(Runs {
         first,
@@ -198,23 +209,28 @@ fn stopped(alloc: Global, case: &Case, log: u64, db: u64) -> Result<Runs, Fail> 
     })
 }
 
-/// The form that a stop left. No other cause is told than that the store failed. A store that was opened is of version
-/// 2, and one that gave each reply has what was new; it is opened again with the same answers, and then has it too.
-fn form_left(rt: &impl Abort, alloc: Global, case: &Case, runs: &Runs) -> Result<Form, Fail> {
-    let first = runs.first.as_str();
-    let opened = first.starts_with("> ");
+/// No other cause is told than that the store failed, and the answers before are right.
+fn first_is_right(rt: &impl Abort, case: &Case, first: &str) {
     assert!(rt;
-        opened || first.is_empty() || first == "StoreFailed",
+        first.starts_with("> ") || first.is_empty() || first == "StoreFailed",
         "{first}"
     );
     assert!(rt; is_front_of(first, case.talk.as_str()), "{first}");
     assert!(rt; ends_by_failures(first), "{first}");
+}
+
+/// The form that a stop left. A store that was opened is of version 2, and one that gave each reply has what was new; it is
+/// opened again with the same answers, and then has it too.
+fn form_left(rt: &impl Abort, alloc: Global, case: &Case, runs: &Runs) -> Result<Form, Fail> {
+    let first = runs.first.as_str();
+    first_is_right(rt, case, first);
     let shown = &runs.shown;
     assert_eq!(rt; shown.told.as_str(), case.talk.as_str());
     let form = case.form_of(alloc, shown.before.as_str())?;
     let form = form.ok_or("a form between")?;
     let after = case.form_of(alloc, shown.after.as_str())?;
     assert_eq!(rt; after, Some(Form::Entered));
+    let opened = first.starts_with("> ");
     let replied = first == case.talk.as_str();
     assert!(rt; !opened || form >= Form::Migrated, "{first}");
     assert!(rt; !replied || form == Form::Entered, "{first}");

@@ -4,7 +4,6 @@ use ee_cli_actions::RunFault;
 use ee_cli_program::{StoreFiles, Stores, Untold, run_words};
 use ee_keeper::ListKeeper;
 use std::alloc::Global;
-use std::fs;
 use std::process::Abort;
 use std::test::Fail;
 
@@ -29,6 +28,23 @@ fn text(rt: &HostRuntime, bytes: &[u8]) -> Result<String, Fail> {
     Ok(std::str::from_utf8(bytes)?.to_string(rt.alloc())?)
 }
 
+fn run_given<O: Stores>(
+    rt: &HostRuntime,
+    stores: &O,
+    words: &[String],
+    input: &str,
+) -> Result<Ran, Fail> {
+    let mut bytes = input.as_bytes();
+    let mut printed = Vec::new(rt.alloc());
+    let mut told = Vec::new(rt.alloc());
+    let status = run_words(rt, stores, words, &mut bytes, &mut printed, &mut told);
+    Ok(Ran {
+        printed: text(rt, &printed)?,
+        told: text(rt, &told)?,
+        status,
+    })
+}
+
 pub fn run_over<O: Stores>(
     rt: &HostRuntime,
     stores: &O,
@@ -36,15 +52,7 @@ pub fn run_over<O: Stores>(
     input: &str,
 ) -> Result<Ran, Fail> {
     let words = words(rt, line)?;
-    let mut bytes = input.as_bytes();
-    let mut printed = Vec::new(rt.alloc());
-    let mut told = Vec::new(rt.alloc());
-    let status = run_words(rt, stores, &words, &mut bytes, &mut printed, &mut told);
-    Ok(Ran {
-        printed: text(rt, &printed)?,
-        told: text(rt, &told)?,
-        status,
-    })
+    run_given(rt, stores, &words, input)
 }
 
 pub fn run(rt: &HostRuntime, line: &str, input: &str) -> Result<Ran, Fail> {
@@ -79,33 +87,49 @@ impl Stores for InMemory {
 }
 
 /// The line printed this, with status 0.
-pub fn assert_prints(rt: &impl Abort, ran: &Ran, wanted: &str) {
+fn assert_printed(rt: &impl Abort, ran: &Ran, wanted: &str) {
     assert_eq!(rt; ran.printed.as_str(), wanted);
     assert!(rt; ran.told.is_empty());
     assert_eq!(rt; ran.status, 0);
 }
 
-/// The line printed nothing, and told this, with this status.
-pub fn assert_tells(rt: &impl Abort, ran: &Ran, wanted: &str, status: u8) {
-    assert_eq!(rt; ran.told.as_str(), wanted);
-    assert!(rt; ran.printed.is_empty());
-    assert_eq!(rt; ran.status, status);
+/// The line prints this, with status 0.
+pub fn prints(
+    rt: &HostRuntime,
+    abort: &impl Abort,
+    line: &str,
+    input: &str,
+    wanted: &str,
+) -> Result<(), Fail> {
+    assert_printed(abort, &run(rt, line, input)?, wanted);
+    Ok(())
 }
 
-/// A path for a file of this test alone; no file is there.
-pub fn fresh(rt: &HostRuntime, name: &str) -> Result<String, Fail> {
-    let folder = std::env::temp_dir(rt)?;
-    let folder = folder.as_path().to_str().ok_or("a folder's name")?;
-    let path = format!(in rt.alloc(); "{folder}/ee_cli_{name}")?;
-    forget(rt, &path)?;
-    Ok(path)
+/// The same over stores in memory.
+pub fn prints_in_memory(
+    rt: &HostRuntime,
+    abort: &impl Abort,
+    line: &str,
+    input: &str,
+    wanted: &str,
+) -> Result<(), Fail> {
+    let stores = InMemory { alloc: rt.alloc() };
+    assert_printed(abort, &run_over(rt, &stores, line, input)?, wanted);
+    Ok(())
 }
 
-/// Removes the file of a path, and the log beside it.
-pub fn forget(rt: &HostRuntime, path: &str) -> Result<(), Fail> {
-    let log = format!(in rt.alloc(); "{path}-wal")?;
-    let _gone = fs::remove_file(rt, path);
-    let _gone = fs::remove_file(rt, log.as_str());
+/// The line prints nothing, and tells this, with this status.
+pub fn tells(
+    rt: &HostRuntime,
+    abort: &impl Abort,
+    line: &str,
+    wanted: &str,
+    status: u8,
+) -> Result<(), Fail> {
+    let ran = run(rt, line, "")?;
+    assert_eq!(abort; ran.told.as_str(), wanted);
+    assert!(abort; ran.printed.is_empty());
+    assert_eq!(abort; ran.status, status);
     Ok(())
 }
 

@@ -1,11 +1,12 @@
 //! Stores that are changed by other statements than this program's.
 
+use crate::answering::{refused, tells};
 use crate::earlier::{ANSWERS, EXTENSIONS};
 use sqlite::{Alter, Connection, MemStore};
 use std::alloc::Global;
 use std::process::Abort;
 use std::test::Fail;
-use store_talks::five::{FIVE, rows_told, served};
+use store_talks::five::{FIVE, rows_told};
 
 /// A change of the rows after that day, how it is undone, the answer to the changed store, and a row that
 /// the change made.
@@ -56,35 +57,34 @@ const ALONE: [&str; 4] = [
     "CREATE TABLE notes (note TEXT)",
 ];
 
-/// Runs statements.
-fn change<S: Alter>(conn: &mut Connection<S>, statements: &str) -> Result<(), Fail> {
-    conn.execute_batch(statements)?;
-    Ok(())
-}
-
 /// Changes a store, which is then refused and keeps all its rows; the change undone, it gives the first
 /// replies.
 fn is_refused(
     rt: &impl Abort,
     alloc: Global,
-    mut conn: Connection<MemStore>,
+    conn: Connection<MemStore>,
     case: &str,
 ) -> Result<Connection<MemStore>, Fail> {
     let (statements, case) = case.split_once(" => ").ok_or("change")?;
     let (undo, case) = case.split_once(" => ").ok_or("undo")?;
     let (fault, row) = case.split_once(" => ").ok_or("fault")?;
-    change(&mut conn, statements)?;
-    let before = rows_told(alloc, &mut conn)?;
+    let mut conn = refused(rt, alloc, conn, statements, fault)?;
+    has_row(rt, alloc, &mut conn, row)?;
+    conn.execute_batch(undo)?;
+    tells(rt, alloc, conn, FIVE, FIVE, undo)
+}
+
+/// A row of a store is told as this line.
+fn has_row(
+    rt: &impl Abort,
+    alloc: Global,
+    conn: &mut Connection<MemStore>,
+    row: &str,
+) -> Result<(), Fail> {
+    let told = rows_told(alloc, conn)?;
     let line = format!(in alloc; "{row}\n")?;
-    assert!(rt; before.contains(line.as_str()), "{before}");
-    let (text, mut conn) = served(alloc, conn, FIVE);
-    assert!(rt; text?.as_str() == fault, "{statements}");
-    let after = rows_told(alloc, &mut conn)?;
-    assert!(rt; before.as_str() == after.as_str(), "{statements}");
-    change(&mut conn, undo)?;
-    let (text, conn) = served(alloc, conn, FIVE);
-    assert!(rt; text?.as_str() == FIVE, "{undo}");
-    Ok(conn)
+    assert!(rt; told.contains(line.as_str()), "{told}");
+    Ok(())
 }
 
 /// A store that is closed and taken over again gives each number its first reply. A changed one is refused,
@@ -99,28 +99,28 @@ fn changed_stores_are_refused(rt: HostRuntime) -> Result<(), Fail> {
     Ok(())
 }
 
-/// A store that is changed is refused for that cause, and stays as it is.
-fn refused(
-    rt: &impl Abort,
-    alloc: Global,
-    mut conn: Connection<MemStore>,
-    statements: &str,
-    fault: &str,
-) -> Result<Connection<MemStore>, Fail> {
-    change(&mut conn, statements)?;
-    let before = rows_told(alloc, &mut conn)?;
-    let (text, mut conn) = served(alloc, conn, FIVE);
-    assert!(rt; text?.as_str() == fault, "{statements}");
-    let after = rows_told(alloc, &mut conn)?;
-    assert!(rt; before.as_str() == after.as_str(), "{statements}");
-    Ok(conn)
-}
-
 /// A store that the five requests were sent to.
 fn with_five(rt: &impl Abort, alloc: Global) -> Result<Connection<MemStore>, Fail> {
-    let (text, conn) = served(alloc, Connection::open_in_memory(alloc)?, FIVE);
-    assert_eq!(rt; text?.as_str(), FIVE);
-    Ok(conn)
+    let conn = Connection::open_in_memory(alloc)?;
+    tells(rt, alloc, conn, FIVE, FIVE, "a new store")
+}
+
+/// Each change of the tables by itself.
+fn other_forms_are_refused(rt: &impl Abort, alloc: Global) -> Result<(), Fail> {
+    for case in OTHER_FORMS.lines() {
+        let (statements, fault) = case.split_once(" => ").ok_or("change")?;
+        let _conn = refused(rt, alloc, with_five(rt, alloc)?, statements, fault)?;
+    }
+    Ok(())
+}
+
+/// Each of the tables that a store has alone.
+fn tables_alone_are_refused(rt: &impl Abort, alloc: Global) -> Result<(), Fail> {
+    for statement in ALONE {
+        let conn = Connection::open_in_memory(alloc)?;
+        let _conn = refused(rt, alloc, conn, statement, "Unusable")?;
+    }
+    Ok(())
 }
 
 /// A store that doesn't have just the tables of this program, in their order, is refused, and stays as it is; its
@@ -133,13 +133,6 @@ fn other_tables_are_refused(rt: HostRuntime) -> Result<(), Fail> {
         let (statements, fault) = case.split_once(" => ").ok_or("change")?;
         conn = refused(&rt, alloc, conn, statements, fault)?;
     }
-    for case in OTHER_FORMS.lines() {
-        let (statements, fault) = case.split_once(" => ").ok_or("change")?;
-        let _conn = refused(&rt, alloc, with_five(&rt, alloc)?, statements, fault)?;
-    }
-    for statement in ALONE {
-        let conn = Connection::open_in_memory(alloc)?;
-        let _conn = refused(&rt, alloc, conn, statement, "Unusable")?;
-    }
-    Ok(())
+    other_forms_are_refused(&rt, alloc)?;
+    tables_alone_are_refused(&rt, alloc)
 }

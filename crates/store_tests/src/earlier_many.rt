@@ -1,5 +1,6 @@
 //! Stores of version 1 with many replies, and with little memory.
 
+use crate::answering::{has_rows, tells};
 use crate::earlier::{EXTENSIONS, Earlier, SEVEN_TABLES, make_earlier, rows_after, rows_before};
 use ee_store::{NotAdopted, OpenFault, SqlKeeper};
 use sqlite::types::ValueRef;
@@ -8,7 +9,7 @@ use std::alloc::Global;
 use std::fmt::Write;
 use std::process::Abort;
 use std::test::Fail;
-use store_talks::five::{FIVE, rows_told, served};
+use store_talks::five::{FIVE, served};
 
 /// How many replies a store has; each third number is used.
 const COUNT: u64 = 10_000;
@@ -70,12 +71,10 @@ fn ten_thousand_replies(rt: HostRuntime) -> Result<(), Fail> {
     conn.execute_batch(SEVEN_TABLES)?;
     conn.execute_batch(EXTENSIONS)?;
     add_replies(&mut conn)?;
-    let (text, mut conn) = served(alloc, conn, "");
-    assert_eq!(rt; text?.as_str(), "");
-    let rows = rows_told(alloc, &mut conn)?;
-    assert!(rt; rows.as_str() == wanted(alloc)?.as_str(), "other rows");
-    let (text, _conn) = served(alloc, conn, TALK);
-    assert_eq!(rt; text?.as_str(), TALK);
+    let mut conn = tells(&rt, alloc, conn, "", "", "")?;
+    let rows = wanted(alloc)?;
+    has_rows(&rt, alloc, &mut conn, rows.as_str(), "other rows")?;
+    let _conn = tells(&rt, alloc, conn, TALK, TALK, "")?;
     Ok(())
 }
 
@@ -84,16 +83,33 @@ fn opened(
     rt: &impl Abort,
     alloc: Global,
     conn: Connection<MemStore>,
-    rows: &str,
 ) -> Result<Connection<MemStore>, Fail> {
     match SqlKeeper::adopt(conn, alloc) {
         Ok(keeper) => Ok(keeper.close()),
         Err(NotAdopted { fault, mut conn }) => {
             assert_eq!(rt; fault, OpenFault::NoMemory);
-            assert_eq!(rt; rows_told(alloc, &mut conn)?.as_str(), rows);
+            let rows = rows_before(alloc, Earlier::Seven)?;
+            has_rows(rt, alloc, &mut conn, rows.as_str(), "refused")?;
             Ok(conn)
         }
     }
+}
+
+/// The five requests twice: at the first time or at the second each has its first reply.
+fn answers_again(
+    rt: &impl Abort,
+    alloc: Global,
+    conn: Connection<MemStore>,
+) -> Result<Connection<MemStore>, Fail> {
+    let (first, conn) = served(alloc, conn, FIVE);
+    let first = first?;
+    let (second, conn) = served(alloc, conn, FIVE);
+    let second = second?;
+    assert!(rt;
+        first.as_str() == FIVE || second.as_str() == FIVE,
+        "{first}{second}"
+    );
+    Ok(conn)
 }
 
 /// It is opened, at once or after memory was refused, and gives each number its first reply, where no memory is refused to
@@ -103,17 +119,8 @@ fn refused_memory(rt: HostRuntime) -> Result<(), Fail> {
     let alloc = rt.alloc();
     let mut conn = Connection::open_in_memory(alloc)?;
     make_earlier(&mut conn, Earlier::Seven)?;
-    let before = rows_before(alloc, Earlier::Seven)?;
-    let after = rows_after(alloc, false, false)?;
-    let conn = opened(&rt, alloc, conn, before.as_str())?;
-    let (text, conn) = served(alloc, conn, FIVE);
-    let first = text?;
-    let (text, mut conn) = served(alloc, conn, FIVE);
-    let second = text?;
-    assert!(rt;
-        first.as_str() == FIVE || second.as_str() == FIVE,
-        "{first}{second}"
-    );
-    assert_eq!(rt; rows_told(alloc, &mut conn)?.as_str(), after.as_str());
-    Ok(())
+    let conn = opened(&rt, alloc, conn)?;
+    let mut conn = answers_again(&rt, alloc, conn)?;
+    let rows = rows_after(alloc, false, false)?;
+    has_rows(&rt, alloc, &mut conn, rows.as_str(), "opened")
 }

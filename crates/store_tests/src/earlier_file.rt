@@ -3,7 +3,7 @@
 
 use crate::earlier::{Earlier, NAMED, OTHER, SHOWN};
 use crate::earlier_bytes::{EXTENDED, EXTENDED_LOG, SEVEN, SEVEN_LOG};
-use crate::earlier_stops::{Form, News, shown_on};
+use crate::earlier_stops::{Form, News, Shown, shown_on};
 use sqlite::Files;
 use sqlite_disk::{Disk, Memory};
 use std::alloc::Global;
@@ -74,66 +74,104 @@ fn file_of(alloc: Global, text: &str) -> Result<Memory, Fail> {
     Ok(file)
 }
 
-/// A store in files, which is in one form and then in another.
-#[derive(Drop)]
-struct Goes {
+/// A talk over files of an earlier store, what it brings, and the forms that they have before and after it.
+#[derive(Clone, Copy)]
+struct Step {
     earlier: Earlier,
-    files: Files<Memory>,
+    news: News,
+    talk: &'static str,
+    before: Form,
+    after: Form,
 }
 
-impl Goes {
-    /// What a talk over the files tells is the talk, and it brings them from one form to another.
-    fn on(
-        self,
-        rt: &impl Abort,
-        alloc: Global,
-        talk: &str,
-        news: News,
-        forms: (Form, Form),
-    ) -> Result<Goes, Fail> {
-        let Goes { earlier, files } = self;
-        let (shown, files) = shown_on(alloc, files, talk)?;
-        assert_eq!(rt; shown.told.as_str(), talk);
-        let before = Form::of(alloc, earlier, news, shown.before.as_str())?;
-        let after = Form::of(alloc, earlier, news, shown.after.as_str())?;
-        assert_eq!(rt; before, Some(forms.0));
-        assert_eq!(rt; after, Some(forms.1));
-        Ok(Goes { earlier, files })
+/// What a talk over the files tells is the talk, and it brings them from one form to another.
+fn is_shown(rt: &impl Abort, alloc: Global, shown: &Shown, step: Step) -> Result<(), Fail> {
+    assert_eq!(rt; shown.told.as_str(), step.talk);
+    let before = Form::of(alloc, step.earlier, step.news, shown.before.as_str())?;
+    let after = Form::of(alloc, step.earlier, step.news, shown.after.as_str())?;
+    assert_eq!(rt; before, Some(step.before));
+    assert_eq!(rt; after, Some(step.after));
+    Ok(())
+}
+
+fn goes_on(
+    rt: &impl Abort,
+    alloc: Global,
+    files: Files<Memory>,
+    step: Step,
+) -> Result<Files<Memory>, Fail> {
+    let mut shown = Shown::new(alloc);
+    let files = shown_on(alloc, files, step.talk, &mut shown)?;
+    is_shown(rt, alloc, &shown, step)?;
+    Ok(files)
+}
+
+/// The files of these texts go through the steps.
+fn is_opened(
+    rt: &impl Abort,
+    alloc: Global,
+    texts: (&str, &str),
+    steps: &[Step],
+) -> Result<(), Fail> {
+    let log = file_of(alloc, texts.0)?;
+    let db = file_of(alloc, texts.1)?;
+    let mut files = Files { log, db };
+    for step in steps {
+        files = goes_on(rt, alloc, files, *step)?;
     }
+    Ok(())
 }
 
 /// Of a file from before extensions each number has its first reply, and the rows are those of the five requests; an
 /// extension is entered, and is there when the files are opened again.
 #[test]
 fn a_file_from_before_extensions_is_opened(rt: HostRuntime) -> Result<(), Fail> {
-    let alloc = rt.alloc();
-    let files = Files {
-        log: file_of(alloc, SEVEN_LOG)?,
-        db: file_of(alloc, SEVEN)?,
+    let first = Step {
+        earlier: Earlier::Seven,
+        news: News::Extension,
+        talk: FIVE,
+        before: Form::Earlier,
+        after: Form::Migrated,
     };
-    let earlier = Earlier::Seven;
-    let mut store = Goes { earlier, files };
-    let (news, entered) = (News::Extension, Form::Entered);
-    store = store.on(&rt, alloc, FIVE, news, (Form::Earlier, Form::Migrated))?;
-    store = store.on(&rt, alloc, NAMED, news, (Form::Migrated, entered))?;
-    let _store = store.on(&rt, alloc, SHOWN, news, (entered, entered))?;
-    Ok(())
+    let second = Step {
+        talk: NAMED,
+        before: Form::Migrated,
+        after: Form::Entered,
+        ..first
+    };
+    let third = Step {
+        talk: SHOWN,
+        before: Form::Entered,
+        ..second
+    };
+    is_opened(&rt, rt.alloc(), (SEVEN_LOG, SEVEN), &[first, second, third])
 }
 
 /// So it is with a file from before desks, in which an extension is, and a second desk uses one of its numbers.
 #[test]
 fn a_file_from_before_desks_is_opened(rt: HostRuntime) -> Result<(), Fail> {
-    let alloc = rt.alloc();
-    let files = Files {
-        log: file_of(alloc, EXTENDED_LOG)?,
-        db: file_of(alloc, EXTENDED)?,
+    let first = Step {
+        earlier: Earlier::Extended,
+        news: News::Desk,
+        talk: FIVE,
+        before: Form::Earlier,
+        after: Form::Migrated,
     };
-    let earlier = Earlier::Extended;
-    let mut store = Goes { earlier, files };
-    let (news, entered) = (News::Desk, Form::Entered);
-    store = store.on(&rt, alloc, FIVE, news, (Form::Earlier, Form::Migrated))?;
-    store = store.on(&rt, alloc, SHOWN, news, (Form::Migrated, Form::Migrated))?;
-    store = store.on(&rt, alloc, OTHER, news, (Form::Migrated, entered))?;
-    let _store = store.on(&rt, alloc, FIVE, news, (entered, entered))?;
-    Ok(())
+    let second = Step {
+        talk: SHOWN,
+        before: Form::Migrated,
+        ..first
+    };
+    let third = Step {
+        talk: OTHER,
+        after: Form::Entered,
+        ..second
+    };
+    let fourth = Step {
+        talk: FIVE,
+        before: Form::Entered,
+        ..third
+    };
+    let steps = [first, second, third, fourth];
+    is_opened(&rt, rt.alloc(), (EXTENDED_LOG, EXTENDED), &steps)
 }

@@ -2,11 +2,12 @@
 //! same rows, and each number is one of the first desk. Those that were made before extensions could be named have seven
 //! tables.
 
+use crate::answering::{has_rows, refused, tells};
 use sqlite::{Alter, Connection, MemStore};
 use std::alloc::Global;
 use std::process::Abort;
 use std::test::Fail;
-use store_talks::five::{FIVE, rows_told, served};
+use store_talks::five::FIVE;
 
 /// Makes the seven tables.
 pub const SEVEN_TABLES: &str = "\
@@ -150,91 +151,93 @@ const NEW_EXTENSION: &str = "extensions 72 400\n";
 const NEW_ANSWER: &str =
     r#"answers 1 4 {"act":"redeem","day":"2012-02-06","payee":7,"serials":["L1EE","K2EE","M3EE"]} {"code":42,"refused":"NoOpenDay"}"#;
 
-/// Lines, each after that word.
-fn after_word(alloc: Global, word: &str, lines: &str) -> Result<String, Fail> {
-    let mut text = String::new(alloc);
+/// Adds lines, each after that word.
+fn add_lines(text: &mut String, word: &str, lines: &str) -> Result<(), Fail> {
     for line in lines.lines() {
         text.push_str(word)?;
         text.push_str(line)?;
         text.push_str("\n")?;
     }
-    Ok(text)
+    Ok(())
 }
 
-/// The rates and the replies of a store with an extension, or without one.
-fn rates_and_replies(
-    alloc: Global,
-    is_extended: bool,
-    word: &str,
-) -> Result<(String, String), Fail> {
-    let replies = after_word(alloc, word, REPLIES)?;
-    if !is_extended {
-        return Ok((String::from_str(alloc, RATES)?, replies));
-    }
-    Ok((
-        format!(in alloc; "{RATES}{NEW_RATE}")?,
-        format!(in alloc; "{replies}{word}{NEW_REPLY}\n")?,
-    ))
+/// Adds the rates of a store with an extension, or without one, and the rows from the bonds to the batches.
+fn add_rates_and_payments(text: &mut String, is_extended: bool) -> Result<(), Fail> {
+    text.push_str(RATES)?;
+    text.push_str(if is_extended { NEW_RATE } else { "" })?;
+    text.push_str(PAYMENTS)?;
+    Ok(())
+}
+
+/// Adds the replies of a store with an extension, or without one.
+fn add_replies(text: &mut String, is_extended: bool, word: &str) -> Result<(), Fail> {
+    add_lines(text, word, REPLIES)?;
+    add_lines(text, word, if is_extended { NEW_REPLY } else { "" })
 }
 
 /// The rows of an earlier store, as they are told before it is opened.
 pub fn rows_before(alloc: Global, earlier: Earlier) -> Result<String, Fail> {
-    let (rates, replies) = rates_and_replies(alloc, earlier == Earlier::Extended, "replies ")?;
-    let extensions = match earlier {
+    let is_extended = earlier == Earlier::Extended;
+    let mut text = String::from_str(alloc, "desk 1 1 - 15376\n")?;
+    add_rates_and_payments(&mut text, is_extended)?;
+    add_replies(&mut text, is_extended, "replies ")?;
+    text.push_str(match earlier {
         Earlier::Seven => "extensions is missing\n",
         Earlier::Eight => "",
         Earlier::Extended => NEW_EXTENSION,
-    };
-    Ok(format!(in alloc;
-        "desk 1 1 - 15376\n{rates}{PAYMENTS}{replies}{extensions}answers is missing\n"
-    )?)
+    })?;
+    text.push_str("answers is missing\n")?;
+    Ok(text)
 }
 
 /// The rows that it has in version 2: with the extension or without it, and with the second desk's reply or without it.
 pub fn rows_after(alloc: Global, is_extended: bool, has_other: bool) -> Result<String, Fail> {
-    let (rates, answers) = rates_and_replies(alloc, is_extended, "answers 0 ")?;
-    let extensions = if is_extended { NEW_EXTENSION } else { "" };
-    let other = if has_other { NEW_ANSWER } else { "" };
-    let end = if has_other { "\n" } else { "" };
-    Ok(format!(in alloc;
-        "desk 1 2 - 15376\n{rates}{PAYMENTS}replies is missing\n{extensions}{answers}{other}{end}"
-    )?)
+    let mut text = String::from_str(alloc, "desk 1 2 - 15376\n")?;
+    add_rates_and_payments(&mut text, is_extended)?;
+    text.push_str("replies is missing\n")?;
+    text.push_str(if is_extended { NEW_EXTENSION } else { "" })?;
+    add_replies(&mut text, is_extended, "answers 0 ")?;
+    add_lines(&mut text, "", if has_other { NEW_ANSWER } else { "" })?;
+    Ok(text)
 }
 
-/// What a talk over a store tells is the talk; its rows then are these.
+/// What a talk over a store tells is the talk; its rows then are those of version 2.
 fn goes_on(
     rt: &impl Abort,
     alloc: Global,
     conn: Connection<MemStore>,
     talk: &str,
-    rows: &str,
+    is_extended: bool,
+    has_other: bool,
 ) -> Result<Connection<MemStore>, Fail> {
-    let (text, mut conn) = served(alloc, conn, talk);
-    assert_eq!(rt; text?.as_str(), talk);
-    assert_eq!(rt; rows_told(alloc, &mut conn)?.as_str(), rows);
+    let mut conn = tells(rt, alloc, conn, talk, talk, "")?;
+    let rows = rows_after(alloc, is_extended, has_other)?;
+    has_rows(rt, alloc, &mut conn, rows.as_str(), talk)?;
     Ok(conn)
+}
+
+/// An earlier store is opened, and opened again for each talk.
+fn is_opened(rt: &impl Abort, alloc: Global, earlier: Earlier) -> Result<(), Fail> {
+    let is_extended = earlier == Earlier::Extended;
+    let mut conn = in_memory(alloc, earlier)?;
+    let before = rows_before(alloc, earlier)?;
+    has_rows(rt, alloc, &mut conn, before.as_str(), "before")?;
+    let conn = goes_on(rt, alloc, conn, "", is_extended, false)?;
+    let conn = goes_on(rt, alloc, conn, FIVE, is_extended, false)?;
+    let conn = goes_on(rt, alloc, conn, OTHER, is_extended, true)?;
+    let conn = goes_on(rt, alloc, conn, FIVE, is_extended, true)?;
+    let conn = goes_on(rt, alloc, conn, OTHER, is_extended, true)?;
+    let conn = goes_on(rt, alloc, conn, NAMED, true, true)?;
+    let _conn = goes_on(rt, alloc, conn, SHOWN, true, true)?;
+    Ok(())
 }
 
 /// It has its rows in version 2 once it is opened, and gives each number of the first desk its first reply, whatever the
 /// second desk does under the same number; when it is opened again too.
 #[test]
 fn an_earlier_store_is_opened(rt: HostRuntime) -> Result<(), Fail> {
-    let alloc = rt.alloc();
     for earlier in EACH {
-        let is_extended = earlier == Earlier::Extended;
-        let mut conn = in_memory(alloc, earlier)?;
-        let before = rows_before(alloc, earlier)?;
-        assert_eq!(rt; rows_told(alloc, &mut conn)?.as_str(), before.as_str());
-        let rows = rows_after(alloc, is_extended, false)?;
-        conn = goes_on(&rt, alloc, conn, "", rows.as_str())?;
-        conn = goes_on(&rt, alloc, conn, FIVE, rows.as_str())?;
-        let rows = rows_after(alloc, is_extended, true)?;
-        conn = goes_on(&rt, alloc, conn, OTHER, rows.as_str())?;
-        conn = goes_on(&rt, alloc, conn, FIVE, rows.as_str())?;
-        conn = goes_on(&rt, alloc, conn, OTHER, rows.as_str())?;
-        let rows = rows_after(alloc, true, true)?;
-        conn = goes_on(&rt, alloc, conn, NAMED, rows.as_str())?;
-        let _conn = goes_on(&rt, alloc, conn, SHOWN, rows.as_str())?;
+        is_opened(&rt, rt.alloc(), earlier)?;
     }
     Ok(())
 }
@@ -275,13 +278,8 @@ fn are_refused(
 ) -> Result<(), Fail> {
     for case in changes.lines() {
         let (statements, fault) = case.split_once(" => ").ok_or("change")?;
-        let mut conn = in_memory(alloc, earlier)?;
-        conn.execute_batch(statements)?;
-        let before = rows_told(alloc, &mut conn)?;
-        let (text, mut conn) = served(alloc, conn, FIVE);
-        assert_eq!(rt; text?.as_str(), fault, "{statements}");
-        let after = rows_told(alloc, &mut conn)?;
-        assert_eq!(rt; before.as_str(), after.as_str(), "{statements}");
+        let conn = in_memory(alloc, earlier)?;
+        let _conn = refused(rt, alloc, conn, statements, fault)?;
     }
     Ok(())
 }

@@ -131,14 +131,37 @@ fn add_rest<S: Alter>(
 ) -> Result<(), Fail> {
     add(text, "lines", &ticket_lines(tx, alloc, 1))?;
     add(text, "batch", &find_batch(tx, DAY))?;
+    add_reply(text, tx)?;
+    add(
+        text,
+        "at the first desk",
+        &find_answer(tx, 0, LAST)?.is_some(),
+    )?;
+    add(
+        text,
+        "under the first number",
+        &find_answer(tx, 999, 1)?.is_some(),
+    )
+}
+
+/// Adds the reply.
+fn add_reply<S: Alter>(text: &mut String, tx: &mut Transaction<'_, S>) -> Result<(), Fail> {
     let Ok(Some(entry)) = find_answer(tx, 999, LAST) else {
         return Err("the reply was not found".into());
     };
-    add(text, "reply", &entry.reply)?;
-    let other = find_answer(tx, 0, LAST)?;
-    add(text, "at the first desk", &other.is_some())?;
-    let other = find_answer(tx, 999, 1)?;
-    add(text, "under the first number", &other.is_some())
+    add(text, "reply", &entry.reply)
+}
+
+/// Adds all that.
+fn add_found<S: Alter>(
+    alloc: Global,
+    text: &mut String,
+    tx: &mut Transaction<'_, S>,
+) -> Result<(), Fail> {
+    add_register(text, tx)?;
+    add_bonds(alloc, text, tx)?;
+    add_tickets(alloc, text, tx)?;
+    add_rest(alloc, text, tx)
 }
 
 /// What is found of all that.
@@ -172,10 +195,7 @@ fn found<S: Alter>(alloc: Global, tx: &mut Transaction<'_, S>) -> Result<String,
     };
     redeem(tx, &entry)?;
     let mut text = String::new(alloc);
-    add_register(&mut text, tx)?;
-    add_bonds(alloc, &mut text, tx)?;
-    add_tickets(alloc, &mut text, tx)?;
-    add_rest(alloc, &mut text, tx)?;
+    add_found(alloc, &mut text, tx)?;
     add(&mut text, "again", &redeem(tx, &entry))?;
     Ok(text)
 }

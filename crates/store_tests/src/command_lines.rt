@@ -1,9 +1,10 @@
 //! Lines that ask for values, for help or for nothing that the program does, and what is printed where the output fails. The
 //! values are worked by hand from the rules of 31 CFR Part 351.
 
-use crate::ran::{InMemory, assert_prints, assert_tells, run, words};
+use crate::commands::{InMemory, prints, run, tells, words};
 use ee_cli_program::{refuse_words, run_words};
 use std::io::{self, ErrorKind, Write};
+use std::process::Abort;
 use std::test::Fail;
 
 /// Lines that ask for a value, and what they print. Where an extension is named, the fixed rate grows the value
@@ -54,7 +55,7 @@ fn values(rt: HostRuntime) -> Result<(), Fail> {
     for row in VALUES.lines() {
         let (line, value) = row.split_once(" => ").ok_or("row")?;
         let wanted = format!(in rt.alloc(); "{value}\n")?;
-        assert_prints(&rt, &run(&rt, line, "")?, &wanted);
+        prints(&rt, &rt, line, "", &wanted)?;
     }
     Ok(())
 }
@@ -74,7 +75,7 @@ fn bad_arguments(rt: HostRuntime) -> Result<(), Fail> {
         ("export 0 --db no/where", "bad argument: customer\n"),
         ("sheet 7 2012-13 --db no/where", "bad argument: month\n"),
     ] {
-        assert_tells(&rt, &run(&rt, line, "")?, wanted, 2);
+        tells(&rt, &rt, line, wanted, 2)?;
     }
     Ok(())
 }
@@ -121,7 +122,7 @@ fn help_is_no_fault(rt: HostRuntime) -> Result<(), Fail> {
 #[test]
 fn versions(rt: HostRuntime) -> Result<(), Fail> {
     for line in ["--version", "-V"] {
-        assert_prints(&rt, &run(&rt, line, "")?, "ee_cli 1.0.0, store version 2\n");
+        prints(&rt, &rt, line, "", "ee_cli 1.0.0, store version 2\n")?;
     }
     Ok(())
 }
@@ -149,19 +150,24 @@ impl Write for Failing {
     }
 }
 
+/// The output takes so many bytes of what words print, and then fails.
+fn prints_so_many(rt: &HostRuntime, abort: &impl Abort, words: &[String], room: usize) {
+    let bytes = Vec::new(rt.alloc());
+    let mut output = Failing { bytes, room };
+    let mut told = Vec::new(rt.alloc());
+    let stores = InMemory { alloc: rt.alloc() };
+    let mut input = io::empty();
+    let status = run_words(rt, &stores, words, &mut input, &mut output, &mut told);
+    assert_eq!(abort; Some(&output.bytes[..]), b"29.74\n".get(..room));
+    assert_eq!(abort; &told[..], b"input or output failed\n".as_slice());
+    assert_eq!(abort; status, 3);
+}
+
 #[test]
 fn failing_output(rt: HostRuntime) -> Result<(), Fail> {
     let words = words(&rt, "value 50 2010-05 2015-05 3.50")?;
     for room in 0..6 {
-        let bytes = Vec::new(rt.alloc());
-        let mut output = Failing { bytes, room };
-        let mut told = Vec::new(rt.alloc());
-        let stores = InMemory { alloc: rt.alloc() };
-        let mut input = io::empty();
-        let status = run_words(&rt, &stores, &words, &mut input, &mut output, &mut told);
-        assert_eq!(rt; &output.bytes[..], &b"29.74\n"[..room]);
-        assert_eq!(rt; &told[..], b"input or output failed\n".as_slice());
-        assert_eq!(rt; status, 3);
+        prints_so_many(&rt, &rt, &words, room);
     }
     Ok(())
 }
