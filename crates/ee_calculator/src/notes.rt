@@ -13,7 +13,7 @@ const FREE_OF_PENALTY: u16 = 60;
 pub(crate) const FINAL_MATURITY: u16 = 360;
 
 /// What the calculator notes of a bond in a month.
-#[derive(Clone, Copy, Debug, PartialEq, Eq, PartialOrd, Ord, Hash)]
+#[derive(Clone, Copy)]
 pub enum Note {
     /// Not issued yet.
     Ni,

@@ -10,7 +10,7 @@ pub const SERIES: &str = "EE";
 
 /// What the calculator shows of a bond in a month: its eleven columns, but for the series, which is
 /// always `SERIES`. The value is the price and the interest together.
-#[derive(Clone, Copy, Debug, PartialEq, Eq)]
+#[derive(Clone, Copy)]
 pub struct Row {
     /// None where the row is of no bond of the register.
     pub serial: Option<Serial>,

@@ -7,7 +7,7 @@ use ee_units::Total;
 
 /// Rows with the sums of their prices, values and interest. The value is the price and the interest
 /// together.
-#[derive(Debug, PartialEq, Eq, Drop)]
+#[derive(Drop)]
 pub struct Sheet {
     pub rows: Vec<Row>,
     pub price: Total,

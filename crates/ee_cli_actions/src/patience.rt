@@ -6,7 +6,7 @@ use std::net::{Shutdown, TcpStream};
 use std::time::{Clock, Duration, Instant};
 
 /// Which way bytes go.
-#[derive(Clone, Copy, PartialEq, Eq)]
+#[derive(Clone, Copy)]
 enum Way {
     In,
     Out,

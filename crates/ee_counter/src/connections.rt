@@ -43,7 +43,7 @@ pub enum Why {
 }
 
 /// How serving a connection ended.
-#[derive(Clone, Copy, Debug, PartialEq, Eq)]
+#[derive(Clone, Copy)]
 pub struct Ended {
     /// The answers that were written whole, that to a framing fault too: at most 1,000.
     pub messages: usize,

@@ -15,7 +15,7 @@ use ee_value::RateRow;
 use std::alloc::AllocError;
 
 /// What a desk is asked to do. Each act is done whole or not at all.
-#[derive(Debug, Drop, PartialEq, Eq)]
+#[derive(Debug, PartialEq, Eq, Drop)]
 pub enum Act {
     /// Enters rates, 1 to 500 rows.
     AddRates(Rows<RateRow>),
@@ -34,7 +34,7 @@ pub enum Act {
 }
 
 /// An act under a desk and a number that let it act at most once.
-#[derive(Debug, Drop, PartialEq, Eq)]
+#[derive(Debug, Drop)]
 pub struct Request {
     pub desk: Desk,
     pub number: Number,

@@ -9,7 +9,7 @@ ghost use Rattle.ee_desk_acts.specs.Desks.{is_desk, desk_of};
 use std::marker::Model;
 
 /// One of the counters of a bank, 0 to 999: each numbers its requests apart.
-#[derive(Clone, Copy, Debug, PartialEq, Eq, PartialOrd, Ord, Hash)]
+#[derive(Clone, Copy, Debug, PartialEq, Eq, PartialOrd, Ord)]
 pub struct Desk {
     number: u16,
 }

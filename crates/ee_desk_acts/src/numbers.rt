@@ -7,7 +7,7 @@ use crate::desks::Desk;
 use std::marker::Model;
 
 /// The number that a desk gives a request, 1 to 2^63 - 1.
-#[derive(Clone, Copy, Debug, PartialEq, Eq, PartialOrd, Ord, Hash)]
+#[derive(Clone, Copy, Debug, PartialEq, Eq, PartialOrd, Ord)]
 pub struct Number {
     value: u64,
 }
@@ -47,7 +47,7 @@ impl Number {
 }
 
 /// A desk, and a number that it gave: what a request is known by. One request acts at most once.
-#[derive(Clone, Copy, Debug, PartialEq, Eq, PartialOrd, Ord, Hash)]
+#[derive(Clone, Copy, Debug, PartialEq, Eq, PartialOrd, Ord)]
 pub struct RequestNumber {
     desk: Desk,
     number: Number,

@@ -21,7 +21,7 @@ use std::marker::Model;
 const MOST_TICKETS: u64 = 71_200_000;
 
 /// The tickets of the open day: how many they are, how many bonds they paid, and their sum.
-#[derive(Clone, Copy, Debug, PartialEq, Eq)]
+#[derive(Clone, Copy)]
 pub struct DayCounts {
     pub tickets: u64,
     pub bonds: u64,

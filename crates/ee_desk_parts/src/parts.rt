@@ -9,7 +9,7 @@ use thiserror::Error;
 
 /// Books as lists: rates in rising order of month and bonds in rising order of serial, each key
 /// once; tickets in order of number, batches in order of day.
-#[derive(Debug, Drop)]
+#[derive(Drop)]
 pub struct Parts {
     pub rates: Rows<RateRow>,
     pub bonds: Rows<Bond>,

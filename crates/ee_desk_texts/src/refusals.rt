@@ -12,7 +12,7 @@ use json::Writer;
 use std::alloc::{AllocError, Global};
 
 /// What a refusal names.
-#[derive(Clone, Copy, Debug)]
+#[derive(Clone, Copy)]
 pub enum Named {
     Nothing,
     /// The month of a row of rates.

@@ -8,7 +8,7 @@ use std::io::Read;
 use thiserror::Error;
 
 /// Why a source was not read whole.
-#[derive(Clone, Copy, Debug, PartialEq, Eq, PartialOrd, Ord, Hash, Error)]
+#[derive(Clone, Copy, Debug, PartialEq, Eq, Error)]
 pub enum ReadFault {
     /// The source has more bytes than the caller takes.
     #[error("too many bytes")]

@@ -3,7 +3,7 @@
 use std::fmt;
 
 /// A column of a file.
-#[derive(Clone, Copy, Debug, PartialEq, Eq, PartialOrd, Ord, Hash)]
+#[derive(Clone, Copy, Debug, PartialEq, Eq)]
 pub enum Column {
     /// The month from which rates hold.
     From,

@@ -5,7 +5,7 @@ use std::fmt;
 use thiserror::Error;
 
 /// Why a file gives no rows.
-#[derive(Clone, Copy, Debug, PartialEq, Eq, PartialOrd, Ord, Hash, Error)]
+#[derive(Clone, Copy, Debug, PartialEq, Eq, Error)]
 pub enum FileCode {
     /// The first record isn't the header.
     #[error("bad header")]
@@ -48,7 +48,7 @@ impl FileCode {
 
 /// The first fault of a file, and the record where it stands. Records are counted from 1, which is the
 /// header; `ReadFailed`, `NoMemory` and `FileTooLong` stand in row 1.
-#[derive(Clone, Copy, Debug, PartialEq, Eq, PartialOrd, Ord, Hash)]
+#[derive(Clone, Copy, Debug, PartialEq, Eq)]
 pub struct FileFault {
     pub row: u64,
     pub code: FileCode,
@@ -71,7 +71,7 @@ impl fmt::Display for FileFault {
 impl std::error::Error for FileFault {}
 
 /// Why bonds were not written.
-#[derive(Clone, Copy, Debug, PartialEq, Eq, PartialOrd, Ord, Hash, Error)]
+#[derive(Clone, Copy, Debug, PartialEq, Eq, Error)]
 pub enum WriteFault {
     /// The writer failed. It has taken a front of the text, and not all of it.
     #[error("the writer failed")]

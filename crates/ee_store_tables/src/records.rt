@@ -4,7 +4,7 @@
 //! hundredths of a percent, denominations in dollars, all other money in cents.
 
 /// The desk: the version of its tables, the open day, and the day that was closed last.
-#[derive(Clone, Copy, Debug, PartialEq, Eq)]
+#[derive(Clone, Copy, Debug)]
 pub struct DeskRow {
     /// The version of the tables.
     pub version: u64,
@@ -15,7 +15,7 @@ pub struct DeskRow {
 }
 
 /// A rate of bonds that are issued in a period: the fixed one, or that of extended maturity.
-#[derive(Clone, Copy, Debug, PartialEq, Eq)]
+#[derive(Clone, Copy)]
 pub struct RateRow {
     /// The first month of the period.
     pub period: u64,
@@ -24,7 +24,7 @@ pub struct RateRow {
 }
 
 /// A serial number.
-#[derive(Clone, Copy, Debug, PartialEq, Eq)]
+#[derive(Clone, Copy)]
 pub struct Serial {
     /// Its letter, 1 for A.
     pub letter: u64,
@@ -33,7 +33,7 @@ pub struct Serial {
 }
 
 /// A bond of the register, and the ticket that paid it.
-#[derive(Clone, Copy, Debug, PartialEq, Eq)]
+#[derive(Clone, Copy, Debug)]
 pub struct BondRow {
     /// The denomination in dollars.
     pub denom: u64,
@@ -48,7 +48,7 @@ pub struct BondRow {
 }
 
 /// A bond under its serial number, which no ticket paid.
-#[derive(Clone, Copy, Debug, PartialEq, Eq)]
+#[derive(Clone, Copy, Debug)]
 pub struct UnpaidBond {
     /// The letter of its serial number, 1 for A.
     pub letter: u64,
@@ -65,7 +65,7 @@ pub struct UnpaidBond {
 }
 
 /// A ticket without its lines.
-#[derive(Clone, Copy, Debug, PartialEq, Eq)]
+#[derive(Clone, Copy, Debug)]
 pub struct TicketRow {
     /// The day of payment.
     pub day: u64,
@@ -78,7 +78,7 @@ pub struct TicketRow {
 }
 
 /// The sums of a ticket, under its number.
-#[derive(Clone, Copy, Debug, PartialEq, Eq)]
+#[derive(Clone, Copy, Debug)]
 pub struct TicketSum {
     /// The number of the ticket.
     pub ticket: u64,
@@ -89,7 +89,7 @@ pub struct TicketSum {
 }
 
 /// A line of a ticket: a bond, and what was paid for it.
-#[derive(Clone, Copy, Debug, PartialEq, Eq)]
+#[derive(Clone, Copy)]
 pub struct PaidRow {
     /// The letter of the bond's serial number.
     pub letter: u64,
@@ -100,7 +100,7 @@ pub struct PaidRow {
 }
 
 /// A line of a ticket, and its place on the ticket.
-#[derive(Clone, Copy, Debug, PartialEq, Eq)]
+#[derive(Clone, Copy, Debug)]
 pub struct PlacedLine {
     /// Its place, from 1 on.
     pub place: u64,
@@ -113,7 +113,7 @@ pub struct PlacedLine {
 }
 
 /// The sums of a closed day.
-#[derive(Clone, Copy, Debug, PartialEq, Eq)]
+#[derive(Clone, Copy, Debug)]
 pub struct BatchRow {
     /// How many tickets the day had.
     pub tickets: u64,

@@ -6,7 +6,7 @@ ghost use Rattle.ee_units.specs.Spelling.{in_range};
 use std::marker::Model;
 
 /// A bond's age: the count of calendar months from its issue month, 0 to 2335.
-#[derive(Clone, Copy, Debug, PartialEq, Eq, PartialOrd, Ord, Hash)]
+#[derive(Clone, Copy, Debug, PartialEq, Eq, PartialOrd, Ord)]
 pub struct Age {
     months: u16,
 }

@@ -11,7 +11,7 @@ use std::marker::Model;
 use std::str::FromStr;
 
 /// A customer's number, 1 to 999,999,999.
-#[derive(Clone, Copy, Debug, PartialEq, Eq, PartialOrd, Ord, Hash)]
+#[derive(Clone, Copy, Debug, PartialEq, Eq)]
 pub struct Customer {
     number: u32,
 }

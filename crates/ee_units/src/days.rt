@@ -15,7 +15,7 @@ use std::marker::Model;
 use std::str::FromStr;
 
 /// A day, 2005-05-01 to 2199-12-31, as its count from 1970-01-01.
-#[derive(Clone, Copy, Debug, PartialEq, Eq, PartialOrd, Ord, Hash)]
+#[derive(Clone, Copy, Debug, PartialEq, Eq, PartialOrd, Ord)]
 pub struct Day {
     count: u32,
 }

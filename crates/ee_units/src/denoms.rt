@@ -6,7 +6,7 @@ use std::fmt;
 use std::str::FromStr;
 
 /// The denomination of a paper bond.
-#[derive(Clone, Copy, Debug, PartialEq, Eq, PartialOrd, Ord, Hash)]
+#[derive(Clone, Copy, Debug, PartialEq, Eq)]
 pub enum Denom {
     Fifty,
     SeventyFive,

@@ -5,7 +5,7 @@ ghost use Rattle.std.specs.Prelude.{◌≡◌};
 use thiserror::Error;
 
 /// Why a text spells no value. Each reader answers the one that is named after it.
-#[derive(Clone, Copy, Debug, PartialEq, Eq, PartialOrd, Ord, Hash, Error)]
+#[derive(Clone, Copy, Debug, PartialEq, Eq, Error)]
 pub enum UnitFault {
     #[error("bad rate")]
     BadRate = 1,

@@ -3,11 +3,11 @@
 use std::fmt;
 
 /// An amount of money in cents.
-#[derive(Clone, Copy, Debug, PartialEq, Eq, PartialOrd, Ord, Hash)]
+#[derive(Clone, Copy, Debug, PartialEq, Eq, PartialOrd, Ord)]
 pub struct Cents(pub u64);
 
 /// A sum of amounts, in cents.
-#[derive(Clone, Copy, Debug, PartialEq, Eq, PartialOrd, Ord, Hash)]
+#[derive(Clone, Copy, Debug, PartialEq, Eq, PartialOrd, Ord)]
 pub struct Total(pub u128);
 
 /// Whole dollars, a point and two digits, as `25.88`.

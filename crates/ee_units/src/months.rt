@@ -11,7 +11,7 @@ use std::marker::Model;
 use std::str::FromStr;
 
 /// A month, 2005-05 to 2199-12, as its count from 2005-05.
-#[derive(Clone, Copy, Debug, PartialEq, Eq, PartialOrd, Ord, Hash)]
+#[derive(Clone, Copy, Debug, PartialEq, Eq, PartialOrd, Ord)]
 pub struct Month {
     count: u16,
 }
@@ -121,7 +121,7 @@ fn month_at(year: u64, month: u64) -> Option<Month>
 
 /// A month of issue, 2005-05 to 2099-12, as its count from 2005-05. A bond's issue date is its first
 /// day.
-#[derive(Clone, Copy, Debug, PartialEq, Eq, PartialOrd, Ord, Hash)]
+#[derive(Clone, Copy, Debug, PartialEq, Eq, PartialOrd, Ord)]
 pub struct IssueMonth {
     count: u16,
 }

@@ -6,7 +6,7 @@ ghost use Rattle.ee_units.specs.Spelling.{in_range};
 use std::marker::Model;
 
 /// The precision of a fixed-point number: its count of binary places, 8 to 62.
-#[derive(Clone, Copy, Debug, PartialEq, Eq, PartialOrd, Ord, Hash)]
+#[derive(Clone, Copy, Debug, PartialEq, Eq)]
 pub struct Bits {
     places: u8,
 }

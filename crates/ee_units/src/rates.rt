@@ -12,7 +12,7 @@ use std::marker::Model;
 use std::str::FromStr;
 
 /// A yearly rate in hundredths of a percent, 0 to 2000.
-#[derive(Clone, Copy, Debug, PartialEq, Eq, PartialOrd, Ord, Hash)]
+#[derive(Clone, Copy, Debug, PartialEq, Eq, PartialOrd, Ord)]
 pub struct Rate {
     hundredths: u16,
 }

@@ -1,11 +1,10 @@
 //! Serial numbers.
 
-ghost use Rattle.std.specs.Prelude.{◌≡◌, ◌≤◌, ◌==◌, ◌&&◌, ◌++◌, Some, option_map, codes};
+ghost use Rattle.std.specs.Prelude.{◌≡◌, ◌≤◌, ◌==◌, ◌&&◌, Some, option_map, codes};
 ghost use Rattle.std.proofs.Common.{rules};
 ghost use Rattle.std.specs.Cmp.{then_po};
-ghost use Rattle.std.specs.Cmp.Rules.{comparing, hashing};
+ghost use Rattle.std.specs.Cmp.Rules.{comparing};
 ghost use Rattle.std.specs.Ordering.{nat_cmp, ordering_then, partial_ordering_then};
-ghost use Rattle.std.specs.Hash as fed;
 ghost use Rattle.std.specs.Option.{ok_or};
 ghost use Rattle.std.specs.Io.BufRead.{strip_last};
 ghost use Rattle.ee_units.specs.Spelling.{strip_first, before_end, serial_at, serial_from, serial_of};
@@ -14,7 +13,6 @@ use crate::faults::UnitFault;
 use crate::pieces::number;
 use std::cmp::Ordering;
 use std::fmt;
-use std::hash::{Hash, Hasher};
 use std::marker::Model;
 use std::str::FromStr;
 
@@ -126,17 +124,6 @@ impl Ord for Serial {
 
     fn cmp(&self, other: &Serial) -> Ordering {
         self.packed.cmp(&other.packed)
-    }
-}
-
-impl Hash for Serial {
-    ghost hash_input = { λ s. fed.u8 s.letter ++ fed.u64 s.number };
-
-    ghost respects_eq = { Prim.search (hashing, rules) };
-
-    fn hash<H: Hasher>(&self, state: &mut H) {
-        self.letter().hash(state);
-        self.number().hash(state);
     }
 }
 

@@ -5,7 +5,7 @@ use std::alloc::{AllocError, AllocFailed};
 use thiserror::Error;
 
 /// The precision doesn't settle the value at an age: its bounds round to different cents.
-#[derive(Clone, Copy, Debug, PartialEq, Eq, PartialOrd, Ord, Hash, Error)]
+#[derive(Clone, Copy, Debug, PartialEq, Eq, Error)]
 #[error("unsettled at age {}", month.months())]
 pub struct Unsettled {
     /// The age that was asked for.
@@ -13,7 +13,7 @@ pub struct Unsettled {
 }
 
 /// Why there is no table of unit values.
-#[derive(Clone, Copy, Debug, PartialEq, Eq, PartialOrd, Ord, Hash, Error)]
+#[derive(Clone, Copy, Debug, PartialEq, Eq, Error)]
 pub enum ValueFault {
     /// The precision doesn't settle the value at this age, nor is there an earlier such age.
     #[error("unsettled at age {}", month.months())]

@@ -3,7 +3,7 @@
 use ee_units::Cents;
 
 /// What a bond pays to its payee.
-#[derive(Clone, Copy, Debug, PartialEq, Eq, PartialOrd, Ord, Hash)]
+#[derive(Clone, Copy, Debug, PartialEq, Eq)]
 pub enum Quote {
     /// It can't be redeemed yet: its age is below 12 months.
     NotEligible,

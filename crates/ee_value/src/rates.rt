@@ -7,7 +7,7 @@ pub const ORIGINAL_MATURITY: u16 = 40;
 
 /// The terms that a bond earns by: a yearly rate for its first 20 years, and one for the 10 years of
 /// extended maturity.
-#[derive(Clone, Copy, Debug, PartialEq, Eq, PartialOrd, Ord, Hash)]
+#[derive(Clone, Copy, Debug, PartialEq, Eq, PartialOrd, Ord)]
 pub struct Rates {
     /// The yearly rate to original maturity.
     pub fixed: Rate,

@@ -10,7 +10,7 @@ use ee_wire_framing::FramingFault;
 use thiserror::Error;
 
 /// What a message is answered by.
-#[derive(Debug, Drop)]
+#[derive(Drop)]
 pub enum Answer {
     /// The reply to a request.
     Reply(Reply),
@@ -40,7 +40,7 @@ pub enum WriteEnd {
 }
 
 /// The status of an answer.
-#[derive(Clone, Copy, Debug, PartialEq, Eq)]
+#[derive(Clone, Copy)]
 pub enum Status {
     Ok,
     BadRequest,
@@ -52,7 +52,7 @@ pub enum Status {
 }
 
 /// What the body of an answer is.
-#[derive(Clone, Copy, Debug, PartialEq, Eq)]
+#[derive(Clone, Copy)]
 pub enum Kind {
     Json,
     Text,

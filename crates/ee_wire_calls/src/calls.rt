@@ -4,7 +4,7 @@ use ee_desk_acts::Request;
 use ee_units::{Customer, Day, Denom, IssueMonth, Month};
 
 /// What a GET asks of the books.
-#[derive(Clone, Copy, Debug, PartialEq, Eq)]
+#[derive(Clone, Copy, Debug)]
 pub enum Query {
     /// The unpaid bonds of an owner, with their values in that month.
     Inventory {
@@ -24,7 +24,7 @@ pub enum Query {
 }
 
 /// What a message asks for.
-#[derive(Debug, Drop, PartialEq, Eq)]
+#[derive(Debug, Drop)]
 pub enum Call {
     Request(Request),
     Query(Query),

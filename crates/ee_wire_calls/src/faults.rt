@@ -130,7 +130,7 @@ impl WireFault {
 }
 
 /// Why a body gives no request.
-#[derive(Clone, Copy, Debug, PartialEq, Eq)]
+#[derive(Clone, Copy)]
 pub enum BodyFault {
     Field(Field),
     NoMemory,

@@ -7,7 +7,7 @@ use std::alloc::{AllocError, Global};
 use std::marker::Model;
 
 /// A route of requests, which are posted.
-#[derive(Clone, Copy, Debug, PartialEq, Eq)]
+#[derive(Clone, Copy)]
 pub enum Post {
     Rates,
     Bonds,
@@ -17,7 +17,7 @@ pub enum Post {
 }
 
 /// A route of queries.
-#[derive(Clone, Copy, Debug, PartialEq, Eq)]
+#[derive(Clone, Copy)]
 pub enum Get {
     Inventory,
     Ticket,
@@ -26,7 +26,7 @@ pub enum Get {
 }
 
 /// A route of the counter.
-#[derive(Clone, Copy, Debug, PartialEq, Eq)]
+#[derive(Clone, Copy)]
 pub enum Route {
     Post(Post),
     Get(Get),
