@@ -10,7 +10,7 @@ use ee_value::Rates;
 
 /// The numbers of a question, each as the calls with plain numbers take it.
 #[repr(C)]
-#[derive(Clone, Copy, Debug, PartialEq, Eq)]
+#[derive(Clone, Copy)]
 pub struct ValueQuestion {
     /// The denomination, in dollars.
     pub dollars: u32,
@@ -25,7 +25,7 @@ pub struct ValueQuestion {
 }
 
 /// What a call asks for: a bond at its rates, in a month.
-#[derive(Clone, Copy, Debug, PartialEq, Eq)]
+#[derive(Clone, Copy)]
 pub struct Question {
     pub denom: Denom,
     pub issued: IssueMonth,
