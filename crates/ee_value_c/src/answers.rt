@@ -11,7 +11,7 @@ use ee_calculator::{Note, Row};
 
 /// What the calculator shows of a bond in a month, and what the bond pays.
 #[repr(C)]
-#[derive(Clone, Copy, Debug, PartialEq, Eq)]
+#[derive(Clone, Copy)]
 pub struct ValueRow {
     /// What is paid: 0 where the bond can't be redeemed.
     pub payable_cents: u64,
