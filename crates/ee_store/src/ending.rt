@@ -1,6 +1,6 @@
 //! Ending with a store in a file: its log is written back, and the files are given back.
 
-ghost use Rattle.std.specs.Prelude.{IfOk, IfErr};
+ghost use Rattle.std.specs.Prelude.{◌≡◌, IfOk, IfErr};
 ghost use Rattle.sqlite.specs.Tree.{Trees};
 ghost use Rattle.sqlite.specs.Files.{file_state};
 ghost use Rattle.sqlite.specs.FileStore.{recovers};
@@ -13,10 +13,23 @@ ghost use Rattle.ee_store.specs.History.{RestsAfter};
 
 use crate::keeper::SqlKeeper;
 use crate::laws::whole_history;
-use sqlite::{FileStore, Files};
+use sqlite::{Connection, FileStore, Files};
 use sqlite_disk::Disk;
 
 impl<D: Disk + Drop> SqlKeeper<FileStore<D>> {
+    /// Hands the connection back, as `close` does of any store.
+    pub(crate) fn into_connection(self) -> Connection<FileStore<D>>
+        ensures { result ≡ self.conn }
+    {
+        let SqlKeeper {
+            alloc: _,
+            tables: _,
+            known: _,
+            conn,
+        } = self;
+        conn
+    }
+
     /// Writes the log back into the file, as SQLite does where the last connection closes, and gives the
     /// files back. What is committed stays; the log stays on the disk, and holds nothing more.
     ///
@@ -38,7 +51,7 @@ impl<D: Disk + Drop> SqlKeeper<FileStore<D>> {
     {
         whole_history::<D, D>();
         let _schema = self.conn.schema();
-        match self.close().close_files() {
+        match self.into_connection().close_files() {
             Ok(files) => Ok(files),
             Err((_, store)) => Err(store),
         }
