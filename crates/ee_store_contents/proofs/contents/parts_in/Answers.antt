@@ -17,3 +17,51 @@ returns-clause-value c =
     let batches : each batch_in stored.batches.items ≡ Some c.in-Some-5.batches.items = search rules in
     (λ i. Some (record { rates = c.new.ensures i; bonds = c.new-2.ensures i; day = c.in-Some.days.day; last_day = c.in-Some.days.last_day; tickets = c.new-3.ensures i; batches = c.new-4.ensures i }))
     ∙ parts_found stored c.in-Some.days c.in-Some-2.rates.items c.in-Some-3.tickets.items c.in_ok-marks.marks.entries c.in-Some-4.bonds.items c.in-Some-5.batches.items days rates tickets marks bonds batches
+
+pub returns-clause-fits : goal.returns-clause-fits
+returns-clause-fits c = search rules
+
+pub returns-in_default-2-clause-fits : goal.returns-in_default-2-clause-fits
+returns-in_default-2-clause-fits c = search rules
+
+pub returns-in_default-3-clause-fits : goal.returns-in_default-3-clause-fits
+returns-in_default-3-clause-fits c = search rules
+
+pub returns-in_default-4-clause-fits : goal.returns-in_default-4-clause-fits
+returns-in_default-4-clause-fits c = search rules
+
+pub returns-in_default-5-clause-fits : goal.returns-in_default-5-clause-fits
+returns-in_default-5-clause-fits c = search rules
+
+pub returns-in_default-clause-fits : goal.returns-in_default-clause-fits
+returns-in_default-clause-fits c = search rules
+
+pub returns-in_err-batches-clause-fits : goal.returns-in_err-batches-clause-fits
+returns-in_err-batches-clause-fits c = search rules
+
+pub returns-in_err-batches-clause-value : goal.returns-in_err-batches-clause-value
+returns-in_err-batches-clause-value c = search rules
+
+pub returns-in_err-bonds-clause-fits : goal.returns-in_err-bonds-clause-fits
+returns-in_err-bonds-clause-fits c = search rules
+
+pub returns-in_err-bonds-clause-value : goal.returns-in_err-bonds-clause-value
+returns-in_err-bonds-clause-value c = search rules
+
+pub returns-in_err-marks-clause-fits : goal.returns-in_err-marks-clause-fits
+returns-in_err-marks-clause-fits c = search rules
+
+pub returns-in_err-marks-clause-value : goal.returns-in_err-marks-clause-value
+returns-in_err-marks-clause-value c = search rules
+
+pub returns-in_err-rates-clause-fits : goal.returns-in_err-rates-clause-fits
+returns-in_err-rates-clause-fits c = search rules
+
+pub returns-in_err-rates-clause-value : goal.returns-in_err-rates-clause-value
+returns-in_err-rates-clause-value c = search rules
+
+pub returns-in_err-tickets-clause-fits : goal.returns-in_err-tickets-clause-fits
+returns-in_err-tickets-clause-fits c = search rules
+
+pub returns-in_err-tickets-clause-value : goal.returns-in_err-tickets-clause-value
+returns-in_err-tickets-clause-value c = search rules

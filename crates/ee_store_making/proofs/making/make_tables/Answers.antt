@@ -1,4 +1,4 @@
-use Rattle.std.proofs.Common.{◌∙◌, sym, ap, subst}
+use Rattle.std.proofs.Common.{◌∙◌, sym, ap, subst, rules}
 use Rattle.sqlite.specs.Held.{state}
 use Rattle.sqlite.specs.Effect.{Database}
 use Rattle.sqlite.specs.State.{HasCleanDisk, Survives}
@@ -67,3 +67,111 @@ returns-clause-crash g c =
     (λ before blank. let none = sees_none old start is settled blank in let is_open = c.in_ok-make_in.ensures.open before in
     stored_sees middle first_rows is_open (c.in_ok-make_in.ensures.sound before none is_open) (c.in_ok-make_in.ensures.added before none))
     c.in_ok-make_in.ensures.crash c.in_ok-commit.ensures.survives)
+
+pub returns-clause-cause : goal.returns-clause-cause
+returns-clause-cause g c = search rules
+
+pub returns-clause-durable : goal.returns-clause-durable
+returns-clause-durable g c = search rules
+
+pub returns-clause-ended : goal.returns-clause-ended
+returns-clause-ended g c = search rules
+
+pub returns-clause-failed : goal.returns-clause-failed
+returns-clause-failed g c = search rules
+
+pub returns-clause-open : goal.returns-clause-open
+returns-clause-open g c = search rules
+
+pub returns-clause-other : goal.returns-clause-other
+returns-clause-other g c = search rules
+
+pub returns-clause-usable : goal.returns-clause-usable
+returns-clause-usable g c = search rules
+
+pub returns-in_err-commit-clause-cause : goal.returns-in_err-commit-clause-cause
+returns-in_err-commit-clause-cause g c = search rules
+
+pub returns-in_err-commit-clause-durable : goal.returns-in_err-commit-clause-durable
+returns-in_err-commit-clause-durable g c = search rules
+
+pub returns-in_err-commit-clause-ended : goal.returns-in_err-commit-clause-ended
+returns-in_err-commit-clause-ended g c = search rules
+
+pub returns-in_err-commit-clause-failed : goal.returns-in_err-commit-clause-failed
+returns-in_err-commit-clause-failed g c = search rules
+
+pub returns-in_err-commit-clause-made : goal.returns-in_err-commit-clause-made
+returns-in_err-commit-clause-made g c = search rules
+
+pub returns-in_err-commit-clause-open : goal.returns-in_err-commit-clause-open
+returns-in_err-commit-clause-open g c = search rules
+
+pub returns-in_err-commit-clause-other : goal.returns-in_err-commit-clause-other
+returns-in_err-commit-clause-other g c = search rules
+
+pub returns-in_err-commit-clause-stored : goal.returns-in_err-commit-clause-stored
+returns-in_err-commit-clause-stored g c = search rules
+
+pub returns-in_err-commit-clause-usable : goal.returns-in_err-commit-clause-usable
+returns-in_err-commit-clause-usable g c = search rules
+
+pub returns-in_err-make_in-clause-cause : goal.returns-in_err-make_in-clause-cause
+returns-in_err-make_in-clause-cause g c = search rules
+
+pub returns-in_err-make_in-clause-crash : goal.returns-in_err-make_in-clause-crash
+returns-in_err-make_in-clause-crash g c = search rules
+
+pub returns-in_err-make_in-clause-durable : goal.returns-in_err-make_in-clause-durable
+returns-in_err-make_in-clause-durable g c = search rules
+
+pub returns-in_err-make_in-clause-ended : goal.returns-in_err-make_in-clause-ended
+returns-in_err-make_in-clause-ended g c = search rules
+
+pub returns-in_err-make_in-clause-failed : goal.returns-in_err-make_in-clause-failed
+returns-in_err-make_in-clause-failed g c = search rules
+
+pub returns-in_err-make_in-clause-made : goal.returns-in_err-make_in-clause-made
+returns-in_err-make_in-clause-made g c = search rules
+
+pub returns-in_err-make_in-clause-open : goal.returns-in_err-make_in-clause-open
+returns-in_err-make_in-clause-open g c = search rules
+
+pub returns-in_err-make_in-clause-other : goal.returns-in_err-make_in-clause-other
+returns-in_err-make_in-clause-other g c = search rules
+
+pub returns-in_err-make_in-clause-stored : goal.returns-in_err-make_in-clause-stored
+returns-in_err-make_in-clause-stored g c = search rules
+
+pub returns-in_err-make_in-clause-usable : goal.returns-in_err-make_in-clause-usable
+returns-in_err-make_in-clause-usable g c = search rules
+
+pub returns-then-not-is_autocommit-clause-cause : goal.returns-then-not-is_autocommit-clause-cause
+returns-then-not-is_autocommit-clause-cause g c = search rules
+
+pub returns-then-not-is_autocommit-clause-crash : goal.returns-then-not-is_autocommit-clause-crash
+returns-then-not-is_autocommit-clause-crash g c = search rules
+
+pub returns-then-not-is_autocommit-clause-durable : goal.returns-then-not-is_autocommit-clause-durable
+returns-then-not-is_autocommit-clause-durable g c = search rules
+
+pub returns-then-not-is_autocommit-clause-ended : goal.returns-then-not-is_autocommit-clause-ended
+returns-then-not-is_autocommit-clause-ended g c = search rules
+
+pub returns-then-not-is_autocommit-clause-failed : goal.returns-then-not-is_autocommit-clause-failed
+returns-then-not-is_autocommit-clause-failed g c = search rules
+
+pub returns-then-not-is_autocommit-clause-made : goal.returns-then-not-is_autocommit-clause-made
+returns-then-not-is_autocommit-clause-made g c = search rules
+
+pub returns-then-not-is_autocommit-clause-open : goal.returns-then-not-is_autocommit-clause-open
+returns-then-not-is_autocommit-clause-open g c = search rules
+
+pub returns-then-not-is_autocommit-clause-other : goal.returns-then-not-is_autocommit-clause-other
+returns-then-not-is_autocommit-clause-other g c = search rules
+
+pub returns-then-not-is_autocommit-clause-stored : goal.returns-then-not-is_autocommit-clause-stored
+returns-then-not-is_autocommit-clause-stored g c = search rules
+
+pub returns-then-not-is_autocommit-clause-usable : goal.returns-then-not-is_autocommit-clause-usable
+returns-then-not-is_autocommit-clause-usable g c = search rules

@@ -1,4 +1,4 @@
-use Rattle.std.proofs.Common.{◌≡◌, ◌≢◌, ◌∙◌, false, None, IsTrue, IfErr, refl, sym, ap, subst, true≢false}
+use Rattle.std.proofs.Common.{◌≡◌, ◌≢◌, ◌∙◌, false, None, IsTrue, IfErr, refl, sym, ap, subst, true≢false, rules}
 use Rattle.sqlite.specs.Effect.{Database}
 use Rattle.sqlite.specs.Held.{state}
 use Rattle.sqlite.specs.State.{State, HasCleanDisk, Survives}
@@ -161,3 +161,129 @@ returns-in-Ok-clause-crash g c =
           subst (Stores middle.now.trees) (sym (becomes_migrated form rows earlier))
           (stored_sees middle (migrated rows) is_open (it.sound before ours is_open) (it.made before rows (sees_had form old settled start is rows had) listed));
     }) it.crash c.commit.ensures.survives)
+
+pub returns-in-Err-clause-current : goal.returns-in-Err-clause-current
+returns-in-Err-clause-current g c = search rules
+
+pub returns-in-Err-clause-durable : goal.returns-in-Err-clause-durable
+returns-in-Err-clause-durable g c = search rules
+
+pub returns-in-Err-clause-ended : goal.returns-in-Err-clause-ended
+returns-in-Err-clause-ended g c = search rules
+
+pub returns-in-Err-clause-failed : goal.returns-in-Err-clause-failed
+returns-in-Err-clause-failed g c = search rules
+
+pub returns-in-Err-clause-made : goal.returns-in-Err-clause-made
+returns-in-Err-clause-made g c = search rules
+
+pub returns-in-Err-clause-open : goal.returns-in-Err-clause-open
+returns-in-Err-clause-open g c = search rules
+
+pub returns-in-Err-clause-same : goal.returns-in-Err-clause-same
+returns-in-Err-clause-same g c = search rules
+
+pub returns-in-Ok-clause-cause : goal.returns-in-Ok-clause-cause
+returns-in-Ok-clause-cause g c = search rules
+
+pub returns-in-Ok-clause-durable : goal.returns-in-Ok-clause-durable
+returns-in-Ok-clause-durable g c = search rules
+
+pub returns-in-Ok-clause-ended : goal.returns-in-Ok-clause-ended
+returns-in-Ok-clause-ended g c = search rules
+
+pub returns-in-Ok-clause-failed : goal.returns-in-Ok-clause-failed
+returns-in-Ok-clause-failed g c = search rules
+
+pub returns-in-Ok-clause-open : goal.returns-in-Ok-clause-open
+returns-in-Ok-clause-open g c = search rules
+
+pub returns-in-Ok-clause-same : goal.returns-in-Ok-clause-same
+returns-in-Ok-clause-same g c = search rules
+
+pub returns-in-Ok-clause-told : goal.returns-in-Ok-clause-told
+returns-in-Ok-clause-told g c = search rules
+
+pub returns-in_err-migrate_in-clause-crash : goal.returns-in_err-migrate_in-clause-crash
+returns-in_err-migrate_in-clause-crash g c = search rules
+
+pub returns-in_err-migrate_in-clause-current : goal.returns-in_err-migrate_in-clause-current
+returns-in_err-migrate_in-clause-current g c = search rules
+
+pub returns-in_err-migrate_in-clause-durable : goal.returns-in_err-migrate_in-clause-durable
+returns-in_err-migrate_in-clause-durable g c = search rules
+
+pub returns-in_err-migrate_in-clause-ended : goal.returns-in_err-migrate_in-clause-ended
+returns-in_err-migrate_in-clause-ended g c = search rules
+
+pub returns-in_err-migrate_in-clause-failed : goal.returns-in_err-migrate_in-clause-failed
+returns-in_err-migrate_in-clause-failed g c = search rules
+
+pub returns-in_err-migrate_in-clause-made : goal.returns-in_err-migrate_in-clause-made
+returns-in_err-migrate_in-clause-made g c = search rules
+
+pub returns-in_err-migrate_in-clause-open : goal.returns-in_err-migrate_in-clause-open
+returns-in_err-migrate_in-clause-open g c = search rules
+
+pub returns-in_err-migrate_in-clause-same : goal.returns-in_err-migrate_in-clause-same
+returns-in_err-migrate_in-clause-same g c = search rules
+
+pub returns-in_err-migrate_in-clause-told : goal.returns-in_err-migrate_in-clause-told
+returns-in_err-migrate_in-clause-told g c = search rules
+
+pub returns-then-matches-clause-cause : goal.returns-then-matches-clause-cause
+returns-then-matches-clause-cause g c = search rules
+
+pub returns-then-matches-clause-crash : goal.returns-then-matches-clause-crash
+returns-then-matches-clause-crash g c = search rules
+
+pub returns-then-matches-clause-current : goal.returns-then-matches-clause-current
+returns-then-matches-clause-current g c = search rules
+
+pub returns-then-matches-clause-durable : goal.returns-then-matches-clause-durable
+returns-then-matches-clause-durable g c = search rules
+
+pub returns-then-matches-clause-ended : goal.returns-then-matches-clause-ended
+returns-then-matches-clause-ended g c = search rules
+
+pub returns-then-matches-clause-failed : goal.returns-then-matches-clause-failed
+returns-then-matches-clause-failed g c = search rules
+
+pub returns-then-matches-clause-open : goal.returns-then-matches-clause-open
+returns-then-matches-clause-open g c = search rules
+
+pub returns-then-matches-clause-same : goal.returns-then-matches-clause-same
+returns-then-matches-clause-same g c = search rules
+
+pub returns-then-matches-clause-told : goal.returns-then-matches-clause-told
+returns-then-matches-clause-told g c = search rules
+
+pub returns-then-not-is_autocommit-clause-cause : goal.returns-then-not-is_autocommit-clause-cause
+returns-then-not-is_autocommit-clause-cause g c = search rules
+
+pub returns-then-not-is_autocommit-clause-crash : goal.returns-then-not-is_autocommit-clause-crash
+returns-then-not-is_autocommit-clause-crash g c = search rules
+
+pub returns-then-not-is_autocommit-clause-current : goal.returns-then-not-is_autocommit-clause-current
+returns-then-not-is_autocommit-clause-current g c = search rules
+
+pub returns-then-not-is_autocommit-clause-durable : goal.returns-then-not-is_autocommit-clause-durable
+returns-then-not-is_autocommit-clause-durable g c = search rules
+
+pub returns-then-not-is_autocommit-clause-ended : goal.returns-then-not-is_autocommit-clause-ended
+returns-then-not-is_autocommit-clause-ended g c = search rules
+
+pub returns-then-not-is_autocommit-clause-failed : goal.returns-then-not-is_autocommit-clause-failed
+returns-then-not-is_autocommit-clause-failed g c = search rules
+
+pub returns-then-not-is_autocommit-clause-made : goal.returns-then-not-is_autocommit-clause-made
+returns-then-not-is_autocommit-clause-made g c = search rules
+
+pub returns-then-not-is_autocommit-clause-open : goal.returns-then-not-is_autocommit-clause-open
+returns-then-not-is_autocommit-clause-open g c = search rules
+
+pub returns-then-not-is_autocommit-clause-same : goal.returns-then-not-is_autocommit-clause-same
+returns-then-not-is_autocommit-clause-same g c = search rules
+
+pub returns-then-not-is_autocommit-clause-told : goal.returns-then-not-is_autocommit-clause-told
+returns-then-not-is_autocommit-clause-told g c = search rules
