@@ -13,7 +13,7 @@ use ee_store_making::{OpenFault, StoredAnswer};
 use sqlite::Row;
 
 /// The row of the desk.
-#[derive(Clone, Copy, Debug, PartialEq, Eq)]
+#[derive(Clone, Copy)]
 pub struct StoredDesk {
     /// Its key, which is 1.
     pub id: u64,
@@ -26,7 +26,7 @@ pub struct StoredDesk {
 }
 
 /// A rate of bonds that are issued in a period: their fixed rate, or that of their extended maturity.
-#[derive(Clone, Copy, Debug, PartialEq, Eq)]
+#[derive(Clone, Copy)]
 pub struct StoredRate {
     /// The first month of the period.
     pub period: u64,
@@ -35,7 +35,7 @@ pub struct StoredRate {
 }
 
 /// A bond of the register, and the ticket that paid it.
-#[derive(Clone, Copy, Debug, PartialEq, Eq)]
+#[derive(Clone, Copy)]
 pub struct StoredBond {
     /// The letter of its serial number, 1 for A.
     pub letter: u64,
@@ -54,7 +54,7 @@ pub struct StoredBond {
 }
 
 /// A ticket without its lines.
-#[derive(Clone, Copy, Debug, PartialEq, Eq)]
+#[derive(Clone, Copy)]
 pub struct StoredTicket {
     /// The number of the ticket.
     pub ticket: u64,
@@ -69,7 +69,7 @@ pub struct StoredTicket {
 }
 
 /// A line of a ticket: a bond, and what was paid for it.
-#[derive(Clone, Copy, Debug, PartialEq, Eq)]
+#[derive(Clone, Copy)]
 pub struct StoredLine {
     /// The number of the ticket.
     pub ticket: u64,
@@ -84,7 +84,7 @@ pub struct StoredLine {
 }
 
 /// The sums of a closed day.
-#[derive(Clone, Copy, Debug, PartialEq, Eq)]
+#[derive(Clone, Copy)]
 pub struct StoredBatch {
     /// The day.
     pub day: u64,
@@ -108,7 +108,7 @@ pub struct StoredReply {
 }
 
 /// The number under which the store keeps a row of a table with another key.
-#[derive(Clone, Copy, Debug, PartialEq, Eq)]
+#[derive(Clone, Copy)]
 pub struct Rowid {
     /// The number.
     pub rowid: i64,
