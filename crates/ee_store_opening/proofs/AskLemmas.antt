@@ -35,8 +35,7 @@ value_of a b is = cc
 
 -- the statement that a text begins with shows nothing of what it writes
 abbrev ReturnsNone : Result Parsed CompileError → Type 0
-ReturnsNone (Ok p) = (schema : Schema) (base : ℕ) → returning schema base p.statement ≡ Ok None
-ReturnsNone (Err e) = Unit {0}
+ReturnsNone r = (schema : Schema) (base : ℕ) → and_then r (λ p. returning schema base p.statement) ≡ checked None
 
 meaning_by : (shown : Checked (Option Returning)) (made : Checked Command) (found : Command × Option Returning) → and_then shown (λ s. and_then made (λ c. checked (c, s))) ≡ checked found → shown ≡ checked None → found.1 ≡ None
 meaning_by (Ok s) (Ok c) found is none = sym (ap (λ f. f.1) (value_of (c, s) found is)) ∙ value_of s None none

@@ -4,6 +4,7 @@ mod AskLemmas
 mod FoundLemmas
 mod RowLemmas
 mod TableLemmas
+mod TextLemmas
 mod QuestionLemmas
 mod EachTable
 mod OneLemmas

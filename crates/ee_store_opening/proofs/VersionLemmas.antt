@@ -1,13 +1,16 @@
 -- What the query of the version shows.
-use Rattle.std.proofs.Common.{◌≡◌, ◌≢◌, ◌⊎◌, inl, inr, ℕ, pos, List, [], ◌∷◌, codes, false, Some, None, Option, refl, sym, ap, ◌∙◌}
+use Rattle.std.proofs.Common.{◌≡◌, ◌≢◌, ◌⊎◌, inl, inr, ℕ, pos, List, [], ◌∷◌, codes, false, Some, None, Option, refl, sym, ap, subst, ◌∙◌}
 use Rattle.std.specs.FinMap.{get}
 use Rattle.sqlite.specs.declared.types.Value.TheVariants.{Null, Int}
 use Rattle.sqlite.specs.Order.{Row}
 use Rattle.sqlite.specs.Term.{col}
 use Rattle.sqlite.specs.Query.{Query}
+use Rattle.sqlite.specs.Table.{Table}
+use Rattle.sqlite_schema.specs.declared.schema.Index.{Index}
+use Rattle.sqlite_resolve.specs.Compile.{compiled}
 use Rattle.sqlite.specs.Command.TheVariants.{Select}
 use Rattle.sqlite_tied.specs.Compute.{everything}
-use Rattle.sqlite.specs.Listing.{understood, reads_listing}
+use Rattle.sqlite.specs.Listing.{understood}
 use Rattle.sqlite.specs.State.{State, Shown}
 use Rattle.sqlite.proofs.Callers.{IsPlain, command_of, reads_as}
 use Rattle.ee_store_tables.specs.Rows.{Rows, DeskRow, desk_columns}
@@ -16,6 +19,7 @@ use Rattle.ee_store_making.specs.declared.forms.Form.{Form}
 use Rattle.ee_store_making.specs.declared.forms.Form.TheVariants.{Current, First, Earliest}
 use Rattle.ee_store_making.specs.Forms.{schema_of, version_of, HoldsIn}
 use Rattle.ee_store_making.proofs.Lemmas.Forms.{common}
+use Rattle.ee_store_opening.proofs.TextLemmas.{begun_with, of_each, IsCompiled, unlisted, understood_as}
 use Rattle.ee_store_opening.specs.Opening.{version_shown, versions_in, Names, IsOfForm, IsOtherVersion}
 
 abbrev pub version_text : List ℕ
@@ -24,17 +28,18 @@ version_text = codes "SELECT version FROM desk WHERE id = ?1"
 abbrev pub version_query : Query
 version_query = by_number 0 (col 1 2 ∷ [])
 
-pub version_is : (form : Form) → (command_of (understood (schema_of form) version_text) ≡ Select (record { lets = []; body = version_query }) (codes "version" ∷ [])) × (reads_listing (schema_of form) version_text ≡ false)
-unfolding understood everything
-version_is Current = (refl, refl)
-version_is First = (refl, refl)
-version_is Earliest = (refl, refl)
+version_in_each : (more : List Table) (indexes : List Index) → IsCompiled version_text version_query (codes "version" ∷ []) (codes "?1" ∷ []) (begun_with more indexes)
+unfolding compiled everything
+version_in_each more indexes = refl
+
+pub version_is : (form : Form) → IsCompiled version_text version_query (codes "version" ∷ []) (codes "?1" ∷ []) (schema_of form)
+version_is = of_each (IsCompiled version_text version_query (codes "version" ∷ []) (codes "?1" ∷ [])) version_in_each
+
+version_known : (form : Form) → command_of (understood (schema_of form) version_text) ≡ Select (record { lets = []; body = version_query }) (codes "version" ∷ [])
+version_known form = ap command_of (understood_as (schema_of form) version_text version_query _ _ (version_is form))
 
 pub version_plain : (form : Form) → IsPlain (understood (schema_of form) version_text)
-unfolding understood everything
-version_plain Current = (refl, refl)
-version_plain First = (refl, refl)
-version_plain Earliest = (refl, refl)
+version_plain form = subst IsPlain (sym (understood_as (schema_of form) version_text version_query _ _ (version_is form))) (refl, refl)
 
 abbrev pub given_id : Row
 given_id = Int (pos 1) ∷ []
@@ -43,7 +48,7 @@ pub shows_version : (form : Form) (old new : State) (rows : Rows) (found : List 
     → found ≡ versions_in rows
 shows_version form old new rows found has stands shown =
     found_by_number desk_columns 0 version_query.project 1 [] (λ e. version_shown e.1) (λ r e one. rw (one 2) refl) old.now.trees rows.desk found refl (common form old.now.trees rows stands).desk
-    ((reads_as version_text given_id old new (schema_of form) has _ (version_is form).0 (version_plain form) (version_is form).1 found shown).answer Null)
+    ((reads_as version_text given_id old new (schema_of form) has _ (version_known form) (version_plain form) (unlisted (schema_of form) version_text version_query _ _ (version_is form)) found shown).answer Null)
 
 abbrev version_in : Option DeskRow → ℕ
 version_in None = 0

@@ -1,4 +1,4 @@
-use Rattle.std.proofs.Common.{inl, inr, sym, ap, subst, ◌∙◌}
+use Rattle.std.proofs.Common.{rules, inl, inr, sym, ap, subst, ◌∙◌}
 use Rattle.std.proofs.lemmas.Result.{on_ok_weaker}
 use Rattle.sqlite.specs.Effect.{Database}
 use Rattle.sqlite.specs.Held.{state}
@@ -164,3 +164,111 @@ returns-then-not-is_autocommit-clause-blank g c clean blank is_open = ((λ told.
 
 pub returns-then-not-is_autocommit-clause-version : goal.returns-then-not-is_autocommit-clause-version
 returns-then-not-is_autocommit-clause-version g c clean told = absurd (cc)
+
+pub returns-then-not-is_autocommit-clause-found : goal.returns-then-not-is_autocommit-clause-found
+returns-then-not-is_autocommit-clause-found g c = search rules
+
+pub returns-then-not-is_autocommit-clause-current : goal.returns-then-not-is_autocommit-clause-current
+returns-then-not-is_autocommit-clause-current g c = search rules
+
+pub returns-then-not-is_autocommit-clause-ours : goal.returns-then-not-is_autocommit-clause-ours
+returns-then-not-is_autocommit-clause-ours g c = search rules
+
+pub returns-then-not-is_autocommit-clause-made : goal.returns-then-not-is_autocommit-clause-made
+returns-then-not-is_autocommit-clause-made g c = search rules
+
+pub returns-then-not-is_autocommit-clause-those : goal.returns-then-not-is_autocommit-clause-those
+returns-then-not-is_autocommit-clause-those g c = search rules
+
+pub returns-then-not-is_autocommit-clause-order : goal.returns-then-not-is_autocommit-clause-order
+returns-then-not-is_autocommit-clause-order g c = search rules
+
+pub returns-then-not-is_autocommit-clause-open : goal.returns-then-not-is_autocommit-clause-open
+returns-then-not-is_autocommit-clause-open g c = search rules
+
+pub returns-then-not-is_autocommit-clause-begun : goal.returns-then-not-is_autocommit-clause-begun
+returns-then-not-is_autocommit-clause-begun g c = search rules
+
+pub returns-then-not-is_autocommit-clause-first : goal.returns-then-not-is_autocommit-clause-first
+returns-then-not-is_autocommit-clause-first g c = search rules
+
+pub returns-then-not-is_autocommit-clause-tested : goal.returns-then-not-is_autocommit-clause-tested
+returns-then-not-is_autocommit-clause-tested g c = search rules
+
+pub returns-then-not-is_autocommit-clause-unusable : goal.returns-then-not-is_autocommit-clause-unusable
+returns-then-not-is_autocommit-clause-unusable g c = search rules
+
+pub returns-then-not-is_autocommit-clause-failed : goal.returns-then-not-is_autocommit-clause-failed
+returns-then-not-is_autocommit-clause-failed g c = search rules
+
+pub returns-then-not-is_autocommit-clause-kept : goal.returns-then-not-is_autocommit-clause-kept
+returns-then-not-is_autocommit-clause-kept g c = search rules
+
+pub returns-then-not-is_autocommit-clause-stays : goal.returns-then-not-is_autocommit-clause-stays
+returns-then-not-is_autocommit-clause-stays g c = search rules
+
+pub returns-then-not-is_autocommit-clause-left : goal.returns-then-not-is_autocommit-clause-left
+returns-then-not-is_autocommit-clause-left g c = search rules
+
+pub returns-then-not-is_autocommit-clause-ended : goal.returns-then-not-is_autocommit-clause-ended
+returns-then-not-is_autocommit-clause-ended g c = search rules
+
+pub returns-then-not-is_autocommit-clause-clean : goal.returns-then-not-is_autocommit-clause-clean
+returns-then-not-is_autocommit-clause-clean g c = search rules
+
+pub returns-then-not-is_autocommit-clause-cause : goal.returns-then-not-is_autocommit-clause-cause
+returns-then-not-is_autocommit-clause-cause g c = search rules
+
+pub returns-then-not-is_autocommit-clause-crash : goal.returns-then-not-is_autocommit-clause-crash
+returns-then-not-is_autocommit-clause-crash g c = search rules
+
+pub returns-in-None-clause-found : goal.returns-in-None-clause-found
+returns-in-None-clause-found g c = search rules
+
+pub returns-in-None-clause-current : goal.returns-in-None-clause-current
+returns-in-None-clause-current g c = search rules
+
+pub returns-in-None-clause-ours : goal.returns-in-None-clause-ours
+returns-in-None-clause-ours g c = search rules
+
+pub returns-in-None-clause-made : goal.returns-in-None-clause-made
+returns-in-None-clause-made g c = search rules
+
+pub returns-in-None-clause-those : goal.returns-in-None-clause-those
+returns-in-None-clause-those g c = search rules
+
+pub returns-in-None-clause-order : goal.returns-in-None-clause-order
+returns-in-None-clause-order g c = search rules
+
+pub returns-in-None-clause-open : goal.returns-in-None-clause-open
+returns-in-None-clause-open g c = search rules
+
+pub returns-in-None-clause-begun : goal.returns-in-None-clause-begun
+returns-in-None-clause-begun g c = search rules
+
+pub returns-in-None-clause-first : goal.returns-in-None-clause-first
+returns-in-None-clause-first g c = search rules
+
+pub returns-in-None-clause-version : goal.returns-in-None-clause-version
+returns-in-None-clause-version g c = search rules
+
+pub returns-in-None-clause-tested : goal.returns-in-None-clause-tested
+returns-in-None-clause-tested g c = search rules
+
+pub returns-in-None-clause-unusable : goal.returns-in-None-clause-unusable
+returns-in-None-clause-unusable g c = search rules
+
+pub returns-in-None-clause-blank : goal.returns-in-None-clause-blank
+returns-in-None-clause-blank g c = search rules
+
+pub returns-in-None-clause-kept : goal.returns-in-None-clause-kept
+returns-in-None-clause-kept g c = search rules
+
+pub returns-in-None-clause-stays : goal.returns-in-None-clause-stays
+returns-in-None-clause-stays g c = search rules
+
+pub returns-in-None-clause-ended : goal.returns-in-None-clause-ended
+returns-in-None-clause-ended g c = search rules
+
+pub returns-in-None-clause-clean : goal.returns-in-None-clause-clean
+returns-in-None-clause-clean g c = search rules
