@@ -1,5 +1,5 @@
 -- Queries that `sqlite` refuses for no rows of these tables.
-use Rattle.std.proofs.Common.{◌≢◌, inl, inr, ℕ, List, [], ◌∷◌, codes, refl, true≢false}
+use Rattle.std.proofs.Common.{◌≢◌, inl, inr, ℕ, List, [], codes, refl, true≢false}
 use Rattle.sqlite.specs.Term.{Term}
 use Rattle.sqlite.specs.Schema.{Schema}
 use Rattle.sqlite_value.specs.declared.keys.Key.{Key}

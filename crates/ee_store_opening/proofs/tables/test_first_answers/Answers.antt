@@ -1,4 +1,4 @@
-use Rattle.std.proofs.Common.{◌≡◌, ◌↔◌, true, T, subst}
+use Rattle.std.proofs.Common.{rules, ◌≡◌, ◌↔◌, true, T, subst}
 use Rattle.std.specs.List.{AllByRecursion}
 use Rattle.std.specs.FinMap.{entries_sorted, is_sorted}
 use Rattle.ee_store_tables.specs.Keyed.{pair_cmp}
@@ -21,3 +21,24 @@ returns-clause-found g c clean ours sound =
 
 pub returns-in_err-earlier-clause-usable : goal.returns-in_err-earlier-clause-usable
 returns-in_err-earlier-clause-usable g c clean = handed_on _ c.from_residual.result c.in_err-earlier.field-0.0 c.from_residual.ensures.1 (c.in_err-earlier.ensures.usable clean)
+
+pub returns-clause-listed : goal.returns-clause-listed
+returns-clause-listed g c = search rules
+
+pub returns-clause-usable : goal.returns-clause-usable
+returns-clause-usable g c = search rules
+
+pub returns-clause-same : goal.returns-clause-same
+returns-clause-same g c = search rules
+
+pub returns-clause-kept : goal.returns-clause-kept
+returns-clause-kept g c = search rules
+
+pub returns-clause-other : goal.returns-clause-other
+returns-clause-other g c = search rules
+
+pub returns-clause-cause : goal.returns-clause-cause
+returns-clause-cause g c = search rules
+
+pub returns-clause-crash : goal.returns-clause-crash
+returns-clause-crash g c = search rules
