@@ -1,4 +1,4 @@
-use Rattle.std.proofs.Common.{ap, ◌∙◌, arith}
+use Rattle.std.proofs.Common.{ap, ◌∙◌, arith, rules}
 use Rattle.std.proofs.lemmas.Grind.{common_steps}
 use Rattle.ee_desk_acts.specs.Views.{shown_by}
 use Rattle.ee_desk_acts.specs.Refusals.{refusal_of_serial}
@@ -12,3 +12,12 @@ line_for-line-requires c =
 
 pub loop-serial-preserved : goal.loop-serial-preserved
 loop-serial-preserved c = grind (arith, common_steps)
+
+pub loop-serial-init : goal.loop-serial-init
+loop-serial-init c = search rules
+
+pub returns : goal.returns
+returns c = grind (arith, common_steps)
+
+pub returns-in_err-push : goal.returns-in_err-push
+returns-in_err-push c = search rules

@@ -1,4 +1,4 @@
-use Rattle.std.proofs.Common.{sym, ap, subst, ◌∙◌}
+use Rattle.std.proofs.Common.{sym, ap, subst, ◌∙◌, rules}
 use Rattle.sqlite.specs.Held.{state}
 use Rattle.ee_store_queries.specs.Asking.{KeepsContent, AnswersOrFails}
 use Rattle.ee_store_lookups.specs.Causes.{IsReady}
@@ -39,3 +39,24 @@ returns-clause-cause g c =
     let same = c.conn-1.given.1 (sym (c.inventory_in.ensures.same_reference ∙ c.transaction-tx.ensures.same_reference)) in
     subst (λ h. AnswersOrFails old (state g.S.Store h) c.inventory_in.result) (sym same)
     (read_fails old start is middle new c.inventory_in.ensures.crash c.drop-tx.ensures.survives settled c.inventory_in.result c.inventory_in.ensures.cause)
+
+pub returns-clause-crash : goal.returns-clause-crash
+returns-clause-crash g c = search rules
+
+pub returns-clause-shown : goal.returns-clause-shown
+returns-clause-shown g c = search rules
+
+pub returns-then-not-is_autocommit-clause-cause : goal.returns-then-not-is_autocommit-clause-cause
+returns-then-not-is_autocommit-clause-cause g c = search rules
+
+pub returns-then-not-is_autocommit-clause-crash : goal.returns-then-not-is_autocommit-clause-crash
+returns-then-not-is_autocommit-clause-crash g c = search rules
+
+pub returns-then-not-is_autocommit-clause-kept : goal.returns-then-not-is_autocommit-clause-kept
+returns-then-not-is_autocommit-clause-kept g c = search rules
+
+pub returns-then-not-is_autocommit-clause-ready : goal.returns-then-not-is_autocommit-clause-ready
+returns-then-not-is_autocommit-clause-ready g c = search rules
+
+pub returns-then-not-is_autocommit-clause-shown : goal.returns-then-not-is_autocommit-clause-shown
+returns-then-not-is_autocommit-clause-shown g c = search rules

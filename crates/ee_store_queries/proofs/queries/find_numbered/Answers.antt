@@ -53,3 +53,63 @@ returns-in_err-ticket-clause-cause g c clean inside endless S sees _ =
     (sym (ap (option_map row_of_ticket) c.in-Some.is) ∙ c.in_ok-row.ensures.found before (rows_of S) sees.rows)
     (own ∙ c.in_ok-lines.ensures.found clean (rows_of S) still) in
     memory_handed_on old new c.from_residual-in_err-ticket.result c.in_err-ticket.field-0.0 c.from_residual-in_err-ticket.ensures.1 (c.in_err-ticket.ensures.read fits.0 fits.1 fits.2)
+
+pub returns-clause-cause : goal.returns-clause-cause
+returns-clause-cause g c = search rules
+
+pub returns-clause-commit : goal.returns-clause-commit
+returns-clause-commit g c = search rules
+
+pub returns-clause-crash : goal.returns-clause-crash
+returns-clause-crash g c = search rules
+
+pub returns-clause-same_reference : goal.returns-clause-same_reference
+returns-clause-same_reference g c = search rules
+
+pub returns-in_default-clause-cause : goal.returns-in_default-clause-cause
+returns-in_default-clause-cause g c = search rules
+
+pub returns-in_default-clause-commit : goal.returns-in_default-clause-commit
+returns-in_default-clause-commit g c = search rules
+
+pub returns-in_default-clause-crash : goal.returns-in_default-clause-crash
+returns-in_default-clause-crash g c = search rules
+
+pub returns-in_default-clause-same_reference : goal.returns-in_default-clause-same_reference
+returns-in_default-clause-same_reference g c = search rules
+
+pub returns-in_err-lines-clause-commit : goal.returns-in_err-lines-clause-commit
+returns-in_err-lines-clause-commit g c = search rules
+
+pub returns-in_err-lines-clause-crash : goal.returns-in_err-lines-clause-crash
+returns-in_err-lines-clause-crash g c = search rules
+
+pub returns-in_err-lines-clause-found : goal.returns-in_err-lines-clause-found
+returns-in_err-lines-clause-found g c = search rules
+
+pub returns-in_err-lines-clause-same_reference : goal.returns-in_err-lines-clause-same_reference
+returns-in_err-lines-clause-same_reference g c = search rules
+
+pub returns-in_err-row-clause-commit : goal.returns-in_err-row-clause-commit
+returns-in_err-row-clause-commit g c = search rules
+
+pub returns-in_err-row-clause-crash : goal.returns-in_err-row-clause-crash
+returns-in_err-row-clause-crash g c = search rules
+
+pub returns-in_err-row-clause-found : goal.returns-in_err-row-clause-found
+returns-in_err-row-clause-found g c = search rules
+
+pub returns-in_err-row-clause-same_reference : goal.returns-in_err-row-clause-same_reference
+returns-in_err-row-clause-same_reference g c = search rules
+
+pub returns-in_err-ticket-clause-commit : goal.returns-in_err-ticket-clause-commit
+returns-in_err-ticket-clause-commit g c = search rules
+
+pub returns-in_err-ticket-clause-crash : goal.returns-in_err-ticket-clause-crash
+returns-in_err-ticket-clause-crash g c = search rules
+
+pub returns-in_err-ticket-clause-found : goal.returns-in_err-ticket-clause-found
+returns-in_err-ticket-clause-found g c = search rules
+
+pub returns-in_err-ticket-clause-same_reference : goal.returns-in_err-ticket-clause-same_reference
+returns-in_err-ticket-clause-same_reference g c = search rules
