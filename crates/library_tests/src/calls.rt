@@ -6,28 +6,28 @@ use std::alloc::Global;
 use std::test::Fail;
 
 /// What a message asks for, as `Debug` shows it; of a fault its code and its field or name.
-fn told(alloc: Global, path: &str, method: &str, body: &str) -> Result<String, Fail> {
+fn told(alloc: Global, path: &str, method: &str, body: &str) -> Option<String> {
     match decode(alloc, path.as_bytes(), method.as_bytes(), body.as_bytes()) {
         Ok(call) => shown(alloc, &call),
         Err(fault) => fault_told(alloc, fault),
     }
 }
 
-fn fault_told(alloc: Global, fault: WireFault) -> Result<String, Fail> {
+fn fault_told(alloc: Global, fault: WireFault) -> Option<String> {
     let name = match fault {
         WireFault::BadField(field) => field.name(),
         _ => fault.name(),
     };
-    Ok(format!(in alloc; "{} {name}", fault.code())?)
+    format!(in alloc; "{} {name}", fault.code()).ok()
 }
 
 /// Messages `METHOD PATH BODY`.
 struct CallCases;
 
 impl Cases for CallCases {
-    fn told(alloc: Global, case: &str) -> Result<String, Fail> {
-        let (method, rest) = case.split_once(' ').ok_or("method")?;
-        let (path, body) = rest.split_once(' ').ok_or("path")?;
+    fn told(alloc: Global, case: &str) -> Option<String> {
+        let (method, rest) = case.split_once(' ')?;
+        let (path, body) = rest.split_once(' ')?;
         told(alloc, path, method, body)
     }
 }
@@ -176,9 +176,9 @@ const DEPTHS: &str = "\
 struct DepthCases;
 
 impl Cases for DepthCases {
-    fn told(alloc: Global, case: &str) -> Result<String, Fail> {
-        let (opened, closed) = case.split_once(' ').ok_or("closed")?;
-        let (opened, closed) = (opened.parse()?, closed.parse()?);
+    fn told(alloc: Global, case: &str) -> Option<String> {
+        let (opened, closed) = case.split_once(' ')?;
+        let (opened, closed) = (opened.parse().ok()?, closed.parse().ok()?);
         let mut body = String::new(alloc);
         add_times(&mut body, "[", opened)?;
         add_times(&mut body, "]", closed)?;

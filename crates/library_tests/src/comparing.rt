@@ -7,15 +7,15 @@ use std::test::Fail;
 
 /// Something that answers each case of a table by a text. An impl costs a small part of the proof of a loop of its own.
 pub trait Cases {
-    /// The answer to a case.
-    fn told(alloc: Global, case: &str) -> Result<String, Fail>;
+    /// The answer to a case; None where that is no case, or memory was refused.
+    fn told(alloc: Global, case: &str) -> Option<String>;
 }
 
 /// Compares the answers to the cases of a table, rows `CASE => ANSWER`, with those that stand there.
 pub fn compare<T: Cases>(rt: &impl Abort, alloc: Global, table: &str) -> Result<(), Fail> {
     for row in table.lines() {
         let (case, wanted) = row.split_once(" => ").ok_or("row")?;
-        let told = T::told(alloc, case)?;
+        let told = T::told(alloc, case).ok_or("no answer")?;
         same(rt, told.as_str(), wanted, case);
     }
     Ok(())
@@ -31,7 +31,7 @@ pub fn compare_refused<T: Cases>(
 ) -> Result<(), Fail> {
     for row in table.lines() {
         let (case, wanted) = row.split_once(" => ").ok_or("row")?;
-        let told = T::told(out.alloc(), case)?;
+        let told = T::told(out.alloc(), case).ok_or("no answer")?;
         if told.as_str() == refused {
             println!(out; "refused: {case}")?;
         } else {
@@ -44,16 +44,16 @@ pub fn compare_refused<T: Cases>(
 /// Something that is written to a device.
 pub trait Written {
     /// How writing it to a device of so many bytes ends, and what the device has.
-    fn told_in(&self, alloc: Global, room: usize) -> Result<String, Fail>;
+    fn told_in(&self, alloc: Global, room: usize) -> Option<String>;
 }
 
 /// What is told where a device had so many bytes for a text.
-fn front_told(alloc: Global, whole: &str, room: usize) -> Result<String, Fail> {
+fn front_told(alloc: Global, whole: &str, room: usize) -> Option<String> {
     if room >= whole.len() {
-        return Ok(format!(in alloc; "Ok(()) {whole}")?);
+        return format!(in alloc; "Ok(()) {whole}").ok();
     }
-    let front = whole.get(..room).ok_or("front")?;
-    Ok(format!(in alloc; "Err(WriteFailed) {front}")?)
+    let front = whole.get(..room)?;
+    format!(in alloc; "Err(WriteFailed) {front}").ok()
 }
 
 /// Compares what devices of each size have with the fronts of the whole text, up to all of it.
@@ -64,8 +64,8 @@ pub fn compare_fronts<T: Written>(
     whole: &str,
 ) -> Result<(), Fail> {
     for room in 0..=whole.len() {
-        let told = written.told_in(alloc, room)?;
-        let wanted = front_told(alloc, whole, room)?;
+        let told = written.told_in(alloc, room).ok_or("not told")?;
+        let wanted = front_told(alloc, whole, room).ok_or("no front")?;
         same(rt, told.as_str(), wanted.as_str(), "a front");
     }
     Ok(())
@@ -76,50 +76,65 @@ pub fn same(rt: &impl Abort, told: &str, wanted: &str, case: &str) {
     assert!(rt; told == wanted, "{case}: {told} and not {wanted}");
 }
 
+/// How a call ended, and the text of what it wrote.
+pub fn ended<E: Debug>(alloc: Global, end: &Result<(), E>, bytes: &[u8]) -> Option<String> {
+    let text = str::from_utf8(bytes).ok()?;
+    format!(in alloc; "{end:?} {text}").ok()
+}
+
 /// A value as `Debug` shows it.
-pub fn shown<T: Debug>(alloc: Global, value: &T) -> Result<String, Fail> {
-    Ok(format!(in alloc; "{value:?}")?)
+pub fn shown<T: Debug>(alloc: Global, value: &T) -> Option<String> {
+    format!(in alloc; "{value:?}").ok()
 }
 
 /// The text, and the other too where it isn't the same.
-pub fn alike(alloc: Global, text: String, other: &str) -> Result<String, Fail> {
+pub fn alike(alloc: Global, text: String, other: &str) -> Option<String> {
     if text.as_str() == other {
-        return Ok(text);
+        return Some(text);
     }
-    Ok(format!(in alloc; "{text}, but also {other}")?)
+    format!(in alloc; "{text}, but also {other}").ok()
 }
 
 /// The bytes of a text in which `|` stands for a line feed, `^` for a carriage return and `~` for the byte FF.
-pub fn bytes_of(alloc: Global, text: &str) -> Result<Vec<u8>, Fail> {
+pub fn bytes_of(alloc: Global, text: &str) -> Option<Vec<u8>> {
     let mut bytes = Vec::new(alloc);
     for byte in text.as_bytes() {
-        bytes.push(match byte {
-            b'|' => b'\n',
-            b'^' => b'\r',
-            b'~' => 0xff,
-            _ => *byte,
-        })?;
+        bytes
+            .push(match byte {
+                b'|' => b'\n',
+                b'^' => b'\r',
+                b'~' => 0xff,
+                _ => *byte,
+            })
+            .ok()?;
     }
-    Ok(bytes)
+    Some(bytes)
 }
 
 /// A text in which `^` stands for a carriage return and `|` for a line feed.
-pub fn marked(alloc: Global, text: &str) -> Result<String, Fail> {
+pub fn marked(alloc: Global, text: &str) -> Option<String> {
     let mut marked = String::new(alloc);
     for letter in text.chars() {
-        marked.push(match letter {
-            '\r' => '^',
-            '\n' => '|',
-            _ => letter,
-        })?;
+        marked
+            .push(match letter {
+                '\r' => '^',
+                '\n' => '|',
+                _ => letter,
+            })
+            .ok()?;
     }
-    Ok(marked)
+    Some(marked)
+}
+
+/// Adds an item; None for want of memory.
+pub fn add<T: Drop>(items: &mut Vec<T>, item: T) -> Option<()> {
+    items.push(item).ok()
 }
 
 /// Adds a text so many times.
-pub fn add_times(text: &mut String, part: &str, times: usize) -> Result<(), Fail> {
+pub fn add_times(text: &mut String, part: &str, times: usize) -> Option<()> {
     for _ in 0..times {
-        text.push_str(part)?;
+        text.push_str(part).ok()?;
     }
-    Ok(())
+    Some(())
 }

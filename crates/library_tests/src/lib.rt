@@ -1,5 +1,5 @@
-//! Tests of the libraries below the desk, by their public calls alone. A crate with tests is proved twice, so the tests of
-//! all of them stand here.
+//! Tests of the libraries below the desk, and of the counter over a keeper in memory, by their public calls alone. A crate with
+//! tests is proved twice, and each such crate pays for all that it links, so the tests of all of them stand here.
 #![tactic(auto)]
 
 #[cfg(test)]
@@ -8,6 +8,8 @@ mod calculator;
 mod calls;
 #[cfg(test)]
 mod comparing;
+#[cfg(test)]
+mod counter;
 #[cfg(test)]
 mod device;
 #[cfg(test)]

@@ -19,21 +19,21 @@ const ACTS: &str =
 "#;
 
 /// A value as `Debug` shows it, and its text where that isn't the one that it was read from.
-fn read_back<T: Debug>(alloc: Global, value: &T, text: &str, from: &str) -> Result<String, Fail> {
+fn read_back<T: Debug>(alloc: Global, value: &T, text: &str, from: &str) -> Option<String> {
     if text == from {
         return shown(alloc, value);
     }
-    Ok(format!(in alloc; "{value:?}, written {text}")?)
+    format!(in alloc; "{value:?}, written {text}").ok()
 }
 
 struct ActCases;
 
 impl Cases for ActCases {
-    fn told(alloc: Global, case: &str) -> Result<String, Fail> {
-        let Some(act) = read_act(alloc, case)? else {
-            return Ok(String::from_str(alloc, "none")?);
+    fn told(alloc: Global, case: &str) -> Option<String> {
+        let Some(act) = read_act(alloc, case).ok()? else {
+            return String::from_str(alloc, "none").ok();
         };
-        let text = canonical(alloc, &act)?;
+        let text = canonical(alloc, &act).ok()?;
         read_back(alloc, &act, text.as_str(), case)
     }
 }
@@ -75,11 +75,11 @@ const REPLIES: &str = r#"{"new":2,"same":0} => Added { new: 2, same: 0 }
 struct ReplyCases;
 
 impl Cases for ReplyCases {
-    fn told(alloc: Global, case: &str) -> Result<String, Fail> {
-        let Some(reply) = read_reply(alloc, case)? else {
-            return Ok(String::from_str(alloc, "none")?);
+    fn told(alloc: Global, case: &str) -> Option<String> {
+        let Some(reply) = read_reply(alloc, case).ok()? else {
+            return String::from_str(alloc, "none").ok();
         };
-        let text = reply_text(alloc, &reply)?;
+        let text = reply_text(alloc, &reply).ok()?;
         read_back(alloc, &reply, text.as_str(), case)
     }
 }
@@ -122,7 +122,9 @@ null => none
 
 #[test]
 fn other_texts_are_of_no_act(rt: HostRuntime) -> Result<(), Fail> {
-    let ended = ActCases::told(rt.alloc(), "{\"act\":\"open\",\"day\":\"2012-02-06\"}\n")?;
+    let ended = ActCases::told(rt.alloc(), "{\"act\":\"open\",\"day\":\"2012-02-06\"}\n").ok_or(
+        "no answer",
+    )?;
     same(&rt, ended.as_str(), "none", "a line's end");
     compare::<ActCases>(&rt, rt.alloc(), NO_ACTS)
 }

@@ -11,11 +11,14 @@ fn rate(hundredths: u16) -> Rate {
 }
 
 /// Rates in hundredths: the fixed rate, and after a slash the extension where one is named.
-fn rates(text: &str) -> Result<Rates, Fail> {
+fn rates(text: &str) -> Option<Rates> {
     let Some((fixed, extension)) = text.split_once('/') else {
-        return Ok(Rates::new(rate(text.parse()?), None));
+        return Some(Rates::new(rate(text.parse().ok()?), None));
     };
-    Ok(Rates::new(rate(fixed.parse()?), Some(rate(extension.parse()?))))
+    Some(Rates::new(
+        rate(fixed.parse().ok()?),
+        Some(rate(extension.parse().ok()?)),
+    ))
 }
 
 fn age(months: u16) -> Age {
@@ -40,19 +43,23 @@ const QUARTERS: &str = "\
 1632 => 1300 at 55 precisions
 ";
 
+/// The unit, and at how many precisions it is found.
+fn quarter_told(alloc: Global, rates: &Rates) -> Option<String> {
+    let unit = unit_at(*rates, age(3), bits(8)).ok()?;
+    let mut count: u64 = 0;
+    for places in 8..=62 {
+        if unit_at(*rates, age(3), bits(places)) == Ok(unit) {
+            count = count.saturating_add(1);
+        }
+    }
+    format!(in alloc; "{unit} at {count} precisions").ok()
+}
+
 struct QuarterCases;
 
 impl Cases for QuarterCases {
-    fn told(alloc: Global, case: &str) -> Result<String, Fail> {
-        let rates = rates(case)?;
-        let unit = unit_at(rates, age(3), bits(8))?;
-        let mut count: u64 = 0;
-        for places in 8..=62 {
-            if unit_at(rates, age(3), bits(places)) == Ok(unit) {
-                count = count.saturating_add(1);
-            }
-        }
-        Ok(format!(in alloc; "{unit} at {count} precisions")?)
+    fn told(alloc: Global, case: &str) -> Option<String> {
+        quarter_told(alloc, &rates(case)?)
     }
 }
 
@@ -78,11 +85,11 @@ const MONTHS: &str = "\
 struct MonthCases;
 
 impl Cases for MonthCases {
-    fn told(alloc: Global, case: &str) -> Result<String, Fail> {
-        let (rate, case) = case.split_once(' ').ok_or("months")?;
-        let (months, places) = case.split_once(' ').ok_or("places")?;
-        let (rates, age) = (rates(rate)?, age(months.parse()?));
-        shown(alloc, &unit_at(rates, age, bits(places.parse()?)))
+    fn told(alloc: Global, case: &str) -> Option<String> {
+        let (rate, case) = case.split_once(' ')?;
+        let (months, places) = case.split_once(' ')?;
+        let (rates, age) = (rates(rate)?, age(months.parse().ok()?));
+        shown(alloc, &unit_at(rates, age, bits(places.parse().ok()?)))
     }
 }
 
@@ -96,7 +103,7 @@ fn texts_of_faults(rt: HostRuntime) -> Result<(), Fail> {
     let fault = Unsettled { month: age(1) };
     let text = fault.to_string(rt.alloc())?;
     same(&rt, text.as_str(), "unsettled at age 1", "fault");
-    let refused = unit_table(rt.alloc(), rates("350")?, bits(8)).err();
+    let refused = unit_table(rt.alloc(), rates("350").ok_or("rates")?, bits(8)).err();
     assert!(rt; refused == Some(ValueFault::from(fault)));
     let text = ValueFault::from(fault).to_string(rt.alloc())?;
     same(&rt, text.as_str(), "unsettled at age 1", "fault");
@@ -128,10 +135,10 @@ const CHAINS: &str = "\
 struct ChainCases;
 
 impl Cases for ChainCases {
-    fn told(alloc: Global, case: &str) -> Result<String, Fail> {
-        let (rate, first) = case.split_once(' ').ok_or("half-year")?;
-        let (rates, first) = (rates(rate)?, first.parse()?);
-        let table = unit_table(alloc, rates, bits(62))?;
+    fn told(alloc: Global, case: &str) -> Option<String> {
+        let (rate, first) = case.split_once(' ')?;
+        let (rates, first) = (rates(rate)?, first.parse().ok()?);
+        let table = unit_table(alloc, rates, bits(62)).ok()?;
         shown(alloc, &starts(&table, first))
     }
 }
@@ -163,12 +170,12 @@ const AGES: &str = "\
 struct AgeCases;
 
 impl Cases for AgeCases {
-    fn told(alloc: Global, case: &str) -> Result<String, Fail> {
-        let (rate, months) = case.split_once(' ').ok_or("months")?;
-        let (rates, age) = (rates(rate)?, age(months.parse()?));
-        let unit = unit_table(alloc, rates, bits(62))?.at(age);
+    fn told(alloc: Global, case: &str) -> Option<String> {
+        let (rate, months) = case.split_once(' ')?;
+        let (rates, age) = (rates(rate)?, age(months.parse().ok()?));
+        let unit = unit_table(alloc, rates, bits(62)).ok()?.at(age);
         let alone = unit_at(rates, age, bits(62));
-        Ok(format!(in alloc; "{unit} {alone:?}")?)
+        format!(in alloc; "{unit} {alone:?}").ok()
     }
 }
 
@@ -226,11 +233,11 @@ const QUOTES: &str = "\
 struct QuoteCases;
 
 impl Cases for QuoteCases {
-    fn told(alloc: Global, case: &str) -> Result<String, Fail> {
-        let (rate, case) = case.split_once(' ').ok_or("denom")?;
-        let (denom, months) = case.split_once(' ').ok_or("months")?;
-        let (rates, denom, age) = (rates(rate)?, denom.parse()?, age(months.parse()?));
-        let table = unit_table(alloc, rates, bits(62))?;
+    fn told(alloc: Global, case: &str) -> Option<String> {
+        let (rate, case) = case.split_once(' ')?;
+        let (denom, months) = case.split_once(' ')?;
+        let (rates, denom, age) = (rates(rate)?, denom.parse().ok()?, age(months.parse().ok()?));
+        let table = unit_table(alloc, rates, bits(62)).ok()?;
         shown(alloc, &bond_value(&table, denom, age))
     }
 }
@@ -251,7 +258,7 @@ const LEAST_OPEN: &str = "\
 struct LeastOpenCases;
 
 impl Cases for LeastOpenCases {
-    fn told(alloc: Global, case: &str) -> Result<String, Fail> {
+    fn told(alloc: Global, case: &str) -> Option<String> {
         let fault = unit_table(alloc, rates(case)?, bits(8)).err();
         shown(alloc, &fault)
     }

@@ -11,25 +11,25 @@ use std::process::Abort;
 use std::test::Fail;
 
 /// Row and code of the fault, or how many rows were read.
-fn fault_told<T: Drop>(alloc: Global, rows: Result<Vec<T>, FileFault>) -> Result<String, Fail> {
+fn fault_told<T: Drop>(alloc: Global, rows: Result<Vec<T>, FileFault>) -> Option<String> {
     match rows {
-        Ok(rows) => Ok(format!(in alloc; "{} rows", rows.len())?),
-        Err(fault) => Ok(format!(in alloc; "{} {:?}", fault.row, fault.code)?),
+        Ok(rows) => format!(in alloc; "{} rows", rows.len()).ok(),
+        Err(fault) => format!(in alloc; "{} {:?}", fault.row, fault.code).ok(),
     }
 }
 
-fn rate_fault(alloc: Global, mut file: &[u8]) -> Result<String, Fail> {
+fn rate_fault(alloc: Global, mut file: &[u8]) -> Option<String> {
     fault_told(alloc, read_rates(alloc, &mut file))
 }
 
-fn bond_fault(alloc: Global, mut file: &[u8]) -> Result<String, Fail> {
+fn bond_fault(alloc: Global, mut file: &[u8]) -> Option<String> {
     fault_told(alloc, read_inventory(alloc, &mut file))
 }
 
 /// The faults of a file of rates and of an inventory.
-fn both_told(alloc: Global, rates: &[u8], bonds: &[u8]) -> Result<String, Fail> {
+fn both_told(alloc: Global, rates: &[u8], bonds: &[u8]) -> Option<String> {
     let (rates, bonds) = (rate_fault(alloc, rates)?, bond_fault(alloc, bonds)?);
-    Ok(format!(in alloc; "{rates}, {bonds}")?)
+    format!(in alloc; "{rates}, {bonds}").ok()
 }
 
 /// Files of rates, and their first fault.
@@ -71,7 +71,7 @@ from,rate,extension|x,y,z| => 2 BadValue(From)
 struct RateFaultCases;
 
 impl Cases for RateFaultCases {
-    fn told(alloc: Global, case: &str) -> Result<String, Fail> {
+    fn told(alloc: Global, case: &str) -> Option<String> {
         rate_fault(alloc, &bytes_of(alloc, case)?)
     }
 }
@@ -101,9 +101,9 @@ L1EE,50,2010-11,x,y| => 5 BadValue(Owner)
 struct BondFaultCases;
 
 impl Cases for BondFaultCases {
-    fn told(alloc: Global, case: &str) -> Result<String, Fail> {
-        let mut file = Vec::from_slice(alloc, INVENTORY.as_bytes())?;
-        file.extend_from_slice(&bytes_of(alloc, case)?)?;
+    fn told(alloc: Global, case: &str) -> Option<String> {
+        let mut file = Vec::from_slice(alloc, INVENTORY.as_bytes()).ok()?;
+        file.extend_from_slice(&bytes_of(alloc, case)?).ok()?;
         bond_fault(alloc, &file)
     }
 }
@@ -111,7 +111,7 @@ impl Cases for BondFaultCases {
 #[test]
 fn first_fault_of_an_inventory(rt: HostRuntime) -> Result<(), Fail> {
     let cut = INVENTORY.strip_suffix(",7,\n").ok_or("no end")?;
-    let told = bond_fault(rt.alloc(), cut.as_bytes())?;
+    let told = bond_fault(rt.alloc(), cut.as_bytes()).ok_or("not told")?;
     same(&rt, told.as_str(), "4 WrongFieldCount", "cut");
     compare::<BondFaultCases>(&rt, rt.alloc(), BOND_FAULTS)
 }
@@ -127,27 +127,21 @@ const LONG_FILES: &str = "\
 ";
 
 /// A header, a row so many times, and the last ones.
-fn long_file(
-    alloc: Global,
-    header: &str,
-    row: &str,
-    count: u64,
-    last: &[u8],
-) -> Result<Vec<u8>, Fail> {
-    let mut file = Vec::from_slice(alloc, header.as_bytes())?;
+fn long_file(alloc: Global, header: &str, row: &str, count: u64, last: &[u8]) -> Option<Vec<u8>> {
+    let mut file = Vec::from_slice(alloc, header.as_bytes()).ok()?;
     for _ in 0..count {
-        file.extend_from_slice(row.as_bytes())?;
+        file.extend_from_slice(row.as_bytes()).ok()?;
     }
-    file.extend_from_slice(last)?;
-    Ok(file)
+    file.extend_from_slice(last).ok()?;
+    Some(file)
 }
 
 struct LongFileCases;
 
 impl Cases for LongFileCases {
-    fn told(alloc: Global, case: &str) -> Result<String, Fail> {
-        let (count, last) = case.split_once('|').ok_or("count")?;
-        let (count, last) = (count.parse()?, bytes_of(alloc, last)?);
+    fn told(alloc: Global, case: &str) -> Option<String> {
+        let (count, last) = case.split_once('|')?;
+        let (count, last) = (count.parse().ok()?, bytes_of(alloc, last)?);
         let rates = long_file(alloc, "from,rate\n", "2010-05,2.00\n", count, &last)?;
         let header = "serial,denom,issued,owner,coowner\n";
         let bonds = long_file(alloc, header, "L1EE,50,2010-11,7,\n", count, &last)?;
@@ -171,9 +165,9 @@ x 1048576 => 1 FileTooLong, 1 FileTooLong
 struct EmptyLineCases;
 
 impl Cases for EmptyLineCases {
-    fn told(alloc: Global, case: &str) -> Result<String, Fail> {
+    fn told(alloc: Global, case: &str) -> Option<String> {
         let (first, count) = case.split_once(' ').unwrap_or(("", case));
-        let file = long_file(alloc, first, "\n", count.parse()?, b"")?;
+        let file = long_file(alloc, first, "\n", count.parse().ok()?, b"")?;
         both_told(alloc, &file, &file)
     }
 }
@@ -185,12 +179,7 @@ fn too_long_before_its_records(rt: HostRuntime) -> Result<(), Fail> {
 }
 
 /// What is told of a sample that is read a byte at a time, in trouble at one read.
-fn told_in_trouble(
-    alloc: Global,
-    file: &str,
-    call: usize,
-    kind: ErrorKind,
-) -> Result<String, Fail> {
+fn told_in_trouble(alloc: Global, file: &str, call: usize, kind: ErrorKind) -> Option<String> {
     let mut source = Source::of(file.as_bytes(), 1, Some((call, kind)));
     if file == RATES {
         return rows_told(alloc, read_rates(alloc, &mut source));
@@ -205,7 +194,7 @@ fn fails_at_each_read(
     file: &str,
     rows: &str,
     kind: ErrorKind,
-) -> Result<(), Fail> {
+) -> Option<()> {
     let last = file.len().saturating_add(1);
     for call in 1..=last {
         let told = told_in_trouble(alloc, file, call, kind)?;
@@ -213,14 +202,14 @@ fn fails_at_each_read(
     }
     let told = told_in_trouble(alloc, file, last.saturating_add(1), kind)?;
     same(rt, told.as_str(), rows, "after the end");
-    Ok(())
+    Some(())
 }
 
 #[test]
 fn a_failed_read_is_not_tried_again(rt: HostRuntime) -> Result<(), Fail> {
     for kind in [ErrorKind::Other, ErrorKind::Interrupted] {
-        fails_at_each_read(&rt, rt.alloc(), RATES, TWO_RATES, kind)?;
-        fails_at_each_read(&rt, rt.alloc(), INVENTORY, THREE_BONDS, kind)?;
+        fails_at_each_read(&rt, rt.alloc(), RATES, TWO_RATES, kind).ok_or("rates")?;
+        fails_at_each_read(&rt, rt.alloc(), INVENTORY, THREE_BONDS, kind).ok_or("bonds")?;
     }
     Ok(())
 }

@@ -23,29 +23,29 @@ pub const THREE_BONDS: &str =
 pub fn rows_told<T: Debug + Drop>(
     alloc: Global,
     rows: Result<Vec<T>, FileFault>,
-) -> Result<String, Fail> {
+) -> Option<String> {
     match rows {
         Ok(rows) => shown(alloc, &rows),
-        Err(fault) => Ok(fault.to_string(alloc)?),
+        Err(fault) => fault.to_string(alloc).ok(),
     }
 }
 
 /// What is told of a file of rates.
-pub fn rates_told(alloc: Global, mut file: &[u8]) -> Result<String, Fail> {
+pub fn rates_told(alloc: Global, mut file: &[u8]) -> Option<String> {
     rows_told(alloc, read_rates(alloc, &mut file))
 }
 
 /// What is told of an inventory.
-pub fn bonds_told(alloc: Global, mut file: &[u8]) -> Result<String, Fail> {
+pub fn bonds_told(alloc: Global, mut file: &[u8]) -> Option<String> {
     rows_told(alloc, read_inventory(alloc, &mut file))
 }
 
 /// `what` where the text is the known one, else the text.
-pub fn named(alloc: Global, text: String, known: &str, what: &str) -> Result<String, Fail> {
+pub fn named(alloc: Global, text: String, known: &str, what: &str) -> Option<String> {
     if text.as_str() == known {
-        return Ok(String::from_str(alloc, what)?);
+        return String::from_str(alloc, what).ok();
     }
-    Ok(text)
+    Some(text)
 }
 
 /// Files of rates: the sample, files without rows, and the sample as spreadsheets write it: other line ends, no
@@ -73,7 +73,7 @@ from,rate,extension| => []
 struct RateFileCases;
 
 impl Cases for RateFileCases {
-    fn told(alloc: Global, case: &str) -> Result<String, Fail> {
+    fn told(alloc: Global, case: &str) -> Option<String> {
         let text = rates_told(alloc, &bytes_of(alloc, case)?)?;
         named(alloc, text, TWO_RATES, "the sample")
     }
@@ -90,7 +90,7 @@ serial,denom,issued,owner,coowner^|\"C-0012-EE\",\"100\",\"05/2010\",\"007\",\"9
 struct BondFileCases;
 
 impl Cases for BondFileCases {
-    fn told(alloc: Global, case: &str) -> Result<String, Fail> {
+    fn told(alloc: Global, case: &str) -> Option<String> {
         let text = bonds_told(alloc, &bytes_of(alloc, case)?)?;
         named(alloc, text, THREE_BONDS, "the sample")
     }

@@ -1,7 +1,9 @@
 //! Inventories that are written, the texts of faults, and want of memory.
 
 use super::samples::{INVENTORY, RATES, THREE_BONDS, TWO_RATES, bonds_told, named, rates_told};
-use crate::comparing::{Cases, Written, compare_fronts, compare_refused, marked, same, shown};
+use crate::comparing::{
+    Cases, Written, compare_fronts, compare_refused, ended, marked, same, shown,
+};
 use crate::device::{Device, Trouble};
 use ee_calculator::Bond;
 use ee_files::{Column, FileCode, FileFault, WriteFault, read_inventory, write_inventory};
@@ -16,8 +18,8 @@ const EXPORTED: &str =
     "[Bond { serial: Serial { letter: 11, number: 2 }, denom: SeventyFive, issued: IssueMonth { count: 65 }, owner: Customer { number: 7 }, coowner: Some(Customer { number: 8 }) }, Bond { serial: Serial { letter: 12, number: 1 }, denom: Fifty, issued: IssueMonth { count: 66 }, owner: Customer { number: 7 }, coowner: None }, Bond { serial: Serial { letter: 13, number: 3 }, denom: TenThousand, issued: IssueMonth { count: 69 }, owner: Customer { number: 7 }, coowner: None }]";
 
 /// The bonds in the order of the export.
-fn bonds_in_order(alloc: Global) -> Result<Vec<Bond>, Fail> {
-    Ok(read_inventory(alloc, &mut EXPORT.as_bytes())?)
+fn bonds_in_order(alloc: Global) -> Option<Vec<Bond>> {
+    read_inventory(alloc, &mut EXPORT.as_bytes()).ok()
 }
 
 /// Bonds that are written, and the trouble where there is no more room for them.
@@ -28,22 +30,27 @@ struct Export<'a> {
 }
 
 impl Written for Export<'_> {
-    fn told_in(&self, alloc: Global, room: usize) -> Result<String, Fail> {
+    fn told_in(&self, alloc: Global, room: usize) -> Option<String> {
         let mut device = Device::of(alloc, room, self.trouble)?;
         let end = write_inventory(alloc, &mut device, self.bonds);
-        Ok(format!(in alloc; "{end:?} {}", str::from_utf8(&device.bytes)?)?)
+        ended(alloc, &end, &device.bytes)
     }
 }
 
+/// These bonds, as `Debug` shows them.
+fn told_again(alloc: Global) -> Option<String> {
+    shown(alloc, &bonds_in_order(alloc)?)
+}
+
 /// How writing bonds where there is room ends, and what is written.
-fn told(alloc: Global, bonds: &[Bond]) -> Result<String, Fail> {
+fn told(alloc: Global, bonds: &[Bond]) -> Option<String> {
     let trouble = Trouble::Fails;
     Export { bonds, trouble }.told_in(alloc, 1_000)
 }
 
 #[test]
 fn bonds_are_written_in_order_or_a_front_of_them(rt: HostRuntime) -> Result<(), Fail> {
-    let bonds = bonds_in_order(rt.alloc())?;
+    let bonds = bonds_in_order(rt.alloc()).ok_or("no bonds")?;
     let bonds = bonds.as_slice();
     for trouble in [Trouble::Fails, Trouble::Interrupted] {
         compare_fronts(&rt, rt.alloc(), &Export { bonds, trouble }, EXPORT)?;
@@ -53,9 +60,9 @@ fn bonds_are_written_in_order_or_a_front_of_them(rt: HostRuntime) -> Result<(), 
 
 #[test]
 fn a_written_file_is_read_back(rt: HostRuntime) -> Result<(), Fail> {
-    let bonds = bonds_in_order(rt.alloc())?;
-    same(&rt, shown(rt.alloc(), &bonds)?.as_str(), EXPORTED, "bonds");
-    let told = told(rt.alloc(), &[])?;
+    let read = told_again(rt.alloc()).ok_or("no bonds")?;
+    same(&rt, read.as_str(), EXPORTED, "bonds");
+    let told = told(rt.alloc(), &[]).ok_or("not told")?;
     let wanted = "Ok(()) serial,denom,issued,owner,coowner\n";
     same(&rt, told.as_str(), wanted, "no bonds");
     Ok(())
@@ -93,17 +100,15 @@ const CODE_TEXTS: &str = "\
 75 the file is too long: row 4 code 75
 ";
 
+fn code_told(alloc: Global, code: FileCode) -> Option<String> {
+    let (number, fault) = (code.code(), FileFault { row: 4, code });
+    format!(in alloc; "{number} {code}: {fault}").ok()
+}
+
 #[test]
 fn texts_of_codes(rt: HostRuntime) -> Result<(), Fail> {
     for (code, wanted) in CODES.iter().zip(CODE_TEXTS.lines()) {
-        let (number, fault) = (
-            code.code(),
-            FileFault {
-                row: 4,
-                code: *code,
-            },
-        );
-        let told = format!(in rt.alloc(); "{number} {code}: {fault}")?;
+        let told = code_told(rt.alloc(), *code).ok_or("not told")?;
         same(&rt, told.as_str(), wanted, "code");
     }
     Ok(())
@@ -122,25 +127,30 @@ fn texts_of_write_faults(rt: HostRuntime) -> Result<(), Fail> {
     Ok(())
 }
 
+fn rates_named(alloc: Global) -> Option<String> {
+    let text = rates_told(alloc, RATES.as_bytes())?;
+    named(alloc, text, TWO_RATES, "all")
+}
+
+fn bonds_named(alloc: Global) -> Option<String> {
+    let text = bonds_told(alloc, INVENTORY.as_bytes())?;
+    named(alloc, text, THREE_BONDS, "all")
+}
+
+fn export_told(alloc: Global) -> Option<String> {
+    let told = told(alloc, &bonds_in_order(alloc)?)?;
+    marked(alloc, told.as_str())
+}
+
 /// What the three calls answer, by a name.
 struct MemoryCases;
 
 impl Cases for MemoryCases {
-    fn told(alloc: Global, case: &str) -> Result<String, Fail> {
+    fn told(alloc: Global, case: &str) -> Option<String> {
         match case {
-            "rates" => named(
-                alloc,
-                rates_told(alloc, RATES.as_bytes())?,
-                TWO_RATES,
-                "all",
-            ),
-            "bonds" => named(
-                alloc,
-                bonds_told(alloc, INVENTORY.as_bytes())?,
-                THREE_BONDS,
-                "all",
-            ),
-            _ => marked(alloc, told(alloc, &bonds_in_order(alloc)?)?.as_str()),
+            "rates" => rates_named(alloc),
+            "bonds" => bonds_named(alloc),
+            _ => export_told(alloc),
         }
     }
 }

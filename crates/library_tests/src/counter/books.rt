@@ -2,7 +2,7 @@
 //! `ticket NUMBER DAY PAYEE CENTS SERIAL=CENTS ..`, `batch DAY TICKETS BONDS CENTS`, `day DAY` and
 //! `last DAY`, each ended by a semicolon; `-` stands for what is missing.
 
-use crate::comparing::{Cases, compare};
+use crate::comparing::{Cases, add, compare};
 use ee_calculator::Bond;
 use ee_desk::{Books, Parts};
 use ee_desk_acts::{Batch, Line, RateRow, Rows, Ticket};
@@ -53,14 +53,14 @@ day - -> day 2012-02-06 => Some(Unsound)
 ";
 
 /// The worked books with changes `OLD -> NEW | OLD -> NEW ..`, each made where the old text stands first.
-fn changed(alloc: Global, changes: &str) -> Result<String, Fail> {
-    let mut text = String::from_str(alloc, WORKED)?;
+fn changed(alloc: Global, changes: &str) -> Option<String> {
+    let mut text = String::from_str(alloc, WORKED).ok()?;
     for change in changes.split('|') {
-        let (old, new) = change.split_once("->").ok_or("change")?;
-        let (front, back) = text.as_str().split_once(old.trim()).ok_or("old")?;
-        text = format!(in alloc; "{front}{}{back}", new.trim())?;
+        let (old, new) = change.split_once("->")?;
+        let (front, back) = text.as_str().split_once(old.trim())?;
+        text = format!(in alloc; "{front}{}{back}", new.trim()).ok()?;
     }
-    Ok(text)
+    Some(text)
 }
 
 /// A row of the books in words.
@@ -69,10 +69,10 @@ trait Worded: Sized + Drop {
     fn kind() -> &'static str;
 
     /// The row of the words after that.
-    fn read(alloc: Global, words: &[&str]) -> Result<Self, Fail>;
+    fn read(alloc: Global, words: &[&str]) -> Option<Self>;
 
     /// Adds these words.
-    fn add_words(&self, text: &mut String) -> Result<(), Fail>;
+    fn add_words(&self, text: &mut String) -> Option<()>;
 }
 
 impl Worded for RateRow {
@@ -80,20 +80,19 @@ impl Worded for RateRow {
         "rate"
     }
 
-    fn read(_alloc: Global, words: &[&str]) -> Result<RateRow, Fail> {
+    fn read(_alloc: Global, words: &[&str]) -> Option<RateRow> {
         let [from, fixed] = *words else {
-            return Err("rate".into());
+            return None;
         };
-        let fixed = fixed.parse()?;
-        Ok(RateRow {
-            from: from.parse()?,
+        let fixed = fixed.parse().ok()?;
+        Some(RateRow {
+            from: from.parse().ok()?,
             rates: Rates::new(fixed, None),
         })
     }
 
-    fn add_words(&self, text: &mut String) -> Result<(), Fail> {
-        write!(text, " {} {}", self.from, self.rates.fixed)?;
-        Ok(())
+    fn add_words(&self, text: &mut String) -> Option<()> {
+        write!(text, " {} {}", self.from, self.rates.fixed).ok()
     }
 }
 
@@ -102,44 +101,43 @@ impl Worded for Bond {
         "bond"
     }
 
-    fn read(_alloc: Global, words: &[&str]) -> Result<Bond, Fail> {
+    fn read(_alloc: Global, words: &[&str]) -> Option<Bond> {
         let [serial, denom, issued, owner, coowner] = *words else {
-            return Err("bond".into());
+            return None;
         };
-        Ok(Bond {
-            serial: serial.parse()?,
-            denom: denom.parse()?,
-            issued: issued.parse()?,
-            owner: owner.parse()?,
+        Some(Bond {
+            serial: serial.parse().ok()?,
+            denom: denom.parse().ok()?,
+            issued: issued.parse().ok()?,
+            owner: owner.parse().ok()?,
             coowner: coowner.parse().ok(),
         })
     }
 
-    fn add_words(&self, text: &mut String) -> Result<(), Fail> {
+    fn add_words(&self, text: &mut String) -> Option<()> {
         let (serial, denom, issued) = (self.serial, self.denom, self.issued);
-        write!(text, " {serial} {denom} {issued} {}", self.owner)?;
+        write!(text, " {serial} {denom} {issued} {}", self.owner).ok()?;
         match self.coowner {
-            Some(coowner) => write!(text, " {coowner}")?,
-            None => write!(text, " -")?,
+            Some(coowner) => write!(text, " {coowner}").ok(),
+            None => text.push_str(" -").ok(),
         }
-        Ok(())
     }
 }
 
-fn line(word: &str) -> Result<Line, Fail> {
-    let (serial, cents) = word.split_once('=').ok_or("line")?;
-    Ok(Line {
-        serial: serial.parse()?,
-        cents: Cents(cents.parse()?),
+fn line(word: &str) -> Option<Line> {
+    let (serial, cents) = word.split_once('=')?;
+    Some(Line {
+        serial: serial.parse().ok()?,
+        cents: Cents(cents.parse().ok()?),
     })
 }
 
-fn lines(alloc: Global, words: &[&str]) -> Result<Rows<Line>, Fail> {
+fn lines(alloc: Global, words: &[&str]) -> Option<Rows<Line>> {
     let mut lines = Vec::new(alloc);
     for word in words {
-        lines.push(line(word)?)?;
+        add(&mut lines, line(word)?)?;
     }
-    Ok(Rows::new(lines))
+    Some(Rows::new(lines))
 }
 
 impl Worded for Ticket {
@@ -147,26 +145,26 @@ impl Worded for Ticket {
         "ticket"
     }
 
-    fn read(alloc: Global, words: &[&str]) -> Result<Ticket, Fail> {
+    fn read(alloc: Global, words: &[&str]) -> Option<Ticket> {
         let [ticket, day, payee, total, ref paid @ ..] = *words else {
-            return Err("ticket".into());
+            return None;
         };
-        Ok(Ticket {
-            ticket: ticket.parse()?,
-            day: day.parse()?,
-            payee: payee.parse()?,
-            total: Cents(total.parse()?),
+        Some(Ticket {
+            ticket: ticket.parse().ok()?,
+            day: day.parse().ok()?,
+            payee: payee.parse().ok()?,
+            total: Cents(total.parse().ok()?),
             lines: lines(alloc, paid)?,
         })
     }
 
-    fn add_words(&self, text: &mut String) -> Result<(), Fail> {
+    fn add_words(&self, text: &mut String) -> Option<()> {
         let (number, day, payee) = (self.ticket, self.day, self.payee);
-        write!(text, " {number} {day} {payee} {}", self.total.0)?;
+        write!(text, " {number} {day} {payee} {}", self.total.0).ok()?;
         for line in self.lines.as_slice() {
-            write!(text, " {}={}", line.serial, line.cents.0)?;
+            write!(text, " {}={}", line.serial, line.cents.0).ok()?;
         }
-        Ok(())
+        Some(())
     }
 }
 
@@ -175,43 +173,42 @@ impl Worded for Batch {
         "batch"
     }
 
-    fn read(_alloc: Global, words: &[&str]) -> Result<Batch, Fail> {
+    fn read(_alloc: Global, words: &[&str]) -> Option<Batch> {
         let [day, tickets, bonds, total] = *words else {
-            return Err("batch".into());
+            return None;
         };
-        Ok(Batch {
-            day: day.parse()?,
-            tickets: tickets.parse()?,
-            bonds: bonds.parse()?,
-            total: Cents(total.parse()?),
+        Some(Batch {
+            day: day.parse().ok()?,
+            tickets: tickets.parse().ok()?,
+            bonds: bonds.parse().ok()?,
+            total: Cents(total.parse().ok()?),
         })
     }
 
-    fn add_words(&self, text: &mut String) -> Result<(), Fail> {
+    fn add_words(&self, text: &mut String) -> Option<()> {
         let (day, tickets, bonds) = (self.day, self.tickets, self.bonds);
-        write!(text, " {day} {tickets} {bonds} {}", self.total.0)?;
-        Ok(())
+        write!(text, " {day} {tickets} {bonds} {}", self.total.0).ok()
     }
 }
 
 /// The row of a text between two semicolons, where it is of that kind.
-fn row_of<T: Worded>(alloc: Global, row: &str) -> Result<Option<T>, Fail> {
-    let (kind, rest) = row.trim().split_once(' ').ok_or("row")?;
+fn row_of<T: Worded>(alloc: Global, row: &str) -> Option<Option<T>> {
+    let (kind, rest) = row.trim().split_once(' ')?;
     if kind != T::kind() {
-        return Ok(None);
+        return Some(None);
     }
-    let words: Vec<&str> = rest.split_whitespace().collect(alloc)?;
-    Ok(Some(T::read(alloc, words.as_slice())?))
+    let words: Vec<&str> = rest.split_whitespace().collect(alloc).ok()?;
+    T::read(alloc, words.as_slice()).map(Some)
 }
 
-fn rows_of<T: Worded>(alloc: Global, text: &str) -> Result<Rows<T>, Fail> {
+fn rows_of<T: Worded>(alloc: Global, text: &str) -> Option<Rows<T>> {
     let mut rows = Vec::new(alloc);
     for row in text.split_terminator(';') {
         if let Some(row) = row_of(alloc, row)? {
-            rows.push(row)?;
+            add(&mut rows, row)?;
         }
     }
-    Ok(Rows::new(rows))
+    Some(Rows::new(rows))
 }
 
 /// The day of a kind of row; None where it is missing or `-`.
@@ -225,8 +222,8 @@ fn day_of(text: &str, kind: &str) -> Option<Day> {
     None
 }
 
-fn read(alloc: Global, text: &str) -> Result<Parts, Fail> {
-    Ok(Parts {
+fn read(alloc: Global, text: &str) -> Option<Parts> {
+    Some(Parts {
         rates: rows_of(alloc, text)?,
         bonds: rows_of(alloc, text)?,
         day: day_of(text, "day"),
@@ -236,44 +233,43 @@ fn read(alloc: Global, text: &str) -> Result<Parts, Fail> {
     })
 }
 
-fn add_rows<T: Worded>(text: &mut String, rows: &[T]) -> Result<(), Fail> {
+fn add_rows<T: Worded>(text: &mut String, rows: &[T]) -> Option<()> {
     for row in rows {
-        text.push_str(T::kind())?;
+        text.push_str(T::kind()).ok()?;
         row.add_words(text)?;
-        text.push_str("; ")?;
+        text.push_str("; ").ok()?;
     }
-    Ok(())
+    Some(())
 }
 
-fn add_day(text: &mut String, kind: &str, day: Option<Day>) -> Result<(), Fail> {
+fn add_day(text: &mut String, kind: &str, day: Option<Day>) -> Option<()> {
     match day {
-        Some(day) => write!(text, "{kind} {day};")?,
-        None => write!(text, "{kind} -;")?,
+        Some(day) => write!(text, "{kind} {day};").ok(),
+        None => write!(text, "{kind} -;").ok(),
     }
-    Ok(())
 }
 
 /// The parts in words.
-pub fn written(alloc: Global, parts: &Parts) -> Result<String, Fail> {
+pub fn written(alloc: Global, parts: &Parts) -> Option<String> {
     let mut text = String::new(alloc);
     add_rows(&mut text, parts.rates.as_slice())?;
     add_rows(&mut text, parts.bonds.as_slice())?;
     add_rows(&mut text, parts.tickets.as_slice())?;
     add_rows(&mut text, parts.batches.as_slice())?;
     add_day(&mut text, "day", parts.day)?;
-    text.push_str(" ")?;
+    text.push_str(" ").ok()?;
     add_day(&mut text, "last", parts.last_day)?;
-    Ok(text)
+    Some(text)
 }
 
 /// Why the changed books are refused.
 struct ChangeCases;
 
 impl Cases for ChangeCases {
-    fn told(alloc: Global, case: &str) -> Result<String, Fail> {
+    fn told(alloc: Global, case: &str) -> Option<String> {
         let text = changed(alloc, case)?;
         let fault = Books::from_parts(alloc, read(alloc, text.as_str())?).err();
-        Ok(format!(in alloc; "{fault:?}")?)
+        format!(in alloc; "{fault:?}").ok()
     }
 }
 

@@ -1,6 +1,6 @@
 //! Calls of books that take memory, and that the other tests reach only through others, with ample memory.
 
-use crate::books::written;
+use super::books::written;
 use crate::comparing::same;
 use ee_calculator::{Sheet, write_sheet};
 use ee_counter::answer_message;
@@ -105,34 +105,34 @@ const DESKS: &str =
 {"opened":"2012-02-07"}"#;
 
 /// The text of the reply to an act by a view.
-fn decided(alloc: Global, view: &View, act: &Act) -> Result<String, Fail> {
-    let effects = decide(alloc, view, act)?;
-    Ok(reply_text(alloc, &effects.reply)?)
+fn decided(alloc: Global, view: &View, act: &Act) -> Option<String> {
+    let effects = decide(alloc, view, act).ok()?;
+    reply_text(alloc, &effects.reply).ok()
 }
 
 /// The same by what is seen of the books.
-fn seen(alloc: Global, books: &Books, act: &Act) -> Result<String, Fail> {
-    let view = books.view_of(act)?;
+fn seen(alloc: Global, books: &Books, act: &Act) -> Option<String> {
+    let view = books.view_of(act).ok()?;
     decided(alloc, &view, act)
 }
 
 /// The text of the reply of the effects of an act.
-fn effects_told(alloc: Global, books: &Books, act: &Act) -> Result<String, Fail> {
-    let effects = books.effects_of(act)?;
-    Ok(reply_text(alloc, &effects.reply)?)
+fn effects_told(alloc: Global, books: &Books, act: &Act) -> Option<String> {
+    let effects = books.effects_of(act).ok()?;
+    reply_text(alloc, &effects.reply).ok()
 }
 
-fn step_told(alloc: Global, books: &mut Books, act: &Act) -> Result<String, Fail> {
-    let reply = books.step(act)?;
-    Ok(reply_text(alloc, &reply)?)
+fn step_told(alloc: Global, books: &mut Books, act: &Act) -> Option<String> {
+    let reply = books.step(act).ok()?;
+    reply_text(alloc, &reply).ok()
 }
 
 /// What is seen of an open day after so many tickets over all days.
-fn view_after(alloc: Global, tickets: u64) -> Result<Option<View>, Fail> {
-    Ok(View::from_parts(ViewParts {
+fn view_after(alloc: Global, tickets: u64) -> Option<Option<View>> {
+    Some(View::from_parts(ViewParts {
         rates: BTreeMap::new(alloc),
         bonds: BTreeMap::new(alloc),
-        day: Some("2012-02-06".parse()?),
+        day: Some("2012-02-06".parse().ok()?),
         last_day: None,
         tickets,
         day_tickets: 0,
@@ -142,16 +142,16 @@ fn view_after(alloc: Global, tickets: u64) -> Result<Option<View>, Fail> {
 }
 
 /// The text of the reply to an act after so many tickets.
-fn decided_after(alloc: Global, tickets: u64, act: &Act) -> Result<String, Fail> {
+fn decided_after(alloc: Global, tickets: u64, act: &Act) -> Option<String> {
     match view_after(alloc, tickets)? {
         Some(view) => decided(alloc, &view, act),
-        None => Ok(String::from_str(alloc, "no view")?),
+        None => String::from_str(alloc, "no view").ok(),
     }
 }
 
 /// What is told of an act of a canonical text.
-fn act_told(alloc: Global, books: &mut Books, call: &str, text: &str) -> Result<String, Fail> {
-    let act = read_act(alloc, text)?.ok_or("act")?;
+fn act_told(alloc: Global, books: &mut Books, call: &str, text: &str) -> Option<String> {
+    let act = read_act(alloc, text).ok()??;
     match call {
         "do" => step_told(alloc, books, &act),
         "decide" => seen(alloc, books, &act),
@@ -160,28 +160,29 @@ fn act_told(alloc: Global, books: &mut Books, call: &str, text: &str) -> Result<
 }
 
 /// What is told of `TICKETS ACT`.
-fn after_told(alloc: Global, text: &str) -> Result<String, Fail> {
-    let (tickets, act) = text.split_once(' ').ok_or("tickets")?;
-    let act = read_act(alloc, act)?.ok_or("act")?;
-    decided_after(alloc, tickets.parse()?, &act)
+fn after_told(alloc: Global, text: &str) -> Option<String> {
+    let (tickets, act) = text.split_once(' ')?;
+    let act = read_act(alloc, act).ok()??;
+    decided_after(alloc, tickets.parse().ok()?, &act)
 }
 
-fn sheet_text(alloc: Global, sheet: &Sheet) -> Result<String, Fail> {
+fn sheet_text(alloc: Global, sheet: &Sheet) -> Option<String> {
     let mut text = Vec::new(alloc);
-    write_sheet(sheet, &mut text)?;
-    Ok(String::from_str(alloc, str::from_utf8(&text)?)?)
+    write_sheet(sheet, &mut text).ok()?;
+    String::from_str(alloc, str::from_utf8(&text).ok()?).ok()
 }
 
-fn inventory_told(alloc: Global, books: &Books, place: &str) -> Result<String, Fail> {
-    let (customer, month) = place.split_once(' ').ok_or("month")?;
-    let sheet = books.inventory(customer.parse()?, month.parse()?)?;
+fn inventory_told(alloc: Global, books: &Books, place: &str) -> Option<String> {
+    let (customer, month) = place.split_once(' ')?;
+    let (customer, month) = (customer.parse().ok()?, month.parse().ok()?);
+    let sheet = books.inventory(customer, month).ok()?;
     sheet_text(alloc, &sheet)
 }
 
 /// How many bonds a customer has.
-fn bonds_told(alloc: Global, books: &Books, customer: &str) -> Result<String, Fail> {
-    let count = books.bonds_of(customer.parse()?)?.len();
-    Ok(count.to_string(alloc)?)
+fn bonds_told(alloc: Global, books: &Books, customer: &str) -> Option<String> {
+    let count = books.bonds_of(customer.parse().ok()?).ok()?.len();
+    count.to_string(alloc).ok()
 }
 
 /// The value in cents of `DENOM ISSUED MONTH`.
@@ -192,86 +193,99 @@ fn quote_told(alloc: Global, books: &Books, bond: &str) -> Result<String, Fail> 
     Ok(row.ok_or("row")?.value.0.to_string(alloc)?)
 }
 
-fn ticket_told(alloc: Global, books: &Books, number: &str) -> Result<String, Fail> {
-    let is_none = books.ticket(number.parse()?)?.is_none();
-    Ok(String::from_str(alloc, if is_none { "none" } else { "one" })?)
+fn ticket_told(alloc: Global, books: &Books, number: &str) -> Option<String> {
+    let is_none = books.ticket(number.parse().ok()?).ok()?.is_none();
+    String::from_str(alloc, if is_none { "none" } else { "one" }).ok()
 }
 
 /// What is told of parts: whether they are sound, how many tickets are copied, or all of them in words.
-fn told_of_parts(alloc: Global, parts: &Parts, call: &str) -> Result<String, Fail> {
+fn told_of_parts(alloc: Global, parts: &Parts, call: &str) -> Option<String> {
     match call {
-        "check" => Ok(checked(alloc, parts).is_ok().to_string(alloc)?),
+        "check" => checked(alloc, parts).is_ok().to_string(alloc).ok(),
         "copy" => {
-            let copies = copy_tickets(alloc, parts.tickets.as_slice())?;
-            Ok(copies.len().to_string(alloc)?)
+            let copies = copy_tickets(alloc, parts.tickets.as_slice()).ok()?;
+            copies.len().to_string(alloc).ok()
         }
         _ => written(alloc, parts),
     }
 }
 
 /// What is told of the parts of the books.
-fn parts_told(alloc: Global, books: &Books, call: &str) -> Result<String, Fail> {
-    let parts = books.parts()?;
+fn parts_told(alloc: Global, books: &Books, call: &str) -> Option<String> {
+    let parts = books.parts().ok()?;
     told_of_parts(alloc, &parts, call)
 }
 
 /// The parts of the books of the books' parts.
-fn parts_again(alloc: Global, books: &Books) -> Result<String, Fail> {
-    let books = Books::from_parts(alloc, books.parts()?)?;
+fn parts_again(alloc: Global, books: &Books) -> Option<String> {
+    let books = Books::from_parts(alloc, books.parts().ok()?).ok()?;
     parts_told(alloc, &books, "parts")
 }
 
 /// The text of the reply to a message without a connection.
-fn post_told(alloc: Global, keeper: &mut ListKeeper, message: &str) -> Result<String, Fail> {
-    let (path, body) = message.split_once(' ').ok_or("body")?;
+fn post_told(alloc: Global, keeper: &mut ListKeeper, message: &str) -> Option<String> {
+    let (path, body) = message.split_once(' ')?;
     match answer_message(alloc, keeper, path.as_bytes(), b"POST", body.as_bytes()) {
-        Answer::Reply(reply) => Ok(reply_text(alloc, &reply)?),
-        _ => Err("no reply".into()),
+        Answer::Reply(reply) => reply_text(alloc, &reply).ok(),
+        _ => None,
     }
 }
 
-fn has_terms(tables: &UnitTables, rates: Rates) -> Result<bool, Fail> {
-    Ok(tables.terms(rates)?.is_some())
+fn has_terms(tables: &UnitTables, rates: Rates) -> Option<bool> {
+    Some(tables.terms(rates).ok()?.is_some())
 }
 
 /// The rate of terms that are made and kept.
-fn kept_rate(alloc: Global, tables: &mut UnitTables, rates: Rates) -> Result<Rate, Fail> {
-    let made = tables.add(alloc, rates)?;
-    let kept = tables.keep(&made)?;
-    Ok(kept.rates().fixed)
+fn kept_rate(alloc: Global, tables: &mut UnitTables, rates: Rates) -> Option<Rate> {
+    let made = tables.add(alloc, rates).ok()?;
+    let kept = tables.keep(&made).ok()?;
+    Some(kept.rates().fixed)
 }
 
 /// Whether there are terms of a rate before they are made, the rate of those that are kept, and whether there are then.
-fn terms_told(alloc: Global, rate: &str) -> Result<String, Fail> {
-    let rates = Rates::new(rate.parse()?, None);
+fn terms_told(alloc: Global, rate: &str) -> Option<String> {
+    let rates = Rates::new(rate.parse().ok()?, None);
     let mut tables = UnitTables::new(alloc);
     let before = has_terms(&tables, rates)?;
     let kept = kept_rate(alloc, &mut tables, rates)?;
     let after = has_terms(&tables, rates)?;
-    Ok(format!(in alloc; "{before} {kept} {after}")?)
+    format!(in alloc; "{before} {kept} {after}").ok()
 }
 
-/// What is told of a call `WORD REST`.
+/// What is told of a call `WORD REST` other than a quote.
 fn told(
+    alloc: Global,
+    books: &mut Books,
+    keeper: &mut ListKeeper,
+    word: &str,
+    rest: &str,
+) -> Option<String> {
+    match word {
+        "do" | "decide" | "effects" => act_told(alloc, books, word, rest),
+        "after" => after_told(alloc, rest),
+        "inventory" => inventory_told(alloc, books, rest),
+        "bonds" => bonds_told(alloc, books, rest),
+        "ticket" => ticket_told(alloc, books, rest),
+        "parts" | "check" | "copy" => parts_told(alloc, books, word),
+        "again" => parts_again(alloc, books),
+        "post" => post_told(alloc, keeper, rest),
+        "terms" => terms_told(alloc, rest),
+        _ => None,
+    }
+}
+
+/// What is told of a call.
+fn call_told(
     alloc: Global,
     books: &mut Books,
     keeper: &mut ListKeeper,
     call: &str,
 ) -> Result<String, Fail> {
     let (word, rest) = call.split_once(' ').unwrap_or((call, ""));
-    match word {
-        "do" | "decide" | "effects" => act_told(alloc, books, word, rest),
-        "after" => after_told(alloc, rest),
-        "inventory" => inventory_told(alloc, books, rest),
-        "bonds" => bonds_told(alloc, books, rest),
-        "quote" => quote_told(alloc, books, rest),
-        "ticket" => ticket_told(alloc, books, rest),
-        "parts" | "check" | "copy" => parts_told(alloc, books, word),
-        "again" => parts_again(alloc, books),
-        "post" => post_told(alloc, keeper, rest),
-        "terms" => terms_told(alloc, rest),
-        _ => Err("no call".into()),
+    if word == "quote" {
+        return quote_told(alloc, books, rest);
     }
+    Ok(told(alloc, books, keeper, word, rest).ok_or("no answer")?)
 }
 
 /// Compares what is told of each call with what stands below it.
@@ -284,7 +298,7 @@ fn compare_over(
 ) -> Result<(), Fail> {
     for row in calls.trim_start_matches("> ").split("\n> ") {
         let (call, wanted) = row.split_once('\n').ok_or("row")?;
-        let told = told(alloc, books, keeper, call)?;
+        let told = call_told(alloc, books, keeper, call)?;
         same(rt, told.as_str(), wanted, call);
     }
     Ok(())

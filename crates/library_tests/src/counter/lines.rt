@@ -2,6 +2,7 @@
 
 use crate::comparing::{Cases, compare};
 use ee_cli_commands::{Command, CommandFault, FileKind, read_command};
+use ee_desk_acts::{Desk, Number};
 use ee_units::Rate;
 use std::alloc::Global;
 use std::fmt::Write;
@@ -68,54 +69,64 @@ fn kind_told(kind: FileKind) -> &'static str {
 }
 
 /// Adds a rate, and the extension where one is named.
-fn add_rates(text: &mut String, rate: Rate, extension: Option<Rate>) -> Result<(), Fail> {
-    write!(text, " at {rate}")?;
-    if let Some(extension) = extension {
-        write!(text, ", then {extension}")?;
+fn add_rates(text: &mut String, rate: Rate, extension: Option<Rate>) -> Option<()> {
+    match extension {
+        Some(extension) => write!(text, " at {rate}, then {extension}").ok(),
+        None => write!(text, " at {rate}").ok(),
     }
-    Ok(())
+}
+
+/// Adds an import of a file to a store under a number of a desk.
+fn add_import(
+    text: &mut String,
+    kind: FileKind,
+    file: &str,
+    store: &str,
+    desk: Desk,
+    number: Number,
+) -> Option<()> {
+    let (kind, desk, number) = (kind_told(kind), desk.number(), number.value());
+    write!(
+        text,
+        "import of {kind} {file} to {store} under {number} of desk {desk}"
+    )
+    .ok()
 }
 
 /// Adds a command in plain words.
-fn add_command(text: &mut String, command: &Command) -> Result<(), Fail> {
+fn add_command(text: &mut String, command: &Command) -> Option<()> {
     match *command {
         Command::Value(denom, issued, month, rate, extension) => {
-            write!(text, "value of {denom} issued {issued} in {month}")?;
-            add_rates(text, rate, extension)?;
+            write!(text, "value of {denom} issued {issued} in {month}").ok()?;
+            add_rates(text, rate, extension)
         }
-        Command::Apply(store) => write!(text, "apply to {store}")?,
+        Command::Apply(store) => write!(text, "apply to {store}").ok(),
         Command::Import(kind, file, store, desk, number) => {
-            let (kind, desk, number) = (kind_told(kind), desk.number(), number.value());
-            write!(
-                text,
-                "import of {kind} {file} to {store} under {number} of desk {desk}"
-            )?;
+            add_import(text, kind, file, store, desk, number)
         }
-        Command::Export(customer, store) => write!(text, "export of {customer} from {store}")?,
+        Command::Export(customer, store) => write!(text, "export of {customer} from {store}").ok(),
         Command::Sheet(customer, month, store) => {
-            write!(text, "sheet of {customer} in {month} from {store}")?;
+            write!(text, "sheet of {customer} in {month} from {store}").ok()
         }
         Command::Serve(store, port, connections) => {
-            write!(text, "serve {store} on {port}, {connections} times")?;
+            write!(text, "serve {store} on {port}, {connections} times").ok()
         }
     }
-    Ok(())
 }
 
 /// Adds what is wrong with a line.
-fn add_fault(text: &mut String, fault: &CommandFault) -> Result<(), Fail> {
+fn add_fault(text: &mut String, fault: &CommandFault) -> Option<()> {
     match fault {
-        CommandFault::Help(_) => text.push_str("help")?,
-        CommandFault::Version => text.push_str("version")?,
-        CommandFault::Line(_) => text.push_str("a bad line")?,
-        CommandFault::Argument(name) => write!(text, "bad {name}")?,
-        CommandFault::NoMemory => return Err("no memory".into()),
+        CommandFault::Help(_) => text.push_str("help").ok(),
+        CommandFault::Version => text.push_str("version").ok(),
+        CommandFault::Line(_) => text.push_str("a bad line").ok(),
+        CommandFault::Argument(name) => write!(text, "bad {name}").ok(),
+        CommandFault::NoMemory => None,
     }
-    Ok(())
 }
 
 /// Adds what words ask for, or what is wrong with them.
-fn add_told(alloc: Global, text: &mut String, words: &[&str]) -> Result<(), Fail> {
+fn add_told(alloc: Global, text: &mut String, words: &[&str]) -> Option<()> {
     match read_command(alloc, words) {
         Ok(command) => add_command(text, &command),
         Err(fault) => add_fault(text, &fault),
@@ -123,24 +134,24 @@ fn add_told(alloc: Global, text: &mut String, words: &[&str]) -> Result<(), Fail
 }
 
 /// The words of a line, after the program's name.
-fn words_of<'a>(alloc: Global, line: &'a str) -> Result<Vec<&'a str>, Fail> {
+fn words_of<'a>(alloc: Global, line: &'a str) -> Option<Vec<&'a str>> {
     let mut words = Vec::new(alloc);
-    words.push("ee_cli")?;
+    words.push("ee_cli").ok()?;
     for word in line.split_ascii_whitespace() {
-        words.push(word)?;
+        words.push(word).ok()?;
     }
-    Ok(words)
+    Some(words)
 }
 
 /// Lines: what they ask for, or what is wrong with them.
 struct LineCases;
 
 impl Cases for LineCases {
-    fn told(alloc: Global, case: &str) -> Result<String, Fail> {
+    fn told(alloc: Global, case: &str) -> Option<String> {
         let words = words_of(alloc, case)?;
         let mut text = String::new(alloc);
         add_told(alloc, &mut text, words.as_slice())?;
-        Ok(text)
+        Some(text)
     }
 }
 

@@ -1,8 +1,8 @@
 //! Connections: faults, limits, and messages that end them. Devices that fail and cut are tested over both keepers
 //! (`store_tests`).
 
+use super::devices::Source;
 use crate::comparing::{Cases, compare};
-use crate::devices::Source;
 use ee_counter::serve;
 use ee_keeper::ListKeeper;
 use std::alloc::Global;
@@ -35,54 +35,54 @@ const STREAMS: &str =
 4096 GET /ticket/1 HTTP/1.0|| => 1 Asked 0 HTTP/1.1 404 Not Found|Content-Type: application/json|Content-Length: 30|Connection: close||{"code":69,"fault":"NotFound"}
 "#;
 
-fn add_letters(text: &mut String) -> Result<(), Fail> {
+fn add_letters(text: &mut String) -> Option<()> {
     for _ in 0..16_168 {
-        text.push_str("d")?;
+        text.push_str("d").ok()?;
     }
-    Ok(())
+    Some(())
 }
 
 /// The bytes of a text with its line ends and its letters.
-fn written_out(alloc: Global, row: &str) -> Result<String, Fail> {
+fn written_out(alloc: Global, row: &str) -> Option<String> {
     let mut text = String::new(alloc);
     for letter in row.chars() {
         match letter {
-            '|' => text.push_str("\r\n")?,
+            '|' => text.push_str("\r\n").ok()?,
             '*' => add_letters(&mut text)?,
-            _ => text.push(letter)?,
+            _ => text.push(letter).ok()?,
         }
     }
-    Ok(text)
+    Some(text)
 }
 
 /// A text with `|` for each of its line ends.
-fn marked(alloc: Global, text: &str) -> Result<String, Fail> {
+fn marked(alloc: Global, text: &str) -> Option<String> {
     let mut marked = String::new(alloc);
     for line in text.split("\r\n") {
-        marked.push_str(line)?;
-        marked.push_str("|")?;
+        marked.push_str(line).ok()?;
+        marked.push_str("|").ok()?;
     }
     let _last = marked.pop();
-    Ok(marked)
+    Some(marked)
 }
 
 /// What is told of serving a stream over an empty keeper.
-fn served(alloc: Global, stream: &str, step: usize) -> Result<String, Fail> {
+fn served(alloc: Global, stream: &str, step: usize) -> Option<String> {
     let mut reader = Source::of(stream.as_bytes(), step);
     let mut text = Vec::new(alloc);
     let ended = serve(alloc, &mut ListKeeper::empty(alloc), &mut reader, &mut text);
     let (messages, why, left) = (ended.messages, ended.why, reader.bytes.len());
-    let answers = str::from_utf8(&text)?;
-    Ok(format!(in alloc; "{messages} {why:?} {left} {answers}")?)
+    let answers = str::from_utf8(&text).ok()?;
+    format!(in alloc; "{messages} {why:?} {left} {answers}").ok()
 }
 
 /// Streams `STEP STREAM`.
 struct StreamCases;
 
 impl Cases for StreamCases {
-    fn told(alloc: Global, case: &str) -> Result<String, Fail> {
-        let (step, stream) = case.split_once(' ').ok_or("step")?;
-        let (step, stream) = (step.parse()?, written_out(alloc, stream)?);
+    fn told(alloc: Global, case: &str) -> Option<String> {
+        let (step, stream) = case.split_once(' ')?;
+        let (step, stream) = (step.parse().ok()?, written_out(alloc, stream)?);
         let told = served(alloc, stream.as_str(), step)?;
         marked(alloc, told.as_str())
     }
