@@ -1,4 +1,5 @@
-use Rattle.std.proofs.Common.{arith, ◌≡◌, ◌+◌, ◌∷◌, ◌++◌, drop, map, sym, ap, ◌∙◌, append_assoc}
+use Rattle.std.proofs.Common.{arith, ◌≡◌, ◌+◌, ◌∷◌, ◌++◌, drop, map, sym, ap, ◌∙◌, append_assoc, rules}
+use Rattle.std.proofs.lemmas.Grind.{common_steps}
 use Rattle.std.proofs.lemmas.List.{drop_more}
 use Rattle.json.specs.Tree.{json_tokens, items_tokens}
 use Rattle.serde_json.specs.View.{items_of}
@@ -19,3 +20,18 @@ loop-row-preserved g c =
       ap (λ ts. ts ++ left) written.1 ∙ append_assoc l.out.tokens (json_tokens (outline (row_data row))) left
           ∙ ap (λ rs. l.out.tokens ++ items_tokens (items_outline (items_of (map row_data rs)))) (sym here) ∙ l.invariant.1,
     )
+
+pub loop-row-init : goal.loop-row-init
+loop-row-init g c = grind (arith, common_steps)
+
+pub returns : goal.returns
+returns g c = grind (arith, common_steps)
+
+pub returns-in_err-begin_array : goal.returns-in_err-begin_array
+returns-in_err-begin_array g c = search rules
+
+pub returns-in_err-key : goal.returns-in_err-key
+returns-in_err-key g c = search rules
+
+pub returns-in_err-write : goal.returns-in_err-write
+returns-in_err-write g c = search rules
