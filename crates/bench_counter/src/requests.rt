@@ -11,7 +11,7 @@ use std::alloc::Global;
 const ROWS: u64 = 500;
 
 /// How many bonds, how many tickets, how many of them a day, and how many bonds a ticket: a divisor of 100.
-#[derive(Clone, Copy, Debug)]
+#[derive(Clone, Copy)]
 pub struct Size {
     pub bonds: u64,
     pub tickets: u64,
@@ -107,7 +107,7 @@ pub fn redemptions(alloc: Global, size: Size, first: u64) -> Result<Vec<Request>
 }
 
 /// How many tickets or batches, and their sum in cents.
-#[derive(Clone, Copy, Debug)]
+#[derive(Clone, Copy)]
 pub struct Sum {
     pub count: u64,
     pub cents: u64,

@@ -61,7 +61,7 @@ fn enter<K: Keeper>(alloc: Global, keeper: &mut K, bonds: u64) -> Result<()> {
 }
 
 /// The tickets that were paid, and how long that took.
-#[derive(Clone, Copy, Debug)]
+#[derive(Clone, Copy)]
 struct Payments {
     sum: Sum,
     took: Duration,
