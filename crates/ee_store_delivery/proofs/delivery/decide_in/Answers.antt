@@ -112,3 +112,135 @@ returns-clause-learns g c clean inside S sees known =
     let clean_a = clean_before a b c.write_changes.ensures.crash clean_b in
     let found = c.in_ok-effects.ensures.found clean_a inside S sees known in
     c.follow.ensures S.books (c.in_ok-effects.ensures.learns clean_a inside S sees known) (ap (λ (e : Effects). e.reply) found.0)
+
+pub returns-clause-cause : goal.returns-clause-cause
+returns-clause-cause g c = search rules
+
+pub returns-clause-commit : goal.returns-clause-commit
+returns-clause-commit g c = search rules
+
+pub returns-clause-crash : goal.returns-clause-crash
+returns-clause-crash g c = search rules
+
+pub returns-clause-inside : goal.returns-clause-inside
+returns-clause-inside g c = search rules
+
+pub returns-clause-open : goal.returns-clause-open
+returns-clause-open g c = search rules
+
+pub returns-clause-same_reference : goal.returns-clause-same_reference
+returns-clause-same_reference g c = search rules
+
+pub returns-clause-sound : goal.returns-clause-sound
+returns-clause-sound g c = search rules
+
+pub returns-in_err-add_answer-clause-commit : goal.returns-in_err-add_answer-clause-commit
+returns-in_err-add_answer-clause-commit g c = search rules
+
+pub returns-in_err-add_answer-clause-crash : goal.returns-in_err-add_answer-clause-crash
+returns-in_err-add_answer-clause-crash g c = search rules
+
+pub returns-in_err-add_answer-clause-decides : goal.returns-in_err-add_answer-clause-decides
+returns-in_err-add_answer-clause-decides g c = search rules
+
+pub returns-in_err-add_answer-clause-inside : goal.returns-in_err-add_answer-clause-inside
+returns-in_err-add_answer-clause-inside g c = search rules
+
+pub returns-in_err-add_answer-clause-learns : goal.returns-in_err-add_answer-clause-learns
+returns-in_err-add_answer-clause-learns g c = search rules
+
+pub returns-in_err-add_answer-clause-open : goal.returns-in_err-add_answer-clause-open
+returns-in_err-add_answer-clause-open g c = search rules
+
+pub returns-in_err-add_answer-clause-room : goal.returns-in_err-add_answer-clause-room
+returns-in_err-add_answer-clause-room g c = search rules
+
+pub returns-in_err-add_answer-clause-same_reference : goal.returns-in_err-add_answer-clause-same_reference
+returns-in_err-add_answer-clause-same_reference g c = search rules
+
+pub returns-in_err-add_answer-clause-sound : goal.returns-in_err-add_answer-clause-sound
+returns-in_err-add_answer-clause-sound g c = search rules
+
+pub returns-in_err-effects-clause-commit : goal.returns-in_err-effects-clause-commit
+returns-in_err-effects-clause-commit g c = search rules
+
+pub returns-in_err-effects-clause-crash : goal.returns-in_err-effects-clause-crash
+returns-in_err-effects-clause-crash g c = search rules
+
+pub returns-in_err-effects-clause-decides : goal.returns-in_err-effects-clause-decides
+returns-in_err-effects-clause-decides g c = search rules
+
+pub returns-in_err-effects-clause-inside : goal.returns-in_err-effects-clause-inside
+returns-in_err-effects-clause-inside g c = search rules
+
+pub returns-in_err-effects-clause-learns : goal.returns-in_err-effects-clause-learns
+returns-in_err-effects-clause-learns g c = search rules
+
+pub returns-in_err-effects-clause-open : goal.returns-in_err-effects-clause-open
+returns-in_err-effects-clause-open g c = search rules
+
+pub returns-in_err-effects-clause-room : goal.returns-in_err-effects-clause-room
+returns-in_err-effects-clause-room g c = search rules
+
+pub returns-in_err-effects-clause-same_reference : goal.returns-in_err-effects-clause-same_reference
+returns-in_err-effects-clause-same_reference g c = search rules
+
+pub returns-in_err-effects-clause-sound : goal.returns-in_err-effects-clause-sound
+returns-in_err-effects-clause-sound g c = search rules
+
+pub returns-in_err-words-clause-cause : goal.returns-in_err-words-clause-cause
+returns-in_err-words-clause-cause g c = search rules
+
+pub returns-in_err-words-clause-commit : goal.returns-in_err-words-clause-commit
+returns-in_err-words-clause-commit g c = search rules
+
+pub returns-in_err-words-clause-crash : goal.returns-in_err-words-clause-crash
+returns-in_err-words-clause-crash g c = search rules
+
+pub returns-in_err-words-clause-decides : goal.returns-in_err-words-clause-decides
+returns-in_err-words-clause-decides g c = search rules
+
+pub returns-in_err-words-clause-inside : goal.returns-in_err-words-clause-inside
+returns-in_err-words-clause-inside g c = search rules
+
+pub returns-in_err-words-clause-learns : goal.returns-in_err-words-clause-learns
+returns-in_err-words-clause-learns g c = search rules
+
+pub returns-in_err-words-clause-open : goal.returns-in_err-words-clause-open
+returns-in_err-words-clause-open g c = search rules
+
+pub returns-in_err-words-clause-room : goal.returns-in_err-words-clause-room
+returns-in_err-words-clause-room g c = search rules
+
+pub returns-in_err-words-clause-same_reference : goal.returns-in_err-words-clause-same_reference
+returns-in_err-words-clause-same_reference g c = search rules
+
+pub returns-in_err-words-clause-sound : goal.returns-in_err-words-clause-sound
+returns-in_err-words-clause-sound g c = search rules
+
+pub returns-in_err-write_changes-clause-commit : goal.returns-in_err-write_changes-clause-commit
+returns-in_err-write_changes-clause-commit g c = search rules
+
+pub returns-in_err-write_changes-clause-crash : goal.returns-in_err-write_changes-clause-crash
+returns-in_err-write_changes-clause-crash g c = search rules
+
+pub returns-in_err-write_changes-clause-decides : goal.returns-in_err-write_changes-clause-decides
+returns-in_err-write_changes-clause-decides g c = search rules
+
+pub returns-in_err-write_changes-clause-inside : goal.returns-in_err-write_changes-clause-inside
+returns-in_err-write_changes-clause-inside g c = search rules
+
+pub returns-in_err-write_changes-clause-learns : goal.returns-in_err-write_changes-clause-learns
+returns-in_err-write_changes-clause-learns g c = search rules
+
+pub returns-in_err-write_changes-clause-open : goal.returns-in_err-write_changes-clause-open
+returns-in_err-write_changes-clause-open g c = search rules
+
+pub returns-in_err-write_changes-clause-room : goal.returns-in_err-write_changes-clause-room
+returns-in_err-write_changes-clause-room g c = search rules
+
+pub returns-in_err-write_changes-clause-same_reference : goal.returns-in_err-write_changes-clause-same_reference
+returns-in_err-write_changes-clause-same_reference g c = search rules
+
+pub returns-in_err-write_changes-clause-sound : goal.returns-in_err-write_changes-clause-sound
+returns-in_err-write_changes-clause-sound g c = search rules

@@ -108,3 +108,156 @@ returns-clause-learns g c clean inside S sees known =
     let nothing : c.in_ok-entry.field-0 ≡ None = search rules in
     let none = is_new S (number_of q) (sym (ap (option_map row_of_reply) nothing) ∙ found ∙ ap (finite.get (rows_of S).answers) (λ i. (c.number-desk.ensures.value i, c.value.ensures.value i))) in
     known_first c.decide_in.new.known q S none (c.in_ok-reply-2.ensures.learns clean (unchanged_inside old middle same inside) S still known)
+
+pub returns-clause-cause : goal.returns-clause-cause
+returns-clause-cause g c = search rules
+
+pub returns-clause-commit : goal.returns-clause-commit
+returns-clause-commit g c = search rules
+
+pub returns-clause-crash : goal.returns-clause-crash
+returns-clause-crash g c = search rules
+
+pub returns-clause-inside : goal.returns-clause-inside
+returns-clause-inside g c = search rules
+
+pub returns-clause-open : goal.returns-clause-open
+returns-clause-open g c = search rules
+
+pub returns-clause-same_reference : goal.returns-clause-same_reference
+returns-clause-same_reference g c = search rules
+
+pub returns-clause-sound : goal.returns-clause-sound
+returns-clause-sound g c = search rules
+
+pub returns-in-Some-clause-cause : goal.returns-in-Some-clause-cause
+returns-in-Some-clause-cause g c = search rules
+
+pub returns-in-Some-clause-commit : goal.returns-in-Some-clause-commit
+returns-in-Some-clause-commit g c = search rules
+
+pub returns-in-Some-clause-crash : goal.returns-in-Some-clause-crash
+returns-in-Some-clause-crash g c = search rules
+
+pub returns-in-Some-clause-inside : goal.returns-in-Some-clause-inside
+returns-in-Some-clause-inside g c = search rules
+
+pub returns-in-Some-clause-open : goal.returns-in-Some-clause-open
+returns-in-Some-clause-open g c = search rules
+
+pub returns-in-Some-clause-same_reference : goal.returns-in-Some-clause-same_reference
+returns-in-Some-clause-same_reference g c = search rules
+
+pub returns-in-Some-clause-sound : goal.returns-in-Some-clause-sound
+returns-in-Some-clause-sound g c = search rules
+
+pub returns-in_err-act-clause-cause : goal.returns-in_err-act-clause-cause
+returns-in_err-act-clause-cause g c = search rules
+
+pub returns-in_err-act-clause-commit : goal.returns-in_err-act-clause-commit
+returns-in_err-act-clause-commit g c = search rules
+
+pub returns-in_err-act-clause-crash : goal.returns-in_err-act-clause-crash
+returns-in_err-act-clause-crash g c = search rules
+
+pub returns-in_err-act-clause-inside : goal.returns-in_err-act-clause-inside
+returns-in_err-act-clause-inside g c = search rules
+
+pub returns-in_err-act-clause-learns : goal.returns-in_err-act-clause-learns
+returns-in_err-act-clause-learns g c = search rules
+
+pub returns-in_err-act-clause-open : goal.returns-in_err-act-clause-open
+returns-in_err-act-clause-open g c = search rules
+
+pub returns-in_err-act-clause-room : goal.returns-in_err-act-clause-room
+returns-in_err-act-clause-room g c = search rules
+
+pub returns-in_err-act-clause-same_reference : goal.returns-in_err-act-clause-same_reference
+returns-in_err-act-clause-same_reference g c = search rules
+
+pub returns-in_err-act-clause-serves : goal.returns-in_err-act-clause-serves
+returns-in_err-act-clause-serves g c = search rules
+
+pub returns-in_err-act-clause-sound : goal.returns-in_err-act-clause-sound
+returns-in_err-act-clause-sound g c = search rules
+
+pub returns-in_err-entry-clause-commit : goal.returns-in_err-entry-clause-commit
+returns-in_err-entry-clause-commit g c = search rules
+
+pub returns-in_err-entry-clause-crash : goal.returns-in_err-entry-clause-crash
+returns-in_err-entry-clause-crash g c = search rules
+
+pub returns-in_err-entry-clause-inside : goal.returns-in_err-entry-clause-inside
+returns-in_err-entry-clause-inside g c = search rules
+
+pub returns-in_err-entry-clause-learns : goal.returns-in_err-entry-clause-learns
+returns-in_err-entry-clause-learns g c = search rules
+
+pub returns-in_err-entry-clause-open : goal.returns-in_err-entry-clause-open
+returns-in_err-entry-clause-open g c = search rules
+
+pub returns-in_err-entry-clause-room : goal.returns-in_err-entry-clause-room
+returns-in_err-entry-clause-room g c = search rules
+
+pub returns-in_err-entry-clause-same_reference : goal.returns-in_err-entry-clause-same_reference
+returns-in_err-entry-clause-same_reference g c = search rules
+
+pub returns-in_err-entry-clause-serves : goal.returns-in_err-entry-clause-serves
+returns-in_err-entry-clause-serves g c = search rules
+
+pub returns-in_err-entry-clause-sound : goal.returns-in_err-entry-clause-sound
+returns-in_err-entry-clause-sound g c = search rules
+
+pub returns-in_err-reply-2-clause-commit : goal.returns-in_err-reply-2-clause-commit
+returns-in_err-reply-2-clause-commit g c = search rules
+
+pub returns-in_err-reply-2-clause-crash : goal.returns-in_err-reply-2-clause-crash
+returns-in_err-reply-2-clause-crash g c = search rules
+
+pub returns-in_err-reply-2-clause-inside : goal.returns-in_err-reply-2-clause-inside
+returns-in_err-reply-2-clause-inside g c = search rules
+
+pub returns-in_err-reply-2-clause-learns : goal.returns-in_err-reply-2-clause-learns
+returns-in_err-reply-2-clause-learns g c = search rules
+
+pub returns-in_err-reply-2-clause-open : goal.returns-in_err-reply-2-clause-open
+returns-in_err-reply-2-clause-open g c = search rules
+
+pub returns-in_err-reply-2-clause-room : goal.returns-in_err-reply-2-clause-room
+returns-in_err-reply-2-clause-room g c = search rules
+
+pub returns-in_err-reply-2-clause-same_reference : goal.returns-in_err-reply-2-clause-same_reference
+returns-in_err-reply-2-clause-same_reference g c = search rules
+
+pub returns-in_err-reply-2-clause-serves : goal.returns-in_err-reply-2-clause-serves
+returns-in_err-reply-2-clause-serves g c = search rules
+
+pub returns-in_err-reply-2-clause-sound : goal.returns-in_err-reply-2-clause-sound
+returns-in_err-reply-2-clause-sound g c = search rules
+
+pub returns-in_err-reply-clause-commit : goal.returns-in_err-reply-clause-commit
+returns-in_err-reply-clause-commit g c = search rules
+
+pub returns-in_err-reply-clause-crash : goal.returns-in_err-reply-clause-crash
+returns-in_err-reply-clause-crash g c = search rules
+
+pub returns-in_err-reply-clause-inside : goal.returns-in_err-reply-clause-inside
+returns-in_err-reply-clause-inside g c = search rules
+
+pub returns-in_err-reply-clause-learns : goal.returns-in_err-reply-clause-learns
+returns-in_err-reply-clause-learns g c = search rules
+
+pub returns-in_err-reply-clause-open : goal.returns-in_err-reply-clause-open
+returns-in_err-reply-clause-open g c = search rules
+
+pub returns-in_err-reply-clause-room : goal.returns-in_err-reply-clause-room
+returns-in_err-reply-clause-room g c = search rules
+
+pub returns-in_err-reply-clause-same_reference : goal.returns-in_err-reply-clause-same_reference
+returns-in_err-reply-clause-same_reference g c = search rules
+
+pub returns-in_err-reply-clause-serves : goal.returns-in_err-reply-clause-serves
+returns-in_err-reply-clause-serves g c = search rules
+
+pub returns-in_err-reply-clause-sound : goal.returns-in_err-reply-clause-sound
+returns-in_err-reply-clause-sound g c = search rules

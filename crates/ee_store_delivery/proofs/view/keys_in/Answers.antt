@@ -52,3 +52,66 @@ returns-clause-learns g c clean inside S sees are =
     let before = clean_before middle new c.terms_for.ensures.only_reads.crash clean in
     let still : SeesContent middle S = record { right = sees.right; rows = (c.in_ok-bonds.ensures.only_reads.rows before inside (rows_of S) sees.rows).0 } in
     c.in_ok-terms.ensures.learns clean (c.in_ok-bonds.ensures.only_reads.inside before inside) S still are
+
+pub returns-clause-cause : goal.returns-clause-cause
+returns-clause-cause g c = search rules
+
+pub returns-clause-same_reference : goal.returns-clause-same_reference
+returns-clause-same_reference g c = search rules
+
+pub returns-in_err-bonds-clause-cause : goal.returns-in_err-bonds-clause-cause
+returns-in_err-bonds-clause-cause g c = search rules
+
+pub returns-in_err-bonds-clause-found : goal.returns-in_err-bonds-clause-found
+returns-in_err-bonds-clause-found g c = search rules
+
+pub returns-in_err-bonds-clause-learns : goal.returns-in_err-bonds-clause-learns
+returns-in_err-bonds-clause-learns g c = search rules
+
+pub returns-in_err-bonds-clause-only_reads : goal.returns-in_err-bonds-clause-only_reads
+returns-in_err-bonds-clause-only_reads g c = search rules
+
+pub returns-in_err-bonds-clause-same_reference : goal.returns-in_err-bonds-clause-same_reference
+returns-in_err-bonds-clause-same_reference g c = search rules
+
+pub returns-in_err-periods-clause-cause : goal.returns-in_err-periods-clause-cause
+returns-in_err-periods-clause-cause g c = search rules
+
+pub returns-in_err-periods-clause-found : goal.returns-in_err-periods-clause-found
+returns-in_err-periods-clause-found g c = search rules
+
+pub returns-in_err-periods-clause-learns : goal.returns-in_err-periods-clause-learns
+returns-in_err-periods-clause-learns g c = search rules
+
+pub returns-in_err-periods-clause-only_reads : goal.returns-in_err-periods-clause-only_reads
+returns-in_err-periods-clause-only_reads g c = search rules
+
+pub returns-in_err-periods-clause-same_reference : goal.returns-in_err-periods-clause-same_reference
+returns-in_err-periods-clause-same_reference g c = search rules
+
+pub returns-in_err-serials-clause-cause : goal.returns-in_err-serials-clause-cause
+returns-in_err-serials-clause-cause g c = search rules
+
+pub returns-in_err-serials-clause-found : goal.returns-in_err-serials-clause-found
+returns-in_err-serials-clause-found g c = search rules
+
+pub returns-in_err-serials-clause-learns : goal.returns-in_err-serials-clause-learns
+returns-in_err-serials-clause-learns g c = search rules
+
+pub returns-in_err-serials-clause-only_reads : goal.returns-in_err-serials-clause-only_reads
+returns-in_err-serials-clause-only_reads g c = search rules
+
+pub returns-in_err-serials-clause-same_reference : goal.returns-in_err-serials-clause-same_reference
+returns-in_err-serials-clause-same_reference g c = search rules
+
+pub returns-in_err-terms-clause-found : goal.returns-in_err-terms-clause-found
+returns-in_err-terms-clause-found g c = search rules
+
+pub returns-in_err-terms-clause-learns : goal.returns-in_err-terms-clause-learns
+returns-in_err-terms-clause-learns g c = search rules
+
+pub returns-in_err-terms-clause-only_reads : goal.returns-in_err-terms-clause-only_reads
+returns-in_err-terms-clause-only_reads g c = search rules
+
+pub returns-in_err-terms-clause-same_reference : goal.returns-in_err-terms-clause-same_reference
+returns-in_err-terms-clause-same_reference g c = search rules

@@ -67,3 +67,147 @@ returns-in_err-pay_lines-clause-cause g c clean inside endless rows sees can =
       subst (λ (d : ℕ × (TicketRow × List PaidRow)). CanPayAll (with_ticket rows d.0 d.1.0) d.0 1 d.1.1)
           (λ i. (sym c.in_ok-number.ensures.value.0 i, (sym c.in_ok-row.ensures.row.0 i, sym lines i))) can.0.unpaid,
     ))
+
+pub returns-clause-cause : goal.returns-clause-cause
+returns-clause-cause g c = search rules
+
+pub returns-clause-commit : goal.returns-clause-commit
+returns-clause-commit g c = search rules
+
+pub returns-clause-crash : goal.returns-clause-crash
+returns-clause-crash g c = search rules
+
+pub returns-clause-inside : goal.returns-clause-inside
+returns-clause-inside g c = search rules
+
+pub returns-clause-open : goal.returns-clause-open
+returns-clause-open g c = search rules
+
+pub returns-clause-same_reference : goal.returns-clause-same_reference
+returns-clause-same_reference g c = search rules
+
+pub returns-in_err-add_ticket-clause-commit : goal.returns-in_err-add_ticket-clause-commit
+returns-in_err-add_ticket-clause-commit g c = search rules
+
+pub returns-in_err-add_ticket-clause-crash : goal.returns-in_err-add_ticket-clause-crash
+returns-in_err-add_ticket-clause-crash g c = search rules
+
+pub returns-in_err-add_ticket-clause-inside : goal.returns-in_err-add_ticket-clause-inside
+returns-in_err-add_ticket-clause-inside g c = search rules
+
+pub returns-in_err-add_ticket-clause-open : goal.returns-in_err-add_ticket-clause-open
+returns-in_err-add_ticket-clause-open g c = search rules
+
+pub returns-in_err-add_ticket-clause-room : goal.returns-in_err-add_ticket-clause-room
+returns-in_err-add_ticket-clause-room g c = search rules
+
+pub returns-in_err-add_ticket-clause-same_reference : goal.returns-in_err-add_ticket-clause-same_reference
+returns-in_err-add_ticket-clause-same_reference g c = search rules
+
+pub returns-in_err-add_ticket-clause-written : goal.returns-in_err-add_ticket-clause-written
+returns-in_err-add_ticket-clause-written g c = search rules
+
+pub returns-in_err-lines-clause-commit : goal.returns-in_err-lines-clause-commit
+returns-in_err-lines-clause-commit g c = search rules
+
+pub returns-in_err-lines-clause-crash : goal.returns-in_err-lines-clause-crash
+returns-in_err-lines-clause-crash g c = search rules
+
+pub returns-in_err-lines-clause-inside : goal.returns-in_err-lines-clause-inside
+returns-in_err-lines-clause-inside g c = search rules
+
+pub returns-in_err-lines-clause-open : goal.returns-in_err-lines-clause-open
+returns-in_err-lines-clause-open g c = search rules
+
+pub returns-in_err-lines-clause-room : goal.returns-in_err-lines-clause-room
+returns-in_err-lines-clause-room g c = search rules
+
+pub returns-in_err-lines-clause-same_reference : goal.returns-in_err-lines-clause-same_reference
+returns-in_err-lines-clause-same_reference g c = search rules
+
+pub returns-in_err-lines-clause-written : goal.returns-in_err-lines-clause-written
+returns-in_err-lines-clause-written g c = search rules
+
+pub returns-in_err-number-clause-commit : goal.returns-in_err-number-clause-commit
+returns-in_err-number-clause-commit g c = search rules
+
+pub returns-in_err-number-clause-crash : goal.returns-in_err-number-clause-crash
+returns-in_err-number-clause-crash g c = search rules
+
+pub returns-in_err-number-clause-inside : goal.returns-in_err-number-clause-inside
+returns-in_err-number-clause-inside g c = search rules
+
+pub returns-in_err-number-clause-open : goal.returns-in_err-number-clause-open
+returns-in_err-number-clause-open g c = search rules
+
+pub returns-in_err-number-clause-room : goal.returns-in_err-number-clause-room
+returns-in_err-number-clause-room g c = search rules
+
+pub returns-in_err-number-clause-same_reference : goal.returns-in_err-number-clause-same_reference
+returns-in_err-number-clause-same_reference g c = search rules
+
+pub returns-in_err-number-clause-written : goal.returns-in_err-number-clause-written
+returns-in_err-number-clause-written g c = search rules
+
+pub returns-in_err-pay_lines-clause-commit : goal.returns-in_err-pay_lines-clause-commit
+returns-in_err-pay_lines-clause-commit g c = search rules
+
+pub returns-in_err-pay_lines-clause-crash : goal.returns-in_err-pay_lines-clause-crash
+returns-in_err-pay_lines-clause-crash g c = search rules
+
+pub returns-in_err-pay_lines-clause-inside : goal.returns-in_err-pay_lines-clause-inside
+returns-in_err-pay_lines-clause-inside g c = search rules
+
+pub returns-in_err-pay_lines-clause-open : goal.returns-in_err-pay_lines-clause-open
+returns-in_err-pay_lines-clause-open g c = search rules
+
+pub returns-in_err-pay_lines-clause-room : goal.returns-in_err-pay_lines-clause-room
+returns-in_err-pay_lines-clause-room g c = search rules
+
+pub returns-in_err-pay_lines-clause-same_reference : goal.returns-in_err-pay_lines-clause-same_reference
+returns-in_err-pay_lines-clause-same_reference g c = search rules
+
+pub returns-in_err-pay_lines-clause-written : goal.returns-in_err-pay_lines-clause-written
+returns-in_err-pay_lines-clause-written g c = search rules
+
+pub returns-in_err-row-clause-commit : goal.returns-in_err-row-clause-commit
+returns-in_err-row-clause-commit g c = search rules
+
+pub returns-in_err-row-clause-crash : goal.returns-in_err-row-clause-crash
+returns-in_err-row-clause-crash g c = search rules
+
+pub returns-in_err-row-clause-inside : goal.returns-in_err-row-clause-inside
+returns-in_err-row-clause-inside g c = search rules
+
+pub returns-in_err-row-clause-open : goal.returns-in_err-row-clause-open
+returns-in_err-row-clause-open g c = search rules
+
+pub returns-in_err-row-clause-room : goal.returns-in_err-row-clause-room
+returns-in_err-row-clause-room g c = search rules
+
+pub returns-in_err-row-clause-same_reference : goal.returns-in_err-row-clause-same_reference
+returns-in_err-row-clause-same_reference g c = search rules
+
+pub returns-in_err-row-clause-written : goal.returns-in_err-row-clause-written
+returns-in_err-row-clause-written g c = search rules
+
+pub returns-then-len-gt100-clause-commit : goal.returns-then-len-gt100-clause-commit
+returns-then-len-gt100-clause-commit g c = search rules
+
+pub returns-then-len-gt100-clause-crash : goal.returns-then-len-gt100-clause-crash
+returns-then-len-gt100-clause-crash g c = search rules
+
+pub returns-then-len-gt100-clause-inside : goal.returns-then-len-gt100-clause-inside
+returns-then-len-gt100-clause-inside g c = search rules
+
+pub returns-then-len-gt100-clause-open : goal.returns-then-len-gt100-clause-open
+returns-then-len-gt100-clause-open g c = search rules
+
+pub returns-then-len-gt100-clause-room : goal.returns-then-len-gt100-clause-room
+returns-then-len-gt100-clause-room g c = search rules
+
+pub returns-then-len-gt100-clause-same_reference : goal.returns-then-len-gt100-clause-same_reference
+returns-then-len-gt100-clause-same_reference g c = search rules
+
+pub returns-then-len-gt100-clause-written : goal.returns-then-len-gt100-clause-written
+returns-then-len-gt100-clause-written g c = search rules
