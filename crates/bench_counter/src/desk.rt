@@ -5,7 +5,7 @@ use crate::requests::{
 };
 use anyhow::Result;
 use ee_counter::run;
-use ee_desk_acts::{Act, Request};
+use ee_desk_acts::{Act, Reply, Request, Unserved};
 use ee_keeper::ListKeeper;
 use std::alloc::Global;
 use std::time::Instant;
@@ -42,10 +42,36 @@ fn days(alloc: Global) -> Result<Vec<Request>> {
     requests.push(ask(2_000_000_000, Act::CloseDay(day(0)?))?)?;
     for place in 1..=DAYS {
         let number = place.saturating_mul(2).saturating_add(2_000_000_000);
-        requests.push(ask(number, Act::OpenDay(day(place)?))?)?;
-        requests.push(ask(number.saturating_add(1), Act::CloseDay(day(place)?))?)?;
+        let today = day(place)?;
+        requests.push(ask(number, Act::OpenDay(today))?)?;
+        requests.push(ask(number.saturating_add(1), Act::CloseDay(today))?)?;
     }
     Ok(requests)
+}
+
+/// Tells what requests paid.
+fn tell_sums(rt: &HostRuntime, what: &str, answers: &[Result<Reply, Unserved>]) -> Result<()> {
+    let tickets = paid(answers);
+    let batches = settled(answers);
+    println!(rt;
+        "{what}: {} answers, {} tickets of {} cents, {} batches of {} cents",
+        answers.len(),
+        tickets.count,
+        tickets.cents,
+        batches.count,
+        batches.cents
+    )?;
+    Ok(())
+}
+
+/// Tells how long so many requests took.
+fn tell_time(rt: &HostRuntime, what: &str, count: usize, nanos: u128) -> Result<()> {
+    let one = nanos / (count as u128).max(1);
+    eprintln!(rt;
+        "{what}: {one} ns a request, {} a second",
+        1_000_000_000 / one.max(1)
+    )?;
+    Ok(())
 }
 
 /// Runs the requests, and tells what they paid and how long they took.
@@ -58,29 +84,17 @@ fn timed(
     let start = Instant::now(rt)?;
     let answers = run(rt.alloc(), keeper, requests)?;
     let nanos = start.elapsed(rt)?.as_nanos();
-    let tickets = paid(&answers);
-    let batches = settled(&answers);
-    println!(rt;
-        "{what}: {} answers, {} tickets of {} cents, {} batches of {} cents",
-        answers.len(),
-        tickets.count,
-        tickets.cents,
-        batches.count,
-        batches.cents
-    )?;
-    let one = nanos / (answers.len() as u128).max(1);
-    eprintln!(rt;
-        "{what}: {one} ns a request, {} a second",
-        1_000_000_000 / one.max(1)
-    )?;
-    Ok(())
+    tell_sums(rt, what, &answers)?;
+    tell_time(rt, what, answers.len(), nanos)
 }
 
-fn measure(rt: &HostRuntime, bonds: u64) -> Result<()> {
-    let mut keeper = ListKeeper::empty(rt.alloc());
-    println!(rt; "{bonds} bonds")?;
-    eprintln!(rt; "{bonds} bonds")?;
-    timed(rt, &mut keeper, &setup(rt.alloc(), bonds)?, "imports")?;
+/// Enters the bonds, and opens the day.
+fn enter(rt: &HostRuntime, keeper: &mut ListKeeper, bonds: u64) -> Result<()> {
+    timed(rt, keeper, &setup(rt.alloc(), bonds)?, "imports")
+}
+
+/// The redemptions of a full day, and the same once more.
+fn pay(rt: &HostRuntime, keeper: &mut ListKeeper, bonds: u64) -> Result<()> {
     let size = Size {
         bonds,
         tickets: TICKETS,
@@ -88,7 +102,15 @@ fn measure(rt: &HostRuntime, bonds: u64) -> Result<()> {
         each: 1,
     };
     let requests = redemptions(rt.alloc(), size, 0)?;
-    timed(rt, &mut keeper, &requests, "new")?;
-    timed(rt, &mut keeper, &requests, "repeated")?;
+    timed(rt, keeper, &requests, "new")?;
+    timed(rt, keeper, &requests, "repeated")
+}
+
+fn measure(rt: &HostRuntime, bonds: u64) -> Result<()> {
+    println!(rt; "{bonds} bonds")?;
+    eprintln!(rt; "{bonds} bonds")?;
+    let mut keeper = ListKeeper::empty(rt.alloc());
+    enter(rt, &mut keeper, bonds)?;
+    pay(rt, &mut keeper, bonds)?;
     timed(rt, &mut keeper, &days(rt.alloc())?, "days")
 }

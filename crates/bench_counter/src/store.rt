@@ -6,7 +6,7 @@ use ee_counter::run;
 use ee_desk_acts::{Act, Reply, Request};
 use ee_keeper::Keeper;
 use ee_store::SqlKeeper;
-use sqlite::{Alter, Connection, File, FileStore};
+use sqlite::{Alter, Connection, MemStore};
 use std::alloc::Global;
 use std::time::{Duration, Instant};
 
@@ -51,11 +51,21 @@ fn deliver<K: Keeper>(keeper: &mut K, request: &Request) -> Result<()> {
     }
 }
 
+/// Delivers an act under a number.
+fn deliver_act<K: Keeper>(keeper: &mut K, number: u64, act: Act) -> Result<()> {
+    deliver(keeper, &ask(number, act)?)
+}
+
+/// Enters the bonds of an import.
+fn enter_bonds<K: Keeper>(alloc: Global, keeper: &mut K, bonds: u64, place: u64) -> Result<()> {
+    deliver(keeper, &import(alloc, bonds, place)?)
+}
+
 /// Enters the rates and all bonds.
 fn enter<K: Keeper>(alloc: Global, keeper: &mut K, bonds: u64) -> Result<()> {
     deliver(keeper, &rates(alloc)?)?;
     for place in 0..count_of_imports(bonds) {
-        deliver(keeper, &import(alloc, bonds, place)?)?;
+        enter_bonds(alloc, keeper, bonds, place)?;
     }
     Ok(())
 }
@@ -92,11 +102,17 @@ fn pay_day<K: Keeper>(
     first: u64,
 ) -> Result<Payments> {
     let today = day(first / size.a_day.max(1))?;
-    let open = ask(first.saturating_add(2_000_000_000), Act::OpenDay(today))?;
-    deliver(keeper, &open)?;
+    deliver_act(
+        keeper,
+        first.saturating_add(2_000_000_000),
+        Act::OpenDay(today),
+    )?;
     let payments = pay_tickets(rt, keeper, size, first)?;
-    let close = ask(first.saturating_add(3_000_000_000), Act::CloseDay(today))?;
-    deliver(keeper, &close)?;
+    deliver_act(
+        keeper,
+        first.saturating_add(3_000_000_000),
+        Act::CloseDay(today),
+    )?;
     Ok(payments)
 }
 
@@ -137,7 +153,7 @@ fn tell(rt: &HostRuntime, size: Size, payments: Payments) -> Result<()> {
 }
 
 /// Tells how long a store took to open.
-fn opened<S: Alter>(rt: &HostRuntime, start: &Instant, keeper: &mut SqlKeeper<S>) -> Result<()> {
+fn opened<S: Alter>(rt: &HostRuntime, start: Instant, keeper: &mut SqlKeeper<S>) -> Result<()> {
     let took = start.elapsed(rt)?.as_millis();
     let found = keeper.ticket(1).ok().context("unserved")?;
     let told = match found {
@@ -149,32 +165,60 @@ fn opened<S: Alter>(rt: &HostRuntime, start: &Instant, keeper: &mut SqlKeeper<S>
     Ok(())
 }
 
-fn in_memory(rt: &HostRuntime, size: Size) -> Result<()> {
-    let conn = Connection::open_in_memory(rt.alloc())
-        .ok()
-        .context("store")?;
-    let mut keeper = adopted(conn, rt.alloc())?;
-    measure(rt, &mut keeper, size)?;
-    let conn = keeper.close();
-    let start = Instant::now(rt)?;
-    let mut keeper = adopted(conn, rt.alloc())?;
-    opened(rt, &start, &mut keeper)
+/// What is done over a store.
+#[derive(Clone, Copy)]
+enum Work {
+    /// Bonds are entered, and some of them paid.
+    Payments(Size),
+    /// It is told how long the store took to open, from that time on.
+    Opening(Instant),
 }
 
-fn adopted<S: Alter + Drop>(conn: Connection<S>, alloc: Global) -> Result<SqlKeeper<S>> {
-    match SqlKeeper::adopt(conn, alloc) {
-        Ok(keeper) => Ok(keeper),
+impl Work {
+    fn over<S: Alter>(self, rt: &HostRuntime, keeper: &mut SqlKeeper<S>) -> Result<()> {
+        match self {
+            Work::Payments(size) => measure(rt, keeper, size),
+            Work::Opening(start) => opened(rt, start, keeper),
+        }
+    }
+}
+
+/// Work over the store of a connection, which is handed back.
+fn over_memory(
+    rt: &HostRuntime,
+    conn: Connection<MemStore>,
+    work: Work,
+) -> Result<Connection<MemStore>> {
+    match SqlKeeper::adopt(conn, rt.alloc()) {
+        Ok(mut keeper) => {
+            let done = work.over(rt, &mut keeper);
+            let conn = keeper.close();
+            done?;
+            Ok(conn)
+        }
         Err(_) => bail!("not adopted"),
     }
 }
 
-/// A keeper over the store in a file, if it opens.
-fn open(rt: &HostRuntime, path: &str) -> Option<SqlKeeper<FileStore<File>>> {
-    SqlKeeper::open(rt, path).ok()
+fn in_memory(rt: &HostRuntime, size: Size) -> Result<()> {
+    let Ok(conn) = Connection::open_in_memory(rt.alloc()) else {
+        bail!("store");
+    };
+    let conn = over_memory(rt, conn, Work::Payments(size))?;
+    let start = Instant::now(rt)?;
+    let _conn = over_memory(rt, conn, Work::Opening(start))?;
+    Ok(())
+}
+
+/// Work over the store in a file, which is opened for it and closed.
+fn over_file(rt: &HostRuntime, path: &str, work: Work) -> Result<()> {
+    match SqlKeeper::open(rt, path) {
+        Ok(mut keeper) => work.over(rt, &mut keeper),
+        Err(_) => bail!("store"),
+    }
 }
 
 fn in_file(rt: &HostRuntime, path: &str, size: Size) -> Result<()> {
-    measure(rt, &mut open(rt, path).context("store")?, size)?;
-    let start = Instant::now(rt)?;
-    opened(rt, &start, &mut open(rt, path).context("store")?)
+    over_file(rt, path, Work::Payments(size))?;
+    over_file(rt, path, Work::Opening(Instant::now(rt)?))
 }

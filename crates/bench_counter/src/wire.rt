@@ -146,15 +146,50 @@ fn tell(rt: &HostRuntime, name: &str, step: usize, counts: Counts) -> Result<()>
     Ok(())
 }
 
-/// The heads and the body that are split once, with their names.
-fn texts(alloc: Global) -> Result<Vec<(&'static str, Vec<u8>)>, AllocError> {
-    let mut texts = Vec::new(alloc);
-    texts.push(("a quarter of the worst head", worst_head(alloc, 1_364)?))?;
-    texts.push(("half of the worst head", worst_head(alloc, 2_728)?))?;
-    texts.push(("the worst head", worst_head(alloc, 5_456)?))?;
-    texts.push(("empty lines", empty_lines(alloc)?))?;
-    texts.push(("a long body", long_body(alloc)?))?;
-    Ok(texts)
+/// The heads and the body that are split once.
+#[derive(Clone, Copy)]
+enum Long {
+    QuarterHead,
+    HalfHead,
+    WorstHead,
+    EmptyLines,
+    Body,
+}
+
+impl Long {
+    const EACH: [Long; 5] = [
+        Long::QuarterHead,
+        Long::HalfHead,
+        Long::WorstHead,
+        Long::EmptyLines,
+        Long::Body,
+    ];
+
+    fn name(self) -> &'static str {
+        match self {
+            Long::QuarterHead => "a quarter of the worst head",
+            Long::HalfHead => "half of the worst head",
+            Long::WorstHead => "the worst head",
+            Long::EmptyLines => "empty lines",
+            Long::Body => "a long body",
+        }
+    }
+
+    fn text(self, alloc: Global) -> Result<Vec<u8>, AllocError> {
+        match self {
+            Long::QuarterHead => worst_head(alloc, 1_364),
+            Long::HalfHead => worst_head(alloc, 2_728),
+            Long::WorstHead => worst_head(alloc, 5_456),
+            Long::EmptyLines => empty_lines(alloc),
+            Long::Body => long_body(alloc),
+        }
+    }
+
+    /// Splits it once, in pieces of so many bytes.
+    fn time(self, rt: &HostRuntime, step: usize) -> Result<()> {
+        let text = self.text(rt.alloc())?;
+        time(rt, self.name(), &text, 1, step)
+    }
 }
 
 /// The argument is the number of rounds of the stream of two messages, 2,000 without one.
@@ -163,11 +198,10 @@ pub fn bench(rt: &HostRuntime, arguments: &[String]) -> Result<()> {
         Some(text) => text.parse()?,
         None => 2_000,
     };
-    let texts = texts(rt.alloc())?;
     for step in [1, 64, 4_096] {
         time(rt, "two messages", STREAM, rounds, step)?;
-        for (name, text) in &texts {
-            time(rt, name, text, 1, step)?;
+        for long in Long::EACH {
+            long.time(rt, step)?;
         }
     }
     Ok(())

@@ -9,67 +9,47 @@ use thiserror::Error;
 
 /// Why an act is refused. The first that holds is answered, in the order of the codes; those from 50
 /// on are tested serial by serial. A refusal changes nothing.
-#[derive(Clone, Copy, Debug, PartialEq, Eq, Error)]
+#[derive(Clone, Copy, Debug, PartialEq, Eq)]
 pub enum Refusal {
     /// The number has a kept reply for another act. This answer isn't kept.
-    #[error("the number stands for another act")]
     NumberReused,
     /// There is no row, or no serial.
-    #[error("nothing is asked")]
     Empty,
     /// There are more than 500 rows, or more than 100 serials.
-    #[error("too much is asked at once")]
     TooMany,
     /// The serial stands earlier in the request.
-    #[error("a serial stands twice")]
     Repeated(Serial),
     /// The coowner is the owner.
-    #[error("the coowner is the owner")]
     SameCoowner(Serial),
     /// Rates are announced in May and November alone.
-    #[error("no month of announcement")]
     NotAnnouncementMonth(IssueMonth),
     /// The month holds other rates, in the books or in an earlier row.
-    #[error("the month has other rates")]
     RateConflict(IssueMonth),
     /// Some value at these rates can't be settled to the cent; this is the least such age.
-    #[error("a value at these rates is unsettled")]
     RateUnsettled(Age),
     /// There are no rates for the period of issue.
-    #[error("no rates for the period of issue")]
     NoRate(Serial),
     /// The serial is registered with other content.
-    #[error("the serial is registered with other content")]
     SerialConflict(Serial),
     /// A day is open.
-    #[error("a day is open")]
     DayOpen,
     /// The day is not after the last closed one.
-    #[error("the day is not after the last closed day")]
     DayNotLater,
     /// No day is open.
-    #[error("no day is open")]
     NoOpenDay,
     /// Another day is open.
-    #[error("another day is open")]
     DayIsOther,
     /// The day has 1,000 tickets.
-    #[error("the day has 1,000 tickets")]
     DayFull,
     /// The serial isn't registered.
-    #[error("the serial is not registered")]
     UnknownSerial(Serial),
     /// The payee is neither owner nor coowner.
-    #[error("the payee is neither owner nor coowner")]
     NotPayee(Serial),
     /// The bond stands on that ticket.
-    #[error("the bond is paid already")]
     AlreadyPaid(Serial, u64),
     /// The day's month is before the month of issue.
-    #[error("the bond is not issued yet")]
     NotIssued(Serial),
     /// The bond is younger than 12 months (31 CFR Part 351).
-    #[error("the bond is younger than 12 months")]
     NotEligible(Serial),
 }
 

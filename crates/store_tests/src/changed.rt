@@ -1,11 +1,12 @@
 //! Stores that are changed by other statements than this program's.
 
-use crate::answering::{refused, tells};
+use crate::answering::{in_memory, refused, tells};
+use crate::comparing::{holds, made, parts};
 use crate::earlier::{ANSWERS, EXTENSIONS};
 use sqlite::{Alter, Connection, MemStore};
 use std::alloc::Global;
+use std::io::Eprint;
 use std::process::Abort;
-use std::test::Fail;
 use store_talks::five::{FIVE, rows_told};
 
 /// A change of the rows after that day, how it is undone, the answer to the changed store, and a row that
@@ -60,79 +61,66 @@ const ALONE: [&str; 4] = [
 /// Changes a store, which is then refused and keeps all its rows; the change undone, it gives the first
 /// replies.
 fn is_refused(
-    rt: &impl Abort,
+    rt: &(impl Abort + Eprint),
     alloc: Global,
     conn: Connection<MemStore>,
     case: &str,
-) -> Result<Connection<MemStore>, Fail> {
-    let (statements, case) = case.split_once(" => ").ok_or("change")?;
-    let (undo, case) = case.split_once(" => ").ok_or("undo")?;
-    let (fault, row) = case.split_once(" => ").ok_or("fault")?;
-    let mut conn = refused(rt, alloc, conn, statements, fault)?;
-    has_row(rt, alloc, &mut conn, row)?;
-    conn.execute_batch(undo)?;
+) -> Connection<MemStore> {
+    let (statements, case) = parts(rt, case);
+    let (undo, case) = parts(rt, case);
+    let (fault, row) = parts(rt, case);
+    let mut conn = refused(rt, alloc, conn, statements, fault);
+    has_row(rt, alloc, &mut conn, row);
+    conn.execute_batch(undo).expect(rt, undo);
     tells(rt, alloc, conn, FIVE, FIVE, undo)
 }
 
 /// A row of a store is told as this line.
-fn has_row(
-    rt: &impl Abort,
-    alloc: Global,
-    conn: &mut Connection<MemStore>,
-    row: &str,
-) -> Result<(), Fail> {
-    let told = rows_told(alloc, conn)?;
-    let line = format!(in alloc; "{row}\n")?;
-    assert!(rt; told.contains(line.as_str()), "{told}");
-    Ok(())
+fn has_row(rt: &(impl Abort + Eprint), alloc: Global, conn: &mut Connection<MemStore>, row: &str) {
+    let told = made(rt, rows_told(alloc, conn));
+    let has_it = told.lines().any(|line| line == row);
+    holds(rt, has_it, told.as_str());
 }
 
 /// A store that is closed and taken over again gives each number its first reply. A changed one is refused,
 /// and stays as it is.
 #[test]
-fn changed_stores_are_refused(rt: HostRuntime) -> Result<(), Fail> {
-    let alloc = rt.alloc();
-    let mut conn = with_five(&rt, alloc)?;
+fn changed_stores_are_refused(rt: HostRuntime) {
+    let mut conn = with_five(&rt, rt.alloc());
     for case in CHANGES.lines() {
-        conn = is_refused(&rt, alloc, conn, case)?;
+        conn = is_refused(&rt, rt.alloc(), conn, case);
     }
-    Ok(())
 }
 
 /// A store that the five requests were sent to.
-fn with_five(rt: &impl Abort, alloc: Global) -> Result<Connection<MemStore>, Fail> {
-    let conn = Connection::open_in_memory(alloc)?;
-    tells(rt, alloc, conn, FIVE, FIVE, "a new store")
+fn with_five(rt: &(impl Abort + Eprint), alloc: Global) -> Connection<MemStore> {
+    tells(rt, alloc, in_memory(rt, alloc), FIVE, FIVE, "a new store")
 }
 
 /// Each change of the tables by itself.
-fn other_forms_are_refused(rt: &impl Abort, alloc: Global) -> Result<(), Fail> {
+fn other_forms_are_refused(rt: &(impl Abort + Eprint), alloc: Global) {
     for case in OTHER_FORMS.lines() {
-        let (statements, fault) = case.split_once(" => ").ok_or("change")?;
-        let _conn = refused(rt, alloc, with_five(rt, alloc)?, statements, fault)?;
+        let (statements, fault) = parts(rt, case);
+        let _conn = refused(rt, alloc, with_five(rt, alloc), statements, fault);
     }
-    Ok(())
 }
 
 /// Each of the tables that a store has alone.
-fn tables_alone_are_refused(rt: &impl Abort, alloc: Global) -> Result<(), Fail> {
+fn tables_alone_are_refused(rt: &(impl Abort + Eprint), alloc: Global) {
     for statement in ALONE {
-        let conn = Connection::open_in_memory(alloc)?;
-        let _conn = refused(rt, alloc, conn, statement, "Unusable")?;
+        let _conn = refused(rt, alloc, in_memory(rt, alloc), statement, "Unusable");
     }
-    Ok(())
 }
 
 /// A store that doesn't have just the tables of this program, in their order, is refused, and stays as it is; its
 /// version is told first.
 #[test]
-fn other_tables_are_refused(rt: HostRuntime) -> Result<(), Fail> {
-    let alloc = rt.alloc();
-    let mut conn = with_five(&rt, alloc)?;
+fn other_tables_are_refused(rt: HostRuntime) {
+    let mut conn = with_five(&rt, rt.alloc());
     for case in OTHER_TABLES.lines() {
-        let (statements, fault) = case.split_once(" => ").ok_or("change")?;
-        conn = refused(&rt, alloc, conn, statements, fault)?;
+        let (statements, fault) = parts(&rt, case);
+        conn = refused(&rt, rt.alloc(), conn, statements, fault);
     }
-    other_forms_are_refused(&rt, alloc)?;
-    tables_alone_are_refused(&rt, alloc)
+    other_forms_are_refused(&rt, rt.alloc());
+    tables_alone_are_refused(&rt, rt.alloc());
 }

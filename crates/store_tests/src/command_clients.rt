@@ -2,35 +2,62 @@
 
 use crate::command_files::{forget_both, tells_over};
 use crate::commands::{ANSWERS, STREAM};
+use crate::comparing::{add, holds, same};
 use ee_cli_actions::{Outcome, serve_on};
 use ee_keeper::ListKeeper;
 use std::io::{self, Write};
 use std::net::{Shutdown, TcpListener, TcpStream};
-use std::test::Fail;
+use std::process::Abort;
 use std::time::Duration;
 
+/// The line of a connection that a client asked to close, and the answer to its one message.
+const ASKED: &str = "connection 1: 1 messages, Asked
+HTTP/1.1 404 Not Found\r
+Content-Type: application/json\r
+Content-Length: 30\r
+Connection: close\r
+\r
+{\"code\":69,\"fault\":\"NotFound\"}";
+
+/// A listener at a free port.
+fn listener(rt: &HostRuntime, abort: &impl Abort) -> TcpListener {
+    TcpListener::bind(rt, ("127.0.0.1", 0)).expect(abort, "a free port")
+}
+
+/// The port of a listener.
+fn port_of(abort: &impl Abort, listener: &TcpListener) -> u16 {
+    listener.local_addr().expect(abort, "an address").port()
+}
+
 #[test]
-fn a_taken_port(rt: HostRuntime) -> Result<(), Fail> {
-    let listener = TcpListener::bind(&rt, ("127.0.0.1", 0))?;
-    let port = listener.local_addr()?.port();
-    forget_both(&rt, "port")?;
-    let line = format!(in rt.alloc(); "serve --db DB --port {port} --connections 1")?;
-    tells_over(&rt, &rt, "port", &line, "input or output failed\n", 3)?;
-    forget_both(&rt, "port")
+fn a_taken_port(rt: HostRuntime) {
+    let listener = listener(&rt, &rt);
+    let port = port_of(&rt, &listener);
+    forget_both(&rt, &rt, "port");
+    let line = format!(in rt.alloc(); "serve --db DB --port {port} --connections 1");
+    let line = line.expect(&rt, "a line");
+    tells_over(&rt, &rt, "port", &line, "input or output failed\n", 3);
+    forget_both(&rt, &rt, "port");
 }
 
 /// A client at a port, which sends these bytes.
-fn client_at(rt: &HostRuntime, port: u16, sent: &str, closes: bool) -> Result<TcpStream, Fail> {
-    let mut client = TcpStream::connect(rt, ("127.0.0.1", port))?;
-    client.write_all(sent.as_bytes())?;
+fn client_at(
+    rt: &HostRuntime,
+    abort: &impl Abort,
+    port: u16,
+    sent: &str,
+    closes: bool,
+) -> TcpStream {
+    let mut client = TcpStream::connect(rt, ("127.0.0.1", port)).expect(abort, "a client");
+    client.write_all(sent.as_bytes()).expect(abort, sent);
     if closes {
-        client.shutdown(Shutdown::Write)?;
+        client.shutdown(Shutdown::Write).expect(abort, "the end");
     }
-    Ok(client)
+    client
 }
 
 /// Serves one connection: the line that is printed.
-fn serve_one(rt: &HostRuntime, listener: &TcpListener) -> Result<String, Fail> {
+fn serve_one(rt: &HostRuntime, abort: &impl Abort, listener: &TcpListener) -> String {
     let mut keeper = ListKeeper::empty(rt.alloc());
     let mut lines = Vec::new(rt.alloc());
     let patience = Duration::from_millis(100);
@@ -43,60 +70,57 @@ fn serve_one(rt: &HostRuntime, listener: &TcpListener) -> Result<String, Fail> {
         patience,
         &mut lines,
     );
-    if ended != Ok(Outcome::Done) {
-        return Err("not served".into());
-    }
-    Ok(std::str::from_utf8(&lines)?.to_string(rt.alloc())?)
+    let is_served = ended == Ok(Outcome::Done);
+    holds(abort, is_served, "the connection is served");
+    String::from_utf8(lines).expect(abort, "the line of a connection")
 }
 
 /// Serves one connection, on which a client sends these bytes: the line that is printed, and the answers after it.
-fn exchange(rt: &HostRuntime, sent: &str, closes: bool) -> Result<String, Fail> {
-    let listener = TcpListener::bind(rt, ("127.0.0.1", 0))?;
-    let port = listener.local_addr()?.port();
-    let client = client_at(rt, port, sent, closes)?;
-    let mut told = serve_one(rt, &listener)?;
-    told.push_str(io::read_to_string(rt.alloc(), client)?.as_str())?;
-    Ok(told)
+fn exchange(rt: &HostRuntime, abort: &impl Abort, sent: &str, closes: bool) -> String {
+    let listener = listener(rt, abort);
+    let port = port_of(abort, &listener);
+    let client = client_at(rt, abort, port, sent, closes);
+    let mut told = serve_one(rt, abort, &listener);
+    let answers = io::read_to_string(rt.alloc(), client).expect(abort, "the answers");
+    add(abort, &mut told, answers.as_str());
+    told
 }
 
 #[test]
-fn a_client_that_closes(rt: HostRuntime) -> Result<(), Fail> {
-    let told = exchange(&rt, STREAM, true)?;
-    let answers = told
-        .strip_prefix("connection 1: 2 messages, Closed\n")
-        .ok_or("another line")?;
-    assert_eq!(rt; answers, ANSWERS);
-    Ok(())
+fn a_client_that_closes(rt: HostRuntime) {
+    let told = exchange(&rt, &rt, STREAM, true);
+    let line = "connection 1: 2 messages, Closed\n";
+    let answers = told.strip_prefix(line).expect(&rt, told.as_str());
+    same(&rt, answers, ANSWERS, "the answers");
 }
 
 #[test]
-fn a_client_that_asks_to_close(rt: HostRuntime) -> Result<(), Fail> {
+fn a_client_that_asks_to_close(rt: HostRuntime) {
     let sent = "GET /ticket/1 HTTP/1.1\r\nConnection: close\r\n\r\n";
-    let told = exchange(&rt, sent, false)?;
-    assert_eq!(rt;
-        told.as_str(),
-        "connection 1: 1 messages, Asked\nHTTP/1.1 404 Not Found\r\nContent-Type: application/json\r\nContent-Length: 30\r\nConnection: close\r\n\r\n{\"code\":69,\"fault\":\"NotFound\"}"
-    );
-    Ok(())
+    let told = exchange(&rt, &rt, sent, false);
+    same(&rt, told.as_str(), ASKED, "the line and the answer");
+}
+
+/// A connection had its thousand messages, and what is told has an answer to each.
+fn a_thousand_are_answered(rt: &impl Abort, told: &str) {
+    let mut parts = told.split("HTTP/1.1 404 Not Found");
+    let line = parts.next().expect(rt, "the line of a connection");
+    same(rt, line, "connection 1: 1000 messages, Limit\n", "the line");
+    holds(rt, parts.count() == 1_000, "a thousand answers");
 }
 
 /// More messages than a connection has come in one go: each answer of a whole connection arrives.
 #[test]
-fn answers_arrive(rt: HostRuntime) -> Result<(), Fail> {
-    let mut sent = String::new(rt.alloc());
-    for _ in 0..1_500 {
-        sent.push_str("GET /ticket/1 HTTP/1.1\r\n\r\n")?;
-    }
-    let told = exchange(&rt, &sent, false)?;
-    let mut parts = told.split("HTTP/1.1 404 Not Found");
-    assert_eq!(rt; parts.next(), Some("connection 1: 1000 messages, Limit\n"));
-    assert_eq!(rt; parts.count(), 1_000);
-    Ok(())
+fn answers_arrive(rt: HostRuntime) {
+    let message = "GET /ticket/1 HTTP/1.1\r\n\r\n";
+    let sent = message.repeat(rt.alloc(), 1_500).expect(&rt, message);
+    let told = exchange(&rt, &rt, sent.as_str(), false);
+    a_thousand_are_answered(&rt, told.as_str());
 }
 
 #[test]
-fn a_silent_client(rt: HostRuntime) -> Result<(), Fail> {
-    let told = exchange(&rt, "", false)?;
-    assert_eq!(rt; told.as_str(), "connection 1: 0 messages, ReadFailed\n");
-    Ok(())
+fn a_silent_client(rt: HostRuntime) {
+    let told = exchange(&rt, &rt, "", false);
+    let wanted = "connection 1: 0 messages, ReadFailed\n";
+    same(&rt, told.as_str(), wanted, "the line and no answer");
 }

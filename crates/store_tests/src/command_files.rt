@@ -1,10 +1,11 @@
 //! Lines over stores in files and in memory: imports, exports, sheets and streams.
 
-use crate::commands::{ANSWERS, Ran, STREAM, prints, prints_in_memory, run, tells};
+use crate::commands::{ANSWERS, STREAM, has_run, prints, prints_in_memory, run, tells};
+use crate::comparing::{add, holds, made, same};
 use crate::paths::{forget, path_of};
 use std::fs;
+use std::io::Eprint;
 use std::process::Abort;
-use std::test::Fail;
 
 const RATES: &str = "from,rate\n2010-05,2.00\n2010-11,3.50%\n";
 
@@ -22,64 +23,78 @@ Total                                                    5062.50         133.72 
 const EXPORTED: &str =
     "serial,denom,issued,owner,coowner\nK2EE,75,2010-10,7,8\nL1EE,50,2010-11,7,\nM3EE,10000,2011-02,7,\n";
 
+/// The path of a test's file.
+fn path_to(rt: &HostRuntime, abort: &(impl Abort + Eprint), name: &str, ending: &str) -> String {
+    made(abort, path_of(rt, name, ending))
+}
+
+/// Adds the path of a test's file.
+fn add_path(
+    rt: &HostRuntime,
+    abort: &(impl Abort + Eprint),
+    text: &mut String,
+    name: &str,
+    ending: &str,
+) {
+    let path = path_to(rt, abort, name, ending);
+    add(abort, text, path.as_str());
+}
+
 /// A line in which `DB` stands for the path of a test's store, and `FILE` for that of its file.
-fn with_paths(rt: &HostRuntime, name: &str, line: &str) -> Result<String, Fail> {
+fn with_paths(rt: &HostRuntime, abort: &(impl Abort + Eprint), name: &str, line: &str) -> String {
     let mut text = String::new(rt.alloc());
     for word in line.split_ascii_whitespace() {
         match word {
-            "DB" => text.push_str(path_of(rt, name, "db")?.as_str())?,
-            "FILE" => text.push_str(path_of(rt, name, "csv")?.as_str())?,
-            _ => text.push_str(word)?,
+            "DB" => add_path(rt, abort, &mut text, name, "db"),
+            "FILE" => add_path(rt, abort, &mut text, name, "csv"),
+            _ => add(abort, &mut text, word),
         }
-        text.push_str(" ")?;
+        add(abort, &mut text, " ");
     }
-    Ok(text)
+    text
+}
+
+/// Removes a file of a test, and the log beside it.
+fn forget_one(rt: &HostRuntime, abort: &(impl Abort + Eprint), name: &str, ending: &str) {
+    let path = path_to(rt, abort, name, ending);
+    made(abort, forget(rt, path.as_str()));
 }
 
 /// Removes the store of a test, and its file.
-pub fn forget_both(rt: &HostRuntime, name: &str) -> Result<(), Fail> {
-    forget(rt, path_of(rt, name, "db")?.as_str())?;
-    forget(rt, path_of(rt, name, "csv")?.as_str())
+pub fn forget_both(rt: &HostRuntime, abort: &(impl Abort + Eprint), name: &str) {
+    forget_one(rt, abort, name, "db");
+    forget_one(rt, abort, name, "csv");
 }
 
 /// Writes a file of a test.
-fn put(rt: &HostRuntime, name: &str, ending: &str, text: &str) -> Result<(), Fail> {
-    fs::write(rt, path_of(rt, name, ending)?.as_str(), text)?;
-    Ok(())
+fn put(rt: &HostRuntime, abort: &(impl Abort + Eprint), name: &str, ending: &str, text: &str) {
+    let path = path_to(rt, abort, name, ending);
+    fs::write(rt, path.as_str(), text).expect(abort, "a file of a test");
 }
 
-/// Runs a line over the store and the file of a test.
-fn run_with(rt: &HostRuntime, name: &str, line: &str, input: &str) -> Result<Ran, Fail> {
-    run(rt, with_paths(rt, name, line)?.as_str(), input)
-}
-
-/// Such a line prints this, with status 0.
+/// A line over the store and the file of a test prints this, with status 0.
 fn prints_over(
     rt: &HostRuntime,
-    abort: &impl Abort,
+    abort: &(impl Abort + Eprint),
     name: &str,
     line: &str,
     wanted: &str,
-) -> Result<(), Fail> {
-    prints(rt, abort, with_paths(rt, name, line)?.as_str(), "", wanted)
+) {
+    let line = with_paths(rt, abort, name, line);
+    prints(rt, abort, line.as_str(), "", wanted);
 }
 
 /// Such a line prints nothing, and tells this, with this status.
 pub fn tells_over(
     rt: &HostRuntime,
-    abort: &impl Abort,
+    abort: &(impl Abort + Eprint),
     name: &str,
     line: &str,
     wanted: &str,
     status: u8,
-) -> Result<(), Fail> {
-    tells(
-        rt,
-        abort,
-        with_paths(rt, name, line)?.as_str(),
-        wanted,
-        status,
-    )
+) {
+    let line = with_paths(rt, abort, name, line);
+    tells(rt, abort, line.as_str(), wanted, status);
 }
 
 const IMPORT_RATES: &str = "import rates FILE --db DB --number 1";
@@ -87,77 +102,72 @@ const IMPORT_RATES: &str = "import rates FILE --db DB --number 1";
 const IMPORT_BONDS: &str = "import inventory FILE --db DB --number 2";
 
 #[test]
-fn files_in_and_out(rt: HostRuntime) -> Result<(), Fail> {
+fn files_in_and_out(rt: HostRuntime) {
     let name = "files";
-    forget_both(&rt, name)?;
-    put(&rt, name, "csv", RATES)?;
-    prints_over(&rt, &rt, name, IMPORT_RATES, "{\"new\":2,\"same\":0}\n")?;
-    prints_over(&rt, &rt, name, IMPORT_RATES, "{\"new\":2,\"same\":0}\n")?;
-    put(&rt, name, "csv", BONDS)?;
+    forget_both(&rt, &rt, name);
+    put(&rt, &rt, name, "csv", RATES);
+    prints_over(&rt, &rt, name, IMPORT_RATES, "{\"new\":2,\"same\":0}\n");
+    prints_over(&rt, &rt, name, IMPORT_RATES, "{\"new\":2,\"same\":0}\n");
+    put(&rt, &rt, name, "csv", BONDS);
     let again = "import inventory FILE --db DB --number 6";
-    prints_over(&rt, &rt, name, IMPORT_BONDS, "{\"new\":3,\"same\":0}\n")?;
-    prints_over(&rt, &rt, name, again, "{\"new\":0,\"same\":3}\n")?;
-    prints_over(&rt, &rt, name, IMPORT_BONDS, "{\"new\":3,\"same\":0}\n")?;
-    prints_over(&rt, &rt, name, "export 7 --db DB", EXPORTED)?;
-    prints_over(&rt, &rt, name, "sheet 7 2012-02 --db DB", SHEET)?;
-    forget_both(&rt, name)
+    prints_over(&rt, &rt, name, IMPORT_BONDS, "{\"new\":3,\"same\":0}\n");
+    prints_over(&rt, &rt, name, again, "{\"new\":0,\"same\":3}\n");
+    prints_over(&rt, &rt, name, IMPORT_BONDS, "{\"new\":3,\"same\":0}\n");
+    prints_over(&rt, &rt, name, "export 7 --db DB", EXPORTED);
+    prints_over(&rt, &rt, name, "sheet 7 2012-02 --db DB", SHEET);
+    forget_both(&rt, &rt, name);
 }
 
 #[test]
-fn a_broken_file_takes_no_number(rt: HostRuntime) -> Result<(), Fail> {
+fn a_broken_file_takes_no_number(rt: HostRuntime) {
     let name = "broken";
-    forget_both(&rt, name)?;
-    tells_over(&rt, &rt, name, IMPORT_RATES, "input or output failed\n", 3)?;
-    put(&rt, name, "csv", "from,rate\n2010-05\n")?;
-    tells_over(&rt, &rt, name, IMPORT_RATES, "file: row 2 code 71\n", 3)?;
-    put(&rt, name, "csv", RATES)?;
-    prints_over(&rt, &rt, name, IMPORT_RATES, "{\"new\":2,\"same\":0}\n")?;
+    forget_both(&rt, &rt, name);
+    tells_over(&rt, &rt, name, IMPORT_RATES, "input or output failed\n", 3);
+    put(&rt, &rt, name, "csv", "from,rate\n2010-05\n");
+    tells_over(&rt, &rt, name, IMPORT_RATES, "file: row 2 code 71\n", 3);
+    put(&rt, &rt, name, "csv", RATES);
+    prints_over(&rt, &rt, name, IMPORT_RATES, "{\"new\":2,\"same\":0}\n");
     let refused = "import inventory FILE --db DB --number 1";
-    tells_over(&rt, &rt, name, refused, "file: row 1 code 70\n", 3)?;
-    forget_both(&rt, name)
+    tells_over(&rt, &rt, name, refused, "file: row 1 code 70\n", 3);
+    forget_both(&rt, &rt, name);
 }
 
 #[test]
-fn a_refusal_is_printed(rt: HostRuntime) -> Result<(), Fail> {
-    forget_both(&rt, "refusal")?;
-    put(&rt, "refusal", "csv", "from,rate\n")?;
-    let ran = run_with(&rt, "refusal", IMPORT_RATES, "")?;
-    assert_eq!(rt;
-        ran.printed.as_str(),
-        "{\"code\":11,\"refused\":\"Empty\"}\n"
-    );
-    assert!(rt; ran.told.is_empty());
-    assert_eq!(rt; ran.status, 1);
-    forget_both(&rt, "refusal")
+fn a_refusal_is_printed(rt: HostRuntime) {
+    let name = "refusal";
+    forget_both(&rt, &rt, name);
+    put(&rt, &rt, name, "csv", "from,rate\n");
+    let line = with_paths(&rt, &rt, name, IMPORT_RATES);
+    let ran = run(&rt, &rt, line.as_str(), "");
+    let wanted = "{\"code\":11,\"refused\":\"Empty\"}\n";
+    has_run(&rt, &ran, IMPORT_RATES, wanted, "", 1);
+    forget_both(&rt, &rt, name);
 }
 
 /// A stream whose message is cut has an answer, and status 1.
-fn a_cut_stream_is_answered(rt: &HostRuntime, abort: &impl Abort, line: &str) -> Result<(), Fail> {
-    let ran = run(rt, line, "GET /value/50")?;
-    assert!(abort;
-        ran.printed
-            .ends_with("{\"code\":68,\"fault\":\"Truncated\"}")
-    );
-    assert!(abort; ran.told.is_empty());
-    assert_eq!(abort; ran.status, 1);
-    Ok(())
+fn a_cut_stream_is_answered(rt: &HostRuntime, abort: &impl Abort, line: &str) {
+    let ran = run(rt, abort, line, "GET /value/50");
+    let end = "{\"code\":68,\"fault\":\"Truncated\"}";
+    holds(abort, ran.printed.ends_with(end), ran.printed.as_str());
+    same(abort, ran.told.as_str(), "", line);
+    holds(abort, ran.status == 1, line);
 }
 
 #[test]
-fn a_stream_is_answered(rt: HostRuntime) -> Result<(), Fail> {
-    forget_both(&rt, "stream")?;
-    let line = with_paths(&rt, "stream", "apply --db DB")?;
-    prints(&rt, &rt, &line, STREAM, ANSWERS)?;
-    prints(&rt, &rt, &line, STREAM, ANSWERS)?;
-    a_cut_stream_is_answered(&rt, &rt, &line)?;
-    forget_both(&rt, "stream")
+fn a_stream_is_answered(rt: HostRuntime) {
+    forget_both(&rt, &rt, "stream");
+    let line = with_paths(&rt, &rt, "stream", "apply --db DB");
+    prints(&rt, &rt, &line, STREAM, ANSWERS);
+    prints(&rt, &rt, &line, STREAM, ANSWERS);
+    a_cut_stream_is_answered(&rt, &rt, &line);
+    forget_both(&rt, &rt, "stream");
 }
 
 /// The same command lines over stores in memory.
 #[test]
-fn lines_over_memory(rt: HostRuntime) -> Result<(), Fail> {
-    forget_both(&rt, "memory")?;
-    put(&rt, "memory", "csv", RATES)?;
+fn lines_over_memory(rt: HostRuntime) {
+    forget_both(&rt, &rt, "memory");
+    put(&rt, &rt, "memory", "csv", RATES);
     for (line, input, wanted) in [
         ("apply --db here", STREAM, ANSWERS),
         (
@@ -172,43 +182,39 @@ fn lines_over_memory(rt: HostRuntime) -> Result<(), Fail> {
         ),
         ("value 50 2010-05 2015-05 3.50", "", "29.74\n"),
     ] {
-        let line = with_paths(&rt, "memory", line)?;
-        prints_in_memory(&rt, &rt, &line, input, wanted)?;
+        let line = with_paths(&rt, &rt, "memory", line);
+        prints_in_memory(&rt, &rt, &line, input, wanted);
     }
-    forget_both(&rt, "memory")
+    forget_both(&rt, &rt, "memory");
 }
 
 #[test]
-fn a_file_that_is_no_store(rt: HostRuntime) -> Result<(), Fail> {
-    forget_both(&rt, "none")?;
-    put(&rt, "none", "db", "no store")?;
-    tells_over(
-        &rt,
-        &rt,
-        "none",
-        "export 7 --db DB",
-        "store: StoreFailed\n",
-        3,
-    )?;
-    forget_both(&rt, "none")
+fn a_file_that_is_no_store(rt: HostRuntime) {
+    let name = "none";
+    forget_both(&rt, &rt, name);
+    put(&rt, &rt, name, "db", "no store");
+    let line = "export 7 --db DB";
+    tells_over(&rt, &rt, name, line, "store: StoreFailed\n", 3);
+    forget_both(&rt, &rt, name);
 }
 
-fn remove_log(rt: &HostRuntime, name: &str) -> Result<(), Fail> {
-    fs::remove_file(rt, path_of(rt, name, "db-wal")?.as_str())?;
-    Ok(())
+/// Removes the log beside the store of a test, which has to be there.
+fn remove_log(rt: &HostRuntime, abort: &(impl Abort + Eprint), name: &str) {
+    let path = path_to(rt, abort, name, "db-wal");
+    fs::remove_file(rt, path.as_str()).expect(abort, "the log");
 }
 
 /// After a command the file is the whole store, without the log beside it.
 #[test]
-fn a_store_at_rest_is_one_file(rt: HostRuntime) -> Result<(), Fail> {
+fn a_store_at_rest_is_one_file(rt: HostRuntime) {
     let name = "rest";
-    forget_both(&rt, name)?;
-    put(&rt, name, "csv", RATES)?;
-    prints_over(&rt, &rt, name, IMPORT_RATES, "{\"new\":2,\"same\":0}\n")?;
-    remove_log(&rt, name)?;
-    put(&rt, name, "csv", BONDS)?;
-    prints_over(&rt, &rt, name, IMPORT_BONDS, "{\"new\":3,\"same\":0}\n")?;
-    remove_log(&rt, name)?;
-    prints_over(&rt, &rt, name, "export 7 --db DB", EXPORTED)?;
-    forget_both(&rt, name)
+    forget_both(&rt, &rt, name);
+    put(&rt, &rt, name, "csv", RATES);
+    prints_over(&rt, &rt, name, IMPORT_RATES, "{\"new\":2,\"same\":0}\n");
+    remove_log(&rt, &rt, name);
+    put(&rt, &rt, name, "csv", BONDS);
+    prints_over(&rt, &rt, name, IMPORT_BONDS, "{\"new\":3,\"same\":0}\n");
+    remove_log(&rt, &rt, name);
+    prints_over(&rt, &rt, name, "export 7 --db DB", EXPORTED);
+    forget_both(&rt, &rt, name);
 }

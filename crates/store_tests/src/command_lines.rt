@@ -2,10 +2,11 @@
 //! values are worked by hand from the rules of 31 CFR Part 351.
 
 use crate::commands::{InMemory, prints, run, tells, words};
+use crate::comparing::{holds, parts, same};
 use ee_cli_program::{refuse_words, run_words};
+use std::alloc::Global;
 use std::io::{self, ErrorKind, Write};
 use std::process::Abort;
-use std::test::Fail;
 
 /// Lines that ask for a value, and what they print. Where an extension is named, the fixed rate grows the value
 /// up to the age of 240 months, at which it is at least doubled, and the extension grows it from there on.
@@ -51,17 +52,16 @@ value 10000 2005-05 2199-12 20.00 0.00 => 226304.00 MA
 ";
 
 #[test]
-fn values(rt: HostRuntime) -> Result<(), Fail> {
+fn values(rt: HostRuntime) {
     for row in VALUES.lines() {
-        let (line, value) = row.split_once(" => ").ok_or("row")?;
-        let wanted = format!(in rt.alloc(); "{value}\n")?;
-        prints(&rt, &rt, line, "", &wanted)?;
+        let (line, value) = parts(&rt, row);
+        let wanted = format!(in rt.alloc(); "{value}\n").expect(&rt, row);
+        prints(&rt, &rt, line, "", &wanted);
     }
-    Ok(())
 }
 
 #[test]
-fn bad_arguments(rt: HostRuntime) -> Result<(), Fail> {
+fn bad_arguments(rt: HostRuntime) {
     for (line, wanted) in [
         ("value 51 2010-13 2015-5 x", "bad argument: denom\n"),
         ("value 50 2005-04 2015-5 x", "bad argument: issued\n"),
@@ -75,13 +75,20 @@ fn bad_arguments(rt: HostRuntime) -> Result<(), Fail> {
         ("export 0 --db no/where", "bad argument: customer\n"),
         ("sheet 7 2012-13 --db no/where", "bad argument: month\n"),
     ] {
-        tells(&rt, &rt, line, wanted, 2)?;
+        tells(&rt, &rt, line, wanted, 2);
     }
-    Ok(())
+}
+
+/// The line prints nothing, and tells something, with status 2.
+fn is_bad(rt: &HostRuntime, abort: &impl Abort, line: &str) {
+    let ran = run(rt, abort, line, "");
+    holds(abort, !ran.told.is_empty(), line);
+    same(abort, ran.printed.as_str(), "", line);
+    holds(abort, ran.status == 2, line);
 }
 
 #[test]
-fn bad_lines(rt: HostRuntime) -> Result<(), Fail> {
+fn bad_lines(rt: HostRuntime) {
     for line in [
         "",
         "help",
@@ -93,16 +100,20 @@ fn bad_lines(rt: HostRuntime) -> Result<(), Fail> {
         "serve --db no/where --port 65536 --connections 1",
         "serve --db no/where --port 1 --connections 1001",
     ] {
-        let ran = run(&rt, line, "")?;
-        assert!(rt; !ran.told.is_empty(), "{line}");
-        assert!(rt; ran.printed.is_empty(), "{line}");
-        assert_eq!(rt; ran.status, 2, "{line}");
+        is_bad(&rt, &rt, line);
     }
-    Ok(())
+}
+
+/// What the line prints has that part; nothing is told, and the status is 0.
+fn prints_part(rt: &HostRuntime, abort: &impl Abort, line: &str, part: &str) {
+    let ran = run(rt, abort, line, "");
+    holds(abort, ran.printed.contains(part), part);
+    same(abort, ran.told.as_str(), "", line);
+    holds(abort, ran.status == 0, line);
 }
 
 #[test]
-fn help_is_no_fault(rt: HostRuntime) -> Result<(), Fail> {
+fn help_is_no_fault(rt: HostRuntime) {
     for (line, part) in [
         ("--help", "Usage: ee_cli <COMMAND>"),
         ("-h", "500 rows a request, 100 serial numbers a redemption"),
@@ -111,20 +122,15 @@ fn help_is_no_fault(rt: HostRuntime) -> Result<(), Fail> {
         ("value --help", "<rate> [extension]"),
         ("serve --help", "ee_cli serve --db day.db --port 8377"),
     ] {
-        let ran = run(&rt, line, "")?;
-        assert!(rt; ran.printed.contains(part), "{line}");
-        assert!(rt; ran.told.is_empty(), "{line}");
-        assert_eq!(rt; ran.status, 0, "{line}");
+        prints_part(&rt, &rt, line, part);
     }
-    Ok(())
 }
 
 #[test]
-fn versions(rt: HostRuntime) -> Result<(), Fail> {
+fn versions(rt: HostRuntime) {
     for line in ["--version", "-V"] {
-        prints(&rt, &rt, line, "", "ee_cli 1.0.0, store version 2\n")?;
+        prints(&rt, &rt, line, "", "ee_cli 1.0.0, store version 2\n");
     }
-    Ok(())
 }
 
 /// Takes so many bytes, and then fails.
@@ -150,6 +156,11 @@ impl Write for Failing {
     }
 }
 
+/// Compares the bytes of a text with the wanted one; `case` tells whose they are.
+fn same_bytes(rt: &impl Abort, told: &[u8], wanted: &str, case: &str) {
+    same(rt, str::from_utf8(told).expect(rt, case), wanted, case);
+}
+
 /// The output takes so many bytes of what words print, and then fails.
 fn prints_so_many(rt: &HostRuntime, abort: &impl Abort, words: &[String], room: usize) {
     let bytes = Vec::new(rt.alloc());
@@ -158,35 +169,33 @@ fn prints_so_many(rt: &HostRuntime, abort: &impl Abort, words: &[String], room: 
     let stores = InMemory { alloc: rt.alloc() };
     let mut input = io::empty();
     let status = run_words(rt, &stores, words, &mut input, &mut output, &mut told);
-    assert_eq!(abort; Some(&output.bytes[..]), b"29.74\n".get(..room));
-    assert_eq!(abort; &told[..], b"input or output failed\n".as_slice());
-    assert_eq!(abort; status, 3);
+    let front = "29.74\n".get(..room).expect(abort, "a front of the line");
+    same_bytes(abort, &output.bytes, front, "what is printed");
+    same_bytes(abort, &told, "input or output failed\n", "what is told");
+    holds(abort, status == 3, "the status is 3");
 }
 
 #[test]
-fn failing_output(rt: HostRuntime) -> Result<(), Fail> {
-    let words = words(&rt, "value 50 2010-05 2015-05 3.50")?;
+fn failing_output(rt: HostRuntime) {
+    let words = words(&rt, &rt, "value 50 2010-05 2015-05 3.50");
     for room in 0..6 {
         prints_so_many(&rt, &rt, &words, room);
     }
-    Ok(())
+}
+
+/// Words that were not read for that cause are refused with this text and this status.
+fn are_refused(rt: &impl Abort, alloc: Global, kind: ErrorKind, wanted: &str, status: u8) {
+    let mut told = Vec::new(alloc);
+    let error = io::Error::from(kind);
+    let ended = refuse_words(&error, &mut told);
+    same_bytes(rt, &told, wanted, "what is told");
+    holds(rt, ended == status, wanted);
 }
 
 /// A word that isn't UTF-8 is a bad line, and want of memory is told as such.
 #[test]
-fn words_that_are_not_read(rt: HostRuntime) -> Result<(), Fail> {
-    for (kind, wanted, status) in [
-        (
-            ErrorKind::InvalidData,
-            b"bad argument: a word isn't UTF-8\n".as_slice(),
-            2u8,
-        ),
-        (ErrorKind::OutOfMemory, b"no memory\n".as_slice(), 3),
-    ] {
-        let mut told = Vec::new(rt.alloc());
-        let error = io::Error::from(kind);
-        assert_eq!(rt; refuse_words(&error, &mut told), status);
-        assert_eq!(rt; &told[..], wanted);
-    }
-    Ok(())
+fn words_that_are_not_read(rt: HostRuntime) {
+    let wanted = "bad argument: a word isn't UTF-8\n";
+    are_refused(&rt, rt.alloc(), ErrorKind::InvalidData, wanted, 2);
+    are_refused(&rt, rt.alloc(), ErrorKind::OutOfMemory, "no memory\n", 3);
 }

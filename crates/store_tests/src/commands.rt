@@ -1,11 +1,11 @@
 //! Running a command line, over files or over stores in memory, and what it printed and told.
 
+use crate::comparing::{holds, same};
 use ee_cli_actions::RunFault;
 use ee_cli_program::{StoreFiles, Stores, Untold, run_words};
 use ee_keeper::ListKeeper;
 use std::alloc::Global;
 use std::process::Abort;
-use std::test::Fail;
 
 /// What a line printed, what it told of faults, and its exit status.
 #[derive(Drop)]
@@ -15,48 +15,56 @@ pub struct Ran {
     pub status: u8,
 }
 
-pub fn words(rt: &HostRuntime, line: &str) -> Result<Vec<String>, Fail> {
+/// Adds a word.
+fn add_word(abort: &impl Abort, alloc: Global, words: &mut Vec<String>, word: &str) {
+    let text = String::from_str(alloc, word).expect(abort, word);
+    words.push(text).expect(abort, word);
+}
+
+/// The program's name, and the words of a line.
+pub fn words(rt: &HostRuntime, abort: &impl Abort, line: &str) -> Vec<String> {
     let mut words = Vec::new(rt.alloc());
-    words.push("ee_cli".to_string(rt.alloc())?)?;
+    add_word(abort, rt.alloc(), &mut words, "ee_cli");
     for word in line.split_ascii_whitespace() {
-        words.push(word.to_string(rt.alloc())?)?;
+        add_word(abort, rt.alloc(), &mut words, word);
     }
-    Ok(words)
+    words
 }
 
-fn text(rt: &HostRuntime, bytes: &[u8]) -> Result<String, Fail> {
-    Ok(std::str::from_utf8(bytes)?.to_string(rt.alloc())?)
-}
-
+/// Runs the line of those words over these stores.
 fn run_given<O: Stores>(
     rt: &HostRuntime,
+    abort: &impl Abort,
     stores: &O,
     words: &[String],
     input: &str,
-) -> Result<Ran, Fail> {
+) -> Ran {
     let mut bytes = input.as_bytes();
     let mut printed = Vec::new(rt.alloc());
     let mut told = Vec::new(rt.alloc());
     let status = run_words(rt, stores, words, &mut bytes, &mut printed, &mut told);
-    Ok(Ran {
-        printed: text(rt, &printed)?,
-        told: text(rt, &told)?,
+    Ran {
+        printed: String::from_utf8(printed).expect(abort, "what is printed"),
+        told: String::from_utf8(told).expect(abort, "what is told"),
         status,
-    })
+    }
 }
 
+/// Runs a line over these stores.
 pub fn run_over<O: Stores>(
     rt: &HostRuntime,
+    abort: &impl Abort,
     stores: &O,
     line: &str,
     input: &str,
-) -> Result<Ran, Fail> {
-    let words = words(rt, line)?;
-    run_given(rt, stores, &words, input)
+) -> Ran {
+    let words = words(rt, abort, line);
+    run_given(rt, abort, stores, &words, input)
 }
 
-pub fn run(rt: &HostRuntime, line: &str, input: &str) -> Result<Ran, Fail> {
-    run_over(rt, &StoreFiles { rt, start: Untold }, line, input)
+/// Runs a line over stores in files.
+pub fn run(rt: &HostRuntime, abort: &impl Abort, line: &str, input: &str) -> Ran {
+    run_over(rt, abort, &StoreFiles { rt, start: Untold }, line, input)
 }
 
 /// Stores in memory, each empty as it is opened, whatever its path is.
@@ -86,23 +94,17 @@ impl Stores for InMemory {
     }
 }
 
-/// The line printed this, with status 0.
-fn assert_printed(rt: &impl Abort, ran: &Ran, wanted: &str) {
-    assert_eq!(rt; ran.printed.as_str(), wanted);
-    assert!(rt; ran.told.is_empty());
-    assert_eq!(rt; ran.status, 0);
+/// The line printed this, told this, and ended with this status.
+pub fn has_run(abort: &impl Abort, ran: &Ran, line: &str, printed: &str, told: &str, status: u8) {
+    same(abort, ran.printed.as_str(), printed, line);
+    same(abort, ran.told.as_str(), told, line);
+    holds(abort, ran.status == status, line);
 }
 
 /// The line prints this, with status 0.
-pub fn prints(
-    rt: &HostRuntime,
-    abort: &impl Abort,
-    line: &str,
-    input: &str,
-    wanted: &str,
-) -> Result<(), Fail> {
-    assert_printed(abort, &run(rt, line, input)?, wanted);
-    Ok(())
+pub fn prints(rt: &HostRuntime, abort: &impl Abort, line: &str, input: &str, wanted: &str) {
+    let ran = run(rt, abort, line, input);
+    has_run(abort, &ran, line, wanted, "", 0);
 }
 
 /// The same over stores in memory.
@@ -112,25 +114,16 @@ pub fn prints_in_memory(
     line: &str,
     input: &str,
     wanted: &str,
-) -> Result<(), Fail> {
+) {
     let stores = InMemory { alloc: rt.alloc() };
-    assert_printed(abort, &run_over(rt, &stores, line, input)?, wanted);
-    Ok(())
+    let ran = run_over(rt, abort, &stores, line, input);
+    has_run(abort, &ran, line, wanted, "", 0);
 }
 
 /// The line prints nothing, and tells this, with this status.
-pub fn tells(
-    rt: &HostRuntime,
-    abort: &impl Abort,
-    line: &str,
-    wanted: &str,
-    status: u8,
-) -> Result<(), Fail> {
-    let ran = run(rt, line, "")?;
-    assert_eq!(abort; ran.told.as_str(), wanted);
-    assert!(abort; ran.printed.is_empty());
-    assert_eq!(abort; ran.status, status);
-    Ok(())
+pub fn tells(rt: &HostRuntime, abort: &impl Abort, line: &str, wanted: &str, status: u8) {
+    let ran = run(rt, abort, line, "");
+    has_run(abort, &ran, line, "", wanted, status);
 }
 
 /// Two messages of a stream.

@@ -1,34 +1,71 @@
-//! Doing what a transcript does, and comparing what is told.
+//! Doing what a transcript does, and comparing what is told. A test that finds something else, or whose preparation fails,
+//! ends here.
 
 use counter_talks::talk::{By, replay_by, whole};
 use ee_keeper::Keeper;
 use std::alloc::Global;
-use std::process::Abort;
+use std::io::Eprint;
+use std::process::{Abort, Termination};
 use std::test::Fail;
+
+/// What was made without fault. A fault is printed, and ends the test.
+pub fn made<T>(rt: &(impl Abort + Eprint), made: Result<T, Fail>) -> T {
+    match made {
+        Ok(made) => made,
+        Err(fail) => {
+            let _code = Err::<(), Fail>(fail).report(rt);
+            rt.abort()
+        }
+    }
+}
+
+/// Compares a text with the wanted one; `case` tells what was done.
+pub fn same(rt: &impl Abort, told: &str, wanted: &str, case: &str) {
+    assert!(rt; told == wanted, "{case}: {told} and not {wanted}");
+}
+
+/// Something holds; `case` tells what, or what was told.
+pub fn holds(rt: &impl Abort, is_so: bool, case: &str) {
+    assert!(rt; is_so, "{case}");
+}
+
+/// Adds a part to a text.
+pub fn add(rt: &impl Abort, text: &mut String, part: &str) {
+    text.push_str(part).expect(rt, "memory for a text");
+}
+
+/// The two parts of a row, `PART => PART`.
+pub fn parts<'a>(rt: &impl Abort, row: &'a str) -> (&'a str, &'a str) {
+    row.split_once(" => ").expect(rt, row)
+}
 
 /// Does what a transcript does, and compares what is told.
 pub fn compare<K: Keeper>(
-    rt: &impl Abort,
+    rt: &(impl Abort + Eprint),
     alloc: Global,
     keeper: &mut K,
     transcript: &str,
-) -> Result<(), Fail> {
-    compare_by(rt, alloc, keeper, By::Apply, transcript)
+) {
+    compare_by(rt, alloc, keeper, By::Apply, transcript);
 }
 
 /// The same, its messages sent by such calls.
 pub fn compare_by<K: Keeper>(
-    rt: &impl Abort,
+    rt: &(impl Abort + Eprint),
     alloc: Global,
     keeper: &mut K,
     by: By,
     transcript: &str,
-) -> Result<(), Fail> {
-    let wanted = whole(alloc, transcript)?;
-    let told = replay_by(alloc, keeper, by, wanted.as_str())?;
-    for (line, wanted) in told.lines().zip(wanted.lines()) {
-        assert_eq!(rt; line, wanted);
+) {
+    let wanted = made(rt, whole(alloc, transcript));
+    let told = made(rt, replay_by(alloc, keeper, by, wanted.as_str()));
+    same_lines(rt, told.as_str(), wanted.as_str());
+}
+
+/// Compares two transcripts line by line, and then as wholes.
+fn same_lines(rt: &impl Abort, told: &str, wanted: &str) {
+    for (line, right) in told.lines().zip(wanted.lines()) {
+        same(rt, line, right, "a line");
     }
-    assert_eq!(rt; told.as_str(), wanted.as_str());
-    Ok(())
+    same(rt, told, wanted, "the whole");
 }

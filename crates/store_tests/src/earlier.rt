@@ -2,11 +2,12 @@
 //! same rows, and each number is one of the first desk. Those that were made before extensions could be named have seven
 //! tables.
 
-use crate::answering::{has_rows, refused, tells};
+use crate::answering::{has_rows, in_memory, refused, tells};
+use crate::comparing::{add, parts};
 use sqlite::{Alter, Connection, MemStore};
 use std::alloc::Global;
+use std::io::Eprint;
 use std::process::Abort;
-use std::test::Fail;
 use store_talks::five::FIVE;
 
 /// Makes the seven tables.
@@ -94,23 +95,22 @@ pub enum Earlier {
 /// The stores of version 1.
 const EACH: [Earlier; 3] = [Earlier::Seven, Earlier::Eight, Earlier::Extended];
 
-pub fn make_earlier<S: Alter>(conn: &mut Connection<S>, earlier: Earlier) -> Result<(), Fail> {
-    conn.execute_batch(SEVEN_TABLES)?;
+pub fn make_earlier<S: Alter>(rt: &impl Abort, conn: &mut Connection<S>, earlier: Earlier) {
+    conn.execute_batch(SEVEN_TABLES).expect(rt, "seven tables");
     if earlier != Earlier::Seven {
-        conn.execute_batch(EXTENSIONS)?;
+        conn.execute_batch(EXTENSIONS).expect(rt, "extensions");
     }
-    conn.execute_batch(ROWS)?;
+    conn.execute_batch(ROWS).expect(rt, "rows");
     if earlier == Earlier::Extended {
-        conn.execute_batch(EXTENDED_ROWS)?;
+        conn.execute_batch(EXTENDED_ROWS).expect(rt, "an extension");
     }
-    Ok(())
 }
 
 /// An earlier store in memory.
-fn in_memory(alloc: Global, earlier: Earlier) -> Result<Connection<MemStore>, Fail> {
-    let mut conn = Connection::open_in_memory(alloc)?;
-    make_earlier(&mut conn, earlier)?;
-    Ok(conn)
+fn earlier_in_memory(rt: &impl Abort, alloc: Global, earlier: Earlier) -> Connection<MemStore> {
+    let mut conn = in_memory(rt, alloc);
+    make_earlier(rt, &mut conn, earlier);
+    conn
 }
 
 /// The rows of the day's rates, and of all from the bonds to the batches, as they are told.
@@ -152,94 +152,97 @@ const NEW_ANSWER: &str =
     r#"answers 1 4 {"act":"redeem","day":"2012-02-06","payee":7,"serials":["L1EE","K2EE","M3EE"]} {"code":42,"refused":"NoOpenDay"}"#;
 
 /// Adds lines, each after that word.
-fn add_lines(text: &mut String, word: &str, lines: &str) -> Result<(), Fail> {
+fn add_lines(rt: &impl Abort, text: &mut String, word: &str, lines: &str) {
     for line in lines.lines() {
-        text.push_str(word)?;
-        text.push_str(line)?;
-        text.push_str("\n")?;
+        add(rt, text, word);
+        add(rt, text, line);
+        add(rt, text, "\n");
     }
-    Ok(())
 }
 
 /// Adds the rates of a store with an extension, or without one, and the rows from the bonds to the batches.
-fn add_rates_and_payments(text: &mut String, is_extended: bool) -> Result<(), Fail> {
-    text.push_str(RATES)?;
-    text.push_str(if is_extended { NEW_RATE } else { "" })?;
-    text.push_str(PAYMENTS)?;
-    Ok(())
+fn add_rates_and_payments(rt: &impl Abort, text: &mut String, is_extended: bool) {
+    add(rt, text, RATES);
+    add(rt, text, if is_extended { NEW_RATE } else { "" });
+    add(rt, text, PAYMENTS);
 }
 
 /// Adds the replies of a store with an extension, or without one.
-fn add_replies(text: &mut String, is_extended: bool, word: &str) -> Result<(), Fail> {
-    add_lines(text, word, REPLIES)?;
-    add_lines(text, word, if is_extended { NEW_REPLY } else { "" })
+fn add_replies(rt: &impl Abort, text: &mut String, is_extended: bool, word: &str) {
+    add_lines(rt, text, word, REPLIES);
+    add_lines(rt, text, word, if is_extended { NEW_REPLY } else { "" });
 }
 
-/// The rows of an earlier store, as they are told before it is opened.
-pub fn rows_before(alloc: Global, earlier: Earlier) -> Result<String, Fail> {
-    let is_extended = earlier == Earlier::Extended;
-    let mut text = String::from_str(alloc, "desk 1 1 - 15376\n")?;
-    add_rates_and_payments(&mut text, is_extended)?;
-    add_replies(&mut text, is_extended, "replies ")?;
-    text.push_str(match earlier {
+/// The extensions of an earlier store, as they are told.
+const fn extensions_before(earlier: Earlier) -> &'static str {
+    match earlier {
         Earlier::Seven => "extensions is missing\n",
         Earlier::Eight => "",
         Earlier::Extended => NEW_EXTENSION,
-    })?;
-    text.push_str("answers is missing\n")?;
-    Ok(text)
+    }
+}
+
+/// The rows of an earlier store, as they are told before it is opened.
+pub fn rows_before(rt: &impl Abort, alloc: Global, earlier: Earlier) -> String {
+    let is_extended = earlier == Earlier::Extended;
+    let mut text = String::new(alloc);
+    add(rt, &mut text, "desk 1 1 - 15376\n");
+    add_rates_and_payments(rt, &mut text, is_extended);
+    add_replies(rt, &mut text, is_extended, "replies ");
+    add(rt, &mut text, extensions_before(earlier));
+    add(rt, &mut text, "answers is missing\n");
+    text
 }
 
 /// The rows that it has in version 2: with the extension or without it, and with the second desk's reply or without it.
-pub fn rows_after(alloc: Global, is_extended: bool, has_other: bool) -> Result<String, Fail> {
-    let mut text = String::from_str(alloc, "desk 1 2 - 15376\n")?;
-    add_rates_and_payments(&mut text, is_extended)?;
-    text.push_str("replies is missing\n")?;
-    text.push_str(if is_extended { NEW_EXTENSION } else { "" })?;
-    add_replies(&mut text, is_extended, "answers 0 ")?;
-    add_lines(&mut text, "", if has_other { NEW_ANSWER } else { "" })?;
-    Ok(text)
+pub fn rows_after(rt: &impl Abort, alloc: Global, is_extended: bool, has_other: bool) -> String {
+    let mut text = String::new(alloc);
+    add(rt, &mut text, "desk 1 2 - 15376\n");
+    add_rates_and_payments(rt, &mut text, is_extended);
+    add(rt, &mut text, "replies is missing\n");
+    add(rt, &mut text, if is_extended { NEW_EXTENSION } else { "" });
+    add_replies(rt, &mut text, is_extended, "answers 0 ");
+    add_lines(rt, &mut text, "", if has_other { NEW_ANSWER } else { "" });
+    text
 }
 
 /// What a talk over a store tells is the talk; its rows then are those of version 2.
 fn goes_on(
-    rt: &impl Abort,
+    rt: &(impl Abort + Eprint),
     alloc: Global,
     conn: Connection<MemStore>,
     talk: &str,
     is_extended: bool,
     has_other: bool,
-) -> Result<Connection<MemStore>, Fail> {
-    let mut conn = tells(rt, alloc, conn, talk, talk, "")?;
-    let rows = rows_after(alloc, is_extended, has_other)?;
-    has_rows(rt, alloc, &mut conn, rows.as_str(), talk)?;
-    Ok(conn)
+) -> Connection<MemStore> {
+    let mut conn = tells(rt, alloc, conn, talk, talk, "a talk");
+    let rows = rows_after(rt, alloc, is_extended, has_other);
+    has_rows(rt, alloc, &mut conn, rows.as_str(), talk);
+    conn
 }
 
 /// An earlier store is opened, and opened again for each talk.
-fn is_opened(rt: &impl Abort, alloc: Global, earlier: Earlier) -> Result<(), Fail> {
+fn is_opened(rt: &(impl Abort + Eprint), alloc: Global, earlier: Earlier) {
     let is_extended = earlier == Earlier::Extended;
-    let mut conn = in_memory(alloc, earlier)?;
-    let before = rows_before(alloc, earlier)?;
-    has_rows(rt, alloc, &mut conn, before.as_str(), "before")?;
-    let conn = goes_on(rt, alloc, conn, "", is_extended, false)?;
-    let conn = goes_on(rt, alloc, conn, FIVE, is_extended, false)?;
-    let conn = goes_on(rt, alloc, conn, OTHER, is_extended, true)?;
-    let conn = goes_on(rt, alloc, conn, FIVE, is_extended, true)?;
-    let conn = goes_on(rt, alloc, conn, OTHER, is_extended, true)?;
-    let conn = goes_on(rt, alloc, conn, NAMED, true, true)?;
-    let _conn = goes_on(rt, alloc, conn, SHOWN, true, true)?;
-    Ok(())
+    let mut conn = earlier_in_memory(rt, alloc, earlier);
+    let before = rows_before(rt, alloc, earlier);
+    has_rows(rt, alloc, &mut conn, before.as_str(), "before");
+    conn = goes_on(rt, alloc, conn, "", is_extended, false);
+    conn = goes_on(rt, alloc, conn, FIVE, is_extended, false);
+    conn = goes_on(rt, alloc, conn, OTHER, is_extended, true);
+    conn = goes_on(rt, alloc, conn, FIVE, is_extended, true);
+    conn = goes_on(rt, alloc, conn, OTHER, is_extended, true);
+    conn = goes_on(rt, alloc, conn, NAMED, true, true);
+    let _conn = goes_on(rt, alloc, conn, SHOWN, true, true);
 }
 
 /// It has its rows in version 2 once it is opened, and gives each number of the first desk its first reply, whatever the
 /// second desk does under the same number; when it is opened again too.
 #[test]
-fn an_earlier_store_is_opened(rt: HostRuntime) -> Result<(), Fail> {
+fn an_earlier_store_is_opened(rt: HostRuntime) {
     for earlier in EACH {
-        is_opened(&rt, rt.alloc(), earlier)?;
+        is_opened(&rt, rt.alloc(), earlier);
     }
-    Ok(())
 }
 
 /// Changes of an earlier store, and why it is refused then: rows that stand for no books, other versions, the table of
@@ -270,25 +273,19 @@ INSERT INTO extensions VALUES (60, 2001) => Unusable
 ";
 
 /// Each change of an earlier store by itself: it is refused, and has all its rows then.
-fn are_refused(
-    rt: &impl Abort,
-    alloc: Global,
-    earlier: Earlier,
-    changes: &str,
-) -> Result<(), Fail> {
+fn are_refused(rt: &(impl Abort + Eprint), alloc: Global, earlier: Earlier, changes: &str) {
     for case in changes.lines() {
-        let (statements, fault) = case.split_once(" => ").ok_or("change")?;
-        let conn = in_memory(alloc, earlier)?;
-        let _conn = refused(rt, alloc, conn, statements, fault)?;
+        let (statements, fault) = parts(rt, case);
+        let conn = earlier_in_memory(rt, alloc, earlier);
+        let _conn = refused(rt, alloc, conn, statements, fault);
     }
-    Ok(())
 }
 
 #[test]
-fn a_changed_earlier_store_is_refused(rt: HostRuntime) -> Result<(), Fail> {
+fn a_changed_earlier_store_is_refused(rt: HostRuntime) {
     for earlier in EACH {
-        are_refused(&rt, rt.alloc(), earlier, CHANGES)?;
+        are_refused(&rt, rt.alloc(), earlier, CHANGES);
     }
-    are_refused(&rt, rt.alloc(), Earlier::Eight, EXTENSION_CHANGES)?;
-    are_refused(&rt, rt.alloc(), Earlier::Extended, EXTENSION_CHANGES)
+    are_refused(&rt, rt.alloc(), Earlier::Eight, EXTENSION_CHANGES);
+    are_refused(&rt, rt.alloc(), Earlier::Extended, EXTENSION_CHANGES);
 }

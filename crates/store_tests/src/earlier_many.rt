@@ -1,14 +1,15 @@
 //! Stores of version 1 with many replies, and with little memory.
 
-use crate::answering::{has_rows, tells};
+use crate::answering::{has_rows, in_memory, tells};
+use crate::comparing::{holds, made};
 use crate::earlier::{EXTENSIONS, Earlier, SEVEN_TABLES, make_earlier, rows_after, rows_before};
 use ee_store::{NotAdopted, OpenFault, SqlKeeper};
 use sqlite::types::ValueRef;
 use sqlite::{Alter, Connection, MemStore};
 use std::alloc::Global;
 use std::fmt::Write;
+use std::io::Eprint;
 use std::process::Abort;
-use std::test::Fail;
 use store_talks::five::{FIVE, served};
 
 /// How many replies a store has; each third number is used.
@@ -34,93 +35,104 @@ const TALK: &str = r#"> POST /day/close {"number":3,"day":"2012-02-06"}
 409 {"code":42,"refused":"NoOpenDay"}
 "#;
 
+/// Adds a reply of that number.
+fn add_reply<S: Alter>(rt: &impl Abort, conn: &mut Connection<S>, number: i64) {
+    let values = [
+        ValueRef::Int(number),
+        ValueRef::Text(ACT.as_bytes()),
+        ValueRef::Text(REPLY.as_bytes()),
+    ];
+    conn.execute("INSERT INTO replies VALUES (?1, ?2, ?3)", &values)
+        .expect(rt, "a reply");
+}
+
 /// Adds the replies to an earlier store.
-fn add_replies<S: Alter>(conn: &mut Connection<S>) -> Result<(), Fail> {
-    conn.execute_batch("BEGIN; INSERT INTO desk VALUES (1, 1, NULL, NULL)")?;
+fn add_replies<S: Alter>(rt: &impl Abort, conn: &mut Connection<S>) {
+    conn.execute_batch("BEGIN; INSERT INTO desk VALUES (1, 1, NULL, NULL)")
+        .expect(rt, "a desk");
     let mut number: i64 = 0;
     for _ in 0..COUNT {
         number = number.saturating_add(3);
-        conn.execute(
-            "INSERT INTO replies VALUES (?1, ?2, ?3)",
-            &[
-                ValueRef::Int(number),
-                ValueRef::Text(ACT.as_bytes()),
-                ValueRef::Text(REPLY.as_bytes()),
-            ],
-        )?;
+        add_reply(rt, conn, number);
     }
-    conn.execute_batch("COMMIT")?;
-    Ok(())
+    conn.execute_batch("COMMIT").expect(rt, "the replies");
 }
 
 /// The rows of version 2.
-fn wanted(alloc: Global) -> Result<String, Fail> {
-    let mut text = String::from_str(alloc, "desk 1 2 - -\nreplies is missing\n")?;
+fn wanted(rt: &impl Abort, alloc: Global) -> String {
+    let mut text = String::new(alloc);
+    text.push_str("desk 1 2 - -\nreplies is missing\n")
+        .expect(rt, "memory for a text");
     for place in 1..=COUNT {
         let number = place.saturating_mul(3);
-        writeln!(text, "answers 0 {number} {ACT} {REPLY}")?;
+        writeln!(text, "answers 0 {number} {ACT} {REPLY}").expect(rt, "memory for a row");
     }
-    Ok(text)
+    text
+}
+
+/// An earlier store with these replies.
+fn with_many(rt: &impl Abort, alloc: Global) -> Connection<MemStore> {
+    let mut conn = in_memory(rt, alloc);
+    conn.execute_batch(SEVEN_TABLES).expect(rt, "seven tables");
+    conn.execute_batch(EXTENSIONS).expect(rt, "extensions");
+    add_replies(rt, &mut conn);
+    conn
 }
 
 /// Each of ten thousand replies is one of the first desk then.
 #[test]
-fn ten_thousand_replies(rt: HostRuntime) -> Result<(), Fail> {
+fn ten_thousand_replies(rt: HostRuntime) {
     let alloc = rt.alloc();
-    let mut conn = Connection::open_in_memory(alloc)?;
-    conn.execute_batch(SEVEN_TABLES)?;
-    conn.execute_batch(EXTENSIONS)?;
-    add_replies(&mut conn)?;
-    let mut conn = tells(&rt, alloc, conn, "", "", "")?;
-    let rows = wanted(alloc)?;
-    has_rows(&rt, alloc, &mut conn, rows.as_str(), "other rows")?;
-    let _conn = tells(&rt, alloc, conn, TALK, TALK, "")?;
-    Ok(())
+    let mut conn = tells(&rt, alloc, with_many(&rt, alloc), "", "", "opened");
+    let rows = wanted(&rt, alloc);
+    has_rows(&rt, alloc, &mut conn, rows.as_str(), "other rows");
+    let _conn = tells(&rt, alloc, conn, TALK, TALK, "a talk");
 }
 
 /// Opens an earlier store. Where memory is refused to that, the store has its rows as they were.
 fn opened(
-    rt: &impl Abort,
+    rt: &(impl Abort + Eprint),
     alloc: Global,
     conn: Connection<MemStore>,
-) -> Result<Connection<MemStore>, Fail> {
+) -> Connection<MemStore> {
     match SqlKeeper::adopt(conn, alloc) {
-        Ok(keeper) => Ok(keeper.close()),
+        Ok(keeper) => keeper.close(),
         Err(NotAdopted { fault, mut conn }) => {
-            assert_eq!(rt; fault, OpenFault::NoMemory);
-            let rows = rows_before(alloc, Earlier::Seven)?;
-            has_rows(rt, alloc, &mut conn, rows.as_str(), "refused")?;
-            Ok(conn)
+            holds(rt, fault == OpenFault::NoMemory, "another fault");
+            let rows = rows_before(rt, alloc, Earlier::Seven);
+            has_rows(rt, alloc, &mut conn, rows.as_str(), "refused");
+            conn
         }
     }
 }
 
 /// The five requests twice: at the first time or at the second each has its first reply.
 fn answers_again(
-    rt: &impl Abort,
+    rt: &(impl Abort + Eprint),
     alloc: Global,
     conn: Connection<MemStore>,
-) -> Result<Connection<MemStore>, Fail> {
+) -> Connection<MemStore> {
     let (first, conn) = served(alloc, conn, FIVE);
-    let first = first?;
+    let first = made(rt, first);
     let (second, conn) = served(alloc, conn, FIVE);
-    let second = second?;
-    assert!(rt;
+    let second = made(rt, second);
+    holds(
+        rt,
         first.as_str() == FIVE || second.as_str() == FIVE,
-        "{first}{second}"
+        second.as_str(),
     );
-    Ok(conn)
+    conn
 }
 
 /// It is opened, at once or after memory was refused, and gives each number its first reply, where no memory is refused to
 /// that. The script `tests/refused_memory` refuses each request for memory in turn.
 #[test]
-fn refused_memory(rt: HostRuntime) -> Result<(), Fail> {
+fn refused_memory(rt: HostRuntime) {
     let alloc = rt.alloc();
-    let mut conn = Connection::open_in_memory(alloc)?;
-    make_earlier(&mut conn, Earlier::Seven)?;
-    let conn = opened(&rt, alloc, conn)?;
-    let mut conn = answers_again(&rt, alloc, conn)?;
-    let rows = rows_after(alloc, false, false)?;
-    has_rows(&rt, alloc, &mut conn, rows.as_str(), "opened")
+    let mut conn = in_memory(&rt, alloc);
+    make_earlier(&rt, &mut conn, Earlier::Seven);
+    let conn = opened(&rt, alloc, conn);
+    let mut conn = answers_again(&rt, alloc, conn);
+    let rows = rows_after(&rt, alloc, false, false);
+    has_rows(&rt, alloc, &mut conn, rows.as_str(), "opened");
 }

@@ -1,12 +1,13 @@
 //! Stores of version 1 in files of which one stops: what a crash leaves then has their tables as they were, or those of
 //! version 2 with the same rows, and answers as before.
 
+use crate::comparing::{add, holds, made, same};
 use crate::earlier::{Earlier, NAMED, OTHER, make_earlier, rows_after, rows_before};
 use sqlite::{Connection, FileStore, Files};
 use sqlite_disk::{Crash, Disk, Fuse, Memory};
 use std::alloc::Global;
+use std::io::Eprint;
 use std::process::Abort;
-use std::test::Fail;
 use store_talks::five::{FIVE, rows_told, served};
 use store_talks::stops::{ends_by_failures, few_pages, is_front_of, served_on};
 
@@ -45,23 +46,24 @@ pub enum Form {
 impl Form {
     /// The form whose rows these are.
     pub fn of(
+        rt: &impl Abort,
         alloc: Global,
         earlier: Earlier,
         news: News,
         rows: &str,
-    ) -> Result<Option<Form>, Fail> {
+    ) -> Option<Form> {
         let is_extended = earlier == Earlier::Extended;
         let will_be = is_extended || news == News::Extension;
-        if rows == rows_before(alloc, earlier)?.as_str() {
-            return Ok(Some(Form::Earlier));
+        if rows == rows_before(rt, alloc, earlier).as_str() {
+            return Some(Form::Earlier);
         }
-        if rows == rows_after(alloc, will_be, news == News::Desk)?.as_str() {
-            return Ok(Some(Form::Entered));
+        if rows == rows_after(rt, alloc, will_be, news == News::Desk).as_str() {
+            return Some(Form::Entered);
         }
-        if rows == rows_after(alloc, is_extended, false)?.as_str() {
-            return Ok(Some(Form::Migrated));
+        if rows == rows_after(rt, alloc, is_extended, false).as_str() {
+            return Some(Form::Migrated);
         }
-        Ok(None)
+        None
     }
 }
 
@@ -75,40 +77,49 @@ enum Left {
 }
 
 /// The files of a connection, at rest.
-fn closed<D: Disk + Drop>(conn: Connection<FileStore<D>>) -> Result<Files<D>, Fail> {
+fn closed<D: Disk + Drop>(rt: &impl Abort, conn: Connection<FileStore<D>>) -> Files<D> {
     match conn.close_files() {
-        Ok(files) => Ok(files),
-        Err((_, store)) => {
-            let _files = store.close();
-            Err("the log isn't written back".into())
-        }
+        Ok(files) => files,
+        Err(_) => panic!(rt; "the log isn't written back"),
+    }
+}
+
+/// A connection over files.
+fn open_files<D: Disk + Drop>(
+    rt: &impl Abort,
+    alloc: Global,
+    files: Files<D>,
+    seed: u64,
+) -> Connection<FileStore<D>> {
+    if !files.may_be_used() {
+        panic!(rt; "a file may not be used");
+    }
+    match Connection::open_files(alloc, files, few_pages(seed)) {
+        Ok(conn) => conn,
+        Err(_) => panic!(rt; "the files don't open"),
     }
 }
 
 /// The files of an earlier store.
-fn earlier_files(alloc: Global, earlier: Earlier, left: Left) -> Result<Files<Memory>, Fail> {
-    let files = Files {
-        log: Memory::new(alloc),
-        db: Memory::new(alloc),
-    };
-    let Ok(mut conn) = Connection::open_files(alloc, files, few_pages(2)) else {
-        return Err("no store was made".into());
-    };
-    conn.execute_batch("BEGIN")?;
-    make_earlier(&mut conn, earlier)?;
-    conn.execute_batch("COMMIT")?;
+fn earlier_files(rt: &impl Abort, alloc: Global, earlier: Earlier, left: Left) -> Files<Memory> {
+    let log = Memory::new(alloc);
+    let db = Memory::new(alloc);
+    let mut conn = open_files(rt, alloc, Files { log, db }, 2);
+    conn.execute_batch("BEGIN").expect(rt, "begin");
+    make_earlier(rt, &mut conn, earlier);
+    conn.execute_batch("COMMIT").expect(rt, "commit");
     match left {
-        Left::AtRest => closed(conn),
-        Left::InLog => Ok(conn.into_store().close()),
+        Left::AtRest => closed(rt, conn),
+        Left::InLog => conn.into_store().close(),
     }
 }
 
 /// A file with the same bytes.
-fn copied(alloc: Global, file: &Memory) -> Result<Memory, Fail> {
+fn copied(rt: &impl Abort, alloc: Global, file: &Memory) -> Memory {
     let mut copy = Memory::new(alloc);
-    copy.write_at(0, file.bytes())?;
-    copy.sync()?;
-    Ok(copy)
+    copy.write_at(0, file.bytes()).expect(rt, "a copy");
+    copy.sync().expect(rt, "a copy that is synced");
+    copy
 }
 
 /// What files have, what a talk over them tells, and what they have then.
@@ -131,22 +142,18 @@ impl Shown {
 
 /// Shows files and what a talk over them tells, and hands them back.
 pub fn shown_on<D: Disk + Drop>(
+    rt: &(impl Abort + Eprint),
     alloc: Global,
     files: Files<D>,
     talk: &str,
     shown: &mut Shown,
-) -> Result<Files<D>, Fail> {
-    if !files.may_be_used() {
-        return Err("a file may not be used".into());
-    }
-    let Ok(mut conn) = Connection::open_files(alloc, files, few_pages(3)) else {
-        return Err("the files don't open".into());
-    };
-    shown.before = rows_told(alloc, &mut conn)?;
+) -> Files<D> {
+    let mut conn = open_files(rt, alloc, files, 3);
+    shown.before = made(rt, rows_told(alloc, &mut conn));
     let (told, mut conn) = served(alloc, conn, talk);
-    shown.told = told?;
-    shown.after = rows_told(alloc, &mut conn)?;
-    closed(conn)
+    shown.told = made(rt, told);
+    shown.after = made(rt, rows_told(alloc, &mut conn));
+    closed(rt, conn)
 }
 
 /// An earlier store, its files, and what is asked of it.
@@ -159,19 +166,21 @@ struct Case {
 }
 
 impl Case {
-    fn new(alloc: Global, earlier: Earlier, left: Left, news: News) -> Result<Case, Fail> {
-        let files = earlier_files(alloc, earlier, left)?;
-        let talk = format!(in alloc; "{FIVE}{}", news.text())?;
-        Ok(Case {
+    fn new(rt: &impl Abort, alloc: Global, earlier: Earlier, left: Left, news: News) -> Case {
+        let files = earlier_files(rt, alloc, earlier, left);
+        let mut talk = String::new(alloc);
+        add(rt, &mut talk, FIVE);
+        add(rt, &mut talk, news.text());
+        Case {
             earlier,
             files,
             news,
             talk,
-        })
+        }
     }
 
-    fn form_of(&self, alloc: Global, rows: &str) -> Result<Option<Form>, Fail> {
-        Form::of(alloc, self.earlier, self.news, rows)
+    fn form_of(&self, rt: &impl Abort, alloc: Global, rows: &str) -> Option<Form> {
+        Form::of(rt, alloc, self.earlier, self.news, rows)
     }
 }
 
@@ -184,126 +193,143 @@ struct Runs {
 }
 
 /// The files of an earlier store, of which the log stops at one call and the other file at another.
-fn fused(alloc: Global, case: &Case, log: u64, db: u64) -> Result<Files<Fuse<Memory>>, Fail> {
-    Ok(Files {
-        log: Fuse::new(copied(alloc, &case.files.log)?, log),
-        db: Fuse::new(copied(alloc, &case.files.db)?, db),
-    })
+fn fused(
+    rt: &impl Abort,
+    alloc: Global,
+    files: &Files<Memory>,
+    log: u64,
+    db: u64,
+) -> Files<Fuse<Memory>> {
+    Files {
+        log: Fuse::new(copied(rt, alloc, &files.log), log),
+        db: Fuse::new(copied(rt, alloc, &files.db), db),
+    }
 }
 
 /// The talk over such files; then again over what a crash leaves.
-fn stopped(alloc: Global, case: &Case, log: u64, db: u64) -> Result<Runs, Fail> {
+fn stopped(rt: &(impl Abort + Eprint), alloc: Global, case: &Case, log: u64, db: u64) -> Runs {
     let talk = case.talk.as_str();
-    let files = fused(alloc, case, log, db)?;
+    let files = fused(rt, alloc, &case.files, log, db);
     let (first, closed, mut files) = served_on(alloc, files, talk);
-    let first = first?;
+    let first = made(rt, first);
     files.log.crash();
     files.db.crash();
     let mut shown = Shown::new(alloc);
-    let _files = shown_on(alloc, files, talk, &mut shown)?;
+    let _files = shown_on(rt, alloc, files, talk, &mut shown);
     let is_whole = closed && first.as_str() == talk;
-    Ok(Runs {
+    Runs {
         first,
         is_whole,
         shown,
-    })
+    }
 }
 
 /// No other cause is told than that the store failed, and the answers before are right.
 fn first_is_right(rt: &impl Abort, case: &Case, first: &str) {
-    assert!(rt;
-        first.starts_with("> ") || first.is_empty() || first == "StoreFailed",
-        "{first}"
-    );
-    assert!(rt; is_front_of(first, case.talk.as_str()), "{first}");
-    assert!(rt; ends_by_failures(first), "{first}");
+    let is_known = first.starts_with("> ") || first.is_empty() || first == "StoreFailed";
+    holds(rt, is_known, first);
+    holds(rt, is_front_of(first, case.talk.as_str()), first);
+    holds(rt, ends_by_failures(first), first);
 }
 
 /// The form that a stop left. A store that was opened is of version 2, and one that gave each reply has what was new; it is
 /// opened again with the same answers, and then has it too.
-fn form_left(rt: &impl Abort, alloc: Global, case: &Case, runs: &Runs) -> Result<Form, Fail> {
+fn form_left(rt: &impl Abort, alloc: Global, case: &Case, runs: &Runs) -> Form {
     let first = runs.first.as_str();
     first_is_right(rt, case, first);
     let shown = &runs.shown;
-    assert_eq!(rt; shown.told.as_str(), case.talk.as_str());
-    let form = case.form_of(alloc, shown.before.as_str())?;
-    let form = form.ok_or("a form between")?;
-    let after = case.form_of(alloc, shown.after.as_str())?;
-    assert_eq!(rt; after, Some(Form::Entered));
-    let opened = first.starts_with("> ");
-    let replied = first == case.talk.as_str();
-    assert!(rt; !opened || form >= Form::Migrated, "{first}");
-    assert!(rt; !replied || form == Form::Entered, "{first}");
-    Ok(form)
+    same(rt, shown.told.as_str(), case.talk.as_str(), "after a crash");
+    let after = case.form_of(rt, alloc, shown.after.as_str());
+    holds(rt, after == Some(Form::Entered), shown.after.as_str());
+    let form = case.form_of(rt, alloc, shown.before.as_str());
+    let form = form.expect(rt, "a form between");
+    let is_opened = first.starts_with("> ");
+    holds(rt, !is_opened || form >= Form::Migrated, first);
+    let has_replied = first == case.talk.as_str();
+    holds(rt, !has_replied || form == Form::Entered, first);
+    form
 }
 
 /// One file stops at each of its calls in turn, until a run comes to its end. Whether a stop left version 2 is told; the
 /// first one leaves the store as it was.
 fn stops_at_each_call(
-    rt: &impl Abort,
+    rt: &(impl Abort + Eprint),
     alloc: Global,
     case: &Case,
     on_log: bool,
-) -> Result<bool, Fail> {
+) -> bool {
     let mut left_migrated = false;
     for k in 0..10_000 {
         let (log, db) = if on_log { (k, u64::MAX) } else { (u64::MAX, k) };
-        let runs = stopped(alloc, case, log, db)?;
-        let form = form_left(rt, alloc, case, &runs)?;
-        assert!(rt; k > 0 || form == Form::Earlier, "{form:?}");
+        let runs = stopped(rt, alloc, case, log, db);
+        let form = form_left(rt, alloc, case, &runs);
+        holds(
+            rt,
+            k > 0 || form == Form::Earlier,
+            "the first stop left another form",
+        );
         if runs.is_whole {
-            return Ok(left_migrated);
+            return left_migrated;
         }
         left_migrated |= form >= Form::Migrated;
     }
-    Err("each run was stopped".into())
+    panic!(rt; "each run was stopped")
 }
 
-fn stops_of_both(rt: &impl Abort, alloc: Global, case: &Case) -> Result<(), Fail> {
-    let on_log = stops_at_each_call(rt, alloc, case, true)?;
-    let on_file = stops_at_each_call(rt, alloc, case, false)?;
-    assert!(rt; on_log || on_file, "no stop left version 2");
-    Ok(())
-}
-
-/// The five requests again, of a store that was left so.
-fn opened_again(rt: &impl Abort, alloc: Global, earlier: Earlier, left: Left) -> Result<(), Fail> {
-    let case = Case::new(alloc, earlier, left, News::Nothing)?;
-    stops_of_both(rt, alloc, &case)
+/// An earlier store that was left so stops at each call of each file, while its five requests and what is new are sent.
+fn stops(rt: &(impl Abort + Eprint), alloc: Global, earlier: Earlier, left: Left, news: News) {
+    let case = Case::new(rt, alloc, earlier, left, news);
+    let on_log = stops_at_each_call(rt, alloc, &case, true);
+    let on_file = stops_at_each_call(rt, alloc, &case, false);
+    holds(rt, on_log || on_file, "no stop left version 2");
 }
 
 #[test]
-fn a_store_of_seven_tables_stops(rt: HostRuntime) -> Result<(), Fail> {
-    opened_again(&rt, rt.alloc(), Earlier::Seven, Left::AtRest)
+fn a_store_of_seven_tables_stops(rt: HostRuntime) {
+    stops(&rt, rt.alloc(), Earlier::Seven, Left::AtRest, News::Nothing);
 }
 
 #[test]
-fn a_store_of_seven_tables_in_its_log_stops(rt: HostRuntime) -> Result<(), Fail> {
-    opened_again(&rt, rt.alloc(), Earlier::Seven, Left::InLog)
+fn a_store_of_seven_tables_in_its_log_stops(rt: HostRuntime) {
+    stops(&rt, rt.alloc(), Earlier::Seven, Left::InLog, News::Nothing);
 }
 
 #[test]
-fn a_store_of_eight_tables_stops(rt: HostRuntime) -> Result<(), Fail> {
-    opened_again(&rt, rt.alloc(), Earlier::Extended, Left::AtRest)
+fn a_store_of_eight_tables_stops(rt: HostRuntime) {
+    stops(
+        &rt,
+        rt.alloc(),
+        Earlier::Extended,
+        Left::AtRest,
+        News::Nothing,
+    );
 }
 
 #[test]
-fn a_store_of_eight_tables_in_its_log_stops(rt: HostRuntime) -> Result<(), Fail> {
-    opened_again(&rt, rt.alloc(), Earlier::Extended, Left::InLog)
+fn a_store_of_eight_tables_in_its_log_stops(rt: HostRuntime) {
+    stops(
+        &rt,
+        rt.alloc(),
+        Earlier::Extended,
+        Left::InLog,
+        News::Nothing,
+    );
 }
 
 /// The five requests again, and then an extension is entered.
 #[test]
-fn a_store_stops_as_an_extension_is_entered(rt: HostRuntime) -> Result<(), Fail> {
-    let alloc = rt.alloc();
-    let case = Case::new(alloc, Earlier::Eight, Left::AtRest, News::Extension)?;
-    stops_of_both(&rt, alloc, &case)
+fn a_store_stops_as_an_extension_is_entered(rt: HostRuntime) {
+    stops(
+        &rt,
+        rt.alloc(),
+        Earlier::Eight,
+        Left::AtRest,
+        News::Extension,
+    );
 }
 
 /// The five requests again, and then a second desk uses one of their numbers.
 #[test]
-fn a_store_stops_as_a_second_desk_asks(rt: HostRuntime) -> Result<(), Fail> {
-    let alloc = rt.alloc();
-    let case = Case::new(alloc, Earlier::Seven, Left::AtRest, News::Desk)?;
-    stops_of_both(&rt, alloc, &case)
+fn a_store_stops_as_a_second_desk_asks(rt: HostRuntime) {
+    stops(&rt, rt.alloc(), Earlier::Seven, Left::AtRest, News::Desk);
 }

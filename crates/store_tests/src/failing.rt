@@ -1,7 +1,7 @@
 //! Devices that fail under a connection, an import and an export, over any keeper: each read and each write fails in turn,
 //! or is interrupted, or moves one byte.
 
-use crate::comparing::compare;
+use crate::comparing::{add, compare, made, parts, same};
 use counter_talks::devices::{Narrow, Source};
 use counter_talks::talk::{bytes_of, json, message};
 use ee_counter::{Ended, export_inventory, import_inventory, import_rates, serve};
@@ -9,9 +9,8 @@ use ee_desk_acts::{Desk, Number};
 use ee_desk_texts::reply_text;
 use ee_keeper::Keeper;
 use std::alloc::Global;
-use std::io::{ErrorKind, Read};
+use std::io::{Eprint, ErrorKind};
 use std::process::Abort;
-use std::test::Fail;
 
 /// How a call of a device fails.
 const KINDS: [ErrorKind; 2] = [ErrorKind::Other, ErrorKind::Interrupted];
@@ -45,33 +44,46 @@ bonds => serial,denom,issued,owner,coowner|L1EE,50,2010-11,7,|K-0002-EE,75,10/20
 /// The bonds of an owner after them.
 const EXPORT: &str = "serial,denom,issued,owner,coowner\nK2EE,75,2010-10,7,8\nL1EE,50,2010-11,7,\n";
 
+/// A message that has no route, and the answer to it.
+const LOST: &str = "GET /a HTTP/1.1\r\n\r\n";
+
+const NO_ROUTE: &str = "{\"code\":66,\"fault\":\"NoRoute\"}";
+
 /// How many answers were written whole, why it ended, and what was written.
-fn ended_told(alloc: Global, ended: Ended, text: &[u8]) -> Result<String, Fail> {
+fn ended_told(rt: &impl Abort, alloc: Global, ended: Ended, text: &[u8]) -> String {
     let Ended { messages, why, .. } = ended;
-    Ok(format!(in alloc; "{messages} {why:?}\n{}", str::from_utf8(text)?)?)
+    let text = str::from_utf8(text).expect(rt, "what was written");
+    format!(in alloc; "{messages} {why:?}\n{text}").expect(rt, text)
 }
 
-/// What is told of serving a source.
-fn told_of<K: Keeper>(alloc: Global, keeper: &mut K, reader: &mut Source) -> Result<String, Fail> {
+/// What is told of serving a source is this; `case` tells what the source does.
+fn tells<K: Keeper>(
+    rt: &impl Abort,
+    alloc: Global,
+    keeper: &mut K,
+    reader: &mut Source,
+    wanted: &str,
+    case: &str,
+) {
     let mut text = Vec::new(alloc);
     let ended = serve(alloc, keeper, reader, &mut text);
-    ended_told(alloc, ended, &text)
+    let told = ended_told(rt, alloc, ended, &text);
+    same(rt, told.as_str(), wanted, case);
 }
 
 /// Each read up to the last byte of a message fails in turn: nothing is answered, and its number stays free.
 fn no_message_comes_whole<K: Keeper>(
-    rt: &impl Abort,
+    rt: &(impl Abort + Eprint),
     alloc: Global,
     keeper: &mut K,
     kind: ErrorKind,
-) -> Result<(), Fail> {
-    let stream = message(alloc, CUT)?;
+) {
+    let stream = made(rt, message(alloc, CUT));
     for fails in 1..=stream.len() {
         let mut reader = Source::failing(stream.as_bytes(), fails, kind);
-        let told = told_of(alloc, keeper, &mut reader)?;
-        assert_eq!(rt; told.as_str(), "0 ReadFailed\n", "read {fails}");
+        let case = "a read of a message fails";
+        tells(rt, alloc, keeper, &mut reader, "0 ReadFailed\n", case);
     }
-    Ok(())
 }
 
 /// The two messages, the length of the first, and the answers.
@@ -84,23 +96,24 @@ struct Talk {
 }
 
 impl Talk {
-    fn new(alloc: Global) -> Result<Talk, Fail> {
-        let mut stream = message(alloc, FIRST)?;
+    fn new(rt: &(impl Abort + Eprint), alloc: Global) -> Talk {
+        let mut stream = made(rt, message(alloc, FIRST));
         let first = stream.len();
-        stream.push_str(message(alloc, SECOND)?.as_str())?;
-        let added = json(alloc, "200 OK", "", ADDED)?;
-        let row = json(alloc, "200 OK", "", ROW)?;
-        let both = format!(in alloc; "{added}{row}")?;
-        Ok(Talk {
+        let second = made(rt, message(alloc, SECOND));
+        add(rt, &mut stream, second.as_str());
+        let added = made(rt, json(alloc, "200 OK", "", ADDED));
+        let row = made(rt, json(alloc, "200 OK", "", ROW));
+        let both = format!(in alloc; "{added}{row}").expect(rt, ROW);
+        Talk {
             stream,
             first,
             added,
             both,
-        })
+        }
     }
 
     /// What is told where reading failed after so many bytes.
-    fn read(&self, alloc: Global, before: usize) -> Result<String, Fail> {
+    fn read(&self, rt: &impl Abort, alloc: Global, before: usize) -> String {
         let (messages, text) = if before < self.first {
             (0, "")
         } else if before < self.stream.len() {
@@ -108,19 +121,20 @@ impl Talk {
         } else {
             (2, self.both.as_str())
         };
-        Ok(format!(in alloc; "{messages} ReadFailed\n{text}")?)
+        format!(in alloc; "{messages} ReadFailed\n{text}").expect(rt, text)
     }
 
     /// What is told where so many bytes were written.
-    fn written(&self, alloc: Global, room: usize) -> Result<String, Fail> {
+    fn written(&self, rt: &impl Abort, alloc: Global, room: usize) -> String {
         let messages = usize::from(room >= self.added.len());
-        let front = self.both.as_str().get(..room).ok_or("front")?;
-        Ok(format!(in alloc; "{messages} WriteFailed\n{front}")?)
+        let both = self.both.as_str();
+        let front = both.get(..room).expect(rt, "a front of the answers");
+        format!(in alloc; "{messages} WriteFailed\n{front}").expect(rt, front)
     }
 
     /// What is told of the whole.
-    fn whole(&self, alloc: Global) -> Result<String, Fail> {
-        Ok(format!(in alloc; "2 Closed\n{}", self.both)?)
+    fn whole(&self, rt: &impl Abort, alloc: Global) -> String {
+        format!(in alloc; "2 Closed\n{}", self.both).expect(rt, "the answers")
     }
 }
 
@@ -131,33 +145,43 @@ fn reads_fail<K: Keeper>(
     keeper: &mut K,
     talk: &Talk,
     kind: ErrorKind,
-) -> Result<(), Fail> {
+) {
     for before in 0..=talk.stream.len() {
         let fails = before.saturating_add(1);
         let mut reader = Source::failing(talk.stream.as_bytes(), fails, kind);
-        let told = told_of(alloc, keeper, &mut reader)?;
-        assert_eq!(rt; told.as_str(), talk.read(alloc, before)?.as_str());
+        let wanted = talk.read(rt, alloc, before);
+        let case = "a read of two messages fails";
+        tells(rt, alloc, keeper, &mut reader, wanted.as_str(), case);
     }
-    Ok(())
 }
 
 /// The stream comes in two pieces, cut after each byte in turn, and then a byte a read: the answers are whole.
-fn reads_are_cut<K: Keeper>(
+fn reads_are_cut<K: Keeper>(rt: &impl Abort, alloc: Global, keeper: &mut K, talk: &Talk) {
+    let whole = talk.whole(rt, alloc);
+    let wanted = whole.as_str();
+    let bytes = talk.stream.as_bytes();
+    for first in 1..=bytes.len() {
+        let mut reader = Source::of(bytes, first, 4_096);
+        tells(rt, alloc, keeper, &mut reader, wanted, "two pieces");
+    }
+    let mut reader = Source::of(bytes, 1, 1);
+    tells(rt, alloc, keeper, &mut reader, wanted, "a byte a read");
+}
+
+/// The writer fails after so many bytes, which it takes one at a time: what it took is a front of the answers.
+fn a_write_fails<K: Keeper>(
     rt: &impl Abort,
     alloc: Global,
     keeper: &mut K,
     talk: &Talk,
-) -> Result<(), Fail> {
-    let whole = talk.whole(alloc)?;
-    let bytes = talk.stream.as_bytes();
-    for first in 1..=bytes.len() {
-        let mut reader = Source::of(bytes, first, 4_096);
-        let told = told_of(alloc, keeper, &mut reader)?;
-        assert_eq!(rt; told.as_str(), whole.as_str(), "cut after {first}");
-    }
-    let told = told_of(alloc, keeper, &mut Source::of(bytes, 1, 1))?;
-    assert_eq!(rt; told.as_str(), whole.as_str());
-    Ok(())
+    room: usize,
+    kind: ErrorKind,
+) {
+    let mut writer = Narrow::failing(alloc, 1, room, kind);
+    let ended = serve(alloc, keeper, &mut talk.stream.as_bytes(), &mut writer);
+    let told = ended_told(rt, alloc, ended, &writer.text);
+    let wanted = talk.written(rt, alloc, room);
+    same(rt, told.as_str(), wanted.as_str(), "a write fails");
 }
 
 /// The writer fails after each byte in turn, which it takes one at a time: what it took is a front of the answers. The
@@ -168,139 +192,170 @@ fn writes_fail<K: Keeper>(
     keeper: &mut K,
     talk: &Talk,
     kind: ErrorKind,
-) -> Result<(), Fail> {
-    let whole = talk.whole(alloc)?;
-    let bytes = talk.stream.as_bytes();
+) {
+    let whole = talk.whole(rt, alloc);
     for room in 0..talk.both.len() {
-        let mut writer = Narrow::failing(alloc, 1, room, kind);
-        let ended = serve(alloc, keeper, &mut talk.stream.as_bytes(), &mut writer);
-        let told = ended_told(alloc, ended, &writer.text)?;
-        assert_eq!(rt; told.as_str(), talk.written(alloc, room)?.as_str());
-        let told = told_of(alloc, keeper, &mut Source::of(bytes, 4_096, 4_096))?;
-        assert_eq!(rt; told.as_str(), whole.as_str(), "after {room}");
+        a_write_fails(rt, alloc, keeper, talk, room, kind);
+        let mut reader = Source::of(talk.stream.as_bytes(), 4_096, 4_096);
+        let case = "the repeat after a write that failed";
+        tells(rt, alloc, keeper, &mut reader, whole.as_str(), case);
     }
-    Ok(())
 }
 
 /// What is told of a file.
-fn imported<K: Keeper, R: Read>(
+fn imported<K: Keeper>(
+    rt: &impl Abort,
     alloc: Global,
     keeper: &mut K,
     is_rates: bool,
-    reader: &mut R,
-) -> Result<String, Fail> {
-    let number = Number::new(if is_rates { 10 } else { 11 }).ok_or("number")?;
+    reader: &mut Source,
+) -> String {
+    let number = Number::new(if is_rates { 10 } else { 11 }).expect(rt, "a number");
     let reply = if is_rates {
         import_rates(alloc, keeper, Desk::first(), number, reader)
     } else {
         import_inventory(alloc, keeper, Desk::first(), number, reader)
     };
     match reply {
-        Ok(reply) => Ok(reply_text(alloc, &reply)?),
-        Err(fault) => Ok(fault.to_string(alloc)?),
+        Ok(reply) => reply_text(alloc, &reply).expect(rt, "the text of a reply"),
+        Err(fault) => fault.to_string(alloc).expect(rt, "the text of a fault"),
     }
+}
+
+/// Each read of a file fails in turn, the one of its end too: nothing is entered.
+fn no_file_comes_whole<K: Keeper>(
+    rt: &impl Abort,
+    alloc: Global,
+    keeper: &mut K,
+    is_rates: bool,
+    file: &[u8],
+    kind: ErrorKind,
+) {
+    for fails in 1..=file.len().saturating_add(1) {
+        let mut reader = Source::failing(file, fails, kind);
+        let told = imported(rt, alloc, keeper, is_rates, &mut reader);
+        same(
+            rt,
+            told.as_str(),
+            "file: row 1 code 73",
+            "a read of a file fails",
+        );
+    }
+}
+
+/// A file comes whole, a byte a read: this is the reply to it.
+fn a_file_comes_whole<K: Keeper>(
+    rt: &impl Abort,
+    alloc: Global,
+    keeper: &mut K,
+    is_rates: bool,
+    file: &[u8],
+    reply: &str,
+) {
+    let mut reader = Source::of(file, 1, 1);
+    let told = imported(rt, alloc, keeper, is_rates, &mut reader);
+    same(rt, told.as_str(), reply, "a file a byte a read");
 }
 
 /// Each read of a file fails in turn, the one of its end too, and nothing is entered; then it comes whole, a byte a read,
 /// and so once more.
 fn imports_fail<K: Keeper>(
-    rt: &impl Abort,
+    rt: &(impl Abort + Eprint),
     alloc: Global,
     keeper: &mut K,
     row: &str,
     kind: ErrorKind,
-) -> Result<(), Fail> {
-    let (name, row) = row.split_once(" => ").ok_or("file")?;
-    let (file, reply) = row.split_once(" => ").ok_or("reply")?;
+) {
+    let (name, row) = parts(rt, row);
+    let (file, reply) = parts(rt, row);
     let is_rates = name == "rates";
-    let file = bytes_of(alloc, file, "\n")?;
-    let bytes = file.as_slice();
-    for fails in 1..=bytes.len().saturating_add(1) {
-        let mut reader = Source::failing(bytes, fails, kind);
-        let told = imported(alloc, keeper, is_rates, &mut reader)?;
-        assert_eq!(rt; told.as_str(), "file: row 1 code 73", "read {fails}");
-    }
-    for _ in 0..2 {
-        let told = imported(alloc, keeper, is_rates, &mut Source::of(bytes, 1, 1))?;
-        assert_eq!(rt; told.as_str(), reply);
-    }
-    Ok(())
+    let bytes = made(rt, bytes_of(alloc, file, "\n"));
+    let file = bytes.as_slice();
+    no_file_comes_whole(rt, alloc, keeper, is_rates, file, kind);
+    a_file_comes_whole(rt, alloc, keeper, is_rates, file, reply);
+    a_file_comes_whole(rt, alloc, keeper, is_rates, file, reply);
 }
 
-/// The writer of an export fails after each byte in turn: what it took is a front of the file.
-fn exports_fail<K: Keeper>(
+/// An export to a writer that fails after so many bytes: what it took is a front of the file.
+fn exports_a_front<K: Keeper>(
     rt: &impl Abort,
     alloc: Global,
     keeper: &mut K,
+    room: usize,
     kind: ErrorKind,
-) -> Result<(), Fail> {
+) {
+    let mut writer = Narrow::failing(alloc, 1, room, kind);
+    let customer = "7".parse().expect(rt, "a customer");
+    let rows = export_inventory(alloc, keeper, customer, &mut writer);
+    let rows = format!(in alloc; "{rows:?}").expect(rt, "the rows");
+    let end = if room < EXPORT.len() {
+        "Err(WriteFailed)"
+    } else {
+        "Ok(2)"
+    };
+    let front = EXPORT.get(..room).expect(rt, "a front of the file");
+    let text = str::from_utf8(&writer.text).expect(rt, "the text of a file");
+    same(rt, rows.as_str(), end, front);
+    same(rt, text, front, "what the writer of an export took");
+}
+
+/// The writer of an export fails after each byte in turn: what it took is a front of the file.
+fn exports_fail<K: Keeper>(rt: &impl Abort, alloc: Global, keeper: &mut K, kind: ErrorKind) {
     for room in 0..=EXPORT.len() {
-        let mut writer = Narrow::failing(alloc, 1, room, kind);
-        let rows = export_inventory(alloc, keeper, "7".parse()?, &mut writer);
-        let told = format!(in alloc; "{rows:?}\n{}", str::from_utf8(&writer.text)?)?;
-        let end = if room < EXPORT.len() {
-            "Err(WriteFailed)"
-        } else {
-            "Ok(2)"
-        };
-        let wanted = format!(in alloc; "{end}\n{}", EXPORT.get(..room).ok_or("front")?)?;
-        assert_eq!(rt; told.as_str(), wanted.as_str());
+        exports_a_front(rt, alloc, keeper, room, kind);
     }
-    Ok(())
 }
 
 /// All of these over one keeper, whose store serves to the end.
-pub fn devices_fail<K: Keeper>(rt: &impl Abort, alloc: Global, keeper: &mut K) -> Result<(), Fail> {
-    let talk = Talk::new(alloc)?;
+pub fn devices_fail<K: Keeper>(rt: &(impl Abort + Eprint), alloc: Global, keeper: &mut K) {
+    let talk = Talk::new(rt, alloc);
     for kind in KINDS {
-        no_message_comes_whole(rt, alloc, keeper, kind)?;
+        no_message_comes_whole(rt, alloc, keeper, kind);
     }
-    compare(rt, alloc, keeper, FREE)?;
+    compare(rt, alloc, keeper, FREE);
     for kind in KINDS {
-        reads_fail(rt, alloc, keeper, &talk, kind)?;
-        writes_fail(rt, alloc, keeper, &talk, kind)?;
+        reads_fail(rt, alloc, keeper, &talk, kind);
+        writes_fail(rt, alloc, keeper, &talk, kind);
     }
-    reads_are_cut(rt, alloc, keeper, &talk)?;
+    reads_are_cut(rt, alloc, keeper, &talk);
     for row in FILES.lines() {
         for kind in KINDS {
-            imports_fail(rt, alloc, keeper, row, kind)?;
+            imports_fail(rt, alloc, keeper, row, kind);
         }
     }
     for kind in KINDS {
-        exports_fail(rt, alloc, keeper, kind)?;
+        exports_fail(rt, alloc, keeper, kind);
     }
-    Ok(())
+}
+
+/// The answer to a message that has no route.
+fn no_route(rt: &(impl Abort + Eprint), alloc: Global, headers: &str) -> String {
+    made(rt, json(alloc, "404 Not Found", headers, NO_ROUTE))
+}
+
+/// So many messages that have no route come on one connection: it ends so, with these answers.
+fn many_come<K: Keeper>(
+    rt: &impl Abort,
+    alloc: Global,
+    keeper: &mut K,
+    messages: usize,
+    end: &str,
+    answers: &str,
+) {
+    let stream = LOST.repeat(alloc, messages).expect(rt, end);
+    let wanted = format!(in alloc; "{end}\n{answers}").expect(rt, end);
+    let mut reader = Source::of(stream.as_bytes(), 4_096, 4_096);
+    tells(rt, alloc, keeper, &mut reader, wanted.as_str(), end);
 }
 
 /// A connection has a thousand messages: the thousandth answer says that it ends, also where the input ends there; what
 /// comes after isn't answered.
-pub fn a_thousand_messages<K: Keeper>(
-    rt: &impl Abort,
-    alloc: Global,
-    keeper: &mut K,
-) -> Result<(), Fail> {
-    let fault = "{\"code\":66,\"fault\":\"NoRoute\"}";
-    let mut stream = String::new(alloc);
-    let mut wanted = String::new(alloc);
-    for _ in 0..999 {
-        stream.push_str("GET /a HTTP/1.1\r\n\r\n")?;
-        wanted.push_str(json(alloc, "404 Not Found", "", fault)?.as_str())?;
-    }
-    for end in ["999 Closed", "1000 Limit", "1000 Limit"] {
-        let told = told_of(
-            alloc,
-            keeper,
-            &mut Source::of(stream.as_bytes(), 4_096, 4_096),
-        )?;
-        assert_eq!(rt;
-            told.as_str(),
-            format!(in alloc; "{end}\n{wanted}")?.as_str()
-        );
-        stream.push_str("GET /a HTTP/1.1\r\n\r\n")?;
-        if end == "999 Closed" {
-            let last = json(alloc, "404 Not Found", "Connection: close\r\n", fault)?;
-            wanted.push_str(last.as_str())?;
-        }
-    }
-    Ok(())
+pub fn a_thousand_messages<K: Keeper>(rt: &(impl Abort + Eprint), alloc: Global, keeper: &mut K) {
+    let answer = no_route(rt, alloc, "");
+    let last = no_route(rt, alloc, "Connection: close\r\n");
+    let mut answers = answer.repeat(alloc, 999).expect(rt, "the answers");
+    many_come(rt, alloc, keeper, 999, "999 Closed", answers.as_str());
+    add(rt, &mut answers, last.as_str());
+    many_come(rt, alloc, keeper, 1_000, "1000 Limit", answers.as_str());
+    many_come(rt, alloc, keeper, 1_001, "1000 Limit", answers.as_str());
 }

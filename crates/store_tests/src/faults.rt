@@ -1,11 +1,12 @@
 //! Calls at fault, bytes that are no message, and streams that end anywhere, by the command `apply`: each
 //! has its answer and its end.
 
+use crate::comparing::{add, made, same};
 use counter_talks::talk::{applied, json, message};
 use ee_keeper::Keeper;
 use std::alloc::Global;
+use std::io::Eprint;
 use std::process::Abort;
-use std::test::Fail;
 
 /// Calls at fault, after each of which the connection goes on; and a body that a query ignores.
 pub const CALLS: &str = r#"> POST /day/open
@@ -130,21 +131,40 @@ const ROW: &str =
 
 const CUT: &str = r#"{"code":68,"fault":"Truncated"}"#;
 
+/// Adds an answer of JSON; `headers` stand after its length.
+fn add_answer(
+    rt: &(impl Abort + Eprint),
+    alloc: Global,
+    text: &mut String,
+    status: &str,
+    headers: &str,
+    body: &str,
+) {
+    let answer = made(rt, json(alloc, status, headers, body));
+    add(rt, text, answer.as_str());
+}
+
+/// Adds a message `METHOD PATH BODY`.
+fn add_message(rt: &(impl Abort + Eprint), alloc: Global, text: &mut String, line: &str) {
+    let message = made(rt, message(alloc, line));
+    add(rt, text, message.as_str());
+}
+
 /// What `apply` tells after so many of the two messages, and after a front of another.
-fn wanted(alloc: Global, messages: usize, is_cut: bool) -> Result<String, Fail> {
-    let end = if is_cut { "Refused" } else { "Done" };
-    let mut text = format!(in alloc; "{end} ")?;
+fn wanted(rt: &(impl Abort + Eprint), alloc: Global, messages: usize, is_cut: bool) -> String {
+    let end = if is_cut { "Refused " } else { "Done " };
+    let mut text = String::from_str(alloc, end).expect(rt, end);
     if messages > 0 {
-        text.push_str(json(alloc, "200 OK", "", ADDED)?.as_str())?;
+        add_answer(rt, alloc, &mut text, "200 OK", "", ADDED);
     }
     if messages > 1 {
-        text.push_str(json(alloc, "200 OK", "", ROW)?.as_str())?;
+        add_answer(rt, alloc, &mut text, "200 OK", "", ROW);
     }
     if is_cut {
-        let cut = json(alloc, "400 Bad Request", "Connection: close\r\n", CUT)?;
-        text.push_str(cut.as_str())?;
+        let status = "400 Bad Request";
+        add_answer(rt, alloc, &mut text, status, "Connection: close\r\n", CUT);
     }
-    Ok(text)
+    text
 }
 
 /// The line of a status.
@@ -158,51 +178,86 @@ fn status_line(status: &str) -> Option<&'static str> {
     }
 }
 
-/// The calls at fault on one connection, each followed by a message that is answered well.
-pub fn calls_in_one_stream<K: Keeper>(
-    rt: &impl Abort,
+/// What `apply` tells of a stream is this.
+fn is_told<K: Keeper>(
+    rt: &(impl Abort + Eprint),
     alloc: Global,
     keeper: &mut K,
-) -> Result<(), Fail> {
-    let good = message(alloc, SECOND)?;
-    let row = json(alloc, "200 OK", "", ROW)?;
+    stream: &str,
+    wanted: &str,
+) {
+    let told = made(rt, applied(alloc, keeper, stream.as_bytes()));
+    same(rt, told.as_str(), wanted, stream);
+}
+
+/// The calls at fault, each followed by a message that is answered well.
+fn calls(rt: &(impl Abort + Eprint), alloc: Global) -> String {
     let mut stream = String::new(alloc);
-    let mut wanted = String::from_str(alloc, "Done ")?;
     for line in CALLS.lines() {
         if let Some(line) = line.strip_prefix("> ") {
-            stream.push_str(message(alloc, line)?.as_str())?;
-            stream.push_str(good.as_str())?;
-        } else {
-            let (status, body) = line.split_once(' ').ok_or("status")?;
-            let status = status_line(status).ok_or("another status")?;
-            wanted.push_str(json(alloc, status, "", body)?.as_str())?;
-            wanted.push_str(row.as_str())?;
+            add_message(rt, alloc, &mut stream, line);
+            add_message(rt, alloc, &mut stream, SECOND);
         }
     }
-    let told = applied(alloc, keeper, stream.as_bytes())?;
-    assert!(rt; told.as_str() == wanted.as_str(), "{told} and not {wanted}");
-    Ok(())
+    stream
+}
+
+/// Adds the answer of a line `STATUS BODY`.
+fn add_told(rt: &(impl Abort + Eprint), alloc: Global, text: &mut String, line: &str) {
+    let (status, body) = line.split_once(' ').expect(rt, line);
+    let status = status_line(status).expect(rt, line);
+    add_answer(rt, alloc, text, status, "", body);
+}
+
+/// What `apply` tells of the calls at fault, each followed by a message that is answered well.
+fn calls_told(rt: &(impl Abort + Eprint), alloc: Global) -> String {
+    let mut wanted = String::from_str(alloc, "Done ").expect(rt, "the end");
+    for line in CALLS.lines() {
+        if !line.starts_with("> ") {
+            add_told(rt, alloc, &mut wanted, line);
+            add_answer(rt, alloc, &mut wanted, "200 OK", "", ROW);
+        }
+    }
+    wanted
+}
+
+/// The calls at fault on one connection, each followed by a message that is answered well.
+pub fn calls_in_one_stream<K: Keeper>(rt: &(impl Abort + Eprint), alloc: Global, keeper: &mut K) {
+    let stream = calls(rt, alloc);
+    let wanted = calls_told(rt, alloc);
+    is_told(rt, alloc, keeper, stream.as_str(), wanted.as_str());
+}
+
+/// Two messages, the first of which has that length, whose stream ends after so many bytes.
+fn ends_at<K: Keeper>(
+    rt: &(impl Abort + Eprint),
+    alloc: Global,
+    keeper: &mut K,
+    stream: &str,
+    first: usize,
+    end: usize,
+) {
+    let is_whole = end == stream.len();
+    let messages = usize::from(end >= first).saturating_add(usize::from(is_whole));
+    let is_cut = end != 0 && end != first && !is_whole;
+    let front = stream.get(..end).expect(rt, "a front of the stream");
+    let wanted = wanted(rt, alloc, messages, is_cut);
+    is_told(rt, alloc, keeper, front, wanted.as_str());
 }
 
 /// Two messages whose stream ends after each byte in turn.
-pub fn ends<K: Keeper>(rt: &impl Abort, alloc: Global, keeper: &mut K) -> Result<(), Fail> {
-    let mut stream = message(alloc, FIRST)?;
+pub fn ends<K: Keeper>(rt: &(impl Abort + Eprint), alloc: Global, keeper: &mut K) {
+    let mut stream = made(rt, message(alloc, FIRST));
     let first = stream.len();
-    stream.push_str(message(alloc, SECOND)?.as_str())?;
+    add_message(rt, alloc, &mut stream, SECOND);
     for end in 0..=stream.len() {
-        let messages = usize::from(end >= first).saturating_add(usize::from(end == stream.len()));
-        let is_cut = end != 0 && end != first && end != stream.len();
-        let wanted = wanted(alloc, messages, is_cut)?;
-        let told = applied(alloc, keeper, &stream.as_bytes()[..end])?;
-        assert!(rt; told.as_str() == wanted.as_str(), "{told} and not {wanted}");
+        ends_at(rt, alloc, keeper, stream.as_str(), first, end);
     }
-    Ok(())
 }
 
 /// The first of the two messages again: its number was taken once, by the whole message.
-pub fn ended<K: Keeper>(rt: &impl Abort, alloc: Global, keeper: &mut K) -> Result<(), Fail> {
-    let wanted = wanted(alloc, 1, false)?;
-    let told = applied(alloc, keeper, message(alloc, FIRST)?.as_bytes())?;
-    assert!(rt; told.as_str() == wanted.as_str(), "{told} and not {wanted}");
-    Ok(())
+pub fn ended<K: Keeper>(rt: &(impl Abort + Eprint), alloc: Global, keeper: &mut K) {
+    let stream = made(rt, message(alloc, FIRST));
+    let wanted = wanted(rt, alloc, 1, false);
+    is_told(rt, alloc, keeper, stream.as_str(), wanted.as_str());
 }

@@ -1,14 +1,14 @@
 //! Bytes at random and a damaged day, by the command `apply`: whatever comes, each answer is whole and has a
 //! status and a body that the formats name.
 
-use crate::comparing::compare;
+use crate::comparing::{compare, holds, made};
 use counter_talks::days::{BEGUN, DAY};
 use counter_talks::talk::{applied, stream};
 use ee_desk_texts::read_reply;
 use ee_keeper::Keeper;
 use std::alloc::Global;
+use std::io::Eprint;
 use std::process::Abort;
-use std::test::Fail;
 
 /// How many streams are sent.
 const STREAMS: u64 = 60;
@@ -55,42 +55,43 @@ fn is_fault(status: &str, body: &str) -> bool {
 }
 
 /// Whether a body is the text of a reply.
-fn is_reply(alloc: Global, body: &str) -> Result<bool, Fail> {
-    Ok(read_reply(alloc, body)?.is_some())
+fn is_reply(rt: &impl Abort, alloc: Global, body: &str) -> bool {
+    read_reply(alloc, body).expect(rt, body).is_some()
 }
 
 /// Whether a body is the text of a reply, a row of a value or a sheet.
-fn is_shown(alloc: Global, body: &str) -> Result<bool, Fail> {
-    if body.starts_with("Serial ") || body.starts_with("{\"denom\":") {
-        return Ok(true);
-    }
-    is_reply(alloc, body)
+fn is_shown(rt: &impl Abort, alloc: Global, body: &str) -> bool {
+    body.starts_with("Serial ") || body.starts_with("{\"denom\":") || is_reply(rt, alloc, body)
+}
+
+/// Whether an answer tells the length of its body.
+fn tells_length(rt: &impl Abort, alloc: Global, answer: &str, length: usize) -> bool {
+    let header = format!(in alloc; "\r\nContent-Length: {length}\r\n").expect(rt, answer);
+    answer.contains(header.as_str())
 }
 
 /// Whether an answer, from its status on, is whole and named.
-fn is_named(alloc: Global, answer: &str) -> Result<bool, Fail> {
-    let (head, body) = answer.split_once("\r\n\r\n").ok_or("head")?;
-    let (status, _) = head.split_once("\r\n").ok_or("status")?;
-    let length = format!(in alloc; "\r\nContent-Length: {}\r\n", body.len())?;
-    if !answer.contains(length.as_str()) {
-        return Ok(false);
+fn is_named(rt: &impl Abort, alloc: Global, answer: &str) -> bool {
+    let (head, body) = answer.split_once("\r\n\r\n").expect(rt, answer);
+    let (status, _) = head.split_once("\r\n").expect(rt, answer);
+    if !tells_length(rt, alloc, answer, body.len()) {
+        return false;
     }
-    if status == "200 OK" || status == "409 Conflict" {
-        return Ok(is_fault(status, body) || is_shown(alloc, body)?);
+    if is_fault(status, body) {
+        return true;
     }
-    Ok(is_fault(status, body))
+    (status == "200 OK" || status == "409 Conflict") && is_shown(rt, alloc, body)
 }
 
 /// Compares what `apply` did with what the formats name: it ended well, and each answer is named.
-fn shows(rt: &impl Abort, alloc: Global, told: &str) -> Result<(), Fail> {
-    let (end, answers) = told.split_once(' ').ok_or("end")?;
-    assert!(rt; end != "Failed", "{told}");
+fn shows(rt: &impl Abort, alloc: Global, told: &str) {
+    let (end, answers) = told.split_once(' ').expect(rt, told);
+    holds(rt, end != "Failed", told);
     let mut parts = answers.split("HTTP/1.1 ");
-    assert!(rt; parts.next() == Some(""), "{told}");
+    holds(rt, parts.next() == Some(""), told);
     for answer in parts {
-        assert!(rt; is_named(alloc, answer)?, "{answer}");
+        holds(rt, is_named(rt, alloc, answer), answer);
     }
-    Ok(())
 }
 
 /// Numbers that look random.
@@ -115,8 +116,8 @@ impl Dice {
 }
 
 /// The stream with up to three bytes changed, and its end cut off at times; at times with all changed.
-fn damaged(alloc: Global, dice: &mut Dice, stream: &[u8]) -> Result<Vec<u8>, Fail> {
-    let mut bytes = Vec::from_slice(alloc, stream)?;
+fn damaged(rt: &impl Abort, alloc: Global, dice: &mut Dice, stream: &[u8]) -> Vec<u8> {
+    let mut bytes = Vec::from_slice(alloc, stream).expect(rt, "a copy of the stream");
     let kind = dice.below(4);
     if kind < 2 {
         bytes.truncate(dice.below(stream.len()));
@@ -133,18 +134,23 @@ fn damaged(alloc: Global, dice: &mut Dice, stream: &[u8]) -> Result<Vec<u8>, Fai
             *byte = dice.byte();
         }
     }
-    Ok(bytes)
+    bytes
+}
+
+/// A stream on a connection of its own.
+fn comes<K: Keeper>(rt: &(impl Abort + Eprint), alloc: Global, keeper: &mut K, stream: &[u8]) {
+    let told = made(rt, applied(alloc, keeper, stream));
+    shows(rt, alloc, told.as_str());
 }
 
 /// A day that has begun, and then the streams, each on a connection of its own.
-pub fn noise<K: Keeper>(rt: &impl Abort, alloc: Global, keeper: &mut K) -> Result<(), Fail> {
-    compare(rt, alloc, keeper, BEGUN)?;
-    let day = stream(alloc, DAY)?;
+pub fn noise<K: Keeper>(rt: &(impl Abort + Eprint), alloc: Global, keeper: &mut K) {
+    compare(rt, alloc, keeper, BEGUN);
+    let day = made(rt, stream(alloc, DAY));
     let mut dice = Dice { state: 1 };
     for _ in 0..STREAMS {
-        let stream = damaged(alloc, &mut dice, day.as_bytes())?;
-        let told = applied(alloc, keeper, stream.as_slice())?;
-        shows(rt, alloc, told.as_str())?;
+        let stream = damaged(rt, alloc, &mut dice, day.as_bytes());
+        comes(rt, alloc, keeper, stream.as_slice());
     }
-    compare(rt, alloc, keeper, BEGUN)
+    compare(rt, alloc, keeper, BEGUN);
 }

@@ -1,7 +1,7 @@
 //! Days over a keeper in memory and over tables, which answer alike.
 
-use crate::answering::has_rows;
-use crate::comparing::{compare, compare_by};
+use crate::answering::{has_rows, in_memory};
+use crate::comparing::{compare, compare_by, made, same};
 use crate::failing::{a_thousand_messages, devices_fail};
 use crate::faults::{CALLS, HEADS, STREAMS, calls_in_one_stream, ended, ends};
 use crate::noise::noise;
@@ -16,11 +16,12 @@ use ee_counter::run;
 use ee_desk_acts::{Reply, Request, Unserved};
 use ee_desk_texts::reply_text;
 use ee_keeper::{Keeper, ListKeeper};
-use ee_store::{NotAdopted, OpenFault, SqlKeeper};
+use ee_store::SqlKeeper;
 use ee_wire::{Call, decode};
 use sqlite::{Connection, MemStore};
 use std::alloc::Global;
 use std::fmt::Write;
+use std::io::Eprint;
 use std::process::Abort;
 use std::test::Fail;
 use store_talks::five::rows_told;
@@ -90,29 +91,38 @@ const FAULTS: [Part; 8] = [
 ];
 
 /// A ticket for each of 500 bonds of a letter.
-fn tickets(alloc: Global, letter: char, first: u64) -> Result<String, Fail> {
+fn tickets(rt: &impl Abort, alloc: Global, letter: char, first: u64) -> String {
     let mut talk = String::new(alloc);
     for bond in 1..501 {
         let number = first.saturating_add(bond);
         write!(
             talk,
             "> POST /redeem {{\"number\":{number},\"day\":\"2012-02-06\",\"payee\":7,\"serials\":[\"{letter}{bond}EE\"]}}\n"
-        )?;
+        )
+        .expect(rt, "memory for a redemption");
     }
-    Ok(talk)
+    talk
 }
 
-fn redeem<K: Keeper>(alloc: Global, keeper: &mut K, by: By, talk: &str) -> Result<(), Fail> {
-    let _answers = replay_by(alloc, keeper, by, talk)?;
-    Ok(())
+/// Redeems 500 bonds of a letter, under numbers from a first one on.
+fn redeem<K: Keeper>(
+    rt: &(impl Abort + Eprint),
+    alloc: Global,
+    keeper: &mut K,
+    by: By,
+    letter: char,
+    first: u64,
+) {
+    let talk = tickets(rt, alloc, letter, first);
+    let _answers = made(rt, replay_by(alloc, keeper, by, talk.as_str()));
 }
 
 /// A day with a thousand tickets.
-fn full_day<K: Keeper>(rt: &impl Abort, alloc: Global, keeper: &mut K, by: By) -> Result<(), Fail> {
-    compare_by(rt, alloc, keeper, by, MOST)?;
-    redeem(alloc, keeper, by, tickets(alloc, 'A', 1_000)?.as_str())?;
-    redeem(alloc, keeper, by, tickets(alloc, 'B', 2_000)?.as_str())?;
-    compare_by(rt, alloc, keeper, by, FULL)
+fn full_day<K: Keeper>(rt: &(impl Abort + Eprint), alloc: Global, keeper: &mut K, by: By) {
+    compare_by(rt, alloc, keeper, by, MOST);
+    redeem(rt, alloc, keeper, by, 'A', 1_000);
+    redeem(rt, alloc, keeper, by, 'B', 2_000);
+    compare_by(rt, alloc, keeper, by, FULL);
 }
 
 /// The request of a line `PATH BODY`.
@@ -125,31 +135,33 @@ fn request(alloc: Global, line: &str) -> Result<Request, Fail> {
 }
 
 /// The requests of a transcript.
-pub fn requests(alloc: Global, transcript: &str) -> Result<Vec<Request>, Fail> {
+pub fn requests(rt: &(impl Abort + Eprint), alloc: Global, transcript: &str) -> Vec<Request> {
     let mut requests = Vec::new(alloc);
     for line in transcript.lines() {
         if let Some(line) = line.strip_prefix("> POST ") {
-            requests.push(request(alloc, line)?)?;
+            let request = made(rt, request(alloc, line));
+            requests.push(request).expect(rt, "memory for a request");
         }
     }
-    Ok(requests)
+    requests
+}
+
+/// Adds a reply to a text.
+fn add_reply(rt: &impl Abort, text: &mut String, line: &str) {
+    let (_, reply) = line.split_once(' ').expect(rt, "status");
+    writeln!(text, "{reply}").expect(rt, "memory for a reply");
 }
 
 /// The texts of the answers to them, each on a line.
-fn replies(alloc: Global, transcript: &str) -> Result<String, Fail> {
+fn replies(rt: &impl Abort, alloc: Global, transcript: &str) -> String {
     let mut text = String::new(alloc);
     let mut lines = transcript.lines();
     while let Some(line) = lines.next() {
         if line.starts_with("> POST ") {
-            let (_, reply) = lines
-                .next()
-                .ok_or("reply")?
-                .split_once(' ')
-                .ok_or("status")?;
-            write!(text, "{reply}\n")?;
+            add_reply(rt, &mut text, lines.next().expect(rt, "reply"));
         }
     }
-    Ok(text)
+    text
 }
 
 fn reply_told(alloc: Global, answer: &Result<Reply, Unserved>) -> Result<String, Fail> {
@@ -159,193 +171,181 @@ fn reply_told(alloc: Global, answer: &Result<Reply, Unserved>) -> Result<String,
     }
 }
 
-/// Runs the requests of a transcript as one list, and compares the replies.
-fn runs<K: Keeper>(
-    rt: &impl Abort,
+/// The texts of answers, each on a line.
+fn answers_told(
+    rt: &(impl Abort + Eprint),
     alloc: Global,
-    keeper: &mut K,
-    transcript: &str,
-) -> Result<(), Fail> {
-    let requests = requests(alloc, transcript)?;
+    answers: &[Result<Reply, Unserved>],
+) -> String {
     let mut text = String::new(alloc);
-    for answer in &run(alloc, keeper, requests.as_slice())? {
-        let reply = reply_told(alloc, answer)?;
-        write!(text, "{reply}\n")?;
+    for answer in answers {
+        let reply = made(rt, reply_told(alloc, answer));
+        writeln!(text, "{reply}").expect(rt, "memory for an answer");
     }
-    assert_eq!(rt; text.as_str(), replies(alloc, transcript)?.as_str());
-    Ok(())
+    text
+}
+
+/// Runs the requests of a transcript as one list, and compares the replies.
+fn runs<K: Keeper>(rt: &(impl Abort + Eprint), alloc: Global, keeper: &mut K, transcript: &str) {
+    let requests = requests(rt, alloc, transcript);
+    let answers = run(alloc, keeper, requests.as_slice()).expect(rt, "memory for the answers");
+    let told = answers_told(rt, alloc, answers.as_slice());
+    let wanted = replies(rt, alloc, transcript);
+    same(rt, told.as_str(), wanted.as_str(), "one list");
 }
 
 /// A part over a new keeper.
-fn part_over<K: Keeper>(
-    rt: &impl Abort,
-    alloc: Global,
-    keeper: &mut K,
-    part: Part,
-) -> Result<(), Fail> {
+fn part_over<K: Keeper>(rt: &(impl Abort + Eprint), alloc: Global, keeper: &mut K, part: Part) {
     match part {
         Part::Talks(first, then) => {
-            compare(rt, alloc, keeper, first)?;
-            compare(rt, alloc, keeper, then)
+            compare(rt, alloc, keeper, first);
+            compare(rt, alloc, keeper, then);
         }
         Part::TalksBy(by, first, then) => {
-            compare_by(rt, alloc, keeper, by, first)?;
-            compare_by(rt, alloc, keeper, by, then)
+            compare_by(rt, alloc, keeper, by, first);
+            compare_by(rt, alloc, keeper, by, then);
         }
         Part::FullDay(by) => full_day(rt, alloc, keeper, by),
         Part::OneList => {
-            runs(rt, alloc, keeper, DAY)?;
-            compare(rt, alloc, keeper, SHOWN)
+            runs(rt, alloc, keeper, DAY);
+            compare(rt, alloc, keeper, SHOWN);
         }
         Part::Noise => noise(rt, alloc, keeper),
         Part::Ends => ends(rt, alloc, keeper),
         Part::Devices => devices_fail(rt, alloc, keeper),
         Part::OneStream => {
-            compare(rt, alloc, keeper, BEGUN)?;
-            calls_in_one_stream(rt, alloc, keeper)
+            compare(rt, alloc, keeper, BEGUN);
+            calls_in_one_stream(rt, alloc, keeper);
         }
         Part::Thousand => a_thousand_messages(rt, alloc, keeper),
     }
 }
 
-/// Each request of two transcripts and each import again has what was told of it.
-fn requests_again<K: Keeper>(
-    rt: &impl Abort,
-    alloc: Global,
-    keeper: &mut K,
-    first: &str,
-    then: &str,
-) -> Result<(), Fail> {
-    compare(rt, alloc, keeper, requests_of(alloc, first)?.as_str())?;
-    compare(rt, alloc, keeper, requests_of(alloc, then)?.as_str())
+/// The requests and imports of a transcript again: each has what was told of it.
+fn talk_again<K: Keeper>(rt: &(impl Abort + Eprint), alloc: Global, keeper: &mut K, talk: &str) {
+    let requests = made(rt, requests_of(alloc, talk));
+    compare(rt, alloc, keeper, requests.as_str());
 }
 
 /// Requests of a part again: they have their first replies.
-fn again<K: Keeper>(
-    rt: &impl Abort,
-    alloc: Global,
-    keeper: &mut K,
-    part: Part,
-) -> Result<(), Fail> {
+fn again<K: Keeper>(rt: &(impl Abort + Eprint), alloc: Global, keeper: &mut K, part: Part) {
     match part {
         Part::Talks(first, then) | Part::TalksBy(_, first, then) => {
-            requests_again(rt, alloc, keeper, first, then)
+            talk_again(rt, alloc, keeper, first);
+            talk_again(rt, alloc, keeper, then);
         }
-        Part::FullDay(_) => requests_again(rt, alloc, keeper, MOST, FULL),
-        Part::OneList => requests_again(rt, alloc, keeper, DAY, ""),
+        Part::FullDay(_) => {
+            talk_again(rt, alloc, keeper, MOST);
+            talk_again(rt, alloc, keeper, FULL);
+        }
+        Part::OneList => talk_again(rt, alloc, keeper, DAY),
         Part::Noise | Part::OneStream => compare(rt, alloc, keeper, BEGUN),
         Part::Ends => ended(rt, alloc, keeper),
-        Part::Devices | Part::Thousand => Ok(()),
+        Part::Devices | Part::Thousand => {}
     }
 }
 
 /// A keeper over the store of a connection.
-fn adopt(alloc: Global, conn: Connection<MemStore>) -> Result<SqlKeeper<MemStore>, OpenFault> {
+fn adopt(rt: &impl Abort, alloc: Global, conn: Connection<MemStore>) -> SqlKeeper<MemStore> {
     match SqlKeeper::adopt(conn, alloc) {
-        Ok(keeper) => Ok(keeper),
-        Err(NotAdopted { fault, conn: _conn }) => Err(fault),
+        Ok(keeper) => keeper,
+        Err(not) => panic!(rt; "not adopted: {:?}", not.fault),
     }
 }
 
 /// A part over the store of a connection, or what comes again of it; the connection is handed back.
 fn over_tables(
-    rt: &impl Abort,
+    rt: &(impl Abort + Eprint),
     alloc: Global,
     conn: Connection<MemStore>,
     part: Part,
     comes_again: bool,
-) -> Result<Connection<MemStore>, Fail> {
-    let mut keeper = adopt(alloc, conn)?;
-    let outcome = if comes_again {
-        again(rt, alloc, &mut keeper, part)
+) -> Connection<MemStore> {
+    let mut keeper = adopt(rt, alloc, conn);
+    if comes_again {
+        again(rt, alloc, &mut keeper, part);
     } else {
-        part_over(rt, alloc, &mut keeper, part)
-    };
-    let conn = keeper.close();
-    outcome?;
-    Ok(conn)
+        part_over(rt, alloc, &mut keeper, part);
+    }
+    keeper.close()
 }
 
 /// A part over a keeper in memory, and its requests again.
-fn over_list(rt: &impl Abort, alloc: Global, part: Part) -> Result<(), Fail> {
+fn over_list(rt: &(impl Abort + Eprint), alloc: Global, part: Part) {
     let mut list = ListKeeper::empty(alloc);
-    part_over(rt, alloc, &mut list, part)?;
-    again(rt, alloc, &mut list, part)
+    part_over(rt, alloc, &mut list, part);
+    again(rt, alloc, &mut list, part);
 }
 
 /// A part over tables, and its requests again, which change no row.
-fn over_new_tables(rt: &impl Abort, alloc: Global, part: Part) -> Result<(), Fail> {
-    let conn = Connection::open_in_memory(alloc)?;
-    let mut conn = over_tables(rt, alloc, conn, part, false)?;
-    let before = rows_told(alloc, &mut conn)?;
-    let mut conn = over_tables(rt, alloc, conn, part, true)?;
-    has_rows(rt, alloc, &mut conn, before.as_str(), "again")
+fn over_new_tables(rt: &(impl Abort + Eprint), alloc: Global, part: Part) {
+    let mut conn = over_tables(rt, alloc, in_memory(rt, alloc), part, false);
+    let before = made(rt, rows_told(alloc, &mut conn));
+    let mut conn = over_tables(rt, alloc, conn, part, true);
+    has_rows(rt, alloc, &mut conn, before.as_str(), "again");
 }
 
 /// A part over a keeper in memory and over tables, and its requests again: they have their first replies, and change
 /// nothing. The store of the tables is closed and taken over again before that, which tests all its rows.
-fn over_both(rt: &impl Abort, alloc: Global, part: Part) -> Result<(), Fail> {
-    over_list(rt, alloc, part)?;
-    over_new_tables(rt, alloc, part)
+fn over_both(rt: &(impl Abort + Eprint), alloc: Global, part: Part) {
+    over_list(rt, alloc, part);
+    over_new_tables(rt, alloc, part);
 }
 
-fn all_over_both(rt: &impl Abort, alloc: Global, parts: &[Part]) -> Result<(), Fail> {
+fn all_over_both(rt: &(impl Abort + Eprint), alloc: Global, parts: &[Part]) {
     for part in parts {
-        over_both(rt, alloc, *part)?;
+        over_both(rt, alloc, *part);
     }
-    Ok(())
 }
 
 #[test]
-fn days_and_files(rt: HostRuntime) -> Result<(), Fail> {
-    all_over_both(&rt, rt.alloc(), &DAYS_AND_FILES)
+fn days_and_files(rt: HostRuntime) {
+    all_over_both(&rt, rt.alloc(), &DAYS_AND_FILES);
 }
 
 #[test]
-fn days_by_calls(rt: HostRuntime) -> Result<(), Fail> {
-    all_over_both(&rt, rt.alloc(), &BY_CALLS)
+fn days_by_calls(rt: HostRuntime) {
+    all_over_both(&rt, rt.alloc(), &BY_CALLS);
 }
 
 /// Each transcript after the same beginning.
-fn begun_over_both(rt: &impl Abort, alloc: Global, talks: &[&'static str]) -> Result<(), Fail> {
+fn begun_over_both(rt: &(impl Abort + Eprint), alloc: Global, talks: &[&'static str]) {
     for talk in talks {
-        over_both(rt, alloc, Part::Talks(BEGUN, *talk))?;
+        over_both(rt, alloc, Part::Talks(BEGUN, *talk));
     }
-    Ok(())
 }
 
 #[test]
-fn days_that_begin_alike(rt: HostRuntime) -> Result<(), Fail> {
-    begun_over_both(&rt, rt.alloc(), &[LOST, TICKETS, TURNS])?;
-    begun_over_both(&rt, rt.alloc(), &ORDERS)?;
-    begun_over_both(&rt, rt.alloc(), &MERGES)
+fn days_that_begin_alike(rt: HostRuntime) {
+    begun_over_both(&rt, rt.alloc(), &[LOST, TICKETS, TURNS]);
+    begun_over_both(&rt, rt.alloc(), &ORDERS);
+    begun_over_both(&rt, rt.alloc(), &MERGES);
 }
 
 #[test]
-fn faults(rt: HostRuntime) -> Result<(), Fail> {
-    all_over_both(&rt, rt.alloc(), &FAULTS)
+fn faults(rt: HostRuntime) {
+    all_over_both(&rt, rt.alloc(), &FAULTS);
 }
 
 /// A day of several desks, in one go over a keeper in memory, and over tables that are taken over again between its parts.
 #[test]
-fn desks_number_their_requests_apart(rt: HostRuntime) -> Result<(), Fail> {
+fn desks_number_their_requests_apart(rt: HostRuntime) {
     let alloc = rt.alloc();
     let mut list = ListKeeper::empty(alloc);
-    let mut conn = Connection::open_in_memory(alloc)?;
+    let mut conn = in_memory(&rt, alloc);
     for talk in DESKS {
-        compare(&rt, alloc, &mut list, talk)?;
-        conn = over_tables(&rt, alloc, conn, Part::Talks(talk, ""), false)?;
+        compare(&rt, alloc, &mut list, talk);
+        conn = over_tables(&rt, alloc, conn, Part::Talks(talk, ""), false);
     }
-    Ok(())
 }
 
 #[test]
-fn a_full_day(rt: HostRuntime) -> Result<(), Fail> {
-    over_both(&rt, rt.alloc(), Part::FullDay(By::Apply))?;
-    over_both(&rt, rt.alloc(), Part::FullDay(By::Calls))
+fn a_full_day(rt: HostRuntime) {
+    over_both(&rt, rt.alloc(), Part::FullDay(By::Apply));
+    over_both(&rt, rt.alloc(), Part::FullDay(By::Calls));
 }
 
 #[test]
-fn a_day_as_one_list(rt: HostRuntime) -> Result<(), Fail> {
-    over_both(&rt, rt.alloc(), Part::OneList)
+fn a_day_as_one_list(rt: HostRuntime) {
+    over_both(&rt, rt.alloc(), Part::OneList);
 }

@@ -1,13 +1,18 @@
 //! Paths for files of tests.
 
+use std::alloc::Global;
 use std::fs;
 use std::test::Fail;
 
 /// The path of a test's file.
 pub fn path_of(rt: &HostRuntime, name: &str, ending: &str) -> Result<String, Fail> {
     let folder = std::env::temp_dir(rt)?;
-    let folder = folder.as_path().to_str().ok_or("a folder's name")?;
-    Ok(format!(in rt.alloc(); "{folder}/store_tests_{name}.{ending}")?)
+    path_in(rt.alloc(), folder.to_string_lossy(), name, ending)
+}
+
+/// The path of a test's file in a folder.
+fn path_in(alloc: Global, folder: &str, name: &str, ending: &str) -> Result<String, Fail> {
+    Ok(format!(in alloc; "{folder}/store_tests_{name}.{ending}")?)
 }
 
 /// The path of a test's store; no file is there.

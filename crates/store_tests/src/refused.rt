@@ -1,7 +1,8 @@
 //! Days with little memory, over any keeper: a request to which memory is refused isn't served, and changes nothing; it is
 //! served when it comes again. The script `tests/refused_memory` refuses each request for memory in turn.
 
-use crate::answering::has_rows;
+use crate::answering::{has_rows, in_memory};
+use crate::comparing::{made, same};
 use crate::parts::requests;
 use counter_talks::days::{DAY, SHOWN};
 use counter_talks::imports::FILES;
@@ -14,6 +15,7 @@ use ee_store::{NotAdopted, OpenFault, SqlKeeper};
 use sqlite::{Connection, MemStore};
 use std::alloc::Global;
 use std::fmt::Write;
+use std::io::Eprint;
 use std::process::Abort;
 use std::test::Fail;
 use store_talks::five::rows_told;
@@ -60,15 +62,27 @@ fn replay_patiently<K: Keeper>(
 
 /// Does what a transcript does so, and compares what is told.
 fn is_told<K: Keeper>(
-    rt: &impl Abort,
+    rt: &(impl Abort + Eprint),
     alloc: Global,
     keeper: &mut K,
     by: By,
     transcript: &str,
-) -> Result<(), Fail> {
-    let told = replay_patiently(alloc, keeper, by, transcript)?;
-    assert_eq!(rt; told.as_str(), transcript);
-    Ok(())
+) {
+    let told = made(rt, replay_patiently(alloc, keeper, by, transcript));
+    same(rt, told.as_str(), transcript, "with little memory");
+}
+
+/// A transcript, and each request of it and each import again.
+fn is_told_again<K: Keeper>(
+    rt: &(impl Abort + Eprint),
+    alloc: Global,
+    keeper: &mut K,
+    by: By,
+    transcript: &str,
+) {
+    is_told(rt, alloc, keeper, by, transcript);
+    let again = made(rt, requests_of(alloc, transcript));
+    is_told(rt, alloc, keeper, by, again.as_str());
 }
 
 /// A day or files by such calls, what the books show then, and all requests again.
@@ -80,28 +94,17 @@ enum Work {
 }
 
 /// The work, each request of it again, and what the books show.
-fn work_over<K: Keeper>(
-    rt: &impl Abort,
-    alloc: Global,
-    keeper: &mut K,
-    work: Work,
-) -> Result<(), Fail> {
+fn work_over<K: Keeper>(rt: &(impl Abort + Eprint), alloc: Global, keeper: &mut K, work: Work) {
     match work {
         Work::Day(by) => {
-            is_told(rt, alloc, keeper, by, DAY)?;
-            is_told(rt, alloc, keeper, by, requests_of(alloc, DAY)?.as_str())?;
-            is_told(rt, alloc, keeper, by, SHOWN)
+            is_told_again(rt, alloc, keeper, by, DAY);
+            is_told(rt, alloc, keeper, by, SHOWN);
         }
         Work::Files => {
-            let (files, _) = FILES.split_once("- 7 40\n").ok_or("an export that is cut")?;
-            is_told(rt, alloc, keeper, By::Calls, files)?;
-            is_told(
-                rt,
-                alloc,
-                keeper,
-                By::Calls,
-                requests_of(alloc, files)?.as_str(),
-            )
+            let (files, _) = FILES
+                .split_once("- 7 40\n")
+                .expect(rt, "an export that is cut");
+            is_told_again(rt, alloc, keeper, By::Calls, files);
         }
         Work::List => list_over(rt, alloc, keeper),
     }
@@ -127,107 +130,138 @@ fn delivered<K: Keeper>(keeper: &mut K, request: &Request) -> Result<Reply, Fail
     Ok(keeper.deliver(request).ok().ok_or("refused once more")?)
 }
 
+/// The text of a reply.
+fn told(alloc: Global, reply: &Reply) -> Result<String, Fail> {
+    Ok(reply_text(alloc, reply)?)
+}
+
 /// Compares what a keeper answered with what another one answers.
 fn is_answer_of(
-    rt: &impl Abort,
+    rt: &(impl Abort + Eprint),
     alloc: Global,
     other: &mut ListKeeper,
     request: &Request,
     reply: &Reply,
-) -> Result<(), Fail> {
-    let wanted = delivered(other, request)?;
-    let told = reply_text(alloc, reply)?;
-    assert_eq!(rt; told.as_str(), reply_text(alloc, &wanted)?.as_str());
-    Ok(())
+) {
+    let wanted = made(rt, delivered(other, request));
+    let wanted = made(rt, told(alloc, &wanted));
+    let told = made(rt, told(alloc, reply));
+    same(rt, told.as_str(), wanted.as_str(), "the other keeper");
+}
+
+/// Each answer is that of another keeper to the requests that were served.
+fn are_answers_of(
+    rt: &(impl Abort + Eprint),
+    alloc: Global,
+    other: &mut ListKeeper,
+    requests: &[Request],
+    answers: &[Result<Reply, Unserved>],
+) {
+    for (request, answer) in requests.iter().zip(answers.iter()) {
+        if let Ok(reply) = answer {
+            is_answer_of(rt, alloc, other, request, reply);
+        }
+    }
 }
 
 /// The requests of a day as one list. Each answer is that of another keeper to the requests that were served; then all are
 /// delivered once more to both, which answer alike.
-fn list_over<K: Keeper>(rt: &impl Abort, alloc: Global, keeper: &mut K) -> Result<(), Fail> {
-    let requests = requests(alloc, DAY)?;
+fn list_over<K: Keeper>(rt: &(impl Abort + Eprint), alloc: Global, keeper: &mut K) {
+    let requests = requests(rt, alloc, DAY);
     let mut other = ListKeeper::empty(alloc);
-    let answers = answers_to(alloc, keeper, requests.as_slice())?;
-    for (request, answer) in requests.iter().zip(answers.iter()) {
-        if let Ok(reply) = answer {
-            is_answer_of(rt, alloc, &mut other, request, reply)?;
-        }
-    }
+    let answers = made(rt, answers_to(alloc, keeper, requests.as_slice()));
+    are_answers_of(
+        rt,
+        alloc,
+        &mut other,
+        requests.as_slice(),
+        answers.as_slice(),
+    );
     for request in requests.iter() {
-        let reply = delivered(keeper, request)?;
-        is_answer_of(rt, alloc, &mut other, request, &reply)?;
+        let reply = made(rt, delivered(keeper, request));
+        is_answer_of(rt, alloc, &mut other, request, &reply);
     }
-    Ok(())
 }
 
-/// A keeper over the store of a connection, which is taken over once more where memory was refused to that.
-fn adopted(alloc: Global, conn: Connection<MemStore>) -> Result<SqlKeeper<MemStore>, Fail> {
-    let conn = match SqlKeeper::adopt(conn, alloc) {
-        Ok(keeper) => return Ok(keeper),
+/// A keeper over the store of a connection; or its connection again, where memory was refused to that.
+fn adopted_once(
+    rt: &impl Abort,
+    alloc: Global,
+    conn: Connection<MemStore>,
+) -> Result<SqlKeeper<MemStore>, Connection<MemStore>> {
+    match SqlKeeper::adopt(conn, alloc) {
+        Ok(keeper) => Ok(keeper),
         Err(
             NotAdopted {
                 fault: OpenFault::NoMemory,
                 conn,
             },
-        ) => conn,
-        Err(NotAdopted { .. }) => return Err("refused".into()),
-    };
-    match SqlKeeper::adopt(conn, alloc) {
-        Ok(keeper) => Ok(keeper),
-        Err(NotAdopted { .. }) => Err("refused once more".into()),
+        ) => Err(conn),
+        Err(NotAdopted { .. }) => panic!(rt; "refused"),
+    }
+}
+
+/// A keeper over the store of a connection, which is taken over once more where memory was refused to that.
+fn adopted(rt: &impl Abort, alloc: Global, conn: Connection<MemStore>) -> SqlKeeper<MemStore> {
+    match adopted_once(rt, alloc, conn) {
+        Ok(keeper) => keeper,
+        Err(conn) => match adopted_once(rt, alloc, conn) {
+            Ok(keeper) => keeper,
+            Err(_) => panic!(rt; "refused once more"),
+        },
     }
 }
 
 /// The work over tables, whose store has the same rows after it is taken over again.
-fn work_over_tables(rt: &impl Abort, alloc: Global, work: Work) -> Result<(), Fail> {
-    let mut keeper = adopted(alloc, Connection::open_in_memory(alloc)?)?;
-    let outcome = work_over(rt, alloc, &mut keeper, work);
+fn work_over_tables(rt: &(impl Abort + Eprint), alloc: Global, work: Work) {
+    let mut keeper = adopted(rt, alloc, in_memory(rt, alloc));
+    work_over(rt, alloc, &mut keeper, work);
     let mut conn = keeper.close();
-    outcome?;
-    let before = rows_told(alloc, &mut conn)?;
-    let mut conn = adopted(alloc, conn)?.close();
-    has_rows(rt, alloc, &mut conn, before.as_str(), "again")
+    let before = made(rt, rows_told(alloc, &mut conn));
+    let mut conn = adopted(rt, alloc, conn).close();
+    has_rows(rt, alloc, &mut conn, before.as_str(), "again");
 }
 
-fn work_over_list(rt: &impl Abort, alloc: Global, work: Work) -> Result<(), Fail> {
-    work_over(rt, alloc, &mut ListKeeper::empty(alloc), work)
-}
-
-#[test]
-fn refused_memory_in_a_day_over_a_list(rt: HostRuntime) -> Result<(), Fail> {
-    work_over_list(&rt, rt.alloc(), Work::Day(By::Calls))
+fn work_over_list(rt: &(impl Abort + Eprint), alloc: Global, work: Work) {
+    work_over(rt, alloc, &mut ListKeeper::empty(alloc), work);
 }
 
 #[test]
-fn refused_memory_in_a_stream_over_a_list(rt: HostRuntime) -> Result<(), Fail> {
-    work_over_list(&rt, rt.alloc(), Work::Day(By::Serve))
+fn refused_memory_in_a_day_over_a_list(rt: HostRuntime) {
+    work_over_list(&rt, rt.alloc(), Work::Day(By::Calls));
 }
 
 #[test]
-fn refused_memory_in_files_over_a_list(rt: HostRuntime) -> Result<(), Fail> {
-    work_over_list(&rt, rt.alloc(), Work::Files)
+fn refused_memory_in_a_stream_over_a_list(rt: HostRuntime) {
+    work_over_list(&rt, rt.alloc(), Work::Day(By::Serve));
 }
 
 #[test]
-fn refused_memory_in_one_list_over_a_list(rt: HostRuntime) -> Result<(), Fail> {
-    work_over_list(&rt, rt.alloc(), Work::List)
+fn refused_memory_in_files_over_a_list(rt: HostRuntime) {
+    work_over_list(&rt, rt.alloc(), Work::Files);
 }
 
 #[test]
-fn refused_memory_in_a_day_over_tables(rt: HostRuntime) -> Result<(), Fail> {
-    work_over_tables(&rt, rt.alloc(), Work::Day(By::Calls))
+fn refused_memory_in_one_list_over_a_list(rt: HostRuntime) {
+    work_over_list(&rt, rt.alloc(), Work::List);
 }
 
 #[test]
-fn refused_memory_in_a_stream_over_tables(rt: HostRuntime) -> Result<(), Fail> {
-    work_over_tables(&rt, rt.alloc(), Work::Day(By::Serve))
+fn refused_memory_in_a_day_over_tables(rt: HostRuntime) {
+    work_over_tables(&rt, rt.alloc(), Work::Day(By::Calls));
 }
 
 #[test]
-fn refused_memory_in_files_over_tables(rt: HostRuntime) -> Result<(), Fail> {
-    work_over_tables(&rt, rt.alloc(), Work::Files)
+fn refused_memory_in_a_stream_over_tables(rt: HostRuntime) {
+    work_over_tables(&rt, rt.alloc(), Work::Day(By::Serve));
 }
 
 #[test]
-fn refused_memory_in_one_list_over_tables(rt: HostRuntime) -> Result<(), Fail> {
-    work_over_tables(&rt, rt.alloc(), Work::List)
+fn refused_memory_in_files_over_tables(rt: HostRuntime) {
+    work_over_tables(&rt, rt.alloc(), Work::Files);
+}
+
+#[test]
+fn refused_memory_in_one_list_over_tables(rt: HostRuntime) {
+    work_over_tables(&rt, rt.alloc(), Work::List);
 }

@@ -1,5 +1,6 @@
 //! Stores in files: days in a file that is closed and opened again, and stops at each call of a file.
 
+use crate::comparing::{holds, made, same};
 use crate::paths::{forget, fresh};
 use counter_talks::days::{DAY, DESKS, EXTENDED, LAST};
 use counter_talks::lists::LISTS;
@@ -7,12 +8,13 @@ use counter_talks::refusals::{DAYS, IMPORTS};
 use counter_talks::talk::answers;
 use ee_keeper::ListKeeper;
 use ee_store::SqlKeeper;
-use sqlite::{Connection, Files, Options};
-use sqlite_disk::{Crash, Disk, Fuse, Memory};
+use sqlite::Files;
+use sqlite_disk::{Crash, Fuse, Memory};
 use std::alloc::Global;
+use std::io::Eprint;
 use std::process::Abort;
 use std::test::Fail;
-use store_talks::five::{FIVE, fault_told};
+use store_talks::five::FIVE;
 use store_talks::stops::{ends_by_failures, is_front_of, served_on};
 
 /// Days that are told as transcripts.
@@ -21,55 +23,64 @@ const TALKS: [&str; 6] = [DAY, IMPORTS, DAYS, LAST, LISTS, EXTENDED];
 /// The answers to a talk over the store in a file, which is opened for it and closed.
 fn in_file(rt: &HostRuntime, path: &str, talk: &str) -> Result<String, Fail> {
     match SqlKeeper::open(rt, path) {
-        Ok(mut keeper) => {
-            let text = answers(rt.alloc(), &mut keeper, talk);
-            let _closed = keeper.close();
-            text
-        }
-        Err(not) => fault_told(rt.alloc(), not.fault),
+        Ok(mut keeper) => answers(rt.alloc(), &mut keeper, talk),
+        Err(_) => Err("the file doesn't open".into()),
     }
+}
+
+/// Compares the answers to a talk over a keeper in memory with those over the store in a file.
+fn answer_alike(
+    rt: &HostRuntime,
+    test: &(impl Abort + Eprint),
+    list: &mut ListKeeper,
+    path: &str,
+    talk: &str,
+) {
+    let wanted = made(test, answers(rt.alloc(), list, talk));
+    let told = made(test, in_file(rt, path, talk));
+    same(test, told.as_str(), wanted.as_str(), "over a file");
 }
 
 /// A day of several desks over a file that is closed and opened again between its parts.
 #[test]
-fn desks_in_a_file(rt: HostRuntime) -> Result<(), Fail> {
-    let path = fresh(&rt, "desks")?;
+fn desks_in_a_file(rt: HostRuntime) {
+    let path = made(&rt, fresh(&rt, "desks"));
     let mut list = ListKeeper::empty(rt.alloc());
     for talk in DESKS {
-        let wanted = answers(rt.alloc(), &mut list, talk)?;
-        let told = in_file(&rt, &path, talk)?;
-        assert!(rt; told.as_str() == wanted.as_str(), "{told} and not {wanted}");
+        answer_alike(&rt, &rt, &mut list, &path, talk);
     }
-    forget(&rt, &path)
+    made(&rt, forget(&rt, &path));
+}
+
+/// Such a talk twice.
+fn twice(rt: &HostRuntime, test: &(impl Abort + Eprint), path: &str, talk: &str) {
+    let mut list = ListKeeper::empty(rt.alloc());
+    answer_alike(rt, test, &mut list, path, talk);
+    answer_alike(rt, test, &mut list, path, talk);
 }
 
 /// The days over a keeper in memory and over a file, which is closed and opened again for the same once
 /// more: the answers are the same, byte for byte.
 #[test]
-fn days_in_a_file(rt: HostRuntime) -> Result<(), Fail> {
-    let path = fresh(&rt, "days")?;
+fn days_in_a_file(rt: HostRuntime) {
     for talk in TALKS {
-        forget(&rt, &path)?;
-        let mut list = ListKeeper::empty(rt.alloc());
-        for _ in 0..2 {
-            let wanted = answers(rt.alloc(), &mut list, talk)?;
-            let told = in_file(&rt, &path, talk)?;
-            assert!(rt; told.as_str() == wanted.as_str(), "{told} and not {wanted}");
-        }
+        let path = made(&rt, fresh(&rt, "days"));
+        twice(&rt, &rt, &path, talk);
+        made(&rt, forget(&rt, &path));
     }
-    forget(&rt, &path)
 }
 
 /// A file that is closed and opened again gives each number the bytes of its first answer.
 #[test]
-fn a_file_keeps_its_replies(rt: HostRuntime) -> Result<(), Fail> {
-    let path = fresh(&rt, "replies")?;
-    let wanted = answers(rt.alloc(), &mut ListKeeper::empty(rt.alloc()), FIVE)?;
+fn a_file_keeps_its_replies(rt: HostRuntime) {
+    let path = made(&rt, fresh(&rt, "replies"));
+    let mut list = ListKeeper::empty(rt.alloc());
+    let wanted = made(&rt, answers(rt.alloc(), &mut list, FIVE));
     for _ in 0..3 {
-        let told = in_file(&rt, &path, FIVE)?;
-        assert!(rt; told.as_str() == wanted.as_str(), "{told} and not {wanted}");
+        let told = made(&rt, in_file(&rt, &path, FIVE));
+        same(&rt, told.as_str(), wanted.as_str(), "opened again");
     }
-    forget(&rt, &path)
+    made(&rt, forget(&rt, &path));
 }
 
 /// What two runs tell, the first over files that stop, the second after a crash; and whether the first went to its end.
@@ -82,49 +93,51 @@ struct Runs {
 
 /// The five requests over files of which the log stops at one call and the other at another; then again over what a
 /// crash leaves.
-fn stopped(alloc: Global, log: u64, db: u64) -> Result<Runs, Fail> {
+fn stopped(rt: &(impl Abort + Eprint), alloc: Global, log: u64, db: u64) -> Runs {
     let log = Fuse::new(Memory::new(alloc), log);
     let db = Fuse::new(Memory::new(alloc), db);
     let (first, closed, mut files) = served_on(alloc, Files { log, db }, FIVE);
-    let first = first?;
     files.log.crash();
     files.db.crash();
     let (second, _, _left) = served_on(alloc, files, FIVE);
-    let second = second?;
+    let first = made(rt, first);
+    let second = made(rt, second);
     let is_whole = closed && first.as_str() == FIVE;
-    Ok(Runs {
+    Runs {
         first,
         second,
         is_whole,
-    })
+    }
+}
+
+/// The answers before a stop are a front of the right ones, and after it each request has its one reply.
+fn are_right(rt: &impl Abort, runs: &Runs) {
+    let first = runs.first.as_str();
+    holds(rt, is_front_of(first, FIVE), first);
+    holds(rt, ends_by_failures(first), first);
+    same(rt, runs.second.as_str(), FIVE, first);
 }
 
 /// One file stops at each of its calls in turn, until a run comes to its end. The answers before a stop are a front of the
 /// right ones. Where the store fails, `apply` ends by that, also where the store still answers queries. After a crash the
 /// files are opened again and the five requests are sent again: each has its one reply. Whether a request failed is told.
-fn stops_at_each_call(rt: &impl Abort, alloc: Global, on_log: bool) -> Result<bool, Fail> {
+fn stops_at_each_call(rt: &(impl Abort + Eprint), alloc: Global, on_log: bool) -> bool {
     let mut failed = false;
     for k in 0..10_000 {
-        let runs = if on_log {
-            stopped(alloc, k, u64::MAX)?
-        } else {
-            stopped(alloc, u64::MAX, k)?
-        };
-        assert!(rt; is_front_of(&runs.first, FIVE), "{}", runs.first);
-        assert!(rt; ends_by_failures(&runs.first), "{}", runs.first);
-        assert_eq!(rt; runs.second.as_str(), FIVE, "after {k}");
+        let (log, db) = if on_log { (k, u64::MAX) } else { (u64::MAX, k) };
+        let runs = stopped(rt, alloc, log, db);
+        are_right(rt, &runs);
         failed |= runs.first.contains("\nStoreFailed 503 ");
         if runs.is_whole {
-            return Ok(failed);
+            return failed;
         }
     }
-    Err("each run was stopped".into())
+    panic!(rt; "each run was stopped")
 }
 
 #[test]
-fn a_stop_at_each_call(rt: HostRuntime) -> Result<(), Fail> {
-    let on_log = stops_at_each_call(&rt, rt.alloc(), true)?;
-    let on_file = stops_at_each_call(&rt, rt.alloc(), false)?;
-    assert!(rt; on_log || on_file, "no request failed");
-    Ok(())
+fn a_stop_at_each_call(rt: HostRuntime) {
+    let on_log = stops_at_each_call(&rt, rt.alloc(), true);
+    let on_file = stops_at_each_call(&rt, rt.alloc(), false);
+    holds(&rt, on_log || on_file, "no request failed");
 }

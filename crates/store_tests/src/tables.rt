@@ -1,5 +1,7 @@
 //! The statements on the tables of a store, each found by what was written.
 
+use crate::answering::in_memory;
+use crate::comparing::same;
 use crate::earlier::{ANSWERS, EXTENSIONS, SEVEN_TABLES};
 use ee_store_tables::{
     BatchRow, Failure, PaidRow, RateRow, ReplyRow, Serial, TicketRow, UnpaidBond, add_answer,
@@ -10,7 +12,7 @@ use ee_store_tables::{
 use sqlite::{Alter, Connection, Error, Transaction};
 use std::alloc::Global;
 use std::fmt::{Debug, Write};
-use std::test::Fail;
+use std::process::Abort;
 
 /// 2015-05-04.
 const DAY: u64 = 16_559;
@@ -85,83 +87,81 @@ fn redeem<S: Alter>(tx: &mut Transaction<'_, S>, entry: &ReplyRow) -> Result<(),
 }
 
 /// Adds a line: a name, and a value as `Debug` shows it.
-fn add<T: Debug>(text: &mut String, name: &str, value: &T) -> Result<(), Fail> {
-    writeln!(text, "{name}: {value:?}")?;
-    Ok(())
+fn add<T: Debug>(rt: &impl Abort, text: &mut String, name: &str, value: &T) {
+    writeln!(text, "{name}: {value:?}").expect(rt, name);
 }
 
 /// Adds what is registered.
-fn add_register<S: Alter>(text: &mut String, tx: &mut Transaction<'_, S>) -> Result<(), Fail> {
-    add(text, "desk", &find_desk(tx))?;
-    add(text, "rate of 60", &find_rate(tx, 60))?;
-    add(text, "rate of 66", &find_rate(tx, 66))?;
-    add(text, "extension of 60", &find_extension(tx, 60))?;
-    add(text, "extension of 66", &find_extension(tx, 66))
+fn add_register<S: Alter>(rt: &impl Abort, text: &mut String, tx: &mut Transaction<'_, S>) {
+    add(rt, text, "desk", &find_desk(tx));
+    add(rt, text, "rate of 60", &find_rate(tx, 60));
+    add(rt, text, "rate of 66", &find_rate(tx, 66));
+    add(rt, text, "extension of 60", &find_extension(tx, 60));
+    add(rt, text, "extension of 66", &find_extension(tx, 66));
 }
 
 /// Adds the bonds, the one on its ticket and the other unpaid.
 fn add_bonds<S: Alter>(
+    rt: &impl Abort,
     alloc: Global,
     text: &mut String,
     tx: &mut Transaction<'_, S>,
-) -> Result<(), Fail> {
-    add(text, "bond", &find_bond(tx, A1))?;
-    add(text, "of 7", &bonds_of_owner(tx, alloc, 7))?;
-    add(text, "of 8", &bonds_of_owner(tx, alloc, 8))
+) {
+    add(rt, text, "bond", &find_bond(tx, A1));
+    add(rt, text, "of 7", &bonds_of_owner(tx, alloc, 7));
+    add(rt, text, "of 8", &bonds_of_owner(tx, alloc, 8));
 }
 
 /// Adds the ticket, alone and among those of its day.
 fn add_tickets<S: Alter>(
+    rt: &impl Abort,
     alloc: Global,
     text: &mut String,
     tx: &mut Transaction<'_, S>,
-) -> Result<(), Fail> {
-    add(text, "ticket", &find_ticket(tx, 1))?;
-    add(text, "first", &first_ticket(tx, DAY))?;
-    add(text, "first after", &first_ticket(tx, DAY + 1))?;
-    add(text, "last", &last_ticket(tx))?;
-    add(text, "of the day", &day_tickets(tx, alloc, DAY))
+) {
+    add(rt, text, "ticket", &find_ticket(tx, 1));
+    add(rt, text, "first", &first_ticket(tx, DAY));
+    add(rt, text, "first after", &first_ticket(tx, DAY + 1));
+    add(rt, text, "last", &last_ticket(tx));
+    add(rt, text, "of the day", &day_tickets(tx, alloc, DAY));
 }
 
-/// Adds the ticket's lines, the batch, the reply, and whether there is one at another desk, or under another number.
+/// Adds the ticket's lines, the batch and the reply.
 fn add_rest<S: Alter>(
+    rt: &impl Abort,
     alloc: Global,
     text: &mut String,
     tx: &mut Transaction<'_, S>,
-) -> Result<(), Fail> {
-    add(text, "lines", &ticket_lines(tx, alloc, 1))?;
-    add(text, "batch", &find_batch(tx, DAY))?;
-    add_reply(text, tx)?;
-    add(
-        text,
-        "at the first desk",
-        &find_answer(tx, 0, LAST)?.is_some(),
-    )?;
-    add(
-        text,
-        "under the first number",
-        &find_answer(tx, 999, 1)?.is_some(),
-    )
+) {
+    add(rt, text, "lines", &ticket_lines(tx, alloc, 1));
+    add(rt, text, "batch", &find_batch(tx, DAY));
+    let found = find_answer(tx, 999, LAST).expect(rt, "the reply");
+    let entry = found.expect(rt, "the reply");
+    add(rt, text, "reply", &entry.reply);
 }
 
-/// Adds the reply.
-fn add_reply<S: Alter>(text: &mut String, tx: &mut Transaction<'_, S>) -> Result<(), Fail> {
-    let Ok(Some(entry)) = find_answer(tx, 999, LAST) else {
-        return Err("the reply was not found".into());
-    };
-    add(text, "reply", &entry.reply)
+/// Adds whether there is a reply at another desk, or under another number.
+fn add_others<S: Alter>(rt: &impl Abort, text: &mut String, tx: &mut Transaction<'_, S>) {
+    let name = "at the first desk";
+    let is_there = find_answer(tx, 0, LAST).expect(rt, name).is_some();
+    add(rt, text, name, &is_there);
+    let name = "under the first number";
+    let is_there = find_answer(tx, 999, 1).expect(rt, name).is_some();
+    add(rt, text, name, &is_there);
 }
 
 /// Adds all that.
 fn add_found<S: Alter>(
+    rt: &impl Abort,
     alloc: Global,
     text: &mut String,
     tx: &mut Transaction<'_, S>,
-) -> Result<(), Fail> {
-    add_register(text, tx)?;
-    add_bonds(alloc, text, tx)?;
-    add_tickets(alloc, text, tx)?;
-    add_rest(alloc, text, tx)
+) {
+    add_register(rt, text, tx);
+    add_bonds(rt, alloc, text, tx);
+    add_tickets(rt, alloc, text, tx);
+    add_rest(rt, alloc, text, tx);
+    add_others(rt, text, tx);
 }
 
 /// What is found of all that.
@@ -187,31 +187,41 @@ under the first number: false
 again: Err(StoreFailed)
 "#;
 
+/// The reply to that redemption.
+fn reply(rt: &impl Abort, alloc: Global) -> ReplyRow {
+    ReplyRow {
+        act: String::from_str(alloc, "redeem").expect(rt, "an act"),
+        reply: String::from_str(alloc, "paid").expect(rt, "a reply"),
+    }
+}
+
 /// What is found after a ticket was redeemed, whose reply is written once.
-fn found<S: Alter>(alloc: Global, tx: &mut Transaction<'_, S>) -> Result<String, Fail> {
-    let entry = ReplyRow {
-        act: String::from_str(alloc, "redeem")?,
-        reply: String::from_str(alloc, "paid")?,
-    };
-    redeem(tx, &entry)?;
+fn found<S: Alter>(rt: &impl Abort, alloc: Global, tx: &mut Transaction<'_, S>) -> String {
+    let entry = reply(rt, alloc);
     let mut text = String::new(alloc);
-    add_found(alloc, &mut text, tx)?;
-    add(&mut text, "again", &redeem(tx, &entry))?;
-    Ok(text)
+    redeem(tx, &entry).expect(rt, "a redemption");
+    add_found(rt, alloc, &mut text, tx);
+    add(rt, &mut text, "again", &redeem(tx, &entry));
+    text
+}
+
+/// No ticket is found.
+fn finds_no_ticket<S: Alter>(rt: &impl Abort, alloc: Global, tx: &mut Transaction<'_, S>) {
+    let mut text = String::new(alloc);
+    add(rt, &mut text, "last", &last_ticket(tx));
+    same(rt, text.as_str(), "last: Ok(None)\n", "before a ticket");
 }
 
 #[test]
-fn a_ticket_is_written_and_looked_up(rt: HostRuntime) -> Result<(), Fail> {
-    let mut conn = Connection::open_in_memory(rt.alloc())?;
-    make_tables(&mut conn)?;
+fn a_ticket_is_written_and_looked_up(rt: HostRuntime) {
+    let mut conn = in_memory(&rt, rt.alloc());
+    make_tables(&mut conn).expect(&rt, "the tables");
     if !conn.is_autocommit() {
-        return Err("a transaction was begun".into());
+        rt.panic("a transaction was begun");
     }
     let mut tx = conn.transaction();
-    let mut before = String::new(rt.alloc());
-    add(&mut before, "last", &last_ticket(&mut tx))?;
-    assert_eq!(rt; before.as_str(), "last: Ok(None)\n");
-    register(&mut tx)?;
-    assert_eq!(rt; found(rt.alloc(), &mut tx)?.as_str(), FOUND);
-    Ok(())
+    finds_no_ticket(&rt, rt.alloc(), &mut tx);
+    register(&mut tx).expect(&rt, "rates and bonds");
+    let text = found(&rt, rt.alloc(), &mut tx);
+    same(&rt, text.as_str(), FOUND, "what is found");
 }
