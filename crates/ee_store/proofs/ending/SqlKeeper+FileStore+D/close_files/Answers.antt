@@ -17,6 +17,12 @@ returns-in-Ok-clause-history g c =
     rests_after c.args.self.conn c.in-Ok.files c.whole_history.ensures.content
     (λ clean content has. at_rest c.args.self.conn c.in-Ok.files content c.schema-schema.ensures.live (subst (λ conn. IsCopied conn c.in-Ok.files) c.into_connection.ensures (c.in-Ok.ensures.copied clean)) has)
 
+pub returns-in-Err-clause-at_rest : goal.returns-in-Err-clause-at_rest
+returns-in-Err-clause-at_rest g c = tt
+
+pub returns-in-Err-clause-history : goal.returns-in-Err-clause-history
+returns-in-Err-clause-history g c = tt
+
 pub returns-in-Err-clause-left : goal.returns-in-Err-clause-left
 returns-in-Err-clause-left g c =
     let closed = subst (λ conn. IsClosed conn c.in-Err.store) c.into_connection.ensures c.in-Err.ensures.err.0 in
