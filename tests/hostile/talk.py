@@ -1,17 +1,15 @@
-"""Days at the counter that stand as transcripts in crates/counter_talks and crates/store_talks, and those of earlier stores in crates/store_tests,
-with the answers that were worked by hand. Their little language is told in counter_talks' talk.rt."""
+"""Days at the counter that stand as transcripts in crates/store_tests, and those of earlier stores, with the answers that were
+worked by hand. Their little language is told in its talk.rt."""
 
 import os, re
 
-CRATES = os.path.join(os.path.dirname(os.path.abspath(__file__)), "..", "..", "crates")
-SOURCES = [os.path.join(CRATES, name, "src") for name in ("counter_talks", "store_talks", "store_tests")]
+SOURCES = os.path.join(os.path.dirname(os.path.abspath(__file__)), "..", "..", "crates", "store_tests", "src")
 REASONS = {200: "OK", 400: "Bad Request", 404: "Not Found", 405: "Method Not Allowed", 409: "Conflict", 413: "Content Too Large", 503: "Service Unavailable"}
 
 
 def texts(file):
     """The constant texts of a source file, by name: a text, or a list of texts."""
-    paths = [os.path.join(folder, file + ".rt") for folder in SOURCES]
-    with open(next(path for path in paths if os.path.exists(path)), encoding="utf-8") as source:
+    with open(os.path.join(SOURCES, file + ".rt"), encoding="utf-8") as source:
         text = source.read()
     found = {}
     for name, listed, value in re.findall(r'const (\w+): (\[&str; \d+\]|&str) =\s*(.*?);\n(?=\n|\Z|/)', text, re.S):

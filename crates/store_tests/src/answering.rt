@@ -1,11 +1,11 @@
 //! What a store in memory tells, and which rows it has.
 
 use crate::comparing::{made, same};
+use crate::five::{FIVE, rows_told, served};
 use sqlite::{Connection, MemStore};
 use std::alloc::Global;
 use std::io::Eprint;
 use std::process::Abort;
-use store_talks::five::{FIVE, rows_told, served};
 
 /// An empty store in memory.
 pub fn in_memory(rt: &impl Abort, alloc: Global) -> Connection<MemStore> {

@@ -3,11 +3,11 @@
 use crate::answering::{in_memory, refused, tells};
 use crate::comparing::{holds, made, parts};
 use crate::earlier::{ANSWERS, EXTENSIONS};
+use crate::five::{FIVE, rows_told};
 use sqlite::{Alter, Connection, MemStore};
 use std::alloc::Global;
 use std::io::Eprint;
 use std::process::Abort;
-use store_talks::five::{FIVE, rows_told};
 
 /// A change of the rows after that day, how it is undone, the answer to the changed store, and a row that
 /// the change made.

@@ -1,7 +1,7 @@
 //! Doing what a transcript does, and comparing what is told. A test that finds something else, or whose preparation fails,
 //! ends here.
 
-use counter_talks::talk::{By, replay_by, whole};
+use crate::talk::{By, replay_by, whole};
 use ee_keeper::Keeper;
 use std::alloc::Global;
 use std::io::Eprint;

@@ -4,11 +4,11 @@
 
 use crate::answering::{has_rows, in_memory, refused, tells};
 use crate::comparing::{add, parts};
+use crate::five::FIVE;
 use sqlite::{Alter, Connection, MemStore};
 use std::alloc::Global;
 use std::io::Eprint;
 use std::process::Abort;
-use store_talks::five::FIVE;
 
 /// Makes the seven tables.
 pub const SEVEN_TABLES: &str = "\

@@ -5,12 +5,12 @@ use crate::comparing::{holds, same};
 use crate::earlier::{Earlier, NAMED, OTHER, SHOWN};
 use crate::earlier_bytes::{EXTENDED, EXTENDED_LOG, SEVEN, SEVEN_LOG};
 use crate::earlier_stops::{Form, News, Shown, shown_on};
+use crate::five::FIVE;
 use sqlite::Files;
 use sqlite_disk::{Disk, Memory};
 use std::alloc::Global;
 use std::io::Eprint;
 use std::process::Abort;
-use store_talks::five::FIVE;
 
 fn add_numbers(rt: &impl Abort, bytes: &mut Vec<u8>, numbers: &str) {
     for number in numbers.split_ascii_whitespace() {

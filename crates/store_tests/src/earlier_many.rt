@@ -3,6 +3,7 @@
 use crate::answering::{has_rows, in_memory, tells};
 use crate::comparing::{holds, made};
 use crate::earlier::{EXTENSIONS, Earlier, SEVEN_TABLES, make_earlier, rows_after, rows_before};
+use crate::five::{FIVE, served};
 use ee_store::{NotAdopted, OpenFault, SqlKeeper};
 use sqlite::types::ValueRef;
 use sqlite::{Alter, Connection, MemStore};
@@ -10,7 +11,6 @@ use std::alloc::Global;
 use std::fmt::Write;
 use std::io::Eprint;
 use std::process::Abort;
-use store_talks::five::{FIVE, served};
 
 /// How many replies a store has; each third number is used.
 const COUNT: u64 = 10_000;

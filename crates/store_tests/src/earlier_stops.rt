@@ -3,13 +3,13 @@
 
 use crate::comparing::{add, holds, made, same};
 use crate::earlier::{Earlier, NAMED, OTHER, make_earlier, rows_after, rows_before};
+use crate::five::{FIVE, rows_told, served};
+use crate::stops::{ends_by_failures, few_pages, is_front_of, served_on};
 use sqlite::{Connection, FileStore, Files};
 use sqlite_disk::{Crash, Disk, Fuse, Memory};
 use std::alloc::Global;
 use std::io::Eprint;
 use std::process::Abort;
-use store_talks::five::{FIVE, rows_told, served};
-use store_talks::stops::{ends_by_failures, few_pages, is_front_of, served_on};
 
 /// What comes after the five requests of the day.
 #[derive(Clone, Copy, Debug, PartialEq, Eq)]

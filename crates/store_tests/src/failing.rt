@@ -2,8 +2,8 @@
 //! or is interrupted, or moves one byte.
 
 use crate::comparing::{add, compare, made, parts, same};
-use counter_talks::devices::{Narrow, Source};
-use counter_talks::talk::{bytes_of, json, message};
+use crate::devices::{Narrow, Source};
+use crate::talk::{bytes_of, json, message};
 use ee_counter::{Ended, export_inventory, import_inventory, import_rates, serve};
 use ee_desk_acts::{Desk, Number};
 use ee_desk_texts::reply_text;

@@ -2,7 +2,7 @@
 //! has its answer and its end.
 
 use crate::comparing::{add, made, same};
-use counter_talks::talk::{applied, json, message};
+use crate::talk::{applied, json, message};
 use ee_keeper::Keeper;
 use std::alloc::Global;
 use std::io::Eprint;

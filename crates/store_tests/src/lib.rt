@@ -17,6 +17,10 @@ mod commands;
 #[cfg(test)]
 mod comparing;
 #[cfg(test)]
+mod days;
+#[cfg(test)]
+mod devices;
+#[cfg(test)]
 mod earlier;
 #[cfg(test)]
 mod earlier_bytes;
@@ -31,14 +35,26 @@ mod failing;
 #[cfg(test)]
 mod faults;
 #[cfg(test)]
+mod five;
+#[cfg(test)]
+mod imports;
+#[cfg(test)]
+mod lists;
+#[cfg(test)]
 mod noise;
 #[cfg(test)]
 mod parts;
 #[cfg(test)]
 mod paths;
 #[cfg(test)]
+mod refusals;
+#[cfg(test)]
 mod refused;
+#[cfg(test)]
+mod stops;
 #[cfg(test)]
 mod stores;
 #[cfg(test)]
 mod tables;
+#[cfg(test)]
+mod talk;

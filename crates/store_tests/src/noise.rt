@@ -2,8 +2,8 @@
 //! status and a body that the formats name.
 
 use crate::comparing::{compare, holds, made};
-use counter_talks::days::{BEGUN, DAY};
-use counter_talks::talk::{applied, stream};
+use crate::days::{BEGUN, DAY};
+use crate::talk::{applied, stream};
 use ee_desk_texts::read_reply;
 use ee_keeper::Keeper;
 use std::alloc::Global;

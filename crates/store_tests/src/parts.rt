@@ -2,16 +2,17 @@
 
 use crate::answering::{has_rows, in_memory};
 use crate::comparing::{compare, compare_by, made, same};
-use crate::failing::{a_thousand_messages, devices_fail};
-use crate::faults::{CALLS, HEADS, STREAMS, calls_in_one_stream, ended, ends};
-use crate::noise::noise;
-use counter_talks::days::{
+use crate::days::{
     BEGUN, DAY, DESKS, EXTENDED, IMPORTED, LAST, LOST, MERGES, ORDERS, SHOWN, TICKETS, TURNS,
 };
-use counter_talks::imports::{FILES, LONG_FILES};
-use counter_talks::lists::LISTS;
-use counter_talks::refusals::{DAYS, FULL, IMPORTS, LONG, MOST};
-use counter_talks::talk::{By, replay_by, requests_of};
+use crate::failing::{a_thousand_messages, devices_fail};
+use crate::faults::{CALLS, HEADS, STREAMS, calls_in_one_stream, ended, ends};
+use crate::five::rows_told;
+use crate::imports::{FILES, LONG_FILES};
+use crate::lists::LISTS;
+use crate::noise::noise;
+use crate::refusals::{DAYS, FULL, IMPORTS, LONG, MOST};
+use crate::talk::{By, replay_by, requests_of};
 use ee_counter::run;
 use ee_desk_acts::{Reply, Request, Unserved};
 use ee_desk_texts::reply_text;
@@ -24,7 +25,6 @@ use std::fmt::Write;
 use std::io::Eprint;
 use std::process::Abort;
 use std::test::Fail;
-use store_talks::five::rows_told;
 
 /// What is done over a new keeper.
 #[derive(Clone, Copy)]

@@ -3,10 +3,11 @@
 
 use crate::answering::{has_rows, in_memory};
 use crate::comparing::{made, same};
+use crate::days::{DAY, SHOWN};
+use crate::five::rows_told;
+use crate::imports::FILES;
 use crate::parts::requests;
-use counter_talks::days::{DAY, SHOWN};
-use counter_talks::imports::FILES;
-use counter_talks::talk::{By, line_told, requests_of};
+use crate::talk::{By, line_told, requests_of};
 use ee_counter::run;
 use ee_desk_acts::{Reply, Request, Unserved};
 use ee_desk_texts::reply_text;
@@ -18,7 +19,6 @@ use std::fmt::Write;
 use std::io::Eprint;
 use std::process::Abort;
 use std::test::Fail;
-use store_talks::five::rows_told;
 
 /// How begins what is told where memory was refused: in an answer, as why a connection ended, to the writer of a connection
 /// or of an export, of a file, and of an export.

@@ -1,11 +1,13 @@
 //! Stores in files: days in a file that is closed and opened again, and stops at each call of a file.
 
 use crate::comparing::{holds, made, same};
+use crate::days::{DAY, DESKS, EXTENDED, LAST};
+use crate::five::FIVE;
+use crate::lists::LISTS;
 use crate::paths::{forget, fresh};
-use counter_talks::days::{DAY, DESKS, EXTENDED, LAST};
-use counter_talks::lists::LISTS;
-use counter_talks::refusals::{DAYS, IMPORTS};
-use counter_talks::talk::answers;
+use crate::refusals::{DAYS, IMPORTS};
+use crate::stops::{ends_by_failures, is_front_of, served_on};
+use crate::talk::answers;
 use ee_keeper::ListKeeper;
 use ee_store::SqlKeeper;
 use sqlite::Files;
@@ -14,8 +16,6 @@ use std::alloc::Global;
 use std::io::Eprint;
 use std::process::Abort;
 use std::test::Fail;
-use store_talks::five::FIVE;
-use store_talks::stops::{ends_by_failures, is_front_of, served_on};
 
 /// Days that are told as transcripts.
 const TALKS: [&str; 6] = [DAY, IMPORTS, DAYS, LAST, LISTS, EXTENDED];

@@ -130,10 +130,11 @@ fn end_told(end: Result<Outcome, RunFault>) -> &'static str {
     }
 }
 
-/// How the command `apply` ends on a stream, and what it answers.
+/// How the command `apply` ends on a stream, and what it answers. There is room for an answer before it is asked for, so
+/// that want of memory cuts none.
 pub fn applied<K: Keeper>(alloc: Global, keeper: &mut K, stream: &[u8]) -> Result<String, Fail> {
     let mut reader = stream;
-    let mut text = Vec::new(alloc);
+    let mut text = Vec::with_capacity(alloc, 4_096)?;
     let end = end_told(apply_to(alloc, keeper, &mut reader, &mut text));
     Ok(format!(in alloc; "{end} {}", str::from_utf8(&text)?)?)
 }

@@ -1,6 +1,6 @@
 //! Five requests over a store, and all rows of its tables.
 
-use counter_talks::talk::replay;
+use crate::talk::replay;
 use ee_store::{NotAdopted, OpenFault, SqlKeeper};
 use sqlite::types::ValueRef;
 use sqlite::{Alter, Connection, Error, ErrorCode, Row};
