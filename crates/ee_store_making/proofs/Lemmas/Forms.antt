@@ -12,7 +12,7 @@ use Rattle.sqlite_trees.specs.Objects.{catalog_tree}
 use Rattle.sqlite_catalog.specs.Listing.{IsSound}
 use Rattle.sqlite_catalog.proofs.ReadLemmas.{lists_once}
 use Rattle.ee_store_tables.specs.Keyed.{HoldsMap, HoldsPairs}
-use Rattle.ee_store_tables.specs.Rows.{Rows, Has, desk_columns, rate_columns, bond_columns, ticket_columns, paid_columns, batch_columns}
+use Rattle.ee_store_tables.specs.Rows.{Rows, desk_columns, rate_columns, bond_columns, ticket_columns, paid_columns, batch_columns}
 use Rattle.ee_store_tables.proofs.Lemmas.Meeting as present
 use Rattle.ee_store_making.specs.declared.forms.Form.{Form}
 use Rattle.ee_store_making.specs.declared.forms.Form.TheVariants.{Current, First, Earliest}
