@@ -150,11 +150,14 @@ pub enum By {
     Calls,
 }
 
-/// The answer to one message; after how `apply` ends on it, where it isn't done.
+/// The answer to one message; after how `apply` ends on it, where it isn't done, and that alone where nothing is answered.
 fn ask_apply<K: Keeper>(alloc: Global, keeper: &mut K, line: &str) -> Result<String, Fail> {
     let message = message(alloc, line)?;
     let text = applied(alloc, keeper, message.as_bytes())?;
     let (end, answer) = text.split_once(' ').ok_or("end")?;
+    if answer.is_empty() {
+        return Ok(String::from_str(alloc, end)?);
+    }
     let answer = told(alloc, answer)?;
     if end == "Done" {
         return Ok(answer);
