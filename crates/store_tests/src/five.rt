@@ -93,6 +93,7 @@ pub fn served<S: Alter>(
     }
 }
 
-pub fn fault_told(alloc: Global, fault: OpenFault) -> Result<String, Fail> {
+/// Why a store wasn't taken over.
+fn fault_told(alloc: Global, fault: OpenFault) -> Result<String, Fail> {
     Ok(format!(in alloc; "{fault:?}")?)
 }
