@@ -1,4 +1,4 @@
-// What an answer of the counter is, read exactly: a text that isn't just that of an answer to what was asked is none, whatever a proxy or a fault on the way made of it.
+// Reads the counter's answers exactly. A text that isn't, byte for byte, an answer to what was asked is no answer, whatever a proxy or a fault on the way made of it.
 
 import { readDay, readMoney, readSerial } from "./spelling.js";
 
@@ -14,7 +14,7 @@ function parsed(text) {
   }
 }
 
-// The value, where its compact text with these keys in this order is the text.
+// The value, if its compact text with these keys in this order is the text.
 function exactly(text, keys) {
   const value = parsed(text);
   if (value === null) return null;
@@ -67,7 +67,7 @@ function isTicketOf(ticket, { day, payee, serials }) {
   return ticket.day === day && ticket.payee === payee && ticket.lines.length === serials.length && ticket.lines.every((line, place) => line.serial === serials[place]);
 }
 
-// The reply to an act, where the text is one and speaks of just what was asked.
+// The reply to an act, if the text is one and speaks of exactly what was asked.
 export function replyTo(path, fields, text) {
   if (path === "/redeem") {
     const ticket = readTicket(text);
@@ -92,12 +92,23 @@ function readUnserved(text) {
   return value !== null && isNumber(value.code) && typeof value.unserved === "string" ? { kind: "unserved", name: value.unserved, ...value } : null;
 }
 
-// What was answered: what `read` makes of a 200, a refusal, a fault, a request that wasn't served, or no answer of the counter.
+// The proxy's refusal of a user whose group may not do what was asked. It passed nothing to the counter.
+const FORBIDDEN = '{"forbidden":"group"}';
+
+const WHY = { 401: "the password was not accepted", 429: "too many requests" };
+
+// Reads a response: what `read` makes of a 200, a refusal, a fault, a request that wasn't served or that the user may not make, or no answer of the counter.
 export function readAnswer(status, text, read) {
-  const other = { kind: "none", why: status === 401 ? "the password was not accepted" : `something else answered (status ${status})` };
+  const other = { kind: "none", why: WHY[status] ?? `something else did (status ${status})` };
   if (status === 200) return read(text) ?? other;
+  if (status === 403) return text === FORBIDDEN ? { kind: "forbidden" } : other;
   if (status === 409) return readRefused(text) ?? other;
   if (status === 503) return readUnserved(text) ?? other;
   if ([400, 404, 405, 413].includes(status)) return readFault(text) ?? other;
   return other;
+}
+
+// The name of the proxy's log entry for a request, from the header X-Request-Id. Null without one: the page needs none.
+export function readEntry(header) {
+  return /(?:^|[ ,])([0-9a-f]{32})$/.exec(header ?? "")?.[1] ?? null;
 }

@@ -16,16 +16,16 @@ export function show(target, is_shown) {
   target.hidden = !is_shown;
 }
 
-// What a field spells, or null, with the field marked and told about.
-export function readField(input, read, wanted) {
+// What a field spells, or null. Then the field is marked, and `asks` says at it what to enter.
+export function readField(input, read, asks) {
   const value = read(input.value);
   input.setAttribute("aria-invalid", value === null ? "true" : "false");
-  input.setCustomValidity(value === null ? `Here is wanted: ${wanted}.` : "");
+  input.setCustomValidity(value === null ? asks : "");
   if (value === null) input.reportValidity();
   return value;
 }
 
-// A form that does `work` by Enter and by its button. A field that was marked is free again as it changes.
+// Has a form do `work`, by Enter and by its button. A marked field is free again as it changes.
 export function onSubmit(form, work) {
   form.addEventListener("submit", (event) => {
     event.preventDefault();
@@ -37,12 +37,23 @@ export function onSubmit(form, work) {
   });
 }
 
-// Asks once more, with the keyboard on "Back", so that a key held too long confirms nothing; answers whether it was confirmed.
-export function confirmed(title, text, yes) {
+// Long enough that the second click of a double one confirms nothing.
+const REST = 1000;
+
+function restFor(button, milliseconds) {
+  button.disabled = milliseconds > 0;
+  if (milliseconds > 0) setTimeout(() => (button.disabled = false), milliseconds);
+}
+
+// Asks the teller to confirm, with the keyboard on "Back", so that a key held too long confirms nothing. Resolves to whether it was confirmed.
+// With `rests`, the button that confirms can't be pressed at once.
+export function confirmed(title, lines, yes, rests = false) {
   const dialog = byId("confirm");
+  if (dialog.open) return Promise.resolve(false);
   byId("confirm-title").textContent = title;
-  byId("confirm-text").textContent = text;
+  byId("confirm-text").replaceChildren(...lines.map((line) => element("p", {}, line)));
   byId("confirm-yes").textContent = yes;
+  restFor(byId("confirm-yes"), rests ? REST : 0);
   dialog.returnValue = "";
   dialog.showModal();
   byId("confirm-no").focus();

@@ -1,7 +1,13 @@
-// The journal of a desk's request numbers: one record in the browser's storage, which is on the disk before `save` answers, so that it also outlives a browser that is killed.
+// The journal of a desk's request numbers: one record in the browser's storage. A change is on the disk before it is answered, so the record outlives a browser that is killed.
 //
-// The record: `desk`, and `next`, the least number that no request has had; `open`, the request that has no reply yet, with its number and how often it was sent; `day`, the day
-// that this page works on; and `last`, the number of the last ticket that this page was told. Of bonds and customers it has just what the open request names.
+// The record:
+//   desk    the number of this page's desk
+//   next    the least number that no request has had
+//   open    the request that has no reply yet: its number, path and fields, how often it was sent (`sent`), and the sum that the teller confirmed (`shown`, cents as a text)
+//   day     the day that this page works on
+//   closed  the latest day that this page knows to be closed; a journal of an earlier version lacks it
+//   last    the number of the last ticket that this page was told
+// Of bonds and customers the record has only what the open request names.
 
 const NAME = "ladwenpik-teller";
 const KEY = "journal";
@@ -35,7 +41,7 @@ export class Journal {
     const request = indexedDB.open(NAME, 1);
     request.onupgradeneeded = () => request.result.createObjectStore(KEY);
     const database = await answered(request);
-    // A browser that is short of room then drops other pages' storage first. Where it declines, the journal is kept as any page's storage is.
+    // A browser that is short of room then drops other pages' storage first. If it declines, it keeps the journal like any page's storage.
     navigator.storage.persist().catch(() => false);
     const record = await answered(database.transaction(KEY).objectStore(KEY).get(KEY));
     return new Journal(database, record ?? null);
@@ -45,13 +51,13 @@ export class Journal {
     return this.#record;
   }
 
-  // Once in the life of a browser's storage. The first number is the time in milliseconds, above all that this desk has used before by counting up from an earlier one.
+  // Starts the record, once in the life of a browser's storage. The first number is the time in milliseconds: above every number that this desk has reached by counting up from an earlier time.
   async choose(desk) {
     if (this.#record !== null) throw new Error("the desk was chosen before");
-    await this.#write({ desk, next: Date.now(), open: null, day: null, last: null });
+    await this.#write({ desk, next: Date.now(), open: null, day: null, closed: null, last: null });
   }
 
-  // One change after another, each of the record that the one before left.
+  // Makes one change after another, each to the record that the one before left.
   change(changes) {
     const changed = this.#changes.then(() => this.#write({ ...this.#record, ...changes }));
     this.#changes = changed.catch(() => {});
@@ -66,7 +72,7 @@ export class Journal {
   }
 }
 
-// Answers when this page alone has the journal of this browser. `waiting` is called where another page has it now.
+// Resolves when this page alone has the journal of this browser. Calls `waiting` if another page has it now.
 export async function takeJournal(waiting) {
   const taken = (options) =>
     new Promise((resolve, reject) => {

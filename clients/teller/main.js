@@ -2,14 +2,13 @@
 
 import { byId, element, onSubmit, readField } from "./elements.js";
 import { Journal, takeJournal } from "./journal.js";
-import { clearNotices, earlierSendings, endSteps, notice, tellRefused, tellStep } from "./notices.js";
+import { asking, clearNotices, earlierSendings, endSteps, giveFocusBack, keepFocus, notice, startNotices, tellForbidden, tellRefused, tellStep, tellUnanswered } from "./notices.js";
 import { Sender } from "./sender.js";
-import { dayInWords, readDesk } from "./spelling.js";
+import { dayInWords, laterOf, moneyInWords, readDesk } from "./spelling.js";
 import { dayReplied, showDay, startDayView } from "./view_day.js";
-import { clearPay, enterPay, startPayView } from "./view_pay.js";
+import { clearPay, enterPay, followDay, startPayView } from "./view_pay.js";
 import { lookUpTicket, showBatch, showTicket, startLookUps } from "./view_lookups.js";
 import { showOther, startViews } from "./views.js";
-import { inWords } from "./words.js";
 
 const NOT_OPEN = [42, 43];
 const ALREADY_PAID = 52;
@@ -24,7 +23,10 @@ class Page {
   constructor(journal) {
     this.#journal = journal;
     this.#sender = new Sender(journal, tellStep);
-    byId("send-now").addEventListener("click", () => this.#sender.sendNow());
+    byId("send-now").addEventListener("click", () => {
+      byId("progress-text").focus({ preventScroll: true });
+      this.#sender.sendNow();
+    });
     addEventListener("online", () => this.#sender.sendNow());
   }
 
@@ -41,24 +43,32 @@ class Page {
     this.showState();
   }
 
-  showState() {
-    const { desk, day } = this.record;
-    byId("state").textContent = `Desk ${desk}. ${day === null ? "No day is chosen" : dayInWords(day)}`;
-    showDay(this.record);
+  // Remembers a day that is closed, if it is later than those that this page knows.
+  async knowClosed(day) {
+    const closed = laterOf(this.record.closed, day);
+    if (closed !== this.record.closed) await this.#journal.change({ closed });
   }
 
-  // The answer of a look-up. One that a later look-up or a reply has overtaken never comes.
+  showState() {
+    const { desk, day } = this.record;
+    byId("state").textContent = `Desk ${desk}. ${day === null ? "No business day is open" : dayInWords(day)}`;
+    showDay(this.record);
+    followDay(this);
+  }
+
+  // Resolves to the answer of a look-up. If a later look-up or a request overtakes it, it never resolves.
   async lookUp(ask) {
     const place = ++this.#look_ups;
-    const asking = notice("noted", "Asking the counter.");
+    const told = asking();
     const answer = await ask();
-    asking.remove();
+    told.remove();
     return place === this.#look_ups ? answer : new Promise(() => {});
   }
 
   tellUnanswered(answer) {
-    if (answer.kind === "refused" || answer.kind === "fault") tellRefused(answer);
-    else notice("refused", inWords(answer).says, "Nothing was changed. Ask again.");
+    if (answer.kind === "forbidden") tellForbidden(answer, null);
+    else if (answer.kind === "refused" || answer.kind === "fault") tellRefused(answer);
+    else tellUnanswered(answer);
   }
 
   earlier(answer) {
@@ -66,52 +76,65 @@ class Page {
     return text === "" ? [] : [element("p", { class: "earlier" }, text)];
   }
 
-  // A new request, and what came of it.
-  async act(path, fields) {
+  // Sends a new request and shows its outcome. `shown` is the sum that the teller confirmed, in cents as a text, if there is one.
+  async act(path, fields, shown = null) {
     clearNotices();
-    await this.#through(() => this.#sender.submit(path, fields));
+    await this.#through(() => this.#sender.submit(path, fields, shown));
   }
 
-  // The request that an earlier life of this page left open.
+  // Sends the request that an earlier life of this page left open, and shows its outcome.
   async resume() {
     await this.#through(() => this.#sender.finish());
   }
 
   async #through(sent) {
-    const focused = document.activeElement;
+    this.#look_ups += 1;
+    keepFocus();
     this.#rest(true);
     try {
       const answer = await sent();
       await this.#sender.forget(this.#shown(answer));
     } catch (error) {
-      notice("refused", `This page can't go on: ${error.message}.`, "Load it again. An open request is kept, and sent again then.");
+      notice("refused", `This page can't continue: ${error.message}.`, "Reload it. An open request is kept, and sent again then.");
     }
-    endSteps();
     this.#rest(false);
+    if (endSteps()) giveFocusBack();
     this.showState();
-    if (document.activeElement === document.body) focused.focus();
   }
 
-  // While a request is open no other one can be made.
+  // While a request is open no other can be made.
   #rest(is_resting) {
     for (const form of document.querySelectorAll("fieldset.acts")) form.disabled = is_resting;
   }
 
-  // Shows what was answered; answers what the journal then keeps.
+  // Shows an answer; returns what the journal then keeps.
   #shown(answer) {
     this.#look_ups += 1;
-    if (answer.kind === "refused" || answer.kind === "fault") return this.#shownRefused(answer);
-    if (answer.kind !== "ticket") return dayReplied(this, answer);
-    clearPay();
-    showTicket(answer);
-    notice("done", `Ticket ${answer.ticket} is paid.`, "", ...this.earlier(answer));
-    return { last: answer.ticket };
+    if (answer.kind === "ticket") return this.#shownTicket(answer);
+    if (answer.kind === "opened" || answer.kind === "batch") return dayReplied(this, answer);
+    if (answer.kind === "forbidden") tellForbidden(answer, answer.request.path);
+    else this.#tellRefused(answer);
+    return NOT_OPEN.includes(answer.code) ? { day: null } : {};
   }
 
-  #shownRefused(answer) {
+  #shownTicket(ticket) {
+    const { shown } = ticket.request;
+    clearPay();
+    showTicket(ticket);
+    if (typeof shown === "string" && BigInt(shown) !== ticket.total) this.#tellOtherSum(ticket, BigInt(shown));
+    else notice("done", `Ticket ${ticket.ticket} is paid.`, "", ...this.earlier(ticket));
+    return { last: ticket.ticket };
+  }
+
+  #tellOtherSum(ticket, shown) {
+    const says = `Ticket ${ticket.ticket} is paid, but its total isn't the sum that was confirmed.`;
+    const advises = `The total, ${moneyInWords(ticket.total)}, is what was paid: pay out that. You confirmed ${moneyInWords(shown)}. Tell the people who maintain this page.`;
+    notice("refused", says, advises, ...this.earlier(ticket));
+  }
+
+  #tellRefused(answer) {
     const button = answer.code === ALREADY_PAID ? [this.#ticketButton(answer.ticket)] : [];
     tellRefused(answer, ...this.earlier(answer), ...button);
-    return NOT_OPEN.includes(answer.code) ? { day: null } : {};
   }
 
   #ticketButton(number) {
@@ -125,7 +148,7 @@ function chosenDesk(journal) {
   showOther("start");
   return new Promise((resolve) => {
     onSubmit(byId("start").querySelector("form"), async () => {
-      const desk = readField(byId("desk"), readDesk, "a number from 0 to 999");
+      const desk = readField(byId("desk"), readDesk, "Enter a desk number (0 to 999)");
       if (desk === null) return;
       await journal.choose(desk);
       resolve();
@@ -134,6 +157,7 @@ function chosenDesk(journal) {
 }
 
 async function start() {
+  startNotices();
   await takeJournal(() => showOther("waiting"));
   const journal = await Journal.open();
   if (journal.record === null) await chosenDesk(journal);
@@ -148,4 +172,4 @@ async function start() {
   if (page.isOpen) await page.resume();
 }
 
-start().catch((error) => notice("refused", `This page can't start: ${error.message}.`, "It needs a browser of today, over HTTPS, that may keep data of this page."));
+start().catch((error) => notice("refused", `This page can't start: ${error.message}.`, "It needs a current browser, over HTTPS, that may store data for this page."));

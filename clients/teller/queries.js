@@ -1,4 +1,4 @@
-// Look-ups, which change nothing: each is asked again a few times where no answer comes, and then the teller is told.
+// Look-ups, which change nothing. Each is asked again a few times if no answer comes; then the teller is told.
 
 import { readBatch, readTicket } from "./answers.js";
 import { asked } from "./messages.js";
@@ -43,4 +43,13 @@ export function askSheet(customer, month) {
 
 export function isMissing(answer) {
   return answer.kind === "fault" && answer.code === NOT_FOUND;
+}
+
+// The batch of the first of these days that has one; null if none has; an answer that is neither, if one comes first.
+export async function askFirstBatch(days) {
+  for (const day of days) {
+    const answer = await askBatch(day);
+    if (!isMissing(answer)) return answer;
+  }
+  return null;
 }

@@ -1,19 +1,31 @@
-// The rules by which a request gets its one reply. It is written into the journal, with its number, before it is sent; it is sent again under that number, with growing pauses,
-// until the counter's reply has come; and there is one request at a time.
+// The rules by which a request gets its one reply. The request is written into the journal, with its number, before it is sent. It is sent again under that number, with growing
+// pauses, until the counter's reply has come. There is one request at a time.
 //
-// NumberReused means that another request of this desk has the number. The same request would have been given its reply, so this one was never done under that number, and
-// whatever copy of it is still on its way never will be: it goes on under a higher number, which is written into the journal first.
+// NumberReused means that another request of this desk has the number. The same request would have got its own reply, so this one was never done under that number, and no copy of it
+// that is still on its way ever will be. It continues under a higher number, which is written into the journal first.
+//
+// A fault, or the proxy's word that this user may not do it, answers one sending. On the first sending it is final: nothing was done, and no other sending is on its way. On a later one
+// it tells nothing about the sendings before it, so the request stays open.
 
 import { replyTo } from "./answers.js";
 import { posted } from "./messages.js";
 
 const PAUSES = [500, 1000, 2000, 4000, 8000, 15000];
 const NUMBER_REUSED = 10;
-// Faults of the way, and not of what was sent: no good head, a head or length that was changed, a message that was cut.
+// Faults of the way, not of what was sent: an unreadable head, a changed head or length, a message that was cut.
 const DAMAGED = [60, 61, 63, 68];
 
-function isFinal(answer) {
-  return ["ticket", "batch", "opened", "refused"].includes(answer.kind) || (answer.kind === "fault" && !DAMAGED.includes(answer.code));
+function isReply(answer) {
+  return ["ticket", "batch", "opened", "refused"].includes(answer.kind);
+}
+
+// An answer to this sending alone, which would be the same for the next one.
+function isOfOneSending(answer) {
+  return answer.kind === "forbidden" || (answer.kind === "fault" && !DAMAGED.includes(answer.code));
+}
+
+function isFinal(answer, sent) {
+  return isReply(answer) || (isOfOneSending(answer) && sent === 1);
 }
 
 function isReused(answer) {
@@ -36,17 +48,17 @@ export class Sender {
     return this.#journal.record.open !== null;
   }
 
-  // A new request, up to its reply.
-  submit(path, fields) {
+  // Sends a new request until its reply has come. `shown` is the sum that the teller confirmed, in cents as a text, if there is one.
+  submit(path, fields, shown = null) {
     return this.#alone(async () => {
       if (this.isOpen) throw new Error("a request is open");
       const number = this.#journal.record.next;
-      await this.#journal.change({ next: number + 1, open: { number, step: 1, sent: 0, path, fields } });
+      await this.#journal.change({ next: number + 1, open: { number, step: 1, sent: 0, path, fields, shown } });
       return this.#finished();
     });
   }
 
-  // The open request, up to its reply. It stays in the journal until `forget`.
+  // Sends the open request until its reply has come. It stays in the journal until `forget`.
   finish() {
     return this.#alone(() => this.#finished());
   }
@@ -66,7 +78,7 @@ export class Sender {
       const answer = await this.#sentOnce();
       if (isReused(answer)) {
         await this.#renumber();
-      } else if (isFinal(answer)) {
+      } else if (isFinal(answer, this.#journal.record.open.sent)) {
         return { ...answer, request: this.#journal.record.open };
       } else {
         await this.#pause(answer, PAUSES[Math.min(failures, PAUSES.length - 1)]);
@@ -75,7 +87,7 @@ export class Sender {
     }
   }
 
-  // The reply was shown: nothing of the request is kept.
+  // Drops the request from the journal, once its reply was shown.
   async forget(changes) {
     await this.#journal.change({ ...changes, open: null });
   }

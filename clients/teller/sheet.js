@@ -1,4 +1,4 @@
-// The sheet of an owner's unpaid bonds, read exactly as docs/FORMATS.md prints it. Where any byte is another than those of a sheet the answer is null: nothing is guessed.
+// Reads the sheet of an owner's unpaid bonds exactly as docs/FORMATS.md prints it. If any byte differs from a sheet's, the result is null: nothing is guessed.
 
 import { readMoney } from "./spelling.js";
 
@@ -26,7 +26,7 @@ export const NOTES = {
   NI: "not issued yet",
   NE: "under 12 months: can't be paid yet",
   P5: "under 5 years: less three months' interest",
-  MA: "30 years and more: earns no more interest",
+  MA: "30 years or more: earns no more interest",
   "": "",
 };
 
@@ -40,7 +40,7 @@ function line(cells) {
 
 const HEADING = line({ ...Object.fromEntries(COLUMNS.map(([name, heading]) => [name, heading])), note: "Note" });
 
-// The cells of a line, where printing them gives that very line.
+// The cells of a line, if printing them gives that very line.
 function cellsOf(pattern, text) {
   const found = pattern.exec(text);
   if (found === null) return null;
@@ -48,7 +48,7 @@ function cellsOf(pattern, text) {
   return line(cells) === text ? cells : null;
 }
 
-// With its money as cents, where the value is price and interest.
+// The cells with their money as cents, if the value is price and interest.
 function moneyOf(cells) {
   if (cells === null) return null;
   const [price, interest, value] = [cells.price, cells.interest, cells.value].map(readMoney);

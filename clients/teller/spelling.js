@@ -1,5 +1,6 @@
-// The spellings of docs/FORMATS.md: customers, desks, serial numbers, months, days and money. A reader answers null where the text spells no value.
+// The spellings of docs/FORMATS.md: customers, desks, serial numbers, months, days and money. A reader returns null if the text spells no value.
 
+const WEEKDAYS = ["Sunday", "Monday", "Tuesday", "Wednesday", "Thursday", "Friday", "Saturday"];
 const MONTHS = ["January", "February", "March", "April", "May", "June", "July", "August", "September", "October", "November", "December"];
 
 function wholeNumber(text, most_digits, least, most) {
@@ -20,14 +21,14 @@ export function readTicketNumber(text) {
   return wholeNumber(text.trim(), 15, 1, Number.MAX_SAFE_INTEGER);
 }
 
-// The one printed spelling of a serial number. What a teller types may have small letters and spaces.
+// The one printed spelling of a serial number. A teller may type small letters and spaces.
 export function readSerial(text) {
   const parts = /^([A-Z])-?([0-9]{1,10})-?EE$/.exec(text.replace(/\s/g, "").toUpperCase());
   if (parts === null || Number(parts[2]) === 0) return null;
   return `${parts[1]}${Number(parts[2])}EE`;
 }
 
-// A month as YYYY-MM, read from that or from MM/YYYY.
+// A month as YYYY-MM. It may be typed so, or as MM/YYYY.
 export function readMonth(text) {
   const parts = /^([0-9]{4})-([0-9]{2})$/.exec(text.trim()) ?? /^(?<month>[0-9]{2})\/(?<year>[0-9]{4})$/.exec(text.trim());
   if (parts === null) return null;
@@ -54,6 +55,30 @@ export function monthInWords(month) {
 
 export function dayInWords(day) {
   return `${Number(day.slice(8))} ${monthInWords(monthOf(day))}`;
+}
+
+export function weekdayInWords(day) {
+  return `${WEEKDAYS[noonOf(day).getUTCDay()]}, ${dayInWords(day)}`;
+}
+
+function noonOf(day) {
+  return new Date(`${day}T12:00:00Z`);
+}
+
+// The number of days from one day to a later one; negative if it is earlier.
+export function daysFrom(one, other) {
+  return Math.round((noonOf(other) - noonOf(one)) / 86_400_000);
+}
+
+// The days before a day, nearest first.
+export function daysBefore(day, count) {
+  const before = (days) => new Date(noonOf(day) - days * 86_400_000).toISOString().slice(0, 10);
+  return Array.from({ length: count }, (_, place) => before(place + 1)).filter((one) => readDay(one) !== null);
+}
+
+// The later of two days. Either may be null.
+export function laterOf(one, other) {
+  return (one ?? "") > (other ?? "") ? one : other;
 }
 
 export function today() {

@@ -30,25 +30,30 @@ export async function lookUpTicket(app, number) {
   byId("ticket").replaceChildren();
   const answer = await app.lookUp(() => askTicket(number));
   if (answer.kind === "ticket") showTicket(answer);
-  else if (isMissing(answer)) notice("noted", `There is no ticket ${number}.`, "Look at the number, and ask again.");
+  else if (isMissing(answer)) notice("noted", `There is no ticket ${number}.`, "Check the number.");
   else app.tellUnanswered(answer);
 }
 
 async function lookUpBatch(app, day) {
   byId("batch").replaceChildren();
   const answer = await app.lookUp(() => askBatch(day));
-  if (answer.kind === "batch") showBatch(answer);
-  else if (isMissing(answer)) notice("noted", `${dayInWords(day)} has no batch: it wasn't closed.`);
-  else app.tellUnanswered(answer);
+  if (answer.kind === "batch") {
+    await app.knowClosed(day);
+    showBatch(answer);
+  } else if (isMissing(answer)) {
+    notice("noted", `${dayInWords(day)} has no batch: it isn't closed.`);
+  } else {
+    app.tellUnanswered(answer);
+  }
 }
 
 export function startLookUps(app) {
   onSubmit(byId("ask-ticket"), () => {
-    const number = readField(byId("ticket-number"), readTicketNumber, "the number of a ticket");
+    const number = readField(byId("ticket-number"), readTicketNumber, "Enter a ticket number");
     if (number !== null) lookUpTicket(app, number);
   });
   onSubmit(byId("ask-batch"), () => {
-    const day = readField(byId("batch-day"), readDay, "a day from 2005-05-01 on, as 2012-02-06");
+    const day = readField(byId("batch-day"), readDay, "Enter a day (YYYY-MM-DD, from 2005-05-01)");
     if (day !== null) lookUpBatch(app, day);
   });
 }

@@ -1,47 +1,52 @@
-// A customer's sheet, the bonds that were chosen, and their payment.
+// A customer's sheet, the bonds that are chosen, and their payment.
+//
+// A bond is paid at its value in the month of the day that the page works on. So bonds are chosen only on a sheet of that month, and when another month's day begins, or the day ends,
+// nothing that was chosen stays: the sum that the teller confirms is the sum that is paid.
 
 import { byId, confirmed, element, onSubmit, readField } from "./elements.js";
 import { notice } from "./notices.js";
 import { askSheet } from "./queries.js";
-import { isPayable, NOTES } from "./sheet.js";
-import { counted, dayInWords, moneyInWords, monthInWords, monthOf, readCustomer, readMonth, readSerial, today } from "./spelling.js";
+import { isPayable } from "./sheet.js";
+import { sheetRegion } from "./sheet_table.js";
+import { counted, moneyInWords, monthInWords, monthOf, readCustomer, readMonth, readSerial, today, weekdayInWords } from "./spelling.js";
 
 const MOST_BONDS = 100;
-const COLUMNS = ["Pay", "Bond", "Denom.", "Issued", "Next accrual", "Final maturity", "Price", "Interest", "Rate", "Value", "Note"];
-const RIGHT = ["Denom.", "Price", "Interest", "Rate", "Value"];
+const ASKS_CUSTOMER = "Enter a customer number (1 to 9 digits)";
+const NOT_YET = { NI: "it isn't issued yet", NE: "it is less than 12 months old" };
 
-// The sheet that is shown, the bonds that are chosen on it, and those that were added by their serial numbers.
-const shown = { sheet: null, chosen: new Set(), added: [] };
+// The month in which bonds are paid now, or null; the sheet that is shown; the serial numbers that are chosen on it; and the bonds added from other sheets of the month.
+const shown = { month: null, sheet: null, chosen: new Set(), added: [] };
 
-function chosenSerials() {
-  const rows = shown.sheet === null ? [] : shown.sheet.rows;
-  return [...rows.map((row) => row.serial).filter((serial) => shown.chosen.has(serial)), ...shown.added];
-}
-
-function chosenValue() {
+function chosenBonds() {
   const rows = shown.sheet === null ? [] : shown.sheet.rows.filter((row) => shown.chosen.has(row.serial));
-  return rows.reduce((cents, row) => cents + row.value, 0n);
+  return [...rows, ...shown.added];
 }
 
-// How many bonds, and what those of the sheet come to.
-function sumInWords() {
-  const count = chosenSerials().length;
-  if (count === 0) return "No bond is chosen.";
-  const chosen = `${counted(count, "bond", "bonds")} chosen`;
-  const on_sheet = count - shown.added.length;
-  if (on_sheet === 0) return `${chosen}.`;
-  const some = on_sheet === count ? "" : `${on_sheet} of them `;
-  return `${chosen}, ${some}worth ${moneyInWords(chosenValue())} in ${monthInWords(shown.sheet.month)}.`;
+function sumOf(bonds) {
+  return bonds.reduce((cents, bond) => cents + bond.value, 0n);
+}
+
+function chosenInWords(bonds) {
+  if (bonds.length === 0) return "No bond is chosen.";
+  return `${counted(bonds.length, "bond", "bonds")} chosen, worth ${moneyInWords(sumOf(bonds))} in ${monthInWords(shown.month)}.`;
 }
 
 function showChosen() {
-  const more = chosenSerials().length > MOST_BONDS ? ` A ticket has ${MOST_BONDS} at most: pay the rest on another one.` : "";
-  byId("chosen").textContent = sumInWords() + more;
+  const bonds = chosenBonds();
+  const more = bonds.length > MOST_BONDS ? ` A ticket holds up to ${MOST_BONDS}: pay the rest on another one.` : "";
+  byId("chosen").textContent = chosenInWords(bonds) + more;
+}
+
+// ---- the sheet
+
+function canChoose() {
+  return shown.sheet !== null && shown.sheet.month === shown.month;
 }
 
 function chooser(row) {
   const box = element("input", { type: "checkbox", "aria-label": `Pay bond ${row.serial}` });
-  box.disabled = !isPayable(row);
+  box.disabled = !canChoose() || !isPayable(row);
+  box.checked = shown.chosen.has(row.serial);
   box.addEventListener("change", () => {
     if (box.checked) shown.chosen.add(row.serial);
     else shown.chosen.delete(row.serial);
@@ -50,62 +55,31 @@ function chooser(row) {
   return box;
 }
 
-// A cell with its column's name, which a narrow window shows beside it.
-function cell(place, text, attributes = {}) {
-  return element("td", { role: "cell", "data-name": COLUMNS[place], ...attributes }, text);
+function noDay() {
+  const link = element("a", { href: "#day" }, "Open or join a day");
+  return element("p", { class: "other-month" }, "No business day is open, so nothing can be chosen here. ", link);
 }
 
-function sheetRow(row) {
-  const money = { class: "money" };
-  const name = element("th", { scope: "row", role: "rowheader", "data-name": COLUMNS[1] }, row.serial);
-  const texts = [row.issued, row.next || "–", row.final || "–"].map((text, place) => cell(place + 3, text));
-  const sums = [row.price, row.interest].map((cents, place) => cell(place + 6, moneyInWords(cents), money));
-  const denom = cell(2, `$${Number(row.denom).toLocaleString("en-US")}`, money);
-  const last = [cell(8, row.rate || "–", money), cell(9, moneyInWords(row.value), money), cell(10, NOTES[row.note], { class: "note" })];
-  return element("tr", { role: "row" }, cell(0, chooser(row)), name, denom, ...texts, ...sums, ...last);
-}
-
-function totalRow(totals) {
-  const money = { class: "money" };
-  const empty = (place) => cell(place, "", { class: "none" });
-  const name = element("th", { scope: "row", role: "rowheader" }, "Total");
-  const sums = [totals.price, totals.interest].map((cents, place) => cell(place + 6, moneyInWords(cents), money));
-  const value = cell(9, moneyInWords(totals.value), money);
-  return element("tr", { role: "row" }, empty(0), name, ...[2, 3, 4, 5].map(empty), ...sums, empty(8), value, empty(10));
-}
-
-function sheetTable(sheet) {
-  const caption = element("caption", {}, `Unpaid bonds of customer ${sheet.customer} in ${monthInWords(sheet.month)}`);
-  const heading = (name) => element("th", { scope: "col", role: "columnheader", class: RIGHT.includes(name) ? "money" : "" }, name);
-  const group = (name, ...rows) => element(name, { role: "rowgroup" }, ...rows);
-  const head = group("thead", element("tr", { role: "row" }, ...COLUMNS.map(heading)));
-  return element("table", { class: "sheet", role: "table" }, caption, head, group("tbody", ...sheet.rows.map(sheetRow)), group("tfoot", totalRow(sheet.totals)));
-}
-
-// The sheet, which may be wider than the window and is then moved by the keyboard too.
-function sheetRegion(sheet) {
-  if (sheet.rows.length === 0) return element("p", {}, `Customer ${sheet.customer} owns no unpaid bond.`);
-  return element("div", { class: "wide", tabindex: "0", role: "region", "aria-label": "Unpaid bonds" }, sheetTable(sheet));
+// Says why nothing can be chosen on a sheet, with the way to the one on which it can.
+function otherMonth(app) {
+  if (shown.month === null) return noDay();
+  const button = element("button", { type: "button", class: "plain" }, `Show the bonds in ${monthInWords(shown.month)}`);
+  button.addEventListener("click", () => {
+    byId("month").value = shown.month;
+    ask(app);
+  });
+  const why = `Nothing can be chosen here: bonds are paid at their values in ${monthInWords(shown.month)}, the month of the open day. `;
+  return element("p", { class: "other-month" }, why, button);
 }
 
 function showSheet(app) {
-  const { sheet } = shown;
-  const { day } = app.record;
-  const is_other = day !== null && monthOf(day) !== sheet.month;
-  const told = () => `A bond is paid at its value in the month of the open day, ${monthInWords(monthOf(day))}. These values are those of ${monthInWords(sheet.month)}.`;
-  byId("sheet").replaceChildren(sheetRegion(sheet), ...(is_other ? [element("p", { class: "help" }, told())] : []));
+  byId("sheet").replaceChildren(...(canChoose() ? [] : [otherMonth(app)]), sheetRegion(shown.sheet, chooser));
   showChosen();
 }
 
-function clearChosen() {
-  shown.chosen.clear();
-  shown.added = [];
-  byId("others").replaceChildren();
-}
-
 async function ask(app) {
-  const customer = readField(byId("customer"), readCustomer, "a customer's number of 1 to 9 digits");
-  const month = customer === null ? null : readField(byId("month"), readMonth, "a month from 2005-05 on, as 2012-02");
+  const customer = readField(byId("customer"), readCustomer, ASKS_CUSTOMER);
+  const month = customer === null ? null : readField(byId("month"), readMonth, "Enter a month (YYYY-MM, from 2005-05)");
   if (month === null) return;
   clearPay();
   const answer = await app.lookUp(() => askSheet(customer, month));
@@ -118,66 +92,118 @@ async function ask(app) {
   showSheet(app);
 }
 
+// ---- bonds of other owners
+
 function showAdded() {
-  const items = shown.added.map((serial) => {
-    const remove = element("button", { type: "button", class: "plain" }, `Leave out ${serial}`);
+  const items = shown.added.map((bond) => {
+    const remove = element("button", { type: "button", class: "plain" }, `Remove ${bond.serial}`);
     remove.addEventListener("click", () => {
-      shown.added = shown.added.filter((other) => other !== serial);
+      shown.added = shown.added.filter((other) => other.serial !== bond.serial);
       showAdded();
       byId("serial").focus();
     });
-    return element("li", {}, `${serial} `, remove);
+    const facts = element("span", {}, `${bond.serial}, owner ${bond.owner}: ${moneyInWords(bond.value)}`);
+    return element("li", {}, facts, remove);
   });
   byId("others").replaceChildren(...(items.length === 0 ? [] : [element("ul", { "aria-label": "Other bonds to pay" }, ...items)]));
   showChosen();
 }
 
-function add() {
-  const serial = readField(byId("serial"), readSerial, "a serial number, as C12EE");
-  if (serial === null) return;
-  byId("serial").value = "";
-  byId("serial").focus();
-  if (chosenSerials().includes(serial)) {
-    notice("noted", `Bond ${serial} is chosen already.`);
-    return;
+async function add(app) {
+  const serial = readField(byId("serial"), readSerial, "Enter a serial number (such as C12EE)");
+  const owner = serial === null ? null : readField(byId("owner"), readCustomer, ASKS_CUSTOMER);
+  if (owner === null) return;
+  if (shown.month === null) tellNoDay();
+  else if (chosenBonds().some((bond) => bond.serial === serial)) notice("noted", `Bond ${serial} is already chosen.`);
+  else await addFrom(app, serial, owner, shown.month);
+}
+
+// Adds a bond from its owner's sheet, which tells that it is unpaid, and its value.
+async function addFrom(app, serial, owner, month) {
+  const sheet = await app.lookUp(() => askSheet(owner, month));
+  const row = sheet.kind === "sheet" ? sheet.rows.find((one) => one.serial === serial) : undefined;
+  if (sheet.kind !== "sheet") app.tellUnanswered(sheet);
+  else if (month !== shown.month) notice("noted", "The business day changed meanwhile.", "Add the bond again.");
+  else if (row === undefined) notice("noted", `Bond ${serial} isn't among the unpaid bonds that customer ${owner} owns.`, "Compare the serial number and the owner with the paper and the register. The bond may be paid already.");
+  else if (!isPayable(row)) notice("noted", `Bond ${serial} can't be paid in ${monthInWords(month)}: ${NOT_YET[row.note]}.`);
+  else choose(app, { serial, owner, value: row.value });
+}
+
+// Chooses it on the sheet that is shown, if it is there, and else beside it. So no bond is chosen twice.
+function choose(app, bond) {
+  if (canChoose() && shown.sheet.rows.some((row) => row.serial === bond.serial)) {
+    shown.chosen.add(bond.serial);
+    showSheet(app);
+  } else if (!shown.added.some((other) => other.serial === bond.serial)) {
+    shown.added.push(bond);
+    showAdded();
   }
-  shown.added.push(serial);
-  showAdded();
+  for (const field of ["serial", "owner"]) byId(field).value = "";
+  byId("serial").focus();
+}
+
+// ---- paying
+
+function tellNoDay() {
+  notice("noted", "No business day is open.", "Open or join the day first, under Day.");
 }
 
 async function pay(app) {
-  const serials = chosenSerials();
+  const bonds = chosenBonds();
   const { day } = app.record;
-  if (day === null) notice("noted", "This page works on no day.", "Open or join the day first, under Day.");
-  else if (serials.length === 0) notice("noted", "No bond is chosen.", "Choose the bonds to pay on the sheet, or add them by their serial numbers.");
-  else if (serials.length > MOST_BONDS) notice("noted", `A ticket has ${MOST_BONDS} bonds at most, and ${serials.length} are chosen.`, "Choose fewer, and pay the rest on another ticket.");
-  else await payTo(app, day, serials);
+  if (day === null || monthOf(day) !== shown.month) tellNoDay();
+  else if (bonds.length === 0) notice("noted", "No bond is chosen.", "Choose the bonds to pay on the sheet, or add bonds of other owners.");
+  else if (bonds.length > MOST_BONDS) notice("noted", `A ticket holds up to ${MOST_BONDS} bonds, and ${bonds.length} are chosen.`, "Choose fewer, and pay the rest on another ticket.");
+  else await payTo(app, day, bonds);
 }
 
-async function payTo(app, day, serials) {
-  const payee = readField(byId("payee"), readCustomer, "a customer's number of 1 to 9 digits");
+async function payTo(app, day, bonds) {
+  const payee = readField(byId("payee"), readCustomer, ASKS_CUSTOMER);
   if (payee === null) return;
-  const title = `Pay ${counted(serials.length, "bond", "bonds")} to customer ${payee}?`;
-  const text = `${sumInWords()} On ${dayInWords(day)}: ${serials.join(", ")}.`;
-  if (await confirmed(title, text, "Pay")) await app.act("/redeem", { day, payee, serials });
+  const serials = bonds.map((bond) => bond.serial);
+  const sum = sumOf(bonds);
+  const lines = [`${counted(bonds.length, "bond", "bonds")}, worth ${moneyInWords(sum)} in ${monthInWords(monthOf(day))}: ${serials.join(", ")}.`, `Business day: ${weekdayInWords(day)}.`];
+  if (await confirmed(`Pay ${moneyInWords(sum)} to customer ${payee}?`, lines, "Pay")) await app.act("/redeem", { day, payee, serials }, sum.toString());
 }
 
-// Nothing of a customer stays in the view.
+// ---- what stays
+
+function clearChosen() {
+  shown.chosen.clear();
+  shown.added = [];
+  byId("others").replaceChildren();
+}
+
+// Leaves nothing of a customer in the view.
 export function clearPay() {
   shown.sheet = null;
   clearChosen();
   byId("sheet").replaceChildren();
-  byId("payee").value = "";
+  for (const field of ["payee", "serial", "owner"]) byId(field).value = "";
   showChosen();
 }
 
-// As the view is entered: the month is that of the open day, unless a sheet is there.
+// Follows the day that the page works on. In another month, or without a day, nothing that was chosen stays, and a sheet stays only if it is of that month.
+export function followDay(app) {
+  const month = app.record.day === null ? null : monthOf(app.record.day);
+  if (month === shown.month) return;
+  shown.month = month;
+  if (shown.sheet !== null && shown.sheet.month === month) {
+    clearChosen();
+    showSheet(app);
+  } else {
+    clearPay();
+    byId("month").value = month ?? monthOf(today());
+  }
+}
+
+// As the view is entered, the month is that of the open day, unless a sheet is shown.
 export function enterPay(app) {
   if (shown.sheet === null) byId("month").value = monthOf(app.record.day ?? today());
 }
 
 export function startPayView(app) {
   onSubmit(byId("ask-sheet"), () => ask(app));
-  onSubmit(byId("add-bond"), add);
+  onSubmit(byId("add-bond"), () => add(app));
   onSubmit(byId("pay-bonds"), () => pay(app));
 }

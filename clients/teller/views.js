@@ -1,4 +1,4 @@
-// Which view is shown: that of the address's hash. The keyboard goes to its heading.
+// Shows the view that the address's hash names. The keyboard goes to its heading.
 
 import { byId, show } from "./elements.js";
 
@@ -25,7 +25,7 @@ function named() {
   return VIEWS.includes(name) ? name : "day";
 }
 
-// A view that has no address: before a desk is chosen, and where another tab has it.
+// Shows a view that has no address: before a desk is chosen, or while another tab has the journal.
 export function showOther(name) {
   show(byId("views"), false);
   showOnly(name);
@@ -36,7 +36,7 @@ export function goTo(name) {
   else location.hash = name;
 }
 
-// `entered` is called with the name of each view that is shown.
+// Starts the views. `entered` is called with the name of each view that is shown.
 export function startViews(entered) {
   show(byId("views"), true);
   showOnly(named());
