@@ -1,5 +1,5 @@
 #!/usr/bin/env python3
-"""The counter of a savings bond paying agent, for scripts and back offices: its requests, each of which gets its one reply, whatever is stopped or lost.
+"""A client of the counter of a savings bond paying agent, for scripts and back offices. Each request gets its one reply, whatever is stopped or lost.
 
     >>> from counter import Counter
     >>> with Counter("desk3.journal", "http://127.0.0.1:8377", desk=3) as counter:
@@ -8,15 +8,19 @@
     {'opened': '2012-02-06'}
     {'day': '2012-02-06', 'lines': [..], 'payee': 7, 'ticket': 1, 'total': '63.23'}
 
-A journal is a file that has the number of a desk and the numbers of its requests. A request is on the disk, with its number, before it is sent, and it is sent
-again under that number until its reply has come: after a lost connection, a time limit, an answer 503, or a new start of the script. So a journal belongs to one
-desk, a desk has one journal, and one process at a time uses it.
+A journal is a file that holds a desk's number and the numbers of its requests. A request is on the disk, with its number, before it is sent. It is sent again
+under that number until its reply has come: after a lost connection, a timeout, an answer 503, too many requests (429), or a restart of the script. So a
+journal belongs to one desk, a desk has one journal, and one process at a time uses it.
 
-After a stop, the same call again sends the request that is open, under its own number. Another call is told by StillOpen; `finish` sends what is open. A
-`bookmark` is a value of the script's own, kept in the journal in one step with the reply: a script that goes through a list keeps its place in it.
+After a stop, the same call sends the open request again, under its own number. Any other call raises StillOpen; `finish` sends what is open. A
+`bookmark` is a value of the script's own, kept in the journal in one step with the reply: a script that works through a list keeps its place in it.
 
-A refusal is raised as Refused. Replies, tickets, batches and rows are the counter's own JSON objects, with money as texts. Standard library only; Python 3.8
-and later, on systems with flock. `python3 counter.py --help` has the commands.
+A refusal raises Refused. If the counter can't read a request, its first sending raises Fault; if a proxy says that the user may not make it, Forbidden. Either
+ends the request, since nothing was done. After a second sending neither tells anything about the first, so the request stays open and is sent again: `told`
+gets a text, and NoReply is raised when `patience` ends.
+
+Replies, tickets, batches and rows are the counter's own JSON objects, with money as texts. The module needs the standard library only, Python 3.8 or later,
+and a system with flock. `python3 counter.py --help` lists the commands.
 """
 from __future__ import annotations
 
@@ -36,7 +40,7 @@ import time
 import urllib.parse
 from typing import Any, Callable, Dict, Iterator, List, NamedTuple, Optional, Sequence, Tuple, Union
 
-__all__ = ["BadFile", "BadJournal", "BadValue", "Counter", "CounterError", "Fault", "JournalInUse", "NoReply", "Refused", "Sheet", "StillOpen", "register"]
+__all__ = ["BadFile", "BadJournal", "BadValue", "Counter", "CounterError", "Fault", "Forbidden", "JournalInUse", "NoReply", "Refused", "Sheet", "StillOpen", "register"]
 
 Json = Dict[str, Any]
 Reader = Callable[[str], Optional[Any]]
@@ -46,28 +50,32 @@ MOST_SERIALS = 100
 MOST_NUMBER = 2**63 - 1
 NUMBER_REUSED = 10
 NOT_FOUND = 69
-#: Faults of the way, and not of what was sent: the same request is sent again.
+#: Faults of the way, not of what was sent: the same request is sent again.
 DAMAGED = (60, 61, 63, 68)
 #: Seconds between one sending and the next; the last is repeated.
 PAUSES = (0.1, 0.2, 0.5, 1, 2, 4, 8, 15)
 #: Longer than the 30 seconds for which another client can hold the counter.
 TIME_LIMIT = 40.0
+#: The body of an answer 403 by which a proxy says that the user's group may not make the request. It passed nothing to the counter.
+FORBIDDEN = '{"forbidden":"group"}'
+#: A header that no page of another origin can send without asking first. The proxy demands it.
+OWN = {"X-Counter-Client": "counter.py"}
 DENOMINATIONS = (50, 75, 100, 200, 500, 1000, 5000, 10000)
 
 
-# ---- what can go wrong
+# ---- errors
 
 
 class CounterError(Exception):
-    """All that this module raises by itself."""
+    """The base of every error that this module raises itself."""
 
 
 class BadValue(CounterError, ValueError):
-    """A value that the counter can't read; nothing was sent."""
+    """A value that the counter can't read. Nothing was sent."""
 
 
 class BadFile(CounterError):
-    """A file has a fault in a row, counted from 1, the header."""
+    """A row of a file is wrong. Rows count from 1, which is the header."""
 
     def __init__(self, row: int, fault: str) -> None:
         super().__init__(f"row {row}: {fault}")
@@ -75,24 +83,24 @@ class BadFile(CounterError):
 
 
 class BadJournal(CounterError):
-    """The file is no journal, or that of another desk."""
+    """The file is no journal, or another desk's."""
 
 
 class JournalInUse(CounterError):
-    """Another process has the journal."""
+    """Another process uses the journal."""
 
 
 class StillOpen(CounterError):
-    """Another request has no reply yet: `finish` sends it again."""
+    """Another request has no reply yet. `finish` sends it again."""
 
 
 class NoReply(CounterError):
-    """The patience was over before the reply came. A request stays open in the journal."""
+    """`patience` ended before the reply came. The request stays open in the journal, and may have been done."""
 
 
 class Refused(CounterError):
-    """The counter refused, and nothing was changed. `reply` is its answer, `details` what it names (a month, serial or ticket), and `rows` the rows of the file that was
-    being registered, where one was."""
+    """The counter refused the request, and nothing was changed. `reply` is its answer, `details` what that names (a month, serial or ticket), and `rows` the rows
+    of the file that was being registered, if there was one."""
 
     def __init__(self, reply: Json) -> None:
         self.reply, self.code, self.name = reply, reply["code"], reply["refused"]
@@ -105,17 +113,26 @@ class Refused(CounterError):
 
 
 class Fault(CounterError):
-    """The counter can't read the request, and nothing was changed."""
+    """The counter can't read the request, which was sent once. Nothing was changed, and the journal keeps nothing of it."""
 
     def __init__(self, answer: Json) -> None:
         self.answer, self.code, self.name, self.field = answer, answer["code"], answer["fault"], answer.get("field")
         super().__init__(f"{self.name} (code {self.code})" + (f", field {self.field}" if self.field else ""))
 
 
-# ---- spellings: each function answers the printed spelling, or raises BadValue
+class Forbidden(CounterError):
+    """A proxy says that the user's group may not make the request, which was sent once. Nothing was done, and the journal keeps nothing of it."""
+
+    def __init__(self, path: str) -> None:
+        self.path = path
+        super().__init__(f"this user may not ask for {path}; nothing was done")
+
+
+# ---- spellings: each function returns the printed spelling, or raises BadValue
 
 
 def whole(value: Union[int, str], least: int, most: int, name: str) -> int:
+    """A whole number within bounds, from a number or a text of digits."""
     text = str(value)
     if isinstance(value, bool) or not re.fullmatch(r"[0-9]{1,19}", text) or not least <= int(text) <= most:
         raise BadValue(f"{name} is from {least} to {most}, and not {value!r}")
@@ -123,14 +140,15 @@ def whole(value: Union[int, str], least: int, most: int, name: str) -> int:
 
 
 def serial_of(text: str) -> str:
-    parts = re.fullmatch(r"([A-Z])-?([0-9]{1,10})-?EE", text)
+    parts = re.fullmatch(r"([A-Z])-?([0-9]{1,10})-?EE", text) if isinstance(text, str) else None
     if parts is None or int(parts[2]) == 0:
         raise BadValue(f"{text!r} is no serial number, as C12EE")
     return f"{parts[1]}{int(parts[2])}EE"
 
 
 def month_of(text: str) -> str:
-    parts = re.fullmatch(r"([0-9]{4})-([0-9]{2})", text) or re.fullmatch(r"()([0-9]{2})/([0-9]{4})", text)
+    typed = text if isinstance(text, str) else ""
+    parts = re.fullmatch(r"([0-9]{4})-([0-9]{2})", typed) or re.fullmatch(r"()([0-9]{2})/([0-9]{4})", typed)
     month = "" if parts is None else f"{parts[1] or parts[3]}-{parts[2]}"
     if not "2005-05" <= month <= "2199-12" or not "01" <= month[5:] <= "12":
         raise BadValue(f"{text!r} is no month from 2005-05 to 2199-12")
@@ -158,33 +176,49 @@ def customer_of(value: Union[int, str]) -> int:
     return whole(value, 1, 999_999_999, "a customer")
 
 
+def with_keys(row: Any, needed: Sequence[str], other: str, what: str) -> Json:
+    """The row, if it has the needed keys, perhaps the other one, and no more. A misspelt key would lose its value without a word."""
+    if not isinstance(row, dict):
+        raise BadValue(f"{what} is a dict with the keys {', '.join(needed)}, and not {row!r}")
+    for key in row:
+        if key not in (*needed, other):
+            raise BadValue(f"{what} has no key {key!r}; its keys are {', '.join(needed)} and perhaps {other}")
+    for key in needed:
+        if key not in row:
+            raise BadValue(f"{what} lacks the key {key!r}")
+    return row
+
+
 def bond_of(bond: Json) -> Json:
-    """A bond as it is sent, with its keys in one order."""
+    """A bond as it is sent, with its keys in one order. BadValue names a key that is unknown or missing."""
+    with_keys(bond, ("serial", "denom", "issued", "owner"), "coowner", "a bond")
     coowner = bond.get("coowner")
     read = {"serial": serial_of(bond["serial"]), "denom": denom_of(bond["denom"]), "issued": month_of(bond["issued"]), "owner": customer_of(bond["owner"])}
     return read if coowner in (None, "") else {**read, "coowner": customer_of(coowner)}
 
 
 def rate_row_of(row: Json) -> Json:
+    """A row of rates as it is sent, with its keys in one order. BadValue names a key that is unknown or missing."""
+    with_keys(row, ("from", "rate"), "extension", "a row of rates")
     extension = row.get("extension")
     read = {"from": month_of(row["from"]), "rate": rate_of(row["rate"])}
     return read if extension in (None, "") else {**read, "extension": rate_of(extension)}
 
 
 def rate_of(text: str) -> str:
-    if re.fullmatch(r"[0-9]{1,2}(\.[0-9]{1,2})?%?", text) is None:
+    if not isinstance(text, str) or re.fullmatch(r"[0-9]{1,2}(\.[0-9]{1,2})?%?", text) is None:
         raise BadValue(f"{text!r} is no rate, as 3.50")
     return text
 
 
 def cents_of(text: Any) -> Optional[int]:
-    """The cents of printed money, or None."""
+    """The cents of printed money. None for any other text."""
     if not isinstance(text, str) or re.fullmatch(r"(0|[1-9][0-9]*)\.[0-9]{2}", text) is None:
         return None
     return int(text.replace(".", ""))
 
 
-# ---- what was answered: a text that isn't just that of an answer to what was asked is none
+# ---- answers: a text that isn't exactly an answer to what was asked is none
 
 
 def compact(value: Any) -> str:
@@ -192,7 +226,7 @@ def compact(value: Any) -> str:
 
 
 def exactly(text: str, keys: Sequence[str]) -> Optional[Json]:
-    """The object, where its compact text with these keys in this order is the text."""
+    """The object, if its compact text with these keys in this order is the text."""
     try:
         value = json.loads(text)
     except ValueError:
@@ -220,7 +254,7 @@ def batch_in(text: str) -> Optional[Json]:
 
 
 def with_its(found: Optional[Json], **asked: Any) -> Optional[Json]:
-    """What was found, where it is that which was asked for."""
+    """What was found, if it is what was asked for."""
     return found if found is not None and all(found[name] == value for name, value in asked.items()) else None
 
 
@@ -231,7 +265,7 @@ def row_in(text: str) -> Optional[Json]:
 
 
 def reply_in(path: str, fields: Json, text: str) -> Optional[Json]:
-    """The reply to an act, where the text is one and speaks of just what was asked."""
+    """The reply to an act, if the text is one and speaks of exactly what was asked."""
     if path == "/redeem":
         ticket = ticket_in(text)
         asked = (fields["day"], fields["payee"], fields["serials"])
@@ -249,11 +283,21 @@ def reply_in(path: str, fields: Json, text: str) -> Optional[Json]:
 
 
 class Answer(NamedTuple):
-    """What came: a `reply`, a "refused" request, a "fault", an "unserved" request, or "none" of the counter, with what was met instead."""
+    """What came: a `reply`, a "refused" request, a "fault", an "unserved" request, one that the user may not make ("forbidden"), or no answer of the counter
+    ("none"), with what was met instead."""
 
     kind: str
     value: Any = None
     met: str = ""
+
+
+def foreign(status: int, text: str) -> Answer:
+    """What a proxy says in the counter's place."""
+    if status == 403 and text == FORBIDDEN:
+        return Answer("forbidden", met="the proxy says that this user may not do this")
+    if status == 429:
+        return Answer("none", met="too many requests (status 429)")
+    return Answer("none", met=f"an answer of status {status} that isn't the counter's")
 
 
 def answer_of(status: int, text: str, read: Reader) -> Answer:
@@ -272,7 +316,7 @@ def answer_of(status: int, text: str, read: Reader) -> Answer:
         kind = "fault"
     is_named = kind == "reply" or (value is not None and type(value.get("code")) is int and type(value.get(kind)) is str)
     if value is None or not is_named:
-        return Answer("none", met=f"an answer of status {status} that is none of the counter's")
+        return foreign(status, text)
     return Answer(kind, value, f"{value['unserved']}" if kind == "unserved" else "")
 
 
@@ -280,7 +324,7 @@ def answer_of(status: int, text: str, read: Reader) -> Answer:
 
 
 class Sheet(NamedTuple):
-    """The rows of a sheet and its totals, each by the names of its columns, as texts; and the sheet's own text."""
+    """A sheet's rows and totals, each by the names of its columns, as texts; and the sheet's own text."""
 
     rows: List[Dict[str, str]]
     totals: Dict[str, str]
@@ -305,7 +349,7 @@ HEADING = sheet_line({**{name: name.capitalize() for name, _ in COLUMNS}, "note"
 
 
 def cells_in(pattern: "re.Pattern[str]", line: str) -> Optional[Dict[str, str]]:
-    """The cells of a line, where printing them gives that very line and the value is price and interest."""
+    """The cells of a line, if printing them gives that very line and the value is price and interest."""
     found = pattern.fullmatch(line)
     if found is None:
         return None
@@ -317,7 +361,7 @@ def cells_in(pattern: "re.Pattern[str]", line: str) -> Optional[Dict[str, str]]:
 
 
 def sheet_in(text: str) -> Optional[Sheet]:
-    """A sheet, read exactly; None where any byte is another than those of a sheet."""
+    """Reads a sheet exactly. None if any byte differs from a sheet's."""
     lines = text.split("\n")
     if len(lines) < 3 or lines[0] != HEADING or lines[-1] != "":
         return None
@@ -335,7 +379,7 @@ def sheet_in(text: str) -> Optional[Sheet]:
 
 
 class Journal:
-    """The file of a desk's numbers. Each change is a new file that is on the disk whole before it takes the old one's name."""
+    """The file of a desk's numbers. Each change is a new file, which is whole on the disk before it takes the old one's name."""
 
     def __init__(self, path: str, desk: Optional[int]) -> None:
         self.path = os.path.abspath(path)
@@ -352,7 +396,8 @@ class Journal:
             raise
 
     def begun(self, desk: Optional[int]) -> Json:
-        """What the file has, or a new desk's record. Its first number is the time in milliseconds, above all that the desk has used by counting up from an earlier one."""
+        """Reads the file, or makes a new desk's record. Its first number is the time in milliseconds: above every number that the desk has reached by counting up from
+        an earlier time."""
         try:
             with open(self.path, encoding="utf-8") as file:
                 record = json.load(file)
@@ -396,7 +441,7 @@ class Journal:
 
 
 class Way:
-    """One message at a time, each on a connection of its own, since a kept one would hold the counter."""
+    """Sends one message at a time, each on its own connection: a kept one would hold the counter."""
 
     def __init__(self, address: str, user: Optional[str], password: Optional[str], certificate: Optional[str], time_limit: float) -> None:
         parts = urllib.parse.urlsplit(address)
@@ -404,7 +449,7 @@ class Way:
             raise BadValue(f"{address!r} is no address, as http://127.0.0.1:8377")
         self.host, self.port, self.time_limit = parts.hostname, parts.port, time_limit
         self.context = ssl.create_default_context(cafile=certificate) if parts.scheme == "https" else None
-        self.headers = {"Connection": "close"}
+        self.headers = {"Connection": "close", **OWN}
         if user is not None:
             self.headers["Authorization"] = "Basic " + base64.b64encode(f"{user}:{password or ''}".encode()).decode()
 
@@ -430,9 +475,20 @@ class Way:
 # ---- the counter
 
 
+def is_of_one_sending(answer: Answer) -> bool:
+    """Whether it answers one sending alone, and would be the same for the next one."""
+    return answer.kind == "forbidden" or (answer.kind == "fault" and answer.value["code"] not in DAMAGED)
+
+
+def error_of(answer: Answer, path: str) -> CounterError:
+    return Forbidden(path) if answer.kind == "forbidden" else Fault(answer.value)
+
+
 class Counter:
-    """The counter at an address, for the desk of a journal. `patience` is for how many seconds a call tries before it raises NoReply, without an end where it is None;
-    `told` is called with a text for each failure that is met. `again` tells of the last request whether it had been sent before the sending that brought its reply."""
+    """The counter at an address, for the desk of a journal.
+
+    `patience` is for how many seconds a call tries before it raises NoReply; None is without an end. `told` is called with a text for each failure that is met.
+    `again` says of the last request whether it was sent more than once."""
 
     def __init__(
         self,
@@ -467,27 +523,27 @@ class Counter:
 
     @property
     def open_request(self) -> Optional[Json]:
-        """The request that has no reply yet: its path, fields, number and how often it was sent."""
+        """The request that has no reply yet: its path, fields, number, and how often it was sent. None if there is none."""
         return self.journal.record["open"]
 
     @property
     def last(self) -> Optional[Json]:
-        """The last request that was answered, with its reply."""
+        """The last request that got its reply, with that reply."""
         return self.journal.record["last"]
 
     @property
     def bookmark(self) -> Any:
-        """What was given as `bookmark` with the last request that was done and had one."""
+        """The `bookmark` of the last request that was done and had one."""
         return self.journal.record["bookmark"]
 
-    # Acts. Each answers the counter's reply, or raises Refused.
+    # Acts. Each returns the counter's reply, or raises Refused, Fault, Forbidden or NoReply.
 
     def add_rates(self, rates: Sequence[Json], bookmark: Any = None) -> Json:
-        """Rows of `from`, `rate` and perhaps `extension`."""
+        """Enters rows with the keys `from`, `rate` and perhaps `extension`."""
         return self.act("/rates", {"rates": [rate_row_of(row) for row in rates]}, bookmark)
 
     def add_bonds(self, bonds: Sequence[Json], bookmark: Any = None) -> Json:
-        """Rows of `serial`, `denom`, `issued`, `owner` and perhaps `coowner`."""
+        """Registers rows with the keys `serial`, `denom`, `issued`, `owner` and perhaps `coowner`."""
         return self.act("/bonds", {"bonds": [bond_of(bond) for bond in bonds]}, bookmark)
 
     def open_day(self, day: Union[str, datetime.date], bookmark: Any = None) -> Json:
@@ -502,24 +558,24 @@ class Counter:
     # Look-ups. They change nothing, and have no numbers.
 
     def inventory(self, customer: int, month: str) -> Sheet:
-        """The sheet of the unpaid bonds that a customer owns."""
+        """Returns the sheet of the unpaid bonds that a customer owns."""
         return self.ask(f"/inventory/{customer_of(customer)}/{month_of(month)}", sheet_in)
 
     def ticket(self, number: int) -> Optional[Json]:
         return self.ask(f"/ticket/{whole(number, 1, MOST_NUMBER, 'a ticket')}", lambda text: with_its(ticket_in(text), ticket=int(number)))
 
     def batch(self, day: Union[str, datetime.date]) -> Optional[Json]:
-        """The batch of a closed day."""
+        """Returns the batch of a closed day."""
         return self.ask(f"/batch/{day_of(day)}", lambda text: with_its(batch_in(text), day=day_of(day)))
 
     def value(self, denom: int, issued: str, month: str) -> Json:
-        """The row of a bond that isn't registered."""
+        """Returns the row of a bond that isn't registered."""
         return self.ask(f"/value/{denom_of(denom)}/{month_of(issued)}/{month_of(month)}", row_in)
 
     # The rules.
 
     def act(self, path: str, fields: Json, bookmark: Any = None) -> Json:
-        """A new request, or the same one that is still open, up to its reply."""
+        """Sends a new request, or the same one that is still open, until its reply has come."""
         record = self.journal.record
         still = record["open"]
         if still is not None and (still["path"], still["fields"]) != (path, fields):
@@ -530,27 +586,28 @@ class Counter:
         return self.settled()
 
     def finish(self) -> Optional[Json]:
-        """The reply to the request that is open, or None where none is."""
+        """Sends the open request until its reply has come. None if no request is open."""
         return None if self.open_request is None else self.settled()
 
     def settled(self) -> Json:
         """Sends what is open until its reply has come. NumberReused means that another request of this desk has the number: this one was never done under it,
-        and goes on under a higher one."""
+        and continues under a higher one. A fault, or Forbidden, ends only a request that was sent once."""
         for _ in self.trials():
             answer = self.sent_once()
             if answer.kind == "reply" or (answer.kind == "refused" and answer.value["code"] != NUMBER_REUSED):
                 return self.replied(answer)
             if answer.kind == "refused":
                 self.renumber()
-            elif answer.kind == "fault" and answer.value["code"] not in DAMAGED:
+            elif is_of_one_sending(answer) and self.journal.record["open"]["sent"] == 1:
+                path = self.journal.record["open"]["path"]
                 self.journal.change(open=None)
-                raise Fault(answer.value)
+                raise error_of(answer, path)
             else:
                 self.failed(answer)
         raise AssertionError("trials end by NoReply")
 
     def trials(self) -> Iterator[None]:
-        """One for each sending, with growing pauses after those that failed."""
+        """Yields once for each sending, with growing pauses after those that failed. Raises NoReply when the patience is over."""
         begun, self.failures = time.monotonic(), 0
         while True:
             failures = self.failures
@@ -563,7 +620,8 @@ class Counter:
     def failed(self, answer: Answer) -> None:
         self.failures += 1
         self.met = answer.met or f"{answer.value['fault']} (code {answer.value['code']})"
-        self.told(f"no reply: {self.met}")
+        is_later = is_of_one_sending(answer) and self.open_request is not None
+        self.told(f"no reply: {self.met}" + ("; the request was sent before, and may have been done" if is_later else ""))
 
     def sent_once(self) -> Answer:
         sending = {**self.journal.record["open"], "sent": self.journal.record["open"]["sent"] + 1}
@@ -577,15 +635,16 @@ class Counter:
         if number >= MOST_NUMBER:
             raise CounterError(f"desk {self.desk} has no numbers left")
         self.journal.change(next=number + 1, open={**request, "number": number, "step": request["step"] * 2, "sent": 0})
-        self.told(f"number {request['number']} was used by another request of desk {self.desk}; going on with {number}")
+        self.told(f"number {request['number']} was used by another request of desk {self.desk}; continuing with {number}")
 
     def replied(self, answer: Answer) -> Json:
-        """Keeps the reply, and where it is no refusal the bookmark, in one step."""
+        """Keeps the reply, and unless it is a refusal the bookmark, in one step."""
         record = self.journal.record
         request = record["open"]
         self.again = request["sent"] > 1
         if self.again:
-            self.told(f"request {request['number']} had been sent before, and its reply came only now" + ("; it was done once" if answer.kind == "reply" else ""))
+            done = "it was done once" if answer.kind == "reply" else "no attempt changed anything"
+            self.told(f"request {request['number']} was sent {request['sent']} times; {done}")
         is_marked = answer.kind == "reply" and request["bookmark"] is not None
         self.journal.change(open=None, last={**request, "reply": answer.value}, bookmark=request["bookmark"] if is_marked else record["bookmark"])
         if answer.kind == "refused":
@@ -601,8 +660,8 @@ class Counter:
                 raise Refused(answer.value)
             if answer.kind == "fault" and answer.value["code"] == NOT_FOUND:
                 return None
-            if answer.kind == "fault" and answer.value["code"] not in DAMAGED:
-                raise Fault(answer.value)
+            if is_of_one_sending(answer):
+                raise error_of(answer, path)
             self.failed(answer)
         raise AssertionError("trials end by NoReply")
 
@@ -611,7 +670,7 @@ class Counter:
 
 
 def records_of(path: str, headers: Sequence[List[str]]) -> List[List[str]]:
-    """The records of a CSV file after its header, each with a field for each column."""
+    """Reads the records of a CSV file, the header first. Each has a field for each column."""
     with open(path, encoding="utf-8-sig", newline="") as file:
         try:
             records = [record for record in csv.reader(file, strict=True) if record]
@@ -641,7 +700,7 @@ def rates_in(path: str) -> List[Json]:
 
 
 def bonds_in(path: str) -> List[Json]:
-    """The bonds of an inventory, each serial number once."""
+    """Reads the bonds of an inventory, with each serial number once."""
     bonds = rows_of(path, [["serial", "denom", "issued", "owner", "coowner"]], bond_of)
     seen: Dict[str, int] = {}
     for row, bond in enumerate(bonds, 2):
@@ -652,7 +711,7 @@ def bonds_in(path: str) -> List[Json]:
 
 
 def digests(rows: Sequence[Json]) -> Iterator[str]:
-    """Of each front of the rows, from none to all."""
+    """Yields the digest of each front of the rows, from none to all."""
     digest = hashlib.sha256()
     yield digest.hexdigest()
     for row in rows:
@@ -661,15 +720,15 @@ def digests(rows: Sequence[Json]) -> Iterator[str]:
 
 
 def place_in(marks: Sequence[str], bookmark: Any) -> int:
-    """How many rows were done before, where the file still begins with those."""
+    """Counts the rows that were done before, if the file still begins with them."""
     if not isinstance(bookmark, dict) or set(bookmark) != {"registered", "digest"} or bookmark["registered"] >= len(marks):
         return 0
     return bookmark["registered"] if marks[bookmark["registered"]] == bookmark["digest"] else 0
 
 
 def register(counter: Counter, path: str, told: Callable[[int, int], None] = lambda done, of: None) -> Json:
-    """Registers the bonds of an inventory file in requests of 500, and goes on where an earlier call was stopped. Answers how many were new, how many were
-    registered already, and how many an earlier call had done. `told` is called with how many rows are done, of how many."""
+    """Registers the bonds of an inventory file in requests of 500, and continues where an earlier call was stopped. Returns how many were new, how many were
+    registered already, and how many an earlier call had done. `told` is called with the rows that are done, and with all rows."""
     bonds = bonds_in(path)
     marks = list(digests(bonds))
     finish_other(counter, bonds, marks)
@@ -690,7 +749,7 @@ def register(counter: Counter, path: str, told: Callable[[int, int], None] = lam
 
 
 def finish_other(counter: Counter, bonds: Sequence[Json], marks: Sequence[str]) -> None:
-    """Where a request is open that isn't the next one of this file, as after the file was changed: its reply comes first, and what it did counts."""
+    """Finishes an open request that isn't the next one of this file, as after the file was changed. What it did counts."""
     place = place_in(marks, counter.bookmark)
     request = counter.open_request
     if request is not None and request["path"] == "/bonds" and request["fields"] != {"bonds": list(bonds[place : place + MOST_ROWS])}:
@@ -744,23 +803,23 @@ COMMANDS: Tuple[Tuple[str, str, Tuple[str, ...], Run], ...] = (
     ("open", "opens a day", ("day",), lambda counter, words: printed(counter.open_day(words.day))),
     ("redeem", "pays bonds to their owner or coowner", ("day", "payee", "serials"), lambda counter, words: printed(counter.redeem(words.day, words.payee, words.serials))),
     ("close", "closes a day, and prints its batch", ("day",), lambda counter, words: printed(counter.close_day(words.day))),
-    ("finish", "sends the request that is open until its reply has come", (), run_finish),
+    ("finish", "sends the open request until its reply has come", (), run_finish),
     ("sheet", "prints the unpaid bonds that a customer owns", ("customer", "month"), run_sheet),
     ("ticket", "prints a ticket", ("number",), lambda counter, words: looked_up(counter.ticket(words.number), "there is no such ticket")),
-    ("batch", "prints the batch of a closed day", ("day",), lambda counter, words: looked_up(counter.batch(words.day), "the day has no batch: it wasn't closed")),
+    ("batch", "prints the batch of a closed day", ("day",), lambda counter, words: looked_up(counter.batch(words.day), "the day has no batch: it isn't closed")),
     ("value", "prints the row of a bond that isn't registered", ("denom", "issued", "month"), lambda counter, words: printed(counter.value(words.denom, words.issued, words.month))),
 )
 
 
 def words_of(line: Optional[Sequence[str]]) -> argparse.Namespace:
-    parser = argparse.ArgumentParser(description="Requests to the counter, each of which gets its one reply. Replies are printed as the counter gave them.")
-    parser.add_argument("--journal", required=True, help="the file with the numbers of a desk; it is made where it isn't there and --desk is given")
+    parser = argparse.ArgumentParser(description="Sends requests to the counter. Each gets its one reply, which is printed as the counter gave it.")
+    parser.add_argument("--journal", required=True, help="the file with the numbers of a desk; with --desk it is created if it doesn't exist")
     parser.add_argument("--desk", type=int, help="the desk of a new journal, 0 to 999")
     parser.add_argument("--at", default="http://127.0.0.1:8377", help="the counter's address (%(default)s)")
-    parser.add_argument("--user", help="the user, where a proxy asks for a password")
-    parser.add_argument("--password-file", help="a file with the password in its first line")
-    parser.add_argument("--certificate", help="a file with the certificate to trust, in place of the system's")
-    parser.add_argument("--patience", type=float, help="seconds until it gives up and leaves the request open (without an end)")
+    parser.add_argument("--user", help="the user, if a proxy asks for a password")
+    parser.add_argument("--password-file", help="a file whose first line is the password")
+    parser.add_argument("--certificate", help="a file with the certificate to trust, instead of the system's")
+    parser.add_argument("--patience", type=float, help="seconds until it gives up and leaves the request open (default: never)")
     commands = parser.add_subparsers(dest="command", required=True, metavar="COMMAND")
     for name, does, arguments, _ in COMMANDS:
         command = commands.add_parser(name, help=does, description=does)
@@ -786,13 +845,17 @@ def run(words: argparse.Namespace) -> int:
 
 
 def main(line: Optional[Sequence[str]] = None) -> int:
-    """Status 0: done. 1: refused, or there is no such thing. 2: the line, a value or a file is wrong, and nothing was sent. 3: no reply, or no journal."""
+    """Runs a command. Status 0: done. 1: refused or forbidden, or there is no such thing. 2: the command line, a value or a file is wrong, and nothing was sent.
+    3: no reply, or the journal can't be used."""
     words = words_of(line)
     try:
         return run(words)
     except Refused as refusal:
         printed(refusal.reply)
         print(f"refused: {refusal}", file=sys.stderr)
+        return 1
+    except Forbidden as refusal:
+        print(refusal, file=sys.stderr)
         return 1
     except (BadValue, BadFile) as fault:
         print(fault, file=sys.stderr)
@@ -801,7 +864,7 @@ def main(line: Optional[Sequence[str]] = None) -> int:
         print(failure, file=sys.stderr)
         return 3
     except KeyboardInterrupt:
-        print("stopped; a request that is open is kept, and sent again by the same command or by finish", file=sys.stderr)
+        print("stopped; an open request is kept, and sent again by the same command or by finish", file=sys.stderr)
         return 3
 
 
