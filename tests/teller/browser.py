@@ -119,10 +119,24 @@ class Page:
 
     # ---- the acts of a teller
 
-    def open_day(self, day):
+    def ask_to_open(self, day):
+        """Up to the page's question."""
         self.go("day")
         self.type("#open-date", day)
         self.press("#open-day button")
+        self.until(lambda: self.find("#confirm").is_displayed(), "the page asks once more")
+
+    def open_day(self, day):
+        self.ask_to_open(day)
+        self.confirm_opening()
+
+    def confirm_opening(self):
+        """Confirms it, and once more if the page asks again."""
+        is_asked_again = self.find("#confirm-yes").text == "Continue"
+        self.press("#confirm-yes")
+        if is_asked_again:
+            self.until(lambda: self.find("#confirm-yes").text.startswith("Open the day in") and self.find("#confirm-yes").is_enabled(), "the page asks again")
+            self.press("#confirm-yes")
 
     def join_day(self, day):
         self.go("day")
@@ -146,17 +160,29 @@ class Page:
         for serial in serials:
             self.press(f"input[aria-label='Pay bond {serial}']")
 
-    def add(self, *serials):
-        for serial in serials:
-            self.type("#serial", serial)
-            self.press("#add-bond button")
+    def ask_to_add(self, owner, serial):
+        self.type("#serial", serial)
+        self.type("#owner", str(owner))
+        self.press("#add-bond button")
 
-    def pay(self, payee=None):
+    def add(self, owner, *serials):
+        for serial in serials:
+            self.ask_to_add(owner, serial)
+            self.until(lambda: self.find("#serial").get_attribute("value") == "", f"{serial} is added")
+
+    def ask_to_pay(self, payee=None):
+        """Up to the page's question; its texts."""
         if payee is not None:
             self.type("#payee", str(payee))
         self.press("#pay-bonds button:not([type])")
         self.until(lambda: self.find("#confirm").is_displayed(), "the page asks once more")
+        return self.find("#confirm-title").text + "\n" + self.find("#confirm-text").text
+
+    def pay(self, payee=None):
+        """Pays, and returns the texts of the question."""
+        question = self.ask_to_pay(payee)
         self.press("#confirm-yes")
+        return question
 
     def journal(self):
         return self.run_module("""

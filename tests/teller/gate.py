@@ -1,6 +1,6 @@
-"""A gate between nginx, or any client, and `serve`: it passes messages on, and does harm to those that the test says, at an exact place.
+"""A gate between nginx, or any client, and `serve`. It passes messages on, and does harm to those that the test names, at an exact place.
 
-A fault is done to the next POST that comes, or to the next of any kind where the gate is told so:
+A fault is done to the next POST:
 
   lost request    the message is dropped before it reaches the counter
   killed before   the counter is killed, and the message dropped
@@ -9,10 +9,20 @@ A fault is done to the next POST that comes, or to the next of any kind where th
   cut answer      the answer is cut in its middle
   failed after    the counter has committed, and 503 StoreFailed is answered
   failed before   503 NoMemory is answered, and nothing reaches the counter
-  other page      the message is dropped, and another program answers with a page of its own
+  other page      the message is dropped, and another program answers with its own page
   no gateway      the message is dropped, and 502 is answered, as by a proxy without its counter
+  redirect        the message is dropped, and 302 to another address is answered
+  too many        the message is dropped, and 429 is answered, as by a proxy that limits requests
+  signed out      the message is dropped, and 403 is answered with a page of a proxy
   damaged         the message is dropped, and answered as one that was cut
   silent          the counter has committed, and no answer comes until the client goes
+
+Two more answer one sending alone. They are final on the first sending of a request, and tell nothing on a later one:
+
+  not json        the message is dropped, and 400 BadJson is answered, as if something had emptied it
+  forbidden       the message is dropped, and 403 is answered, as by a proxy whose user may not do this
+
+A test that sets `changed` gets a function of each GET's path and answer, which returns the answer that the client is given.
 """
 import socket
 import threading
@@ -20,11 +30,16 @@ import threading
 UNSERVED_MEMORY = b'{"code":1,"unserved":"NoMemory"}'
 UNSERVED_STORE = b'{"code":2,"unserved":"StoreFailed"}'
 TRUNCATED = b'{"code":68,"fault":"Truncated"}'
+NOT_JSON = b'{"code":64,"fault":"BadJson"}'
+FORBIDDEN = b'{"forbidden":"group"}'
+#: As the proxy names its log's entry. With a proxy in between, its own name stands behind this one.
+ENTRY = "0123456789abcdef" * 2
 PAGE = b"<html><body>Please sign in to this network.</body></html>"
 
 
-def answer(status, kind, body):
-    return b"HTTP/1.1 %s\r\nContent-Type: %s\r\nContent-Length: %d\r\nConnection: close\r\n\r\n%s" % (status, kind, len(body), body)
+def answer(status, kind, body, more=b""):
+    head = b"HTTP/1.1 %s\r\nContent-Type: %s\r\nContent-Length: %d\r\nConnection: close\r\nX-Request-Id: %s\r\n%s\r\n" % (status, kind, len(body), ENTRY.encode(), more)
+    return head + body
 
 
 STANDING = {
@@ -32,12 +47,19 @@ STANDING = {
     "failed before": answer(b"503 Service Unavailable", b"application/json", UNSERVED_MEMORY),
     "other page": answer(b"200 OK", b"text/html", PAGE),
     "no gateway": answer(b"502 Bad Gateway", b"text/html", PAGE),
+    "redirect": answer(b"302 Found", b"text/html", PAGE, b"Location: https://elsewhere.example/login\r\n"),
+    "too many": answer(b"429 Too Many Requests", b"text/html", PAGE),
+    "signed out": answer(b"403 Forbidden", b"text/html", PAGE),
     "damaged": answer(b"400 Bad Request", b"application/json", TRUNCATED),
+    "not json": answer(b"400 Bad Request", b"application/json", NOT_JSON),
+    "forbidden": answer(b"403 Forbidden", b"application/json", FORBIDDEN),
 }
 #: Those under which the counter commits the request.
 AFTER = ("killed after", "lost answer", "cut answer", "failed after", "silent")
 #: Those under which the request doesn't reach the counter.
-BEFORE = ("lost request", "killed before", "failed before", "other page", "no gateway", "damaged")
+BEFORE = ("lost request", "killed before", "failed before", "other page", "no gateway", "redirect", "too many", "signed out", "damaged")
+#: Those that are final on a first sending. The request doesn't reach the counter either.
+OF_ONE_SENDING = ("not json", "forbidden")
 
 
 def whole_message(client):
@@ -75,6 +97,8 @@ class Gate:
         self.faults = []
         self.met = []
         self.bodies = []
+        self.heads = []
+        self.changed = None
         self.lock = threading.Lock()
         self.listener = socket.create_server(("127.0.0.1", 0), backlog=2000)
         self.port = self.listener.getsockname()[1]
@@ -97,9 +121,11 @@ class Gate:
     def fault_of(self, message):
         """The fault that this message meets."""
         with self.lock:
+            head, _, body = message.partition(b"\r\n\r\n")
+            self.heads.append(head)
             if not message.startswith(b"POST "):
                 return None
-            self.bodies.append(message.partition(b"\r\n\r\n")[2])
+            self.bodies.append(body)
             if not self.faults:
                 return None
             fault = self.faults.pop(0)
@@ -110,17 +136,21 @@ class Gate:
         fault = self.fault_of(message)
         if fault == "killed before":
             self.counter.kill()
-        if fault in BEFORE:
+        if fault in BEFORE + OF_ONE_SENDING:
             client.sendall(STANDING.get(fault, b""))
             return
         text = self.answered(message)
         if fault is None:
-            client.sendall(text)
+            client.sendall(self.as_changed(message, text))
         elif text:
             self.harm(client, fault, text)
         else:
             with self.lock:
                 self.faults.insert(0, self.met.pop())
+
+    def as_changed(self, message, text):
+        method, path, _ = message.split(b" ", 2)
+        return text if self.changed is None or method != b"GET" else self.changed(path.decode(), text)
 
     def harm(self, client, fault, text):
         """After the commit."""

@@ -8,12 +8,12 @@ import time
 from books import Books
 from browser import Page
 from bank import TOP
-from gate import AFTER, BEFORE
+from gate import AFTER, BEFORE, answer
 from samples import OLDEST, TOO_YOUNG, UNISSUED, VALUES, begin, right
 
 SUM = sum(VALUES.values())
 FAULTS = [fault for fault in AFTER + BEFORE if fault != "silent"]
-EARLIER = "had been sent"
+EARLIER = "The connection was interrupted."
 
 
 def dollars(cents):
@@ -45,7 +45,7 @@ def kept_nothing(page, what):
     *others, databases, address = json.loads(kept)
     right(others == [[], [], [], ""] and databases == ["ladwenpik-teller"] and re.search(r"/teller/(#[a-z]+)?$", address), f"{what}: no other storage is used", kept)
     journal = page.journal()
-    right(set(journal) == {"desk", "next", "open", "day", "last"} and journal["open"] is None, f"{what}: the journal has no bond and no customer", journal)
+    right(set(journal) == {"desk", "next", "open", "day", "closed", "last"} and journal["open"] is None, f"{what}: the journal has no bond and no customer", journal)
 
 
 def a_day(bank):
@@ -108,7 +108,7 @@ def interrupted(bank, page, fault, is_reloaded, act, shown):
     bank.server.pause = 1.5 if is_reloaded else 0.3
     bank.gate.faults = [fault] + (["lost request"] if is_reloaded else [])
     act()
-    page.waits_for("no reply yet, and nothing may be paid out", "#progress")
+    page.waits_for("no reply yet. ", "#progress")
     if is_reloaded:
         page.reload()
     shown()
@@ -121,8 +121,8 @@ def interrupted(bank, page, fault, is_reloaded, act, shown):
 
 def interrupted_day(bank, page, place, fault, is_reloaded):
     """A day on which each of the three steps meets the fault, and between each two of them the counter is killed too."""
-    day, owner, ticket = f"2012-02-{6 + place:02}", 1000 + place, place + 1
-    in_words = f"{6 + place} February 2012"
+    day, owner, ticket = f"2012-02-{1 + place:02}", 1000 + place, place + 1
+    in_words = f"{1 + place} February 2012"
     interrupted(bank, page, fault, is_reloaded, lambda: page.open_day(day), lambda: page.waits_for(f"{in_words} is open."))
     bank.server.kill()
     page.show_sheet(owner)
@@ -287,7 +287,7 @@ def half_a_page(bank):
     page.driver.execute_cdp_cmd("Network.enable", {})
     page.driver.execute_cdp_cmd("Network.setBlockedURLs", {"urls": ["*/teller/sheet.js"]})
     page.reload()
-    page.waits_for("The page didn't come whole from its server.")
+    page.waits_for("The page didn't load completely.")
     page.driver.execute_cdp_cmd("Network.setBlockedURLs", {"urls": []})
     bank.gate.faults = []
     page.waits_for("6 February 2012 is open.")
@@ -322,7 +322,7 @@ def silent_counter(bank):
     page.open_day("2012-02-06")
     page.waits_for("sent, waiting for the reply", "#progress")
     right(all(not button.is_enabled() for button in page.all("fieldset.acts button") if button.is_displayed()), "while it waits no other request can be made")
-    page.waits_for("nothing came within 40 seconds", "#progress")
+    page.waits_for("no response within 40 seconds", "#progress")
     page.press("#send-now")
     page.waits_for("6 February 2012 is open.")
     right(time.monotonic() - begun < 50 and EARLIER in page.text(), f"a silent counter: sent again after {time.monotonic() - begun:.0f} seconds")
@@ -343,7 +343,7 @@ def device_fails(bank):
     time.sleep(1)
     bank.server.pause = 2
     page.pay()
-    page.waits_for("The counter's store failed, so it isn't known yet whether the request was done.", "#progress")
+    page.waits_for("The counter's store failed, so the request may or may not have been done.", "#progress")
     is_paid_on(page, 1, VALUES["L"])
     tracer.wait()
     right(EARLIER in page.text() and bank.server.ends == 1, "the store's device fails: the page tells it, sends again, and shows the one ticket")
@@ -422,41 +422,53 @@ def refused_days(bank, page):
     page.waits_for("6 February 2012 is open.")
     page.press("#leave-day button")
     page.open_day("2012-02-07")
-    told(page, "A day is open already.", 40)
+    told(page, "A business day is open already.", 40)
     page.join_day("2012-02-03")
     page.waits_for("The page works on 3 February 2012")
     page.close_day()
-    told(page, "Another day than this one is open.", 43)
+    told(page, "A different business day is open.", 43)
     page.join_day("2012-02-06")
     page.waits_for("The page works on 6 February 2012")
     page.close_day()
     page.waits_for("Batch of 6 February 2012", "#batch h2")
     page.open_day("2012-02-06")
-    told(page, "This day, or a later one, was closed already.", 41)
+    told(page, "This day, or a later one, is closed already.", 41)
     page.join_day("2012-02-06")
     page.waits_for("6 February 2012 is closed. This is its batch.")
     page.join_day("2012-02-08")
     page.waits_for("The page works on 8 February 2012")
     page.close_day()
-    told(page, "No day is open.", 42)
+    told(page, "No business day is open.", 42)
+
+
+def changed_sheets(bank, owner, change):
+    """What the page is given as a sheet of that owner: another text."""
+    def changed(path, text):
+        return answer(b"200 OK", b"text/plain", change(text.partition(b"\r\n\r\n")[2])) if path.startswith(f"/inventory/{owner}/") else text
+    bank.gate.changed = changed
 
 
 def refused_payments(bank, page):
+    """The page lets nobody choose a bond that can't be paid; so it is given false sheets here, and the counter refuses what they let choose."""
     page.open_day("2012-02-09")
     page.waits_for("9 February 2012 is open.")
-    for serial, payee, words, code in (
-        ("A1EE", 7, "Bond A1EE isn't registered.", 50),
-        ("L9EE", 7, "The payee is neither owner nor coowner of bond L9EE.", 51),
-        ("Q7EE", 7, "Bond Q7EE isn't issued yet in the month of the open day.", 53),
-        ("N7EE", 7, "Bond N7EE is younger than 12 months.", 54),
+    later = bank.ask("GET", "/inventory/7/2013-06")[1].encode()
+    other = bank.ask("GET", "/inventory/7/2012-02")[1].encode().replace(b"L7EE", b"A1EE")
+    for serial, owner, sheet, words, code in (
+        ("A1EE", 7, other, "Bond A1EE isn't registered.", 50),
+        ("L9EE", 9, None, "The payee is neither the owner nor the coowner of bond L9EE.", 51),
+        ("Q7EE", 7, later, "Bond Q7EE isn't issued yet in the month of the open day.", 53),
+        ("N7EE", 7, later, "Bond N7EE is less than 12 months old.", 54),
     ):
+        changed_sheets(bank, 7, lambda text, sheet=sheet: sheet or text)
         page.go("pay")
-        page.add(serial)
-        page.pay(payee)
+        page.add(owner, serial)
+        page.pay(7)
         told(page, words, code)
         page.press("#others button")
+    bank.gate.changed = None
+    page.add(9, "L9EE")
     bank.expect(200, "/redeem", {"desk": 900, "number": 60, "day": "2012-02-09", "payee": 9, "serials": ["L9EE"]})
-    page.add("L9EE")
     page.pay(9)
     told(page, "Bond L9EE was paid already, on ticket 1.", 52)
     page.press("#others button")
@@ -465,17 +477,17 @@ def refused_payments(bank, page):
 
 def misspelled(page):
     """What isn't spelled rightly is told at its field, and nothing is sent."""
-    page.type("#serial", "12EE")
-    page.press("#add-bond button")
+    page.ask_to_add(9, "12EE")
     field = page.find("#serial")
-    is_told = field.get_attribute("aria-invalid") == "true" and "serial number" in field.get_attribute("validationMessage")
+    is_told = field.get_attribute("aria-invalid") == "true" and field.get_attribute("validationMessage") == "Enter a serial number (such as C12EE)"
     right(is_told, "a misspelled serial number is told at its field")
-    page.type("#serial", "l-0009-ee")
-    page.press("#add-bond button")
-    page.waits_for("1 bond chosen.", "#chosen")
-    right("L9EE" in page.find("#others").text, "small letters, hyphens and zeros are one spelling")
-    page.add("L9EE")
-    page.waits_for("Bond L9EE is chosen already.")
+    page.ask_to_add("9x", "K9EE")
+    right(page.find("#owner").get_attribute("validationMessage") == "Enter a customer number (1 to 9 digits)", "and so is a misspelled customer number")
+    page.add(9, "k-0009-ee")
+    page.waits_for("1 bond chosen, worth", "#chosen")
+    right("K9EE" in page.find("#others").text, "small letters, hyphens and zeros are one spelling")
+    page.ask_to_add(9, "K9EE")
+    page.waits_for("Bond K9EE is already chosen.")
     page.press("#others button")
     page.press("#pay-bonds button")
     page.until(lambda: page.run("return document.querySelector('#confirm').open === false"), "no bond, no question")
@@ -491,7 +503,7 @@ def full_day(bank, page):
     page.show_sheet(20)
     page.choose("F1000EE")
     page.pay()
-    told(page, "The day has its 1,000 tickets.", 44)
+    told(page, "The day has reached its limit of 1,000 tickets.", 44)
     page.close_day()
     page.waits_for("Batch of 9 February 2012", "#batch h2")
     right("1000" in page.find("#batch dl").text, "and it is closed with 1,000 tickets")

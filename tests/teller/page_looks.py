@@ -89,7 +89,7 @@ SMALL = """
     return shown.filter((e) => e.getBoundingClientRect().height < 36).map((e) => e.outerHTML);
 """
 PRINTED = """
-    const gone = [...document.querySelectorAll("header, nav, form, button, #notices, #progress, h1")];
+    const gone = [...document.querySelectorAll("header, nav, form, button, #told, #notices, #progress, h1")];
     return gone.filter((e) => e.getClientRects().length > 0).map((e) => e.tagName);
 """
 NAMED = ("button", "textbox", "checkbox", "link", "dialog", "region", "table", "navigation", "progressbar")
@@ -145,7 +145,7 @@ def nodes(page):
 
 
 def accessible(bank):
-    begin(bank, [7], "2012-02-06")
+    begin(bank, [7, 9], "2012-02-06")
     page = Page(bank)
     page.waits_for("Choose a desk")
     least = checked(page, "start", 21)
@@ -154,7 +154,7 @@ def accessible(bank):
     page.waits_for("The page works on 6 February 2012")
     page.show_sheet(7)
     page.choose("L7EE")
-    page.add("C12EE")
+    page.add(9, "K9EE")
     for view in VIEWS:
         page.go(view)
         least = checked(page, view, least)
@@ -178,12 +178,12 @@ def in_trouble(bank, page, least):
     """While a request is retried, and with a refusal."""
     page.go("pay")
     bank.gate.faults = ["lost request"] * 3
-    page.pay(7)
+    page.pay(8)
     page.waits_for("sent again in 2 seconds", "#progress")
     live = page.run("return [document.querySelector('#progress-text').getAttribute('role')]")
     right(live == ["status"], "what a request is doing is told in a live region", live)
     least = checked(page, "retried", least)
-    page.waits_for("Bond C12EE isn't registered.", "#notices")
+    page.waits_for("The payee is neither the owner nor the coowner of bond L7EE.", "#notices")
     right(page.find("#notices > div").get_attribute("role") == "alert", "a refusal is an alert")
     return checked(page, "refused", least)
 
