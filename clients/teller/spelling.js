@@ -103,5 +103,5 @@ export function moneyInWords(cents) {
 }
 
 export function counted(count, one, many) {
-  return `${count} ${count === 1 ? one : many}`;
+  return `${count.toLocaleString("en-US")} ${count === 1 ? one : many}`;
 }

@@ -94,7 +94,10 @@ class Page:
         field.send_keys(text)
 
     def press(self, selector):
-        self.find(selector).click()
+        """From under a notice, which stands at the top of the window, the page is scrolled first."""
+        element = self.find(selector)
+        self.run("arguments[0].scrollIntoView({ block: 'nearest', inline: 'nearest' })", element)
+        element.click()
 
     def go(self, view):
         self.until(lambda: self.find("nav").is_displayed(), "the page has started")

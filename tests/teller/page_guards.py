@@ -1,0 +1,455 @@
+"""What keeps a teller from paying what wasn't seen: days by their distance, the confirmed sum, open requests after faults, users who may not, notices in sight."""
+import json
+
+from books import Books
+from browser import Page
+from gate import ENTRY
+from page_cases import EARLIER, changed_sheets, dollars, is_paid_on, books_of
+from samples import TOO_YOUNG, VALUES, begin, right
+
+DAY = "2012-02-06"
+OF_DAY = "Monday, 6 February 2012"
+AUGUST = "2012-08"
+
+
+def closed_day(bank, day):
+    """A day without a ticket, by desk 900."""
+    numbers = closed_day.numbers = getattr(closed_day, "numbers", 200_000) + 2
+    bank.expect(200, "/day/open", {"desk": 900, "number": numbers, "day": day})
+    bank.expect(200, "/day/close", {"desk": 900, "number": numbers + 1, "day": day})
+
+
+def joined(bank, owners=(7,), day=DAY, **more):
+    begin(bank, owners, day)
+    page = Page(bank, **more)
+    page.choose_desk(5)
+    page.join_day(day)
+    page.waits_for("The page works on")
+    return page
+
+
+def question(page):
+    return page.find("#confirm-title").text + "\n" + page.find("#confirm-text").text
+
+
+# ---- days
+
+
+def usual_day(bank):
+    """A day soon after the last closed one: its weekday, its distance, and one question."""
+    begin(bank, [7])
+    closed_day(bank, "2012-02-03")
+    page = Page(bank)
+    page.choose_desk(5)
+    page.ask_to_open(DAY)
+    wanted = f"Open 6 February 2012?\n{OF_DAY}: 3 days after the last closed day, Friday, 3 February 2012."
+    right(question(page) == wanted, "a new page finds the last closed day, and shows weekday and distance", question(page))
+    right(page.find("#confirm-yes").text == "Open the day" and bank.gate.bodies == [], "nothing is sent before it is confirmed")
+    page.press("#confirm-no")
+    right(not page.find("#confirm").is_displayed() and page.journal()["open"] is None and bank.gate.bodies == [], "Back sends nothing")
+    page.open_day(DAY)
+    page.waits_for("6 February 2012 is open.")
+    page.close_day()
+    page.waits_for("Batch of 6 February 2012", "#batch h2")
+    page.settled()
+    right(page.journal()["closed"] == DAY, "a closed day is remembered", page.journal())
+    for day, distance in (("2012-02-07", "Tuesday, 7 February 2012: 1 day after"), ("2012-02-13", "Monday, 13 February 2012: 7 days after")):
+        page.ask_to_open(day)
+        right(distance in question(page) and page.find("#confirm-yes").text == "Open the day", f"once: {distance} the last closed day")
+        page.press("#confirm-no")
+    page.ask_to_open("2012-02-14")
+    right("Tuesday, 14 February 2012: 8 days after" in question(page) and page.find("#confirm-yes").text == "Continue", "from 8 days on it asks again")
+    page.press("#confirm-no")
+    page.ask_to_open("2012-02-06")
+    right("not later than the last closed day" in question(page) and page.find("#confirm-yes").text == "Open the day", "a day that isn't later is left to the counter", question(page))
+    page.press("#confirm-no")
+    learns_of_others(bank, page)
+    page.quit()
+
+
+def learns_of_others(bank, page):
+    """Days that another desk closed meanwhile."""
+    closed_day(bank, "2012-02-10")
+    page.ask_to_open("2012-02-14")
+    right("Tuesday, 14 February 2012: 4 days after the last closed day, Friday, 10 February 2012." in question(page), "a day that another desk closed counts", question(page))
+    page.press("#confirm-no")
+    right(page.journal()["closed"] == "2012-02-10", "and is remembered")
+    page.run_module("""
+        const request = indexedDB.open("ladwenpik-teller", 1);
+        const database = await new Promise((resolve) => { request.onsuccess = () => resolve(request.result); });
+        const change = database.transaction("journal", "readwrite");
+        const store = change.objectStore("journal");
+        store.get("journal").onsuccess = (found) => {
+            const { closed, ...earlier } = found.target.result;
+            store.put(earlier, "journal");
+        };
+        await new Promise((resolve) => { change.oncomplete = resolve; });
+        database.close();
+    """)
+    page.reload()
+    page.ask_to_open("2012-02-13")
+    right("3 days after the last closed day, Friday, 10 February 2012." in question(page), "a journal of an earlier version, without the field, is read as before", question(page))
+    page.press("#confirm-no")
+
+
+def wrong_year(bank):
+    """A year mistyped: the page asks again, and Back leaves the books as they are. Confirmed twice, it does open."""
+    begin(bank, [7])
+    closed_day(bank, "2012-02-03")
+    page = Page(bank)
+    page.choose_desk(5)
+    page.ask_to_open("2121-02-06")
+    right("Thursday, 6 February 2121: no closed day was found in the 7 days before it." in question(page), "a day far off is told as one", question(page))
+    page.press("#confirm-yes")
+    page.until(lambda: "Is the year 2121 right?" in question(page), "it asks again")
+    wanted = ("values in February 2121", "no earlier day can ever be opened again", "mistyped, choose Back")
+    right(all(words in question(page) for words in wanted), "it asks again, names the year, and says what follows", question(page))
+    right(not page.find("#confirm-yes").is_enabled(), "a second click of a double one confirms nothing")
+    right(page.run("return document.activeElement.id") == "confirm-no", "the keyboard is on Back")
+    page.press("#confirm-no")
+    page.sleep(1.5)
+    right(bank.gate.bodies == [] and page.journal()["open"] is None, "Back sends nothing")
+    page.open_day("2012-02-06")
+    page.waits_for("6 February 2012 is open.")
+    right(True, "the true day opens")
+    page.close_day()
+    page.waits_for("Batch of 6 February 2012", "#batch h2")
+    page.settled()
+    page.ask_to_open("2121-02-06")
+    right("39,812 days after the last closed day, Monday, 6 February 2012." in question(page), "with a closed day known, its distance is told", question(page))
+    page.press("#confirm-no")
+    page.open_day("2121-02-06")
+    page.waits_for("6 February 2121 is open.")
+    page.quit()
+    books = books_of(bank)
+    days = books.rows("SELECT act FROM answers WHERE desk = 5 AND act LIKE '%\"open\"%' ORDER BY number")
+    right([json.loads(act)["day"] for act, in days] == ["2012-02-06", "2121-02-06"], "control: confirmed twice it does open, and nothing else was sent", days)
+
+
+# ---- an answer to one sending
+
+
+def lost_then(bank, fault, words):
+    """A payment whose answer is lost after the commit; its resend meets the fault; then the true reply comes."""
+    page = joined(bank)
+    page.show_sheet(7)
+    page.choose("L7EE")
+    bank.gate.faults = ["lost answer", fault, fault]
+    page.pay()
+    page.waits_for(words, "#progress")
+    told = page.find("#progress").text
+    is_told = "no reply yet. Nothing may be paid out yet. The payment may have been made already." in told and "Nothing was done" not in page.text()
+    right(is_told, f"{fault} on a resend: it may have been done", page.text())
+    journal = page.journal()
+    right(journal["open"] is not None and journal["open"]["fields"]["serials"] == ["L7EE"] and journal["open"]["shown"] == str(VALUES["L"]), "the journal keeps the request, and the confirmed sum", journal)
+    is_paid_on(page, 1, VALUES["L"])
+    page.waits_for("Ticket 1 is paid.")
+    right(f"{EARLIER} This was paid once." in page.text() and len(set(bank.gate.bodies)) == 1, "then the true reply comes: the ticket is shown, once")
+    page.settled()
+    page.quit()
+    right(books_of(bank).one("SELECT count(*) FROM tickets") == 1, "one ticket")
+
+
+def fault_on_resend(bank):
+    lost_then(bank, "not json", "The counter can't read the request: it isn't JSON. This says nothing about the earlier attempts.")
+
+
+def forbidden_on_resend(bank):
+    lost_then(bank, "forbidden", "This user may not pay bonds. Ask a teller, or sign in as one. This says nothing about the earlier attempts.")
+
+
+def error_page_on_resend(bank):
+    lost_then(bank, "no gateway", "The counter didn't answer: something else did (status 502).")
+
+
+def redirect_on_resend(bank):
+    lost_then(bank, "redirect", "The counter didn't answer: the request was redirected.")
+
+
+def many_requests(bank):
+    lost_then(bank, "too many", "The counter didn't answer: too many requests.")
+
+
+def first_sendings(bank):
+    """On the first sending a fault, and the proxy's word on the user, are final: nothing was done, and the page goes on."""
+    page = joined(bank)
+    for fault, words, code in (
+        ("not json", "The counter can't read the request: it isn't JSON.", "BadJson, code 64."),
+        ("forbidden", "This user may not pay bonds. Nothing was done.", ""),
+    ):
+        page.show_sheet(7)
+        page.choose("L7EE")
+        sent = len(bank.gate.bodies)
+        bank.gate.faults = [fault]
+        page.pay()
+        page.waits_for(words, "#notices")
+        page.settled()
+        notice = page.find("#notices").text
+        right(len(bank.gate.bodies) == sent + 1 and page.journal()["open"] is None, f"{fault} on the first sending: sent once, and the journal forgets it", notice)
+        right(f"{code} Log entry ".strip() in notice and "othing was done." in notice, "it says so, and names the entry in the log", notice)
+        page.until(lambda: page.run("return document.activeElement.matches('.notice.refused')"), "the notice takes the keyboard")
+    forbidden_days(bank, page)
+    named_entries(page)
+    page.quit()
+    right(books_of(bank).one("SELECT count(*) FROM tickets") == 0, "and the books have nothing")
+
+
+def forbidden_days(bank, page):
+    bank.gate.faults = ["forbidden"]
+    page.close_day()
+    page.waits_for("This user may not close a day. Nothing was done.", "#notices")
+    page.waits_for("Ask a supervisor, or sign in as one.", "#notices")
+    page.settled()
+    right(page.journal()["day"] == DAY, "a day that this user may not close stays open on the page")
+    page.press("#leave-day button")
+    bank.gate.faults = ["forbidden"]
+    page.open_day("2012-02-07")
+    page.waits_for("This user may not open a day. Nothing was done.", "#notices")
+    page.settled()
+    right(page.journal()["day"] is None and page.journal()["open"] is None, "nor is one open that this user may not open")
+
+
+ENTRIES = """
+    const { readEntry, readAnswer } = await import(new URL("/teller/answers.js", location.origin));
+    const one = "0123456789abcdef".repeat(2);
+    const other = "fedcba9876543210".repeat(2);
+    const read = [null, "", "x", one.slice(1), one + "0", one, other + ", " + one, "<b>" + one].map(readEntry);
+    const kinds = [["{\\"forbidden\\":\\"group\\"}"], ["{\\"forbidden\\":\\"group\\"} "], ["{}"], [""]].map(([text]) => readAnswer(403, text, () => null).kind);
+    return [read, kinds, one];
+"""
+
+
+def named_entries(page):
+    read, kinds, one = page.run_module(ENTRIES)
+    right(read == [None, None, None, None, None, one, one, None] and one == ENTRY, "only 32 hex digits are an entry; without a header there is none", read)
+    right(kinds == ["forbidden", "none", "none", "none"], "only the exact body of a 403 says that the user may not", kinds)
+
+
+HEARD = """
+    window.heard = [];
+    const real = window.fetch;
+    window.fetch = (url, options) => {
+        const headers = new Headers(options.headers);
+        window.heard.push([options.method, new URL(url).pathname, headers.get("X-Counter-Client"), headers.get("Content-Type"), options.redirect]);
+        return real(url, options);
+    };
+"""
+
+
+def headers_sent(bank):
+    """Each request of the page names its client, and each POST its type."""
+    begin(bank, [7])
+    page = Page(bank)
+    page.choose_desk(5)
+    page.run(HEARD)
+    page.open_day(DAY)
+    page.waits_for("6 February 2012 is open.")
+    page.show_sheet(7)
+    page.choose("L7EE")
+    page.pay()
+    is_paid_on(page, 1, VALUES["L"])
+    page.close_day()
+    page.waits_for("Batch of 6 February 2012", "#batch h2")
+    heard = page.run("return window.heard")
+    paths = {path for _, path, *_ in heard}
+    right({"/day/open", "/redeem", "/day/close", "/inventory/7/2012-02", "/batch/2012-02-05"} <= paths, f"{len(heard)} requests were heard", paths)
+    right(all(client == "teller-page" for _, _, client, *_ in heard), "each names its client", heard)
+    right(all((kind == "application/json") == (method == "POST") for method, _, _, kind, _ in heard), "each POST is application/json", heard)
+    page.quit()
+
+
+# ---- the sum
+
+
+def changed_month(bank):
+    """A sheet of February, then a day in August: nothing of February's sum can be confirmed."""
+    page = joined(bank)
+    page.show_sheet(7)
+    page.choose("L7EE", "K7EE")
+    page.waits_for(f"2 bonds chosen, worth {dollars(VALUES['L'] + VALUES['K'])} in February 2012.", "#chosen")
+    page.close_day()
+    page.waits_for("Batch of 6 February 2012", "#batch h2")
+    page.go("pay")
+    right(page.find("#sheet").text == "" and page.find("#chosen").text == "No bond is chosen.", "as the day ends, the sheet and what was chosen on it are gone")
+    no_day_at_all(page)
+    bank.expect(200, "/day/open", {"desk": 900, "number": 100_001, "day": "2012-08-06"})
+    page.show_sheet(7, "2012-02")
+    page.join_day("2012-08-06")
+    page.waits_for("The page works on 6 August 2012")
+    page.go("pay")
+    right(page.find("#sheet").text == "" and page.find("#month").get_attribute("value") == AUGUST, "as a day in August is joined, February's sheet goes", page.text())
+    page.show_sheet(7, "2012-02")
+    boxes = page.all("#sheet input")
+    right(len(boxes) == 3 and not any(box.is_enabled() for box in boxes), "February's sheet can be looked at, and nothing can be chosen on it")
+    page.waits_for("Nothing can be chosen here: bonds are paid at their values in August 2012, the month of the open day.", "#sheet")
+    page.press("#pay-bonds button")
+    page.waits_for("No bond is chosen.", "#notices")
+    right(not page.find("#confirm").is_displayed(), "nor can anything be confirmed")
+    page.press("#sheet button")
+    page.waits_for("Unpaid bonds of customer 7 in August 2012", "#sheet")
+    page.choose("L7EE", "K7EE")
+    paid_as_confirmed(bank, page)
+
+
+def no_day_at_all(page):
+    page.show_sheet(7, "2012-02")
+    page.waits_for("No business day is open, so nothing can be chosen here.", "#sheet")
+    right(not any(box.is_enabled() for box in page.all("#sheet input")), "without a day nothing can be chosen")
+
+
+def paid_as_confirmed(bank, page):
+    values = {row.split()[0]: row for row in bank.ask("GET", f"/inventory/7/{AUGUST}")[1].splitlines()}
+    cents = sum(round(100 * float(values[serial].split()[9])) for serial in ("L7EE", "K7EE"))
+    told = page.pay()
+    is_paid_on(page, 1, cents)
+    right(f"Pay {dollars(cents)} to customer 7?" in told and dollars(cents) in page.find("#ticket tfoot").text and cents != VALUES["L"] + VALUES["K"], f"the question's sum is the ticket's: {dollars(cents)}", told)
+    right("total isn't" not in page.text(), "and nothing is said of another sum")
+    page.quit()
+    right(books_of(bank).one("SELECT total FROM tickets") == cents, "and the books'")
+
+
+def bonds_added(bank):
+    """Bonds added by serial number and owner: with their values, in the sum that is confirmed, and never twice."""
+    page = joined(bank, owners=(7, 9, 11))
+    bank.expect(200, "/bonds", {"desk": 900, "number": 50, "bonds": [TOO_YOUNG]})
+    page.show_sheet(7)
+    page.choose("K7EE")
+    page.add(9, "K9EE")
+    page.waits_for(f"2 bonds chosen, worth {dollars(2 * VALUES['K'])} in February 2012.", "#chosen")
+    right(f"K9EE, owner 9: {dollars(VALUES['K'])}" in page.find("#others").text, "an added bond is listed with its owner and its value", page.find("#others").text)
+    for serial, owner, words in (
+        ("K9EE", 9, "Bond K9EE is already chosen."),
+        ("L11EE", 9, "Bond L11EE isn't among the unpaid bonds that customer 9 owns."),
+        ("C12EE", 9, "Bond C12EE isn't among the unpaid bonds that customer 9 owns."),
+        ("N7EE", 7, "Bond N7EE can't be paid in February 2012: it is less than 12 months old."),
+    ):
+        page.ask_to_add(owner, serial)
+        page.waits_for(words, "#notices")
+        right(len(page.all("#others li")) == 1, f"not added: {words}")
+    page.add(7, "L7EE")
+    right(page.find("input[aria-label='Pay bond L7EE']").is_selected() and len(page.all("#others li")) == 1, "a bond of the sheet that is shown is chosen there, and not twice")
+    page.press("input[aria-label='Pay bond L7EE']")
+    page.waits_for("2 bonds chosen", "#chosen")
+    page.add(11, "K11EE")
+    page.press("#others li:nth-child(2) button")
+    page.waits_for("2 bonds chosen", "#chosen")
+    told = page.pay(8)
+    is_paid_on(page, 1, 2 * VALUES["K"])
+    right(f"Pay {dollars(2 * VALUES['K'])} to customer 8?" in told and "K7EE, K9EE" in told, "the question has the sum of all, as the ticket", told)
+    page.quit()
+    right(books_of(bank).rows("SELECT payee, bonds, total FROM tickets") == [(8, 2, 2 * VALUES["K"])], "one ticket of two owners' bonds, to their coowner")
+
+
+def sum_differs(bank):
+    """A sheet that isn't the counter's own, as another program might give it: the ticket's total is what was paid, and the page says so."""
+    page = joined(bank)
+    later = bank.ask("GET", "/inventory/7/2012-08")[1].encode()
+    changed_sheets(bank, 7, lambda text: later)
+    page.show_sheet(7)
+    page.choose("K7EE")
+    told = page.pay()
+    right(dollars(VALUES["K"]) not in told, "control: the page was given another sum, and showed it", told)
+    is_paid_on(page, 1, VALUES["K"])
+    page.waits_for("Ticket 1 is paid, but its total isn't the sum that was confirmed.", "#notices")
+    page.waits_for(f"The total, {dollars(VALUES['K'])}, is what was paid: pay out that.", "#notices")
+    page.until(lambda: page.run("return document.activeElement.matches('.notice.refused')"), "the notice takes the keyboard")
+    right(True, "a total that isn't the confirmed sum is told, and the notice takes the keyboard")
+    page.quit()
+
+
+# ---- in sight
+
+BOX = """
+    const box = document.querySelector(arguments[0]).getBoundingClientRect();
+    return [box.top, box.bottom, box.left, box.right, innerHeight, innerWidth, scrollY];
+"""
+COVERED = """
+    const told = document.querySelector("#told").getBoundingClientRect();
+    const at = document.activeElement;
+    const box = at.getBoundingClientRect();
+    if (document.querySelector("#told").contains(at)) return null;
+    return box.top < told.bottom - 1 && box.bottom > told.top + 1 && told.height > 0 ? at.outerHTML : null;
+"""
+
+
+def is_in_window(page, selector, what):
+    top, bottom, left, right_edge, height, width, scrolled = page.run(BOX, selector)
+    right(0 <= top < bottom <= height and 0 <= left < right_edge <= width, f"{what}: its box is within the window", (top, bottom, left, right_edge, height, width, scrolled))
+
+
+def many_bonds(bank, owner, count):
+    bonds = [{"serial": f"S{place}EE", "denom": 50, "issued": "2010-11", "owner": owner} for place in range(1, count + 1)]
+    bank.expect(200, "/bonds", {"desk": 901, "number": owner, "bonds": bonds})
+
+
+def notices_seen(bank):
+    """At 1366 x 768, with the teller at the button Pay: with three bonds on the sheet, and with sixty."""
+    page = joined(bank, size=(1366, 768))
+    page.driver.execute_cdp_cmd("Emulation.setDeviceMetricsOverride", {"width": 1366, "height": 768, "deviceScaleFactor": 1, "mobile": False})
+    many_bonds(bank, 60, 60)
+    for owner, serial in ((7, "L7EE"), (60, "S60EE")):
+        page.show_sheet(owner)
+        page.choose(serial)
+        told_in_sight(bank, page, owner)
+    page.quit()
+
+
+def told_in_sight(bank, page, owner):
+    count = len(page.all("#sheet tbody tr"))
+    bank.gate.faults = ["lost request"] * 3
+    page.pay(99)
+    page.waits_for("sent again in 2 seconds", "#progress")
+    is_in_window(page, "#progress", f"{count} bonds, no reply yet")
+    is_at_pay = page.run("const box = document.querySelector('#pay-bonds button').getBoundingClientRect(); return box.top < innerHeight && box.bottom > 0")
+    right(is_at_pay, "and the button Pay is still in the window: nothing was scrolled away")
+    right(page.run("return document.activeElement.id") == "progress-text", "it has the keyboard")
+    page.waits_for("neither the owner nor the coowner", "#notices")
+    page.settled()
+    page.until(lambda: page.run("return document.activeElement.matches('.notice.refused')"), "the notice takes the keyboard")
+    is_in_window(page, ".notice", f"{count} bonds, a refusal")
+    scrolled = page.run("return [scrollY, document.documentElement.scrollHeight - innerHeight]")
+    right(scrolled[0] > 0, "control: the page is scrolled, and its top is out of the window", scrolled)
+    page.press(".notice .close")
+    right(page.all(".notice") == [] and page.run("return document.activeElement.matches('#pay-bonds button')"), "Close ends it, and the keyboard is on Pay again")
+
+
+def notices_narrow(bank):
+    """320 pixels: a notice takes two fifths of the window at most, hides nothing that has the keyboard, and can be closed."""
+    page = joined(bank)
+    page.driver.execute_cdp_cmd("Emulation.setDeviceMetricsOverride", {"width": 320, "height": 640, "deviceScaleFactor": 1, "mobile": False})
+    page.show_sheet(7)
+    page.choose("L7EE")
+    page.pay(99)
+    page.waits_for("neither the owner nor the coowner", "#notices")
+    page.settled()
+    page.until(lambda: page.run("return document.activeElement.matches('.notice.refused')"), "the notice takes the keyboard")
+    is_in_window(page, "#told", "a refusal in a narrow window")
+    top, bottom, *_ = page.run(BOX, "#told")
+    right(bottom - top <= 0.4 * 640 + 1, f"it takes {bottom - top:.0f} of 640 pixels")
+    right(page.run("return document.documentElement.scrollWidth") <= 320, "and nothing goes over the edge")
+    covered, places = walked(page)
+    right(covered == [] and places >= 10, f"at none of {places} places that the keyboard goes to is it under the notice", covered)
+    page.tab_to(".notice .close", back=True)
+    page.keys("\ue007")
+    right(page.all(".notice") == [], "it is closed by the keyboard")
+    page.quit()
+
+
+def walked(page):
+    """Tabs through the whole view and back; what was covered, and how many places there were."""
+    covered, places = [], 0
+    for keys in (("\ue004",), ("\ue008", "\ue004")):
+        for _ in range(20):
+            press(page, keys)
+            covered.append(page.run(COVERED))
+            places += 1
+    return [one for one in covered if one is not None], places
+
+
+def press(page, keys):
+    from selenium.webdriver.common.action_chains import ActionChains
+    chain = ActionChains(page.driver)
+    if len(keys) == 2:
+        chain.key_down(keys[0]).send_keys(keys[1]).key_up(keys[0]).perform()
+    else:
+        chain.send_keys(keys[0]).perform()
