@@ -115,16 +115,20 @@ function missedInWords(request, answer) {
   return answer.kind === "fault" && request.sent > 1 ? `${says} This says nothing about the earlier attempts.` : says;
 }
 
+// By step: what comes first, and the rest.
 const STEPS = {
   sending: ({ request }) => {
     const times = request.sent === 1 ? "sent" : `sent again (attempt ${request.sent})`;
-    return `${requestInWords(request)}: ${times}, waiting for the reply.`;
+    return ["", `${requestInWords(request)}: ${times}, waiting for the reply.`];
   },
-  renumbered: ({ request }) =>
-    `${requestInWords(request)}: another request of this desk used that number. The page continues with number ${request.number}. Does another page use this desk?`,
+  renumbered: ({ request }) => {
+    const next = `The page continues with number ${request.number}. Does another page use this desk?`;
+    return ["", `${requestInWords(request)}: another request of this desk used that number. ${next}`];
+  },
   pausing: ({ request, answer, milliseconds }) => {
     const seconds = milliseconds < 1000 ? "half a second" : counted(milliseconds / 1000, "second", "seconds");
-    return `${requestInWords(request)}: no reply yet. ${MAY_BE_DONE[request.path]} ${missedInWords(request, answer)} The same request is sent again in ${seconds}.`;
+    const first = `${requestInWords(request)}: no reply yet. ${MAY_BE_DONE[request.path]}`;
+    return [first, `${missedInWords(request, answer)} The same request is sent again in ${seconds}.`];
   },
 };
 
@@ -145,7 +149,8 @@ let has_taken_focus = false;
 // Shows a step of a request under way. The first time that no reply comes, it takes the keyboard.
 export function tellStep(step) {
   const is_pausing = step.step === "pausing";
-  byId("progress-text").textContent = STEPS[step.step](step);
+  const [first, rest] = STEPS[step.step](step);
+  byId("progress-text").replaceChildren(...(first === "" ? [] : [element("strong", {}, first), " "]), rest);
   byId("progress-code").replaceChildren(...(is_pausing ? codeLine(step.answer) : []));
   byId("progress").className = "on";
   show(byId("progress-bar"), is_pausing);

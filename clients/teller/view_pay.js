@@ -57,7 +57,7 @@ function chooser(row) {
 
 function noDay() {
   const link = element("a", { href: "#day" }, "Open or join a day");
-  return element("p", { class: "other-month" }, "No business day is open, so nothing can be chosen here. ", link);
+  return element("p", { class: "other-month" }, "No business day is open, so nothing can be chosen here.", link);
 }
 
 // Says why nothing can be chosen on a sheet, with the way to the one on which it can.
@@ -68,7 +68,7 @@ function otherMonth(app) {
     byId("month").value = shown.month;
     ask(app);
   });
-  const why = `Nothing can be chosen here: bonds are paid at their values in ${monthInWords(shown.month)}, the month of the open day. `;
+  const why = `Nothing can be chosen here: bonds are paid at their values in ${monthInWords(shown.month)}, the month of the open day.`;
   return element("p", { class: "other-month" }, why, button);
 }
 
