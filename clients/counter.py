@@ -125,7 +125,7 @@ class Forbidden(CounterError):
 
     def __init__(self, path: str) -> None:
         self.path = path
-        super().__init__(f"this user may not ask for {path}; nothing was done")
+        super().__init__(f"this user may not do this ({path}); nothing was done")
 
 
 # ---- spellings: each function returns the printed spelling, or raises BadValue

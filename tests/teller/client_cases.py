@@ -145,6 +145,68 @@ def numbers_used(bank):
     right(books.one("SELECT count(*) FROM tickets") == 2, "each was done once")
 
 
+# ---- an answer to one sending
+
+
+def fault_on_resend(bank):
+    """The answer is lost after the commit, and a resend is answered by a fault, or by the proxy's word on the user: the request stays open until the true reply comes."""
+    begin(bank, [7], DAY)
+    met = []
+    with at_gate(bank, told=met.append) as counter:
+        for serial, fault, words in (("K7EE", "not json", "no reply: BadJson (code 64); "), ("L7EE", "forbidden", "no reply: the proxy says that this user may not do this; ")):
+            sent = len(bank.gate.bodies)
+            bank.gate.faults = ["lost answer", fault, fault]
+            ticket = counter.redeem(DAY, 7, [serial])
+            bodies = bank.gate.bodies[sent:]
+            right(ticket["lines"][0]["serial"] == serial and counter.again and len(bodies) == 4 == bodies.count(bodies[0]), f"{fault} on a resend: sent again, and the ticket comes")
+            right(met.count(words + "the request was sent before, and may have been done") == 2, "and it is told that it may have been done", met)
+    over_patience(bank)
+    right(books_of(bank).one("SELECT count(*) FROM tickets") == 3, "one ticket for each payment")
+
+
+def over_patience(bank):
+    """Until the patience is over: then the journal keeps the request, also over a start of the script."""
+    with at_gate(bank, patience=0.5) as counter:
+        bank.gate.faults = ["lost answer"] + ["not json"] * 20
+        try:
+            right(False, "a fault on each resend", counter.redeem(DAY, 7, ["M7EE"]))
+        except client.NoReply as failure:
+            right("BadJson (code 64)" in str(failure) and counter.open_request["fields"]["serials"] == ["M7EE"], f"the request stays open: {failure}")
+    bank.gate.faults = []
+    with at_gate(bank) as counter:
+        right(counter.open_request["sent"] > 2 and counter.finish()["ticket"] == 3 and counter.open_request is None, "and the next start gets its ticket")
+
+
+def first_sendings(bank):
+    """On the first sending both are final."""
+    begin(bank, [7], DAY)
+    with at_gate(bank) as counter:
+        for fault, error in (("not json", client.Fault), ("forbidden", client.Forbidden)):
+            sent = len(bank.gate.bodies)
+            bank.gate.faults = [fault]
+            try:
+                right(False, fault, counter.redeem(DAY, 7, ["L7EE"]))
+            except error as met:
+                right(len(bank.gate.bodies) == sent + 1 and counter.open_request is None, f"{fault} on the first sending: {met}")
+        right(counter.redeem(DAY, 7, ["L7EE"])["ticket"] == 1, "and the next request has the next number")
+    bank.gate.faults = ["forbidden"]
+    status, out, told = command(bank, "close", DAY)
+    right((status, out, told) == (1, "", "this user may not do this (/day/close); nothing was done\n"), "by the command it has status 1", (status, out, told))
+
+
+def many_requests(bank):
+    begin(bank, [7], DAY)
+    met = []
+    with at_gate(bank, told=met.append) as counter:
+        bank.gate.faults = ["too many", "signed out"]
+        right(counter.redeem(DAY, 7, ["L7EE"])["ticket"] == 1, "too many requests: sent again")
+        right(met[:2] == ["no reply: too many requests (status 429)", "no reply: an answer of status 403 that isn't the counter's"], "and it is told", met)
+        counter.ticket(1)
+    heads = [head.decode().split("\r\n") for head in bank.gate.heads]
+    right(len(heads) == 4 and all("X-Counter-Client: counter.py" in head for head in heads), "each request names its client", heads)
+    right(all(("Content-Type: application/json" in head) == head[0].startswith("POST ") for head in heads), "each POST is application/json", heads)
+
+
 # ---- the document
 
 
@@ -265,6 +327,42 @@ def journals(bank):
         for serial in ("K7EE", "L7EE", "M7EE"):
             counter.redeem(DAY, 7, [serial], bookmark=serial)
         right(counter.bookmark == "M7EE" and counter.last["reply"]["ticket"] == 3, f"three payments in {time.monotonic() - begun:.2f} seconds; the bookmark is that of the last")
+
+
+def misspelt_keys(bank):
+    """A key that is unknown or missing is told by its name, and nothing is sent: its value would be lost without a word, and a registered bond can't be changed."""
+    bond = {"serial": "A1EE", "denom": 50, "issued": "2010-11", "owner": 7}
+    rate = {"from": "2010-05", "rate": "1.00"}
+    with at_gate(bank) as counter:
+        sent = counter.journal.record["next"]
+        for wanted, act in (
+            ("a bond has no key 'co_owner'", lambda: counter.add_bonds([{**bond, "serial": "A2EE"}, {**bond, "co_owner": 8}])),
+            ("a bond has no key 'Coowner'", lambda: counter.add_bonds([{**bond, "Coowner": 8}])),
+            ("a bond lacks the key 'owner'", lambda: counter.add_bonds([{name: value for name, value in bond.items() if name != "owner"}])),
+            ("a bond is a dict", lambda: counter.add_bonds(["A1EE,50,2010-11,7"])),
+            ("a row of rates has no key 'extention'", lambda: counter.add_rates([{**rate, "extention": "2.00"}])),
+            ("a row of rates lacks the key 'rate'", lambda: counter.add_rates([{"from": "2010-05"}])),
+            ("1 is no serial number", lambda: counter.add_bonds([{**bond, "serial": 1}])),
+            ("201011 is no month", lambda: counter.add_bonds([{**bond, "issued": 201011}])),
+            ("1.0 is no rate", lambda: counter.add_rates([{**rate, "rate": 1.0}])),
+        ):
+            try:
+                right(False, wanted, act())
+            except client.BadValue as fault:
+                right(wanted in str(fault) and counter.journal.record["next"] == sent, f"nothing is sent: {fault}")
+        right(bank.gate.bodies == [], "the counter heard nothing")
+        counter.add_rates(rates())
+        counter.add_bonds([{**bond, "coowner": 8}])
+    right(bank.gate.bodies[-1].endswith(b'"owner":7,"coowner":8}]}'), "control: spelled rightly, the coowner is sent")
+    misspelt_columns(bank)
+
+
+def misspelt_columns(bank):
+    for name, text in (("register", "serial,denom,issued,owner,co_owner\nA1EE,50,2010-11,7,8\n"), ("rates", "from,rate,extention\n2010-05,1.00,2.00\n")):
+        sent = len(bank.gate.bodies)
+        (bank.folder / "bad.csv").write_text(text)
+        status, _, told = command(bank, name, str(bank.folder / "bad.csv"), proxied=False)
+        right(status == 2 and told.startswith("row 1: the header isn't ") and len(bank.gate.bodies) == sent, f"{name}, a misspelt column: {told.strip()}")
 
 
 # ---- files
