@@ -17,7 +17,7 @@ function init(words)
     folder, bonds = words[1], tonumber(words[3])
     desk = tonumber(words[2]) + nth
     letter = string.char(66 + nth)
-    headers = { ["Authorization"] = words[4], ["Content-Type"] = "application/json" }
+    headers = { ["Authorization"] = words[4], ["Content-Type"] = "application/json", ["X-Counter-Client"] = "wrk" }
     number, asked, bodies = 0, 0, {}
     answers = assert(io.open(folder .. "/answers." .. desk, "w"))
     answers:setvbuf("line")

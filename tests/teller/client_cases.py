@@ -31,7 +31,7 @@ def command(bank, *words, journal="desk3.journal", proxied=True):
     line = [sys.executable, "-W", "error", "-B", TOP / "clients" / "counter.py", "--journal", bank.folder / journal, "--desk", "3"]
     if proxied:
         (bank.folder / "password").write_text(PASSWORD + "\n")
-        line += ["--at", f"https://localhost:{bank.port}", "--user", USER, "--password-file", bank.folder / "password", "--certificate", bank.folder / "certificate.pem"]
+        line += ["--at", f"https://127.0.0.1:{bank.port}", "--user", USER, "--password-file", bank.folder / "password", "--certificate", bank.nginx.folder / "certificate.pem"]
     else:
         line += ["--at", f"http://127.0.0.1:{bank.gate.port}"]
     ran = subprocess.run([*line, *words], capture_output=True, text=True, timeout=600)
