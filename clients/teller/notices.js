@@ -54,6 +54,11 @@ export function clearNotices() {
   byId("notices").replaceChildren();
 }
 
+// Clears what was noted of a form, as the teller goes on with it.
+export function clearNoted() {
+  byId("notices").querySelector(".noted")?.remove();
+}
+
 function entryInWords(answer) {
   return answer.entry ? `Log entry ${answer.entry}.` : "";
 }

@@ -4,7 +4,7 @@
 // nothing that was chosen stays: the sum that the teller confirms is the sum that is paid.
 
 import { byId, confirmed, element, onSubmit, readField } from "./elements.js";
-import { notice } from "./notices.js";
+import { clearNoted, notice } from "./notices.js";
 import { askSheet } from "./queries.js";
 import { isPayable } from "./sheet.js";
 import { sheetRegion } from "./sheet_table.js";
@@ -48,6 +48,7 @@ function chooser(row) {
   box.disabled = !canChoose() || !isPayable(row);
   box.checked = shown.chosen.has(row.serial);
   box.addEventListener("change", () => {
+    clearNoted();
     if (box.checked) shown.chosen.add(row.serial);
     else shown.chosen.delete(row.serial);
     showChosen();

@@ -216,7 +216,7 @@ def printed(bank):
 
 
 def pictures(bank):
-    """The four main views, where --pictures names a folder for them."""
+    """The main views and questions, if --pictures names a folder for them."""
     if bank.pictures is None:
         print("no folder for pictures is named")
         return
@@ -232,9 +232,11 @@ def pictures(bank):
     page.show_sheet(7)
     page.choose("K2EE", "L1EE", "M3EE")
     page.run("document.activeElement.blur()")
-    kept_picture(page, folder / "pay.png", 970)
+    kept_picture(page, folder / "pay.png", 1060)
+    page.ask_to_pay()
+    kept_picture(page, folder / "confirm.png", 560)
     bank.gate.faults = ["lost answer", "lost request", "lost request", "lost request"]
-    page.pay()
+    page.press("#confirm-yes")
     page.waits_for("sent again in 4 seconds", "#progress")
     kept_picture(page, folder / "retry.png", 560)
     is_paid_on(page, 1, SUM)
@@ -242,6 +244,10 @@ def pictures(bank):
     page.close_day()
     page.waits_for("Batch of 6 February 2012", "#batch h2")
     kept_picture(page, folder / "batch.png", 540)
+    page.ask_to_open("2121-02-06")
+    page.press("#confirm-yes")
+    page.until(lambda: page.find("#confirm-yes").text == "Open the day in 2121" and page.find("#confirm-yes").is_enabled(), "it asks again")
+    kept_picture(page, folder / "again.png", 560)
     right(True, f"pictures in {folder}")
     page.quit()
 
