@@ -158,6 +158,7 @@ def accessible(bank):
     for view in VIEWS:
         page.go(view)
         least = checked(page, view, least)
+    least = asked_and_barred(page, least)
     least = in_trouble(bank, page, least)
     roles = {node["role"]["value"] for node in nodes(page)}
     right({"banner", "navigation", "main"} <= roles, "the page has its landmarks", roles)
@@ -172,6 +173,20 @@ def accessible(bank):
     right(least >= 4.5, f"each field, button and table has a name, headings are in order, no element stands out of the order of tabs; the least contrast is {least:.1f} to 1")
     focus_is_seen(page)
     page.quit()
+
+
+def asked_and_barred(page, least):
+    """A sheet on which nothing can be chosen, and the questions."""
+    page.show_sheet(7, "2012-08")
+    page.waits_for("Nothing can be chosen here", "#sheet")
+    least = checked(page, "another month", least)
+    page.press("#sheet button")
+    page.waits_for("Unpaid bonds of customer 7 in February 2012", "#sheet")
+    page.choose("L7EE")
+    page.ask_to_pay()
+    least = checked(page, "the question", least)
+    page.press("#confirm-no")
+    return least
 
 
 def in_trouble(bank, page, least):
