@@ -66,6 +66,7 @@ def usual_day(bank):
     right("not later than the last closed day" in question(page) and page.find("#confirm-yes").text == "Open the day", "a day that isn't later is left to the counter", question(page))
     page.press("#confirm-no")
     learns_of_others(bank, page)
+    unanswered(bank, page)
     page.quit()
 
 
@@ -92,6 +93,17 @@ def learns_of_others(bank, page):
     page.ask_to_open("2012-02-13")
     right("3 days after the last closed day, Friday, 10 February 2012." in question(page), "a journal of an earlier version, without the field, is read as before", question(page))
     page.press("#confirm-no")
+
+
+def unanswered(bank, page):
+    """Batches that nothing answers: the page doesn't know the last closed day, and opens none."""
+    bank.gate.changed = lambda path, text: b"" if path.startswith("/batch/") else text
+    sent = len(bank.gate.bodies)
+    page.type("#open-date", "2012-02-14")
+    page.press("#open-day button")
+    page.waits_for("The counter didn't answer: something else did (status 502).", "#notices")
+    right(len(bank.gate.bodies) == sent and not page.find("#confirm").is_displayed(), "if the batches aren't answered, nothing is asked and nothing opened")
+    bank.gate.changed = None
 
 
 def wrong_year(bank):
