@@ -40,9 +40,12 @@ export function onSubmit(form, work) {
 // Long enough that the second click of a double one confirms nothing.
 const REST = 1000;
 
+let resting = null;
+
 function restFor(button, milliseconds) {
+  clearTimeout(resting);
   button.disabled = milliseconds > 0;
-  if (milliseconds > 0) setTimeout(() => (button.disabled = false), milliseconds);
+  resting = setTimeout(() => (button.disabled = false), milliseconds);
 }
 
 // Asks the teller to confirm, with the keyboard on "Back", so that a key held too long confirms nothing. Resolves to whether it was confirmed.
