@@ -1,6 +1,7 @@
 """What clients/counter.py does: a day, each fault, used numbers, refusals, journals, files."""
 import json
 import re
+import socket
 import subprocess
 import sys
 import time
@@ -248,7 +249,17 @@ def printed_by(shell, line, wanted):
     numberless = [[re.sub("^request [0-9]+ ", "request N ", text) for text in texts] for texts in (found[:-1], wanted)]
     right(numberless[0] == numberless[1], f"as written: {line}", found)
     if line.endswith("&"):
-        time.sleep(1)
+        wait_for_port(int(re.search("--port ([0-9]+)", line)[1]))
+
+
+def wait_for_port(port):
+    """Until a server that a command left running listens."""
+    for _ in range(300):
+        with socket.socket() as trial:
+            if trial.connect_ex(("127.0.0.1", port)) == 0:
+                return
+        time.sleep(0.1)
+    right(False, f"something listens on port {port}")
 
 
 # ---- refusals
