@@ -234,8 +234,8 @@ def document(bank):
     try:
         for line, wanted in commands_of((TOP / "docs" / "TELLERS.md").read_text()):
             printed_by(shell, line, wanted)
-        shell.stdin.write("kill $(jobs -p)\n")
     finally:
+        shell.stdin.write("kill $(jobs -p)\n")
         shell.stdin.close()
         shell.wait(timeout=60)
 
