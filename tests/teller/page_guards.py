@@ -421,8 +421,9 @@ def told_in_sight(bank, page, owner):
     page.settled()
     page.until(lambda: page.run("return document.activeElement.matches('.notice.refused')"), "the notice takes the keyboard")
     is_in_window(page, ".notice", f"{count} bonds, a refusal")
-    scrolled = page.run("return [scrollY, document.documentElement.scrollHeight - innerHeight]")
-    right(scrolled[0] > 0, "control: the page is scrolled, and its top is out of the window", scrolled)
+    top, *_ = page.run("document.querySelector('#told').style.position = 'static';" + BOX, ".notice")
+    right(top < 0, f"control: if it didn't stick, it would stand {-top:.0f} pixels above the window", top)
+    page.run("document.querySelector('#told').style.position = ''")
     page.press(".notice .close")
     right(page.all(".notice") == [] and page.run("return document.activeElement.matches('#pay-bonds button')"), "Close ends it, and the keyboard is on Pay again")
 
