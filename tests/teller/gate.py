@@ -16,6 +16,7 @@ A fault is done to the next POST:
   signed out      the message is dropped, and 403 is answered with a page of a proxy
   damaged         the message is dropped, and answered as one that was cut
   silent          the counter has committed, and no answer comes until the client goes
+  reset           the counter has committed, `cut` is called, and the answer is dropped
 
 Two more answer one sending alone. They are final on the first sending of a request, and tell nothing on a later one:
 
@@ -99,6 +100,7 @@ class Gate:
         self.bodies = []
         self.heads = []
         self.changed = None
+        self.cut = lambda: None
         self.lock = threading.Lock()
         self.listener = socket.create_server(("127.0.0.1", 0), backlog=2000)
         self.port = self.listener.getsockname()[1]
@@ -163,6 +165,8 @@ class Gate:
         elif fault == "silent":
             client.settimeout(120)
             client.recv(1)
+        elif fault == "reset":
+            self.cut()
 
     def answered(self, message):
         """The counter's whole answer; nothing where it isn't there, or was killed."""

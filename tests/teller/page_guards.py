@@ -6,7 +6,9 @@ from selenium.webdriver.common.keys import Keys
 
 from browser import Page
 from gate import ENTRY
+from nginx_sample import SAMPLE, Nginx, replaced
 from page_cases import EARLIER, books_of, changed_sheets, dollars, is_paid_on
+from relay import Relay
 from samples import TOO_YOUNG, VALUES, begin, right
 
 DAY = "2012-02-06"
@@ -182,6 +184,45 @@ def redirect_on_resend(bank):
 
 def many_requests(bank):
     lost_then(bank, "too many", "The counter didn't answer: too many requests.")
+
+
+def connection_reset(bank):
+    """The connection breaks after the commit, and a fault answers what comes next. If nginx keeps connections, that is a repeat of the browser's own, of which the page doesn't know."""
+    conf = bank.folder / "kept.conf"
+    conf.write_text(replaced((SAMPLE / "counter.conf").read_text(), [("keepalive_timeout 0", "keepalive_timeout 60s")]))
+    kept = Nginx(bank.folder / "kept", bank.gate.port, bank.nginx.users, conf=conf, rate=100_000)
+    begin(bank, [7], DAY)
+    try:
+        page = reset_while_paying(bank, kept.port, 5, "L7EE")
+        page.waits_for("The counter can't read the request: it isn't JSON.", "#notices")
+        page.settled()
+        wrong = (len(bank.gate.bodies), page.journal()["open"], bank.ask("GET", "/ticket/1")[0])
+        right(wrong == (2, None, 200), "control: over kept connections the browser repeats a payment by itself, and the page takes its fault for nothing done", wrong)
+    finally:
+        kept.end()
+    page.quit()
+    page = reset_while_paying(bank, bank.nginx.port, 6, "K7EE")
+    page.waits_for("This says nothing about the earlier attempts.", "#progress")
+    right(page.journal()["open"]["sent"] == 2, "over the sample each sending is the page's own, and the request stays open", page.journal())
+    is_paid_on(page, 2, VALUES["K"])
+    page.settled()
+    right(bank.ask("GET", "/ticket/3")[0] == 404, "until its one ticket is there")
+    page.quit()
+
+
+def reset_while_paying(bank, port, desk, serial):
+    relay = Relay(port)
+    bank.port, bank.gate.cut = relay.port, relay.cut
+    page = Page(bank)
+    page.choose_desk(desk)
+    page.join_day(DAY)
+    page.waits_for("The page works on")
+    page.show_sheet(7)
+    page.choose(serial)
+    bank.gate.bodies.clear()
+    bank.gate.faults = ["reset", "not json"]
+    page.pay()
+    return page
 
 
 def first_sendings(bank):
