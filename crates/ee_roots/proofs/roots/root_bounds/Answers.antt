@@ -2,6 +2,13 @@ use Rattle.std.proofs.Common.{arith, rules}
 use Rattle.ee_roots.proofs.Bounds.{Encloses-from_root, high-le, low-le_high}
 use Rattle.ee_roots.proofs.roots.root_bounds.Goals as goal
 
+-- the clauses come first, so that wrong bounds are refused by them before the invariant of `Root`
+pub returns-clause-low : goal.returns-clause-low
+returns-clause-low c = search rules
+
+pub returns-clause-high : goal.returns-clause-high
+returns-clause-high c = search rules
+
 pub invariant_of-result : goal.invariant_of-result
 invariant_of-result c =
     let l = c.low_root-low.ensures.low in let h = c.high_root-high.ensures.high in
@@ -13,9 +20,3 @@ returns-clause-encloses c = Encloses-from_root _ _ _ _ c.low_root-low.ensures.lo
 pub returns-clause-narrow : goal.returns-clause-narrow
 returns-clause-narrow c =
     omega (arith, high-le _ _ _ _ c.low_root-low.ensures.low c.high_root-high.ensures.high)
-
-pub returns-clause-low : goal.returns-clause-low
-returns-clause-low c = search rules
-
-pub returns-clause-high : goal.returns-clause-high
-returns-clause-high c = search rules
