@@ -36,7 +36,7 @@ ends_at WriteFailed (Some t) bytes left old new c n count Has e = (left_by c t, 
 serves_at : (c : Content) (e : Ended) (Has : Content → Type 0) → ServesSocket c e Has → (d : Content) × ServesSocket c e (λ left. left ≡ d) × Has d
 serves_at c e Has s =
     let x = ends_at e.why s.ends.0 s.rest None s.wrote None (left_by_all c s.told) (length s.told) e.messages Has s.ends.2 in
-    (x.0, record { bytes = s.bytes; read = s.read; told = s.told; few = s.few; rest = s.rest; wrote = s.wrote; so_far = s.so_far; ends = (s.ends.0, s.ends.1, x.1) }, x.2)
+    (x.0, record { bytes = s.bytes; read = s.read; told = s.told; needed = s.needed; few = s.few; rest = s.rest; wrote = s.wrote; so_far = s.so_far; ends = (s.ends.0, s.ends.1, x.1) }, x.2)
 
 first_false : (a b : Bool) → (a || b) ≡ false → a ≡ false
 first_false true b none = none

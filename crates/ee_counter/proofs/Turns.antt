@@ -1,5 +1,8 @@
 -- One turn of a connection after another.
-use Rattle.std.proofs.Common.{◌≡◌, ℕ, ◌+◌, ◌<◌, ◌||◌, Bool, true, false, ControlFlow, Continue, Break, List, [], ◌∷◌, ◌++◌, length, Option, None, Ok, Err, refl, sym, ap, subst, ◌∙◌, arith, append_assoc, append-nil, length-append, inl, inr}
+use Rattle.std.proofs.Common.{◌≡◌, ℕ, ◌+◌, ◌<◌, ◌≤◌, ◌||◌, Bool, true, false, ControlFlow, Continue, Break, List, [], ◌∷◌, ◌++◌, length, Option, None, Ok, Err, refl, sym, ap, subst, ◌∙◌, arith, append_assoc, append-nil, length-append, inl, inr}
+use Rattle.std.proofs.lemmas.List.{length-map}
+use Rattle.std.specs.Prelude.{⊤}
+use Rattle.std.specs.ControlFlow.{MatchControlFlow}
 use Rattle.std.specs.List.{AllByRecursion}
 use Rattle.std.specs.Io.KnownBytes.{Appends, Consumes}
 use Rattle.std.proofs.KnownBytes.{Appends-nil, Appends-trans, Consumes-nil, Consumes-trans}
@@ -7,7 +10,7 @@ use Rattle.ee_device.specs.Written.{WritesFront}
 use Rattle.ee_desk_acts.specs.Repeats.{Content}
 use Rattle.ee_wire_framing.specs.Stream.{Stream}
 use Rattle.ee_wire_framing.specs.Framing.{Message, BeginsMessage, BeginsMessages, EndsWith, end}
-use Rattle.ee_wire_framing.specs.Reading.{message_in, NeedsMore, Settles, ShowsFault, Takes}
+use Rattle.ee_wire_framing.specs.Reading.{AreNeeded, message_in, NeedsMore, Settles, ShowsFault, Takes}
 use Rattle.ee_wire_framing.specs.declared.buffer.Message as parts
 use Rattle.ee_wire_framing.specs.declared.buffer.Next.TheVariants as next
 use Rattle.ee_wire_framing.specs.declared.buffer.WireEnd.TheVariants as wire
@@ -19,7 +22,7 @@ use Rattle.ee_wire_framing.specs.declared.FramingFault.{FramingFault}
 use Rattle.ee_counter.specs.declared.connections.Ended.{Ended}
 use Rattle.ee_counter.specs.declared.connections.Why.{Why}
 use Rattle.ee_counter.specs.declared.connections.Why.TheVariants.{Closed, Asked, Limit, Fault, ReadFailed, WriteFailed, NoMemory}
-use Rattle.ee_counter.specs.Serving.{Told, left_by, is_last, text_of, texts, left_by_all, AreRight, AnswersOne, Turns, fault_text, RefusesBy, EndsBy, Ends, messages, SoFar, Serves, told_failure, any_told_failure}
+use Rattle.ee_counter.specs.Serving.{Told, left_by, is_last, text_of, texts, left_by_all, AreRight, AnswersOne, Turns, fault_text, RefusesBy, EndsBy, Ends, messages, SoFar, Serves, told_failure, any_told_failure, WereNeeded}
 
 -- a text that was written whole
 pub whole : (text : List ℕ) (old new : Option (List ℕ)) → WritesFront old new text true → Appends old new text
@@ -39,31 +42,37 @@ held_is was is got none all = sym (ap (λ l. l ++ is.held) none) ∙ all
 pub turn_told : (was is : Stream) (before after old new : Option (List ℕ)) (m : parts.Message) (c : Content) (n : ℕ) (failed : Bool) (r : ControlFlow Ended Bool) (Has : Content → Type 0)
     → Takes was before is after → Settles (Ok (next.Message m)) is after → AnswersOne (message_in is.shown m) old new c n failed r Has
     → Turns was.held is.held before after old new c n failed r Has
-turn_told was is before after old new m c n failed (Continue now) Has (got, took, all) at p = (
+turn_told was is before after old new m c n failed (Continue now) Has (got, took, all, needed) at p = (
   got,
   took,
+  needed,
   (record { message = message_in is.shown m; answer = p.0 }, subst (λ l. BeginsMessage l (message_in is.shown m) is.held) all at, p.1.0, p.1.1, p.2, p.3, p.4),
 )
-turn_told was is before after old new m c n failed (Break e) Has (got, took, all) at p =
-    (got, took, p (was.held ++ got) is.held after (subst (λ l. BeginsMessage l (message_in is.shown m) is.held) all at))
+turn_told was is before after old new m c n failed (Break e) Has (got, took, all, needed) at p =
+    (got, took, needed, p (was.held ++ got) is.held after (subst (λ l. BeginsMessage l (message_in is.shown m) is.held) all at))
 
 pub turn_closed : (was is : Stream) (before after wrote : Option (List ℕ)) (c : Content) (n : ℕ) (failed : Bool) (Has : Content → Type 0)
     → Takes was before is after → Settles (Ok next.End) is after → Has c
     → Turns was.held is.held before after wrote wrote c n failed (Break (record { messages = n; store_failed = failed; why = Closed })) Has
-turn_closed was is before after wrote c n failed Has (got, took, all) s has =
-    (got, took, (None, refl, (subst (λ l. EndsWith l end) (held_is was is got s.0 all) s.1, s.2, Appends-nil wrote, refl, has)))
+turn_closed was is before after wrote c n failed Has (got, took, all, needed) s has =
+    (got, took, needed, (None, refl, (subst (λ l. EndsWith l end) (held_is was is got s.0 all) s.1, s.2, Appends-nil wrote, refl, has)))
 
 pub turn_failed : (was is : Stream) (before after wrote : Option (List ℕ)) (c : Content) (n : ℕ) (failed : Bool) (Has : Content → Type 0)
     → Takes was before is after → Settles (Err wire.ReadFailed) is after → Has c
     → Turns was.held is.held before after wrote wrote c n failed (Break (record { messages = n; store_failed = failed; why = ReadFailed })) Has
-turn_failed was is before after wrote c n failed Has (got, took, all) s has =
-    (got, took, (None, refl, (subst NeedsMore (held_is was is got s.0 all) s.1, Appends-nil wrote, refl, has)))
+turn_failed was is before after wrote c n failed Has (got, took, all, needed) s has =
+    (got, took, needed, (None, refl, (subst NeedsMore (held_is was is got s.0 all) s.1, Appends-nil wrote, refl, has)))
 
 pub turn_starved : (was is : Stream) (before after wrote : Option (List ℕ)) (c : Content) (n : ℕ) (failed : Bool) (Has : Content → Type 0)
     → Takes was before is after → Settles (Err wire.NoMemory) is after → Has c
     → Turns was.held is.held before after wrote wrote c n failed (Break (record { messages = n; store_failed = failed; why = NoMemory })) Has
-turn_starved was is before after wrote c n failed Has (got, took, all) s has =
-    (got, took, (None, refl, (Appends-nil wrote, refl, inl (subst NeedsMore (held_is was is got s.0 all) s.1), has)))
+turn_starved was is before after wrote c n failed Has (got, took, all, needed) s has =
+    (got, took, needed, (None, refl, (Appends-nil wrote, refl, inl (subst NeedsMore (held_is was is got s.0 all) s.1), has)))
+
+-- the stream goes on, whatever was answered
+pub goes_on : {P : Type 0} (r : ControlFlow Ended Bool) → P → MatchControlFlow r (λ failed. P) (λ ended. ⊤)
+goes_on (Continue failed) yet = yet
+goes_on (Break e) yet = tt
 
 -- a fault that was answered, or not
 refused : (why : Why) (f : FramingFault) (bytes : List ℕ) (remaining old new : Option (List ℕ)) (c : Content) (n count : ℕ) (Has : Content → Type 0)
@@ -80,8 +89,8 @@ refused ReadFailed f bytes remaining old new c n count Has fault r has = absurd 
 pub turn_refused : (was is : Stream) (before after old new : Option (List ℕ)) (f : FramingFault) (c : Content) (n : ℕ) (failed : Bool) (e : Ended) (Has : Content → Type 0)
     → Takes was before is after → Settles (Err (wire.Fault f)) is after → RefusesBy e.why f old new n e.messages → e.store_failed ≡ failed → Has c
     → Turns was.held is.held before after old new c n failed (Break e) Has
-turn_refused was is before after old new f c n failed e Has (got, took, all) s r as_before has =
-    (got, took, (None, as_before, refused e.why f (was.held ++ got) after old new c n e.messages Has (subst (λ l. ShowsFault l after f) (held_is was is got s.0 all) s.1) r has))
+turn_refused was is before after old new f c n failed e Has (got, took, all, needed) s r as_before has =
+    (got, took, needed, (None, as_before, refused e.why f (was.held ++ got) after old new c n e.messages Has (subst (λ l. ShowsFault l after f) (held_is was is got s.0 all) s.1) r has))
 
 -- ---- one more at the end
 
@@ -149,27 +158,48 @@ so_far_more bytes rest others old mid new c ts t s at right quiet wrote = record
   wrote = subst (Appends old new) (sym (texts_at_end ts t)) (Appends-trans old mid new _ _ s.wrote wrote);
 }
 
--- so many messages were read and answered, and these bytes are held; and whether an answer told that the store failed
+-- ---- what was read
+
+messages_length : (ts : List Told) → length (messages ts) ≡ length ts
+messages_length ts = length-map ts (λ t. t.message)
+
+needed_weaker : (Few More : ℕ → Type 0) (bytes : List ℕ) → ((k : ℕ) → Few k → More k) → WereNeeded Few bytes → WereNeeded More bytes
+needed_weaker Few More bytes weaker (inl none) = inl none
+needed_weaker Few More bytes weaker (inr (early, last, is, few, (done, others, at, needs, k))) =
+    inr (early, last, is, few, (done, others, at, needs, weaker (length done) k))
+
+-- so were some more, which a next message needed
+needed_more : (Few More : ℕ → Type 0) (bytes held got : List ℕ) (ms : List Message) → BeginsMessages bytes ms held
+    → ((k : ℕ) → Few k → More k) → More (length ms) → WereNeeded Few bytes → AreNeeded held got → WereNeeded More (bytes ++ got)
+needed_more Few More bytes held got ms at weaker here was (inl none) =
+    subst (WereNeeded More) (sym (append-nil bytes) ∙ sym (ap (λ l. bytes ++ l) none)) (needed_weaker Few More bytes weaker was)
+needed_more Few More bytes held got ms at weaker here was (inr (early, last, is, needs, few)) =
+    inr (bytes ++ early, last, ap (λ l. bytes ++ l) is ∙ sym (append_assoc bytes early last), few, (ms, held ++ early, BeginsMessages-append bytes early ms held at, needs, here))
+
+-- so many messages were read and answered, each read but the last was needed, and these bytes are held; and whether an answer
+-- told that the store failed
 abbrev pub HasTold : Option (List ℕ) → Option (List ℕ) → List ℕ → Option (List ℕ) → Option (List ℕ) → Content → ℕ → Bool → (Content → Type 0) → Type 0
 HasTold before after held old new c n failed Has =
-    (bytes : List ℕ) × Consumes before after bytes
+    (bytes : List ℕ) × Consumes before after bytes × WereNeeded (λ k. k < n) bytes
     × ((told : List Told) × (length told ≡ n) × (failed ≡ any_told_failure told) × SoFar bytes held old new c told × Has (left_by_all c told))
 
 pub none_told : (before wrote : Option (List ℕ)) (held : List ℕ) (c : Content) (Has : Content → Type 0) → held ≡ [] → Has c → HasTold before before held wrote wrote c 0 false Has
 none_told before wrote held c Has none has =
-    ([], Consumes-nil before, ([], refl, refl, record { begins = sym none; right = tt; none_asks = tt; wrote = Appends-nil wrote }, has))
+    ([], Consumes-nil before, inl refl, ([], refl, refl, record { begins = sym none; right = tt; none_asks = tt; wrote = Appends-nil wrote }, has))
 
 -- one turn more
 pub turn_more : (before mid after old now new : Option (List ℕ)) (held others : List ℕ) (c : Content) (n : ℕ) (was failed : Bool) (Has After : Content → Type 0)
     → HasTold before mid held old now c n was Has → ((d : Content) → Has d → Turns held others mid after now new d n was (Continue failed) After)
     → HasTold before after others old new c (n + 1) failed After
-turn_more before mid after old now new held others c n was failed Has After (bytes, read, s) turn =
+turn_more before mid after old now new held others c n was failed Has After (bytes, read, needed, s) turn =
     let told = s.0 in
     let x = turn (left_by_all c told) s.4 in
-    let t = x.2 in
+    let t = x.3 in
+    let as_many : length (messages told) ≡ n = messages_length told ∙ s.1 in
     let wrote = subst (λ k. Appends now new (text_of k t.0)) (sym s.1) t.5 in (
       bytes ++ x.0,
       Consumes-trans before mid after bytes x.0 read x.1,
+      needed_more (λ k. k < n) (λ k. k < n + 1) bytes held x.0 (messages told) s.3.begins (λ k less. omega arith) (omega arith) needed x.2,
       (
         told ++ t.0 ∷ [],
         length_more told t.0 n s.1,
@@ -183,14 +213,18 @@ turn_more before mid after old now new held others c n was failed Has After (byt
 pub serves_ended : (before mid after old now new : Option (List ℕ)) (held others : List ℕ) (c : Content) (n : ℕ) (was : Bool) (e : Ended) (Has After : Content → Type 0)
     → HasTold before mid held old now c n was Has → n < 1000 → ((d : Content) → Has d → Turns held others mid after now new d n was (Break e) After)
     → Serves before after old new c e After
-serves_ended before mid after old now new held others c n was e Has After (bytes, read, s) few turn =
+serves_ended before mid after old now new held others c n was e Has After (bytes, read, needed, s) few turn =
     let told = s.0 in
     let x = turn (left_by_all c told) s.4 in
-    let so = subst (λ b. Ends e b (held ++ x.0) after now new (left_by_all c told) n After) s.2 x.2 in
+    let so = subst (λ b. Ends e b (held ++ x.0) after now new (left_by_all c told) n After) s.2 x.3 in
+    let as_many : length (messages told) ≡ n = messages_length told ∙ s.1 in
+    let all_told : length told ≡ n = s.1 in
     record {
       bytes = bytes ++ x.0;
       read = Consumes-trans before mid after bytes x.0 read x.1;
       told = told;
+      needed = needed_more (λ k. k < n) (λ k. (k ≤ length told) × (k < 1000)) bytes held x.0 (messages told) s.3.begins
+          (λ k less. (omega arith, omega arith)) (omega arith, omega arith) needed x.2;
       few = inl (subst (λ k. k < 1000) (sym s.1) few);
       rest = held ++ x.0;
       wrote = now;
@@ -202,10 +236,11 @@ serves_ended before mid after old now new held others c n was e Has After (bytes
 pub serves_limit : (before after old new : Option (List ℕ)) (held : List ℕ) (c : Content) (n : ℕ) (failed : Bool) (Has : Content → Type 0)
     → n ≡ 1000 → HasTold before after held old new c n failed Has
     → Serves before after old new c (record { messages = 1000; store_failed = failed; why = Limit }) Has
-serves_limit before after old new held c n failed Has limit (bytes, read, s) = record {
+serves_limit before after old new held c n failed Has limit (bytes, read, needed, s) = record {
   bytes = bytes;
   read = read;
   told = s.0;
+  needed = needed_weaker (λ k. k < n) (λ k. (k ≤ length s.0) × (k < 1000)) bytes (λ k less. (omega (arith, s.1), omega arith)) needed;
   few = inr (refl, s.1 ∙ limit);
   rest = held;
   wrote = new;

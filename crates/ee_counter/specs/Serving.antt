@@ -1,5 +1,5 @@
 -- What serving a connection writes, and what it leaves (this project's rule).
-use Rattle.std.specs.Prelude.{◌≡◌, ℕ, ◌+◌, ◌<◌, ◌⊎◌, ◌==◌, ◌||◌, Bool, true, false, List, [], ◌∷◌, ◌++◌, length, map, Option, Some, None, Result, Ok, Err, ⊤}
+use Rattle.std.specs.Prelude.{◌≡◌, ℕ, ◌+◌, ◌<◌, ◌≤◌, ◌⊎◌, ◌==◌, ◌||◌, Bool, true, false, List, [], ◌∷◌, ◌++◌, length, map, Option, Some, None, Result, Ok, Err, ⊤}
 use Rattle.std.specs.List.{AllByRecursion, list_any}
 use Rattle.std.specs.Option.{option_map_or}
 use Rattle.std.specs.declared.ops.ControlFlow.{ControlFlow}
@@ -10,7 +10,7 @@ use Rattle.ee_desk_acts.specs.declared.refusals.Unserved.TheVariants.{StoreFaile
 use Rattle.ee_desk_acts.specs.Repeats.{Content}
 use Rattle.ee_wire_framing.specs.declared.FramingFault.{FramingFault}
 use Rattle.ee_wire_framing.specs.Framing.{Message, BeginsMessage, BeginsMessages, EndsWith, end}
-use Rattle.ee_wire_framing.specs.Reading.{NeedsMore, ShowsFault}
+use Rattle.ee_wire_framing.specs.Reading.{AreNeeded, NeedsMore, ShowsFault, most_read}
 use Rattle.ee_wire_calls.specs.declared.calls.Call.{Call}
 use Rattle.ee_wire_calls.specs.declared.calls.Call.TheVariants as call
 use Rattle.ee_wire_calls.specs.declared.faults.WireFault.{WireFault}
@@ -155,14 +155,15 @@ RefusesBy ReadFailed f old new n count = ⊥
 abbrev pub Refuses : FramingFault → Option (List ℕ) → Option (List ℕ) → ℕ → Ended → Type 0
 Refuses f old new n e = RefusesBy e.why f old new n e.messages
 
--- after these bytes some more may be read; then a message is answered, and others are left, or the connection ends
+-- after these bytes some more may be read, as they are needed; then a message is answered, and others are left, or the
+-- connection ends
 abbrev pub Turns : List ℕ → List ℕ → Option (List ℕ) → Option (List ℕ) → Option (List ℕ) → Option (List ℕ) → Content → ℕ → Bool → ControlFlow Ended Bool → (Content → Type 0) → Type 0
 Turns bytes others before after old new c n was (Continue failed) Has =
-    (got : List ℕ) × Consumes before after got
+    (got : List ℕ) × Consumes before after got × AreNeeded bytes got
     × ((t : Told) × BeginsMessage (bytes ++ got) t.message others × IsRight c (call_of t.message) t.answer × Has (left_by c t)
     × (t.message.closes ≡ false) × Appends old new (text_of n t) × (failed ≡ (told_failure t || was)))
 Turns bytes others before after old new c n was (Break e) Has =
-    (got : List ℕ) × Consumes before after got × Ends e was (bytes ++ got) after old new c n Has
+    (got : List ℕ) × Consumes before after got × AreNeeded bytes got × Ends e was (bytes ++ got) after old new c n Has
 
 -- it is told that the store failed only where that may be
 abbrev pub FlowFailsOnlyIf : Type 0 → ControlFlow Ended Bool → Type 0
@@ -182,6 +183,12 @@ pub record SoFar (bytes rest : List ℕ) (old : Option (List ℕ)) (new : Option
   pub none_asks : AllByRecursion (λ t. t.message.closes ≡ false) told
   pub wrote : Appends old new (texts 0 told)
 
+-- nothing was read, or before the last read the bytes had as many whole messages as `Few` allows, and the next wasn't whole
+abbrev pub WereNeeded : (ℕ → Type 0) → List ℕ → Type 0
+WereNeeded Few bytes =
+    (bytes ≡ []) ⊎ ((early : List ℕ) × (last : List ℕ) × (bytes ≡ early ++ last) × (length last ≤ most_read)
+    × ((done : List Message) × (others : List ℕ) × BeginsMessages early done others × NeedsMore others × Few (length done)))
+
 -- after the 1,000th message none is read and none answered
 abbrev pub AreFew : Why → ℕ → Type 0
 AreFew why n = (n < 1000) ⊎ ((why ≡ Limit) × (n ≡ 1000))
@@ -193,6 +200,8 @@ pub record Serves (before : Option (List ℕ)) (remaining : Option (List ℕ)) (
   pub bytes : List ℕ
   pub read : Consumes before remaining bytes
   pub told : List Told
+  -- no read came after the one that settled the end: before it, no message but those told was whole, and fewer than 1,000
+  pub needed : WereNeeded (λ n. (n ≤ length told) × (n < 1000)) bytes
   pub few : AreFew e.why (length told)
   pub rest : List ℕ
   pub wrote : Option (List ℕ)

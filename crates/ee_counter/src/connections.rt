@@ -221,10 +221,11 @@ fn turn<K: Keeper, R: Read, W: Write>(
 /// messages were answered, or a device or memory fails.
 ///
 /// What is written is the answers in order and whole; only the last may be cut, where the writer failed. A
-/// message that is answered 503 changed nothing. After the 1,000th message none is decided. Where the reader
-/// fails, no whole message is left among the bytes that were read. Where an answer told that the store
-/// failed, the end says so, whatever ended the connection; of a store that can't fail it never does. The
-/// claims are of any content `c` that the keeper had, and hold where its store is clean at the end.
+/// message that is answered 503 changed nothing. After the 1,000th message none is decided. No read comes after
+/// the one that settled the end: before the last read, of at most 4,096 bytes, the next message wasn't whole.
+/// Where the reader fails, no whole message is left among the bytes that were read. Where an answer told that
+/// the store failed, the end says so, whatever ended the connection; of a store that can't fail it never does.
+/// The claims are of any content `c` that the keeper had, and hold where its store is clean at the end.
 pub fn serve<K: Keeper, R: Read, W: Write>(
     alloc: Global,
     keeper: &mut K,

@@ -1,5 +1,5 @@
 -- From what is held to all that is left.
-use Rattle.std.proofs.Common.{◌≡◌, ℕ, List, [], ◌∷◌, ◌++◌, length, take, drop, Option, Some, None, Ok, Err, IfSome, sym, ap, subst, ◌∙◌, inr, arith, append_assoc, append-nil, take-append-drop}
+use Rattle.std.proofs.Common.{◌≡◌, ◌≤◌, ℕ, List, [], ◌∷◌, ◌++◌, length, take, drop, Option, Some, None, Ok, Err, IfSome, refl, sym, ap, subst, ◌∙◌, inr, arith, append_assoc, append-nil, take-append-drop}
 use Rattle.std.specs.Io.KnownBytes.{Keeps, Consumes, IsAtEnd, prepend_known}
 use Rattle.std.proofs.KnownBytes.{Consumes-kept, Consumes-trans}
 use Rattle.ee_wire_framing.specs.declared.buffer.Message as parts
@@ -7,7 +7,7 @@ use Rattle.ee_wire_framing.specs.declared.buffer.WireEnd.TheVariants as wire
 use Rattle.ee_wire_framing.specs.declared.buffer.Next.TheVariants as next
 use Rattle.ee_wire_framing.specs.Stream.{Stream}
 use Rattle.ee_wire_framing.specs.Framing.{BeginsMessage, Message, EndsWith, end, fault}
-use Rattle.ee_wire_framing.specs.Reading.{message_in, left, Gives, NeedsMore, EndsAt, Answer, Answers, Takes, Settles}
+use Rattle.ee_wire_framing.specs.Reading.{message_in, left, Gives, NeedsMore, EndsAt, Answer, Answers, AreNeeded, Takes, Settles, most_read}
 use Rattle.ee_wire_framing.proofs.Messages.{BeginsMessage-append}
 
 -- what holds of what is held, whatever follows, holds of all that was left
@@ -67,27 +67,31 @@ given_shown m len known after seen held new same shown rest kept at =
 
 -- ---- what was read
 
--- bytes that were read since, with which the bytes held begin no longer than they were
+-- bytes that were read since, as they were needed, with which the bytes held begin no longer than they were
 abbrev pub HasRead : List ℕ → Option (List ℕ) → List ℕ → Option (List ℕ) → Type 0
-HasRead old before held after = (got : List ℕ) × Consumes before after got × (held ≡ old ++ got)
+HasRead old before held after = (got : List ℕ) × Consumes before after got × (held ≡ old ++ got) × AreNeeded old got
 
 pub read_more : (old held new more : List ℕ) (before mid after : Option (List ℕ)) → HasRead old before held mid → Consumes mid after more → new ≡ held ++ more
-    → HasRead old before new after
-read_more old held new more before mid after (got, took, is) again grown =
-    (got ++ more, Consumes-trans before mid after got more took again, grown ∙ ap (λ l. l ++ more) is ∙ append_assoc old got more)
+    → NeedsMore held → length more ≤ most_read → HasRead old before new after
+read_more old held new more before mid after (got, took, is, so_far) again grown needs few = (
+  got ++ more,
+  Consumes-trans before mid after got more took again,
+  grown ∙ ap (λ l. l ++ more) is ∙ append_assoc old got more,
+  inr (got, more, refl, subst NeedsMore is needs, few),
+)
 
 pub read_kept : (old held : List ℕ) (before mid after : Option (List ℕ)) → HasRead old before held mid → Keeps mid after → HasRead old before held after
-read_kept old held before mid after (got, took, is) kept = (got, Consumes-kept before mid after got took kept, is)
+read_kept old held before mid after (got, took, is, needed) kept = (got, Consumes-kept before mid after got took kept, is, needed)
 
 -- nothing is shown
 pub takes_held : (old new : Stream) (held : List ℕ) (before after : Option (List ℕ)) → HasRead old.held before held after → new.shown ≡ [] → new.held ≡ held
     → Takes old before new after
-takes_held old new held before after (got, took, is) none same = (got, took, ap (λ l. l ++ new.held) none ∙ same ∙ is)
+takes_held old new held before after (got, took, is, needed) none same = (got, took, ap (λ l. l ++ new.held) none ∙ same ∙ is, needed)
 
 -- a front of it is shown
 pub takes_shown : (old new : Stream) (held : List ℕ) (before after : Option (List ℕ)) (len : ℕ) → HasRead old.held before held after
     → new.shown ≡ take len held → new.held ≡ drop len held → Takes old before new after
-takes_shown old new held before after len (got, took, is) shown rest = (got, took, (λ i. shown i ++ rest i) ∙ take-append-drop len held ∙ is)
+takes_shown old new held before after len (got, took, is, needed) shown rest = (got, took, (λ i. shown i ++ rest i) ∙ take-append-drop len held ∙ is, needed)
 
 pub settles_at : (new : Stream) (after : Option (List ℕ)) (r : Answer) → new.shown ≡ [] → IsAtEnd after → EndsAt new.held r → Settles r new after
 settles_at new after (Ok (next.Message m)) shown none ends = absurd ends

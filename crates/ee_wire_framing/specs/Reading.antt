@@ -53,9 +53,19 @@ Answers old before (Err wire.NoMemory) new after = Keeps (left old before) (left
 
 -- ---- the same by what is held, which says as much where nobody knows what the reader will give
 
--- some bytes were read, and what was held, and they after it, is shown or held
+-- the most bytes of one read
+abbrev pub most_read : ℕ
+most_read = 4096
+
+-- no bytes were read after those held, or each read but the last left more to be read
+abbrev pub AreNeeded : List ℕ → List ℕ → Type 0
+AreNeeded held got =
+    (got ≡ []) ⊎ ((early : List ℕ) × (last : List ℕ) × (got ≡ early ++ last) × NeedsMore (held ++ early) × (length last ≤ most_read))
+
+-- some bytes were read, as they were needed, and what was held, and they after it, is shown or held
 abbrev pub Takes : Stream → Option (List ℕ) → Stream → Option (List ℕ) → Type 0
-Takes old before new after = (got : List ℕ) × Consumes before after got × (new.shown ++ new.held ≡ old.held ++ got)
+Takes old before new after =
+    (got : List ℕ) × Consumes before after got × (new.shown ++ new.held ≡ old.held ++ got) × AreNeeded old.held got
 
 -- the bytes begin the fault, whatever follows; or they are cut, and no more come
 abbrev pub ShowsFault : List ℕ → Option (List ℕ) → FramingFault → Type 0
@@ -102,9 +112,9 @@ EndsAt bytes (Err wire.NoMemory) = ⊥
 
 -- ---- one read
 
--- so many bytes came, and none only where no more come; or none came, and nothing changed
+-- n bytes came, and none only if no more come; or none came, and nothing changed
 abbrev pub ReadsMore : Stream → Option (List ℕ) → Result ℕ ReadFault → Stream → Option (List ℕ) → Type 0
 ReadsMore old before (Ok n) new after =
     (got : List ℕ) × (length got ≡ n) × (new ≡ record old { held = old.held ++ got }) × Consumes before after got
-    × (n ≡ 0 → IsAtEnd after)
+    × (n ≡ 0 → IsAtEnd after) × (n ≤ most_read)
 ReadsMore old before (Err e) new after = (new ≡ old) × Keeps before after

@@ -1,8 +1,8 @@
-use Rattle.std.proofs.Common.{subst, Ok, Err}
+use Rattle.std.proofs.Common.{◌≡◌, subst, Ok, Err}
 use Rattle.ee_wire_framing.specs.declared.buffer.Next.{Next}
 use Rattle.ee_wire_framing.specs.declared.buffer.WireEnd.{WireEnd}
-use Rattle.ee_wire_framing.specs.Reading.{Settles}
-use Rattle.ee_counter.proofs.Turns.{turn_closed, turn_failed, turn_refused, turn_starved, turn_told}
+use Rattle.ee_wire_framing.specs.Reading.{Settles, stop_of}
+use Rattle.ee_counter.proofs.Turns.{goes_on, turn_closed, turn_failed, turn_refused, turn_starved, turn_told}
 use Rattle.ee_counter.proofs.connections.turn.Goals as goal
 
 pub returns-in-Ok-Message-clause-turns : goal.returns-in-Ok-Message-clause-turns
@@ -49,3 +49,8 @@ returns-in-Err-NoMemory-clause-turns g c = λ clean d has.
 
 pub returns-in-Err-Fault-clause-open : goal.returns-in-Err-Fault-clause-open
 returns-in-Err-Fault-clause-open g c = tt
+
+pub returns-in-Ok-Message-clause-open : goal.returns-in-Ok-Message-clause-open
+returns-in-Ok-Message-clause-open g c =
+    goes_on c.answer_one.result
+    (subst (λ (x : Next). c.next_message.new.buffer.ended ≡ stop_of (Ok x)) c.in-Ok-Message.field-0-is (c.in-Ok-Message.ensures.ended c.requires.open))

@@ -1,4 +1,4 @@
-use Rattle.std.proofs.Common.{◌≡◌, ◌++◌, ◌∙◌, ap, sym, subst, rules, take, drop, inl}
+use Rattle.std.proofs.Common.{◌≡◌, ◌++◌, ◌∙◌, ap, arith, sym, subst, rules, take, drop, inl}
 use Rattle.std.specs.Io.KnownBytes.{Keeps, prepend_known}
 use Rattle.ee_wire_framing.specs.Stream.{Stream}
 use Rattle.ee_wire_framing.specs.Framing.{BeginsFault}
@@ -61,7 +61,7 @@ loop-message-preserved g c =
           (moved (left c.args.buffer.now (g.R.Read.remaining c.args.reader.now)) (g.R.Read.remaining c.loop-message.reader) (g.R.Read.remaining c.read_more.new.reader)
           c.loop-message.buffer.held r.0 c.loop-message.invariant.kept r.3);
       took = read_more c.args.buffer.now.held c.loop-message.buffer.held c.read_more.new.self.held r.0 (g.R.Read.remaining c.args.reader.now) (g.R.Read.remaining c.loop-message.reader) (g.R.Read.remaining c.read_more.new.reader)
-          c.loop-message.invariant.took r.3 held;
+          c.loop-message.invariant.took r.3 held (more_needed c.loop-message.buffer.held c.in-More.ensures.front) (omega (arith, r.1, r.5));
       unread = λ not. absurd (not (subst NeedsMore (c.loop-message.invariant.unread not).1 (more_needed c.loop-message.buffer.held c.in-More.ensures.front)));
     }
 
@@ -119,7 +119,7 @@ returns-in-Ok-eq0-clause-takes g c = λ _.
     let held : c.read_more.new.self.held ≡ c.loop-message.buffer.held ++ r.0 = ap (λ (s : Stream). s.held) r.2 ∙ ap (λ l. l ++ r.0) before in
     takes_held c.args.buffer.now c.at_end.new.self c.read_more.new.self.held (g.R.Read.remaining c.args.reader.now) (g.R.Read.remaining c.read_more.new.reader)
     (read_more c.args.buffer.now.held c.loop-message.buffer.held c.read_more.new.self.held r.0 (g.R.Read.remaining c.args.reader.now) (g.R.Read.remaining c.loop-message.reader) (g.R.Read.remaining c.read_more.new.reader)
-    c.loop-message.invariant.took r.3 held)
+    c.loop-message.invariant.took r.3 held (more_needed c.loop-message.buffer.held c.in-More.ensures.front) (omega (arith, r.1, r.5)))
     (ap (λ (s : Stream). s.shown) c.at_end.ensures.same ∙ ap (λ (s : Stream). s.shown) r.2 ∙ ap (λ (s : Stream). s.shown) same ∙ c.loop-message.invariant.shown)
     (ap (λ (s : Stream). s.held) c.at_end.ensures.same)
 
