@@ -1,0 +1,27 @@
+use Rattle.std.proofs.Common.{arith, ◌∙◌, inr, sym, ap, subst}
+use Rattle.sqlite_trees.proofs.Doubt.{clean_of as sure, no_doubt}
+use Rattle.sqlite_store.specs.FileStore.{view as shown}
+use Rattle.sqlite_store.specs.Laws.{settled_at}
+use Rattle.sqlite.specs.Files.{IsEmpty}
+use Rattle.ee_store_files.proofs.creating.create.Goals as goal
+
+pub returns-in-Ok-clause-made : goal.returns-in-Ok-clause-made
+returns-in-Ok-clause-made g c =
+    λ now.
+    let before = sure (shown c.in_ok-store.store).is_clean (omega (arith, c.in-Ok.ensures.clean)) in
+    let made = c.in_ok-store.ensures in
+    let trees = sym (ap (λ d. d.trees) (c.in-Ok.ensures.opens now).0.clean) ∙ c.in-Ok.ensures.trees now ∙ made.ready.clean in
+    (made.honest before, subst IsEmpty (sym trees) (made.empty before))
+
+pub returns-in-Err-clause-unharmed : goal.returns-in-Err-clause-unharmed
+returns-in-Err-clause-unharmed g c =
+    λ late.
+    let now = no_doubt _ late in
+    let before = sure (shown c.in_ok-store.store).is_clean (omega (arith, c.in-Err.ensures.unharmed.clean)) in
+    let made = c.in_ok-store.ensures in
+    inr (
+      c.requires.uncreated (made.honest before),
+      λ found may. subst IsEmpty
+          (sym (settled_at c.in_ok-store.store g.met.D.Disk.seen_may_stay found (made.ready.is_open (no_doubt _ before)) (c.in-Err.ensures.unharmed.outcomes found may)))
+          (made.empty before),
+    )

@@ -1,0 +1,42 @@
+use Rattle.std.proofs.Common.{◌≡◌, ◌∙◌, inl, inr, sym, subst}
+use Rattle.std.proofs.lemmas.Result.{IfOk-weaker, IfErr-weaker}
+use Rattle.sqlite.specs.Files.{image_of, HoldsDatabase, AreFoundIn, file_state}
+use Rattle.sqlite.proofs.FileLemmas.{same_image}
+use Rattle.ee_store_files.specs.Files.{IsUncreated}
+use Rattle.ee_store_files.proofs.Left.{leaves_after, holds_none}
+use Rattle.ee_store_files.proofs.opening.open_files.Goals as goal
+
+pub create-requires-clause-uncreated : goal.create-requires-clause-uncreated
+create-requires-clause-uncreated g c clean =
+    let read = c.is_uncreated.ensures in
+    subst IsUncreated (sym (same_image read.log read.db)) ((c.in-Ok-true.ensures.ok clean).0 c.in-Ok-true.field-0-test)
+
+pub returns-in-Ok-true-clause-found : goal.returns-in-Ok-true-clause-found
+returns-in-Ok-true-clause-found g c = IfOk-weaker c.create.result _ _ (λ conn made still.
+    let (clean, empty) = made still in
+    let uncreated = (c.in-Ok-true.ensures.ok clean).0 c.in-Ok-true.field-0-test in
+    record {
+      holds = λ db held. absurd (holds_none (image_of g.D.Disk c.args.files) db held uncreated);
+      reads = inr (uncreated, empty);
+      taken = c.in-Ok-true.ensures.taken clean;
+    }) c.create.ensures.made
+
+pub returns-in-Ok-true-clause-unharmed : goal.returns-in-Ok-true-clause-unharmed
+returns-in-Ok-true-clause-unharmed g c =
+    let read = c.is_uncreated.ensures in
+    IfErr-weaker c.create.result _ _ (λ e leaves still. leaves_after read.log read.db e.1 (leaves still)) c.create.ensures.unharmed
+
+pub returns-in-Ok-false-clause-found : goal.returns-in-Ok-false-clause-found
+returns-in-Ok-false-clause-found g c = IfOk-weaker c.open_files.result _ _ (λ conn finds still.
+    let found = finds still in
+    let same = same_image c.is_uncreated.ensures.log c.is_uncreated.ensures.db in
+    record {
+      holds = λ db held. found.holds db (subst (λ i. HoldsDatabase i db) (sym same) held);
+      reads = inl (subst (λ i. AreFoundIn i (file_state conn).committed.trees) same found.reads);
+      taken = c.in-Ok-false.ensures.taken found.honest;
+    }) c.open_files.ensures.found
+
+pub returns-in-Ok-false-clause-unharmed : goal.returns-in-Ok-false-clause-unharmed
+returns-in-Ok-false-clause-unharmed g c =
+    let read = c.is_uncreated.ensures in
+    IfErr-weaker c.open_files.result _ _ (λ e leaves still. leaves_after read.log read.db e.1 (inl (leaves still))) c.open_files.ensures.unharmed

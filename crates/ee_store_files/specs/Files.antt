@@ -1,0 +1,51 @@
+-- What two files hold as a store is opened in them, and what is left of them if it isn't.
+use Rattle.std.specs.Prelude.{◌≡◌, ◌⊎◌, ◌+◌, ◌<◌, ◌≤◌, ℕ, false, List, length, slice_index}
+use Rattle.sqlite_disk.specs.declared.Disk.{Ghosts}
+use Rattle.sqlite_disk.specs.declared.Files.{Files}
+use Rattle.sqlite_pool.specs.Opening.{IsBlankFile}
+use Rattle.sqlite.specs.Recovery.{Image}
+use Rattle.sqlite.specs.WalFiles.{outcomes}
+use Rattle.sqlite.specs.Tree.{Trees}
+use Rattle.sqlite.specs.State.{State}
+use Rattle.sqlite.specs.Files.{image_of, HoldsDatabase, AreFoundIn, IsEmpty, LeavesFiles}
+use Rattle.sqlite_store.specs.Unopened.{state_of}
+use Rattle.sqlite_store.specs.FileStore.{recovers}
+use Rattle.sqlite.specs.declared.file.Leftover.{Leftover}
+use Rattle.sqlite.specs.declared.file.Leftover.TheVariants as left
+
+-- the size of a new store's pages, in bytes
+abbrev pub page_size : ℕ
+page_size = 1024
+
+-- The log's header counts 2 ^ 32 - 1 checkpoints: it has that count only from when a file is created to its first checkpoint.
+abbrev pub IsMarked : List ℕ → Type 0
+IsMarked log = (16 ≤ length log) × ((i : ℕ) → i < 4 → slice_index log (12 + i) ≡ 255)
+
+-- the file is one byte, and no crash left it there as a database was created
+abbrev pub IsStray : Image → Type 0
+IsStray image = (length image.db ≡ 1) × (¬ IsMarked image.log)
+
+-- No database was created yet: the file is empty, or a crash left a first page of this size half written.
+abbrev pub IsUncreated : Image → Type 0
+IsUncreated = IsBlankFile page_size
+
+-- An open found the database that the files hold; or empty trees, if none was created yet.
+pub record Finds (image : Image) (s : State) : Type 0 where
+  pub holds : (db : Trees) → HoldsDatabase image db → s.committed.trees ≡ db
+  pub reads : AreFoundIn image s.committed.trees ⊎ (IsUncreated image × IsEmpty s.committed.trees)
+  pub taken : ¬ IsStray image
+
+-- what a crash leaves as a database is created: none yet, or an empty one
+abbrev pub IsOnTheWay : Image → Type 0
+IsOnTheWay image = IsUncreated image ⊎ ∥ ((db : Trees) × HoldsDatabase image db × IsEmpty db) ∥₁
+
+module _ {D : Type 0} {g : Ghosts D} where
+  -- what is left of files in which a database was to be created
+  abbrev pub LeavesNew : Files D → Leftover D g → Type 0
+  LeavesNew files (left.Files now) = (image : Image) → outcomes g now.log now.db image → outcomes g files.log files.db image
+  LeavesNew files (left.Unopened now) = (image : Image) → (state_of now).may_leave image → outcomes g files.log files.db image ⊎ IsOnTheWay image
+  LeavesNew files (left.Store now) = (db : Trees) → recovers now db → IsEmpty db
+
+  -- What is left of files recovers to what was there; or to no database or an empty one, if none was created yet.
+  abbrev pub Leaves : Files D → Leftover D g → Type 0
+  Leaves files rest = LeavesFiles files rest ⊎ (IsUncreated (image_of g files) × LeavesNew files rest)

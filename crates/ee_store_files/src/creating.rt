@@ -1,0 +1,134 @@
+//! Whether a database is still to be created in two files, and creating it.
+
+ghost use Rattle.std.specs.Prelude.{◌≡◌, ◌↔◌, [], IsTrue, IfOk, IfErr};
+ghost use Rattle.sqlite_wal.specs.Reads.{IsClean, AreClean, OnlyReads};
+ghost use Rattle.sqlite.specs.Opening.{is_open_error};
+ghost use Rattle.sqlite.specs.State.{HasCleanDisk};
+ghost use Rattle.sqlite.specs.Held.{IsNew};
+ghost use Rattle.sqlite.specs.Files.{file_state, image_of, IsOpened, IsEmpty, IsCleanLeft};
+ghost use Rattle.sqlite_store.specs.FileStore.{view, state, IsReady};
+ghost use Rattle.ee_store_files.specs.Files.{page_size, IsMarked, IsStray, IsUncreated, Leaves};
+
+use crate::errors::{IO, NO_DATABASE, NO_MEMORY, create_error, probe_error};
+use sqlite::{Connection, Error, FileStore, Files, Leftover, Options};
+use sqlite_disk::Disk;
+use sqlite_pager::{PageSize, Pager};
+use sqlite_pool::probe_blank;
+use sqlite_store::Unopened;
+use std::alloc::{AllocFailed, Global};
+use std::io;
+
+/// The page size of a new store, in bytes.
+const NEW_PAGE: usize = 1024;
+
+/// Where the log's header counts its checkpoints.
+const CHECKPOINTS: usize = 12;
+
+/// Whether the log's header has the count of checkpoints that it gets as a database is created.
+fn is_marked<D: Disk>(log: &mut D) -> io::Result<bool>
+    requires { IsTrue (D.Disk.is_usable log.old) }
+    ensures ok { IfOk result (λ b. IsClean D.Disk log.new → (IsTrue b ↔ IsMarked (D.Disk.seen log.old))) }
+    ensures same { OnlyReads D.Disk log.old log.new }
+{
+    if log.len()? < CHECKPOINTS + 4 {
+        return Ok(false);
+    }
+    let mut count = [0; 4];
+    log.read_at(CHECKPOINTS, &mut count)?;
+    Ok(count.iter().all(|byte| *byte == 0xff))
+}
+
+/// Whether the file is a single byte that no crash left there as a database was created.
+fn is_stray<D: Disk>(files: &mut Files<D>) -> io::Result<bool>
+    requires log { IsTrue (D.Disk.is_usable files.old.log) }
+    requires db { IsTrue (D.Disk.is_usable files.old.db) }
+    ensures ok { IfOk result (λ b. AreClean D.Disk files.new.log files.new.db → (IsTrue b ↔ IsStray (image_of D.Disk files.old))) }
+    ensures log { OnlyReads D.Disk files.old.log files.new.log }
+    ensures db { OnlyReads D.Disk files.old.db files.new.db }
+{
+    if files.db.len()? != 1 {
+        return Ok(false);
+    }
+    let is_marked = is_marked(&mut files.log)?;
+    Ok(!is_marked)
+}
+
+/// Whether a database is still to be created: the file is empty, or a crash left it half created. It writes nothing.
+///
+/// # Errors
+///
+/// A file that is a single stray byte is refused as no database.
+pub fn is_uncreated<D: Disk>(alloc: Global, files: &mut Files<D>) -> Result<bool, Error>
+    requires log { IsTrue (D.Disk.is_usable files.old.log) }
+    requires db { IsTrue (D.Disk.is_usable files.old.db) }
+    ensures named { IfErr result (λ e. IsTrue (is_open_error e)) }
+    ensures ok { IfOk result (λ b. AreClean D.Disk files.new.log files.new.db → (IsTrue b ↔ IsUncreated (image_of D.Disk files.old))) }
+    ensures taken { IfOk result (λ _. AreClean D.Disk files.new.log files.new.db → ¬ IsStray (image_of D.Disk files.old)) }
+    ensures log { OnlyReads D.Disk files.old.log files.new.log }
+    ensures db { OnlyReads D.Disk files.old.db files.new.db }
+{
+    match is_stray(files) {
+        Ok(false) => {}
+        Ok(true) => return Err(NO_DATABASE),
+        Err(_) => return Err(IO),
+    }
+    let size = PageSize::new(NEW_PAGE).unwrap();
+    match probe_blank(alloc, files, size, false) {
+        Ok(is_blank) => Ok(is_blank),
+        Err(error) => Err(probe_error(error)),
+    }
+}
+
+/// Creates an empty database.
+fn create_store<D: Disk>(
+    alloc: Global,
+    files: Files<D>,
+    options: Options,
+) -> Result<FileStore<D>, (Error, Leftover<D>)>
+    requires log { IsTrue (D.Disk.is_usable files.log) }
+    requires db { IsTrue (D.Disk.is_usable files.db) }
+    requires uncreated { AreClean D.Disk files.log files.db → IsUncreated (image_of D.Disk files) }
+    ensures named { IfErr result (λ e. IsTrue (is_open_error e.0)) }
+    ensures honest { IfOk result (λ store. IsTrue (view store).is_clean → AreClean D.Disk files.log files.db) }
+    ensures ready { IfOk result IsReady }
+    ensures numbered { IfOk result (λ store. IsTrue (view store).is_numbered) }
+    ensures empty { IfOk result (λ store. IsTrue (view store).is_clean → IsEmpty (view store).committed) }
+    ensures size { IfOk result (λ store. IsTrue (view store).is_clean → (state store).page_size ≡ page_size) }
+    ensures unharmed { IfErr result (λ e. IsCleanLeft e.1 → Leaves files e.1) }
+{
+    let size = PageSize::new(NEW_PAGE).unwrap();
+    let pager = match Pager::new(alloc, files, size, options) {
+        Ok(pager) => pager,
+        Err(AllocFailed { value }) => return Err((NO_MEMORY, Leftover::Files(value))),
+    };
+    let fresh = match Unopened::with_sums(alloc, pager, &[], false) {
+        Ok(fresh) => fresh,
+        Err(AllocFailed { value }) => return Err((NO_MEMORY, Leftover::Files(value.close()))),
+    };
+    match fresh.create() {
+        Ok(store) => Ok(store),
+        Err((error, left)) => Err((create_error(error), Leftover::Unopened(left))),
+    }
+}
+
+/// Creates an empty database with small pages, and opens it.
+pub fn create<D: Disk + Drop>(
+    alloc: Global,
+    files: Files<D>,
+    options: Options,
+) -> Result<Connection<FileStore<D>>, (Error, Leftover<D>)>
+    requires log { IsTrue (D.Disk.is_usable files.log) }
+    requires db { IsTrue (D.Disk.is_usable files.db) }
+    requires uncreated { AreClean D.Disk files.log files.db → IsUncreated (image_of D.Disk files) }
+    ensures named { IfErr result (λ e. IsTrue (is_open_error e.0)) }
+    ensures opened { IfOk result (λ c. HasCleanDisk (file_state c) → IsOpened c) }
+    ensures made { IfOk result (λ c. HasCleanDisk (file_state c) → AreClean D.Disk files.log files.db × IsEmpty (file_state c).committed.trees) }
+    ensures fresh { IfOk result IsNew }
+    ensures unharmed { IfErr result (λ e. IsCleanLeft e.1 → Leaves files e.1) }
+{
+    let store = create_store(alloc, files, options)?;
+    match Connection::over(alloc, store) {
+        Ok(conn) => Ok(conn),
+        Err((error, store)) => Err((error, Leftover::Store(store))),
+    }
+}

@@ -1,0 +1,40 @@
+//! How a file that isn't opened is told.
+
+ghost use Rattle.std.specs.Prelude.{IsTrue};
+ghost use Rattle.sqlite.specs.Opening.{is_open_error};
+
+use sqlite::{Error, ErrorCode};
+use sqlite_store::OpenError;
+
+pub const NO_MEMORY: Error = Error::SqliteFailure(ErrorCode::OutOfMemory);
+
+pub const IO: Error = Error::SqliteFailure(ErrorCode::SystemIoFailure);
+
+pub const FULL: Error = Error::SqliteFailure(ErrorCode::DiskFull);
+
+pub const NO_DATABASE: Error = Error::SqliteFailure(ErrorCode::NotADatabase);
+
+pub const CANNOT_OPEN: Error = Error::SqliteFailure(ErrorCode::CannotOpen);
+
+/// Names why a file wasn't probed.
+pub fn probe_error(error: sqlite_wal::Error) -> Error
+    ensures { IsTrue (is_open_error result) }
+{
+    match error {
+        sqlite_wal::Error::OutOfMemory => NO_MEMORY,
+        sqlite_wal::Error::Full => FULL,
+        _ => IO,
+    }
+}
+
+/// Names why a database wasn't created.
+pub fn create_error(error: OpenError) -> Error
+    ensures { IsTrue (is_open_error result) }
+{
+    match error {
+        OpenError::OutOfMemory => NO_MEMORY,
+        OpenError::Io => IO,
+        OpenError::Full => FULL,
+        OpenError::Refused => NO_DATABASE,
+    }
+}

@@ -1,0 +1,10 @@
+//! The two files of a store: the database file and its log. They are opened, or a database is created in them.
+#![tactic(auto)]
+
+mod creating;
+mod errors;
+mod opening;
+mod path;
+
+pub use opening::open_files;
+pub use path::open_path;

@@ -1,0 +1,40 @@
+//! Opening a database in two files.
+
+ghost use Rattle.std.specs.Prelude.{IsTrue, IfOk, IfErr};
+ghost use Rattle.sqlite.specs.Opening.{is_open_error};
+ghost use Rattle.sqlite.specs.State.{HasCleanDisk};
+ghost use Rattle.sqlite.specs.Held.{IsNew};
+ghost use Rattle.sqlite.specs.Files.{file_state, image_of, IsOpened, IsCleanLeft};
+ghost use Rattle.ee_store_files.specs.Files.{Finds, Leaves};
+
+use crate::creating::{create, is_uncreated};
+use sqlite::{Connection, Error, FileStore, Files, Leftover, Options};
+use sqlite_disk::Disk;
+use std::alloc::Global;
+
+/// Opens the database in two files, with the page size that it has. In an empty file, or one that a crash left half created,
+/// it creates an empty database with pages of 1,024 bytes.
+///
+/// # Errors
+///
+/// The error comes with what is left of the files. A file that is a single byte is refused, unless a crash left it there as
+/// a database was created.
+pub fn open_files<D: Disk + Drop>(
+    alloc: Global,
+    mut files: Files<D>,
+    options: Options,
+) -> Result<Connection<FileStore<D>>, (Error, Leftover<D>)>
+    requires log { IsTrue (D.Disk.is_usable files.log) }
+    requires db { IsTrue (D.Disk.is_usable files.db) }
+    ensures named { IfErr result (λ e. IsTrue (is_open_error e.0)) }
+    ensures opened { IfOk result (λ c. HasCleanDisk (file_state c) → IsOpened c) }
+    ensures found { IfOk result (λ c. HasCleanDisk (file_state c) → Finds (image_of D.Disk files) (file_state c)) }
+    ensures fresh { IfOk result IsNew }
+    ensures unharmed { IfErr result (λ e. IsCleanLeft e.1 → Leaves files e.1) }
+{
+    match is_uncreated(alloc, &mut files) {
+        Ok(true) => create(alloc, files, options),
+        Ok(false) => Connection::open_files(alloc, files, options),
+        Err(error) => Err((error, Leftover::Files(files))),
+    }
+}

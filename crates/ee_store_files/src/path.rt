@@ -1,0 +1,79 @@
+//! Opening the files at a path.
+
+ghost use Rattle.std.specs.Prelude.{codes, ◌≡◌, true, false, IsTrue, IfOk, IfErr, IfSome, IsErrAnd};
+ghost use Rattle.sqlite_std_file.specs.File.{file_is_usable, IsFresh};
+ghost use Rattle.sqlite.specs.WalFiles.{image_at};
+ghost use Rattle.sqlite.specs.Opening.{is_open_error};
+ghost use Rattle.sqlite.specs.State.{HasCleanDisk};
+ghost use Rattle.sqlite.specs.Held.{IsNew};
+ghost use Rattle.sqlite.specs.Files.{file_state, IsOpened, IsCleanLeft};
+ghost use Rattle.ee_store_files.specs.Files.{Finds, Leaves};
+
+use crate::errors::{CANNOT_OPEN, NO_MEMORY};
+use crate::opening::open_files;
+use sqlite::{Connection, Error, ErrorCode, FileFrom, FileStore, Files, Leftover, Options, Start};
+use sqlite_std_file::OpenError;
+use std::hash::{BuildHasher, RandomState};
+use std::io::ErrorKind;
+
+/// Opens the file at a path and its log, and makes those that are missing. It refuses the names that SQLite takes for
+/// something else than a file.
+fn open_pair<S: Start>(rt: &HostRuntime, path: &str, start: S) -> Result<Files<FileFrom<S>>, Error>
+    ensures memory { path.now ≡ codes ":memory:" → result ≡ Err (Error.SqliteFailure ErrorCode.CannotOpen) }
+    ensures named { IfErr result (λ e. IsTrue (is_open_error e)) }
+    ensures usable { IfOk result (λ files. IsTrue (file_is_usable S.Start files.log) × IsTrue (file_is_usable S.Start files.db)) }
+    ensures fresh { IfOk result (λ files. IsFresh true files.log × IsFresh false files.db) }
+{
+    if path == ":memory:" || path.starts_with("file:") {
+        return Err(CANNOT_OPEN);
+    }
+    match sqlite_std_file::open(rt, path, start) {
+        Ok(files) => Ok(files),
+        Err(OpenError::OutOfMemory) => Err(NO_MEMORY),
+        Err(OpenError::Busy) => Err(Error::SqliteFailure(ErrorCode::DatabaseBusy)),
+        Err(OpenError::Io(error)) if error.kind() == ErrorKind::OutOfMemory => Err(NO_MEMORY),
+        Err(_) => Err(CANNOT_OPEN),
+    }
+}
+
+/// Chooses how much a connection keeps in memory, and a random number for the log's salts.
+fn options(rt: &HostRuntime) -> Result<Options, Error>
+    ensures { IfErr result (λ e. e ≡ Error.SqliteFailure ErrorCode.CannotOpen) }
+{
+    let seed = RandomState::new(rt)
+        .map_err(|_| CANNOT_OPEN)?
+        .hash_one(&0u8);
+    Ok(Options::new(seed))
+}
+
+/// Opens the database in the file at a path, as `open_files` does, where `S` stands for what the file and its log held.
+///
+/// # Errors
+///
+/// Those of `open_files`; with nothing left of the files if the system didn't open them.
+pub fn open_path<S: Start>(
+    rt: &HostRuntime,
+    path: &str,
+    start: S,
+) -> Result<Connection<FileStore<FileFrom<S>>>, (Error, Option<Leftover<FileFrom<S>>>)>
+    ensures memory { path.now ≡ codes ":memory:" → IsErrAnd result (λ e. e.0 ≡ Error.SqliteFailure ErrorCode.CannotOpen) }
+    ensures named { IfErr result (λ e. IsTrue (is_open_error e.0)) }
+    ensures opened { IfOk result (λ c. HasCleanDisk (file_state c) → IsOpened c) }
+    ensures found { IfOk result (λ c. HasCleanDisk (file_state c) → Finds (image_at S.Start) (file_state c)) }
+    ensures fresh { IfOk result IsNew }
+    ensures left { IfErr result (λ e. IfSome e.1 (λ left. (files : _) × IsFresh true files.log × IsFresh false files.db
+        × (IsCleanLeft left → Leaves files left))) }
+{
+    let files = match open_pair(rt, path, start) {
+        Ok(files) => files,
+        Err(error) => return Err((error, None)),
+    };
+    let options = match options(rt) {
+        Ok(options) => options,
+        Err(error) => return Err((error, None)),
+    };
+    match open_files(rt.alloc(), files, options) {
+        Ok(conn) => Ok(conn),
+        Err((error, left)) => Err((error, Some(left))),
+    }
+}
