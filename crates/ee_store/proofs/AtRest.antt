@@ -6,11 +6,11 @@ use Rattle.sqlite_disk.specs.declared.Files.{Files}
 use Rattle.sqlite.specs.declared.FileStore.{FileStore}
 use Rattle.sqlite_trees.specs.Props.{Trees-set}
 use Rattle.sqlite.specs.Recovery.{Image}
-use Rattle.sqlite.specs.Start.{FindsIn}
 use Rattle.sqlite.specs.State.{State, IsLive}
 use Rattle.sqlite.specs.Held.{Held}
 use Rattle.sqlite.specs.Files.{file_state}
 use Rattle.sqlite.specs.Closing.{IsCopied}
+use Rattle.ee_store_files.specs.Files.{Finds}
 use Rattle.ee_desk_acts.specs.Repeats.{Content}
 use Rattle.ee_desk_laws.specs.Events.{begun}
 use Rattle.ee_store_tables.proofs.Lemmas.Meeting.{stored_has}
@@ -36,7 +36,7 @@ pub alone_too : (image : Image) (content : Content) → StandsAlone image conten
 alone_too image content it = record { db = it.db; holds = record { both = it.holds.alone; alone = it.holds.alone }; stands = it.stands }
 
 -- a keeper that goes on from what it finds has that content
-pub found_alone : (start : Image) (was now : State) (content : Content) → FindsIn start was → GoesOn was now → StandsAlone start content → HasContent now content
+pub found_alone : (start : Image) (was now : State) (content : Content) → Finds start was → GoesOn was now → StandsAlone start content → HasContent now content
 found_alone start was now content found goes_on it =
     let same : was.committed.trees ≡ it.db = ∥∥₁_elim it.holds.both (Trees-set _ _) (found.holds _) in
     let stands = subst (λ trees. StandsFor trees content) (sym same) it.stands in

@@ -7,8 +7,8 @@ use Rattle.sqlite.specs.Tree.{Trees}
 use Rattle.sqlite.specs.Held.{Held}
 use Rattle.sqlite.specs.Files.{file_state, IsOpened}
 use Rattle.sqlite.specs.Recovery.{Image}
-use Rattle.sqlite.specs.Start.{FindsIn}
 use Rattle.sqlite.specs.State.{State, KeepsCommit, Survives}
+use Rattle.ee_store_files.specs.Files.{Finds}
 use Rattle.ee_desk_acts.specs.Repeats.{Content, nothing}
 use Rattle.ee_desk_laws.specs.Events.{World, Happens, begun}
 use Rattle.ee_desk_laws.specs.Events.Event.{Stop_between, Reopen}
@@ -138,7 +138,7 @@ OpensWithRoom old new = (n : ℕ) → HasRoomIn n new.committed.trees ⊎ (IsBla
 pub record IsOpenedFrom {D : Type 0} {g : Ghosts D} (start : Image) (now : Held (FileStore D g)) : Type 0 where
   pub was : Held (FileStore D g)
   pub opened : IsOpened was
-  pub found : FindsIn start (file_state was)
+  pub found : Finds start (file_state was)
   -- a file that stands for a content alone gives the keeper that content
   pub alone : (content : Content) → StandsAlone start content → HasContent (file_state now) content
   pub begins : BeginsEmpty (file_state was) (file_state now)
@@ -157,7 +157,7 @@ pub record IsOpenedFrom {D : Type 0} {g : Ghosts D} (start : Image) (now : Held 
 pub record IsRefusedFrom {D : Type 0} {g : Ghosts D} (start : Image) (fault : OpenFault) (now : Held (FileStore D g)) : Type 0 where
   pub was : Held (FileStore D g)
   pub opened : IsOpened was
-  pub found : FindsIn start (file_state was)
+  pub found : Finds start (file_state was)
   pub kept : KeepsRows (file_state was) (file_state now)
   pub version : fault ≡ WrongVersion → HadNone (file_state was)
   pub other : fault ≡ WrongVersion → HadOtherVersion (file_state was)

@@ -2,17 +2,19 @@
 
 ghost use Rattle.std.specs.Prelude.{◌≡◌, ◌⊎◌, true, false, IfOk, IfErr, IfSome};
 ghost use Rattle.sqlite.specs.State.{HasCleanDisk};
-ghost use Rattle.sqlite.specs.Files.{file_state, IsCleanLeft, LeavesFiles};
+ghost use Rattle.sqlite.specs.Files.{file_state, IsCleanLeft};
 ghost use Rattle.sqlite.specs.Recovery.{Image};
 ghost use Rattle.sqlite.specs.WalFiles.{image_at};
 ghost use Rattle.sqlite_std_file.specs.File.{IsFresh};
 ghost use Rattle.sqlite.specs.FileStore.{view};
 ghost use Rattle.sqlite.specs.View.{IsClean};
+ghost use Rattle.ee_store_files.specs.Files.{Leaves};
 ghost use Rattle.ee_store_delivery.specs.Known.{IsInformed};
 ghost use Rattle.ee_store.specs.Adopted.{IsOpenedFrom, IsRefusedFrom, IfConnection, IfFiles};
 ghost use Rattle.ee_store.specs.NextRun.{IsNumbered, LeavesStanding, FollowsOn};
 
 use crate::keeper::SqlKeeper;
+use ee_store_files::open_path;
 use ee_store_making::OpenFault;
 use sqlite::{Alter, Connection, File, FileFrom, FileStore, Leftover, Start, Unknown};
 use sqlite_disk::Disk;
@@ -67,9 +69,9 @@ pub fn open_as<F: Start>(
     ensures refused { IfErr result (λ not. IfConnection not.rest (λ conn. HasCleanDisk (file_state conn) → IsRefusedFrom (image_at F.Start) not.fault conn)) }
     ensures fault { IfErr result (λ not. IfFiles not.rest (λ _. (not.fault ≡ OpenFault.NoMemory) ⊎ (not.fault ≡ OpenFault.StoreFailed))) }
     ensures left { IfErr result (λ not. IfFiles not.rest (λ rest. IfSome rest (λ left. (files : _) × IsFresh true files.log × IsFresh false files.db
-        × (IsCleanLeft left → LeavesFiles files left)))) }
+        × (IsCleanLeft left → Leaves files left)))) }
 {
-    let conn = match Connection::open_from(rt, path, false, start) {
+    let conn = match open_path(rt, path, start) {
         Ok(conn) => conn,
         Err((error, left)) => {
             return Err(NotOpened {
@@ -104,7 +106,7 @@ impl SqlKeeper<FileStore<File>> {
             (λ not. IfConnection not.rest (λ conn. HasCleanDisk (file_state conn) → (start : Image) × IsRefusedFrom start not.fault conn)) }
         ensures fault { IfErr result (λ not. IfFiles not.rest (λ _. (not.fault ≡ OpenFault.NoMemory) ⊎ (not.fault ≡ OpenFault.StoreFailed))) }
         ensures left { IfErr result (λ not. IfFiles not.rest (λ rest. IfSome rest (λ left. (files : _) × IsFresh true files.log × IsFresh false files.db
-            × (IsCleanLeft left → LeavesFiles files left)))) }
+            × (IsCleanLeft left → Leaves files left)))) }
     {
         open_as(rt, path, Unknown)
     }

@@ -1,5 +1,4 @@
 use Rattle.std.proofs.Common.{rules, arith}
-use Rattle.std.proofs.lemmas.Option.{IfSome_then}
 use Rattle.sqlite.specs.State.{HasCleanDisk}
 use Rattle.sqlite.specs.Files.{file_state}
 use Rattle.ee_store.proofs.AtRest.{found_alone}
@@ -7,7 +6,7 @@ use Rattle.ee_store.proofs.NextRun.{follows_on}
 use Rattle.ee_store.proofs.opening.open_as.Goals as goal
 
 pub returns-in-Err-clause-left : goal.returns-in-Err-clause-left
-returns-in-Err-clause-left g c = IfSome_then c.in-Err.left c.in-Err.ensures.cause (λ left it. (it.0, it.1, it.2, λ clean. (it.3 clean).1))
+returns-in-Err-clause-left g c = c.in-Err.ensures.left
 
 pub returns-in-Ok-adopt-clause-opened : goal.returns-in-Ok-adopt-clause-opened
 returns-in-Ok-adopt-clause-opened g c clean =
