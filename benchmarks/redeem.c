@@ -1,7 +1,7 @@
 /* What a delivery of the counter costs in C over SQLite's own library: the same tables, reads and writes, and one
    synchronous commit for each redemption. It decides nothing: the sums and texts are made up.
-   Build: cc -O2 -o redeem redeem.c -lsqlite3.  Run: ./redeem FILE BONDS TICKETS TICKETS_A_DAY [BONDS_A_TICKET]
-   (the file must not be there; 1 bond a ticket without the last, at most 100). */
+   Build: cc -O2 -o redeem redeem.c -lsqlite3.  Run: ./redeem FILE BONDS TICKETS TICKETS_A_DAY [BONDS_A_TICKET [PAGE_SIZE]]
+   (the file must not be there; 1 bond a ticket if it isn't given, at most 100; SQLite's default page size if none is given). */
 #include <sqlite3.h>
 #include <stdio.h>
 #include <stdlib.h>
@@ -42,7 +42,10 @@ static int with(sqlite3_stmt *statement, int count, const sqlite3_int64 *numbers
 }
 #define WITH(statement, ...) with(statement, sizeof((sqlite3_int64[]){__VA_ARGS__}) / 8, (sqlite3_int64[]){__VA_ARGS__})
 
-static void make(long bonds) {
+static void make(long bonds, long page_size) {
+    char pages[40];
+    sprintf(pages, "PRAGMA page_size = %ld", page_size);
+    if (page_size) run(pages);
     run("PRAGMA journal_mode = WAL; PRAGMA synchronous = FULL; BEGIN");
     run("CREATE TABLE desk (id INTEGER NOT NULL PRIMARY KEY, version INTEGER NOT NULL, day INTEGER, last_day INTEGER) STRICT;"
         "CREATE TABLE rates (period INTEGER NOT NULL PRIMARY KEY, rate INTEGER NOT NULL) STRICT;"
@@ -78,11 +81,11 @@ static void write_texts(char *act, char *reply, long ticket, long serial, long e
 }
 
 int main(int count, char **words) {
-    if (count != 5 && count != 6) return 2;
-    long bonds = atol(words[2]), tickets = atol(words[3]), a_day = atol(words[4]), each = count == 6 ? atol(words[5]) : 1;
+    if (count < 5 || count > 7) return 2;
+    long bonds = atol(words[2]), tickets = atol(words[3]), a_day = atol(words[4]), each = count > 5 ? atol(words[5]) : 1;
     if (each < 1 || each > 100 || bonds < tickets * each) return 2;
     if (sqlite3_open(words[1], &db)) fail("open");
-    make(bonds);
+    make(bonds, count > 6 ? atol(words[6]) : 0);
     sqlite3_stmt *begin = prepare("BEGIN"), *commit = prepare("COMMIT");
     sqlite3_stmt *find_answer = prepare("SELECT act, reply FROM answers WHERE desk = ?1 AND number = ?2");
     sqlite3_stmt *find_desk = prepare("SELECT version, day, last_day FROM desk WHERE id = ?1");

@@ -72,6 +72,19 @@ fn put(rt: &HostRuntime, abort: &(impl Abort + Eprint), name: &str, ending: &str
     fs::write(rt, path.as_str(), text).expect(abort, "a file of a test");
 }
 
+/// A file of a test holds this text.
+fn holds_text(
+    rt: &HostRuntime,
+    abort: &(impl Abort + Eprint),
+    name: &str,
+    ending: &str,
+    text: &str,
+) {
+    let path = path_to(rt, abort, name, ending);
+    let found = fs::read_to_string(rt, path.as_str()).expect(abort, "a file of a test");
+    same(abort, found.as_str(), text, "what a file holds");
+}
+
 /// A line over the store and the file of a test prints this, with status 0.
 fn prints_over(
     rt: &HostRuntime,
@@ -188,13 +201,18 @@ fn lines_over_memory(rt: HostRuntime) {
     forget_both(&rt, &rt, "memory");
 }
 
+/// Each is refused twice and keeps its bytes; the second time the log of the first is beside it.
 #[test]
 fn a_file_that_is_no_store(rt: HostRuntime) {
     let name = "none";
-    forget_both(&rt, &rt, name);
-    put(&rt, &rt, name, "db", "no store");
     let line = "export 7 --db DB";
-    tells_over(&rt, &rt, name, line, "store: StoreFailed\n", 3);
+    for text in ["no store", "x", "S", "\0", "7", "\0\0", "SQLite format 3"] {
+        forget_both(&rt, &rt, name);
+        put(&rt, &rt, name, "db", text);
+        tells_over(&rt, &rt, name, line, "store: StoreFailed\n", 3);
+        tells_over(&rt, &rt, name, line, "store: StoreFailed\n", 3);
+        holds_text(&rt, &rt, name, "db", text);
+    }
     forget_both(&rt, &rt, name);
 }
 

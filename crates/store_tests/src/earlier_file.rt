@@ -6,6 +6,7 @@ use crate::earlier::{Earlier, NAMED, OTHER, SHOWN};
 use crate::earlier_bytes::{EXTENDED, EXTENDED_LOG, SEVEN, SEVEN_LOG};
 use crate::earlier_stops::{Form, News, Shown, shown_on};
 use crate::five::FIVE;
+use crate::stops::has_pages_of;
 use sqlite::Files;
 use sqlite_disk::{Disk, Memory};
 use std::alloc::Global;
@@ -118,7 +119,7 @@ fn goes_on(
     files
 }
 
-/// The files of these texts go through the steps.
+/// The files of these texts go through the steps, and keep their page size.
 fn is_opened(rt: &(impl Abort + Eprint), alloc: Global, texts: (&str, &str), steps: &[Step]) {
     let log = file_of(rt, alloc, texts.0);
     let db = file_of(rt, alloc, texts.1);
@@ -126,6 +127,7 @@ fn is_opened(rt: &(impl Abort + Eprint), alloc: Global, texts: (&str, &str), ste
     for step in steps {
         files = goes_on(rt, alloc, files, *step);
     }
+    holds(rt, has_pages_of(&files.db, 4096), "the pages of before");
 }
 
 /// Of a file from before extensions each number has its first reply, and the rows are those of the five requests; an

@@ -5,6 +5,7 @@ use crate::comparing::{add, holds, made, same};
 use crate::earlier::{Earlier, NAMED, OTHER, make_earlier, rows_after, rows_before};
 use crate::five::{FIVE, rows_told, served};
 use crate::stops::{ends_by_failures, few_pages, is_front_of, served_on};
+use ee_store_files::open_files;
 use sqlite::{Connection, FileStore, Files};
 use sqlite_disk::{Crash, Disk, Fuse, Memory};
 use std::alloc::Global;
@@ -84,17 +85,31 @@ fn closed<D: Disk + Drop>(rt: &impl Abort, conn: Connection<FileStore<D>>) -> Fi
     }
 }
 
-/// A connection over files.
-fn open_files<D: Disk + Drop>(
+/// Creates a database in new files with pages of 4,096 bytes, as `sqlite` and earlier programs do.
+fn create_large(
+    rt: &impl Abort,
+    alloc: Global,
+    files: Files<Memory>,
+) -> Connection<FileStore<Memory>> {
+    if !files.may_be_used() {
+        panic!(rt; "a file may not be used");
+    }
+    match Connection::open_files(alloc, files, few_pages(2)) {
+        Ok(conn) => conn,
+        Err(_) => panic!(rt; "the files don't open"),
+    }
+}
+
+/// Opens files as the program does.
+fn open<D: Disk + Drop>(
     rt: &impl Abort,
     alloc: Global,
     files: Files<D>,
-    seed: u64,
 ) -> Connection<FileStore<D>> {
     if !files.may_be_used() {
         panic!(rt; "a file may not be used");
     }
-    match Connection::open_files(alloc, files, few_pages(seed)) {
+    match open_files(alloc, files, few_pages(3)) {
         Ok(conn) => conn,
         Err(_) => panic!(rt; "the files don't open"),
     }
@@ -104,7 +119,7 @@ fn open_files<D: Disk + Drop>(
 fn earlier_files(rt: &impl Abort, alloc: Global, earlier: Earlier, left: Left) -> Files<Memory> {
     let log = Memory::new(alloc);
     let db = Memory::new(alloc);
-    let mut conn = open_files(rt, alloc, Files { log, db }, 2);
+    let mut conn = create_large(rt, alloc, Files { log, db });
     conn.execute_batch("BEGIN").expect(rt, "begin");
     make_earlier(rt, &mut conn, earlier);
     conn.execute_batch("COMMIT").expect(rt, "commit");
@@ -148,7 +163,7 @@ pub fn shown_on<D: Disk + Drop>(
     talk: &str,
     shown: &mut Shown,
 ) -> Files<D> {
-    let mut conn = open_files(rt, alloc, files, 3);
+    let mut conn = open(rt, alloc, files);
     shown.before = made(rt, rows_told(alloc, &mut conn));
     let (told, mut conn) = served(alloc, conn, talk);
     shown.told = made(rt, told);

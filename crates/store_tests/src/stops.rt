@@ -1,8 +1,9 @@
 //! A talk over files of which one may stop, and what such a talk may tell.
 
 use crate::five::served;
-use sqlite::{Connection, Files, Options};
-use sqlite_disk::Disk;
+use ee_store_files::open_files;
+use sqlite::{Files, Options};
+use sqlite_disk::{Disk, Memory};
 use std::alloc::Global;
 use std::test::Fail;
 
@@ -25,7 +26,7 @@ pub fn served_on<D: Disk + Drop>(
     if !files.may_be_used() {
         return (Ok(String::new(alloc)), false, files);
     }
-    match Connection::open_files(alloc, files, few_pages(1)) {
+    match open_files(alloc, files, few_pages(1)) {
         Ok(conn) => {
             let (text, conn) = served(alloc, conn, talk);
             match conn.close_files() {
@@ -35,6 +36,11 @@ pub fn served_on<D: Disk + Drop>(
         }
         Err((_, left)) => (Ok(String::new(alloc)), false, left.into_files()),
     }
+}
+
+/// Whether the header of a database file names pages of `bytes` bytes.
+pub fn has_pages_of(file: &Memory, bytes: u16) -> bool {
+    file.bytes().get(16..18) == Some(&bytes.to_be_bytes()[..])
 }
 
 /// Whether `apply` ended by `StoreFailed` on each message that was answered so, and on no other.

@@ -6,7 +6,7 @@ use crate::five::FIVE;
 use crate::lists::LISTS;
 use crate::paths::{forget, fresh};
 use crate::refusals::{DAYS, IMPORTS};
-use crate::stops::{ends_by_failures, is_front_of, served_on};
+use crate::stops::{ends_by_failures, has_pages_of, is_front_of, served_on};
 use crate::talk::answers;
 use ee_keeper::ListKeeper;
 use ee_store::SqlKeeper;
@@ -81,6 +81,17 @@ fn a_file_keeps_its_replies(rt: HostRuntime) {
         same(&rt, told.as_str(), wanted.as_str(), "opened again");
     }
     made(&rt, forget(&rt, &path));
+}
+
+#[test]
+fn a_new_store_has_small_pages(rt: HostRuntime) {
+    let alloc = rt.alloc();
+    let log = Memory::new(alloc);
+    let db = Memory::new(alloc);
+    let (told, is_closed, files) = served_on(alloc, Files { log, db }, FIVE);
+    same(&rt, made(&rt, told).as_str(), FIVE, "over new files");
+    holds(&rt, is_closed, "the log isn't written back");
+    holds(&rt, has_pages_of(&files.db, 1024), "pages of 1,024 bytes");
 }
 
 /// What two runs tell, the first over files that stop, the second after a crash; and whether the first went to its end.
