@@ -7,19 +7,27 @@ use Rattle.sqlite.specs.declared.FileStore.{FileStore}
 use Rattle.sqlite.specs.Recovery.{Image}
 use Rattle.sqlite.specs.Held.{Held, AreDatabases}
 use Rattle.sqlite.specs.Files.{file_state}
-use Rattle.sqlite.proofs.Theorems.{opens_again, next_run}
+use Rattle.sqlite.specs.State.{State}
+use Rattle.sqlite.proofs.Theorems.{opens_again}
+use Rattle.ee_store_files.specs.Files.{Finds}
 use Rattle.ee_store_tables.specs.Tables.{counter_schema}
 use Rattle.ee_store_lookups.specs.Seen.{StandsFor}
 use Rattle.ee_store_making.specs.declared.forms.Form.TheVariants.{Current}
 use Rattle.ee_store.specs.Adopted.{IsOpenedFrom}
 use Rattle.ee_store.proofs.Opened.{stood_now}
-use Rattle.ee_store.specs.NextRun.{IsNumbered, FollowsInNextRun, WaitsInNextRun, LeavesStanding, FollowsOn}
+use Rattle.ee_store.specs.NextRun.{IsNumbered, MayLeaveFiles, FollowsInNextRun, WaitsInNextRun, LeavesStanding, FollowsOn}
+
+-- an open finds trees that the crash might leave
+found_again : {D : Type 0} {g : Ghosts D} (old : Held (FileStore D g)) (left : Image) (was : State)
+    → IsNumbered old → AreDatabases (recovers old.store) → MayLeaveFiles old left → Finds left was → ∥ recovers old.store was.committed.trees ∥₁
+found_again old left was numbered sound may found =
+    ∥∥₁_map (opens_again old.store numbered sound left may) (λ it. subst (recovers old.store) (sym (found.holds it.0 it.2)) it.1)
 
 pub follows_in_next_run : {D E : Type 0} (g : Ghosts D) (h : Ghosts E) → FollowsInNextRun g h
 follows_in_next_run g h old w left now numbered follows may opened =
     let was = file_state opened.was in
     let sound : AreDatabases (recovers old.store) = λ db may. let found = follows.1 db may in (counter_schema, found.2.stores.sound) in
-    ∥∥₁_map (next_run old.store numbered sound left may was opened.found) (λ may.
+    ∥∥₁_map (found_again old left was numbered sound may opened.found) (λ may.
     let (content, among, stands) = follows.1 was.committed.trees may in
     let (v, happens, is, goes_on) = opened.goes_on Current w content among (stood_now was.committed.trees content stands) in
     (v, happens, goes_on))
@@ -28,7 +36,7 @@ pub waits_in_next_run : {D E : Type 0} (g : Ghosts D) (h : Ghosts E) → WaitsIn
 waits_in_next_run g h old w left fault now numbered follows may refused =
     let was = file_state refused.was in
     let sound : AreDatabases (recovers old.store) = λ db may. let found = follows.1 db may in (counter_schema, found.2.stores.sound) in
-    ∥∥₁_map (next_run old.store numbered sound left may was refused.found) (λ may.
+    ∥∥₁_map (found_again old left was numbered sound may refused.found) (λ may.
     let (content, among, stands) = follows.1 was.committed.trees may in
     let (v, happens, is, waits) = refused.waits refused.opened.0.is_open Current w content among (stood_now was.committed.trees content stands) in
     (v, happens, waits))
