@@ -1,5 +1,5 @@
 -- What two files hold as a store is opened in them, and what is left of them if it isn't.
-use Rattle.std.specs.Prelude.{◌≡◌, ◌⊎◌, ◌+◌, ◌<◌, ◌≤◌, ℕ, false, List, length, slice_index}
+use Rattle.std.specs.Prelude.{◌≡◌, ◌⊎◌, ◌+◌, ◌<◌, ◌≤◌, ℕ, List, length, slice_index}
 use Rattle.sqlite_disk.specs.declared.Disk.{Ghosts}
 use Rattle.sqlite_disk.specs.declared.Files.{Files}
 use Rattle.sqlite_pool.specs.Opening.{IsBlankFile}
@@ -13,9 +13,9 @@ use Rattle.sqlite_store.specs.FileStore.{recovers}
 use Rattle.sqlite.specs.declared.file.Leftover.{Leftover}
 use Rattle.sqlite.specs.declared.file.Leftover.TheVariants as left
 
--- the size of a new store's pages, in bytes
+-- what a new store uses of each page of 1,024 bytes: the page ends in a checksum of 8 bytes
 abbrev pub page_size : ℕ
-page_size = 1024
+page_size = 1016
 
 -- The log's header counts 2 ^ 32 - 1 checkpoints: it has that count only from when a file is created to its first checkpoint.
 abbrev pub IsMarked : List ℕ → Type 0

@@ -1,6 +1,6 @@
 //! Whether a database is still to be created in two files, and creating it.
 
-ghost use Rattle.std.specs.Prelude.{◌≡◌, ◌↔◌, [], IsTrue, IfOk, IfErr};
+ghost use Rattle.std.specs.Prelude.{◌≡◌, ◌↔◌, [], true, IsTrue, IfOk, IfErr};
 ghost use Rattle.sqlite_wal.specs.Reads.{IsClean, AreClean, OnlyReads};
 ghost use Rattle.sqlite.specs.Opening.{is_open_error};
 ghost use Rattle.sqlite.specs.State.{HasCleanDisk};
@@ -20,6 +20,9 @@ use std::io;
 
 /// The page size of a new store, in bytes.
 const NEW_PAGE: usize = 1024;
+
+/// Whether a new store's pages end in the checksum of SQLite's cksumvfs.
+const HAS_SUMS: bool = true;
 
 /// Where the log's header counts its checkpoints.
 const CHECKPOINTS: usize = 12;
@@ -73,7 +76,7 @@ pub fn is_uncreated<D: Disk>(alloc: Global, files: &mut Files<D>) -> Result<bool
         Err(_) => return Err(IO),
     }
     let size = PageSize::new(NEW_PAGE).unwrap();
-    match probe_blank(alloc, files, size, false) {
+    match probe_blank(alloc, files, size, HAS_SUMS) {
         Ok(is_blank) => Ok(is_blank),
         Err(error) => Err(probe_error(error)),
     }
@@ -93,6 +96,7 @@ fn create_store<D: Disk>(
     ensures ready { IfOk result IsReady }
     ensures numbered { IfOk result (λ store. IsTrue (view store).is_numbered) }
     ensures empty { IfOk result (λ store. IsTrue (view store).is_clean → IsEmpty (view store).committed) }
+    ensures sums { IfOk result (λ store. IsTrue (view store).is_clean → (view store).has_sums ≡ true) }
     ensures size { IfOk result (λ store. IsTrue (view store).is_clean → (state store).page_size ≡ page_size) }
     ensures unharmed { IfErr result (λ e. IsCleanLeft e.1 → Leaves files e.1) }
 {
@@ -101,7 +105,7 @@ fn create_store<D: Disk>(
         Ok(pager) => pager,
         Err(AllocFailed { value }) => return Err((NO_MEMORY, Leftover::Files(value))),
     };
-    let fresh = match Unopened::with_sums(alloc, pager, &[], false) {
+    let fresh = match Unopened::with_sums(alloc, pager, &[], HAS_SUMS) {
         Ok(fresh) => fresh,
         Err(AllocFailed { value }) => return Err((NO_MEMORY, Leftover::Files(value.close()))),
     };
@@ -123,6 +127,7 @@ pub fn create<D: Disk + Drop>(
     ensures named { IfErr result (λ e. IsTrue (is_open_error e.0)) }
     ensures opened { IfOk result (λ c. HasCleanDisk (file_state c) → IsOpened c) }
     ensures made { IfOk result (λ c. HasCleanDisk (file_state c) → AreClean D.Disk files.log files.db × IsEmpty (file_state c).committed.trees) }
+    ensures sums { IfOk result (λ c. HasCleanDisk (file_state c) → (view c.store).has_sums ≡ true) }
     ensures fresh { IfOk result IsNew }
     ensures unharmed { IfErr result (λ e. IsCleanLeft e.1 → Leaves files e.1) }
 {

@@ -1,11 +1,12 @@
 //! Opening a database in two files.
 
-ghost use Rattle.std.specs.Prelude.{IsTrue, IfOk, IfErr};
+ghost use Rattle.std.specs.Prelude.{◌≡◌, true, IsTrue, IfOk, IfErr};
 ghost use Rattle.sqlite.specs.Opening.{is_open_error};
 ghost use Rattle.sqlite.specs.State.{HasCleanDisk};
 ghost use Rattle.sqlite.specs.Held.{IsNew};
 ghost use Rattle.sqlite.specs.Files.{file_state, image_of, IsOpened, IsCleanLeft};
-ghost use Rattle.ee_store_files.specs.Files.{Finds, Leaves};
+ghost use Rattle.sqlite_store.specs.FileStore.{view};
+ghost use Rattle.ee_store_files.specs.Files.{IsUncreated, Finds, Leaves};
 
 use crate::creating::{create, is_uncreated};
 use sqlite::{Connection, Error, FileStore, Files, Leftover, Options};
@@ -29,6 +30,7 @@ pub fn open_files<D: Disk + Drop>(
     ensures named { IfErr result (λ e. IsTrue (is_open_error e.0)) }
     ensures opened { IfOk result (λ c. HasCleanDisk (file_state c) → IsOpened c) }
     ensures found { IfOk result (λ c. HasCleanDisk (file_state c) → Finds (image_of D.Disk files) (file_state c)) }
+    ensures sums { IfOk result (λ c. HasCleanDisk (file_state c) → IsUncreated (image_of D.Disk files) → (view c.store).has_sums ≡ true) }
     ensures fresh { IfOk result IsNew }
     ensures unharmed { IfErr result (λ e. IsCleanLeft e.1 → Leaves files e.1) }
 {

@@ -7,7 +7,8 @@ ghost use Rattle.sqlite.specs.Opening.{is_open_error};
 ghost use Rattle.sqlite.specs.State.{HasCleanDisk};
 ghost use Rattle.sqlite.specs.Held.{IsNew};
 ghost use Rattle.sqlite.specs.Files.{file_state, IsOpened, IsCleanLeft};
-ghost use Rattle.ee_store_files.specs.Files.{Finds, Leaves};
+ghost use Rattle.sqlite_store.specs.FileStore.{view};
+ghost use Rattle.ee_store_files.specs.Files.{IsUncreated, Finds, Leaves};
 
 use crate::errors::{CANNOT_OPEN, NO_MEMORY};
 use crate::opening::open_files;
@@ -60,6 +61,7 @@ pub fn open_path<S: Start>(
     ensures named { IfErr result (λ e. IsTrue (is_open_error e.0)) }
     ensures opened { IfOk result (λ c. HasCleanDisk (file_state c) → IsOpened c) }
     ensures found { IfOk result (λ c. HasCleanDisk (file_state c) → Finds (image_at S.Start) (file_state c)) }
+    ensures sums { IfOk result (λ c. HasCleanDisk (file_state c) → IsUncreated (image_at S.Start) → (view c.store).has_sums ≡ true) }
     ensures fresh { IfOk result IsNew }
     ensures left { IfErr result (λ e. IfSome e.1 (λ left. (files : _) × IsFresh true files.log × IsFresh false files.db
         × (IsCleanLeft left → Leaves files left))) }

@@ -25,3 +25,7 @@ returns-in-Err-clause-unharmed g c =
           (sym (settled_at c.in_ok-store.store g.met.D.Disk.seen_may_stay found (made.ready.is_open (no_doubt _ before)) (c.in-Err.ensures.unharmed.outcomes found may)))
           (made.empty before),
     )
+
+pub returns-in-Ok-clause-sums : goal.returns-in-Ok-clause-sums
+returns-in-Ok-clause-sums g c now =
+    c.in-Ok.ensures.sums now ∙ c.in_ok-store.ensures.sums (sure (shown c.in_ok-store.store).is_clean (omega (arith, c.in-Ok.ensures.clean)))

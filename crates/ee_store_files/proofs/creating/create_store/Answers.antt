@@ -1,8 +1,7 @@
-use Rattle.std.proofs.Common.{rules, ◌≡◌, ◌∙◌, ◌⊎◌, inl, inr, [], false, sym, ap, subst, subst₂}
+use Rattle.std.proofs.Common.{rules, ◌≡◌, ◌∙◌, inl, inr, [], true, sym, ap, subst, subst₂}
 use Rattle.sqlite_wal.specs.Files.{seen_image, outcomes}
 use Rattle.sqlite_wal.specs.Reads.{are_clean, AreClean}
 use Rattle.sqlite_wal.specs.PageSize.{bytes_of, IsPageSize}
-use Rattle.sqlite_pager.specs.Pager as below
 use Rattle.sqlite_pool.specs.Stored.{used_size, stored_size}
 use Rattle.sqlite_pool.specs.Opening.{IsBlankFile}
 use Rattle.sqlite_store.specs.Unopened.{state_of, image, wanted_by, files_of}
@@ -13,8 +12,9 @@ use Rattle.sqlite_store.specs.Listing.{listed_from}
 use Rattle.sqlite_store.specs.Listed.{catalog_rows}
 use Rattle.sqlite.specs.Files.{image_of}
 use Rattle.sqlite.proofs.OpenLemmas.{pool_files}
+use Rattle.sqlite.proofs.FileLemmas.{stored_used}
 use Rattle.ee_store_files.proofs.Left.{on_the_way}
-use Rattle.ee_store_files.specs.Files.{page_size, IsUncreated}
+use Rattle.ee_store_files.specs.Files.{page_size}
 use Rattle.ee_store_files.proofs.creating.create_store.Goals as goal
 
 pub returns-in-Ok-create-clause-empty : goal.returns-in-Ok-create-clause-empty
@@ -33,11 +33,11 @@ returns-in-Err-create-clause-unharmed g c still =
     let made : files_of fresh ≡ (files.log, files.db) = c.in-Ok-with_sums.ensures.files ∙ c.in-Ok.ensures.files in
     let clean : AreClean g.D.Disk files.log files.db = sym ((pool_files fresh.pool).1 ∙ ap (λ f. are_clean g.D.Disk f.0 f.1) made) ∙ it.falls still in
     let found = c.requires.uncreated clean in
-    let new_size : bytes_of given ≡ page_size = search rules in
-    let size : (state_of fresh).page_size ≡ page_size = c.in-Ok-with_sums.ensures.size ∙ c.in-Ok.ensures.size ∙ new_size in
+    let new_size : bytes_of given ≡ 1024 = search rules in
+    let size : (state_of fresh).page_size ≡ page_size = c.in-Ok-with_sums.ensures.size ∙ ap (λ n. used_size n true) (c.in-Ok.ensures.size ∙ new_size) in
     let seen : image fresh ≡ image_of g.D.Disk files = ap (λ f. seen_image g.D.Disk f.0 f.1) made in
     let blank : IsBlankFile (state_of fresh).page_size (image fresh) = subst₂ IsBlankFile (sym size) (sym seen) found in
-    let valid : IsPageSize (stored_size page_size) = subst IsPageSize new_size (given.smallest, given.largest, given.power, given.aligned) in
+    let valid : IsPageSize (stored_size page_size) = subst IsPageSize (sym (stored_used given true) ∙ ap (λ n. stored_size (used_size n true)) new_size) (given.smallest, given.largest, given.power, given.aligned) in
     let none : wanted_by fresh ≡ [] = search rules in
     inr (
       found,

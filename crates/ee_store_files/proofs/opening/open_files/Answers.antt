@@ -1,4 +1,4 @@
-use Rattle.std.proofs.Common.{◌≡◌, ◌∙◌, inl, inr, sym, subst}
+use Rattle.std.proofs.Common.{inl, inr, sym, subst}
 use Rattle.std.proofs.lemmas.Result.{IfOk-weaker, IfErr-weaker}
 use Rattle.sqlite.specs.Files.{image_of, HoldsDatabase, AreFoundIn, file_state}
 use Rattle.sqlite.proofs.FileLemmas.{same_image}
@@ -35,6 +35,15 @@ returns-in-Ok-false-clause-found g c = IfOk-weaker c.open_files.result _ _ (λ c
       reads = inl (subst (λ i. AreFoundIn i (file_state conn).committed.trees) same found.reads);
       taken = c.in-Ok-false.ensures.taken found.honest;
     }) c.open_files.ensures.found
+
+pub returns-in-Ok-true-clause-sums : goal.returns-in-Ok-true-clause-sums
+returns-in-Ok-true-clause-sums g c = IfOk-weaker c.create.result _ _ (λ conn sums still uncreated. sums still) c.create.ensures.sums
+
+pub returns-in-Ok-false-clause-sums : goal.returns-in-Ok-false-clause-sums
+returns-in-Ok-false-clause-sums g c = IfOk-weaker c.open_files.result _ _ (λ conn finds still uncreated.
+    let is = (c.in-Ok-false.ensures.ok (finds still).honest).1 uncreated in
+    let not = c.in-Ok-false.field-0-test in
+    absurd (cc)) c.open_files.ensures.found
 
 pub returns-in-Ok-false-clause-unharmed : goal.returns-in-Ok-false-clause-unharmed
 returns-in-Ok-false-clause-unharmed g c =

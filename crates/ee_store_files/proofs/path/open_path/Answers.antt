@@ -2,7 +2,7 @@ use Rattle.std.proofs.Common.{Bool, cond, List, ℕ, sym, ap₂, subst}
 use Rattle.sqlite_disk.specs.Events.{Event, replay}
 use Rattle.sqlite.specs.Recovery.{Image}
 use Rattle.sqlite.specs.Files.{file_state}
-use Rattle.ee_store_files.specs.Files.{Finds}
+use Rattle.ee_store_files.specs.Files.{IsUncreated, Finds}
 use Rattle.ee_store_files.proofs.path.open_path.Goals as goal
 
 abbrev image : List ℕ → List ℕ → Image
@@ -16,3 +16,9 @@ returns-in-Ok-open_files-clause-found g c clean =
     let (log, db) = c.in-Ok.ensures.fresh in
     let same = ap₂ image (ap₂ (seen g.S.Start.log g.S.Start.db) log.0 log.1) (ap₂ (seen g.S.Start.log g.S.Start.db) db.0 db.1) in
     subst (λ i. Finds i (file_state c.in-Ok-open_files.conn)) same (c.in-Ok-open_files.ensures.found clean)
+
+pub returns-in-Ok-open_files-clause-sums : goal.returns-in-Ok-open_files-clause-sums
+returns-in-Ok-open_files-clause-sums g c clean uncreated =
+    let (log, db) = c.in-Ok.ensures.fresh in
+    let same = ap₂ image (ap₂ (seen g.S.Start.log g.S.Start.db) log.0 log.1) (ap₂ (seen g.S.Start.log g.S.Start.db) db.0 db.1) in
+    c.in-Ok-open_files.ensures.sums clean (subst IsUncreated (sym same) uncreated)
