@@ -160,7 +160,7 @@ def fault_on_resend(bank):
             ticket = counter.redeem(DAY, 7, [serial])
             bodies = bank.gate.bodies[sent:]
             right(ticket["lines"][0]["serial"] == serial and counter.again and len(bodies) == 4 == bodies.count(bodies[0]), f"{fault} on a resend: sent again, and the ticket comes")
-            right(met.count(words + "the request was sent before, and may have been done") == 2, "and it is told that it may have been done", met)
+            right(met.count(words + "the request was sent before, and may have been done") == 2, "and the client says that it may have been done", met)
     over_patience(bank)
     right(books_of(bank).one("SELECT count(*) FROM tickets") == 3, "one ticket for each payment")
 
@@ -201,7 +201,7 @@ def many_requests(bank):
     with at_gate(bank, told=met.append) as counter:
         bank.gate.faults = ["too many", "signed out"]
         right(counter.redeem(DAY, 7, ["L7EE"])["ticket"] == 1, "too many requests: sent again")
-        right(met[:2] == ["no reply: too many requests (status 429)", "no reply: an answer of status 403 that isn't the counter's"], "and it is told", met)
+        right(met[:2] == ["no reply: too many requests (status 429)", "no reply: an answer of status 403 that isn't the counter's"], "and the client says so", met)
         counter.ticket(1)
     heads = [head.decode().split("\r\n") for head in bank.gate.heads]
     right(len(heads) == 4 and all("X-Counter-Client: counter.py" in head for head in heads), "each request names its client", heads)
@@ -341,7 +341,7 @@ def journals(bank):
 
 
 def misspelt_keys(bank):
-    """A key that is unknown or missing is told by its name, and nothing is sent: its value would be lost without a word, and a registered bond can't be changed."""
+    """An unknown or missing key is named, and nothing is sent: its value would be lost without a word, and a registered bond can't be changed."""
     bond = {"serial": "A1EE", "denom": 50, "issued": "2010-11", "owner": 7}
     rate = {"from": "2010-05", "rate": "1.00"}
     with at_gate(bank) as counter:

@@ -115,7 +115,7 @@ def wrong_year(bank):
     page = Page(bank)
     page.choose_desk(5)
     page.ask_to_open("2121-02-06")
-    right("Thursday, 6 February 2121: no closed day was found in the 7 days before it." in question(page), "a day far off is told as one", question(page))
+    right("Thursday, 6 February 2121: no closed day was found in the 7 days before it." in question(page), "the page says that a day is far off", question(page))
     page.press("#confirm-yes")
     page.until(lambda: "Is the year 2121 right?" in question(page), "it asks again")
     wanted = ("values in February 2121", "no earlier day can ever be opened again", "mistyped, choose Back")
