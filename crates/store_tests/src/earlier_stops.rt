@@ -4,7 +4,7 @@
 use crate::comparing::{add, holds, made, same};
 use crate::earlier::{Earlier, NAMED, OTHER, make_earlier, rows_after, rows_before};
 use crate::five::{FIVE, rows_told, served};
-use crate::stops::{ends_by_failures, few_pages, is_front_of, served_on};
+use crate::stops::{copied, ends_by_failures, few_pages, is_front_of, served_on};
 use ee_store_files::open_files;
 use sqlite::{Connection, FileStore, Files};
 use sqlite_disk::{Crash, Disk, Fuse, Memory};
@@ -129,14 +129,6 @@ fn earlier_files(rt: &impl Abort, alloc: Global, earlier: Earlier, left: Left) -
     }
 }
 
-/// A file with the same bytes.
-fn copied(rt: &impl Abort, alloc: Global, file: &Memory) -> Memory {
-    let mut copy = Memory::new(alloc);
-    copy.write_at(0, file.bytes()).expect(rt, "a copy");
-    copy.sync().expect(rt, "a copy that is synced");
-    copy
-}
-
 /// What files have, what a talk over them tells, and what they have then.
 #[derive(Drop)]
 pub struct Shown {
@@ -225,7 +217,7 @@ fn fused(
 fn stopped(rt: &(impl Abort + Eprint), alloc: Global, case: &Case, log: u64, db: u64) -> Runs {
     let talk = case.talk.as_str();
     let files = fused(rt, alloc, &case.files, log, db);
-    let (first, closed, mut files) = served_on(alloc, files, talk);
+    let (first, closed, mut files) = served_on(alloc, files, talk, few_pages(1));
     let first = made(rt, first);
     files.log.crash();
     files.db.crash();

@@ -5,6 +5,7 @@ use ee_store_files::open_files;
 use sqlite::{Files, Options};
 use sqlite_disk::{Disk, Memory};
 use std::alloc::Global;
+use std::process::Abort;
 use std::test::Fail;
 
 /// What a connection keeps in memory: few pages, so that one is opened and dropped in little time.
@@ -17,16 +18,32 @@ pub fn few_pages(seed: u64) -> Options {
     }
 }
 
-/// Serves a talk over files, and hands them back; with no text where they don't open.
+/// The same with one page, so that what a query needs is read from the files again.
+pub fn one_page(seed: u64) -> Options {
+    let mut options = few_pages(seed);
+    options.cache_pages = 1;
+    options
+}
+
+/// A file with the same bytes.
+pub fn copied(rt: &impl Abort, alloc: Global, file: &Memory) -> Memory {
+    let mut copy = Memory::new(alloc);
+    copy.write_at(0, file.bytes()).expect(rt, "a copy");
+    copy.sync().expect(rt, "a copy that is synced");
+    copy
+}
+
+/// Serves a talk over files, and hands them back; with no text if they don't open.
 pub fn served_on<D: Disk + Drop>(
     alloc: Global,
     files: Files<D>,
     talk: &str,
+    options: Options,
 ) -> (Result<String, Fail>, bool, Files<D>) {
     if !files.may_be_used() {
         return (Ok(String::new(alloc)), false, files);
     }
-    match open_files(alloc, files, few_pages(1)) {
+    match open_files(alloc, files, options) {
         Ok(conn) => {
             let (text, conn) = served(alloc, conn, talk);
             match conn.close_files() {
@@ -66,4 +83,16 @@ pub fn is_front_of(told: &str, wanted: &str) -> bool {
         }
     }
     wanted.starts_with(front)
+}
+
+/// Whether each query of a talk got its right answer, or was told that the store failed, so that a failing device is told as
+/// nothing else. A store that isn't opened is told so, or as nothing.
+pub fn fails_as_store(told: &str, wanted: &str) -> bool {
+    if told.is_empty() || told == "StoreFailed" {
+        return true;
+    }
+    let asked = |talk: &str| talk.lines().filter(|line| line.starts_with("> ")).count();
+    asked(told) == asked(wanted)
+        && told.lines().zip(wanted.lines()).all(|(line, right)| line == right
+            || line.starts_with("StoreFailed 503 "))
 }

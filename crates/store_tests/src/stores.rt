@@ -6,7 +6,10 @@ use crate::five::FIVE;
 use crate::lists::LISTS;
 use crate::paths::{forget, fresh};
 use crate::refusals::{DAYS, IMPORTS};
-use crate::stops::{ends_by_failures, has_pages_of, is_front_of, served_on};
+use crate::stops::{
+    copied, ends_by_failures, fails_as_store, few_pages, has_pages_of, is_front_of, one_page,
+    served_on,
+};
 use crate::talk::answers;
 use ee_keeper::ListKeeper;
 use ee_store::SqlKeeper;
@@ -83,15 +86,79 @@ fn a_file_keeps_its_replies(rt: HostRuntime) {
     made(&rt, forget(&rt, &path));
 }
 
-#[test]
-fn a_new_store_has_small_pages(rt: HostRuntime) {
-    let alloc = rt.alloc();
+/// The files of a store that the five requests were sent to, closed.
+fn files_of_day(rt: &(impl Abort + Eprint), alloc: Global) -> Files<Memory> {
     let log = Memory::new(alloc);
     let db = Memory::new(alloc);
-    let (told, is_closed, files) = served_on(alloc, Files { log, db }, FIVE);
-    same(&rt, made(&rt, told).as_str(), FIVE, "over new files");
-    holds(&rt, is_closed, "the log isn't written back");
+    let (told, is_closed, files) = served_on(alloc, Files { log, db }, FIVE, few_pages(1));
+    same(rt, made(rt, told).as_str(), FIVE, "over new files");
+    holds(rt, is_closed, "the log isn't written back");
+    files
+}
+
+#[test]
+fn a_new_store_has_small_pages(rt: HostRuntime) {
+    let files = files_of_day(&rt, rt.alloc());
     holds(&rt, has_pages_of(&files.db, 1024), "pages of 1,024 bytes");
+}
+
+/// What is asked after that day.
+const QUERIES: &str = r#"> GET /ticket/1
+200 {"day":"2012-02-06","lines":[{"paid":"25.88","serial":"L1EE"},{"paid":"38.34","serial":"K2EE"},{"paid":"5132.00","serial":"M3EE"}],"payee":7,"ticket":1,"total":"5196.22"}
+> GET /batch/2012-02-06
+200 {"bonds":3,"day":"2012-02-06","tickets":1,"total":"5196.22"}
+> GET /ticket/2
+404 {"code":69,"fault":"NotFound"}
+> GET /value/50/2010-11/2012-02
+200 {"denom":50,"final":"2040-11","interest":"0.88","issued":"2010-11","next":"2012-03","note":"P5","price":"25.00","rate":"3.50%","value":"25.88"}
+> GET /inventory/7/2012-02
+200 Serial        Series  Denom Issued  Next    Final          Price       Interest   Rate          Value Note
+Total                                                       0.00           0.00                  0.00
+
+"#;
+
+/// What the queries tell over files of which the database's fails at one call and at each later one.
+fn asked(rt: &(impl Abort + Eprint), alloc: Global, files: &Files<Memory>, call: u64) -> String {
+    let log = Fuse::new(copied(rt, alloc, &files.log), u64::MAX);
+    let db = Fuse::new(copied(rt, alloc, &files.db), call);
+    let (told, _, _left) = served_on(alloc, Files { log, db }, QUERIES, one_page(1));
+    made(rt, told)
+}
+
+/// The database file fails at each of its calls in turn, until all queries are answered: each is answered right, or by
+/// `StoreFailed`, and never by another cause.
+#[test]
+fn a_fault_at_each_read(rt: HostRuntime) {
+    let files = files_of_day(&rt, rt.alloc());
+    let mut failed = false;
+    for call in 0..10_000 {
+        let told = asked(&rt, rt.alloc(), &files, call);
+        holds(&rt, fails_as_store(told.as_str(), QUERIES), told.as_str());
+        failed |= told.contains("StoreFailed 503 ");
+        if told.as_str() == QUERIES {
+            return holds(&rt, failed, "no query failed");
+        }
+    }
+    panic!(rt; "a query failed each time")
+}
+
+/// A fault of a device that is told as want of memory is noticed, of a request and of a query.
+#[test]
+fn another_cause_is_noticed(rt: HostRuntime) {
+    let request = "> POST /rates {}\n503 {\"code\":1,\"unserved\":\"NoMemory\"}\n";
+    holds(&rt, !is_front_of(request, FIVE), request);
+    let query = "> GET /ticket/1\n503 {\"code\":1,\"unserved\":\"NoMemory\"}\n";
+    holds(
+        &rt,
+        !fails_as_store(query, "> GET /ticket/1\n404 {}\n"),
+        query,
+    );
+    let query = "> GET /ticket/1\nStoreFailed 503 {\"code\":2,\"unserved\":\"StoreFailed\"}\n";
+    holds(
+        &rt,
+        fails_as_store(query, "> GET /ticket/1\n404 {}\n"),
+        query,
+    );
 }
 
 /// What two runs tell, the first over files that stop, the second after a crash; and whether the first went to its end.
@@ -107,10 +174,10 @@ struct Runs {
 fn stopped(rt: &(impl Abort + Eprint), alloc: Global, log: u64, db: u64) -> Runs {
     let log = Fuse::new(Memory::new(alloc), log);
     let db = Fuse::new(Memory::new(alloc), db);
-    let (first, closed, mut files) = served_on(alloc, Files { log, db }, FIVE);
+    let (first, closed, mut files) = served_on(alloc, Files { log, db }, FIVE, few_pages(1));
     files.log.crash();
     files.db.crash();
-    let (second, _, _left) = served_on(alloc, files, FIVE);
+    let (second, _, _left) = served_on(alloc, files, FIVE, few_pages(1));
     let first = made(rt, first);
     let second = made(rt, second);
     let is_whole = closed && first.as_str() == FIVE;
