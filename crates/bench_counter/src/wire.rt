@@ -1,6 +1,9 @@
 //! Streams that are split into messages, and what these ask for.
 
+ghost use Rattle.std.specs.Prelude.{⊤};
+
 use anyhow::Result;
+use ee_device::Source;
 use ee_wire_calls::decode;
 use ee_wire_framing::{Buffer, Next, WireEnd, next_message};
 use std::alloc::{AllocError, Global};
@@ -45,6 +48,14 @@ impl<'a> Read for Rounds<'a> {
         buf[..count].copy_from_slice(&rest[..count]);
         self.at += count;
         Ok(count)
+    }
+}
+
+impl<'a> Source for Rounds<'a> {
+    ghost may_have_failed = { λ _. ⊤ };
+
+    fn read_once(&mut self, buf: &mut [u8]) -> io::Result<usize> {
+        self.read(buf)
     }
 }
 

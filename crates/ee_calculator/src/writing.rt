@@ -1,6 +1,6 @@
 //! The text of a sheet, written line by line from a fixed room, so that it takes no memory.
 
-ghost use Rattle.std.specs.Prelude.{◌≡◌, ◌*◌, ◌≤◌, ◌++◌, [], length, is_ok};
+ghost use Rattle.std.specs.Prelude.{◌≡◌, ◌*◌, ◌≤◌, ◌++◌, [], length, false, is_ok, OnErr};
 ghost use Rattle.std.specs.List.{flat_map};
 ghost use Rattle.ee_device.specs.Written.{WritesFront};
 ghost use Rattle.ee_calculator.specs.Lines.{cell_of};
@@ -10,8 +10,7 @@ use crate::cells::{Cell, heading, row_cell, total_cell};
 use crate::columns::{COLUMNS, Column, LineText, push_placed};
 use crate::rows::Row;
 use crate::sheets::Sheet;
-use ee_device::write_whole;
-use std::io::Write;
+use ee_device::{Sink, write_whole};
 use thiserror::Error;
 
 /// A writer failed. It has taken a front of the text, and not all of it.
@@ -22,8 +21,9 @@ pub struct WriteFailed;
 /// Writes the sheet's text: a line of headings, a line for each row, and a line with the totals. The
 /// columns have least widths, and a line ends with a line feed. Where the writer fails, it has taken a
 /// front of that text.
-pub fn write_sheet<W: Write>(sheet: &Sheet, writer: &mut W) -> Result<(), WriteFailed>
-    ensures { WritesFront (W.contents writer.old) (W.contents writer.new) (sheet_text sheet.now) (is_ok result) }
+pub fn write_sheet<W: Sink>(sheet: &Sheet, writer: &mut W) -> Result<(), WriteFailed>
+    ensures written { WritesFront (W.contents writer.old) (W.contents writer.new) (sheet_text sheet.now) (is_ok result) }
+    ensures failed { OnErr result (W.may_have_failed writer.new) }
 {
     if write_lines(sheet, writer) {
         Ok(())
@@ -41,22 +41,25 @@ enum Line<'a> {
 }
 
 #[tactic(auto, unfolding(crate::specs::Sheets::sheet_text))]
-fn write_lines<W: Write>(sheet: &Sheet, writer: &mut W) -> bool
-    ensures { WritesFront (W.contents writer.old) (W.contents writer.new) (sheet_text sheet.now) result }
+fn write_lines<W: Sink>(sheet: &Sheet, writer: &mut W) -> bool
+    ensures written { WritesFront (W.contents writer.old) (W.contents writer.new) (sheet_text sheet.now) result }
+    ensures failed { result ≡ false → W.may_have_failed writer.new }
 {
     write_rows_below_heading(sheet, writer) && write_line(writer, Line::Totals(sheet))
 }
 
-fn write_rows_below_heading<W: Write>(sheet: &Sheet, writer: &mut W) -> bool
-    ensures { WritesFront (W.contents writer.old) (W.contents writer.new)
+fn write_rows_below_heading<W: Sink>(sheet: &Sheet, writer: &mut W) -> bool
+    ensures written { WritesFront (W.contents writer.old) (W.contents writer.new)
         (line_text heading_cell ++ flat_map (λ row. line_text (row_cell row)) sheet.now.rows.items) result }
+    ensures failed { result ≡ false → W.may_have_failed writer.new }
 {
     write_line(writer, Line::Heading) && write_rows(writer, &sheet.rows)
 }
 
-fn write_rows<W: Write>(writer: &mut W, rows: &[Row]) -> bool
-    ensures { WritesFront (W.contents writer.old) (W.contents writer.new)
+fn write_rows<W: Sink>(writer: &mut W, rows: &[Row]) -> bool
+    ensures written { WritesFront (W.contents writer.old) (W.contents writer.new)
         (flat_map (λ row. line_text (row_cell row)) rows.now) result }
+    ensures failed { result ≡ false → W.may_have_failed writer.new }
 {
     for row in rows {
         if !write_line(writer, Line::Row(row)) {
@@ -66,8 +69,9 @@ fn write_rows<W: Write>(writer: &mut W, rows: &[Row]) -> bool
     true
 }
 
-fn write_line<W: Write>(writer: &mut W, line: Line) -> bool
-    ensures { WritesFront (W.contents writer.old) (W.contents writer.new) (line_text (cell_of line.entry)) result }
+fn write_line<W: Sink>(writer: &mut W, line: Line) -> bool
+    ensures written { WritesFront (W.contents writer.old) (W.contents writer.new) (line_text (cell_of line.entry)) result }
+    ensures failed { result ≡ false → W.may_have_failed writer.new }
 {
     write_whole(writer, line_text(line).as_str().as_bytes())
 }

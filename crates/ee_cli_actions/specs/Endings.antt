@@ -6,6 +6,8 @@ use Rattle.ee_desk_acts.specs.declared.refusals.Unserved.{Unserved}
 use Rattle.ee_desk_acts.specs.declared.refusals.Unserved.TheVariants as unserved
 use Rattle.ee_desk_acts.specs.declared.replies.Reply.{Reply}
 use Rattle.ee_desk_acts.specs.declared.replies.Reply.TheVariants as reply
+use Rattle.ee_files.specs.declared.faults.FileCode.TheVariants.{ReadFailed}
+use Rattle.ee_files.specs.declared.faults.FileFault.{FileFault}
 use Rattle.ee_counter.specs.declared.connections.Ended.{Ended}
 use Rattle.ee_counter.specs.declared.connections.Why.{Why}
 use Rattle.ee_counter.specs.declared.connections.Why.TheVariants as why
@@ -56,3 +58,11 @@ ending_of e = if e.store_failed then Err (fault.Store StoreFailed) else ending_b
 -- it is told that the store failed only where that may be
 abbrev pub TellsFailureOnlyIf : Type 0 → Result Outcome RunFault → Type 0
 TellsFailureOnlyIf may_fail result = result ≡ Err (fault.Store StoreFailed) → may_fail
+
+-- it is told that a device failed only where that may be
+abbrev pub TellsDeviceOnlyIf : Type 0 → Result Outcome RunFault → Type 0
+TellsDeviceOnlyIf may_fail result = result ≡ Err fault.Device → may_fail
+
+-- it is told that a read of the file failed only where that may be
+abbrev pub TellsUnreadOnlyIf : Type 0 → Result Outcome RunFault → Type 0
+TellsUnreadOnlyIf may_fail result = (cause : FileFault) → result ≡ Err (fault.File cause) → cause.code ≡ ReadFailed → may_fail

@@ -1,22 +1,22 @@
 //! The command `apply`.
 
-ghost use Rattle.std.specs.Prelude.{◌≡◌};
+ghost use Rattle.std.specs.Prelude.{◌≡◌, ◌⊎◌};
 ghost use Rattle.ee_desk_acts.specs.Repeats.{Content};
 ghost use Rattle.ee_cli_actions.specs.Actions.{Applies};
-ghost use Rattle.ee_cli_actions.specs.Endings.{TellsFailureOnlyIf, ending_of};
+ghost use Rattle.ee_cli_actions.specs.Endings.{TellsDeviceOnlyIf, TellsFailureOnlyIf, ending_of};
 
 use crate::faults::{Outcome, RunFault, StoreFault};
 use ee_counter::{Ended, Why, serve};
+use ee_device::{Sink, Source};
 use ee_keeper::Keeper;
 use std::alloc::Global;
-use std::io::{Read, Write};
 
 /// Serves the input as one connection, and writes the answers to the output. It is done where the input
 /// ends between two messages, where a message asks to close, and after 1,000 messages; it is refused where
 /// the bytes are no message, which is answered. Where an answer told that the store failed it is
 /// `StoreFailed`, however serving ended. Else, where a device failed it is `Device`, and where memory was
 /// refused `NoMemory`: the last message may then have been decided without a whole answer.
-pub fn apply_to<K: Keeper, R: Read, W: Write>(
+pub fn apply_to<K: Keeper, R: Source, W: Sink>(
     alloc: Global,
     keeper: &mut K,
     input: &mut R,
@@ -25,6 +25,7 @@ pub fn apply_to<K: Keeper, R: Read, W: Write>(
     ensures clean { K.is_clean keeper.new → K.is_clean keeper.old }
     ensures applies { K.is_clean keeper.new → (c : Content) → K.has keeper.old c
         → Applies (R.remaining input.old) (R.remaining input.new) (W.contents output.old) (W.contents output.new) c result (K.has keeper.new) }
+    ensures device { TellsDeviceOnlyIf (R.may_have_failed input.new ⊎ W.may_have_failed output.new) result }
     ensures failed { TellsFailureOnlyIf K.may_fail result }
 {
     let ended = serve(alloc, keeper, input, output);

@@ -3,8 +3,9 @@
 ghost use Rattle.std.specs.Prelude.{◌≡◌, Ok, Err, IfOk, IfErr, string_bytes};
 ghost use Rattle.ee_desk_acts.specs.Repeats.{Content};
 ghost use Rattle.ee_desk_acts.specs.declared.refusals.Unserved.TheVariants.{StoreFailed};
+ghost use Rattle.ee_counter.specs.Filing.{IsFailedRead};
 ghost use Rattle.ee_cli_actions.specs.Actions.{ExportsFrom, ImportsFile, ImportsInto, TellsReply};
-ghost use Rattle.ee_cli_actions.specs.Endings.{TellsFailureOnlyIf, outcome_of};
+ghost use Rattle.ee_cli_actions.specs.Endings.{TellsDeviceOnlyIf, TellsFailureOnlyIf, TellsUnreadOnlyIf, outcome_of};
 ghost use Rattle.ee_cli_actions.specs.Printed.{reply_line};
 ghost use Rattle.ee_cli_actions.specs.declared.faults.StoreFault.TheVariants as store;
 ghost use Rattle.ee_cli_actions.specs.declared.faults.RunFault.TheVariants.{Store};
@@ -15,16 +16,16 @@ use ee_cli_commands::FileKind;
 use ee_counter::{ExportFault, ImportFault, export_inventory, import_inventory, import_rates};
 use ee_desk_acts::{Desk, Number, Reply};
 use ee_desk_texts::reply_text;
+use ee_device::{Sink, Source};
 use ee_keeper::Keeper;
 use ee_units::Customer;
 use std::alloc::{AllocError, Global};
-use std::io::{Read, Write};
 
 /// Imports a file of that kind as one request under the desk's number, and prints the reply's text on a line; it
 /// is refused where the reply is a refusal. Where the file has a fault nothing was delivered. Where the
 /// output failed, or memory was refused to the reply's text, the request was delivered: the same line
 /// gives its reply again.
-pub fn import_into<K: Keeper, R: Read, W: Write>(
+pub fn import_into<K: Keeper, R: Source, W: Sink>(
     alloc: Global,
     keeper: &mut K,
     kind: FileKind,
@@ -36,13 +37,15 @@ pub fn import_into<K: Keeper, R: Read, W: Write>(
     ensures clean { K.is_clean keeper.new → K.is_clean keeper.old }
     ensures imports { K.is_clean keeper.new → (c : Content) → K.has keeper.old c
         → ImportsInto kind (R.remaining file.old) (W.contents output.old) (W.contents output.new) (desk, number) c result (K.has keeper.new) }
+    ensures device { TellsDeviceOnlyIf (W.may_have_failed output.new) result }
+    ensures unread { TellsUnreadOnlyIf (R.may_have_failed file.new) result }
     ensures failed { TellsFailureOnlyIf K.may_fail result }
 {
     let answer = import_file(alloc, keeper, kind, desk, number, file);
     tell(alloc, answer, output)
 }
 
-fn import_file<K: Keeper, R: Read>(
+fn import_file<K: Keeper, R: Source>(
     alloc: Global,
     keeper: &mut K,
     kind: FileKind,
@@ -53,6 +56,7 @@ fn import_file<K: Keeper, R: Read>(
     ensures clean { K.is_clean keeper.new → K.is_clean keeper.old }
     ensures imports { K.is_clean keeper.new → (c : Content) → K.has keeper.old c
         → ImportsFile kind (R.remaining file.old) (desk, number) c result (K.has keeper.new) }
+    ensures device { IfErr result (λ fault. IsFailedRead fault → R.may_have_failed file.new) }
     ensures failed { IfErr result (λ fault. fault ≡ ImportFault.Unserved StoreFailed → K.may_fail) }
 {
     match kind {
@@ -62,12 +66,13 @@ fn import_file<K: Keeper, R: Read>(
 }
 
 // Prints the reply, or says why there is none.
-fn tell<W: Write>(
+fn tell<W: Sink>(
     alloc: Global,
     answer: Result<Reply, ImportFault>,
     output: &mut W,
 ) -> Result<Outcome, RunFault>
     ensures told { TellsReply (W.contents output.old) (W.contents output.new) answer result }
+    ensures device { TellsDeviceOnlyIf (W.may_have_failed output.new) result }
     ensures failed { result ≡ Err (Store store.StoreFailed) → answer ≡ Err (ImportFault.Unserved StoreFailed) }
 {
     match answer {
@@ -77,8 +82,9 @@ fn tell<W: Write>(
     }
 }
 
-fn tell_reply<W: Write>(alloc: Global, reply: &Reply, output: &mut W) -> Result<Outcome, RunFault>
-    ensures { TellsReply (W.contents output.old) (W.contents output.new) (Ok reply.now) result }
+fn tell_reply<W: Sink>(alloc: Global, reply: &Reply, output: &mut W) -> Result<Outcome, RunFault>
+    ensures told { TellsReply (W.contents output.old) (W.contents output.new) (Ok reply.now) result }
+    ensures device { TellsDeviceOnlyIf (W.may_have_failed output.new) result }
 {
     let line = line(alloc, reply)?;
     print(&line, output)?;
@@ -104,7 +110,7 @@ fn outcome(reply: &Reply) -> Outcome
 
 /// Writes the customer's unpaid bonds as a file of the kind that an import reads, in order of serial. Where
 /// the store didn't serve, or memory was refused, nothing is written; where the output failed, a front.
-pub fn export_from<K: Keeper, W: Write>(
+pub fn export_from<K: Keeper, W: Sink>(
     alloc: Global,
     keeper: &mut K,
     customer: Customer,
@@ -113,6 +119,7 @@ pub fn export_from<K: Keeper, W: Write>(
     ensures clean { K.is_clean keeper.new → K.is_clean keeper.old }
     ensures exports { K.is_clean keeper.new → (c : Content) → K.has keeper.old c
         → ExportsFrom (W.contents output.old) (W.contents output.new) customer c result (K.has keeper.new) }
+    ensures device { TellsDeviceOnlyIf (W.may_have_failed output.new) result }
     ensures failed { TellsFailureOnlyIf K.may_fail result }
     ensures done { IfOk result (λ outcome. outcome ≡ Outcome.Done) }
 {

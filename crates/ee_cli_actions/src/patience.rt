@@ -1,5 +1,8 @@
 //! A socket that waits for its other side no longer than so long.
 
+ghost use Rattle.std.specs.Prelude.{⊤};
+
+use ee_device::{Sink, Source};
 use std::cell::Cell;
 use std::io::{self, ErrorKind, Read, Write};
 use std::net::{Shutdown, TcpStream};
@@ -90,5 +93,21 @@ impl<'p, 'c, 's, C: Clock> Write for &'p Patient<'c, 's, C> {
 
     fn flush(&mut self) -> io::Result<()> {
         Ok(())
+    }
+}
+
+impl<'p, 'c, 's, C: Clock> Source for &'p Patient<'c, 's, C> {
+    ghost may_have_failed = { λ _. ⊤ };
+
+    fn read_once(&mut self, buf: &mut [u8]) -> io::Result<usize> {
+        self.read(buf)
+    }
+}
+
+impl<'p, 'c, 's, C: Clock> Sink for &'p Patient<'c, 's, C> {
+    ghost may_have_failed = { λ _. ⊤ };
+
+    fn write_once(&mut self, text: &[u8]) -> io::Result<usize> {
+        self.write(text)
     }
 }

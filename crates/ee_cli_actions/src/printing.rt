@@ -1,16 +1,16 @@
 //! Printing a text.
 
-ghost use Rattle.std.specs.Prelude.{◌≡◌, IfErr, is_ok};
+ghost use Rattle.std.specs.Prelude.{◌≡◌, IfErr, OnErr, is_ok};
 ghost use Rattle.ee_device.specs.Written.{WritesFront};
 
 use crate::faults::RunFault;
-use ee_device::write_whole;
-use std::io::Write;
+use ee_device::{Sink, write_whole};
 
 /// Prints the text: all of it, or a front of it where the output failed, which is told as `Device`.
-pub fn print<W: Write>(text: &str, output: &mut W) -> Result<(), RunFault>
+pub fn print<W: Sink>(text: &str, output: &mut W) -> Result<(), RunFault>
     ensures printed { WritesFront (W.contents output.old) (W.contents output.new) text.now (is_ok result) }
     ensures fault { IfErr result (λ fault. fault ≡ RunFault.Device) }
+    ensures device { OnErr result (W.may_have_failed output.new) }
 {
     if write_whole(output, text.as_bytes()) {
         Ok(())

@@ -11,9 +11,9 @@ use crate::patience::Patient;
 use crate::printing::print;
 use crate::reasons::Reason;
 use ee_counter::{Ended, Why, serve};
+use ee_device::Sink;
 use ee_keeper::Keeper;
 use std::alloc::{AllocError, Global};
-use std::io::Write;
 use std::net::{TcpListener, TcpStream};
 use std::time::{Clock, Duration};
 
@@ -24,7 +24,7 @@ use std::time::{Clock, Duration};
 /// `WriteFailed`. Serving ends early where no connection could be accepted or a line not be written (`Device`),
 /// where memory was refused to a line (`NoMemory`), or after a connection of which an answer told that the
 /// store failed (`StoreFailed`), whose line is printed.
-pub fn serve_on<C: Clock, K: Keeper, W: Write>(
+pub fn serve_on<C: Clock, K: Keeper, W: Sink>(
     clock: &C,
     alloc: Global,
     keeper: &mut K,
@@ -110,7 +110,7 @@ fn leaves_more(why: Why) -> bool {
 }
 
 // Prints a connection's line.
-fn tell<W: Write>(alloc: Global, number: u64, ended: Ended, output: &mut W) -> Result<(), RunFault>
+fn tell<W: Sink>(alloc: Global, number: u64, ended: Ended, output: &mut W) -> Result<(), RunFault>
     ensures printed { PrintsLine (W.contents output.old) (W.contents output.new) (connection_line number ended) result }
     ensures fault { IfErr result (λ fault. (fault ≡ RunFault.Device) ⊎ (fault ≡ RunFault.NoMemory)) }
 {

@@ -4,20 +4,20 @@ ghost use Rattle.std.specs.Prelude.{◌≡◌, Err, IfOk};
 ghost use Rattle.ee_desk_acts.specs.Repeats.{Content};
 ghost use Rattle.ee_desk_acts.specs.declared.refusals.Unserved.TheVariants.{StoreFailed};
 ghost use Rattle.ee_cli_actions.specs.Actions.{ShowsSheet, TellsSheet};
-ghost use Rattle.ee_cli_actions.specs.Endings.{TellsFailureOnlyIf};
+ghost use Rattle.ee_cli_actions.specs.Endings.{TellsDeviceOnlyIf, TellsFailureOnlyIf};
 ghost use Rattle.ee_cli_actions.specs.declared.faults.StoreFault.TheVariants as store;
 ghost use Rattle.ee_cli_actions.specs.declared.faults.RunFault.TheVariants.{Store};
 
 use crate::faults::{Outcome, RunFault};
 use ee_calculator::{Sheet, write_sheet};
 use ee_desk_acts::Unserved;
+use ee_device::Sink;
 use ee_keeper::Keeper;
 use ee_units::{Customer, Month};
-use std::io::Write;
 
 /// Writes the sheet in a month of the unpaid bonds whose owner is this customer, in order of serial. Where
 /// the store didn't serve nothing is written; where the output failed, a front of the sheet.
-pub fn sheet_of<K: Keeper, W: Write>(
+pub fn sheet_of<K: Keeper, W: Sink>(
     keeper: &mut K,
     customer: Customer,
     month: Month,
@@ -27,15 +27,17 @@ pub fn sheet_of<K: Keeper, W: Write>(
     ensures shows { K.is_clean keeper.new → (c : Content) → K.has keeper.old c
         → ShowsSheet (W.contents output.old) (W.contents output.new) customer month c result (K.has keeper.new c) }
     ensures done { IfOk result (λ outcome. outcome ≡ Outcome.Done) }
+    ensures device { TellsDeviceOnlyIf (W.may_have_failed output.new) result }
     ensures failed { TellsFailureOnlyIf K.may_fail result }
 {
     let shown = keeper.inventory(customer, month);
     tell(shown, output)
 }
 
-fn tell<W: Write>(shown: Result<Sheet, Unserved>, output: &mut W) -> Result<Outcome, RunFault>
+fn tell<W: Sink>(shown: Result<Sheet, Unserved>, output: &mut W) -> Result<Outcome, RunFault>
     ensures told { TellsSheet (W.contents output.old) (W.contents output.new) shown result }
     ensures done { IfOk result (λ outcome. outcome ≡ Outcome.Done) }
+    ensures device { TellsDeviceOnlyIf (W.may_have_failed output.new) result }
     ensures failed { result ≡ Err (Store store.StoreFailed) → shown ≡ Err StoreFailed }
 {
     match shown {

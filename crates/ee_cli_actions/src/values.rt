@@ -3,17 +3,17 @@
 ghost use Rattle.std.specs.Prelude.{◌≡◌, IfErr, IfOk, string_bytes};
 ghost use Rattle.ee_calculator.specs.Rows.{columns_of};
 ghost use Rattle.ee_value.specs.Fault.{IsFaultOf};
-ghost use Rattle.ee_cli_actions.specs.Endings.{ending_of_value};
+ghost use Rattle.ee_cli_actions.specs.Endings.{TellsDeviceOnlyIf, ending_of_value};
 ghost use Rattle.ee_cli_actions.specs.Printed.{line_of, value_line};
 ghost use Rattle.ee_cli_actions.specs.Values.{PrintsValue};
 
 use crate::faults::{Outcome, RunFault};
 use crate::printing::print;
 use ee_calculator::{Note, plain_row};
+use ee_device::Sink;
 use ee_units::{Bits, Cents, Denom, IssueMonth, Month, calendar};
 use ee_value::{Rates, ValueFault, unit_table};
 use std::alloc::{AllocError, Global};
-use std::io::Write;
 
 /// The precision of the program's values: 62 binary places.
 const PRECISION: u8 = 62;
@@ -21,7 +21,7 @@ const PRECISION: u8 = 62;
 /// Prints the value in a month of a bond of that denomination and issue month, at those rates: the value,
 /// then a space and the note where there is one. A month before issue needs no table of the rates; from
 /// issue on, the rates' least unsettled age is answered where they have one.
-pub fn print_value<W: Write>(
+pub fn print_value<W: Sink>(
     alloc: Global,
     denom: Denom,
     issued: IssueMonth,
@@ -29,7 +29,8 @@ pub fn print_value<W: Write>(
     rates: Rates,
     output: &mut W,
 ) -> Result<Outcome, RunFault>
-    ensures { PrintsValue denom issued month rates (W.contents output.old) (W.contents output.new) result }
+    ensures printed { PrintsValue denom issued month rates (W.contents output.old) (W.contents output.new) result }
+    ensures device { TellsDeviceOnlyIf (W.may_have_failed output.new) result }
 {
     match value_text(alloc, denom, issued, month, rates) {
         Ok(text) => {

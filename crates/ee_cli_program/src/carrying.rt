@@ -14,12 +14,12 @@ use crate::stores::Stores;
 use ee_cli_actions::{Outcome, RunFault, apply_to, export_from, print_value, sheet_of};
 use ee_cli_commands::{Command, FileKind};
 use ee_desk_acts::{Desk, Number};
+use ee_device::{Sink, Source};
 use ee_units::{Customer, Month};
 use ee_value::Rates;
-use std::io::{Read, Write};
 
 /// Carries out a command. A store is opened before a file or a port is.
-pub fn carry_out<O: Stores, R: Read, W: Write>(
+pub fn carry_out<O: Stores, R: Source, W: Sink>(
     rt: &HostRuntime,
     stores: &O,
     command: &Command,
@@ -46,7 +46,7 @@ pub fn carry_out<O: Stores, R: Read, W: Write>(
     }
 }
 
-fn apply<O: Stores, R: Read, W: Write>(
+fn apply<O: Stores, R: Source, W: Sink>(
     rt: &HostRuntime,
     stores: &O,
     db: &str,
@@ -66,7 +66,7 @@ fn apply<O: Stores, R: Read, W: Write>(
     }
 }
 
-fn import<O: Stores, W: Write>(
+fn import<O: Stores, W: Sink>(
     rt: &HostRuntime,
     stores: &O,
     kind: FileKind,
@@ -89,7 +89,7 @@ fn import<O: Stores, W: Write>(
     }
 }
 
-fn export<O: Stores, W: Write>(
+fn export<O: Stores, W: Sink>(
     rt: &HostRuntime,
     stores: &O,
     customer: Customer,
@@ -110,7 +110,7 @@ fn export<O: Stores, W: Write>(
     }
 }
 
-fn sheet<O: Stores, W: Write>(
+fn sheet<O: Stores, W: Sink>(
     stores: &O,
     customer: Customer,
     month: Month,
@@ -131,7 +131,7 @@ fn sheet<O: Stores, W: Write>(
     }
 }
 
-fn serve<O: Stores, W: Write>(
+fn serve<O: Stores, W: Sink>(
     rt: &HostRuntime,
     stores: &O,
     db: &str,

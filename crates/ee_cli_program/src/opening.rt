@@ -9,14 +9,14 @@ ghost use Rattle.ee_cli_program.specs.Stores.{Tries};
 use ee_cli_actions::{Outcome, RunFault, import_into, serve_on};
 use ee_cli_commands::FileKind;
 use ee_desk_acts::{Desk, Number};
+use ee_device::Sink;
 use ee_keeper::Keeper;
 use std::fs;
-use std::io::Write;
 use std::net::TcpListener;
 use std::time::Duration;
 
 /// Imports the file of that path. A file that doesn't open is told as `Device`.
-pub fn import_path<K: Keeper, W: Write>(
+pub fn import_path<K: Keeper, W: Sink>(
     rt: &HostRuntime,
     keeper: &mut K,
     kind: FileKind,
@@ -39,7 +39,7 @@ pub fn import_path<K: Keeper, W: Write>(
 const PATIENCE: u64 = 30;
 
 /// Serves on a port of 127.0.0.1. A port that can't be bound is told as `Device`.
-pub fn serve_port<K: Keeper, W: Write>(
+pub fn serve_port<K: Keeper, W: Sink>(
     rt: &HostRuntime,
     keeper: &mut K,
     port: u16,

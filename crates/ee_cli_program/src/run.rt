@@ -17,9 +17,10 @@ use crate::carrying::carry_out;
 use crate::stores::Stores;
 use ee_cli_actions::{Outcome, RunFault, print};
 use ee_cli_commands::{CommandFault, VERSION, read_command};
+use ee_device::{Sink, Source};
 use ee_store_opening::STORE_VERSION;
 use std::alloc::{AllocError, Global};
-use std::io::{self, ErrorKind, Read, Write};
+use std::io::{self, ErrorKind, Write};
 
 /// The line was carried out.
 pub const DONE: u8 = 0;
@@ -41,7 +42,7 @@ pub const FAILED: u8 = 3;
 /// - `printed`: where they ask for a value and the status is 0, the output gained just that value's line.
 /// - `version`: where they ask for the version and the status is 0, it gained just the line of the versions.
 /// - `over`: what a command over a store did and printed, by what the store held (`contents`).
-pub fn run_words<O: Stores, R: Read, W: Write, E: Write>(
+pub fn run_words<O: Stores, R: Source, W: Sink, E: Write>(
     rt: &HostRuntime,
     stores: &O,
     words: &[String],
@@ -117,7 +118,7 @@ fn report<E: Write>(fault: RunFault, faults: &mut E) -> u8
 }
 
 // Prints what a line asks for that names no command.
-fn show<W: Write, E: Write>(text: &str, output: &mut W, faults: &mut E) -> u8
+fn show<W: Sink, E: Write>(text: &str, output: &mut W, faults: &mut E) -> u8
     ensures status { (result ≡ 0) ⊎ (result ≡ 3) }
     ensures printed { result ≡ 0 → Appends (W.contents output.old) (W.contents output.new) text.now }
 {
@@ -128,7 +129,7 @@ fn show<W: Write, E: Write>(text: &str, output: &mut W, faults: &mut E) -> u8
 }
 
 // Prints the versions of the program and of the stores that it makes.
-fn show_version<W: Write, E: Write>(alloc: Global, output: &mut W, faults: &mut E) -> u8
+fn show_version<W: Sink, E: Write>(alloc: Global, output: &mut W, faults: &mut E) -> u8
     ensures status { (result ≡ 0) ⊎ (result ≡ 3) }
     ensures printed { result ≡ 0 → Appends (W.contents output.old) (W.contents output.new) version_line }
 {

@@ -22,7 +22,7 @@ use Rattle.ee_wire_framing.specs.declared.FramingFault.{FramingFault}
 use Rattle.ee_counter.specs.declared.connections.Ended.{Ended}
 use Rattle.ee_counter.specs.declared.connections.Why.{Why}
 use Rattle.ee_counter.specs.declared.connections.Why.TheVariants.{Closed, Asked, Limit, Fault, ReadFailed, WriteFailed, NoMemory}
-use Rattle.ee_counter.specs.Serving.{Told, left_by, is_last, text_of, texts, left_by_all, AreRight, AnswersOne, Turns, fault_text, RefusesBy, EndsBy, Ends, messages, SoFar, Serves, told_failure, any_told_failure, WereNeeded}
+use Rattle.ee_counter.specs.Serving.{DeviceFailsOnlyIf, FlowDeviceFailsOnlyIf, Told, left_by, is_last, text_of, texts, left_by_all, AreRight, AnswersOne, Turns, fault_text, RefusesBy, EndsBy, Ends, messages, SoFar, Serves, told_failure, any_told_failure, WereNeeded}
 
 -- a text that was written whole
 pub whole : (text : List ℕ) (old new : Option (List ℕ)) → WritesFront old new text true → Appends old new text
@@ -36,6 +36,22 @@ text_is n m answer closing x = ap (answer_text answer) x
 -- what is held now is what was held, and what was read
 held_is : (was is : Stream) (got : List ℕ) → is.shown ≡ [] → is.shown ++ is.held ≡ was.held ++ got → is.held ≡ was.held ++ got
 held_is was is got none all = sym (ap (λ l. l ++ is.held) none) ∙ all
+
+-- ---- devices that fail
+
+-- an answer ends no connection by a failed read
+pub writer_alone : (read_may write_may : Type 0) (w : Why) → DeviceFailsOnlyIf ⊥ write_may w → DeviceFailsOnlyIf read_may write_may w
+writer_alone read_may write_may ReadFailed h = absurd h
+writer_alone read_may write_may WriteFailed h = h
+writer_alone read_may write_may Closed h = tt
+writer_alone read_may write_may Asked h = tt
+writer_alone read_may write_may Limit h = tt
+writer_alone read_may write_may (Fault f) h = tt
+writer_alone read_may write_may NoMemory h = tt
+
+pub writer_in_flow : (read_may write_may : Type 0) (r : ControlFlow Ended Bool) → FlowDeviceFailsOnlyIf ⊥ write_may r → FlowDeviceFailsOnlyIf read_may write_may r
+writer_in_flow read_may write_may (Continue failed) h = tt
+writer_in_flow read_may write_may (Break e) h = writer_alone read_may write_may e.why h
 
 -- ---- what a call of `next_message` leads to
 

@@ -9,6 +9,7 @@ use Rattle.ee_desk_acts.specs.Queries.{bonds_of}
 use Rattle.ee_keeper.specs.Keeping.{Delivers}
 use Rattle.ee_files.specs.Answers.{Gives}
 use Rattle.ee_files.specs.BondFile.{inventory_text}
+use Rattle.ee_files.specs.declared.faults.FileCode.TheVariants as code
 use Rattle.ee_files.specs.declared.faults.FileFault.{FileFault}
 use Rattle.ee_counter.specs.declared.files.ImportFault.{ImportFault}
 use Rattle.ee_counter.specs.declared.files.ImportFault.TheVariants as import
@@ -29,6 +30,11 @@ Imports {A} rows_of act_of known number c (Ok reply) Has =
     (rows : List A) × Reads rows_of known (Ok rows) × Delivers c (numbered number (act_of rows)) (Ok reply) Has
 Imports rows_of act_of known number c (Err (import.File fault)) Has = Reads rows_of known (Err fault) × Has c
 Imports rows_of act_of known number c (Err (import.Unserved cause)) Has = Has c
+
+-- the file wasn't read, since a read failed
+abbrev pub IsFailedRead : ImportFault → Type 0
+IsFailedRead (import.File fault) = fault.code ≡ code.ReadFailed
+IsFailedRead (import.Unserved cause) = ⊥
 
 -- the file of the customer's unpaid bonds was written, or a front of it where the writer failed, or nothing
 abbrev pub Exports : Option (List ℕ) → Option (List ℕ) → ℕ → Content → Result ℕ ExportFault → (Content → Type 0) → Type 0

@@ -170,6 +170,20 @@ abbrev pub FlowFailsOnlyIf : Type 0 → ControlFlow Ended Bool → Type 0
 FlowFailsOnlyIf may_fail (Continue failed) = failed ≡ true → may_fail
 FlowFailsOnlyIf may_fail (Break e) = e.store_failed ≡ true → may_fail
 
+-- it is told that the reader or the writer failed only where that may be
+abbrev pub DeviceFailsOnlyIf : Type 0 → Type 0 → Why → Type 0
+DeviceFailsOnlyIf read_may write_may ReadFailed = read_may
+DeviceFailsOnlyIf read_may write_may WriteFailed = write_may
+DeviceFailsOnlyIf read_may write_may Closed = ⊤
+DeviceFailsOnlyIf read_may write_may Asked = ⊤
+DeviceFailsOnlyIf read_may write_may Limit = ⊤
+DeviceFailsOnlyIf read_may write_may (Fault f) = ⊤
+DeviceFailsOnlyIf read_may write_may NoMemory = ⊤
+
+abbrev pub FlowDeviceFailsOnlyIf : Type 0 → Type 0 → ControlFlow Ended Bool → Type 0
+FlowDeviceFailsOnlyIf read_may write_may (Continue failed) = ⊤
+FlowDeviceFailsOnlyIf read_may write_may (Break e) = DeviceFailsOnlyIf read_may write_may e.why
+
 -- ---- whole connections
 
 abbrev pub messages : List Told → List Message

@@ -5,18 +5,18 @@ ghost use Rattle.std.specs.ControlFlow.{MatchControlFlow};
 ghost use Rattle.ee_desk_acts.specs.Repeats.{Content};
 ghost use Rattle.ee_wire_framing.specs.Reading.{message_in};
 ghost use Rattle.ee_counter.specs.Answering.{Answers, call_of};
-ghost use Rattle.ee_counter.specs.Serving.{Serves, Turns, AnswersOne, FlowFailsOnlyIf, Refuses, tells_failure};
+ghost use Rattle.ee_counter.specs.Serving.{Serves, Turns, AnswersOne, DeviceFailsOnlyIf, FlowDeviceFailsOnlyIf, FlowFailsOnlyIf, Refuses, tells_failure};
 
 use crate::answering::answer_decoded;
 use crate::decoding::Decoder;
 use ee_desk_acts::Unserved;
+use ee_device::{Sink, Source};
 use ee_keeper::Keeper;
 use ee_wire::{
     Answer, Buffer, FramingFault, Message, Next, WireEnd, WireFault, WriteEnd, next_message,
     write_reply,
 };
 use std::alloc::Global;
-use std::io::{Read, Write};
 use std::ops::ControlFlow;
 
 /// The most messages of a connection.
@@ -90,7 +90,7 @@ fn answer_to<K: Keeper>(
 
 /// Answers a message, and writes the answer. Where the connection goes on, it says whether an answer told that
 /// the store failed, this one or one before.
-fn answer_one<K: Keeper, W: Write>(
+fn answer_one<K: Keeper, W: Sink>(
     decoder: &Decoder,
     keeper: &mut K,
     writer: &mut W,
@@ -105,6 +105,7 @@ fn answer_one<K: Keeper, W: Write>(
     ensures answers { K.is_clean keeper.new → (c : Content) → K.has keeper.old c
         → AnswersOne (message_in buffer.now.shown message) (W.contents writer.old) (W.contents writer.new) c messages store_failed result (K.has keeper.new) }
     ensures few { MatchControlFlow result (λ failed. ⊤) (λ ended. ended.messages ≤ 1000) }
+    ensures device { FlowDeviceFailsOnlyIf ⊥ (W.may_have_failed writer.new) result }
     ensures failed { FlowFailsOnlyIf K.may_fail result }
 {
     let closing = is_last(message.closes, messages);
@@ -131,7 +132,7 @@ fn answer_one<K: Keeper, W: Write>(
 }
 
 /// Answers a framing fault.
-fn refuse<W: Write>(
+fn refuse<W: Sink>(
     alloc: Global,
     writer: &mut W,
     fault: FramingFault,
@@ -141,6 +142,7 @@ fn refuse<W: Write>(
     requires { messages < 1000 }
     ensures refuses { Refuses fault (W.contents writer.old) (W.contents writer.new) messages result }
     ensures few { result.messages ≤ 1000 }
+    ensures device { DeviceFailsOnlyIf ⊥ (W.may_have_failed writer.new) result.why }
     ensures failed { result.store_failed ≡ store_failed }
 {
     let answer = Answer::Fault(WireFault::Framing(fault));
@@ -165,7 +167,7 @@ fn refuse<W: Write>(
 
 /// Reads a message and answers it. Where the connection goes on, it says whether an answer told that the store
 /// failed, this one or one before.
-fn turn<K: Keeper, R: Read, W: Write>(
+fn turn<K: Keeper, R: Source, W: Sink>(
     decoder: &Decoder,
     keeper: &mut K,
     reader: &mut R,
@@ -183,6 +185,7 @@ fn turn<K: Keeper, R: Read, W: Write>(
         (W.contents writer.old) (W.contents writer.new) c messages store_failed result (K.has keeper.new) }
     ensures open { MatchControlFlow result (λ failed. buffer.new.ended ≡ None) (λ ended. ⊤) }
     ensures few { MatchControlFlow result (λ failed. ⊤) (λ ended. ended.messages ≤ 1000) }
+    ensures device { FlowDeviceFailsOnlyIf (R.may_have_failed reader.new) (W.may_have_failed writer.new) result }
     ensures failed { FlowFailsOnlyIf K.may_fail result }
 {
     match next_message(reader, buffer) {
@@ -226,7 +229,7 @@ fn turn<K: Keeper, R: Read, W: Write>(
 /// Where the reader fails, no whole message is left among the bytes that were read. Where an answer told that
 /// the store failed, the end says so, whatever ended the connection; of a store that can't fail it never does.
 /// The claims are of any content `c` that the keeper had, and hold where its store is clean at the end.
-pub fn serve<K: Keeper, R: Read, W: Write>(
+pub fn serve<K: Keeper, R: Source, W: Sink>(
     alloc: Global,
     keeper: &mut K,
     reader: &mut R,
@@ -236,6 +239,7 @@ pub fn serve<K: Keeper, R: Read, W: Write>(
     ensures serves { K.is_clean keeper.new → (c : Content) → K.has keeper.old c
         → Serves (R.remaining reader.old) (R.remaining reader.new) (W.contents writer.old) (W.contents writer.new) c result (K.has keeper.new) }
     ensures few { result.messages ≤ 1000 }
+    ensures device { DeviceFailsOnlyIf (R.may_have_failed reader.new) (W.may_have_failed writer.new) result.why }
     ensures failed { result.store_failed ≡ true → K.may_fail }
 {
     let decoder = Decoder::new(alloc);

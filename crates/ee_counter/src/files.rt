@@ -7,14 +7,14 @@ ghost use Rattle.ee_desk_acts.specs.Repeats.{Content};
 ghost use Rattle.ee_device.specs.ReadWhole.{TakesAtMost};
 ghost use Rattle.ee_files.specs.BondFile.{bonds_of_file};
 ghost use Rattle.ee_files.specs.RateFile.{rates_of_file};
-ghost use Rattle.ee_counter.specs.Filing.{Imports, Exports};
+ghost use Rattle.ee_counter.specs.Filing.{Imports, Exports, IsFailedRead};
 
 use ee_desk_acts::{Act, Desk, Number, Reply, Request, Rows, Unserved};
+use ee_device::{Sink, Source};
 use ee_files::{FileFault, WriteFault, read_inventory, read_rates, write_inventory};
 use ee_keeper::Keeper;
 use ee_units::Customer;
 use std::alloc::Global;
-use std::io::{Read, Write};
 use thiserror::Error;
 
 /// Why an import has no reply.
@@ -42,7 +42,7 @@ pub enum ExportFault {
 /// Enters the rates of a file, with the extensions that it names, under a number of a desk, as one request:
 /// the file's rows, its first 501, or nothing. A file that was imported under that desk and number before gets
 /// its first reply again. Of the reader at most 1,048,577 bytes are taken, one more than a file may have.
-pub fn import_rates<K: Keeper, R: Read>(
+pub fn import_rates<K: Keeper, R: Source>(
     alloc: Global,
     keeper: &mut K,
     desk: Desk,
@@ -53,6 +53,7 @@ pub fn import_rates<K: Keeper, R: Read>(
     ensures imports { K.is_clean keeper.new → (c : Content) → K.has keeper.old c
         → Imports rates_of_file act.AddRates (R.remaining reader.old) (desk, number) c result (K.has keeper.new) }
     ensures takes { (source : List ℕ) → R.remaining reader.old ≡ Some source → TakesAtMost 1048577 source (R.remaining reader.new) }
+    ensures device { IfErr result (λ fault. IsFailedRead fault → R.may_have_failed reader.new) }
     ensures failed { IfErr result (λ fault. fault ≡ ImportFault.Unserved StoreFailed → K.may_fail) }
 {
     let rows = match read_rates(alloc, reader) {
@@ -73,7 +74,7 @@ pub fn import_rates<K: Keeper, R: Read>(
 /// Registers the bonds of a file under a number of a desk, as one request: the file's rows, its first 501, or
 /// nothing. A file that was imported under that desk and number before gets its first reply again. Of the
 /// reader at most 1,048,577 bytes are taken, one more than a file may have.
-pub fn import_inventory<K: Keeper, R: Read>(
+pub fn import_inventory<K: Keeper, R: Source>(
     alloc: Global,
     keeper: &mut K,
     desk: Desk,
@@ -84,6 +85,7 @@ pub fn import_inventory<K: Keeper, R: Read>(
     ensures imports { K.is_clean keeper.new → (c : Content) → K.has keeper.old c
         → Imports bonds_of_file act.AddBonds (R.remaining reader.old) (desk, number) c result (K.has keeper.new) }
     ensures takes { (source : List ℕ) → R.remaining reader.old ≡ Some source → TakesAtMost 1048577 source (R.remaining reader.new) }
+    ensures device { IfErr result (λ fault. IsFailedRead fault → R.may_have_failed reader.new) }
     ensures failed { IfErr result (λ fault. fault ≡ ImportFault.Unserved StoreFailed → K.may_fail) }
 {
     let bonds = match read_inventory(alloc, reader) {
@@ -103,7 +105,7 @@ pub fn import_inventory<K: Keeper, R: Read>(
 
 /// Writes the file of the unpaid bonds whose owner is this customer, in order of serial, and answers how
 /// many they are. Memory is taken before the first byte.
-pub fn export_inventory<K: Keeper, W: Write>(
+pub fn export_inventory<K: Keeper, W: Sink>(
     alloc: Global,
     keeper: &mut K,
     customer: Customer,
@@ -112,6 +114,7 @@ pub fn export_inventory<K: Keeper, W: Write>(
     ensures clean { K.is_clean keeper.new → K.is_clean keeper.old }
     ensures exports { K.is_clean keeper.new → (c : Content) → K.has keeper.old c
         → Exports (W.contents writer.old) (W.contents writer.new) customer c result (K.has keeper.new) }
+    ensures device { IfErr result (λ fault. fault ≡ ExportFault.WriteFailed → W.may_have_failed writer.new) }
     ensures failed { IfErr result (λ fault. fault ≡ ExportFault.Unserved StoreFailed → K.may_fail) }
 {
     let bonds = match keeper.bonds_of(customer) {

@@ -23,6 +23,18 @@ more_written old mid new text front rest n parts before after =
       appends_both old mid new front (take n rest) before after,
     )
 
+-- one more write that didn't take the whole rest
+pub front_written : (old mid new : Option (List ℕ)) (text front rest : List ℕ) (n : ℕ) → text ≡ front ++ rest → Appends old mid front → Appends mid new (take n rest)
+    → n < length rest → WritesFront old new text false
+front_written old mid new text front rest n parts before after few = record {
+  front = front ++ take n rest;
+  rest = drop n rest;
+  parts = parts ∙ ap (λ z. front ++ z) (sym (take-append-drop n rest)) ∙ sym (append_assoc front (take n rest) (drop n rest));
+  written = appends_both old mid new front (take n rest) before after;
+  whole = λ e. absurd (true≢false (sym e));
+  cut = λ _ none. omega (arith, few, ap length none, length-drop n rest);
+}
+
 -- a text that is not empty, with another after it
 not_empty : (xs ys : List ℕ) → xs ≢ [] → xs ++ ys ≢ []
 not_empty [] ys some e = some refl

@@ -1,5 +1,5 @@
 -- What a writer has taken of a text (this project's rule: no failed write is tried again).
-use Rattle.std.specs.Prelude.{◌≡◌, ◌≢◌, ℕ, List, [], ◌++◌, Option, Bool, true, false}
+use Rattle.std.specs.Prelude.{◌≡◌, ◌≢◌, ℕ, List, [], ◌++◌, Option, Bool, true, false, Result, Ok, Err, ⊤}
 use Rattle.std.specs.Io.KnownBytes.{Appends}
 
 -- a writer took the front of the text: all of it where it was done, and else not all of it
@@ -10,3 +10,8 @@ pub record WritesFront (old new : Option (List ℕ)) (text : List ℕ) (done : B
   pub written : Appends old new front
   pub whole : done ≡ true → front ≡ text
   pub cut : done ≡ false → rest ≢ []
+
+-- a write took no byte, or failed
+abbrev pub TakesNone : {E : Type 0} → Result ℕ E → Type 0
+TakesNone (Ok n) = n ≡ 0
+TakesNone (Err e) = ⊤

@@ -1,10 +1,10 @@
 //! Reading a source whole.
 
-ghost use Rattle.std.specs.Prelude.{◌≡◌, ◌+◌, ◌≤◌, ℕ, List, Some, IfOk, length};
+ghost use Rattle.std.specs.Prelude.{◌≡◌, ◌+◌, ◌≤◌, ℕ, List, Some, IfOk, IfErr, length};
 ghost use Rattle.ee_device.specs.ReadWhole.{ReadsWhole, TakesAtMost};
 
+use crate::source::Source;
 use std::alloc::Global;
-use std::io::Read;
 use thiserror::Error;
 
 /// Why a source was not read whole.
@@ -24,16 +24,21 @@ pub enum ReadFault {
 /// All that the reader has left, where that is at most `most` bytes. The first failed read ends it,
 /// with no second try; an interrupted read is a failed one. Of a longer source `most + 1` bytes are
 /// taken, of no source more.
-pub fn read_whole<R: Read>(alloc: Global, reader: &mut R, most: usize) -> Result<Vec<u8>, ReadFault>
+pub fn read_whole<R: Source>(
+    alloc: Global,
+    reader: &mut R,
+    most: usize,
+) -> Result<Vec<u8>, ReadFault>
     ensures whole { (source : List ℕ) → R.remaining reader.old ≡ Some source → ReadsWhole (λ v. v.items) most source result }
     ensures taken { (source : List ℕ) → R.remaining reader.old ≡ Some source → TakesAtMost (most + 1) source (R.remaining reader.new) }
     ensures few { IfOk result (λ v. length v.items ≤ most) }
+    ensures failed { IfErr result (λ fault. fault ≡ ReadFault.ReadFailed → R.may_have_failed reader.new) }
 {
     let mut bytes = Vec::new(alloc);
     let mut chunk = [0u8; 4096];
     while bytes.len() <= most {
         let room = chunk.len().min((most - bytes.len()).saturating_add(1));
-        let Ok(count) = reader.read(&mut chunk[..room]) else {
+        let Ok(count) = reader.read_once(&mut chunk[..room]) else {
             return Err(ReadFault::ReadFailed);
         };
         if count == 0 {

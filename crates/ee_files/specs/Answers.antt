@@ -1,5 +1,5 @@
 -- What a call answers of a file.
-use Rattle.std.specs.Prelude.{◌≡◌, ℕ, List, Option, Result, Ok, Err, true, false, ⊤}
+use Rattle.std.specs.Prelude.{◌≡◌, ◌≢◌, ℕ, List, Option, Result, Ok, Err, true, false, ⊤}
 use Rattle.ee_device.specs.Written.{WritesFront}
 use Rattle.ee_files.specs.declared.faults.FileCode.{FileCode}
 use Rattle.ee_files.specs.declared.faults.FileCode.TheVariants as code
@@ -24,6 +24,10 @@ TellsNothing code.BadHeader = ⊥
 TellsNothing code.WrongFieldCount = ⊥
 TellsNothing (code.BadValue column) = ⊥
 TellsNothing code.FileTooLong = ⊥
+
+-- the fault says nothing of a failed read
+abbrev pub WasRead : FileFault → Type 0
+WasRead e = e.code ≢ code.ReadFailed
 
 abbrev pub Unreadable : FileFault → Type 0
 Unreadable e = (e.row ≡ 1) × TellsNothing e.code

@@ -12,20 +12,20 @@ use crate::faults::WriteFault;
 use crate::ranges::in_range;
 use csv::{Writer, WriterBuilder};
 use ee_calculator::Bond;
-use ee_device::write_whole;
+use ee_device::{Sink, write_whole};
 use ee_units::Customer;
 use std::alloc::{AllocError, Global};
-use std::io::Write;
 
 /// Writes an inventory file: the header, and a line for each bond in the order given. Memory is taken
 /// before the first byte. Where the writer fails, it has taken a front of the file. Each bond's values are
 /// in range, by their types, so the file of up to 500 bonds reads back as they are: `inventory_law`.
-pub fn write_inventory<W: Write>(
+pub fn write_inventory<W: Sink>(
     alloc: Global,
     writer: &mut W,
     bonds: &[Bond],
 ) -> Result<(), WriteFault>
     ensures writes { Writes W.contents writer.old writer.new (inventory_text bonds.now) result }
+    ensures failed { IfErr result (λ fault. fault ≡ WriteFault.WriteFailed → W.may_have_failed writer.new) }
     ensures in_range { All IsBond bonds.now }
 {
     in_range(bonds);

@@ -1,9 +1,10 @@
 //! The values of fields.
 
-ghost use Rattle.std.specs.Prelude.{◌≡◌, option_map};
+ghost use Rattle.std.specs.Prelude.{◌≡◌, IfErr, option_map};
 ghost use Rattle.std.specs.Option.{ok_or};
 ghost use Rattle.ee_units.specs.Denoms.{denom_of};
 ghost use Rattle.ee_units.specs.Spelling.{customer_of, issue_of, rate_of, serial_of};
+ghost use Rattle.ee_files.specs.Answers.{WasRead};
 ghost use Rattle.ee_files.specs.BondFile.{coowner_of};
 ghost use Rattle.ee_files.specs.RateFile.{extension_of};
 ghost use Rattle.ee_files.specs.Fields.{field_value, text_of};
@@ -18,7 +19,8 @@ use std::str;
 
 /// The value, or the fault that this column's field of this row spells none.
 pub fn value_or_fault<T>(value: Option<T>, row: u64, column: Column) -> Result<T, FileFault>
-    ensures { result ≡ ok_or value (record { row = row; code = FileCode.BadValue column }) }
+    ensures gives { result ≡ ok_or value (record { row = row; code = FileCode.BadValue column }) }
+    ensures read { IfErr result WasRead }
 {
     value.ok_or(FileFault {
         row,

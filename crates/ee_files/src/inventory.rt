@@ -1,9 +1,9 @@
 //! Inventory files.
 
-ghost use Rattle.std.specs.Prelude.{◌≡◌, ℕ, List, [], ◌∷◌, Some};
+ghost use Rattle.std.specs.Prelude.{◌≡◌, ℕ, List, [], ◌∷◌, Some, IfErr};
 ghost use Rattle.csv.specs.Records.{fields_of};
 ghost use Rattle.ee_device.specs.ReadWhole.{TakesAtMost};
-ghost use Rattle.ee_files.specs.Answers.{Gives};
+ghost use Rattle.ee_files.specs.Answers.{Gives, WasRead};
 ghost use Rattle.ee_files.specs.BondFile.{bond_columns, bond_entry, bonds_of_file};
 
 use crate::columns::Column;
@@ -13,19 +13,20 @@ use crate::headers::is_bond_header;
 use crate::records::{FileRow, read_rows};
 use csv::ByteRecord;
 use ee_calculator::Bond;
+use ee_device::Source;
 use std::alloc::Global;
-use std::io::Read;
 
 /// The first 501 bonds of an inventory file, or its first fault: the header
 /// `serial,denom,issued,owner,coowner`, and a record for each bond, with an empty coowner for none. The
 /// file is read whole first; a failed or interrupted read is `ReadFailed`, and want of memory `NoMemory`.
 /// At most 1,048,577 bytes are taken from the reader, one more than a file may have; it keeps those that
 /// follow them.
-pub fn read_inventory<R: Read>(alloc: Global, reader: &mut R) -> Result<Vec<Bond>, FileFault>
+pub fn read_inventory<R: Source>(alloc: Global, reader: &mut R) -> Result<Vec<Bond>, FileFault>
     ensures gives { (source : List ℕ) → R.remaining reader.old ≡ Some source
         → Gives (λ v. v.items) result (bonds_of_file source) }
     ensures takes { (source : List ℕ) → R.remaining reader.old ≡ Some source
         → TakesAtMost 1048577 source (R.remaining reader.new) }
+    ensures failed { IfErr result (λ fault. fault.code ≡ FileCode.ReadFailed → R.may_have_failed reader.new) }
 {
     read_rows(alloc, reader)
 }
@@ -46,7 +47,8 @@ impl FileRow for Bond {
 
 #[tactic(auto, unfolding(crate::specs::BondFile::bond_entry))]
 fn bond_row(fields: &ByteRecord, row: u64) -> Result<Bond, FileFault>
-    ensures { Gives (λ row. row) result (bond_entry row (fields_of fields.now)) }
+    ensures gives { Gives (λ row. row) result (bond_entry row (fields_of fields.now)) }
+    ensures read { IfErr result WasRead }
 {
     if fields.len() != 5 {
         return Err(FileFault {

@@ -1,9 +1,9 @@
 //! Rate files.
 
-ghost use Rattle.std.specs.Prelude.{◌≡◌, ℕ, List, [], ◌∷◌, Some};
+ghost use Rattle.std.specs.Prelude.{◌≡◌, ℕ, List, [], ◌∷◌, Some, IfErr};
 ghost use Rattle.csv.specs.Records.{fields_of};
 ghost use Rattle.ee_device.specs.ReadWhole.{TakesAtMost};
-ghost use Rattle.ee_files.specs.Answers.{Gives};
+ghost use Rattle.ee_files.specs.Answers.{Gives, WasRead};
 ghost use Rattle.ee_files.specs.RateFile.{rate_columns, extended_columns, extension_at, rate_entry, rates_of_file};
 
 use crate::columns::Column;
@@ -12,21 +12,22 @@ use crate::fields::{extension_in, issue_in, rate_in, value_or_fault};
 use crate::headers::is_rate_header;
 use crate::records::{FileRow, read_rows};
 use csv::ByteRecord;
+use ee_device::Source;
 use ee_units::Rate;
 use ee_value::{RateRow, Rates};
 use std::alloc::Global;
-use std::io::Read;
 
 /// The first 501 rows of a rate file, or its first fault: the header `from,rate` or
 /// `from,rate,extension`, and a record for each row, where an empty extension is the rate. The file is
 /// read whole first; a failed or interrupted read is `ReadFailed`, and want of memory `NoMemory`. At most
 /// 1,048,577 bytes are taken from the reader, one more than a file may have; it keeps those that follow
 /// them.
-pub fn read_rates<R: Read>(alloc: Global, reader: &mut R) -> Result<Vec<RateRow>, FileFault>
+pub fn read_rates<R: Source>(alloc: Global, reader: &mut R) -> Result<Vec<RateRow>, FileFault>
     ensures gives { (source : List ℕ) → R.remaining reader.old ≡ Some source
         → Gives (λ v. v.items) result (rates_of_file source) }
     ensures takes { (source : List ℕ) → R.remaining reader.old ≡ Some source
         → TakesAtMost 1048577 source (R.remaining reader.new) }
+    ensures failed { IfErr result (λ fault. fault.code ≡ FileCode.ReadFailed → R.may_have_failed reader.new) }
 {
     read_rows(alloc, reader)
 }
@@ -47,7 +48,8 @@ impl FileRow for RateRow {
 
 #[tactic(auto, unfolding(crate::specs::RateFile::rate_entry))]
 fn rate_row(fields: &ByteRecord, width: usize, row: u64) -> Result<RateRow, FileFault>
-    ensures { Gives (λ row. row) result (rate_entry width row (fields_of fields.now)) }
+    ensures gives { Gives (λ row. row) result (rate_entry width row (fields_of fields.now)) }
+    ensures read { IfErr result WasRead }
 {
     if fields.len() != width {
         return Err(FileFault {
@@ -66,7 +68,8 @@ fn rate_row(fields: &ByteRecord, width: usize, row: u64) -> Result<RateRow, File
 
 // The extension of a record, under a header that has one.
 fn extension(fields: &ByteRecord, width: usize, row: u64) -> Result<Option<Rate>, FileFault>
-    ensures { result ≡ extension_at width row (fields_of fields.now) }
+    ensures gives { result ≡ extension_at width row (fields_of fields.now) }
+    ensures read { IfErr result WasRead }
 {
     if width == 3 {
         value_or_fault(extension_in(fields.get(2)), row, Column::Extension)

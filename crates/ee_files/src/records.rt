@@ -4,7 +4,7 @@ ghost use Rattle.std.specs.Prelude.{◌≡◌, ℕ, List, Some, Result, IfOk, If
 ghost use Rattle.csv.specs.Reading.{default_config, records, strip_bom};
 ghost use Rattle.csv.specs.Records.{fields_of};
 ghost use Rattle.ee_device.specs.ReadWhole.{TakesAtMost};
-ghost use Rattle.ee_files.specs.Answers.{Gives, Unreadable};
+ghost use Rattle.ee_files.specs.Answers.{Gives, Unreadable, WasRead};
 ghost use Rattle.ee_files.specs.Left.{HasLeft, TakesNext};
 ghost use Rattle.ee_files.specs.Rows.{is_header, rows_from, rows_of_file, rows_of_records};
 ghost use Rattle.ee_files.specs.declared.columns.Column.{Column};
@@ -12,9 +12,8 @@ ghost use Rattle.ee_files.specs.declared.faults.FileFault.{FileFault};
 
 use crate::faults::{FileCode, FileFault};
 use csv::{ByteRecord, Reader, ReaderBuilder};
-use ee_device::{ReadFault, read_whole};
+use ee_device::{ReadFault, Source, read_whole};
 use std::alloc::Global;
-use std::io::Read;
 
 /// A file of more bytes isn't read; at most one byte more is taken of it.
 pub const MOST_BYTES: usize = 1_048_576;
@@ -31,7 +30,8 @@ pub trait FileRow: Copy + Drop {
 
     /// The row of one record under a header of so many fields, or the first fault from the left.
     fn from_record(fields: &ByteRecord, width: usize, row: u64) -> Result<Self, FileFault>
-        ensures { Gives (λ row. row) result (entry width row (fields_of fields.now)) };
+        ensures gives { Gives (λ row. row) result (entry width row (fields_of fields.now)) }
+        ensures read { IfErr result WasRead };
 }
 
 const fn unreadable(code: FileCode) -> FileFault
@@ -40,15 +40,16 @@ const fn unreadable(code: FileCode) -> FileFault
     FileFault { row: 1, code }
 }
 
+// The bytes are in memory, so that an error is want of memory.
 fn next_record(records: &mut Reader<&[u8]>, fields: &mut ByteRecord) -> Result<bool, FileFault>
     ensures ok { IfOk result (λ found. (rest : List (List (List ℕ))) → HasLeft records.old rest → TakesNext records.new rest found (fields_of fields.new)) }
     ensures err { IfErr result Unreadable }
+    ensures read { IfErr result WasRead }
 {
-    match records.read_byte_record(fields) {
-        Ok(found) => Ok(found),
-        Err(error) if error.is_io_error() => Err(unreadable(FileCode::ReadFailed)),
-        Err(_) => Err(unreadable(FileCode::NoMemory)),
-    }
+    let Ok(found) = records.read_byte_record(fields) else {
+        return Err(unreadable(FileCode::NoMemory));
+    };
+    Ok(found)
 }
 
 // The rows of the records that are left, at most 501.
@@ -57,8 +58,9 @@ fn rows_under_header<T: FileRow>(
     records: &mut Reader<&[u8]>,
     width: usize,
 ) -> Result<Vec<T>, FileFault>
-    ensures { (rest : List (List (List ℕ))) → HasLeft records.old rest
+    ensures gives { (rest : List (List (List ℕ))) → HasLeft records.old rest
         → Gives (λ v. v.items) result (rows_from (T.entry width) 2 501 rest) }
+    ensures read { IfErr result WasRead }
 {
     let mut rows = Vec::new(alloc);
     let mut fields = ByteRecord::new(alloc);
@@ -86,8 +88,9 @@ fn reader_of(alloc: Global, bytes: &[u8]) -> Reader<&[u8]>
 
 #[tactic(auto, unfolding(crate::specs::Rows::rows_of_records))]
 fn rows_in<T: FileRow>(alloc: Global, bytes: &[u8]) -> Result<Vec<T>, FileFault>
-    ensures { Gives (λ v. v.items) result
+    ensures gives { Gives (λ v. v.items) result
         (rows_of_records T.headers T.entry (records default_config (strip_bom bytes.now))) }
+    ensures read { IfErr result WasRead }
 {
     let mut records = reader_of(alloc, bytes);
     let mut header = ByteRecord::new(alloc);
@@ -105,11 +108,12 @@ fn rows_in<T: FileRow>(alloc: Global, bytes: &[u8]) -> Result<Vec<T>, FileFault>
 
 /// The rows of a file, which is read whole first: one byte more than a file may have is taken at most.
 #[tactic(auto, unfolding(crate::specs::Rows::rows_of_file))]
-pub fn read_rows<T: FileRow, R: Read>(alloc: Global, reader: &mut R) -> Result<Vec<T>, FileFault>
+pub fn read_rows<T: FileRow, R: Source>(alloc: Global, reader: &mut R) -> Result<Vec<T>, FileFault>
     ensures gives { (source : List ℕ) → R.remaining reader.old ≡ Some source
         → Gives (λ v. v.items) result (rows_of_file T.headers T.entry source) }
     ensures takes { (source : List ℕ) → R.remaining reader.old ≡ Some source
         → TakesAtMost 1048577 source (R.remaining reader.new) }
+    ensures failed { IfErr result (λ fault. fault.code ≡ FileCode.ReadFailed → R.may_have_failed reader.new) }
 {
     match read_whole(alloc, reader, MOST_BYTES) {
         Ok(bytes) => rows_in(alloc, &bytes),

@@ -1,6 +1,6 @@
 //! Writing the bytes of an answer.
 
-ghost use Rattle.std.specs.Prelude.{◌≡◌, ◌≢◌, IfOk, Err, is_some, true};
+ghost use Rattle.std.specs.Prelude.{◌≡◌, ◌≢◌, IfOk, IfErr, Err, is_some, true};
 ghost use Rattle.ee_wire.specs.Answers.{status_of, kind_of, body_of, whole_text, answer_text, unserved_in, WritesAnswer};
 ghost use Rattle.ee_wire.specs.declared.answers.Answer.TheVariants as answer;
 ghost use Rattle.ee_wire.specs.declared.answers.WriteEnd.TheVariants as written;
@@ -9,10 +9,9 @@ use crate::answers::{Answer, WriteEnd};
 use crate::bodies::body_bytes;
 use crate::heads::head_text;
 use ee_desk_acts::Unserved;
-use ee_device::write_whole;
+use ee_device::{Sink, write_whole};
 use ee_wire_calls::WireFault;
 use std::alloc::{AllocError, Global};
-use std::io::Write;
 
 /// Why the answer says that nothing was served, where it does.
 fn unserved_in(answer: &Answer) -> Option<Unserved>
@@ -50,8 +49,9 @@ fn whole_bytes(alloc: Global, answer: &Answer, closes: bool) -> Result<Vec<u8>, 
     Ok(text)
 }
 
-fn write_text<W: Write>(writer: &mut W, text: &[u8]) -> Result<(), WriteEnd>
+fn write_text<W: Sink>(writer: &mut W, text: &[u8]) -> Result<(), WriteEnd>
     ensures written { WritesAnswer text.now (W.contents writer.old) (W.contents writer.new) result }
+    ensures failed { IfErr result (λ end. end ≡ written.WriteFailed → W.may_have_failed writer.new) }
     ensures spare { result ≢ Err written.NoMemory }
 {
     if write_whole(writer, text) {
@@ -65,13 +65,14 @@ fn write_text<W: Write>(writer: &mut W, text: &[u8]) -> Result<(), WriteEnd>
 /// (`closing`, or a framing fault), and its body. Where the writer fails, it has taken a front of the
 /// answer. Where a growth is refused, nothing is written; `Unserved`, and the fault `NoMemory`, which
 /// is told as it, take no memory.
-pub fn write_reply<W: Write>(
+pub fn write_reply<W: Sink>(
     alloc: Global,
     writer: &mut W,
     answer: &Answer,
     closing: bool,
 ) -> Result<(), WriteEnd>
     ensures written { WritesAnswer (answer_text answer.now closing) (W.contents writer.old) (W.contents writer.new) result }
+    ensures failed { IfErr result (λ end. end ≡ written.WriteFailed → W.may_have_failed writer.new) }
     ensures untouched { result ≡ Err written.NoMemory → writer.new ≡ writer.old }
     ensures spare { is_some (unserved_in answer.now) ≡ true → result ≢ Err written.NoMemory }
 {

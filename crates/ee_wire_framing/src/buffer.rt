@@ -1,14 +1,14 @@
 //! Messages out of a reader, however it cuts the bytes.
-ghost use Rattle.std.specs.Prelude.{◌≡◌, ◌≤◌, ◌<◌, ◌+◌, [], length, take, drop, slice_range, IfSome, Some, None};
+ghost use Rattle.std.specs.Prelude.{◌≡◌, ◌≤◌, ◌<◌, ◌+◌, [], length, take, drop, slice_range, IfSome, IfErr, Some, None};
 ghost use Rattle.ee_wire_framing.specs.Framing.{most_head, most_body, most_held};
 ghost use Rattle.ee_wire_framing.specs.Reading.{Answers, Takes, Settles, IsFront, ReadsMore, NeedsMore, EndsAt, stop_of, answer_of};
 
 use crate::front::{Front, Progress, judge_front, learn, read_front};
 use crate::head::Lines;
 use crate::{CHUNK, FEW_HEADERS, FramingFault};
+use ee_device::Source;
 use httparse::spans::{EMPTY_HEADER_SPAN, HeaderSpan, Span};
 use std::alloc::Global;
-use std::io::Read;
 use std::marker::Model;
 
 /// How a stream ended, which each later call answers again.
@@ -165,16 +165,17 @@ impl Buffer {
     }
 
     /// One read.
-    fn read_more<R: Read>(&mut self, reader: &mut R) -> Result<usize, ReadFault>
+    fn read_more<R: Source>(&mut self, reader: &mut R) -> Result<usize, ReadFault>
         requires none { self.old.shown ≡ [] }
         requires room { length self.old.held < most_head + most_body }
-        ensures { ReadsMore self.old (R.remaining reader.old) result self.new (R.remaining reader.new) }
+        ensures reads { ReadsMore self.old (R.remaining reader.old) result self.new (R.remaining reader.new) }
+        ensures failed { IfErr result (λ fault. fault ≡ ReadFault.Failed → R.may_have_failed reader.new) }
     {
         let mut chunk = [0u8; CHUNK];
         if self.bytes.reserve(CHUNK).is_err() {
             return Err(ReadFault::NoMemory);
         }
-        match reader.read(&mut chunk) {
+        match reader.read_once(&mut chunk) {
             Ok(n) => match self.bytes.extend_from_slice(&chunk[..n]) {
                 Ok(()) => Ok(n),
                 Err(_) => unreachable!(),
@@ -188,13 +189,14 @@ impl Buffer {
 /// 4,096 bytes at a time, only while what it holds decides nothing. A line of a head is tested when
 /// it has come, and not again as more comes; a head that came in pieces is read once more, as a
 /// whole. The parts of the message stay in the buffer until the next call.
-pub fn next_message<R: Read>(reader: &mut R, buffer: &mut Buffer) -> Result<Next, WireEnd>
+pub fn next_message<R: Source>(reader: &mut R, buffer: &mut Buffer) -> Result<Next, WireEnd>
     ensures answers { buffer.old.ended ≡ None
         → Answers buffer.old (R.remaining reader.old) result buffer.new (R.remaining reader.new) }
     ensures takes { buffer.old.ended ≡ None
         → Takes buffer.old (R.remaining reader.old) buffer.new (R.remaining reader.new) }
     ensures settles { buffer.old.ended ≡ None → Settles result buffer.new (R.remaining reader.new) }
     ensures ended { buffer.old.ended ≡ None → buffer.new.ended ≡ stop_of result }
+    ensures failed { buffer.old.ended ≡ None → IfErr result (λ end. end ≡ WireEnd.ReadFailed → R.may_have_failed reader.new) }
     ensures unread { buffer.old.ended ≡ None → ¬ (NeedsMore buffer.old.held) → reader.new ≡ reader.old }
     ensures again { IfSome buffer.old.ended (λ stop. (result ≡ answer_of stop)
         × (buffer.new ≡ buffer.old) × (reader.new ≡ reader.old)) }

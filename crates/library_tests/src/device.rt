@@ -1,7 +1,9 @@
 //! Tests of reading and writing whole.
 
+ghost use Rattle.std.specs.Prelude.{⊤};
+
 use crate::comparing::{Cases, compare, same};
-use ee_device::{ReadFault, read_whole, write_whole};
+use ee_device::{ReadFault, Sink, read_whole, write_whole};
 use std::alloc::Global;
 use std::io::{self, ErrorKind, Read, Write};
 use std::test::Fail;
@@ -54,6 +56,14 @@ impl Write for Device {
 
     fn flush(&mut self) -> io::Result<()> {
         Ok(())
+    }
+}
+
+impl Sink for Device {
+    ghost may_have_failed = { λ _. ⊤ };
+
+    fn write_once(&mut self, text: &[u8]) -> io::Result<usize> {
+        self.write(text)
     }
 }
 
@@ -156,6 +166,14 @@ impl Read for Source<'_> {
         buf[..count].copy_from_slice(&self.bytes[..count]);
         self.bytes = &self.bytes[count..];
         Ok(count)
+    }
+}
+
+impl ee_device::Source for Source<'_> {
+    ghost may_have_failed = { λ _. ⊤ };
+
+    fn read_once(&mut self, buf: &mut [u8]) -> io::Result<usize> {
+        self.read(buf)
     }
 }
 

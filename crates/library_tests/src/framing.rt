@@ -1,6 +1,9 @@
 //! Tests of messages in a stream of bytes.
 
+ghost use Rattle.std.specs.Prelude.{⊤};
+
 use crate::comparing::{Cases, add_times, alike, bytes_of, compare, same};
+use ee_device::Source;
 use ee_wire_framing::{Buffer, Message, Next, WireEnd, next_message};
 use std::alloc::Global;
 use std::fmt::Write;
@@ -47,6 +50,14 @@ impl<'a> Read for Pieces<'a> {
         buf[..count].copy_from_slice(&self.bytes[..count]);
         self.bytes = &self.bytes[count..];
         Ok(count)
+    }
+}
+
+impl<'a> Source for Pieces<'a> {
+    ghost may_have_failed = { λ _. ⊤ };
+
+    fn read_once(&mut self, buf: &mut [u8]) -> io::Result<usize> {
+        self.read(buf)
     }
 }
 

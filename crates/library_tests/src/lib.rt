@@ -17,6 +17,8 @@ mod files;
 #[cfg(test)]
 mod framing;
 #[cfg(test)]
+mod memory;
+#[cfg(test)]
 mod roots;
 #[cfg(test)]
 mod texts;

@@ -1,9 +1,12 @@
 //! Lines that ask for values, for help or for nothing that the program does, and what is printed where the output fails. The
 //! values are worked by hand from the rules of 31 CFR Part 351.
 
+ghost use Rattle.std.specs.Prelude.{⊤};
+
 use crate::commands::{InMemory, prints, run, tells, words};
 use crate::comparing::{holds, parts, same};
 use ee_cli_program::{refuse_words, run_words};
+use ee_device::Sink;
 use std::alloc::Global;
 use std::io::{self, ErrorKind, Write};
 use std::process::Abort;
@@ -153,6 +156,14 @@ impl Write for Failing {
 
     fn flush(&mut self) -> io::Result<()> {
         Ok(())
+    }
+}
+
+impl Sink for Failing {
+    ghost may_have_failed = { λ _. ⊤ };
+
+    fn write_once(&mut self, text: &[u8]) -> io::Result<usize> {
+        self.write(text)
     }
 }
 

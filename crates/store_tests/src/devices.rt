@@ -1,5 +1,8 @@
 //! Readers and writers that cut and fail.
 
+ghost use Rattle.std.specs.Prelude.{⊤};
+
+use ee_device::Sink;
 use std::alloc::Global;
 use std::io::{self, ErrorKind, Read, Write};
 
@@ -59,6 +62,14 @@ impl Read for Source<'_> {
     }
 }
 
+impl ee_device::Source for Source<'_> {
+    ghost may_have_failed = { λ _. ⊤ };
+
+    fn read_once(&mut self, buf: &mut [u8]) -> io::Result<usize> {
+        self.read(buf)
+    }
+}
+
 /// Takes at most `step` bytes a write, and fails once it has `room` bytes.
 #[derive(Drop)]
 pub struct Narrow {
@@ -98,5 +109,13 @@ impl Write for Narrow {
 
     fn flush(&mut self) -> io::Result<()> {
         Ok(())
+    }
+}
+
+impl Sink for Narrow {
+    ghost may_have_failed = { λ _. ⊤ };
+
+    fn write_once(&mut self, text: &[u8]) -> io::Result<usize> {
+        self.write(text)
     }
 }

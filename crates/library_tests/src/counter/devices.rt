@@ -1,5 +1,7 @@
 //! A reader that cuts.
 
+ghost use Rattle.std.specs.Prelude.{⊤};
+
 use std::io::{self, Read};
 
 /// Hands out at most `step` bytes a read; `bytes` are left.
@@ -21,5 +23,13 @@ impl Read for Source<'_> {
         buf[..count].copy_from_slice(&self.bytes[..count]);
         self.bytes = &self.bytes[count..];
         Ok(count)
+    }
+}
+
+impl ee_device::Source for Source<'_> {
+    ghost may_have_failed = { λ _. ⊤ };
+
+    fn read_once(&mut self, buf: &mut [u8]) -> io::Result<usize> {
+        self.read(buf)
     }
 }

@@ -78,3 +78,15 @@ returns-in-Err-WriteFailed-clause-few g c = omega (arith, c.requires.few)
 
 pub returns-clause-few : goal.returns-clause-few
 returns-clause-few g c = omega (arith, c.requires.few)
+
+pub returns-in-Ok-clause-device : goal.returns-in-Ok-clause-device
+returns-in-Ok-clause-device g c = tt
+
+pub returns-in-Ok-2-clause-device : goal.returns-in-Ok-2-clause-device
+returns-in-Ok-2-clause-device g c = tt
+
+pub returns-in-Err-WriteFailed-clause-device : goal.returns-in-Err-WriteFailed-clause-device
+returns-in-Err-WriteFailed-clause-device g c = c.in-Err-WriteFailed.ensures.failed c.in-Err-WriteFailed.field-0-is
+
+pub returns-clause-device : goal.returns-clause-device
+returns-clause-device g c = tt

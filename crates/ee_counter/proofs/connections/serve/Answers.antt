@@ -37,3 +37,9 @@ returns-clause-serves g c = λ clean d has.
     serves_limit (g.R.Read.remaining c.args.reader.now) (g.R.Read.remaining c.loop-messages.reader)
     (g.W.Write.contents c.args.writer.now) (g.W.Write.contents c.loop-messages.writer) c.loop-messages.buffer.held d c.loop-messages.messages c.loop-messages.store_failed (g.K.Keeper.has c.loop-messages.keeper)
     (omega arith) (c.loop-messages.invariant.so_far clean d has)
+
+pub returns-in-Break-clause-device : goal.returns-in-Break-clause-device
+returns-in-Break-clause-device g c = c.in-Break.ensures.device
+
+pub returns-clause-device : goal.returns-clause-device
+returns-clause-device g c = tt

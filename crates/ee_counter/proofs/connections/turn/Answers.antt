@@ -2,7 +2,7 @@ use Rattle.std.proofs.Common.{◌≡◌, subst, Ok, Err}
 use Rattle.ee_wire_framing.specs.declared.buffer.Next.{Next}
 use Rattle.ee_wire_framing.specs.declared.buffer.WireEnd.{WireEnd}
 use Rattle.ee_wire_framing.specs.Reading.{Settles, stop_of}
-use Rattle.ee_counter.proofs.Turns.{goes_on, turn_closed, turn_failed, turn_refused, turn_starved, turn_told}
+use Rattle.ee_counter.proofs.Turns.{goes_on, turn_closed, turn_failed, turn_refused, turn_starved, turn_told, writer_alone, writer_in_flow}
 use Rattle.ee_counter.proofs.connections.turn.Goals as goal
 
 pub returns-in-Ok-Message-clause-turns : goal.returns-in-Ok-Message-clause-turns
@@ -54,3 +54,20 @@ pub returns-in-Ok-Message-clause-open : goal.returns-in-Ok-Message-clause-open
 returns-in-Ok-Message-clause-open g c =
     goes_on c.answer_one.result
     (subst (λ (x : Next). c.next_message.new.buffer.ended ≡ stop_of (Ok x)) c.in-Ok-Message.field-0-is (c.in-Ok-Message.ensures.ended c.requires.open))
+
+pub returns-in-Ok-Message-clause-device : goal.returns-in-Ok-Message-clause-device
+returns-in-Ok-Message-clause-device g c =
+    writer_in_flow (g.R.Source.may_have_failed c.next_message.new.reader) (g.W.Sink.may_have_failed c.answer_one.new.writer) c.answer_one.result c.answer_one.ensures.device
+
+pub returns-in-Ok-End-clause-device : goal.returns-in-Ok-End-clause-device
+returns-in-Ok-End-clause-device g c = tt
+
+pub returns-in-Err-Fault-clause-device : goal.returns-in-Err-Fault-clause-device
+returns-in-Err-Fault-clause-device g c =
+    writer_alone (g.R.Source.may_have_failed c.next_message.new.reader) (g.W.Sink.may_have_failed c.refuse.new.writer) c.refuse.result.why c.refuse.ensures.device
+
+pub returns-in-Err-ReadFailed-clause-device : goal.returns-in-Err-ReadFailed-clause-device
+returns-in-Err-ReadFailed-clause-device g c = c.in-Err-ReadFailed.ensures.failed c.requires.open c.in-Err-ReadFailed.field-0-is
+
+pub returns-in-Err-NoMemory-clause-device : goal.returns-in-Err-NoMemory-clause-device
+returns-in-Err-NoMemory-clause-device g c = tt

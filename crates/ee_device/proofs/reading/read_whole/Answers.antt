@@ -16,3 +16,6 @@ returns-then-count-eq0-clause-whole g c = grind (arith, common_steps)
 
 pub returns-then-count-eq0-clause-taken : goal.returns-then-count-eq0-clause-taken
 returns-then-count-eq0-clause-taken g c = grind (arith, common_steps)
+
+pub returns-then-count-eq0-clause-failed : goal.returns-then-count-eq0-clause-failed
+returns-then-count-eq0-clause-failed g c = tt

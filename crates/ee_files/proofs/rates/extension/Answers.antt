@@ -1,5 +1,5 @@
 use Rattle.std.proofs.Common.{rules}
 use Rattle.ee_files.proofs.rates.extension.Goals as goal
 
-pub returns-else-width-eq3 : goal.returns-else-width-eq3
-returns-else-width-eq3 c = search rules
+pub returns-else-width-eq3-clause-gives : goal.returns-else-width-eq3-clause-gives
+returns-else-width-eq3-clause-gives c = search rules

@@ -21,3 +21,6 @@ returns-in-Ok-clause-gives g c = search rules
 pub returns-in-Err-TooLong-clause-gives : goal.returns-in-Err-TooLong-clause-gives
 unfolding rows_of_file
 returns-in-Err-TooLong-clause-gives g c = search rules
+
+pub returns-in-Err-NoMemory-clause-failed : goal.returns-in-Err-NoMemory-clause-failed
+returns-in-Err-NoMemory-clause-failed g c = search rules

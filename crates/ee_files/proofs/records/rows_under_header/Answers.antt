@@ -6,8 +6,8 @@ use Rattle.ee_files.specs.Rows.{rows_from}
 use Rattle.ee_files.proofs.Entries.{at_end, fails_as, fault_here, no_more, no_room, one_more, took, with_front}
 use Rattle.ee_files.proofs.records.rows_under_header.Goals as goal
 
-pub returns-then-not-branch : goal.returns-then-not-branch
-returns-then-not-branch g c = λ all h.
+pub returns-then-not-branch-clause-gives : goal.returns-then-not-branch-clause-gives
+returns-then-not-branch-clause-gives g c = λ all h.
     let entry = g.T.FileRow.entry c.args.width in
     let (rest, left, whole) = c.loop-row.invariant all h in
     let takes = c.in_ok-next_record.ensures.ok rest left in
@@ -15,8 +15,8 @@ returns-then-not-branch g c = λ all h.
     let front = c.loop-row.rows.items in
     sym whole ∙ ap (λ xs. with_front front (rows_from entry c.loop-row.row (503 - c.loop-row.row) xs)) none ∙ no_more entry c.loop-row.row (503 - c.loop-row.row) front
 
-pub returns-in_err-entry : goal.returns-in_err-entry
-returns-in_err-entry g c = λ all h.
+pub returns-in_err-entry-clause-gives : goal.returns-in_err-entry-clause-gives
+returns-in_err-entry-clause-gives g c = λ all h.
     let entry = g.T.FileRow.entry c.args.width in
     let (rest, left, whole) = c.loop-row.invariant all h in
     let takes = c.in_ok-next_record.ensures.ok rest left in
@@ -27,7 +27,7 @@ returns-in_err-entry g c = λ all h.
     let more : 503 - c.loop-row.row ≡ suc left_over = omega arith in
     let front = c.loop-row.rows.items in
     let e = c.in_err-entry.field-0.0 in
-    let fault = fault_here entry c.loop-row.row left_over front fields t.rest e.row e.code c.in_err-entry.ensures in
+    let fault = fault_here entry c.loop-row.row left_over front fields t.rest e.row e.code c.in_err-entry.ensures.gives in
     let same = ap (λ k. with_front front (rows_from entry c.loop-row.row k (fields ∷ t.rest))) (sym more)
     ∙ ap (λ xs. with_front front (rows_from entry c.loop-row.row (503 - c.loop-row.row) xs)) (sym t.is) ∙ whole in
     let p = err_from_is_err_and c.from_residual-in_err-entry.result c.from_residual-in_err-entry.ensures.1 in
@@ -46,7 +46,7 @@ loop-row-preserved g c = λ all h.
     let good : is_ok c.push.result ≡ true = search rules in
     let items = rw good at c.push.ensures.items in
     let front = c.loop-row.rows.items in
-    let step = one_more entry c.loop-row.row left_over front fields t.rest c.in_ok-entry.entry c.in_ok-entry.ensures in (
+    let step = one_more entry c.loop-row.row left_over front fields t.rest c.in_ok-entry.entry c.in_ok-entry.ensures.gives in (
       t.rest,
       t.left,
       ap (λ xs. with_front xs (rows_from entry (c.loop-row.row + 1) left_over t.rest)) items
@@ -54,8 +54,8 @@ loop-row-preserved g c = λ all h.
           ∙ ap (λ xs. with_front front (rows_from entry c.loop-row.row (503 - c.loop-row.row) xs)) (sym t.is) ∙ whole,
     )
 
-pub returns : goal.returns
-returns g c = λ all h.
+pub returns-clause-gives : goal.returns-clause-gives
+returns-clause-gives g c = λ all h.
     let entry = g.T.FileRow.entry c.args.width in
     let (rest, left, whole) = c.loop-row.invariant all h in
     let past = c.loop-row-test.false in

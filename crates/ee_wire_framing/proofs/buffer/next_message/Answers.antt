@@ -14,7 +14,7 @@ returns-in-Fault-clause-answers g c = λ _.
 
 pub returns-in-Ok-eq0-clause-answers : goal.returns-in-Ok-eq0-clause-answers
 returns-in-Ok-eq0-clause-answers g c = λ _.
-    let r = c.in-Ok-eq0.ensures in
+    let r = c.in-Ok-eq0.ensures.reads in
     let before : c.front.new.self.held ≡ c.loop-message.buffer.held = ap (λ (s : Stream). s.held) c.front.ensures.same in
     let held : c.read_more.new.self.held ≡ c.loop-message.buffer.held ++ r.0 = ap (λ (s : Stream). s.held) r.2 ∙ ap (λ l. l ++ r.0) before in
     let kept = moved (left c.args.buffer.now (g.R.Read.remaining c.args.reader.now)) (g.R.Read.remaining c.loop-message.reader) (g.R.Read.remaining c.read_more.new.reader) c.loop-message.buffer.held r.0 c.loop-message.invariant.kept r.3 in
@@ -23,7 +23,7 @@ returns-in-Ok-eq0-clause-answers g c = λ _.
 
 pub returns-in-Err-Failed-clause-answers : goal.returns-in-Err-Failed-clause-answers
 returns-in-Err-Failed-clause-answers g c = λ _.
-    let r = c.in-Err-Failed.ensures in
+    let r = c.in-Err-Failed.ensures.reads in
     let same : c.stop-in-Err-Failed.new.self.held ≡ c.loop-message.buffer.held =
     ap (λ (s : Stream). s.held) c.stop-in-Err-Failed.ensures ∙ ap (λ (s : Stream). s.held) r.0 ∙ ap (λ (s : Stream). s.held) c.front.ensures.same in (
       subst (λ h. Keeps (left c.args.buffer.now (g.R.Read.remaining c.args.reader.now)) (prepend_known h (g.R.Read.remaining c.read_more.new.reader))) (sym same)
@@ -44,13 +44,13 @@ returns-in-Message-clause-answers g c = λ _.
 
 pub at_end-requires : goal.at_end-requires
 at_end-requires g c =
-    let r = c.in-Ok-eq0.ensures in
+    let r = c.in-Ok-eq0.ensures.reads in
     none_read c.front.new.self.held r.0 c.read_more.new.self.held (r.1 ∙ c.in-Ok-eq0.field-0-test) (ap (λ (s : Stream). s.held) r.2)
     (subst NeedsMore (sym (ap (λ (s : Stream). s.held) c.front.ensures.same)) (more_needed c.loop-message.buffer.held c.in-More.ensures.front))
 
 pub loop-message-preserved : goal.loop-message-preserved
 loop-message-preserved g c =
-    let r = c.in-Ok.ensures in
+    let r = c.in-Ok.ensures.reads in
     let before : c.front.new.self.held ≡ c.loop-message.buffer.held = ap (λ (s : Stream). s.held) c.front.ensures.same in
     let held : c.read_more.new.self.held ≡ c.loop-message.buffer.held ++ r.0 = ap (λ (s : Stream). s.held) r.2 ∙ ap (λ l. l ++ r.0) before in
     record {
@@ -67,7 +67,7 @@ loop-message-preserved g c =
 
 pub returns-in-Err-NoMemory : goal.returns-in-Err-NoMemory
 returns-in-Err-NoMemory g c =
-    let r = c.in-Err-NoMemory.ensures in
+    let r = c.in-Err-NoMemory.ensures.reads in
     let same : c.read_more.new.self ≡ c.loop-message.buffer = r.0 ∙ c.front.ensures.same in
     let held = ap (λ (s : Stream). s.held) same in
     let shown = ap (λ (s : Stream). s.shown) same ∙ c.loop-message.invariant.shown in
@@ -84,6 +84,7 @@ returns-in-Err-NoMemory g c =
           c.loop-message.invariant.took r.1) shown held;
       settles = λ _. (shown, more);
       ended = λ _. ap (λ (s : Stream). s.ended) same ∙ c.loop-message.invariant.is_open;
+      failed = λ _. search rules;
       unread = λ _ not. absurd (not (subst NeedsMore (c.loop-message.invariant.unread not).1 (more_needed c.loop-message.buffer.held c.in-More.ensures.front)));
       again = search rules;
     }
@@ -113,7 +114,7 @@ returns-in-Fault-clause-settles g c = λ _.
 
 pub returns-in-Ok-eq0-clause-takes : goal.returns-in-Ok-eq0-clause-takes
 returns-in-Ok-eq0-clause-takes g c = λ _.
-    let r = c.in-Ok-eq0.ensures in
+    let r = c.in-Ok-eq0.ensures.reads in
     let same = c.front.ensures.same in
     let before : c.front.new.self.held ≡ c.loop-message.buffer.held = ap (λ (s : Stream). s.held) same in
     let held : c.read_more.new.self.held ≡ c.loop-message.buffer.held ++ r.0 = ap (λ (s : Stream). s.held) r.2 ∙ ap (λ l. l ++ r.0) before in
@@ -125,7 +126,7 @@ returns-in-Ok-eq0-clause-takes g c = λ _.
 
 pub returns-in-Ok-eq0-clause-settles : goal.returns-in-Ok-eq0-clause-settles
 returns-in-Ok-eq0-clause-settles g c = λ _.
-    let r = c.in-Ok-eq0.ensures in
+    let r = c.in-Ok-eq0.ensures.reads in
     settles_at c.at_end.new.self (g.R.Read.remaining c.read_more.new.reader) c.at_end.result
     (ap (λ (s : Stream). s.shown) c.at_end.ensures.same ∙ ap (λ (s : Stream). s.shown) r.2 ∙ ap (λ (s : Stream). s.shown) c.front.ensures.same ∙ c.loop-message.invariant.shown)
     (r.4 (search rules))
@@ -133,7 +134,7 @@ returns-in-Ok-eq0-clause-settles g c = λ _.
 
 pub returns-in-Err-Failed-clause-takes : goal.returns-in-Err-Failed-clause-takes
 returns-in-Err-Failed-clause-takes g c = λ _.
-    let r = c.in-Err-Failed.ensures in
+    let r = c.in-Err-Failed.ensures.reads in
     let same = c.stop-in-Err-Failed.ensures in
     let here : c.read_more.new.self ≡ c.loop-message.buffer = r.0 ∙ c.front.ensures.same in
     takes_held c.args.buffer.now c.stop-in-Err-Failed.new.self c.loop-message.buffer.held (g.R.Read.remaining c.args.reader.now) (g.R.Read.remaining c.read_more.new.reader)
@@ -145,10 +146,16 @@ returns-in-Err-Failed-clause-takes g c = λ _.
 pub returns-in-Err-Failed-clause-settles : goal.returns-in-Err-Failed-clause-settles
 returns-in-Err-Failed-clause-settles g c = λ _.
     let same = c.stop-in-Err-Failed.ensures in
-    let here : c.read_more.new.self ≡ c.loop-message.buffer = c.in-Err-Failed.ensures.0 ∙ c.front.ensures.same in (
+    let here : c.read_more.new.self ≡ c.loop-message.buffer = c.in-Err-Failed.ensures.reads.0 ∙ c.front.ensures.same in (
       ap (λ (s : Stream). s.shown) same ∙ ap (λ (s : Stream). s.shown) here ∙ c.loop-message.invariant.shown,
       subst NeedsMore (sym (ap (λ (s : Stream). s.held) same ∙ ap (λ (s : Stream). s.held) here)) (more_needed c.loop-message.buffer.held c.in-More.ensures.front),
     )
 
 pub returns-in-Fault-clause-ended : goal.returns-in-Fault-clause-ended
 returns-in-Fault-clause-ended g c = λ _. ap (λ (s : Stream). s.ended) c.stop.ensures
+
+pub returns-in-Err-Failed-clause-failed : goal.returns-in-Err-Failed-clause-failed
+returns-in-Err-Failed-clause-failed g c = λ _. search rules
+
+pub returns-in-Ok-eq0-clause-failed : goal.returns-in-Ok-eq0-clause-failed
+returns-in-Ok-eq0-clause-failed g c = λ _. search rules
