@@ -1,7 +1,5 @@
 -- How a command ends, by what it met.
 use Rattle.std.specs.Prelude.{◌≡◌, Result, Ok, Err, if◌then◌else◌}
-use Rattle.ee_value.specs.declared.faults.ValueFault.{ValueFault}
-use Rattle.ee_value.specs.declared.faults.ValueFault.TheVariants as value
 use Rattle.ee_desk_acts.specs.declared.refusals.Unserved.{Unserved}
 use Rattle.ee_desk_acts.specs.declared.refusals.Unserved.TheVariants as unserved
 use Rattle.ee_desk_acts.specs.declared.replies.Reply.{Reply}
@@ -13,16 +11,18 @@ use Rattle.ee_counter.specs.declared.connections.Why.{Why}
 use Rattle.ee_counter.specs.declared.connections.Why.TheVariants as why
 use Rattle.ee_counter.specs.declared.files.ImportFault.{ImportFault}
 use Rattle.ee_counter.specs.declared.files.ImportFault.TheVariants as import
-use Rattle.ee_cli_actions.specs.declared.faults.Outcome.{Outcome}
-use Rattle.ee_cli_actions.specs.declared.faults.Outcome.TheVariants.{Done, Refused, Unsettled}
+use Rattle.ee_cli_value.specs.declared.endings.Outcome.{Outcome}
+use Rattle.ee_cli_value.specs.declared.endings.Outcome.TheVariants.{Done, Refused}
+use Rattle.ee_cli_value.specs.declared.endings.PrintFault.{PrintFault}
+use Rattle.ee_cli_value.specs.declared.endings.PrintFault.TheVariants as print
 use Rattle.ee_cli_actions.specs.declared.faults.StoreFault.TheVariants.{StoreFailed}
 use Rattle.ee_cli_actions.specs.declared.faults.RunFault.{RunFault}
 use Rattle.ee_cli_actions.specs.declared.faults.RunFault.TheVariants as fault
 
--- how a command ends that asks for a value of which there is no table
-abbrev pub ending_of_value : ValueFault → Result Outcome RunFault
-ending_of_value (value.Unsettled month) = Ok (Unsettled month)
-ending_of_value value.NoMemory = Err fault.NoMemory
+-- why a value was not printed
+abbrev pub fault_of_print : PrintFault → RunFault
+fault_of_print print.Device = fault.Device
+fault_of_print print.NoMemory = fault.NoMemory
 
 abbrev pub fault_of_unserved : Unserved → RunFault
 fault_of_unserved unserved.NoMemory = fault.NoMemory

@@ -2,4 +2,3 @@ pub mod Endings
 pub mod Printed
 pub mod Actions
 pub mod Connections
-pub mod Values

@@ -1,13 +1,6 @@
 -- What commands print.
 use Rattle.std.specs.Prelude.{ℕ, ◌+◌, List, [], ◌∷◌, ◌++◌, codes}
 use Rattle.std.specs.Fmt.{decimal}
-use Rattle.ee_units.specs.Texts.{decimal_text}
-use Rattle.ee_units.specs.Denoms.{units_of}
-use Rattle.ee_units.specs.declared.denoms.Denom.{Denom}
-use Rattle.ee_value.specs.declared.rates.Rates.{Rates}
-use Rattle.ee_calculator.specs.Notes.{note_text}
-use Rattle.ee_calculator.specs.Rows.{columns_of}
-use Rattle.ee_calculator.specs.declared.notes.Note.{Note}
 use Rattle.ee_desk_acts.specs.declared.replies.Reply.{Reply}
 use Rattle.ee_desk_texts.specs.Texts.{reply_text}
 use Rattle.ee_wire_calls.specs.Faults.{code_of}
@@ -15,20 +8,6 @@ use Rattle.ee_wire_calls.specs.declared.faults.WireFault.TheVariants.{Framing}
 use Rattle.ee_counter.specs.declared.connections.Ended.{Ended}
 use Rattle.ee_counter.specs.declared.connections.Why.{Why}
 use Rattle.ee_counter.specs.declared.connections.Why.TheVariants as why
-
--- a space and the note, where there is one
-abbrev pub noted : List ℕ → List ℕ
-noted [] = []
-noted (b ∷ bs) = 32 ∷ b ∷ bs
-
--- an amount of cents and a note, on a line
-abbrev pub line_of : ℕ → Note → List ℕ
-line_of cents note = decimal_text cents ++ (noted (note_text note) ++ 10 ∷ [])
-
--- the line of a bond's value in a month, of its denomination, issue month and rates
-abbrev pub value_line : Denom → ℕ → ℕ → Rates → List ℕ
-value_line denom issued month rates =
-    let shown = columns_of (units_of denom) issued rates month in line_of shown.value shown.note
 
 -- the text of a reply, on a line
 abbrev pub reply_line : Reply → List ℕ

@@ -3,22 +3,12 @@
 ghost use Rattle.std.specs.Prelude.{◌≡◌};
 ghost use Rattle.ee_cli_actions.specs.Endings.{fault_of_unserved};
 
+pub use ee_cli_value::Outcome;
+use ee_cli_value::PrintFault;
 use ee_desk_acts::Unserved;
 use ee_files::FileFault;
-use ee_units::Age;
 use std::alloc::AllocError;
 use thiserror::Error;
-
-/// How a command ended that was carried out.
-#[derive(Clone, Copy, Debug, PartialEq, Eq)]
-pub enum Outcome {
-    /// It was done.
-    Done,
-    /// The answer was a refusal.
-    Refused,
-    /// The precision doesn't settle the value; this is the least age at which it doesn't.
-    Unsettled(Age),
-}
 
 /// Why a store doesn't serve. Its text is its name.
 #[derive(Clone, Copy, Debug, PartialEq, Eq, Error)]
@@ -47,10 +37,10 @@ pub enum RunFault {
     #[error("store: {0}")]
     Store(StoreFault),
     /// Reading or writing failed, or a file or a socket wasn't opened.
-    #[error("input or output failed")]
+    #[error("{it}", it = PrintFault::Device)]
     Device,
     /// A growth was refused.
-    #[error("no memory")]
+    #[error("{it}", it = PrintFault::NoMemory)]
     NoMemory,
 }
 
@@ -62,6 +52,20 @@ impl RunFault {
         match cause {
             Unserved::NoMemory => RunFault::NoMemory,
             Unserved::StoreFailed => RunFault::Store(StoreFault::StoreFailed),
+        }
+    }
+}
+
+impl From<PrintFault> for RunFault {
+    ghost use Rattle.std.specs.Prelude.{◌≡◌};
+    ghost use Rattle.ee_cli_actions.specs.Endings.{fault_of_print};
+
+    ghost from_gives = { λ cause fault. fault ≡ fault_of_print cause };
+
+    fn from(cause: PrintFault) -> RunFault {
+        match cause {
+            PrintFault::Device => RunFault::Device,
+            PrintFault::NoMemory => RunFault::NoMemory,
         }
     }
 }

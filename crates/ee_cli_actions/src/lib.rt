@@ -9,7 +9,6 @@ mod printing;
 mod reasons;
 mod serving;
 mod sheets;
-mod values;
 
 pub use applying::apply_to;
 pub use faults::{Outcome, RunFault, StoreFault};
@@ -17,4 +16,3 @@ pub use filing::{export_from, import_into};
 pub use printing::print;
 pub use serving::serve_on;
 pub use sheets::sheet_of;
-pub use values::print_value;

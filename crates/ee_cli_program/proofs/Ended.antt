@@ -4,14 +4,18 @@ use Rattle.std.specs.Io.KnownBytes.{Appends}
 use Rattle.clap.specs.Words.{Text}
 use Rattle.ee_units.specs.declared.denoms.Denom.{Denom}
 use Rattle.ee_value.specs.Chain.{rates_with}
-use Rattle.ee_cli_actions.specs.Printed.{value_line}
-use Rattle.ee_cli_actions.specs.declared.faults.Outcome.{Outcome}
-use Rattle.ee_cli_actions.specs.declared.faults.Outcome.TheVariants as outcome
+use Rattle.ee_value.specs.declared.rates.Rates.{Rates}
+use Rattle.ee_cli_value.specs.Values.{PrintsValue}
+use Rattle.ee_cli_value.specs.declared.endings.PrintFault.{PrintFault}
+use Rattle.ee_cli_value.specs.Printed.{value_line}
+use Rattle.ee_cli_value.specs.declared.endings.Outcome.{Outcome}
+use Rattle.ee_cli_value.specs.declared.endings.Outcome.TheVariants as outcome
 use Rattle.ee_cli_actions.specs.declared.faults.RunFault.{RunFault}
 use Rattle.ee_cli_commands.specs.CommandLine.{Asked, value}
 use Rattle.ee_cli_commands.specs.Answer.{IsAsked, IsRefused}
 use Rattle.ee_cli_commands.proofs.Lemmas.{asks_for_help_alone, asks_for_version_alone, asks_for_one, asks_unrefused}
-use Rattle.ee_cli_program.specs.Statuses.{AsksToShow, Carries, Ends, IsRun, IsStatusFor}
+use Rattle.ee_cli_value.specs.Statuses.{IsStatusFor}
+use Rattle.ee_cli_program.specs.Statuses.{AsksToShow, Carries, Ends, IsRun, ending_of_print}
 
 -- ---- the words determine what they ask for
 
@@ -139,10 +143,18 @@ refused_line words Carried status bad (inr three) = is_failed words Carried stat
 
 -- ---- the value's line
 
+-- a value's command that was done printed its line
+printed_where_done : (denom : Denom) (issued month : ℕ) (rates : Rates) (old new : Option (List ℕ)) (ended : Result Outcome PrintFault)
+    → PrintsValue denom issued month rates old new ended → Ok outcome.Done ≡ ending_of_print ended → Appends old new (value_line denom issued month rates)
+printed_where_done denom issued month rates old new (Ok outcome.Done) line is = subst (Appends old new) (line.whole refl) line.written
+printed_where_done denom issued month rates old new (Ok outcome.Refused) line is = absurd line
+printed_where_done denom issued month rates old new (Ok (outcome.Unsettled age)) line is = absurd (cc)
+printed_where_done denom issued month rates old new (Err cause) line is = absurd (cc)
+
 -- of a value that was asked for, status 0 says that its line was printed
 pub value_printed : (words : List Text) (old new : Option (List ℕ)) (status : ℕ) → IsRun words (Carries old new) status
     → (denom : Denom) (issued month rate : ℕ) (extension : Option ℕ) → IsAsked words (Ok (value denom issued month rate extension)) → status ≡ 0
     → Appends old new (value_line denom issued month (rates_with rate extension))
 value_printed words old new status run denom issued month rate extension is zero =
-    let line = (run.ends (value denom issued month rate extension) is).done zero in
-    subst (Appends old new) (line.whole refl) line.written
+    let shown = (run.ends (value denom issued month rate extension) is).done zero in
+    printed_where_done denom issued month (rates_with rate extension) old new shown.0 shown.1 shown.2

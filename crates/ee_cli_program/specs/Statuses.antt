@@ -1,17 +1,31 @@
 -- What an exit status says of the words of a line, and of what was carried out.
 use Rattle.std.specs.Prelude.{◌≡◌, ◌≢◌, ◌≤◌, ◌⊎◌, ◌++◌, ◌∷◌, [], ℕ, List, codes, Option, Result, Ok, Err, IfOk, ⊤}
 use Rattle.clap.specs.Words.{Text}
+use Rattle.ee_units.specs.declared.denoms.Denom.{Denom}
 use Rattle.ee_value.specs.Chain.{rates_with}
-use Rattle.ee_cli_actions.specs.Values.{PrintsValue}
-use Rattle.ee_cli_actions.specs.declared.faults.Outcome.{Outcome}
-use Rattle.ee_cli_actions.specs.declared.faults.Outcome.TheVariants as outcome
+use Rattle.ee_value.specs.declared.rates.Rates.{Rates}
+use Rattle.ee_cli_value.specs.Values.{PrintsValue}
+use Rattle.ee_cli_value.specs.declared.endings.Outcome.{Outcome}
+use Rattle.ee_cli_value.specs.declared.endings.Outcome.TheVariants as outcome
+use Rattle.ee_cli_value.specs.declared.endings.PrintFault.{PrintFault}
+use Rattle.ee_cli_actions.specs.Endings.{fault_of_print}
 use Rattle.ee_cli_actions.specs.declared.faults.RunFault.{RunFault}
 use Rattle.ee_cli_commands.specs.CommandLine.{Asked, value, apply, imports, export, sheet, serve}
 use Rattle.ee_cli_commands.specs.Answer.{IsAsked, IsRefused, AsksForHelp, AsksForVersion}
 
+-- as a command ended that prints a value
+abbrev pub ending_of_print : Result Outcome PrintFault → Result Outcome RunFault
+ending_of_print (Ok outcome) = Ok outcome
+ending_of_print (Err cause) = Err (fault_of_print cause)
+
+-- a value is printed, or not, and the command ends so
+abbrev pub ShowsValue : Denom → ℕ → ℕ → Rates → Option (List ℕ) → Option (List ℕ) → Result Outcome RunFault → Type 0
+ShowsValue denom issued month rates old new result =
+    (ended : Result Outcome PrintFault) × PrintsValue denom issued month rates old new ended × (result ≡ ending_of_print ended)
+
 -- whatever the store holds: a value is printed, and what shows or serves is never refused. A value needs no store.
 abbrev pub Carries : Option (List ℕ) → Option (List ℕ) → Asked → Result Outcome RunFault → Type 0
-Carries old new (value denom issued month rate extension) result = PrintsValue denom issued month (rates_with rate extension) old new result
+Carries old new (value denom issued month rate extension) result = ShowsValue denom issued month (rates_with rate extension) old new result
 Carries old new (apply db) result = ⊤
 Carries old new (imports kind file db desk number) result = ⊤
 Carries old new (export customer db) result = IfOk result (λ ended. ended ≡ outcome.Done)
@@ -25,12 +39,6 @@ version_line = codes "ee_cli 1.0.0, store version 2" ++ 10 ∷ []
 -- the words ask for help, or for the version
 abbrev pub AsksToShow : List Text → Type 0
 AsksToShow words = AsksForHelp words ⊎ AsksForVersion words
-
--- an unsettled value that could not be told is status 3
-abbrev pub IsStatusFor : Outcome → ℕ → Type 0
-IsStatusFor outcome.Done status = status ≡ 0
-IsStatusFor outcome.Refused status = status ≡ 1
-IsStatusFor (outcome.Unsettled age) status = (status ≡ 1) ⊎ (status ≡ 3)
 
 -- how a command ended, by the status: 0 done, 1 refused or unsettled, never 2; 3 says nothing
 pub record Ends (Carried : Result Outcome RunFault → Type 0) (status : ℕ) : Type 0 where

@@ -5,7 +5,7 @@ use Rattle.clap.specs.Words.{Text}
 use Rattle.ee_desk_acts.specs.Repeats.{Content}
 use Rattle.ee_cli_actions.specs.Actions.{Applies, ExportsFrom, ImportsInto, ShowsSheet}
 use Rattle.ee_cli_actions.specs.Connections.{ServesAll}
-use Rattle.ee_cli_actions.specs.declared.faults.Outcome.{Outcome}
+use Rattle.ee_cli_value.specs.declared.endings.Outcome.{Outcome}
 use Rattle.ee_cli_actions.specs.declared.faults.RunFault.{RunFault}
 use Rattle.ee_cli_actions.specs.declared.faults.RunFault.TheVariants.{Store}
 use Rattle.ee_cli_actions.specs.declared.faults.StoreFault.TheVariants.{NotWrittenBack}

@@ -11,8 +11,9 @@ ghost use Rattle.ee_cli_program.specs.Stores.{AreClean, CarriesOver, EndsAs, Ove
 
 use crate::opening::{import_path, serve_port};
 use crate::stores::Stores;
-use ee_cli_actions::{Outcome, RunFault, apply_to, export_from, print_value, sheet_of};
+use ee_cli_actions::{Outcome, RunFault, apply_to, export_from, sheet_of};
 use ee_cli_commands::{Command, FileKind};
+use ee_cli_value::print_value;
 use ee_desk_acts::{Desk, Number};
 use ee_device::{Sink, Source};
 use ee_units::{Customer, Month};
@@ -34,7 +35,7 @@ pub fn carry_out<O: Stores, R: Source, W: Sink>(
     match *command {
         Command::Value(denom, issued, month, rate, extension) => {
             let rates = Rates::new(rate, extension);
-            print_value(rt.alloc(), denom, issued, month, rates, output)
+            Ok(print_value(rt.alloc(), denom, issued, month, rates, output)?)
         }
         Command::Apply(db) => apply(rt, stores, db, input, output),
         Command::Import(kind, file, db, desk, number) => {

@@ -8,6 +8,7 @@ mod store;
 mod stores;
 
 pub use carrying::carry_out;
-pub use run::{BAD_LINE, DONE, FAILED, REFUSED, refuse_words, run_words};
+pub use ee_cli_value::{BAD_LINE, DONE, FAILED, REFUSED};
+pub use run::{refuse_words, run_words};
 pub use store::{StoreFiles, Untold};
 pub use stores::Stores;

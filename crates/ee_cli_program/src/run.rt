@@ -5,34 +5,23 @@ ghost use Rattle.std.specs.Io.KnownBytes.{Appends};
 ghost use Rattle.std.specs.IoError.{error_kind};
 ghost use Rattle.clap.specs.Words.{Text};
 ghost use Rattle.ee_desk_acts.specs.Repeats.{Content};
-ghost use Rattle.ee_cli_actions.specs.Printed.{value_line};
+ghost use Rattle.ee_cli_value.specs.Printed.{value_line};
 ghost use Rattle.ee_cli_commands.specs.Answer.{AsksForVersion, IsAsked};
 ghost use Rattle.ee_cli_commands.specs.CommandLine.{value};
 ghost use Rattle.ee_units.specs.declared.denoms.Denom.{Denom};
 ghost use Rattle.ee_value.specs.Chain.{rates_with};
-ghost use Rattle.ee_cli_program.specs.Statuses.{Carries, IsRun, IsStatusFor, version_line};
+ghost use Rattle.ee_cli_program.specs.Statuses.{Carries, IsRun, version_line};
 ghost use Rattle.ee_cli_program.specs.Stores.{AreClean, CarriesOver};
 
 use crate::carrying::carry_out;
 use crate::stores::Stores;
-use ee_cli_actions::{Outcome, RunFault, print};
+use ee_cli_actions::{RunFault, print};
 use ee_cli_commands::{CommandFault, VERSION, read_command};
+use ee_cli_value::{BAD_LINE, DONE, FAILED, conclude, report};
 use ee_device::{Sink, Source};
 use ee_store_opening::STORE_VERSION;
 use std::alloc::{AllocError, Global};
 use std::io::{self, ErrorKind, Write};
-
-/// The line was carried out.
-pub const DONE: u8 = 0;
-
-/// The answer was a refusal.
-pub const REFUSED: u8 = 1;
-
-/// The command line was bad.
-pub const BAD_LINE: u8 = 2;
-
-/// A file, a socket, memory or a store failed.
-pub const FAILED: u8 = 3;
 
 /// Runs the line of those words, the first of which is the program's name, over these stores: the exit
 /// status. What is told of faults goes to `faults`, all else to `output`.
@@ -63,13 +52,13 @@ pub fn run_words<O: Stores, R: Source, W: Sink, E: Write>(
     match read_command(rt.alloc(), words) {
         Ok(command) => match carry_out(rt, stores, &command, input, output) {
             Ok(outcome) => conclude(outcome, faults),
-            Err(fault) => report(fault, faults),
+            Err(fault) => report(&fault, faults),
         },
         Err(CommandFault::Help(text)) => show(&text, output, faults),
         Err(CommandFault::Version) => show_version(rt.alloc(), output, faults),
         Err(CommandFault::Line(text)) => refuse_line(&text, faults),
         Err(CommandFault::Argument(name)) => refuse_argument(name, faults),
-        Err(CommandFault::NoMemory) => report(RunFault::NoMemory, faults),
+        Err(CommandFault::NoMemory) => report(&RunFault::NoMemory, faults),
     }
 }
 
@@ -87,34 +76,8 @@ pub fn refuse_words<E: Write>(error: &io::Error, faults: &mut E) -> u8
                 FAILED
             }
         }
-        _ => report(RunFault::NoMemory, faults),
+        _ => report(&RunFault::NoMemory, faults),
     }
-}
-
-// Tells how a command ended that was carried out.
-fn conclude<E: Write>(outcome: Outcome, faults: &mut E) -> u8
-    ensures { IsStatusFor outcome result }
-{
-    match outcome {
-        Outcome::Done => DONE,
-        Outcome::Refused => REFUSED,
-        Outcome::Unsettled(age) => {
-            let age = age.months();
-            if writeln!(faults, "unsettled at age {age}").is_ok() {
-                REFUSED
-            } else {
-                FAILED
-            }
-        }
-    }
-}
-
-// Tells why a command was not carried out.
-fn report<E: Write>(fault: RunFault, faults: &mut E) -> u8
-    ensures { result ≡ 3 }
-{
-    let _told = writeln!(faults, "{fault}");
-    FAILED
 }
 
 // Prints what a line asks for that names no command.
@@ -124,7 +87,7 @@ fn show<W: Sink, E: Write>(text: &str, output: &mut W, faults: &mut E) -> u8
 {
     match print(text, output) {
         Ok(()) => DONE,
-        Err(fault) => report(fault, faults),
+        Err(fault) => report(&fault, faults),
     }
 }
 
@@ -135,7 +98,7 @@ fn show_version<W: Sink, E: Write>(alloc: Global, output: &mut W, faults: &mut E
 {
     match version(alloc) {
         Ok(line) => show(&line, output, faults),
-        Err(_) => report(RunFault::NoMemory, faults),
+        Err(_) => report(&RunFault::NoMemory, faults),
     }
 }
 

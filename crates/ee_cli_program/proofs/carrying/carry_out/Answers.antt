@@ -1,4 +1,3 @@
-use Rattle.std.proofs.Common.{rules}
 use Rattle.ee_cli_program.proofs.carrying.carry_out.Goals as goal
 
 pub returns-in-Apply-clause-over : goal.returns-in-Apply-clause-over
@@ -15,6 +14,3 @@ returns-in-Sheet-clause-over g c = λ clean contents holds. rw c.in-Sheet.is (c.
 
 pub returns-in-Serve-clause-over : goal.returns-in-Serve-clause-over
 returns-in-Serve-clause-over g c = λ clean contents holds. rw c.in-Serve.is (c.serve.ensures.over clean (contents c.in-Serve.db.now) (holds c.in-Serve.db.now))
-
-pub returns-in-Value-clause-carries : goal.returns-in-Value-clause-carries
-returns-in-Value-clause-carries g c = search rules

@@ -1,22 +1,20 @@
--- What is printed of a value.
+-- What is printed of a value, and how that ends.
 use Rattle.std.specs.Prelude.{◌≡◌, ℕ, List, Option, Result, Ok, Err, true, false}
 use Rattle.ee_device.specs.Written.{WritesFront}
 use Rattle.ee_units.specs.declared.denoms.Denom.{Denom}
 use Rattle.ee_value.specs.Open.{IsFirstOpen}
 use Rattle.ee_value.specs.declared.rates.Rates.{Rates}
-use Rattle.ee_cli_actions.specs.Printed.{value_line}
-use Rattle.ee_cli_actions.specs.declared.faults.Outcome.{Outcome}
-use Rattle.ee_cli_actions.specs.declared.faults.Outcome.TheVariants.{Done, Refused, Unsettled}
-use Rattle.ee_cli_actions.specs.declared.faults.RunFault.{RunFault}
-use Rattle.ee_cli_actions.specs.declared.faults.RunFault.TheVariants as fault
+use Rattle.ee_cli_value.specs.Printed.{value_line}
+use Rattle.ee_cli_value.specs.declared.endings.Outcome.{Outcome}
+use Rattle.ee_cli_value.specs.declared.endings.Outcome.TheVariants.{Done, Refused, Unsettled}
+use Rattle.ee_cli_value.specs.declared.endings.PrintFault.{PrintFault}
+use Rattle.ee_cli_value.specs.declared.endings.PrintFault.TheVariants as fault
 
 -- the value's line is printed, or a front of it where the output failed; or nothing, where the rates have an open age at
 -- 62 binary places, of which the least is told, or where memory was refused
-abbrev pub PrintsValue : Denom → ℕ → ℕ → Rates → Option (List ℕ) → Option (List ℕ) → Result Outcome RunFault → Type 0
+abbrev pub PrintsValue : Denom → ℕ → ℕ → Rates → Option (List ℕ) → Option (List ℕ) → Result Outcome PrintFault → Type 0
 PrintsValue denom issued month rates old new (Ok Done) = WritesFront old new (value_line denom issued month rates) true
 PrintsValue denom issued month rates old new (Ok Refused) = ⊥
 PrintsValue denom issued month rates old new (Ok (Unsettled age)) = IsFirstOpen rates 62 age × (new ≡ old)
 PrintsValue denom issued month rates old new (Err fault.Device) = WritesFront old new (value_line denom issued month rates) false
 PrintsValue denom issued month rates old new (Err fault.NoMemory) = new ≡ old
-PrintsValue denom issued month rates old new (Err (fault.File cause)) = ⊥
-PrintsValue denom issued month rates old new (Err (fault.Store cause)) = ⊥

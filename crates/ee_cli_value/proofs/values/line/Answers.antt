@@ -4,8 +4,8 @@ use Rattle.ee_units.specs.Texts.{decimal_text}
 use Rattle.ee_calculator.specs.Notes.{note_text}
 use Rattle.ee_calculator.specs.declared.notes.Note.{Note}
 use Rattle.ee_calculator.specs.declared.notes.Note.TheVariants as note
-use Rattle.ee_cli_actions.specs.Printed.{line_of}
-use Rattle.ee_cli_actions.proofs.values.line.Goals as goal
+use Rattle.ee_cli_value.specs.Printed.{line_of}
+use Rattle.ee_cli_value.proofs.values.line.Goals as goal
 
 noted_line : (cents : ℕ) (n : Note) → (n ≡ note.Plain → ⊥) → decimal_text cents ++ (32 ∷ (note_text n ++ (10 ∷ []))) ≡ line_of cents n
 noted_line cents note.Ni differs = refl

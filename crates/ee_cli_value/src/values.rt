@@ -1,16 +1,15 @@
-//! The command `value`.
+//! Printing a value.
 
 ghost use Rattle.std.specs.Prelude.{◌≡◌, IfErr, IfOk, string_bytes};
 ghost use Rattle.ee_calculator.specs.Rows.{columns_of};
 ghost use Rattle.ee_value.specs.Fault.{IsFaultOf};
-ghost use Rattle.ee_cli_actions.specs.Endings.{TellsDeviceOnlyIf, ending_of_value};
-ghost use Rattle.ee_cli_actions.specs.Printed.{line_of, value_line};
-ghost use Rattle.ee_cli_actions.specs.Values.{PrintsValue};
+ghost use Rattle.ee_cli_value.specs.Endings.{TellsDeviceOnlyIf, ending_of_value};
+ghost use Rattle.ee_cli_value.specs.Printed.{line_of, value_line};
+ghost use Rattle.ee_cli_value.specs.Values.{PrintsValue};
 
-use crate::faults::{Outcome, RunFault};
-use crate::printing::print;
+use crate::endings::{Outcome, PrintFault};
 use ee_calculator::{Note, plain_row};
-use ee_device::Sink;
+use ee_device::{Sink, write_whole};
 use ee_units::{Bits, Cents, Denom, IssueMonth, Month, calendar};
 use ee_value::{Rates, ValueFault, unit_table};
 use std::alloc::{AllocError, Global};
@@ -28,26 +27,24 @@ pub fn print_value<W: Sink>(
     month: Month,
     rates: Rates,
     output: &mut W,
-) -> Result<Outcome, RunFault>
+) -> Result<Outcome, PrintFault>
     ensures printed { PrintsValue denom issued month rates (W.contents output.old) (W.contents output.new) result }
     ensures device { TellsDeviceOnlyIf (W.may_have_failed output.new) result }
 {
     match value_text(alloc, denom, issued, month, rates) {
-        Ok(text) => {
-            print(&text, output)?;
-            Ok(Outcome::Done)
-        }
+        Ok(text) if write_whole(output, text.as_bytes()) => Ok(Outcome::Done),
+        Ok(_) => Err(PrintFault::Device),
         Err(fault) => without_value(fault),
     }
 }
 
 // How the command ends where there is no table of values.
-fn without_value(fault: ValueFault) -> Result<Outcome, RunFault>
+fn without_value(fault: ValueFault) -> Result<Outcome, PrintFault>
     ensures { result ≡ ending_of_value fault }
 {
     match fault {
         ValueFault::Unsettled { month } => Ok(Outcome::Unsettled(month)),
-        ValueFault::NoMemory => Err(RunFault::NoMemory),
+        ValueFault::NoMemory => Err(PrintFault::NoMemory),
     }
 }
 

@@ -1,5 +1,0 @@
-use Rattle.std.proofs.Common.{rules}
-use Rattle.ee_cli_program.proofs.run.report.Goals as goal
-
-pub returns : goal.returns
-returns g c = search rules

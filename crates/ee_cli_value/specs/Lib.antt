@@ -1,0 +1,5 @@
+pub mod Printed
+pub mod Endings
+pub mod Values
+pub mod Statuses
+pub mod Lines

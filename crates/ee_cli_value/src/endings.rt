@@ -1,0 +1,26 @@
+//! How a command ends.
+
+use ee_units::Age;
+use thiserror::Error;
+
+/// How a command ended that was carried out.
+#[derive(Clone, Copy, Debug, PartialEq, Eq)]
+pub enum Outcome {
+    /// It was done.
+    Done,
+    /// The answer was a refusal.
+    Refused,
+    /// The precision doesn't settle the value; this is the least age at which it doesn't.
+    Unsettled(Age),
+}
+
+/// Why a value was not printed.
+#[derive(Clone, Copy, Debug, PartialEq, Eq, Error)]
+pub enum PrintFault {
+    /// Writing failed.
+    #[error("input or output failed")]
+    Device,
+    /// A growth was refused.
+    #[error("no memory")]
+    NoMemory,
+}
