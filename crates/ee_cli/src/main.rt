@@ -1,7 +1,8 @@
 //! The counter of a paying agent for paper Series EE savings bonds: the program.
 #![tactic(auto)]
 
-use ee_cli_program::{StoreFiles, Untold, refuse_words, run_words};
+use ee_cli_program::{refuse_words, run_words};
+use ee_cli_stores::{StoreFiles, Untold};
 use std::io;
 use std::process::ExitCode;
 

@@ -4,11 +4,9 @@
 mod carrying;
 mod opening;
 mod run;
-mod store;
 mod stores;
 
 pub use carrying::carry_out;
 pub use ee_cli_value::{BAD_LINE, DONE, FAILED, REFUSED};
 pub use run::{refuse_words, run_words};
-pub use store::{StoreFiles, Untold};
 pub use stores::Stores;

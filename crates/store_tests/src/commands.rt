@@ -2,7 +2,8 @@
 
 use crate::comparing::{holds, same};
 use ee_cli_actions::RunFault;
-use ee_cli_program::{StoreFiles, Stores, Untold, run_words};
+use ee_cli_program::{Stores, run_words};
+use ee_cli_stores::{StoreFiles, Untold};
 use ee_keeper::ListKeeper;
 use std::alloc::Global;
 use std::process::Abort;

@@ -4,10 +4,10 @@ ghost use Rattle.std.specs.Prelude.{◌≡◌};
 ghost use Rattle.sqlite.specs.WalFiles.{image_at};
 ghost use Rattle.ee_store.specs.Ended.{RestsIn, StandsAlone};
 ghost use Rattle.ee_store.specs.History.{RestsAfter};
-ghost use Rattle.ee_cli_program.specs.Faults.{fault_of_opening};
+ghost use Rattle.ee_cli_stores.specs.Faults.{fault_of_opening};
 
-use crate::stores::Stores;
 use ee_cli_actions::{RunFault, StoreFault};
+use ee_cli_program::Stores;
 use ee_store::{OpenFault, SqlKeeper, open_as};
 use sqlite::{FileFrom, FileStore, Files, Start};
 
