@@ -9,6 +9,7 @@ ghost use Rattle.ee_desk_laws.specs.Events.{World};
 ghost use Rattle.ee_keeper.specs.Keeping.{Shows, IsInventory, IsQuote};
 ghost use Rattle.ee_store_lookups.specs.Causes.{IsReady};
 ghost use Rattle.ee_store_delivery.specs.Known.{IsInformed};
+ghost use Rattle.ee_store_queries.specs.Asking.{KeepsRoom};
 ghost use Rattle.ee_store.specs.Served.{ServesOrFails};
 ghost use Rattle.ee_store_lookups.specs.Seen.{HasContent};
 ghost use Rattle.ee_store.specs.Served.{FollowsWorld};
@@ -27,8 +28,8 @@ use sqlite::Alter;
 /// - `clean`, `shows`: what is shown is right, and the content stays, also where it answers `Unserved`.
 /// - `informed`: what the keeper knows of its books stays so.
 /// - `crash`: whenever the keeper stops, a crash leaves what it could leave before.
-/// - `ready`, `cause`: it is asked as before; and where its store was ready, it answers `StoreFailed` only where the
-///   device failed once more, or the store was shut before.
+/// - `ready`, `room`, `cause`: the keeper takes requests as before, with room for as many rows. If its store was ready,
+///   it answers `StoreFailed` only if the device failed once more, or the store was shut before.
 /// - `follows`: so a query is no event of the law of stops and retries.
 ///
 /// It answers `NoMemory` where memory was refused, and `StoreFailed` where the store failed, held what no
@@ -42,6 +43,7 @@ impl<S: Alter> SqlKeeper<S> {
             → Shows (IsInventory content.books customer month) result (HasContent (state S.Store self.new.conn) content) }
         ensures crash { Survives (state S.Store self.old.conn) (state S.Store self.new.conn) (λ _. ⊥) }
         ensures ready { IsReady (state S.Store self.old.conn) → IsReady (state S.Store self.new.conn) }
+        ensures room { KeepsRoom (state S.Store self.old.conn) (state S.Store self.new.conn) }
         ensures cause { ServesOrFails (state S.Store self.old.conn) (state S.Store self.new.conn) result }
         ensures follows { HasCleanDisk (state S.Store self.new.conn) → (w : World) → FollowsWorld (state S.Store self.old.conn) w
             → FollowsWorld (state S.Store self.new.conn) w }
@@ -66,6 +68,7 @@ impl<S: Alter> SqlKeeper<S> {
             → Shows (λ bonds. bonds.items ≡ bonds_of content.books customer) result (HasContent (state S.Store self.new.conn) content) }
         ensures crash { Survives (state S.Store self.old.conn) (state S.Store self.new.conn) (λ _. ⊥) }
         ensures ready { IsReady (state S.Store self.old.conn) → IsReady (state S.Store self.new.conn) }
+        ensures room { KeepsRoom (state S.Store self.old.conn) (state S.Store self.new.conn) }
         ensures cause { ServesOrFails (state S.Store self.old.conn) (state S.Store self.new.conn) result }
         ensures follows { HasCleanDisk (state S.Store self.new.conn) → (w : World) → FollowsWorld (state S.Store self.old.conn) w
             → FollowsWorld (state S.Store self.new.conn) w }
@@ -84,6 +87,7 @@ impl<S: Alter> SqlKeeper<S> {
             → Shows (λ ticket. ticket ≡ ticket_numbered content.books number) result (HasContent (state S.Store self.new.conn) content) }
         ensures crash { Survives (state S.Store self.old.conn) (state S.Store self.new.conn) (λ _. ⊥) }
         ensures ready { IsReady (state S.Store self.old.conn) → IsReady (state S.Store self.new.conn) }
+        ensures room { KeepsRoom (state S.Store self.old.conn) (state S.Store self.new.conn) }
         ensures cause { ServesOrFails (state S.Store self.old.conn) (state S.Store self.new.conn) result }
         ensures follows { HasCleanDisk (state S.Store self.new.conn) → (w : World) → FollowsWorld (state S.Store self.old.conn) w
             → FollowsWorld (state S.Store self.new.conn) w }
@@ -102,6 +106,7 @@ impl<S: Alter> SqlKeeper<S> {
             → Shows (λ batch. batch ≡ batch_on content.books day) result (HasContent (state S.Store self.new.conn) content) }
         ensures crash { Survives (state S.Store self.old.conn) (state S.Store self.new.conn) (λ _. ⊥) }
         ensures ready { IsReady (state S.Store self.old.conn) → IsReady (state S.Store self.new.conn) }
+        ensures room { KeepsRoom (state S.Store self.old.conn) (state S.Store self.new.conn) }
         ensures cause { ServesOrFails (state S.Store self.old.conn) (state S.Store self.new.conn) result }
         ensures follows { HasCleanDisk (state S.Store self.new.conn) → (w : World) → FollowsWorld (state S.Store self.old.conn) w
             → FollowsWorld (state S.Store self.new.conn) w }
@@ -126,6 +131,7 @@ impl<S: Alter> SqlKeeper<S> {
             → Shows (IsQuote content.books denom issued month) result (HasContent (state S.Store self.new.conn) content) }
         ensures crash { Survives (state S.Store self.old.conn) (state S.Store self.new.conn) (λ _. ⊥) }
         ensures ready { IsReady (state S.Store self.old.conn) → IsReady (state S.Store self.new.conn) }
+        ensures room { KeepsRoom (state S.Store self.old.conn) (state S.Store self.new.conn) }
         ensures cause { ServesOrFails (state S.Store self.old.conn) (state S.Store self.new.conn) result }
         ensures follows { HasCleanDisk (state S.Store self.new.conn) → (w : World) → FollowsWorld (state S.Store self.old.conn) w
             → FollowsWorld (state S.Store self.new.conn) w }

@@ -5,6 +5,7 @@ use Rattle.std.specs.Prelude.{IfSome, ⊤}
 use Rattle.std.specs.List as list
 use Rattle.std.specs.List.{AllByRecursion}
 use Rattle.std.specs.FinMap as finite
+use Rattle.sqlite.specs.Effect.{Database, IsDatabase}
 use Rattle.sqlite.specs.State.{State, Survives, HasCleanDisk, IsRolledBack}
 use Rattle.ee_units.specs.Spelling.{SerialNumber}
 use Rattle.ee_calculator.specs.declared.bonds.Bond.{Bond}
@@ -19,13 +20,13 @@ use Rattle.ee_desk_texts.specs.Ranges.{IsCustomer, IsSerial, BondFits, LineFits,
 use Rattle.ee_store_tables.specs.declared.records.PlacedLine.{PlacedLine}
 use Rattle.ee_store_tables.specs.declared.records.UnpaidBond.{UnpaidBond}
 use Rattle.ee_store_tables.specs.AsRows.{placed_of}
-use Rattle.ee_store_tables.specs.Rows.{TicketRow, lines_on}
+use Rattle.ee_store_tables.specs.Rows.{TicketRow, lines_on, HasRoomIn}
 use Rattle.ee_store_tables.proofs.Lemmas.Transactions.{clean_before, begun, rolled_keeps}
 use Rattle.ee_store_contents.specs.Standing.{rows_of, paid_row, IsRight}
 use Rattle.ee_store_tables.specs.declared.failures.Failure.{Failure}
 use Rattle.ee_store_tables.specs.Statements.{LeavesNoMore, IsExcused, CommitsNothing}
 use Rattle.ee_store_lookups.specs.Causes.{FailsByCause, IsReady}
-use Rattle.ee_store_queries.specs.Asking.{AnswersOrFails, row_of_placed, unpaid_row, KeepsContent}
+use Rattle.ee_store_queries.specs.Asking.{AnswersOrFails, row_of_placed, unpaid_row, KeepsContent, KeepsRoom}
 use Rattle.ee_store_queries.proofs.FoundTickets.{ticket_found}
 use Rattle.ee_store_lookups.proofs.Lemmas.{excused, inside_content, sees_content, still_content}
 
@@ -90,8 +91,18 @@ module _ (old start : State) (is : start ≡ begun old) (middle new : State) (cr
   pub read_ready : new.in_transaction ≡ false → IsReady old → IsReady new
   read_ready ended ready = (ended, survives.limit ∙ crash.limit ∙ ap (λ (s : State). s.step_limit) is ∙ ready.1)
 
--- a transaction that is read and rolled back keeps the content
-pub read_keeps : (old start : State) (is : start ≡ begun old) (settled : IsTrue old.is_open → old.now ≡ old.committed) (middle new : State)
-    → CommitsNothing start middle → Survives middle new (λ _. ⊥) → (HasCleanDisk new → IsRolledBack middle new) → KeepsContent old new
-read_keeps old start is settled middle new commit survives undone clean S has =
-    still_content old start is middle new S has (commit (clean_before middle new survives clean) (inside_content old start is settled S has)) (rolled_keeps old start is middle new (undone clean))
+-- a transaction that is read and rolled back keeps the content, and the room for more rows
+module _ (old start : State) (is : start ≡ begun old) (settled : IsTrue old.is_open → old.now ≡ old.committed) (middle new : State) (commit : CommitsNothing start middle)
+    (survives : Survives middle new (λ _. ⊥)) (undone : HasCleanDisk new → IsRolledBack middle new) where
+  pub read_keeps : KeepsContent old new
+  read_keeps clean S has =
+      still_content old start is middle new S has (commit (clean_before middle new survives clean) (inside_content old start is settled S has)) (rolled_keeps old start is middle new (undone clean))
+
+  pub read_room : KeepsRoom old new
+  read_room clean S has n room is_open =
+      let keeps = commit (clean_before middle new survives clean) (inside_content old start is settled S has) in
+      let rolled = undone clean in
+      let before = rolled.was_open is_open in
+      let was_open = subst (λ (s : State). IsTrue s.is_open) is (keeps.was_open before) in
+      let same = (rolled.undone is_open).0 ∙ keeps.committed before ∙ ap (λ (s : State). s.committed) is ∙ sym (settled was_open) in
+      subst (λ (d : Database). IsDatabase d × HasRoomIn n d.trees) (sym same) (room was_open)

@@ -1,13 +1,13 @@
 -- What a query shows of the content that a store has.
 -- Of a store that a failing disk has shut nothing is said.
-use Rattle.std.specs.Prelude.{Result, IfOk, IfErr}
+use Rattle.std.specs.Prelude.{ℕ, Result, IfOk, IfErr}
 use Rattle.sqlite.specs.State.{State, HasCleanDisk}
 use Rattle.ee_units.specs.Denoms.{dollars}
 use Rattle.ee_calculator.specs.declared.bonds.Bond.{Bond}
 use Rattle.ee_desk_acts.specs.Repeats.{Content}
 use Rattle.ee_store_tables.specs.declared.records.PlacedLine.{PlacedLine}
 use Rattle.ee_store_tables.specs.declared.records.UnpaidBond.{UnpaidBond}
-use Rattle.ee_store_tables.specs.Rows.{PaidRow}
+use Rattle.ee_store_tables.specs.Rows.{PaidRow, HasRoom}
 use Rattle.ee_store_lookups.specs.Seen.{HasContent}
 use Rattle.ee_store_lookups.specs.Causes.{IsReady}
 use Rattle.ee_store_tables.specs.Statements.{IsExcused}
@@ -20,6 +20,10 @@ ShowsContent old new result Is = HasCleanDisk new → IfOk result (λ shown. (co
 -- whichever content the store has, it keeps
 abbrev pub KeepsContent : State → State → Type 0
 KeepsContent old new = HasCleanDisk new → (content : Content) → HasContent old content → HasContent new content
+
+-- a store that has a content has room for as many rows as before
+abbrev pub KeepsRoom : State → State → Type 0
+KeepsRoom old new = HasCleanDisk new → (content : Content) → HasContent old content → (n : ℕ) → HasRoom n old → HasRoom n new
 
 -- the row of a line, without its place
 abbrev pub row_of_placed : PlacedLine → PaidRow

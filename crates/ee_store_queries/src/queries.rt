@@ -9,7 +9,7 @@ ghost use Rattle.ee_store_tables.specs.Statements.{StaysInside, CommitsNothing, 
 ghost use Rattle.ee_keeper.specs.Keeping.{IsInventory, IsQuote};
 ghost use Rattle.ee_store_lookups.specs.Causes.{FailsByCause, IsReady};
 ghost use Rattle.ee_store_lookups.specs.Seen.{FindsIn, LeavesRows};
-ghost use Rattle.ee_store_queries.specs.Asking.{AnswersOrFails, ShowsContent, KeepsContent};
+ghost use Rattle.ee_store_queries.specs.Asking.{AnswersOrFails, ShowsContent, KeepsContent, KeepsRoom};
 
 use crate::from_rows::{batch_shown, bonds_shown, ticket_shown};
 use crate::periods::periods_in;
@@ -187,6 +187,7 @@ pub fn ask_batch<S: Alter>(conn: &mut Connection<S>, day: Day) -> Result<Option<
     ensures kept { KeepsContent (state S.Store conn.old) (state S.Store conn.new) }
     ensures crash { LeavesNoMore (state S.Store conn.old) (state S.Store conn.new) }
     ensures ready { IsReady (state S.Store conn.old) → IsReady (state S.Store conn.new) }
+    ensures room { KeepsRoom (state S.Store conn.old) (state S.Store conn.new) }
     ensures cause { AnswersOrFails (state S.Store conn.old) (state S.Store conn.new) result }
 {
     if !conn.is_autocommit() {
@@ -206,6 +207,7 @@ pub fn ask_ticket<S: Alter>(
     ensures kept { KeepsContent (state S.Store conn.old) (state S.Store conn.new) }
     ensures crash { LeavesNoMore (state S.Store conn.old) (state S.Store conn.new) }
     ensures ready { IsReady (state S.Store conn.old) → IsReady (state S.Store conn.new) }
+    ensures room { KeepsRoom (state S.Store conn.old) (state S.Store conn.new) }
     ensures cause { AnswersOrFails (state S.Store conn.old) (state S.Store conn.new) result }
 {
     if !conn.is_autocommit() {
@@ -228,6 +230,7 @@ pub fn ask_quote<S: Alter>(
     ensures kept { KeepsContent (state S.Store conn.old) (state S.Store conn.new) }
     ensures crash { LeavesNoMore (state S.Store conn.old) (state S.Store conn.new) }
     ensures ready { IsReady (state S.Store conn.old) → IsReady (state S.Store conn.new) }
+    ensures room { KeepsRoom (state S.Store conn.old) (state S.Store conn.new) }
     ensures cause { AnswersOrFails (state S.Store conn.old) (state S.Store conn.new) result }
 {
     if !conn.is_autocommit() {
@@ -247,6 +250,7 @@ pub fn ask_bonds<S: Alter>(
     ensures kept { KeepsContent (state S.Store conn.old) (state S.Store conn.new) }
     ensures crash { LeavesNoMore (state S.Store conn.old) (state S.Store conn.new) }
     ensures ready { IsReady (state S.Store conn.old) → IsReady (state S.Store conn.new) }
+    ensures room { KeepsRoom (state S.Store conn.old) (state S.Store conn.new) }
     ensures cause { AnswersOrFails (state S.Store conn.old) (state S.Store conn.new) result }
 {
     if !conn.is_autocommit() {
@@ -268,6 +272,7 @@ pub fn ask_inventory<S: Alter>(
     ensures kept { KeepsContent (state S.Store conn.old) (state S.Store conn.new) }
     ensures crash { LeavesNoMore (state S.Store conn.old) (state S.Store conn.new) }
     ensures ready { IsReady (state S.Store conn.old) → IsReady (state S.Store conn.new) }
+    ensures room { KeepsRoom (state S.Store conn.old) (state S.Store conn.new) }
     ensures cause { AnswersOrFails (state S.Store conn.old) (state S.Store conn.new) result }
 {
     if !conn.is_autocommit() {

@@ -3,6 +3,9 @@ use Rattle.sqlite.specs.Held.{state}
 use Rattle.ee_store.proofs.Asked.{still_informed}
 use Rattle.ee_store.proofs.keeper.SqlKeeper.inventory.Goals as goal
 
+pub returns-in-Ok-clause-room : goal.returns-in-Ok-clause-room
+returns-in-Ok-clause-room g c = c.ask_inventory.ensures.room
+
 pub returns-in-Ok-clause-informed : goal.returns-in-Ok-clause-informed
 returns-in-Ok-clause-informed g c =
     still_informed (state g.S.Store c.args.self.now.conn) (state g.S.Store c.ask_inventory.new.conn) c.args.self.now.known c.ask_inventory.ensures.crash c.ask_inventory.ensures.kept
