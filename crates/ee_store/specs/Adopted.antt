@@ -167,6 +167,8 @@ pub record IsRefusedFrom {D : Type 0} {g : Ghosts D} (start : Image) (fault : Op
   pub waits : StaysStopped (file_state was) (file_state now)
   pub crash : Survives (file_state was) (file_state now) (λ db. IsBlank (file_state was) → StandsFor db nothing)
   pub left : LeavesAsBefore (file_state was) (file_state now)
+  -- a later call may adopt it
+  pub ready : IsReady (file_state now)
 
 -- what is told of the connection that is handed back
 abbrev pub IfConnection : {S L : Type 0} → Rest S L → (Held S → Type 0) → Type 0

@@ -92,7 +92,7 @@ fn ready<S: Alter>(conn: &mut Connection<S>, alloc: Global) -> Result<UnitTables
     ensures other { HasCleanDisk (state S.Store conn.new) → IfErr result (λ fault. fault ≡ OpenFault.WrongVersion → HadOtherVersion (state S.Store conn.old)) }
     ensures unusable { HasCleanDisk (state S.Store conn.new) → IfErr result (λ fault. fault ≡ OpenFault.Unusable → HadNone (state S.Store conn.old)) }
     ensures tested { HasCleanDisk (state S.Store conn.new) → IfErr result (λ fault. fault ≡ OpenFault.Unusable → HadNoOtherVersion (state S.Store conn.old)) }
-    ensures ready { HasCleanDisk (state S.Store conn.new) → OnOk result (IsReady (state S.Store conn.old) → IsReady (state S.Store conn.new)) }
+    ensures ready { IsReady (state S.Store conn.old) → IsReady (state S.Store conn.new) }
     ensures room { HasCleanDisk (state S.Store conn.new) → OnOk result (OpensWithRoom (state S.Store conn.old) (state S.Store conn.new)) }
     ensures cause { HasCleanDisk (state S.Store conn.new) → IfErr result (FailsToAdopt (state S.Store conn.old) (state S.Store conn.new)) }
     ensures crash { Survives (state S.Store conn.old) (state S.Store conn.new) (λ db. IsBlank (state S.Store conn.old) → StandsFor db nothing) }
@@ -130,7 +130,8 @@ impl<S: Alter> SqlKeeper<S> {
     /// - `version`, `unusable`: a store that has a content, or no tables, is refused for neither.
     /// - `other`, `tested`: `WrongVersion` is told only where the rows have another version, and `Unusable`
     ///   never there.
-    /// - `ready`: a connection in no transaction, with no limit on steps, makes a keeper that takes requests.
+    /// - `ready`: a connection in no transaction, with no limit on steps, makes a keeper that takes requests. If it is
+    ///   refused, it is handed back so.
     /// - `room`: it has room for as many rows with hidden numbers as its trees have; a store that was new, for 2^63 - 1.
     /// - `cause`: of such a connection, over a store without tables or with just those of either version,
     ///   `StoreFailed` is told only where the device failed once more, or the store was shut before; of a store of
@@ -166,7 +167,8 @@ impl<S: Alter> SqlKeeper<S> {
             (λ not. HasCleanDisk (state S.Store not.conn) → not.fault ≡ OpenFault.WrongVersion → HadOtherVersion (state S.Store conn)) }
         ensures unusable { IfErr result (λ not. HasCleanDisk (state S.Store not.conn) → not.fault ≡ OpenFault.Unusable → HadNone (state S.Store conn)) }
         ensures tested { IfErr result (λ not. HasCleanDisk (state S.Store not.conn) → not.fault ≡ OpenFault.Unusable → HadNoOtherVersion (state S.Store conn)) }
-        ensures ready { IfOk result (λ keeper. HasCleanDisk (state S.Store keeper.conn) → IsReady (state S.Store conn) → IsReady (state S.Store keeper.conn)) }
+        ensures ready { MatchResult result (λ keeper. IsReady (state S.Store conn) → IsReady (state S.Store keeper.conn))
+            (λ not. IsReady (state S.Store conn) → IsReady (state S.Store not.conn)) }
         ensures room { IfOk result (λ keeper. HasCleanDisk (state S.Store keeper.conn) → OpensWithRoom (state S.Store conn) (state S.Store keeper.conn)) }
         ensures cause { IfErr result (λ not. HasCleanDisk (state S.Store not.conn) → FailsToAdopt (state S.Store conn) (state S.Store not.conn) not.fault) }
         ensures waits { IfErr result (λ not. HasCleanDisk (state S.Store not.conn) → StaysStopped (state S.Store conn) (state S.Store not.conn)) }

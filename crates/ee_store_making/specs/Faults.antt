@@ -1,5 +1,5 @@
--- What a failure of `sqlite` says of a store that is opened, and why a store is told to have failed.
-use Rattle.std.specs.Prelude.{◌≡◌, None, Result, IfErr}
+-- What a failure of `sqlite` says of a store that is opened, why a store is told to have failed, and what a call leaves even so.
+use Rattle.std.specs.Prelude.{◌≡◌, false, None, Result, IfErr}
 use Rattle.sqlite.specs.State.{State, HasCleanDisk}
 use Rattle.ee_store_tables.specs.Statements.{HasCause}
 use Rattle.ee_store_tables.specs.declared.failures.Failure.{Failure}
@@ -38,3 +38,7 @@ IsExcused old new fault = fault ≡ StoreFailed → HasCause old new
 -- it has, from a state like this on and with no limit on steps
 abbrev pub FailsForCause : {X : Type 0} → (State → Type 0) → State → State → Result X OpenFault → Type 0
 FailsForCause Starts old new result = HasCleanDisk new → Starts old → old.step_limit ≡ None → IfErr result (IsExcused old new)
+
+-- a connection that was in no transaction is in none, whether the call failed or not
+abbrev pub StaysOutside : State → State → Type 0
+StaysOutside old new = old.in_transaction ≡ false → new.in_transaction ≡ false

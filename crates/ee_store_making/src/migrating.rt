@@ -9,7 +9,7 @@ ghost use Rattle.std.specs.FinMap.{insert};
 ghost use Rattle.ee_store_tables.specs.Rows.{Rows, Has, IsInside, Sees};
 ghost use Rattle.ee_store_making.specs.declared.forms.Form.TheVariants.{Current};
 ghost use Rattle.ee_store_tables.specs.Failures.{failure_of};
-ghost use Rattle.ee_store_making.specs.Faults.{FailsForCause, fault_told};
+ghost use Rattle.ee_store_making.specs.Faults.{FailsForCause, StaysOutside, fault_told};
 ghost use Rattle.ee_store_making.specs.Forms.{HasForm, HadIn, SeesForm, SeesIn, schema_of};
 ghost use Rattle.ee_store_making.specs.Making.{IsOver};
 ghost use Rattle.ee_store_making.specs.Migrating.{
@@ -181,6 +181,7 @@ pub fn migrate<S: Alter>(
     ensures cause { FailsForCause (λ s. (s.in_transaction ≡ false) × CanBecome form answers.now s)
         (state S.Store conn.old) (state S.Store conn.new) result }
     ensures ended { OnOk result ((state S.Store conn.new).in_transaction ≡ false) }
+    ensures outside { StaysOutside (state S.Store conn.old) (state S.Store conn.new) }
     ensures crash { Survives (state S.Store conn.old) (state S.Store conn.new) (Migrates form answers.now (state S.Store conn.old)) }
     ensures open { HasCleanDisk (state S.Store conn.new) → IsTrue (state S.Store conn.old).is_open → OnOk result (IsTrue (state S.Store conn.new).is_open) }
     ensures durable { HasCleanDisk (state S.Store conn.new) → OnOk result ((form ≡ Current) ⊎ ((db : Trees) → (state S.Store conn.new).may_leave db

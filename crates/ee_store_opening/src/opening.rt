@@ -8,7 +8,7 @@ ghost use Rattle.ee_store_tables.specs.Rows.{Rows, Has, Stores};
 ghost use Rattle.ee_store_tables.specs.Statements.{LeavesNoMore};
 ghost use Rattle.ee_store_making.specs.declared.forms.Form.{Form};
 ghost use Rattle.ee_store_making.specs.declared.forms.Form.TheVariants.{Current};
-ghost use Rattle.ee_store_making.specs.Faults.{IsExcused, FailsForCause};
+ghost use Rattle.ee_store_making.specs.Faults.{IsExcused, FailsForCause, StaysOutside};
 ghost use Rattle.ee_store_making.specs.Forms.{HasForm, IsOurs, HadIn};
 ghost use Rattle.ee_store_making.specs.Making.{IsBlank, first_rows};
 ghost use Rattle.ee_store_opening.specs.Whole.{AreRead, AreInOrder};
@@ -40,6 +40,7 @@ fn open_blank<S: Alter, P: RowTest<StoredAnswer>>(
         ⊎ (IsTrue (state S.Store conn.old).is_open × (IsBlank (state S.Store conn.old) → Has (state S.Store conn.new) first_rows))) }
     ensures cause { FailsForCause (λ s. (s.in_transaction ≡ false) × IsBlank s) (state S.Store conn.old) (state S.Store conn.new) result }
     ensures ended { HasCleanDisk (state S.Store conn.new) → OnOk result ((state S.Store conn.new).in_transaction ≡ false) }
+    ensures outside { StaysOutside (state S.Store conn.old) (state S.Store conn.new) }
     ensures crash { Survives (state S.Store conn.old) (state S.Store conn.new) (λ db. IsBlank (state S.Store conn.old) → Stores db first_rows) }
 {
     make_tables(conn)?;
@@ -49,6 +50,7 @@ fn open_blank<S: Alter, P: RowTest<StoredAnswer>>(
 /// Why a store with other tables isn't opened.
 fn refusal<S: Alter>(conn: &mut Connection<S>) -> OpenFault
     ensures kept { HasCleanDisk (state S.Store conn.new) → KeepsCommit (state S.Store conn.old) (state S.Store conn.new) }
+    ensures outside { StaysOutside (state S.Store conn.old) (state S.Store conn.new) }
     ensures crash { LeavesNoMore (state S.Store conn.old) (state S.Store conn.new) }
 {
     match known_version(conn) {
@@ -121,6 +123,7 @@ pub fn open_rows<S: Alter, P: RowTest<StoredAnswer>>(
     ensures left { HasCleanDisk (state S.Store conn.new) → IsTrue (state S.Store conn.old).is_open → HasTables (state S.Store conn.old) → (db : Trees)
         → (state S.Store conn.new).may_leave db → (state S.Store conn.old).may_leave db }
     ensures ended { HasCleanDisk (state S.Store conn.new) → OnOk result ((state S.Store conn.new).in_transaction ≡ false) }
+    ensures outside { StaysOutside (state S.Store conn.old) (state S.Store conn.new) }
     ensures clean { HasCleanDisk (state S.Store conn.new) → HasCleanDisk (state S.Store conn.old) }
     ensures cause { HasCleanDisk (state S.Store conn.new) → (state S.Store conn.old).in_transaction ≡ false → (state S.Store conn.old).step_limit ≡ None
         → IsBlank (state S.Store conn.old) ⊎ IsOurs (state S.Store conn.old) → IfErr result (IsExcused (state S.Store conn.old) (state S.Store conn.new)) }

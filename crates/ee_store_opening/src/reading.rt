@@ -10,7 +10,7 @@ ghost use Rattle.sqlite.specs.Schema.{Schema};
 ghost use Rattle.sqlite.specs.Term.{Term};
 ghost use Rattle.sqlite_value.specs.declared.keys.Key.{Key};
 ghost use Rattle.sqlite.specs.Order.{Row as Columns};
-ghost use Rattle.ee_store_making.specs.Faults.{FailsForCause};
+ghost use Rattle.ee_store_making.specs.Faults.{FailsForCause, StaysOutside};
 ghost use Rattle.ee_store_making.specs.Forms.{SeesSchema};
 ghost use Rattle.ee_store_making.specs.Asking.{IsNeverRefused};
 ghost use Rattle.ee_store_opening.specs.Reading.{rises, whole_table, AsksForAll, ShowsAll, ShowsUnreadable, CanBeRead, OnlyAsks};
@@ -80,6 +80,7 @@ pub(crate) fn gather_rows<S: Alter, T: Record + Drop, G: Gather<T> + Drop>(
         → ShowsUnreadable T.is_readable sql.now (state S.Store conn.old)) }
     ensures same { HasCleanDisk (state S.Store conn.new) → OnOk result (IsUnchanged (state S.Store conn.old) (state S.Store conn.new)) }
     ensures kept { HasCleanDisk (state S.Store conn.new) → KeepsCommit (state S.Store conn.old) (state S.Store conn.new) }
+    ensures outside { StaysOutside (state S.Store conn.old) (state S.Store conn.new) }
     ensures other { IfErr result (λ e. e ≢ OpenFault.WrongVersion) }
     ensures cause { FailsForCause (λ s. IsNeverRefused s.now.schema sql.now []) (state S.Store conn.old) (state S.Store conn.new) result }
     ensures crash { Survives (state S.Store conn.old) (state S.Store conn.new) (λ _. ⊥) }
@@ -134,6 +135,7 @@ pub(crate) fn read_table<S: Alter, T: Record + Drop>(
         → ¬ CanBeRead T.is_readable T.shown T.stands_before (state S.Store conn.old).now.trees (whole_table tree terms order)) }
     ensures same { HasCleanDisk (state S.Store conn.new) → OnOk result (IsUnchanged (state S.Store conn.old) (state S.Store conn.new)) }
     ensures kept { HasCleanDisk (state S.Store conn.new) → KeepsCommit (state S.Store conn.old) (state S.Store conn.new) }
+    ensures outside { StaysOutside (state S.Store conn.old) (state S.Store conn.new) }
     ensures other { IfErr result (λ e. e ≢ OpenFault.WrongVersion) }
     ensures cause { (schema : Schema) → IsNeverRefused schema sql.now []
         → FailsForCause (SeesSchema schema) (state S.Store conn.old) (state S.Store conn.new) result }

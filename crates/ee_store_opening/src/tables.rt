@@ -22,7 +22,7 @@ ghost use Rattle.ee_store_tables.specs.Rows.{
   batch_columns,
   reply_columns,
 };
-ghost use Rattle.ee_store_making.specs.Faults.{FailsForCause};
+ghost use Rattle.ee_store_making.specs.Faults.{FailsForCause, StaysOutside};
 ghost use Rattle.ee_store_making.specs.declared.forms.Form.TheVariants.{Current, First};
 ghost use Rattle.ee_store_making.specs.Forms.{at_first_desk, HasOurTables, SeesForm, HoldsIn, HoldsReplies};
 ghost use Rattle.ee_store_making.specs.Migrating.{answer_entry};
@@ -69,6 +69,7 @@ pub(crate) fn read_desk<S: Alter>(
         → IsTrue (state S.Store conn.old).is_open → (m : FinMap nat_cmp DeskRow) → ¬ HoldsMap desk_columns ((state S.Store conn.old).now.trees 0) m) }
     ensures same { HasCleanDisk (state S.Store conn.new) → OnOk result (IsUnchanged (state S.Store conn.old) (state S.Store conn.new)) }
     ensures kept { HasCleanDisk (state S.Store conn.new) → KeepsCommit (state S.Store conn.old) (state S.Store conn.new) }
+    ensures outside { StaysOutside (state S.Store conn.old) (state S.Store conn.new) }
     ensures other { IfErr result (λ e. e ≢ OpenFault.WrongVersion) }
     ensures cause { FailsForCause HasOurTables (state S.Store conn.old) (state S.Store conn.new) result }
     ensures crash { Survives (state S.Store conn.old) (state S.Store conn.new) (λ _. ⊥) }
@@ -92,6 +93,7 @@ pub(crate) fn read_rates<S: Alter>(
         → IsTrue (state S.Store conn.old).is_open → (m : FinMap nat_cmp ℕ) → ¬ HoldsMap rate_columns ((state S.Store conn.old).now.trees 1) m) }
     ensures same { HasCleanDisk (state S.Store conn.new) → OnOk result (IsUnchanged (state S.Store conn.old) (state S.Store conn.new)) }
     ensures kept { HasCleanDisk (state S.Store conn.new) → KeepsCommit (state S.Store conn.old) (state S.Store conn.new) }
+    ensures outside { StaysOutside (state S.Store conn.old) (state S.Store conn.new) }
     ensures other { IfErr result (λ e. e ≢ OpenFault.WrongVersion) }
     ensures cause { FailsForCause HasOurTables (state S.Store conn.old) (state S.Store conn.new) result }
     ensures crash { Survives (state S.Store conn.old) (state S.Store conn.new) (λ _. ⊥) }
@@ -115,6 +117,7 @@ pub(crate) fn read_tickets<S: Alter>(
         → IsTrue (state S.Store conn.old).is_open → (m : FinMap nat_cmp TicketRow) → ¬ HoldsMap ticket_columns ((state S.Store conn.old).now.trees 5) m) }
     ensures same { HasCleanDisk (state S.Store conn.new) → OnOk result (IsUnchanged (state S.Store conn.old) (state S.Store conn.new)) }
     ensures kept { HasCleanDisk (state S.Store conn.new) → KeepsCommit (state S.Store conn.old) (state S.Store conn.new) }
+    ensures outside { StaysOutside (state S.Store conn.old) (state S.Store conn.new) }
     ensures other { IfErr result (λ e. e ≢ OpenFault.WrongVersion) }
     ensures cause { FailsForCause HasOurTables (state S.Store conn.old) (state S.Store conn.new) result }
     ensures crash { Survives (state S.Store conn.old) (state S.Store conn.new) (λ _. ⊥) }
@@ -138,6 +141,7 @@ pub(crate) fn read_batches<S: Alter>(
         → IsTrue (state S.Store conn.old).is_open → (m : FinMap nat_cmp BatchRow) → ¬ HoldsMap batch_columns ((state S.Store conn.old).now.trees 10) m) }
     ensures same { HasCleanDisk (state S.Store conn.new) → OnOk result (IsUnchanged (state S.Store conn.old) (state S.Store conn.new)) }
     ensures kept { HasCleanDisk (state S.Store conn.new) → KeepsCommit (state S.Store conn.old) (state S.Store conn.new) }
+    ensures outside { StaysOutside (state S.Store conn.old) (state S.Store conn.new) }
     ensures other { IfErr result (λ e. e ≢ OpenFault.WrongVersion) }
     ensures cause { FailsForCause HasOurTables (state S.Store conn.old) (state S.Store conn.new) result }
     ensures crash { Survives (state S.Store conn.old) (state S.Store conn.new) (λ _. ⊥) }
@@ -162,6 +166,7 @@ fn read_replies<S: Alter>(
         → ¬ HoldsMap reply_columns ((state S.Store conn.old).now.trees 11) m) }
     ensures same { HasCleanDisk (state S.Store conn.new) → OnOk result (IsUnchanged (state S.Store conn.old) (state S.Store conn.new)) }
     ensures kept { HasCleanDisk (state S.Store conn.new) → KeepsCommit (state S.Store conn.old) (state S.Store conn.new) }
+    ensures outside { StaysOutside (state S.Store conn.old) (state S.Store conn.new) }
     ensures other { IfErr result (λ e. e ≢ OpenFault.WrongVersion) }
     ensures cause { FailsForCause HasFirstTables (state S.Store conn.old) (state S.Store conn.new) result }
     ensures crash { Survives (state S.Store conn.old) (state S.Store conn.new) (λ _. ⊥) }
@@ -206,6 +211,7 @@ fn read_first_answers<S: Alter>(
         → ¬ HoldsReplies (state S.Store conn.old).now.trees m) }
     ensures same { HasCleanDisk (state S.Store conn.new) → OnOk result (IsUnchanged (state S.Store conn.old) (state S.Store conn.new)) }
     ensures kept { HasCleanDisk (state S.Store conn.new) → KeepsCommit (state S.Store conn.old) (state S.Store conn.new) }
+    ensures outside { StaysOutside (state S.Store conn.old) (state S.Store conn.new) }
     ensures other { IfErr result (λ e. e ≢ OpenFault.WrongVersion) }
     ensures cause { FailsForCause HasFirstTables (state S.Store conn.old) (state S.Store conn.new) result }
     ensures crash { Survives (state S.Store conn.old) (state S.Store conn.new) (λ _. ⊥) }
@@ -236,6 +242,7 @@ fn test_first_answers<S: Alter, P: RowTest<StoredAnswer>>(
         → ¬ HoldsReplies (state S.Store conn.old).now.trees m) }
     ensures same { HasCleanDisk (state S.Store conn.new) → OnOk result (IsUnchanged (state S.Store conn.old) (state S.Store conn.new)) }
     ensures kept { HasCleanDisk (state S.Store conn.new) → KeepsCommit (state S.Store conn.old) (state S.Store conn.new) }
+    ensures outside { StaysOutside (state S.Store conn.old) (state S.Store conn.new) }
     ensures other { IfErr result (λ e. e ≢ OpenFault.WrongVersion) }
     ensures cause { FailsForCause HasFirstTables (state S.Store conn.old) (state S.Store conn.new) result }
     ensures crash { Survives (state S.Store conn.old) (state S.Store conn.new) (λ _. ⊥) }
@@ -258,6 +265,7 @@ fn test_current_answers<S: Alter, P: RowTest<StoredAnswer>>(
         → ¬ HoldsPairs reply_columns ((state S.Store conn.old).now.trees 13) m) }
     ensures same { HasCleanDisk (state S.Store conn.new) → OnOk result (IsUnchanged (state S.Store conn.old) (state S.Store conn.new)) }
     ensures kept { HasCleanDisk (state S.Store conn.new) → KeepsCommit (state S.Store conn.old) (state S.Store conn.new) }
+    ensures outside { StaysOutside (state S.Store conn.old) (state S.Store conn.new) }
     ensures other { IfErr result (λ e. e ≢ OpenFault.WrongVersion) }
     ensures cause { FailsForCause (SeesForm Current) (state S.Store conn.old) (state S.Store conn.new) result }
     ensures crash { Survives (state S.Store conn.old) (state S.Store conn.new) (λ _. ⊥) }
@@ -292,6 +300,7 @@ pub(crate) fn test_answers<S: Alter, P: RowTest<StoredAnswer>>(
         → ¬ HoldsKept form (state S.Store conn.old).now.trees m) }
     ensures same { HasCleanDisk (state S.Store conn.new) → OnOk result (IsUnchanged (state S.Store conn.old) (state S.Store conn.new)) }
     ensures kept { HasCleanDisk (state S.Store conn.new) → KeepsCommit (state S.Store conn.old) (state S.Store conn.new) }
+    ensures outside { StaysOutside (state S.Store conn.old) (state S.Store conn.new) }
     ensures other { IfErr result (λ e. e ≢ OpenFault.WrongVersion) }
     ensures cause { FailsForCause (SeesForm form) (state S.Store conn.old) (state S.Store conn.new) result }
     ensures crash { Survives (state S.Store conn.old) (state S.Store conn.new) (λ _. ⊥) }
@@ -314,6 +323,7 @@ pub(crate) fn read_bonds<S: Alter>(
         → IsTrue (state S.Store conn.old).is_open → (m : FinMap pair_cmp BondRow) → ¬ HoldsPairs bond_columns ((state S.Store conn.old).now.trees 2) m) }
     ensures same { HasCleanDisk (state S.Store conn.new) → OnOk result (IsUnchanged (state S.Store conn.old) (state S.Store conn.new)) }
     ensures kept { HasCleanDisk (state S.Store conn.new) → KeepsCommit (state S.Store conn.old) (state S.Store conn.new) }
+    ensures outside { StaysOutside (state S.Store conn.old) (state S.Store conn.new) }
     ensures other { IfErr result (λ e. e ≢ OpenFault.WrongVersion) }
     ensures cause { FailsForCause HasOurTables (state S.Store conn.old) (state S.Store conn.new) result }
     ensures crash { Survives (state S.Store conn.old) (state S.Store conn.new) (λ _. ⊥) }
@@ -343,6 +353,7 @@ pub(crate) fn read_lines<S: Alter>(
         → IsTrue (state S.Store conn.old).is_open → (m : FinMap pair_cmp PaidRow) → ¬ HoldsPairs paid_columns ((state S.Store conn.old).now.trees 7) m) }
     ensures same { HasCleanDisk (state S.Store conn.new) → OnOk result (IsUnchanged (state S.Store conn.old) (state S.Store conn.new)) }
     ensures kept { HasCleanDisk (state S.Store conn.new) → KeepsCommit (state S.Store conn.old) (state S.Store conn.new) }
+    ensures outside { StaysOutside (state S.Store conn.old) (state S.Store conn.new) }
     ensures other { IfErr result (λ e. e ≢ OpenFault.WrongVersion) }
     ensures cause { FailsForCause HasOurTables (state S.Store conn.old) (state S.Store conn.new) result }
     ensures crash { Survives (state S.Store conn.old) (state S.Store conn.new) (λ _. ⊥) }
@@ -374,6 +385,7 @@ pub(crate) fn read_extensions<S: Alter>(
     ensures same { HasCleanDisk (state S.Store conn.new) → IsTrue (state S.Store conn.old).is_open
         → OnOk result (IsUnchanged (state S.Store conn.old) (state S.Store conn.new)) }
     ensures kept { HasCleanDisk (state S.Store conn.new) → KeepsCommit (state S.Store conn.old) (state S.Store conn.new) }
+    ensures outside { StaysOutside (state S.Store conn.old) (state S.Store conn.new) }
     ensures other { IfErr result (λ e. e ≢ OpenFault.WrongVersion) }
     ensures cause { FailsForCause (SeesForm form) (state S.Store conn.old) (state S.Store conn.new) result }
     ensures crash { Survives (state S.Store conn.old) (state S.Store conn.new) (λ _. ⊥) }

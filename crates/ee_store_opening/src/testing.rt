@@ -7,7 +7,7 @@ ghost use Rattle.sqlite.specs.Held.{state};
 ghost use Rattle.sqlite.specs.Schema.{Schema};
 ghost use Rattle.sqlite.specs.Term.{Term};
 ghost use Rattle.sqlite_value.specs.declared.keys.Key.{Key};
-ghost use Rattle.ee_store_making.specs.Faults.{FailsForCause};
+ghost use Rattle.ee_store_making.specs.Faults.{FailsForCause, StaysOutside};
 ghost use Rattle.ee_store_making.specs.Forms.{SeesSchema};
 ghost use Rattle.ee_store_making.specs.Asking.{IsNeverRefused};
 ghost use Rattle.ee_store_opening.specs.Reading.{rises, whole_table, AsksForAll, ShowsAll, CanBeRead, OnlyAsks};
@@ -83,6 +83,7 @@ pub(crate) fn test_table<S: Alter, T: Record + Drop, P: RowTest<T>>(
         → ¬ CanBeRead T.is_readable T.shown T.stands_before (state S.Store conn.old).now.trees (whole_table tree terms order)) }
     ensures same { HasCleanDisk (state S.Store conn.new) → OnOk result (IsUnchanged (state S.Store conn.old) (state S.Store conn.new)) }
     ensures kept { HasCleanDisk (state S.Store conn.new) → KeepsCommit (state S.Store conn.old) (state S.Store conn.new) }
+    ensures outside { StaysOutside (state S.Store conn.old) (state S.Store conn.new) }
     ensures other { IfErr result (λ e. e ≢ OpenFault.WrongVersion) }
     ensures cause { (schema : Schema) → IsNeverRefused schema sql.now []
         → FailsForCause (SeesSchema schema) (state S.Store conn.old) (state S.Store conn.new) result }

@@ -8,7 +8,7 @@ ghost use Rattle.sqlite.specs.State.{HasCleanDisk, IsUnchanged, KeepsCommit};
 ghost use Rattle.ee_store_tables.specs.Rows.{Rows, DeskRow};
 ghost use Rattle.ee_store_tables.specs.Statements.{LeavesNoMore};
 ghost use Rattle.ee_store_making.specs.declared.forms.Form.{Form};
-ghost use Rattle.ee_store_making.specs.Faults.{FailsForCause};
+ghost use Rattle.ee_store_making.specs.Faults.{FailsForCause, StaysOutside};
 ghost use Rattle.ee_store_making.specs.Forms.{HasOurTables, SeesIn};
 ghost use Rattle.ee_store_opening.specs.Opening.{version_shown, versions_in, Names, IsOtherVersion};
 
@@ -28,6 +28,7 @@ fn version_rows<S: Alter>(conn: &mut Connection<S>) -> Result<Vec<Row>, OpenFaul
         → found.items ≡ versions_in rows) }
     ensures same { HasCleanDisk (state S.Store conn.new) → OnOk result (IsUnchanged (state S.Store conn.old) (state S.Store conn.new)) }
     ensures kept { HasCleanDisk (state S.Store conn.new) → KeepsCommit (state S.Store conn.old) (state S.Store conn.new) }
+    ensures outside { StaysOutside (state S.Store conn.old) (state S.Store conn.new) }
     ensures usable { HasCleanDisk (state S.Store conn.new) → IfErr result (λ e. HasOurTables (state S.Store conn.old)
         → IsTrue (state S.Store conn.old).is_open → e ≢ OpenFault.Unusable) }
     ensures other { IfErr result (λ e. e ≢ OpenFault.WrongVersion) }
@@ -68,6 +69,7 @@ pub(crate) fn known_version<S: Alter>(conn: &mut Connection<S>) -> Result<u64, O
         → get rows.desk 1 ≡ None) }
     ensures same { HasCleanDisk (state S.Store conn.new) → OnOk result (IsUnchanged (state S.Store conn.old) (state S.Store conn.new)) }
     ensures kept { HasCleanDisk (state S.Store conn.new) → KeepsCommit (state S.Store conn.old) (state S.Store conn.new) }
+    ensures outside { StaysOutside (state S.Store conn.old) (state S.Store conn.new) }
     ensures cause { FailsForCause HasOurTables (state S.Store conn.old) (state S.Store conn.new) result }
     ensures crash { LeavesNoMore (state S.Store conn.old) (state S.Store conn.new) }
 {

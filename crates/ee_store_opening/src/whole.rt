@@ -8,7 +8,7 @@ ghost use Rattle.ee_store_making.specs.declared.forms.Form.{Form};
 ghost use Rattle.ee_store_making.specs.Forms.{HoldsIn, SeesForm, HasOurTables, SeesIn, HasForm, HadIn};
 ghost use Rattle.ee_store_opening.specs.Opening.{IsOfForm, IsOtherVersion, AreReadable};
 ghost use Rattle.ee_store_opening.specs.Shown.{AreWritten};
-ghost use Rattle.ee_store_making.specs.Faults.{FailsForCause};
+ghost use Rattle.ee_store_making.specs.Faults.{FailsForCause, StaysOutside};
 ghost use Rattle.ee_store_opening.specs.Reading.{IsSoundNow};
 ghost use Rattle.ee_store_opening.specs.Whole.{
   AreRead,
@@ -87,6 +87,7 @@ fn read_register<S: Alter>(conn: &mut Connection<S>, alloc: Global) -> Result<Re
         → IsTrue (state S.Store conn.old).is_open → (form : Form) (rows : Rows) → ¬ HoldsIn form (state S.Store conn.old).now.trees rows) }
     ensures same { HasCleanDisk (state S.Store conn.new) → OnOk result (IsUnchanged (state S.Store conn.old) (state S.Store conn.new)) }
     ensures kept { HasCleanDisk (state S.Store conn.new) → KeepsCommit (state S.Store conn.old) (state S.Store conn.new) }
+    ensures outside { StaysOutside (state S.Store conn.old) (state S.Store conn.new) }
     ensures other { IfErr result (λ e. e ≢ OpenFault.WrongVersion) }
     ensures cause { FailsForCause HasOurTables (state S.Store conn.old) (state S.Store conn.new) result }
     ensures crash { Survives (state S.Store conn.old) (state S.Store conn.new) (λ _. ⊥) }
@@ -106,6 +107,7 @@ fn read_payments<S: Alter>(conn: &mut Connection<S>, alloc: Global) -> Result<Pa
         → IsTrue (state S.Store conn.old).is_open → (form : Form) (rows : Rows) → ¬ HoldsIn form (state S.Store conn.old).now.trees rows) }
     ensures same { HasCleanDisk (state S.Store conn.new) → OnOk result (IsUnchanged (state S.Store conn.old) (state S.Store conn.new)) }
     ensures kept { HasCleanDisk (state S.Store conn.new) → KeepsCommit (state S.Store conn.old) (state S.Store conn.new) }
+    ensures outside { StaysOutside (state S.Store conn.old) (state S.Store conn.new) }
     ensures other { IfErr result (λ e. e ≢ OpenFault.WrongVersion) }
     ensures cause { FailsForCause HasOurTables (state S.Store conn.old) (state S.Store conn.new) result }
     ensures crash { Survives (state S.Store conn.old) (state S.Store conn.new) (λ _. ⊥) }
@@ -129,6 +131,7 @@ fn read_records<S: Alter, P: RowTest<StoredAnswer>>(
         → ¬ HoldsIn form (state S.Store conn.old).now.trees rows) }
     ensures same { HasCleanDisk (state S.Store conn.new) → OnOk result (IsUnchanged (state S.Store conn.old) (state S.Store conn.new)) }
     ensures kept { HasCleanDisk (state S.Store conn.new) → KeepsCommit (state S.Store conn.old) (state S.Store conn.new) }
+    ensures outside { StaysOutside (state S.Store conn.old) (state S.Store conn.new) }
     ensures other { IfErr result (λ e. e ≢ OpenFault.WrongVersion) }
     ensures cause { FailsForCause (SeesForm form) (state S.Store conn.old) (state S.Store conn.new) result }
     ensures crash { Survives (state S.Store conn.old) (state S.Store conn.new) (λ _. ⊥) }
@@ -152,6 +155,7 @@ fn read_in<S: Alter, P: RowTest<StoredAnswer>>(
         → IsTrue (state S.Store conn.old).is_open → (rows : Rows) → AreWritten rows.answers → ¬ HoldsIn form (state S.Store conn.old).now.trees rows) }
     ensures same { HasCleanDisk (state S.Store conn.new) → OnOk result (IsUnchanged (state S.Store conn.old) (state S.Store conn.new)) }
     ensures kept { HasCleanDisk (state S.Store conn.new) → KeepsCommit (state S.Store conn.old) (state S.Store conn.new) }
+    ensures outside { StaysOutside (state S.Store conn.old) (state S.Store conn.new) }
     ensures other { IfErr result (λ e. e ≢ OpenFault.WrongVersion) }
     ensures cause { FailsForCause (SeesForm form) (state S.Store conn.old) (state S.Store conn.new) result }
     ensures crash { Survives (state S.Store conn.old) (state S.Store conn.new) (λ _. ⊥) }
@@ -192,6 +196,7 @@ fn read_of_version<S: Alter, P: RowTest<StoredAnswer>>(
         → IsTrue (state S.Store conn.old).is_open → (rows : Rows) → SeesIn form (state S.Store conn.old) rows → ¬ IsOtherVersion rows) }
     ensures same { HasCleanDisk (state S.Store conn.new) → OnOk result (IsUnchanged (state S.Store conn.old) (state S.Store conn.new)) }
     ensures kept { HasCleanDisk (state S.Store conn.new) → KeepsCommit (state S.Store conn.old) (state S.Store conn.new) }
+    ensures outside { StaysOutside (state S.Store conn.old) (state S.Store conn.new) }
     ensures cause { FailsForCause (SeesForm form) (state S.Store conn.old) (state S.Store conn.new) result }
     ensures crash { Survives (state S.Store conn.old) (state S.Store conn.new) (λ _. ⊥) }
 {
@@ -233,6 +238,7 @@ pub(crate) fn read_all<S: Alter, P: RowTest<StoredAnswer>>(
         → HadIn form (state S.Store conn.old) rows → IsTrue (state S.Store conn.old).is_open → ¬ AreReadable form rows) }
     ensures open { HasCleanDisk (state S.Store conn.new) → OnOk result (IsTrue (state S.Store conn.old).is_open × IsTrue (state S.Store conn.new).is_open) }
     ensures kept { HasCleanDisk (state S.Store conn.new) → KeepsCommit (state S.Store conn.old) (state S.Store conn.new) }
+    ensures outside { StaysOutside (state S.Store conn.old) (state S.Store conn.new) }
     ensures cause { FailsForCause (λ s. (s.in_transaction ≡ false) × HasForm form s) (state S.Store conn.old) (state S.Store conn.new) result }
     ensures ended { HasCleanDisk (state S.Store conn.new) → OnOk result ((state S.Store conn.new).in_transaction ≡ false) }
     ensures crash { Survives (state S.Store conn.old) (state S.Store conn.new) (λ _. ⊥) }

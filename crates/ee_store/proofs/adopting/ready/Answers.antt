@@ -75,6 +75,9 @@ returns-in_err-all-clause-waits g c clean =
     let new = state g.S.Store c.open_rows.new.conn in
     stays_stopped old new c.schema-schema.ensures.live (g.met.S.Store.settled c.args.conn.now.store) (returns-in_err-all-clause-left g c clean)
 
+pub returns-in_err-all-clause-ready : goal.returns-in_err-all-clause-ready
+returns-in_err-all-clause-ready g c is = (c.in_err-all.ensures.outside is.0, c.in_err-all.ensures.crash.limit ∙ is.1)
+
 -- ---- they stand for no content
 pub returns-in_err-tested-clause-kept : goal.returns-in_err-tested-clause-kept
 returns-in_err-tested-clause-kept g c clean =
@@ -127,6 +130,9 @@ returns-in_err-tested-clause-waits g c clean =
     let old = state g.S.Store c.args.conn.now in
     let new = state g.S.Store c.open_rows.new.conn in
     stays_stopped old new c.schema-schema.ensures.live (g.met.S.Store.settled c.args.conn.now.store) (returns-in_err-tested-clause-left g c clean)
+
+pub returns-in_err-tested-clause-ready : goal.returns-in_err-tested-clause-ready
+returns-in_err-tested-clause-ready g c is = (c.in_ok-all.ensures.outside is.0, c.in_ok-all.ensures.crash.limit ∙ is.1)
 
 -- ---- the table is not made
 pub returns-in_err-migrate-clause-kept : goal.returns-in_err-migrate-clause-kept
@@ -203,6 +209,9 @@ returns-in_err-migrate-clause-waits g c clean =
     let old = state g.S.Store c.args.conn.now in
     let new = state g.S.Store c.migrate.new.conn in
     stays_stopped old new c.schema-schema.ensures.live (g.met.S.Store.settled c.args.conn.now.store) (returns-in_err-migrate-clause-left g c clean)
+
+pub returns-in_err-migrate-clause-ready : goal.returns-in_err-migrate-clause-ready
+returns-in_err-migrate-clause-ready g c is = (c.in_err-migrate.ensures.outside (c.in_ok-all.ensures.outside is.0), c.migrate.ensures.crash.limit ∙ c.in_ok-all.ensures.crash.limit ∙ is.1)
 
 -- ---- the store is opened
 
@@ -294,7 +303,7 @@ returns-clause-follows g c clean =
     (returns-clause-found g c clean) (it.open before).0 (returns-clause-begun g c clean).0
 
 pub returns-clause-ready : goal.returns-clause-ready
-returns-clause-ready g c clean is = (c.in_ok-migrate.ensures.ended, c.migrate.ensures.crash.limit ∙ c.in_ok-all.ensures.crash.limit ∙ is.1)
+returns-clause-ready g c is = (c.in_ok-migrate.ensures.ended, c.migrate.ensures.crash.limit ∙ c.in_ok-all.ensures.crash.limit ∙ is.1)
 
 pub returns-clause-crash : goal.returns-clause-crash
 returns-clause-crash g c =

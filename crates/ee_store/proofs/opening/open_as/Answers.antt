@@ -26,7 +26,7 @@ returns-in-Ok-adopt-clause-opened g c clean =
       goes_on = it.goes_on clean;
       crash = it.crash;
       left = it.left clean;
-      ready = it.ready clean (c.in-Ok.ensures.fresh.autocommit, c.in-Ok.ensures.fresh.unlimited);
+      ready = it.ready (c.in-Ok.ensures.fresh.autocommit, c.in-Ok.ensures.fresh.unlimited);
       room = it.room clean;
     }
 
@@ -48,6 +48,7 @@ returns-in-Err-adopt-clause-refused g c clean =
       waits = it.waits clean;
       crash = it.crash;
       left = it.left clean;
+      ready = it.ready (c.in-Ok.ensures.fresh.autocommit, c.in-Ok.ensures.fresh.unlimited);
     }
 
 pub returns-in-Err-clause-fault : goal.returns-in-Err-clause-fault

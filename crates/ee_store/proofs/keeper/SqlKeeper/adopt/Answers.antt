@@ -1,4 +1,8 @@
+use Rattle.std.proofs.Common.{rules}
 use Rattle.ee_store.proofs.keeper.SqlKeeper.adopt.Goals as goal
+
+pub returns-in-Err-clause-ready : goal.returns-in-Err-clause-ready
+returns-in-Err-clause-ready g c = search rules
 
 pub returns-in-Err-clause-version : goal.returns-in-Err-clause-version
 returns-in-Err-clause-version g c clean = c.in-Err.ensures.version clean
@@ -42,7 +46,7 @@ pub returns-in-Ok-clause-goes_on : goal.returns-in-Ok-clause-goes_on
 returns-in-Ok-clause-goes_on g c clean = c.in-Ok.ensures.goes_on clean
 
 pub returns-in-Ok-clause-ready : goal.returns-in-Ok-clause-ready
-returns-in-Ok-clause-ready g c clean = c.in-Ok.ensures.ready clean
+returns-in-Ok-clause-ready g c = c.in-Ok.ensures.ready
 
 pub returns-in-Ok-clause-crash : goal.returns-in-Ok-clause-crash
 returns-in-Ok-clause-crash g c = c.in-Ok.ensures.crash
