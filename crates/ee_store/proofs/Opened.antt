@@ -1,5 +1,5 @@
 -- Opening a store: what the rows that were found stand for.
-use Rattle.std.proofs.Common.{◌≡◌, ◌⊎◌, inl, inr, ℕ, List, [], map, IsTrue, sym, ap, ◌∙◌, subst}
+use Rattle.std.proofs.Common.{◌≡◌, ℕ, List, [], map, IsTrue, sym, ap, ◌∙◌, subst}
 use Rattle.std.specs.Prelude.{IfSome, filter_map}
 use Rattle.std.specs.Ordering.{nat_cmp}
 use Rattle.std.specs.FinMap.{from_entries, get-empty}
@@ -27,7 +27,7 @@ use Rattle.ee_store_making.specs.Forms.{version_of, HoldsIn, HasForm, HadIn}
 use Rattle.ee_store_making.specs.Making.{IsBlank, first_rows}
 use Rattle.ee_store_opening.specs.Opening.{HasTables, IsOtherVersion}
 use Rattle.ee_store_opening.proofs.Lemmas.{ours_tables, one_version}
-use Rattle.ee_store_making.proofs.Lemmas.Forms.{no_entries}
+use Rattle.ee_store_making.proofs.Lemmas.Forms.{no_entries, not_blank}
 use Rattle.ee_store_contents.specs.Standing.{rows_at, rows_of, extension_entry, bond_row, reply_row, key_of, IsRight, IsKept}
 use Rattle.ee_store_lookups.specs.Seen.{StandsFor, HasContent}
 use Rattle.ee_store.specs.Adopted.{StoodFor, HadContent, IfConnection}
@@ -60,9 +60,6 @@ stood_now db content stands = record { right = stands.right; stores = stands.sto
 pub had_now : (s : State) (content : Content) → HasContent s content → HadContent Current s content
 had_now s content has = record { right = has.right; rows = has.rows }
 
-pub has_now : (s : State) (content : Content) → HadContent Current s content → HasContent s content
-has_now s content had = record { right = had.right; rows = had.rows }
-
 -- a store that had rows had tables
 pub has_tables : (old : State) (form : Form) (rows : Rows) → HadIn form old rows → HasTables old
 has_tables old form rows had = ours_tables old (form, λ is_open. (had is_open).0)
@@ -78,13 +75,9 @@ had_before old new form rows keeps is_open had _ =
     let same = sym (keeps.committed is_open) in
     (ap (λ (d : Database). d.schema) same ∙ it.0, subst (λ (d : Database). HoldsIn form d.trees rows) (sym same) it.1)
 
--- a store with the rows of the empty content has it
-pub of_nothing : (s : State) → Has s (rows_of nothing) → HasContent s nothing
-of_nothing s has = record { right = nothing_right; rows = has }
-
--- the first rows are those of the empty content
-pub begins_rows : (middle : State) → Has middle first_rows → Has middle (rows_of nothing)
-begins_rows middle has = subst (Has middle) (sym nothing_rows) has
+-- a store with the first rows has the empty content
+pub of_nothing : (s : State) → Has s first_rows → HasContent s nothing
+of_nothing s has = record { right = nothing_right; rows = subst (Has s) (sym nothing_rows) has }
 
 pub begun_survives : (old new : State) → Survives old new (λ db. IsBlank old → Stores db first_rows) → Survives old new (λ db. IsBlank old → StandsFor db nothing)
 begun_survives old new one =
@@ -97,11 +90,15 @@ begun_survives old new one =
 pub of_version : (form : Form) (content : Content) → IsOtherVersion (rows_at (version_of form) content) → ⊥
 of_version form content other = one_version form (rows_at (version_of form) content) (is_at form content) other
 
--- ---- what a call leaves
+-- ---- what a store was that is opened
 
-pub begun_or : (old new : State) → KeepsCommit old new ⊎ Has new first_rows → KeepsCommit old new ⊎ HasContent new nothing
-begun_or old new (inl kept) = inl kept
-begun_or old new (inr has) = inr (record { right = nothing_right; rows = subst (Has new) (sym nothing_rows) has })
+-- one without tables had no content
+pub blank_had_none : (old : State) → IsBlank old → IsTrue old.is_open → (form : Form) (content : Content) → HadContent form old content → ⊥
+blank_had_none old blank is_open form content had = not_blank form old (λ o. (had.rows o).0) blank is_open
+
+-- one that had rows was not without tables
+pub rows_not_blank : (old : State) (form : Form) (rows : Rows) → HadIn form old rows → IsTrue old.is_open → IsBlank old → ⊥
+rows_not_blank old form rows had is_open blank = not_blank form old (λ o. (had o).0) blank is_open
 
 -- ---- connections that are handed back
 

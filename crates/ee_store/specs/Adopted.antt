@@ -99,11 +99,6 @@ abbrev pub StaysStopped : State → State → Type 0
 StaysStopped old new = IsTrue old.is_open → (form : Form) (w : World) (left : Content) → Contains w.may left → StoodFor form old.committed.trees left
     → (v : World) × Happens w (Stop_between ∷ []) v × (v.now ≡ left) × Leaves (StandsSince form) new.may_leave v
 
--- Nothing was committed in a store that had a table, an index or a view, whatever they were; a store without any may have got
--- the first rows.
-abbrev pub KeepsRows : State → State → Type 0
-KeepsRows old new = (HasTables old → KeepsCommit old new) × (IsBlank old → KeepsCommit old new ⊎ HasContent new nothing)
-
 -- a store that was open had no content, in no form, and it had tables
 abbrev pub HadNone : State → Type 0
 HadNone old = IsTrue old.is_open → ((form : Form) (content : Content) → HadContent form old content → ⊥) × (IsBlank old → ⊥)
@@ -158,7 +153,7 @@ pub record IsRefusedFrom {D : Type 0} {g : Ghosts D} (start : Image) (fault : Op
   pub was : Held (FileStore D g)
   pub opened : IsOpened was
   pub found : Finds start (file_state was)
-  pub kept : KeepsRows (file_state was) (file_state now)
+  pub kept : KeepsCommit (file_state was) (file_state now)
   pub version : fault ≡ WrongVersion → HadNone (file_state was)
   pub other : fault ≡ WrongVersion → HadOtherVersion (file_state was)
   pub unusable : fault ≡ Unusable → HadNone (file_state was)

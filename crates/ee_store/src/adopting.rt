@@ -2,7 +2,7 @@
 
 ghost use Rattle.std.specs.Prelude.{◌≡◌, ◌≢◌, false, IsTrue, IfOk, IfErr, OnOk, OnErr, MatchResult};
 ghost use Rattle.sqlite.specs.Held.{state};
-ghost use Rattle.sqlite.specs.State.{HasCleanDisk, IsLive, Survives};
+ghost use Rattle.sqlite.specs.State.{HasCleanDisk, IsLive, KeepsCommit, Survives};
 ghost use Rattle.ee_desk_acts.specs.Repeats.{Content, nothing};
 ghost use Rattle.ee_store_making.specs.Making.{IsBlank};
 ghost use Rattle.ee_store_opening.specs.Whole.{AreInOrder, AreRead};
@@ -16,7 +16,6 @@ ghost use Rattle.ee_store.specs.Adopted.{
   KeepsContent,
   HasSome,
   HadNone,
-  KeepsRows,
   CarriesWorld,
   BeginsWorld,
   GoesOn,
@@ -34,8 +33,8 @@ use crate::keeper::SqlKeeper;
 use ee_desk_acts::UnitTables;
 use ee_store_contents::{ContentFault, KeptReply, Tested, tables_of};
 use ee_store_delivery::Known;
-use ee_store_making::{OpenFault, migrate};
-use ee_store_opening::{AllRows, open_rows};
+use ee_store_making::{OpenFault, make_tables, migrate};
+use ee_store_opening::{AllRows, is_blank, open_rows};
 use sqlite::{Alter, Connection};
 use std::alloc::Global;
 
@@ -77,9 +76,9 @@ fn settled<S: Alter>(conn: &Connection<S>)
     let _autocommit = conn.is_autocommit();
 }
 
-/// Finds the rows of a store, or makes its first ones, tests that they stand for books and kept replies,
-/// and then makes of a store of version 1 one of version 2. It answers the tables of unit values for
-/// their rates.
+/// Creates the tables of a blank store. Of any other it reads the rows, tests that they stand for books and kept
+/// replies, and then makes of a store of version 1 one of version 2. It returns the tables of unit values for their
+/// rates. A commit is the last step that can fail.
 fn ready<S: Alter>(conn: &mut Connection<S>, alloc: Global) -> Result<UnitTables, OpenFault>
     ensures begins { HasCleanDisk (state S.Store conn.new) → OnOk result (BeginsEmpty (state S.Store conn.old) (state S.Store conn.new)) }
     ensures begun { HasCleanDisk (state S.Store conn.new) → OnOk result (BeginsWorld (state S.Store conn.old) (state S.Store conn.new)) }
@@ -87,7 +86,7 @@ fn ready<S: Alter>(conn: &mut Connection<S>, alloc: Global) -> Result<UnitTables
     ensures stands { HasCleanDisk (state S.Store conn.new) → OnOk result (HasSome (state S.Store conn.old) (state S.Store conn.new)) }
     ensures follows { HasCleanDisk (state S.Store conn.new) → OnOk result (CarriesWorld (state S.Store conn.old) (state S.Store conn.new)) }
     ensures goes_on { HasCleanDisk (state S.Store conn.new) → OnOk result (GoesOn (state S.Store conn.old) (state S.Store conn.new)) }
-    ensures kept { HasCleanDisk (state S.Store conn.new) → OnErr result (KeepsRows (state S.Store conn.old) (state S.Store conn.new)) }
+    ensures kept { HasCleanDisk (state S.Store conn.new) → OnErr result (KeepsCommit (state S.Store conn.old) (state S.Store conn.new)) }
     ensures version { HasCleanDisk (state S.Store conn.new) → IfErr result (λ fault. fault ≡ OpenFault.WrongVersion → HadNone (state S.Store conn.old)) }
     ensures other { HasCleanDisk (state S.Store conn.new) → IfErr result (λ fault. fault ≡ OpenFault.WrongVersion → HadOtherVersion (state S.Store conn.old)) }
     ensures unusable { HasCleanDisk (state S.Store conn.new) → IfErr result (λ fault. fault ≡ OpenFault.Unusable → HadNone (state S.Store conn.old)) }
@@ -100,6 +99,11 @@ fn ready<S: Alter>(conn: &mut Connection<S>, alloc: Global) -> Result<UnitTables
     ensures waits { HasCleanDisk (state S.Store conn.new) → StaysStopped (state S.Store conn.old) (state S.Store conn.new) }
 {
     let _schema = conn.schema();
+    if is_blank(conn) {
+        make_tables(conn)?;
+        settled(conn);
+        return Ok(UnitTables::new(alloc));
+    }
     let all = open_rows::<S, KeptReply>(conn, alloc)?;
     let form = all.form;
     let tested = prepared(alloc, all)?;
@@ -136,8 +140,7 @@ impl<S: Alter> SqlKeeper<S> {
     /// - `cause`: of such a connection, over a store without tables or with just those of either version,
     ///   `StoreFailed` is told only where the device failed once more, or the store was shut before; of a store of
     ///   version 1 where its kept replies fit the rows of version 2, as all do that are shorter than 900 million bytes.
-    /// - `kept`: after a refusal a store that had any table, index or view is as it was. A store without
-    ///   tables may have got the first ones.
+    /// - `kept`: a refusal commits nothing, whatever the store had. A commit is the last step that can fail.
     /// - `waits`: of a store over trees that a crash left, which stand for a content, a refusal leaves what
     ///   stands for the same, so a later call goes on from there.
     /// - `crash`, `left`: whenever the call stops, a crash leaves what it could leave before. Of a
@@ -161,7 +164,7 @@ impl<S: Alter> SqlKeeper<S> {
         ensures informed { IfOk result (λ keeper. IsInformed (state S.Store keeper.conn) keeper.known) }
         ensures follows { IfOk result (λ keeper. HasCleanDisk (state S.Store keeper.conn) → CarriesWorld (state S.Store conn) (state S.Store keeper.conn)) }
         ensures goes_on { IfOk result (λ keeper. HasCleanDisk (state S.Store keeper.conn) → GoesOn (state S.Store conn) (state S.Store keeper.conn)) }
-        ensures kept { IfErr result (λ not. HasCleanDisk (state S.Store not.conn) → KeepsRows (state S.Store conn) (state S.Store not.conn)) }
+        ensures kept { IfErr result (λ not. HasCleanDisk (state S.Store not.conn) → KeepsCommit (state S.Store conn) (state S.Store not.conn)) }
         ensures version { IfErr result (λ not. HasCleanDisk (state S.Store not.conn) → not.fault ≡ OpenFault.WrongVersion → HadNone (state S.Store conn)) }
         ensures other { IfErr result
             (λ not. HasCleanDisk (state S.Store not.conn) → not.fault ≡ OpenFault.WrongVersion → HadOtherVersion (state S.Store conn)) }

@@ -1,4 +1,4 @@
-//! Opening a store: the tables are made in an empty one, and all rows of another are read, of version 2 or of version 1.
+//! Opening a store: whether it is blank, and else all its rows, which are of version 2 or of version 1.
 #![tactic(auto)]
 
 mod entries;
@@ -13,7 +13,7 @@ mod whole;
 pub use entries::{
     StoredBatch, StoredBond, StoredDesk, StoredLine, StoredRate, StoredReply, StoredTicket,
 };
-pub use opening::open_rows;
+pub use opening::{is_blank, open_rows};
 pub use tables::KeptReplies;
 pub use testing::RowTest;
 pub use version::STORE_VERSION;

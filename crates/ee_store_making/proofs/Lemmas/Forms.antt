@@ -1,5 +1,5 @@
 -- What each form of the tables has, and that a store has one form.
-use Rattle.std.proofs.Common.{◌≡◌, ◌≢◌, ◌⊎◌, inl, inr, IsTrue, ℕ, List, length, map, refl, sym, ap, subst, ◌∙◌, arith, [], Ordering}
+use Rattle.std.proofs.Common.{◌≡◌, ◌≢◌, IsTrue, ℕ, List, length, map, refl, sym, ap, subst, ◌∙◌, arith, [], Ordering}
 use Rattle.std.specs.Prelude.{sum}
 use Rattle.std.specs.FinMap.{empty, entries, len-empty, len-entries}
 use Rattle.std.proofs.lemmas.List.{nil_from_length}
@@ -87,11 +87,6 @@ module _ (s : State) (settled : IsTrue s.is_open → s.now ≡ s.committed) (sho
 
 pub not_blank : (form : Form) (s : State) → HasForm form s → IsBlank s → IsTrue s.is_open → ⊥
 not_blank form s ours blank is_open = some_tables form (sym (ours is_open) ∙ blank is_open)
-
--- a store of the present form, or with no tables, is of no other
-pub current_form : (form : Form) (old : State) → HasForm form old → IsTrue old.is_open → HasForm Current old ⊎ IsBlank old → form ≡ Current
-current_form form old ours is_open (inl current) = one_form form Current (sym (ours is_open) ∙ current is_open)
-current_form form old ours is_open (inr blank) = absurd (not_blank form old ours blank is_open)
 
 -- a store that has an earlier form lacks the present one
 pub lacks_current : (form : Form) (s : State) → form ≢ Current → HasForm form s → IsTrue s.is_open → ¬ HasForm Current s

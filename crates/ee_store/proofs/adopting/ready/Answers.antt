@@ -1,73 +1,189 @@
-use Rattle.std.proofs.Common.{rules, ◌≡◌, ◌≢◌, inl, inr, IsTrue, IfErr, ap, ◌∙◌, subst}
+use Rattle.std.proofs.Common.{rules, ◌≡◌, ◌≢◌, ◌⊎◌, false, inl, inr, IsTrue, IfErr, ap, sym, ◌∙◌, subst}
 use Rattle.sqlite.specs.Held.{state}
-use Rattle.ee_store_tables.specs.Rows.{Rows}
+use Rattle.sqlite.proofs.InsideLemmas.{keeps_then}
+use Rattle.sqlite.proofs.StateLemmas.{survives_weaker}
+use Rattle.ee_store_tables.specs.Rows.{Rows, Stores}
 use Rattle.ee_store_tables.proofs.Lemmas.Transactions.{on_err_from, clean_before}
 use Rattle.ee_store_making.specs.declared.faults.OpenFault.TheVariants.{WrongVersion, Unusable, StoreFailed}
 use Rattle.ee_store_making.specs.declared.forms.Form.{Form}
-use Rattle.ee_store_making.specs.declared.forms.Form.TheVariants.{Current}
-use Rattle.ee_store_making.specs.Forms.{version_of, HadIn}
-use Rattle.ee_store_making.specs.Making.{IsBlank}
+use Rattle.ee_store_making.specs.Forms.{version_of, IsOurs, HadIn}
+use Rattle.ee_store_making.specs.Making.{first_rows}
 use Rattle.ee_store_opening.specs.Whole as whole
 use Rattle.ee_store_opening.specs.Opening.{IsOtherVersion, AreReadable}
 use Rattle.ee_desk_acts.specs.Repeats.{Content, nothing}
 use Rattle.ee_store_contents.specs.Contents.{KeepsAnswer}
-use Rattle.ee_store_contents.specs.Standing.{rows_at, rows_of, StandAt}
+use Rattle.ee_store_contents.specs.Standing.{rows_at, StandAt}
 use Rattle.ee_store_making.proofs.Lemmas.Faults.{each_fault, two_faults, handed_on}
-use Rattle.ee_store_making.proofs.Lemmas.Causes.{cause_then}
-use Rattle.ee_store_making.proofs.Lemmas.Forms.{kept_had}
+use Rattle.ee_store_making.proofs.Lemmas.Causes.{cause_then, excused_if_open}
+use Rattle.ee_store_making.proofs.Lemmas.Forms.{not_blank}
 use Rattle.ee_store_opening.proofs.Lemmas.{one_version}
 use Rattle.ee_store.specs.Adopted.{HadNone, HadNoOtherVersion, FailsToAdopt}
-use Rattle.ee_store.proofs.Opened.{of_nothing, begins_rows, begun_or, begun_survives, of_version}
-use Rattle.ee_store.proofs.Migrated.{lists_all, made_of, fits_rows, first_made, keeps_content, has_some, begins, keeps_rows, stood_for_none, leaves_as_before, leaves_present, begun_then}
+use Rattle.ee_store.proofs.Opened.{of_nothing, begun_survives, of_version, blank_had_none}
+use Rattle.ee_store.proofs.Migrated.{lists_all, made_of, fits_rows, keeps_content, has_some, stood_for_none, not_begun, leaves_as_before, leaves_present, read_then}
 use Rattle.ee_store.proofs.Meeting.{goes_on, carries_world, begins_world, stays_stopped}
 use Rattle.ee_store_contents.proofs.Lemmas.{readable}
 use Rattle.ee_store.proofs.OpenedRoom.{opened_room}
 use Rattle.ee_store.proofs.adopting.ready.Goals as goal
 
+-- ---- the tables are not created
+pub returns-in_err-make_tables-clause-kept : goal.returns-in_err-make_tables-clause-kept
+returns-in_err-make_tables-clause-kept g c clean = on_err_from c.from_residual.result (c.in_err-make_tables.ensures.failed clean)
+
+pub returns-in_err-make_tables-clause-version : goal.returns-in_err-make_tables-clause-version
+returns-in_err-make_tables-clause-version g c clean =
+    handed_on _ c.from_residual.result c.in_err-make_tables.field-0.0 c.from_residual.ensures.1 (λ is. absurd (c.in_err-make_tables.ensures.other is))
+
+pub returns-in_err-make_tables-clause-other : goal.returns-in_err-make_tables-clause-other
+returns-in_err-make_tables-clause-other g c clean =
+    handed_on _ c.from_residual.result c.in_err-make_tables.field-0.0 c.from_residual.ensures.1 (λ is. absurd (c.in_err-make_tables.ensures.other is))
+
+pub returns-in_err-make_tables-clause-unusable : goal.returns-in_err-make_tables-clause-unusable
+returns-in_err-make_tables-clause-unusable g c clean =
+    let blank = (c.is_blank.ensures.blank c.if-is_blank.true).1 in
+    handed_on (λ e. e ≡ Unusable → HadNone (state g.S.Store c.args.conn.now)) c.from_residual.result c.in_err-make_tables.field-0.0 c.from_residual.ensures.1
+    (λ is is_open. absurd (c.in_err-make_tables.ensures.usable clean blank is_open is))
+
+pub returns-in_err-make_tables-clause-tested : goal.returns-in_err-make_tables-clause-tested
+returns-in_err-make_tables-clause-tested g c clean =
+    let blank = (c.is_blank.ensures.blank c.if-is_blank.true).1 in
+    handed_on (λ e. e ≡ Unusable → HadNoOtherVersion (state g.S.Store c.args.conn.now)) c.from_residual.result c.in_err-make_tables.field-0.0 c.from_residual.ensures.1
+    (λ is is_open. absurd (c.in_err-make_tables.ensures.usable clean blank is_open is))
+
+pub returns-in_err-make_tables-clause-cause : goal.returns-in_err-make_tables-clause-cause
+returns-in_err-make_tables-clause-cause g c clean =
+    let blank = (c.is_blank.ensures.blank c.if-is_blank.true).1 in
+    handed_on (FailsToAdopt (state g.S.Store c.args.conn.now) (state g.S.Store c.make_tables.new.conn)) c.from_residual.result c.in_err-make_tables.field-0.0
+    c.from_residual.ensures.1 (λ outside endless any can is. c.in_err-make_tables.ensures.cause clean (outside, blank) endless is)
+
+pub returns-in_err-make_tables-clause-crash : goal.returns-in_err-make_tables-clause-crash
+returns-in_err-make_tables-clause-crash g c = begun_survives (state g.S.Store c.args.conn.now) (state g.S.Store c.make_tables.new.conn) c.in_err-make_tables.ensures.crash
+
+pub returns-in_err-make_tables-clause-left : goal.returns-in_err-make_tables-clause-left
+returns-in_err-make_tables-clause-left g c clean is_open tables = absurd (tables is_open ((c.is_blank.ensures.blank c.if-is_blank.true).1 is_open))
+
+pub returns-in_err-make_tables-clause-waits : goal.returns-in_err-make_tables-clause-waits
+returns-in_err-make_tables-clause-waits g c clean =
+    let old = state g.S.Store c.args.conn.now in
+    let new = state g.S.Store c.make_tables.new.conn in
+    stays_stopped old new c.schema-schema.ensures.live (g.met.S.Store.settled c.args.conn.now.store) (returns-in_err-make_tables-clause-left g c clean)
+
+pub returns-in_err-make_tables-clause-ready : goal.returns-in_err-make_tables-clause-ready
+returns-in_err-make_tables-clause-ready g c is = (c.in_err-make_tables.ensures.outside is.0, c.in_err-make_tables.ensures.crash.limit ∙ is.1)
+
+-- ---- they are created
+pub returns-then-is_blank-clause-kept : goal.returns-then-is_blank-clause-kept
+returns-then-is_blank-clause-kept g c clean = tt
+
+pub returns-then-is_blank-clause-begins : goal.returns-then-is_blank-clause-begins
+returns-then-is_blank-clause-begins g c clean blank = of_nothing (state g.S.Store c.make_tables.new.conn) (c.in_ok-make_tables.ensures.made clean blank)
+
+pub returns-then-is_blank-clause-begun : goal.returns-then-is_blank-clause-begun
+returns-then-is_blank-clause-begun g c clean =
+    let new = state g.S.Store c.make_tables.new.conn in
+    let it = c.in_ok-make_tables.ensures in (
+      (it.open clean).1,
+      λ blank. begins_world new (it.open clean).1 (returns-then-is_blank-clause-begins g c clean blank) (λ db may. subst (λ d. Stores d first_rows) (sym (it.durable clean db may)) (it.stored clean blank)),
+    )
+
+pub returns-then-is_blank-clause-found : goal.returns-then-is_blank-clause-found
+returns-then-is_blank-clause-found g c clean form content had =
+    let blank = (c.is_blank.ensures.blank c.if-is_blank.true).1 in
+    absurd (blank_had_none (state g.S.Store c.args.conn.now) blank (c.in_ok-make_tables.ensures.open clean).0 form content had)
+
+pub returns-then-is_blank-clause-stands : goal.returns-then-is_blank-clause-stands
+returns-then-is_blank-clause-stands g c clean =
+    let blank = (c.is_blank.ensures.blank c.if-is_blank.true).1 in
+    (inr blank, (nothing, returns-then-is_blank-clause-begins g c clean blank))
+
+pub returns-then-is_blank-clause-left : goal.returns-then-is_blank-clause-left
+returns-then-is_blank-clause-left g c clean is_open tables = absurd (tables is_open ((c.is_blank.ensures.blank c.if-is_blank.true).1 is_open))
+
+pub returns-then-is_blank-clause-follows : goal.returns-then-is_blank-clause-follows
+returns-then-is_blank-clause-follows g c clean =
+    let old = state g.S.Store c.args.conn.now in
+    let new = state g.S.Store c.make_tables.new.conn in
+    let blank = (c.is_blank.ensures.blank c.if-is_blank.true).1 in
+    let is_open = c.in_ok-make_tables.ensures.open clean in
+    carries_world old new c.schema-schema.ensures.live c.settled.ensures.live (g.met.S.Store.settled c.args.conn.now.store) (returns-then-is_blank-clause-left g c clean)
+    (λ form earlier has. absurd (not_blank form old has blank is_open.0)) (returns-then-is_blank-clause-found g c clean) is_open.0 is_open.1
+
+pub returns-then-is_blank-clause-goes_on : goal.returns-then-is_blank-clause-goes_on
+returns-then-is_blank-clause-goes_on g c clean =
+    let old = state g.S.Store c.args.conn.now in
+    let new = state g.S.Store c.make_tables.new.conn in
+    let blank = (c.is_blank.ensures.blank c.if-is_blank.true).1 in
+    let is_open = c.in_ok-make_tables.ensures.open clean in
+    goes_on old new c.schema-schema.ensures.live c.settled.ensures.live (g.met.S.Store.settled c.args.conn.now.store) (returns-then-is_blank-clause-left g c clean)
+    (λ form earlier has. absurd (not_blank form old has blank is_open.0)) (returns-then-is_blank-clause-found g c clean) is_open.0 is_open.1
+
+pub returns-then-is_blank-clause-ready : goal.returns-then-is_blank-clause-ready
+returns-then-is_blank-clause-ready g c is = (c.in_ok-make_tables.ensures.ended, c.in_ok-make_tables.ensures.crash.limit ∙ is.1)
+
+pub returns-then-is_blank-clause-room : goal.returns-then-is_blank-clause-room
+returns-then-is_blank-clause-room g c clean =
+    let old = state g.S.Store c.args.conn.now in
+    let new = state g.S.Store c.make_tables.new.conn in
+    opened_room old new (c.settled.ensures.committed c.in_ok-make_tables.ensures.ended) c.settled.ensures.live (c.in_ok-make_tables.ensures.made clean)
+
+pub returns-then-is_blank-clause-crash : goal.returns-then-is_blank-clause-crash
+returns-then-is_blank-clause-crash g c = begun_survives (state g.S.Store c.args.conn.now) (state g.S.Store c.make_tables.new.conn) c.in_ok-make_tables.ensures.crash
+
+pub returns-then-is_blank-clause-waits : goal.returns-then-is_blank-clause-waits
+returns-then-is_blank-clause-waits g c clean =
+    let old = state g.S.Store c.args.conn.now in
+    let new = state g.S.Store c.make_tables.new.conn in
+    stays_stopped old new c.schema-schema.ensures.live (g.met.S.Store.settled c.args.conn.now.store) (returns-then-is_blank-clause-left g c clean)
+
 -- ---- the rows are not found
 pub returns-in_err-all-clause-kept : goal.returns-in_err-all-clause-kept
 returns-in_err-all-clause-kept g c clean =
-    let old = state g.S.Store c.args.conn.now in
-    let new = state g.S.Store c.open_rows.new.conn in
-    let it = c.in_err-all.ensures.failed clean in
-    on_err_from c.from_residual.result (it.0, λ blank. begun_or old new (it.1 blank))
+    on_err_from c.from_residual-in_err-all.result (c.in_err-all.ensures.kept clean)
 
 pub returns-in_err-all-clause-version : goal.returns-in_err-all-clause-version
 returns-in_err-all-clause-version g c clean =
     let old = state g.S.Store c.args.conn.now in
-    let told : IfErr c.from_residual.result (λ e. e ≡ WrongVersion → (form : Form) (rows : Rows) → HadIn form old rows → IsTrue old.is_open → IsOtherVersion rows) = search rules in
-    let blank : IfErr c.from_residual.result (λ e. IsBlank old → IsTrue old.is_open → (e ≢ Unusable) × (e ≢ WrongVersion)) = search rules in
-    two_faults c.from_residual.result (λ e other apart is is_open. (λ form content had. of_version form content (other is form (rows_at (version_of form) content) had.rows is_open), λ none. (apart none is_open).1 is)) told blank
+    let told : IfErr c.from_residual-in_err-all.result (λ e. e ≡ WrongVersion → (form : Form) (rows : Rows) → HadIn form old rows → IsTrue old.is_open → IsOtherVersion rows) = search rules in
+    let apart : IfErr c.from_residual-in_err-all.result (λ e. (e ≡ StoreFailed) ⊎ (old.in_transaction ≡ false)) = search rules in
+    two_faults c.from_residual-in_err-all.result (λ e other apart is is_open. (
+      λ form content had. of_version form content (other is form (rows_at (version_of form) content) had.rows is_open),
+      λ none. elim apart [ inl failed ↦ cc | inr outside ↦ c.is_blank.ensures.tables c.if-is_blank.false outside is_open (none is_open) ],
+    )) told apart
 
 pub returns-in_err-all-clause-unusable : goal.returns-in_err-all-clause-unusable
 returns-in_err-all-clause-unusable g c clean =
     let old = state g.S.Store c.args.conn.now in
-    let told : IfErr c.from_residual.result (λ e. e ≡ Unusable → (form : Form) (rows : Rows) → HadIn form old rows → IsTrue old.is_open → ¬ AreReadable form rows) = search rules in
-    let blank : IfErr c.from_residual.result (λ e. IsBlank old → IsTrue old.is_open → (e ≢ Unusable) × (e ≢ WrongVersion)) = search rules in
-    two_faults c.from_residual.result (λ e unread apart is is_open. (λ form content had. unread is form (rows_at (version_of form) content) had.rows is_open (readable form content had.right), λ none. (apart none is_open).0 is)) told blank
+    let told : IfErr c.from_residual-in_err-all.result (λ e. e ≡ Unusable → (form : Form) (rows : Rows) → HadIn form old rows → IsTrue old.is_open → ¬ AreReadable form rows) = search rules in
+    let apart : IfErr c.from_residual-in_err-all.result (λ e. (e ≡ StoreFailed) ⊎ (old.in_transaction ≡ false)) = search rules in
+    two_faults c.from_residual-in_err-all.result (λ e unread apart is is_open. (
+      λ form content had. unread is form (rows_at (version_of form) content) had.rows is_open (readable form content had.right),
+      λ none. elim apart [ inl failed ↦ cc | inr outside ↦ c.is_blank.ensures.tables c.if-is_blank.false outside is_open (none is_open) ],
+    )) told apart
 
 pub returns-in_err-all-clause-other : goal.returns-in_err-all-clause-other
 returns-in_err-all-clause-other g c clean =
     let old = state g.S.Store c.args.conn.now in
-    let told : IfErr c.from_residual.result (λ e. e ≡ WrongVersion → (form : Form) (rows : Rows) → HadIn form old rows → IsTrue old.is_open → IsOtherVersion rows) = search rules in
-    each_fault c.from_residual.result (λ e other is is_open form rows had. other is form rows had is_open) told
+    let told : IfErr c.from_residual-in_err-all.result (λ e. e ≡ WrongVersion → (form : Form) (rows : Rows) → HadIn form old rows → IsTrue old.is_open → IsOtherVersion rows) = search rules in
+    each_fault c.from_residual-in_err-all.result (λ e other is is_open form rows had. other is form rows had is_open) told
 
 pub returns-in_err-all-clause-tested : goal.returns-in_err-all-clause-tested
 returns-in_err-all-clause-tested g c clean =
     let old = state g.S.Store c.args.conn.now in
-    let told : IfErr c.from_residual.result (λ e. e ≡ Unusable → (form : Form) (rows : Rows) → HadIn form old rows → IsTrue old.is_open → ¬ IsOtherVersion rows) = search rules in
-    each_fault c.from_residual.result (λ e tested is is_open form rows had. tested is form rows had is_open) told
+    let told : IfErr c.from_residual-in_err-all.result (λ e. e ≡ Unusable → (form : Form) (rows : Rows) → HadIn form old rows → IsTrue old.is_open → ¬ IsOtherVersion rows) = search rules in
+    each_fault c.from_residual-in_err-all.result (λ e tested is is_open form rows had. tested is form rows had is_open) told
 
 pub returns-in_err-all-clause-cause : goal.returns-in_err-all-clause-cause
 returns-in_err-all-clause-cause g c clean =
-    handed_on (FailsToAdopt (state g.S.Store c.args.conn.now) (state g.S.Store c.open_rows.new.conn)) c.from_residual.result c.in_err-all.field-0.0
-    c.from_residual.ensures.1 (λ settled endless any can is. c.in_err-all.ensures.cause clean settled endless any is)
+    let old = state g.S.Store c.args.conn.now in
+    handed_on (FailsToAdopt old (state g.S.Store c.open_rows.new.conn)) c.from_residual-in_err-all.result c.in_err-all.field-0.0
+    c.from_residual-in_err-all.ensures.1 (λ outside endless any can. excused_if_open old (state g.S.Store c.open_rows.new.conn) c.in_err-all.field-0.0 (λ is_open.
+    let ours : IsOurs old = elim any [ inl blank ↦ absurd (c.is_blank.ensures.tables c.if-is_blank.false outside is_open (blank is_open)) | inr ours ↦ ours ] in
+    c.in_err-all.ensures.cause clean (outside, ours) endless))
 
 pub returns-in_err-all-clause-crash : goal.returns-in_err-all-clause-crash
-returns-in_err-all-clause-crash g c = begun_survives (state g.S.Store c.args.conn.now) (state g.S.Store c.open_rows.new.conn) c.in_err-all.ensures.crash
+returns-in_err-all-clause-crash g c = survives_weaker (state g.S.Store c.args.conn.now) (state g.S.Store c.open_rows.new.conn) (λ _. ⊥) _ (λ _ db none. absurd none) c.in_err-all.ensures.crash
 
 pub returns-in_err-all-clause-left : goal.returns-in_err-all-clause-left
-returns-in_err-all-clause-left g c clean is_open tables db may = inl (c.in_err-all.ensures.left clean is_open tables db may)
+returns-in_err-all-clause-left g c clean is_open tables db may = elim (c.in_err-all.ensures.crash.crash clean db may) [ inl before ↦ inl before | inr none ↦ absurd none ]
 
 pub returns-in_err-all-clause-waits : goal.returns-in_err-all-clause-waits
 returns-in_err-all-clause-waits g c clean =
@@ -81,11 +197,7 @@ returns-in_err-all-clause-ready g c is = (c.in_err-all.ensures.outside is.0, c.i
 -- ---- they stand for no content
 pub returns-in_err-tested-clause-kept : goal.returns-in_err-tested-clause-kept
 returns-in_err-tested-clause-kept g c clean =
-    let old = state g.S.Store c.args.conn.now in
-    let new = state g.S.Store c.open_rows.new.conn in
-    let it = c.in_ok-all.ensures in
-    on_err_from c.from_residual-in_err-tested.result
-    (it.kept clean, λ blank. inr (of_nothing new (begins_rows new (it.made clean blank (it.open clean).0).0)))
+    on_err_from c.from_residual-in_err-tested.result (c.in_ok-all.ensures.kept clean)
 
 pub returns-in_err-tested-clause-version : goal.returns-in_err-tested-clause-version
 returns-in_err-tested-clause-version g c clean =
@@ -106,8 +218,7 @@ returns-in_err-tested-clause-unusable g c clean =
     let it = c.in_ok-all.ensures in
     let is_open = it.open clean in
     let found = it.found clean in
-    each_fault c.from_residual-in_err-tested.result (λ e none is. stood_for_none old (state g.S.Store c.open_rows.new.conn) c.in_ok-all.all.form found.0 (it.kept clean) is_open.0 is_open.1 found.1
-    (λ blank. (it.current clean is_open.0 (inr blank), (it.made clean blank is_open.0).0)) (none is found.0 found.2)) told
+    each_fault c.from_residual-in_err-tested.result (λ e none is. stood_for_none old (state g.S.Store c.open_rows.new.conn) c.in_ok-all.all.form found.0 (it.kept clean) is_open.0 is_open.1 found.1 (none is found.0 found.2)) told
 
 pub returns-in_err-tested-clause-tested : goal.returns-in_err-tested-clause-tested
 returns-in_err-tested-clause-tested g c clean =
@@ -120,10 +231,10 @@ returns-in_err-tested-clause-cause g c clean =
     each_fault c.from_residual-in_err-tested.result (λ e settled _ _ _ _ is. absurd (settled is)) told
 
 pub returns-in_err-tested-clause-crash : goal.returns-in_err-tested-clause-crash
-returns-in_err-tested-clause-crash g c = begun_survives (state g.S.Store c.args.conn.now) (state g.S.Store c.open_rows.new.conn) c.in_ok-all.ensures.crash
+returns-in_err-tested-clause-crash g c = survives_weaker (state g.S.Store c.args.conn.now) (state g.S.Store c.open_rows.new.conn) (λ _. ⊥) _ (λ _ db none. absurd none) c.in_ok-all.ensures.crash
 
 pub returns-in_err-tested-clause-left : goal.returns-in_err-tested-clause-left
-returns-in_err-tested-clause-left g c clean is_open tables db may = inl (c.in_ok-all.ensures.left clean is_open tables db may)
+returns-in_err-tested-clause-left g c clean is_open tables db may = elim (c.in_ok-all.ensures.crash.crash clean db may) [ inl before ↦ inl before | inr none ↦ absurd none ]
 
 pub returns-in_err-tested-clause-waits : goal.returns-in_err-tested-clause-waits
 returns-in_err-tested-clause-waits g c clean =
@@ -134,20 +245,14 @@ returns-in_err-tested-clause-waits g c clean =
 pub returns-in_err-tested-clause-ready : goal.returns-in_err-tested-clause-ready
 returns-in_err-tested-clause-ready g c is = (c.in_ok-all.ensures.outside is.0, c.in_ok-all.ensures.crash.limit ∙ is.1)
 
--- ---- the table is not made
+-- ---- they are not migrated
 pub returns-in_err-migrate-clause-kept : goal.returns-in_err-migrate-clause-kept
 returns-in_err-migrate-clause-kept g c clean =
     let old = state g.S.Store c.args.conn.now in
     let middle = state g.S.Store c.open_rows.new.conn in
     let new = state g.S.Store c.migrate.new.conn in
     let before = clean_before middle new c.migrate.ensures.crash clean in
-    let it = c.in_ok-all.ensures in
-    let keeps = c.in_err-migrate.ensures.failed clean in
-    on_err_from c.from_residual-in_err-migrate.result (
-      keeps_rows old middle new (it.kept before) keeps,
-      λ blank. inr (of_nothing new (kept_had Current middle new (rows_of nothing) keeps
-          (begins_rows middle (it.made before blank (it.open before).0).0))),
-    )
+    on_err_from c.from_residual-in_err-migrate.result (keeps_then old middle new (c.in_ok-all.ensures.kept before) (c.in_err-migrate.ensures.failed clean))
 
 pub returns-in_err-migrate-clause-version : goal.returns-in_err-migrate-clause-version
 returns-in_err-migrate-clause-version g c clean =
@@ -177,8 +282,8 @@ returns-in_err-migrate-clause-cause g c clean =
     let found = it.found before in
     let all = c.in_ok-all.all in
     handed_on (FailsToAdopt old new) c.from_residual-in_err-migrate.result c.in_err-migrate.field-0.0 c.from_residual-in_err-migrate.ensures.1
-    (λ settled endless any can failed. cause_then old middle new it.crash c.migrate.ensures.crash clean
-    (c.in_err-migrate.ensures.cause clean (it.ended before, fits_rows old middle all.form found.0 (it.kept before) (it.open before).0 (it.open before).1 found.1 c.deref.result.now (lists_all c.in_ok-all.all found.0 found.2 c.in_ok-tested.tested.answers c.in_ok-tested.ensures.left c.deref.result.now c.deref.ensures.value) (λ blank. it.current before (it.open before).0 (inr blank)) any can) (it.crash.limit ∙ endless) failed))
+    (λ outside endless any can failed. cause_then old middle new it.crash c.migrate.ensures.crash clean
+    (c.in_err-migrate.ensures.cause clean (it.ended before, fits_rows old middle all.form found.0 (it.kept before) (it.open before).0 (it.open before).1 found.1 c.deref.result.now (lists_all c.in_ok-all.all found.0 found.2 c.in_ok-tested.tested.answers c.in_ok-tested.ensures.left c.deref.result.now c.deref.ensures.value) can) (it.crash.limit ∙ endless) failed))
 
 pub returns-in_err-migrate-clause-crash : goal.returns-in_err-migrate-clause-crash
 returns-in_err-migrate-clause-crash g c =
@@ -186,9 +291,9 @@ returns-in_err-migrate-clause-crash g c =
     let middle = state g.S.Store c.open_rows.new.conn in
     let new = state g.S.Store c.migrate.new.conn in
     let it = c.in_ok-all.ensures in
-    begun_then old middle new c.in_ok-all.all.form _ (λ clean blank.
+    read_then old middle new c.in_ok-all.all.form _ (λ clean.
     let before = clean_before middle new c.migrate.ensures.crash clean in
-    (it.current before (it.open before).0 (inr blank)))
+    not_begun old middle c.in_ok-all.all.form (it.found before).0 (it.kept before) (it.open before).0 (it.open before).1 (it.found before).1)
     it.crash c.migrate.ensures.crash
 
 pub returns-in_err-migrate-clause-left : goal.returns-in_err-migrate-clause-left
@@ -202,7 +307,7 @@ returns-in_err-migrate-clause-left g c clean =
     let some = c.in_ok-tested.ensures.ok found.0 found.2 in
     let all = c.in_ok-all.all in
     leaves_as_before old middle all.form found.0 (it.kept before) (it.open before).0 (it.open before).1 found.1 _ (lists_all c.in_ok-all.all found.0 found.2 c.in_ok-tested.tested.answers c.in_ok-tested.ensures.left c.deref.result.now c.deref.ensures.value) some.0 some.2
-    new (λ db is_open tables may. it.left before is_open tables db may) (c.migrate.ensures.crash.crash clean)
+    new (it.crash.crash before) (c.migrate.ensures.crash.crash clean)
 
 pub returns-in_err-migrate-clause-waits : goal.returns-in_err-migrate-clause-waits
 returns-in_err-migrate-clause-waits g c clean =
@@ -222,8 +327,8 @@ returns-clause-begins g c clean blank =
     let new = state g.S.Store c.migrate.new.conn in
     let before = clean_before middle new c.migrate.ensures.crash clean in
     let it = c.in_ok-all.ensures in
-    let all = c.in_ok-all.all in
-    begins new (first_made middle new all.form (it.current before (it.open before).0 (inr blank)) (λ current. ap (state g.S.Store) (c.migrate.ensures.same current)) (it.made before blank (it.open before).0).0)
+    let found = it.found before in
+    absurd (not_begun old middle c.in_ok-all.all.form found.0 (it.kept before) (it.open before).0 (it.open before).1 found.1 blank)
 
 pub returns-clause-left : goal.returns-clause-left
 returns-clause-left g c clean =
@@ -236,20 +341,18 @@ returns-clause-left g c clean =
     let some = c.in_ok-tested.ensures.ok found.0 found.2 in
     let all = c.in_ok-all.all in
     leaves_as_before old middle all.form found.0 (it.kept before) (it.open before).0 (it.open before).1 found.1 _ (lists_all c.in_ok-all.all found.0 found.2 c.in_ok-tested.tested.answers c.in_ok-tested.ensures.left c.deref.result.now c.deref.ensures.value) some.0 some.2
-    new (λ db is_open tables may. it.left before is_open tables db may) (c.migrate.ensures.crash.crash clean)
+    new (it.crash.crash before) (c.migrate.ensures.crash.crash clean)
 
 pub returns-clause-begun : goal.returns-clause-begun
 returns-clause-begun g c clean =
+    let old = state g.S.Store c.args.conn.now in
     let middle = state g.S.Store c.open_rows.new.conn in
     let new = state g.S.Store c.migrate.new.conn in
     let before = clean_before middle new c.migrate.ensures.crash clean in
     let it = c.in_ok-all.ensures in
-    let is_open = c.in_ok-migrate.ensures.open clean (it.open before).1 in (
-      is_open,
-      λ blank.
-          let has = returns-clause-begins g c clean blank in
-          let same = c.migrate.ensures.same (it.current before (it.open before).0 (inr blank)) in
-          begins_world new is_open has (λ db may. it.begun before blank db (subst (λ conn. (state g.S.Store conn).may_leave db) same may)),
+    let found = it.found before in (
+      c.in_ok-migrate.ensures.open clean (it.open before).1,
+      λ blank. absurd (not_begun old middle c.in_ok-all.all.form found.0 (it.kept before) (it.open before).0 (it.open before).1 found.1 blank),
     )
 
 pub returns-clause-found : goal.returns-clause-found
@@ -266,16 +369,16 @@ returns-clause-found g c clean =
 
 pub returns-clause-stands : goal.returns-clause-stands
 returns-clause-stands g c clean =
+    let old = state g.S.Store c.args.conn.now in
     let middle = state g.S.Store c.open_rows.new.conn in
     let new = state g.S.Store c.migrate.new.conn in
     let before = clean_before middle new c.migrate.ensures.crash clean in
     let it = c.in_ok-all.ensures in
     let found = it.found before in
-    let some = c.in_ok-tested.ensures.ok found.0 found.2 in (
-      it.ours before,
-      has_some new c.in_ok-all.all.form found.0
-          (made_of middle new c.in_ok-all.all.form found.0 c.deref.result.now found.1 (lists_all c.in_ok-all.all found.0 found.2 c.in_ok-tested.tested.answers c.in_ok-tested.ensures.left c.deref.result.now c.deref.ensures.value) (λ current. ap (state g.S.Store) (c.migrate.ensures.same current)) (c.in_ok-migrate.ensures.made clean found.0 found.1)) some.0 some.2,
-    )
+    let some = c.in_ok-tested.ensures.ok found.0 found.2 in
+    let all = c.in_ok-all.all in
+    has_some old middle all.form found.0 (it.kept before) (it.open before).0 (it.open before).1 found.1 new
+    (made_of middle new all.form found.0 c.deref.result.now found.1 (lists_all c.in_ok-all.all found.0 found.2 c.in_ok-tested.tested.answers c.in_ok-tested.ensures.left c.deref.result.now c.deref.ensures.value) (λ current. ap (state g.S.Store) (c.migrate.ensures.same current)) (c.in_ok-migrate.ensures.made clean found.0 found.1)) some.0 some.2
 
 -- what was migrated leaves what was committed
 pub returns-clause-goes_on : goal.returns-clause-goes_on
@@ -286,7 +389,7 @@ returns-clause-goes_on g c clean =
     let before = clean_before middle new c.migrate.ensures.crash clean in
     let it = c.in_ok-all.ensures in
     let found = it.found before in
-    goes_on old new c.schema-schema.ensures.live c.settled.ensures.live (g.met.S.Store.settled c.args.conn.now.store) (returns-clause-left g c clean)
+    goes_on old new c.schema-schema.ensures.live c.settled-2.ensures.live (g.met.S.Store.settled c.args.conn.now.store) (returns-clause-left g c clean)
     (leaves_present old middle c.in_ok-all.all.form found.0 (it.kept before) (it.open before).0 (it.open before).1 found.1 new (c.in_ok-migrate.ensures.durable clean))
     (returns-clause-found g c clean) (it.open before).0 (returns-clause-begun g c clean).0
 
@@ -298,7 +401,7 @@ returns-clause-follows g c clean =
     let before = clean_before middle new c.migrate.ensures.crash clean in
     let it = c.in_ok-all.ensures in
     let found = it.found before in
-    carries_world old new c.schema-schema.ensures.live c.settled.ensures.live (g.met.S.Store.settled c.args.conn.now.store) (returns-clause-left g c clean)
+    carries_world old new c.schema-schema.ensures.live c.settled-2.ensures.live (g.met.S.Store.settled c.args.conn.now.store) (returns-clause-left g c clean)
     (leaves_present old middle c.in_ok-all.all.form found.0 (it.kept before) (it.open before).0 (it.open before).1 found.1 new (c.in_ok-migrate.ensures.durable clean))
     (returns-clause-found g c clean) (it.open before).0 (returns-clause-begun g c clean).0
 
@@ -311,9 +414,9 @@ returns-clause-crash g c =
     let middle = state g.S.Store c.open_rows.new.conn in
     let new = state g.S.Store c.migrate.new.conn in
     let it = c.in_ok-all.ensures in
-    begun_then old middle new c.in_ok-all.all.form _ (λ clean blank.
+    read_then old middle new c.in_ok-all.all.form _ (λ clean.
     let before = clean_before middle new c.migrate.ensures.crash clean in
-    (it.current before (it.open before).0 (inr blank)))
+    not_begun old middle c.in_ok-all.all.form (it.found before).0 (it.kept before) (it.open before).0 (it.open before).1 (it.found before).1)
     it.crash c.migrate.ensures.crash
 
 pub returns-clause-room : goal.returns-clause-room
@@ -323,10 +426,9 @@ returns-clause-room g c clean =
     let new = state g.S.Store c.migrate.new.conn in
     let before = clean_before middle new c.migrate.ensures.crash clean in
     let it = c.in_ok-all.ensures in
-    opened_room old new (c.settled.ensures.committed c.in_ok-migrate.ensures.ended) c.settled.ensures.live
-    (λ blank.
-    let all = c.in_ok-all.all in
-    first_made middle new all.form (it.current before (it.open before).0 (inr blank)) (λ current. ap (state g.S.Store) (c.migrate.ensures.same current)) (it.made before blank (it.open before).0).0)
+    let found = it.found before in
+    opened_room old new (c.settled-2.ensures.committed c.in_ok-migrate.ensures.ended) c.settled-2.ensures.live
+    (λ blank. absurd (not_begun old middle c.in_ok-all.all.form found.0 (it.kept before) (it.open before).0 (it.open before).1 found.1 blank))
 
 pub returns-clause-waits : goal.returns-clause-waits
 returns-clause-waits g c clean =

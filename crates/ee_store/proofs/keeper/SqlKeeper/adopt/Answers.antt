@@ -19,6 +19,9 @@ returns-in-Err-clause-tested g c clean = c.in-Err.ensures.tested clean
 pub returns-in-Err-clause-cause : goal.returns-in-Err-clause-cause
 returns-in-Err-clause-cause g c clean = c.in-Err.ensures.cause clean
 
+pub returns-in-Ok-clause-found : goal.returns-in-Ok-clause-found
+returns-in-Ok-clause-found g c clean = c.in-Ok.ensures.found clean
+
 pub returns-in-Ok-clause-room : goal.returns-in-Ok-clause-room
 returns-in-Ok-clause-room g c clean = c.in-Ok.ensures.room clean
 
@@ -32,9 +35,6 @@ returns-in-Ok-clause-begins g c clean = c.in-Ok.ensures.begins clean
 
 pub returns-in-Ok-clause-begun : goal.returns-in-Ok-clause-begun
 returns-in-Ok-clause-begun g c clean = c.in-Ok.ensures.begun clean
-
-pub returns-in-Ok-clause-found : goal.returns-in-Ok-clause-found
-returns-in-Ok-clause-found g c clean = c.in-Ok.ensures.found clean
 
 pub returns-in-Ok-clause-stands : goal.returns-in-Ok-clause-stands
 returns-in-Ok-clause-stands g c clean = c.in-Ok.ensures.stands clean
