@@ -87,7 +87,8 @@ module _ (old middle : State) (form : Form) (rows : Rows) (kept : KeepsCommit ol
 
   pub has_some : (new : State) → Has new (become form rows) → (content : Content) → StandAt (version_of form) rows content → HasSome old new
   has_some new made content stands =
-      (inl (form, λ o. (had o).0), (content, keeps_content new made form content (stood_for content stands)))
+      let was = stood_for content stands in
+      inl (form, content, was, keeps_content new made form content was)
 
   -- where they stand for none, the store had none
   pub stood_for_none : ((content : Content) → StandAt (version_of form) rows content → ⊥) → HadNone old

@@ -1,5 +1,5 @@
 -- Opening a store: what the rows that were found stand for.
-use Rattle.std.proofs.Common.{◌≡◌, ℕ, List, [], map, IsTrue, sym, ap, ◌∙◌, subst}
+use Rattle.std.proofs.Common.{◌≡◌, inl, inr, ℕ, List, [], map, IsTrue, sym, ap, ◌∙◌, subst}
 use Rattle.std.specs.Prelude.{IfSome, filter_map}
 use Rattle.std.specs.Ordering.{nat_cmp}
 use Rattle.std.specs.FinMap.{from_entries, get-empty}
@@ -30,7 +30,7 @@ use Rattle.ee_store_opening.proofs.Lemmas.{ours_tables, one_version}
 use Rattle.ee_store_making.proofs.Lemmas.Forms.{no_entries, not_blank}
 use Rattle.ee_store_contents.specs.Standing.{rows_at, rows_of, extension_entry, bond_row, reply_row, key_of, IsRight, IsKept}
 use Rattle.ee_store_lookups.specs.Seen.{StandsFor, HasContent}
-use Rattle.ee_store.specs.Adopted.{StoodFor, HadContent, IfConnection}
+use Rattle.ee_store.specs.Adopted.{StoodFor, HadContent, HasSome, IfConnection}
 use Rattle.ee_store.specs.declared.opening.Rest.{Rest}
 use Rattle.ee_store.specs.declared.opening.Rest.TheVariants.{Connection, Files}
 
@@ -99,6 +99,11 @@ blank_had_none old blank is_open form content had = not_blank form old (λ o. (h
 -- one that had rows was not without tables
 pub rows_not_blank : (old : State) (form : Form) (rows : Rows) → HadIn form old rows → IsTrue old.is_open → IsBlank old → ⊥
 rows_not_blank old form rows had is_open blank = not_blank form old (λ o. (had o).0) blank is_open
+
+-- after opening it has some content
+pub some_content : (old new : State) → HasSome old new → (content : Content) × HasContent new content
+some_content old new (inl (form, content, had, has)) = (content, has)
+some_content old new (inr (blank, has)) = (nothing, has)
 
 -- ---- connections that are handed back
 

@@ -76,9 +76,9 @@ BeginsWorld old new = IsTrue new.is_open × (IsBlank old → FollowsWorld new (b
 abbrev pub KeepsContent : State → State → Type 0
 KeepsContent old new = (form : Form) (content : Content) → HadContent form old content → HasContent new content
 
--- the store had the tables and nothing else, or nothing at all, and has some content
+-- the store had a content, in whichever form, and has it, or it had no tables and has the empty content
 abbrev pub HasSome : State → State → Type 0
-HasSome old new = (IsOurs old ⊎ IsBlank old) × ((content : Content) × HasContent new content)
+HasSome old new = ((form : Form) × (content : Content) × HadContent form old content × HasContent new content) ⊎ (IsBlank old × HasContent new nothing)
 
 -- the store follows the events of requests, as before
 abbrev pub KeepsWorld : State → State → Type 0

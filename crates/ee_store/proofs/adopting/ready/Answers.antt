@@ -10,7 +10,7 @@ use Rattle.ee_store_making.specs.Forms.{version_of, IsOurs, HadIn}
 use Rattle.ee_store_making.specs.Making.{first_rows}
 use Rattle.ee_store_opening.specs.Whole as whole
 use Rattle.ee_store_opening.specs.Opening.{IsOtherVersion, AreReadable}
-use Rattle.ee_desk_acts.specs.Repeats.{Content, nothing}
+use Rattle.ee_desk_acts.specs.Repeats.{Content}
 use Rattle.ee_store_contents.specs.Contents.{KeepsAnswer}
 use Rattle.ee_store_contents.specs.Standing.{rows_at, StandAt}
 use Rattle.ee_store_making.proofs.Lemmas.Faults.{each_fault, two_faults, handed_on}
@@ -93,7 +93,7 @@ returns-then-is_blank-clause-found g c clean form content had =
 pub returns-then-is_blank-clause-stands : goal.returns-then-is_blank-clause-stands
 returns-then-is_blank-clause-stands g c clean =
     let blank = (c.is_blank.ensures.blank c.if-is_blank.true).1 in
-    (inr blank, (nothing, returns-then-is_blank-clause-begins g c clean blank))
+    inr (blank, returns-then-is_blank-clause-begins g c clean blank)
 
 pub returns-then-is_blank-clause-left : goal.returns-then-is_blank-clause-left
 returns-then-is_blank-clause-left g c clean is_open tables = absurd (tables is_open ((c.is_blank.ensures.blank c.if-is_blank.true).1 is_open))

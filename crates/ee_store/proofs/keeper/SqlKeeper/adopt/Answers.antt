@@ -1,4 +1,6 @@
 use Rattle.std.proofs.Common.{rules}
+use Rattle.sqlite.specs.Held.{state}
+use Rattle.ee_store.proofs.Opened.{some_content}
 use Rattle.ee_store.proofs.keeper.SqlKeeper.adopt.Goals as goal
 
 pub returns-in-Err-clause-ready : goal.returns-in-Err-clause-ready
@@ -27,7 +29,7 @@ returns-in-Ok-clause-room g c clean = c.in-Ok.ensures.room clean
 
 pub returns-in-Ok-clause-informed : goal.returns-in-Ok-clause-informed
 returns-in-Ok-clause-informed g c clean =
-    let some = (c.in-Ok.ensures.stands clean).1 in
+    let some = some_content (state g.S.Store c.args.conn) (state g.S.Store c.ready.new.conn) (c.in-Ok.ensures.stands clean) in
     (some.0, some.1, c.nothing.ensures some.0.books)
 
 pub returns-in-Ok-clause-begins : goal.returns-in-Ok-clause-begins
