@@ -1,5 +1,5 @@
 -- A store's history: one event after another, from run to run.
-use Rattle.std.proofs.Common.{◌≡◌, ◌∙◌, Bool, true, false, cond, List, [], ◌∷◌, ◌++◌, arith, refl, sym, ap, subst}
+use Rattle.std.proofs.Common.{◌≡◌, ◌∙◌, inl, inr, Bool, true, false, cond, List, [], ◌∷◌, ◌++◌, arith, refl, sym, ap, subst}
 use Rattle.std.specs.List.{Contains}
 use Rattle.std.specs.FinMap as finite
 use Rattle.std.proofs.Math.Logic.{∥∥₁_elim, ∥∥₁_map}
@@ -9,6 +9,7 @@ use Rattle.sqlite_trees.specs.Props.{Trees-set}
 use Rattle.sqlite.specs.State.{State}
 use Rattle.sqlite.specs.Held.{Held}
 use Rattle.sqlite.specs.declared.FileStore.{FileStore}
+use Rattle.sqlite.specs.Recovery.{Image}
 use Rattle.sqlite.specs.Files.{file_state}
 use Rattle.ee_desk_acts.specs.declared.acts.Request.{Request}
 use Rattle.ee_desk_acts.specs.Answers.{answer}
@@ -19,13 +20,12 @@ use Rattle.ee_desk_laws.specs.Events.{Event, World, Told, begun, decided, unserv
 use Rattle.ee_desk_laws.specs.Events.Event.{Deliver, Lose, Unserved, Stop_between, Reopen}
 use Rattle.ee_desk_laws.specs.Stops.{SurvivesStops, SettlesByRetries}
 use Rattle.ee_desk_laws.proofs.Lemmas.{in_tail}
-use Rattle.ee_store_making.specs.declared.forms.Form.TheVariants.{Current}
 use Rattle.ee_store_lookups.specs.Seen.{StandsFor}
-use Rattle.ee_store.proofs.Opened.{stood_now}
+use Rattle.ee_store.proofs.NextRun.{was_found, found_in, next_on}
 use Rattle.ee_store.specs.Served.{FollowsWorld}
-use Rattle.ee_store.specs.Ended.{RestsIn}
+use Rattle.ee_store.specs.Ended.{StandsAlone, IsAtRest, RestsIn}
 use Rattle.ee_store.specs.NextRun.{FollowsInNextRun}
-use Rattle.ee_store.specs.History.{IsUp, Goes, BeginsHistory, GoesByQueries, GoesThroughCrash, GoesThroughRest, HasHistory, SettlesHistory, RestsAfter}
+use Rattle.ee_store.specs.History.{IsUp, Goes, BeginsHistory, GoesByQueries, GoesThroughCrash, AreFoundAs, GoesThroughRest, HasHistory, SettlesHistory, RestsAfter}
 
 -- ---- worlds that are up
 
@@ -84,16 +84,20 @@ pub goes_by_queries : {D : Type 0} (g : Ghosts D) → GoesByQueries g
 goes_by_queries g old new keeps = goes_from (file_state old) (file_state new) [] (λ w is before. ∣ (w, refl, is, keeps w before) ∣₁)
 
 pub goes_through_crash : {D E : Type 0} (g : Ghosts D) (h : Ghosts E) → FollowsInNextRun g h → GoesThroughCrash g h
-goes_through_crash g h next old left now numbered may opened = goes_from (file_state old) (file_state now) (Stop_between ∷ Reopen ∷ []) (λ w is before.
-    ∥∥₁_map (next old w left now numbered before may opened) (λ (v, happens, follows). (v, happens, up_again w v happens, follows)))
+goes_through_crash g h next old left now numbered may run = goes_from (file_state old) (file_state now) (Stop_between ∷ Reopen ∷ []) (λ w is before.
+    ∥∥₁_map (next old w left now numbered before may run) (λ (v, happens, follows). (v, happens, up_again w v happens, follows)))
+
+-- files at rest stand for the content however they are found
+stands_found : {D : Type 0} (g : Ghosts D) (files : Files D) (content : Content) (found : Image) → IsAtRest g files content → AreFoundAs g files found → StandsAlone found content
+stands_found g files content found rest (inl same) = subst (λ image. StandsAlone image content) (sym same) rest.seen
+stands_found g files content found rest (inr may) = rest.left found may
 
 pub goes_through_rest : {D E : Type 0} (g : Ghosts D) (h : Ghosts E) → GoesThroughRest g h
-goes_through_rest g h old files now clean rests opened = goes_from (file_state old) (file_state now) (Stop_between ∷ Reopen ∷ []) (λ w is before.
-    let seen = (rests clean w.now before.0).seen in
-    let was = file_state opened.was in
-    let same : was.committed.trees ≡ seen.db = ∥∥₁_elim seen.holds.both (Trees-set _ _) (opened.found.holds _) in
+goes_through_rest g h old files found now clean rests finds run = goes_from (file_state old) (file_state now) (Stop_between ∷ Reopen ∷ []) (λ w is before.
+    let seen = stands_found g files w.now found (rests clean w.now before.0) finds in
+    let same : (was_found found now run).committed.trees ≡ seen.db = ∥∥₁_elim seen.holds.both (Trees-set _ _) ((found_in found now run).holds _) in
     let stands = subst (λ trees. StandsFor trees w.now) (sym same) seen.stands in
-    let (v, happens, kept, follows) = opened.goes_on Current w w.now is.among (stood_now was.committed.trees w.now stands) in
+    let (v, happens, kept, follows) = next_on found now run w w.now is.among stands in
     ∣ (v, happens, up_again w v happens, follows) ∣₁)
 
 pub has_history : {D : Type 0} (g : Ghosts D) → SurvivesStops → HasHistory g

@@ -1,9 +1,10 @@
 -- The history of a store, from a new one on: deliveries, faults, stops and starts.
-use Rattle.std.specs.Prelude.{◌≡◌, true, List, [], ◌∷◌, ◌++◌, map, Contains}
+use Rattle.std.specs.Prelude.{◌≡◌, ◌⊎◌, true, List, [], ◌∷◌, ◌++◌, map, Contains}
 use Rattle.std.specs.List.{AllByRecursion}
 use Rattle.sqlite_disk.specs.declared.Disk.{Ghosts}
 use Rattle.sqlite_disk.specs.declared.Files.{Files}
 use Rattle.sqlite.specs.State.{State}
+use Rattle.sqlite.specs.WalFiles.{outcomes}
 use Rattle.sqlite.specs.WalReads.{AreClean}
 use Rattle.sqlite.specs.declared.FileStore.{FileStore}
 use Rattle.sqlite.specs.Held.{Held}
@@ -16,9 +17,9 @@ use Rattle.ee_desk_laws.specs.Events.Event.{Deliver, Stop_between, Reopen}
 use Rattle.ee_desk_laws.specs.Stops.{Survives, Settles, sent}
 use Rattle.ee_store_lookups.specs.Seen.{HasContent}
 use Rattle.ee_store.specs.Served.{FollowsWorld}
-use Rattle.ee_store.specs.Adopted.{IsOpenedFrom, KeepsWorld}
+use Rattle.ee_store.specs.Adopted.{KeepsWorld}
 use Rattle.ee_store.specs.Ended.{IsAtRest, RestsIn}
-use Rattle.ee_store.specs.NextRun.{IsNumbered, MayLeaveFiles}
+use Rattle.ee_store.specs.NextRun.{IsNumbered, MayLeaveFiles, IsNextRun}
 
 -- it takes requests, and a crash may leave its content
 pub record IsUp (w : World) : Type 0 where
@@ -51,15 +52,19 @@ BeginsHistory {D} g = (now : Held (FileStore D g)) → FollowsWorld (file_state 
 abbrev pub GoesByQueries : {D : Type 0} → Ghosts D → Type 0
 GoesByQueries {D} g = (old new : Held (FileStore D g)) → KeepsWorld (file_state old) (file_state new) → Goes (file_state old) [] (file_state new)
 
--- a crash leaves two files, and the next run opens them
+-- a crash leaves two files, and the next run opens them, refused or not
 abbrev pub GoesThroughCrash : {D E : Type 0} → Ghosts D → Ghosts E → Type 0
 GoesThroughCrash {D} {E} g h = (old : Held (FileStore D g)) (left : Image) (now : Held (FileStore E h))
-    → IsNumbered old → MayLeaveFiles old left → IsOpenedFrom left now → Goes (file_state old) (Stop_between ∷ Reopen ∷ []) (file_state now)
+    → IsNumbered old → MayLeaveFiles old left → IsNextRun left now → Goes (file_state old) (Stop_between ∷ Reopen ∷ []) (file_state now)
 
--- a command ends with its files at rest, and the next one opens them
+-- the files are found as they read, or as a stop of the machine leaves them
+abbrev pub AreFoundAs : {D : Type 0} → Ghosts D → Files D → Image → Type 0
+AreFoundAs g files found = (found ≡ image_of g files) ⊎ outcomes g files.log files.db found
+
+-- a command ends with its files at rest, and the next one opens them, refused or not, also after a stop of the machine
 abbrev pub GoesThroughRest : {D E : Type 0} → Ghosts D → Ghosts E → Type 0
-GoesThroughRest {D} {E} g h = (old : Held (FileStore D g)) (files : Files D) (now : Held (FileStore E h))
-    → AreClean g files.log files.db → RestsIn old files → IsOpenedFrom (image_of g files) now
+GoesThroughRest {D} {E} g h = (old : Held (FileStore D g)) (files : Files D) (found : Image) (now : Held (FileStore E h))
+    → AreClean g files.log files.db → RestsIn old files → AreFoundAs g files found → IsNextRun found now
     → Goes (file_state old) (Stop_between ∷ Reopen ∷ []) (file_state now)
 
 -- the store has a content that its events have led to

@@ -1,5 +1,5 @@
 -- From one run to the next: a crash leaves two files, and the next run opens them.
-use Rattle.std.specs.Prelude.{◌≡◌, [], ◌∷◌, Contains, IsTrue}
+use Rattle.std.specs.Prelude.{◌≡◌, ◌⊎◌, [], ◌∷◌, Contains, IsTrue}
 use Rattle.sqlite_disk.specs.declared.Disk.{Ghosts}
 use Rattle.sqlite.specs.declared.FileStore.{FileStore}
 use Rattle.sqlite.specs.FileStore.{state, view}
@@ -24,11 +24,15 @@ MayLeaveFiles now left = (state now.store).may_leave left
 abbrev pub IsNumbered : {D : Type 0} {g : Ghosts D} → Held (FileStore D g) → Type 0
 IsNumbered now = IsTrue (view now.store).is_numbered
 
--- Whatever two files a crash leaves of a keeper that follows a world: a keeper that is opened on them follows the world after a
--- stop and a reopening. So it has a content that a crash might leave of that world.
+-- the next run opens these files, as a keeper or as a connection that is refused, and handed back
+abbrev pub IsNextRun : {E : Type 0} {h : Ghosts E} → Image → Held (FileStore E h) → Type 0
+IsNextRun left now = IsOpenedFrom left now ⊎ ((fault : OpenFault) × IsRefusedFrom left fault now)
+
+-- Whatever two files a crash leaves of a keeper that follows a world: the next run on them, refused or not, follows the world
+-- after a stop and a reopening. So it has a content that a crash might leave of that world.
 abbrev pub FollowsInNextRun : {D E : Type 0} → Ghosts D → Ghosts E → Type 0
 FollowsInNextRun {D} {E} g h = (old : Held (FileStore D g)) (w : World) (left : Image) (now : Held (FileStore E h))
-    → IsNumbered old → FollowsWorld (file_state old) w → MayLeaveFiles old left → IsOpenedFrom left now
+    → IsNumbered old → FollowsWorld (file_state old) w → MayLeaveFiles old left → IsNextRun left now
     → ∥ ((v : World) × Happens w (Stop_between ∷ Reopen ∷ []) v × FollowsWorld (file_state now) v) ∥₁
 
 -- Where the open is refused, as for want of memory, the connection that comes back leaves a content of the stopped world.

@@ -13,8 +13,9 @@ use sqlite_disk::Disk;
 /// From one run to the next. Of a keeper that follows the events of the law of stops and retries a crash
 /// may leave two files.
 ///
-/// - `follows`: a keeper that is opened on them follows the same events, with a stop and a reopening.
-/// - `waits`: where the open is refused, what is left of them is still that of the stop.
+/// - `follows`: a keeper that is opened on them follows the same events, with a stop and a reopening. So does a
+///   connection that is refused, as when memory is.
+/// - `waits`: if the open is refused, what is left of them is still that of the stop.
 pub const fn next_run<D: Disk, E: Disk>()
     ensures follows { FollowsInNextRun D.Disk E.Disk }
     ensures waits { WaitsInNextRun D.Disk E.Disk }
@@ -26,8 +27,9 @@ pub const fn next_run<D: Disk, E: Disk>()
 ///
 /// - `begins`: a store that was made has come by no event; `SqlKeeper::adopt` makes it (`begun`).
 /// - `queries`: a query is no event.
-/// - `crash`: a crash leaves two files, and the next run opens them: a stop and a reopening.
-/// - `rest`: so is the end of a command, which leaves its files at rest, and the next one.
+/// - `crash`: a crash leaves two files, and the next run opens them: a stop and a reopening, also if it is refused.
+/// - `rest`: so is the end of a command, which leaves its files at rest, and the next one, also if the machine stops
+///   between them.
 /// - `content`: whatever events it has come by, the store has the content of requests that were sent, each
 ///   acting once, and each reply that was given is still the answer (`IsLeftBy`).
 /// - `settled`: and once each sent request is delivered again, each stands once.
