@@ -439,10 +439,10 @@ unfolding understood everything
 ticket_lines_plain = (refl, refl)
 
 abbrev pub bonds_of_owner_text : List ℕ
-bonds_of_owner_text = codes "SELECT letter, number, denom, issued, owner, coowner FROM bonds WHERE owner = ?1 AND ticket IS NULL ORDER BY letter, number"
+bonds_of_owner_text = codes "SELECT letter, number, denom, issued, owner, coowner FROM bonds WHERE ticket IS NULL AND owner = ?1 ORDER BY letter, number"
 
 abbrev pub bonds_of_owner_query : Query
-bonds_of_owner_query = ordered_query 2 (op2 (Compare Eq Binary) (col 1 5) (col 0 0) ∷ op2 (Is Binary) (col 1 7) (lit Null) ∷ []) (col 1 1 ∷ col 1 2 ∷ col 1 3 ∷ col 1 4 ∷ col 1 5 ∷ col 1 6 ∷ [])
+bonds_of_owner_query = ordered_query 2 (op2 (Is Binary) (col 1 7) (lit Null) ∷ op2 (Compare Eq Binary) (col 1 5) (col 0 0) ∷ []) (col 1 1 ∷ col 1 2 ∷ col 1 3 ∷ col 1 4 ∷ col 1 5 ∷ col 1 6 ∷ [])
     (by_column 1 ∷ by_column 2 ∷ []) no_limit
 
 pub bonds_of_owner_is : (command_of (understood counter_schema bonds_of_owner_text) ≡ Select (record { lets = []; body = bonds_of_owner_query }) (codes "letter" ∷ codes "number" ∷ codes "denom" ∷ codes "issued" ∷ codes "owner" ∷ codes "coowner" ∷ [])) × (reads_listing counter_schema bonds_of_owner_text ≡ false)

@@ -6,7 +6,7 @@ use Rattle.std.specs.Ordering.{is_eq, ordering_then}
 use Rattle.std.proofs.lemmas.Bool.Decides.{nat_tests}
 use Rattle.std.specs.FinMap.{FinMap, entries, entries_sorted}
 use Rattle.std.proofs.lemmas.List.Sorted.{IsPermutation-trans}
-use Rattle.std.proofs.Math.Bool.{and-true}
+use Rattle.std.proofs.Math.Bool.{and-true, and_comm}
 use Rattle.std.proofs.lemmas.List.Elements.{filter_passes, recursion_from_All}
 use Rattle.sqlite.specs.declared.types.Value.TheVariants.{Null, Int}
 use Rattle.sqlite.specs.Order.{Row, value_cmp}
@@ -152,7 +152,7 @@ module _ (owner : ℕ) where
   is_own e = (e.1.owner == owner) && is_none e.1.ticket
 
   own_agrees : (r : Row) (p : ℤ × ((ℕ × ℕ) × BondRow)) → ReadAlike r (stored bond_columns p) → Rattle.std.specs.List.list_all (Rattle.sqlite_sql.specs.Term.holds ((Int (pos owner) ∷ []) ∷ r ∷ [])) bonds_of_owner_query.filter ≡ is_own p.1
-  own_agrees r p one = rw (one 5, one 7, equals_holds p.1.1.owner owner, null_holds p.1.1.ticket) (ap₂ ◌&&◌ (test_is p.1.1.owner owner) (and-true _))
+  own_agrees r p one = rw (one 5, one 7, equals_holds p.1.1.owner owner, null_holds p.1.1.ticket) (ap (λ b. is_none p.1.1.ticket && b) (and-true _ ∙ test_is p.1.1.owner owner) ∙ and_comm (is_none p.1.1.ticket) (p.1.1.owner == owner))
 
   abbrev own_out : (ℕ × ℕ) × BondRow → Output
   own_out e = (Int (pos e.0.0) ∷ Int (pos e.0.1) ∷ [], unpaid_columns (unpaid_bond_of e))

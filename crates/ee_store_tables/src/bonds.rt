@@ -167,7 +167,7 @@ fn owner_rows<S: Alter>(tx: &mut Transaction<'_, S>, owner: u64) -> Result<Vec<R
     ensures crash { LeavesNoMore (state S.Store tx.old.conn.now) (state S.Store tx.new.conn.now) }
 {
     tx.query_all(
-        "SELECT letter, number, denom, issued, owner, coowner FROM bonds WHERE owner = ?1 AND ticket IS NULL ORDER BY letter, number",
+        "SELECT letter, number, denom, issued, owner, coowner FROM bonds WHERE ticket IS NULL AND owner = ?1 ORDER BY letter, number",
         &[whole(owner)],
     )
 }

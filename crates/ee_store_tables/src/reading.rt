@@ -26,7 +26,7 @@ pub(crate) fn read_each<T: Record + Drop>(alloc: Global, rows: &[Row]) -> Result
     ensures exact { IfOk result (λ found. rows.now ≡ map T.shown found.items) }
     ensures memory { IfErr result (λ failure. (all : List T) → rows.now ≡ map T.shown all → failure ≡ Failure.NoMemory) }
 {
-    let mut found = Vec::new(alloc);
+    let mut found = Vec::with_capacity(alloc, rows.len())?;
     for row in rows {
         let next = T::read(row)?;
         if found.push(next).is_err() {
