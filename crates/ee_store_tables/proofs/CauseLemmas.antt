@@ -234,24 +234,6 @@ module _ (sql : List ℕ) (params : Row) (returning : Option Returning) (command
   pub write_excused : returning ≡ None → (e : Error) → (IsTrue old.in_transaction → ExecutesInside 0 sql params old new (Err e)) → IsExcused old new (failure_of e)
   write_excused = stays_excused sql params returning command written old new inside endless goes_on
 
-  fails_to_show : (what : Returning) → returning ≡ Some what → IsTrue old.is_open → (e : Error) → FailsToQuery sql params old new e → IsExcused old new (failure_of e)
-  unfolding FailsToQuery
-  fails_to_show what some is_open e (inl h) = not_run old new sql params (inside is_open).1 written.whole e h
-  fails_to_show what some is_open e (inr h) =
-      let known = sym (ap (λ s. understood s sql) (inside is_open).1) ∙ h.1.is in
-      let shows : h.0.returning ≡ Some what = sym (ap returning_of known) ∙ written.shows ∙ some in
-      ran sql params returning command written old new (goes_on is_open) (inside is_open).1 endless e h.0 h.1 (subst (FailsToShow old new sql h.0 (timed params h.0.formats h.1.now) e) shows h.2)
-
-  -- so does a write that shows rows
-  pub show_excused : (what : Returning) → returning ≡ Some what → (e : Error) → FailsToQuery sql params old new e ⊎ IsTooLate sql params old new e → IsExcused old new (failure_of e)
-  show_excused what some e h = elim (cases_Bool old.is_open) [
-    | inl is_open ↦ elim h [
-      | inl failed ↦ fails_to_show what some is_open e failed
-      | inr late ↦ absurd (true≢false (sym (inside is_open).0 ∙ late.3))
-    ]
-    | inr shut ↦ shut_before old new shut (failure_of e)
-  ]
-
 -- a text without RETURNING
 pub shows_nothing : (r : Result Compiled CompileError) → IsPlain r → returning_of r ≡ None
 shows_nothing (Ok c) plain = plain.0
@@ -264,6 +246,14 @@ pub excused_after : (old middle new : State) → old.faults ≤ middle.faults �
 excused_after old middle new counts is_open NoMemory h = tt
 excused_after old middle new counts is_open StoreFailed (inl more) = inl (omega (arith, counts, more))
 excused_after old middle new counts is_open StoreFailed (inr shut) = absurd (true≢false (sym is_open ∙ shut))
+
+-- so it is where the store may have been shut before
+pub excused_from : {X : Type 0} (old middle new : State) (result : Result X Failure) → old.faults ≤ middle.faults → (IsTrue old.is_open → IsTrue middle.is_open) → IfErr result (IsExcused middle new) → IfErr result (IsExcused old new)
+excused_from old middle new (Ok x) counts stays h = tt
+excused_from old middle new (Err e) counts stays h = elim (cases_Bool old.is_open) [
+  | inl is_open ↦ excused_after old middle new counts (stays is_open) e h
+  | inr shut ↦ shut_before old new shut e
+]
 
 -- the cause of a failure before
 pub excused_before : (old middle new : State) → middle.faults ≤ new.faults → (failure : Failure) → IsExcused old middle failure → IsExcused old new failure

@@ -6,7 +6,7 @@ use Rattle.sqlite.specs.Order.{Row}
 use Rattle.sqlite.specs.declared.error.Error.{Error}
 use Rattle.sqlite_resolve.specs.declared.compiled.Compiled.{Compiled}
 use Rattle.sqlite_schema.specs.declared.command.Returning.{Returning}
-use Rattle.sqlite.specs.State.{ExecutesInside, HasCleanDisk, Survives, Shown, ShowsRows, Shows, State, IsUnchanged, IsRolledBack, KeepsCommit, FailsToQuery, FailsToShow, IsTooLate, IsNotRun}
+use Rattle.sqlite.specs.State.{ExecutesInside, HasCleanDisk, Survives, Shown, ShowsRows, State, IsUnchanged, IsRolledBack, KeepsCommit, FailsToQuery, FailsToShow, IsTooLate, IsNotRun}
 use Rattle.sqlite.proofs.InsideLemmas.{unchanged_keeps, inside_keeps}
 use Rattle.std.proofs.lemmas.Bool.{cases_Bool}
 use Rattle.sqlite.specs.Tree.{Trees}
@@ -61,10 +61,6 @@ module _ (old new : State) where
       → IfOk r (λ rows. Shown sql params old new (items rows)) → OnOk r (IsUnchanged old new)
   query_same items sql params schema has plain (Ok rows) h = shown_unchanged sql params schema (has (shown_open sql params (items rows) h)) plain (items rows) h
   query_same items sql params schema has plain (Err e) h = tt
-
-  -- a write in a transaction commits nothing, and the transaction goes on
-  pub write_keeps : Shows old new new.now (if old.in_transaction then old.committed else new.now) old.in_transaction → IsTrue old.in_transaction → KeepsCommit old new
-  write_keeps shown inside = record { was_open = λ _. shown.was_open; committed = λ _. shown.committed_is ∙ ap (λ b. if b then old.committed else new.now) inside }
 
   -- a statement that fails commits nothing
   pub execute_keeps : (sql : List ℕ) (params : Row) (r : Result ℕ Error) → (IsTrue old.in_transaction → ExecutesInside 0 sql params old new r) → (old.in_transaction ≡ false → new ≡ old) → KeepsCommit old new

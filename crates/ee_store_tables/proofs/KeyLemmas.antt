@@ -22,7 +22,7 @@ use Rattle.sqlite_keyed.proofs.RuleLemmas.{first_of_both, second_of_both}
 use Rattle.sqlite_keyed.proofs.ListLemmas.{all_weaker, all_both, all-filter, any_from_none, none_from_any, all_unmap}
 use Rattle.ee_store_tables.specs.Tables.{counter_schema, bonds, paid, answers}
 use Rattle.ee_store_tables.specs.Keyed.{pair_cmp, stored, HoldsPairs, ReadAlike, AreRows}
-use Rattle.ee_store_tables.specs.Rows.{Rows, Holds, PaidRow, IsUnpaid}
+use Rattle.ee_store_tables.specs.Rows.{PaidRow, paid_columns}
 use Rattle.ee_store_tables.proofs.PairLemmas.{tied}
 use Rattle.ee_store_tables.proofs.HoldsLemmas.{pair_total, pair_same, never_tied}
 use Rattle.ee_store_tables.proofs.SelectLemmas.{truth_of, equals_holds}
@@ -153,8 +153,8 @@ keys_differ {X} columns k rows m h none =
     (all_unmap (λ e. tied pair_cmp pair_total k e ≡ false) (λ (p : ℤ × ((ℕ × ℕ) × X)). p.1) h.numbered (none_from_any _ _ apart))
 
 -- no row pays a bond that no line pays
-pub bonds_differ : (k : ℕ × ℕ) (db : Trees) (rows : Rows) (stands : Holds db rows) → IsUnpaid rows k → AllByRecursion (λ p. ¬ ((p.1.1.letter ≡ k.0) × (p.1.1.number ≡ k.1))) stands.paid.numbered
-bonds_differ k db rows stands unpaid =
-    all_weaker (λ (p : ℤ × ((ℕ × ℕ) × PaidRow)). (p.1.1.letter, p.1.1.number) ≢ k) (λ p. ¬ ((p.1.1.letter ≡ k.0) × (p.1.1.number ≡ k.1))) (λ p apart same. apart (λ i. (same.0 i, same.1 i))) stands.paid.numbered
-    (all_unmap (λ (e : (ℕ × ℕ) × PaidRow). (e.1.letter, e.1.number) ≢ k) (λ (p : ℤ × ((ℕ × ℕ) × PaidRow)). p.1) stands.paid.numbered
-    (all-permutation (λ (e : (ℕ × ℕ) × PaidRow). (e.1.letter, e.1.number) ≢ k) (entries rows.paid) _ (IsPermutation-sym _ _ stands.paid.same) unpaid))
+pub bonds_differ : (k : ℕ × ℕ) (rows : List Row) (m : FinMap pair_cmp PaidRow) (h : HoldsPairs paid_columns rows m) → AllByRecursion (λ e. (e.1.letter, e.1.number) ≢ k) (entries m) → AllByRecursion (λ p. ¬ ((p.1.1.letter ≡ k.0) × (p.1.1.number ≡ k.1))) h.numbered
+bonds_differ k rows m h unpaid =
+    all_weaker (λ (p : ℤ × ((ℕ × ℕ) × PaidRow)). (p.1.1.letter, p.1.1.number) ≢ k) (λ p. ¬ ((p.1.1.letter ≡ k.0) × (p.1.1.number ≡ k.1))) (λ p apart same. apart (λ i. (same.0 i, same.1 i))) h.numbered
+    (all_unmap (λ (e : (ℕ × ℕ) × PaidRow). (e.1.letter, e.1.number) ≢ k) (λ (p : ℤ × ((ℕ × ℕ) × PaidRow)). p.1) h.numbered
+    (all-permutation (λ (e : (ℕ × ℕ) × PaidRow). (e.1.letter, e.1.number) ≢ k) (entries m) _ (IsPermutation-sym _ _ h.same) unpaid))

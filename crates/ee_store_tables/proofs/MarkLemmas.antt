@@ -1,17 +1,11 @@
 -- What marking a bond as paid does.
-use Rattle.std.proofs.Common.{◌≡◌, ℕ, ℤ, pos, List, [], ◌∷◌, filter, true, false, Some, None, Option, Ok, Err, Result, refl, sym, ap, subst, ◌∙◌, append-nil, codes}
+use Rattle.std.proofs.Common.{◌≡◌, ℕ, ℤ, pos, List, [], ◌∷◌, filter, true, false, Some, None, Option, Ok, refl, sym, ap, subst, ◌∙◌}
 use Rattle.std.specs.Option.{option_to_list}
-use Rattle.std.specs.Prelude.{if◌then◌else◌, option_map}
+use Rattle.std.specs.Prelude.{option_map}
 use Rattle.std.specs.FinMap.{get, insert}
 use Rattle.sqlite.specs.declared.types.Value.TheVariants.{Null, Int}
 use Rattle.sqlite.specs.Order.{Row, value_cmp}
-use Rattle.sqlite.specs.Command.{Command}
 use Rattle.sqlite.specs.Command.TheVariants.{Update}
-use Rattle.sqlite.specs.Source.TheVariants.{Values}
-use Rattle.sqlite.specs.Term.{col}
-use Rattle.sqlite_schema.specs.declared.command.Returning.{Returning}
-use Rattle.sqlite_resolve.specs.declared.compiled.Compiled.{Compiled}
-use Rattle.sqlite_resolve.specs.declared.error.CompileError.{CompileError}
 use Rattle.sqlite.specs.Query.{IsAnswer}
 use Rattle.sqlite.specs.Program.{overlay}
 use Rattle.sqlite.specs.Edit.{Edit, edit_of, edited}
@@ -23,13 +17,12 @@ use Rattle.sqlite.specs.Rows.{Written}
 use Rattle.sqlite.specs.Tree.{Trees, has_rowid, without_rowid}
 use Rattle.sqlite.specs.Effect.{Database, IsDatabase}
 use Rattle.sqlite.specs.Listing.{understood}
-use Rattle.sqlite.specs.Schema.{Schema}
-use Rattle.sqlite.specs.State.{State, mode_of, Writes, Shows, Shown}
-use Rattle.sqlite.proofs.Callers.{command_of, statement_of, one_step}
+use Rattle.sqlite.specs.State.{State, mode_of, Executes}
+use Rattle.sqlite.proofs.Callers.{statement_of, runs_as, one_step}
 use Rattle.ee_store_tables.specs.Tables.{bonds, counter_schema}
 use Rattle.ee_store_tables.specs.Keyed.{stored, ReadAlike, HoldsPairs}
 use Rattle.ee_store_tables.specs.Rows.{BondRow, bond_columns, Rows, Holds, marked, marked_as, Rises}
-use Rattle.ee_store_tables.proofs.Meaning.{returning_of, mark_bond_text, mark_bond_query, mark_bond_is, mark_bond_shows}
+use Rattle.ee_store_tables.proofs.Meaning.{mark_bond_text, mark_bond_query, mark_bond_is, mark_bond_plain}
 use Rattle.ee_store_tables.proofs.PairLemmas.{alike_itself, any_alike}
 use Rattle.ee_store_tables.proofs.HoldsLemmas.{pair_total, pair_same, has_key, hit_row, any_hit, no_row, replaces_row}
 use Rattle.ee_store_tables.proofs.RoomLemmas.{rises_again}
@@ -42,32 +35,8 @@ use Rattle.ee_store_tables.proofs.ReadLemmas.{found_by_pair}
 use Rattle.ee_store_tables.proofs.BondLemmas.{Stored, key_params}
 use Rattle.ee_store_tables.proofs.WriteLemmas.{cast_int, cast_integer, cast_optional, went, same_value, fresh_one, Same, with_bonds}
 
-abbrev pub formats_of : Result Compiled CompileError → List ℕ → Type 0
-formats_of (Ok c) sql = c.formats ≡ []
-formats_of (Err e) sql = ⊥
-
-module _ (sql : List ℕ) (params : Row) (old new : State) (schema : Schema) (has : old.now.schema ≡ schema) (command : Command) (is : command_of (understood schema sql) ≡ command)
-    (what : Returning) (shows : returning_of (understood schema sql) ≡ Some what) (plain : formats_of (understood schema sql) sql) where
-  -- a write that shows rows is that write
-  pub writes_as : (rows : List Row) → Shown sql params old new rows → (count : ℕ) × (w : Writes old new (Some what) command (statement_of sql (understood schema sql)) params count) × (rows ≡ w.tally.shown)
-  unfolding Shown
-  writes_as rows h =
-      let known = sym h.1.is ∙ ap (λ s. understood s sql) has in
-      let some : h.0.returning ≡ Some what = ap returning_of known ∙ shows in
-      let bare = subst (λ r. formats_of r sql) (sym known) plain in
-      let it = rw (some, bare, append-nil params) at h.2 in
-      subst (λ k. (count : ℕ) × (w : Writes old new (Some what) k (statement_of sql (understood schema sql)) params count) × (rows ≡ w.tally.shown)) (ap command_of known ∙ is)
-      (subst (λ t. (count : ℕ) × (w : Writes old new (Some what) h.0.command t params count) × (rows ≡ w.tally.shown)) (ap (statement_of sql) known) it)
-
-pub mark_bond_formats : formats_of (understood counter_schema mark_bond_text) mark_bond_text
-unfolding understood Rattle.sqlite_tied.specs.Compute.everything
-mark_bond_formats = refl
-
 abbrev mark_row : Stored → ℕ → Row
 mark_row p t = Int p.0 ∷ Int p.0 ∷ Int (pos p.1.0.0) ∷ Int (pos p.1.0.1) ∷ bond_columns (record p.1.1 { ticket = Some t })
-
-abbrev pub mark_what : Returning
-mark_what = record { names = codes "denom" ∷ codes "issued" ∷ codes "owner" ∷ codes "coowner" ∷ []; row = Values (col 0 7 ∷ col 0 8 ∷ col 0 9 ∷ col 0 10 ∷ []) 4 }
 
 abbrev mark_params : ℕ × ℕ → ℕ → Row
 mark_params k t = key_params k (Int (pos t) ∷ [])
@@ -130,18 +99,16 @@ module _ (k : ℕ × ℕ) (t : ℕ) (db new : Trees) (rows : Rows) (stands : Hol
       subst (Rises 1 n) (sym (put ∙ ap (edited db) (marks_one k t db rows stands asked a x one.0 one.1)))
       (rises_again n one.0 (stored bond_columns (one.0, (k, record x { ticket = Some t }))) refl (db 2) room (bond_has_rowid k db rows stands x one.0 one.1))
 
-pub marks : (old new : State) (k : ℕ × ℕ) (t : ℕ) (shown : List Row) → old.now.schema ≡ counter_schema → Shown mark_bond_text (key_params k (Int (pos t) ∷ [])) old new shown
-    → (new.now.schema ≡ counter_schema) × Shows old new new.now (if old.in_transaction then old.committed else new.now) old.in_transaction
-    × ((rows : Rows) → Holds old.now.trees rows → Holds new.now.trees (marked rows k t)) × IsDatabase new.now × Same 2 old.now.trees new.now.trees
+pub marks : (old new : State) (k : ℕ × ℕ) (t : ℕ) (count : ℕ) → old.now.schema ≡ counter_schema → Executes mark_bond_text (key_params k (Int (pos t) ∷ [])) old new (Ok count)
+    → (new.now.schema ≡ counter_schema) × ((rows : Rows) → Holds old.now.trees rows → Holds new.now.trees (marked rows k t)) × IsDatabase new.now × Same 2 old.now.trees new.now.trees
     × ((rows : Rows) → Holds old.now.trees rows → (n : ℕ) → Rises 1 n (old.now.trees 2) → Rises 1 n (new.now.trees 2))
-marks old new k t shown has it =
+marks old new k t count has h =
     let params = key_params k (Int (pos t) ∷ []) in
     let db = old.now.trees in
     let command = Update 2 (record { lets = []; body = mark_bond_query }) in
-    let ran = writes_as mark_bond_text params old new counter_schema has command mark_bond_is mark_what mark_bond_shows mark_bond_formats shown it in
-    let w = ran.1 in
+    let w = runs_as mark_bond_text params old new counter_schema has command mark_bond_is mark_bond_plain count h in
     let text = statement_of mark_bond_text (understood counter_schema mark_bond_text) in
-    let done = went (subst (λ s. Does old.step_limit (mode_of old) params (record old.now { schema = s }) text (Some mark_what) command (Ok (w.tally, new.now))) has w.changed) in
+    let done = went (subst (λ s. Does old.step_limit (mode_of old) params (record old.now { schema = s }) text None command (Ok (w.tally, new.now))) has w.changed) in
     let now = ap (λ (p : Tally × Database). p.1) (same_value (went (went done.2).2).2) in
     let asked = went done.1 in
     let written = went asked.2 in
@@ -153,7 +120,6 @@ marks old new k t shown has it =
     let put = ap (λ (trees : Trees). trees 2) after ∙ applied.rows in
     let same : Same 2 db new.now.trees = subst (Same 2 db) (sym after) applied.tables in (
       ap (λ (d : Database). d.schema) now,
-      w.shown,
       λ rows stands. marked_holds k t db new.now.trees rows stands same asked.0 a put applied.fresh (get rows.bonds k) refl,
       w.sound,
       same,

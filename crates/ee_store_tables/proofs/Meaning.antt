@@ -100,7 +100,7 @@ unfolding understood everything
 find_bond_plain = (refl, refl)
 
 abbrev pub mark_bond_text : List ℕ
-mark_bond_text = codes "UPDATE bonds SET ticket = ?3 WHERE letter = ?1 AND number = ?2 RETURNING denom, issued, owner, coowner"
+mark_bond_text = codes "UPDATE bonds SET ticket = ?3 WHERE letter = ?1 AND number = ?2"
 
 abbrev pub mark_bond_query : Query
 mark_bond_query = by_pair 2 (col 1 0 ∷ col 1 0 ∷ col 1 1 ∷ col 1 2 ∷ col 1 3 ∷ col 1 4 ∷ col 1 5 ∷ col 1 6 ∷ col 0 2 ∷ [])
@@ -113,9 +113,9 @@ pub mark_bond_whole : IsWhole mark_bond_text 3 (understood counter_schema mark_b
 unfolding understood everything
 mark_bond_whole = (refl, refl, refl)
 
-pub mark_bond_shows : returning_of (understood counter_schema mark_bond_text) ≡ Some (record { names = codes "denom" ∷ codes "issued" ∷ codes "owner" ∷ codes "coowner" ∷ []; row = Values (col 0 7 ∷ col 0 8 ∷ col 0 9 ∷ col 0 10 ∷ []) 4 })
+pub mark_bond_plain : IsPlain (understood counter_schema mark_bond_text)
 unfolding understood everything
-mark_bond_shows = refl
+mark_bond_plain = (refl, refl)
 
 abbrev pub add_paid_text : List ℕ
 add_paid_text = codes "INSERT INTO paid (ticket, place, letter, number, cents) VALUES (?1, ?2, ?3, ?4, ?5)"
@@ -131,6 +131,25 @@ add_paid_whole = (refl, refl, refl)
 pub add_paid_plain : IsPlain (understood counter_schema add_paid_text)
 unfolding understood everything
 add_paid_plain = (refl, refl)
+
+abbrev pub add_four_text : List ℕ
+add_four_text = codes "INSERT INTO paid (ticket, place, letter, number, cents) VALUES (?1, ?2, ?3, ?4, ?5), (?1, ?6, ?7, ?8, ?9), (?1, ?10, ?11, ?12, ?13), (?1, ?14, ?15, ?16, ?17)"
+
+abbrev pub four_terms : List Term
+four_terms = lit Null ∷ col 0 0 ∷ col 0 1 ∷ col 0 2 ∷ col 0 3 ∷ col 0 4 ∷ lit Null ∷ col 0 0 ∷ col 0 5 ∷ col 0 6 ∷ col 0 7 ∷ col 0 8 ∷ lit Null ∷ col 0 0 ∷ col 0 9 ∷ col 0 10 ∷ col 0 11 ∷ col 0 12
+    ∷ lit Null ∷ col 0 0 ∷ col 0 13 ∷ col 0 14 ∷ col 0 15 ∷ col 0 16 ∷ []
+
+pub add_four_is : command_of (understood counter_schema add_four_text) ≡ Insert 4 (Values four_terms 6)
+unfolding understood everything
+add_four_is = refl
+
+pub add_four_whole : IsWhole add_four_text 17 (understood counter_schema add_four_text)
+unfolding understood everything
+add_four_whole = (refl, refl, refl)
+
+pub add_four_plain : IsPlain (understood counter_schema add_four_text)
+unfolding understood everything
+add_four_plain = (refl, refl)
 
 abbrev pub find_answer_text : List ℕ
 find_answer_text = codes "SELECT act, reply FROM answers WHERE desk = ?1 AND number = ?2"

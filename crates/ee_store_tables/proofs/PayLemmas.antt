@@ -46,7 +46,7 @@ module _ (db : Trees) (rows : Rows) (stands : Holds db rows) (unique : Keeps Uni
 
   other_bonds : AllByRecursion (IsOther (3 ∷ 4 ∷ []) row (db 7)) (db 7)
   other_bonds = all_alike (stored paid_columns) (IsOther (3 ∷ 4 ∷ []) row (db 7)) (λ p. ¬ ((p.1.1.letter ≡ x.letter) × (p.1.1.number ≡ x.number)))
-      (λ r p alike apart. other_key 3 4 row r p.1.1.letter p.1.1.number x.letter x.number refl refl (alike 3) (alike 4) apart) (db 7) stands.paid.numbered stands.paid.are (bonds_differ (x.letter, x.number) db rows stands unpaid)
+      (λ r p alike apart. other_key 3 4 row r p.1.1.letter p.1.1.number x.letter x.number refl refl (alike 3) (alike 4) apart) (db 7) stands.paid.numbered stands.paid.are (bonds_differ (x.letter, x.number) (db 7) rows.paid stands.paid unpaid)
 
   line_unique : Keeps Unique counter_schema (with_tree db 7 (edited db (line_edit (row ∷ []))))
   line_unique = all_unique (with_tree db 7 (edited db (line_edit (row ∷ [])))) unique.1.1.0 (paid_unique (with_tree db 7 (edited db (line_edit (row ∷ []))))

@@ -1,5 +1,5 @@
 -- Why an update is not refused.
-use Rattle.std.proofs.Common.{◌≡◌, ◌⊎◌, inl, inr, ◌++◌, ℕ, ℤ, pos, List, [], ◌∷◌, filter, Bool, true, not, None, Some, Option, Err, refl, sym, ap, subst, ◌∙◌, arith}
+use Rattle.std.proofs.Common.{◌≡◌, ℕ, ℤ, pos, List, [], ◌∷◌, filter, Bool, true, not, None, Some, Option, Err, refl, ap, subst, ◌∙◌, arith}
 use Rattle.std.specs.Prelude.{◌&&◌}
 use Rattle.std.specs.List.{AllByRecursion, list_all}
 use Rattle.std.specs.FinMap.{get}
@@ -11,8 +11,8 @@ use Rattle.sqlite.specs.Query.{IsAnswer}
 use Rattle.sqlite.specs.Program.{overlay}
 use Rattle.sqlite.specs.Tree.{Trees, has_rowid, without_rowid, with_tree}
 use Rattle.sqlite.specs.Command.TheVariants.{Update}
-use Rattle.sqlite.specs.Rows.{Edited, Task, Written, shown}
-use Rattle.sqlite.specs.Effect.{RefusesQuery, RefusesSource}
+use Rattle.sqlite.specs.Rows.{Edited}
+use Rattle.sqlite.specs.Effect.{RefusesQuery}
 use Rattle.sqlite_rules.specs.Edit.{Edit, edit_of, edited}
 use Rattle.sqlite_rules.specs.Calls.{ids_of}
 use Rattle.sqlite.specs.Rowids.TheVariants.{Given}
@@ -25,7 +25,6 @@ use Rattle.ee_store_tables.specs.Rows.{Rows, Holds, DeskRow, BondRow, optional, 
 use Rattle.ee_store_tables.proofs.Meaning.{set_day_query, set_version_query, mark_bond_query}
 use Rattle.ee_store_tables.proofs.DeskLemmas.{given_days, sets_none, sets_one}
 use Rattle.ee_store_tables.proofs.VersionLemmas.{given_version, version_row, version_none, version_one}
-use Rattle.sqlite.specs.Does.{Shows, Concludes}
 use Rattle.sqlite_schema.specs.declared.schema.Among.TheVariants as among
 use Rattle.sqlite_keyed.proofs.RuleLemmas.{first_of_both}
 use Rattle.sqlite_keyed.proofs.ListLemmas.{all_weaker}
@@ -33,12 +32,12 @@ use Rattle.ee_store_tables.specs.Keyed.{stored, AreRows}
 use Rattle.ee_store_tables.proofs.PairLemmas.{without_numbered, others_fail}
 use Rattle.ee_store_tables.proofs.HoldsLemmas.{pair_total, pair_same, has_key}
 use Rattle.ee_store_tables.proofs.BondLemmas.{key_params}
-use Rattle.ee_store_tables.proofs.WriteLemmas.{went, same_value, not_so}
-use Rattle.ee_store_tables.proofs.MarkLemmas.{mark_what, marks_none, marks_one, bond_there, bond_has_rowid}
+use Rattle.ee_store_tables.proofs.WriteLemmas.{not_so}
+use Rattle.ee_store_tables.proofs.MarkLemmas.{marks_none, marks_one, bond_there, bond_has_rowid}
 use Rattle.ee_store_tables.proofs.RoomLemmas.{whole_rowid}
 use Rattle.ee_store_tables.proofs.KeyLemmas.{IsOther, put_apart, same_rowid, left_apart, bonds_apart, bonds_unique, other_key, all_alike, untied_differs}
-use Rattle.ee_store_tables.proofs.CauseLemmas.{NeverStops, changing, never_false, never_refused, no_sums}
-use Rattle.ee_store_tables.proofs.RefusalLemmas.{passed, no_stop, never_so, never_source, never_sourced, never_queried, IsAllowed, never_edited, is_bare, bare_storable, one_fits, no_references, task_on, never_concluded, all_unique, number_fits, taken_out}
+use Rattle.ee_store_tables.proofs.CauseLemmas.{NeverStops, never_false, never_refused, no_sums}
+use Rattle.ee_store_tables.proofs.RefusalLemmas.{passed, no_stop, never_queried, IsAllowed, never_edited, is_bare, bare_storable, one_fits, never_concluded, all_unique, number_fits, taken_out}
 
 module _ (day last_day : Option ℕ) (db : Trees) (rows : Rows) (stands : Holds db rows) (unique : Keeps Unique counter_schema db) where
   day_asked : (day last_day : Option ℕ) (e : Error) → ¬ RefusesQuery None (record { schema = counter_schema; trees = db }) (record { lets = []; body = set_day_query }) (given_days day last_day) e
@@ -203,43 +202,10 @@ module _ (k : ℕ × ℕ) (t : ℕ) (db : Trees) (rows : Rows) (stands : Holds d
       never_edited counter_schema Enforced db (edit_of_bonds (one.0 ∷ []) (mark_with one.0 x x.coowner ∷ [])) (marked_allowed x one.0 one.1) stop
       (subst (λ e. Edited counter_schema Enforced db e (Err stop)) (marks_one k t db rows stands asked a x one.0 one.1) h)
 
-  -- ---- what RETURNING shows
-
-  abbrev mark_task : Task
-  mark_task = task_on bonds given_mark
-
-  mark_sourced : (now : Trees) (i : ℤ) (x : BondRow) (o : Option ℕ) (e : Error) → ¬ RefusesSource None (record { schema = counter_schema; trees = now }) (given_mark ++ Null ∷ shown bonds (mark_with i x o)) mark_what.row e
-  mark_sourced now i x None e r = never_source never_false r
-  mark_sourced now i x (Some n) e r = never_source never_false r
-
-  mark_shows : (now : Trees) (news : List Row) → (news ≡ []) ⊎ ((i : ℤ) × (x : BondRow) × (news ≡ mark_with i x x.coowner ∷ [])) → (stop : Option Error) → ¬ Shows mark_task mark_what now news (Err stop)
-  mark_shows now news (inl none) stop h = no_stop (subst (λ rs. Shows mark_task mark_what now rs (Err stop)) none h)
-  mark_shows now news (inr (i, x, one)) stop h =
-      let first = passed (subst (λ rs. Shows mark_task mark_what now rs (Err stop)) one h) (never_sourced (record { schema = counter_schema; trees = now }) (given_mark ++ Null ∷ shown bonds (mark_with i x x.coowner)) mark_what.row (mark_sourced now i x x.coowner)) in
-      let more = passed first.2 (λ s e. no_stop e) in
-      no_stop more.2
-
-  news_are : (asked : List Row) (a : IsAnswer mark_bond_query (overlay db []) given_mark asked) (o : Option BondRow) → get rows.bonds k ≡ o
-      → ((edit_of db bonds (ids_of asked) Given 1 asked).news ≡ []) ⊎ ((i : ℤ) × (x : BondRow) × ((edit_of db bonds (ids_of asked) Given 1 asked).news ≡ mark_with i x x.coowner ∷ []))
-  news_are asked a None is = inl (ap (λ (e : Edit). e.news) (marks_none k t db rows stands asked a is))
-  news_are asked a (Some x) is = let one = bond_there k db rows stands x is in inr (one.0, x, ap (λ (e : Edit). e.news) (marks_one k t db rows stands asked a x one.0 one.1))
-
-  mark_concludes : (w : Written) → (w.rows ≡ []) ⊎ ((i : ℤ) × (x : BondRow) × (w.rows ≡ mark_with i x x.coowner ∷ [])) → (stop : Option Error) → ¬ Concludes mark_task changing (Some mark_what) w (Err stop)
-  mark_concludes w are stop h =
-      let tested = passed h (λ s broken. broken.0 (no_references among.All w.trees)) in
-      let returned = passed tested.2 (λ s r.
-      let all = passed r (mark_shows w.trees w.rows are) in
-      let counted = passed all.2 (λ s c. never_so refl (sym c.0)) in
-      no_stop counted.2) in
-      no_stop returned.2
-
-  pub mark_bond_stays : NeverStops db given_mark (Some mark_what) (Update 2 (record { lets = []; body = mark_bond_query }))
+  pub mark_bond_stays : NeverStops db given_mark None (Update 2 (record { lets = []; body = mark_bond_query }))
   mark_bond_stays text stop h =
       let written = passed h (λ s w.
       let asked = passed w (never_queried (record { schema = counter_schema; trees = db }) (record { lets = []; body = mark_bond_query }) given_mark (λ e r. never_refused never_false (no_sums _) r)) in
       let edited = passed asked.2 (λ s e. mark_edited asked.0 (asked.1.answer Null) s (get rows.bonds k) refl e) in
       no_stop edited.2) in
-      let asked = went written.1 in
-      let edited = went asked.2 in
-      let w_is = ap (λ (w : Written). w.rows) (same_value edited.2) in
-      mark_concludes written.0 (subst (λ rs. (rs ≡ []) ⊎ ((i : ℤ) × (x : BondRow) × (rs ≡ mark_with i x x.coowner ∷ []))) (sym w_is) (news_are asked.0 (asked.1.answer Null) (get rows.bonds k) refl)) stop written.2
+      never_concluded bonds given_mark written.0 stop written.2

@@ -73,8 +73,8 @@ pub fn mark_bond<S: Alter>(
     ensures cause { FailsByCause (state S.Store tx.old.conn.now) (state S.Store tx.new.conn.now) result (λ _. HasRoom 0 (state S.Store tx.old.conn.now)) }
     ensures crash { LeavesNoMore (state S.Store tx.old.conn.now) (state S.Store tx.new.conn.now) }
 {
-    let _bond = tx.query_all(
-        "UPDATE bonds SET ticket = ?3 WHERE letter = ?1 AND number = ?2 RETURNING denom, issued, owner, coowner",
+    tx.execute(
+        "UPDATE bonds SET ticket = ?3 WHERE letter = ?1 AND number = ?2",
         &[whole(serial.letter), whole(serial.number), whole(ticket)],
     )?;
     Ok(())

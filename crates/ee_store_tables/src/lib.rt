@@ -20,7 +20,7 @@ pub use bonds::{add_bond, bonds_of_owner, find_bond, mark_bond};
 pub use desk::{find_desk, set_day, set_version};
 pub use extensions::{add_extension, find_extension};
 pub use failures::Failure;
-pub use lines::{add_paid, pay_line, pay_lines, ticket_lines};
+pub use lines::{add_paid, pay_lines, ticket_lines};
 pub use rates::{add_rate, find_rate};
 pub use records::{
     BatchRow, BondRow, DeskRow, PaidRow, PlacedLine, RateRow, ReplyRow, Serial, TicketRow,

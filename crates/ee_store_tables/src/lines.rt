@@ -1,9 +1,10 @@
 //! The table `paid`: the lines of tickets, each in its place.
 
-ghost use Rattle.std.specs.Prelude.{◌≡◌, ◌+◌, length, map, All, ⊤};
+ghost use Rattle.std.specs.Prelude.{◌≡◌, ◌+◌, [], ◌∷◌, length, map, All, IfSome, ⊤};
 ghost use Rattle.sqlite.specs.Held.{state};
 ghost use Rattle.ee_store_tables.specs.AsRows.{Fits, FitsLine, row_of_line, placed_of, placed_columns};
-ghost use Rattle.ee_store_tables.specs.Rows.{with_paid, with_line, with_lines, lines_on, CanPay, CanPayAll, HasRoom};
+ghost use Rattle.ee_store_tables.specs.Rows.{with_paid, with_lines, lines_on, CanPay, CanPayAll, HasRoom};
+ghost use Rattle.ee_store_tables.specs.Places.{with_places, all_marked, CanPlaceAll};
 ghost use Rattle.ee_store_tables.specs.Statements.{
   LeavesOpen,
   StaysOpen,
@@ -16,6 +17,7 @@ ghost use Rattle.ee_store_tables.specs.Statements.{
   FailsAlone,
   FailsByCause,
   QueryFailsByCause,
+  KeepsRoom,
   TakesRoom,
 };
 
@@ -60,32 +62,186 @@ pub fn add_paid<S: Alter>(
     Ok(())
 }
 
-/// Adds a line to a ticket, and marks its bond as paid on that ticket.
-pub fn pay_line<S: Alter>(
+/// Adds four lines to a ticket, in their places from this one on, by one statement.
+fn add_four<S: Alter>(
     tx: &mut Transaction<'_, S>,
     ticket: u64,
     place: u64,
-    line: PaidRow,
+    first: PaidRow,
+    second: PaidRow,
+    third: PaidRow,
+    fourth: PaidRow,
 ) -> Result<(), Failure>
     requires ticket { Fits ticket }
-    requires place { Fits place }
-    requires line { FitsLine line }
+    requires places { Fits (place + 4) }
+    requires first { FitsLine first }
+    requires second { FitsLine second }
+    requires third { FitsLine third }
+    requires fourth { FitsLine fourth }
     ensures same_reference { tx.new.conn.ghost_name ≡ tx.old.conn.ghost_name }
     ensures open { LeavesOpen (state S.Store tx.new.conn.now) result }
     ensures inside { StaysInside (state S.Store tx.old.conn.now) (state S.Store tx.new.conn.now) result }
-    ensures added { Makes (state S.Store tx.old.conn.now) (state S.Store tx.new.conn.now) result (λ rows. with_line rows ticket place (row_of_line line)) }
-    ensures room { TakesRoom (state S.Store tx.old.conn.now) (state S.Store tx.new.conn.now) result 1 }
+    ensures added { Makes (state S.Store tx.old.conn.now) (state S.Store tx.new.conn.now) result
+        (λ rows. with_places rows ticket place (row_of_line first ∷ row_of_line second ∷ row_of_line third ∷ row_of_line fourth ∷ [])) }
+    ensures room { TakesRoom (state S.Store tx.old.conn.now) (state S.Store tx.new.conn.now) result 4 }
     ensures commit { CommitsNothing (state S.Store tx.old.conn.now) (state S.Store tx.new.conn.now) }
     ensures cause { FailsByCause (state S.Store tx.old.conn.now) (state S.Store tx.new.conn.now) result
-        (λ rows. HasRoom 1 (state S.Store tx.old.conn.now) × CanPay rows ticket place (row_of_line line)) }
+        (λ rows. HasRoom 4 (state S.Store tx.old.conn.now)
+        × CanPlaceAll rows ticket place (row_of_line first ∷ row_of_line second ∷ row_of_line third ∷ row_of_line fourth ∷ [])) }
     ensures crash { LeavesNoMore (state S.Store tx.old.conn.now) (state S.Store tx.new.conn.now) }
 {
-    add_paid(tx, ticket, place, line)?;
-    let serial = Serial {
-        letter: line.letter,
-        number: line.number,
-    };
-    mark_bond(tx, serial, ticket)
+    let next = place + 1;
+    let after_next = next + 1;
+    let last = after_next + 1;
+    tx.execute(
+        "INSERT INTO paid (ticket, place, letter, number, cents) VALUES (?1, ?2, ?3, ?4, ?5), (?1, ?6, ?7, ?8, ?9), (?1, ?10, ?11, ?12, ?13), (?1, ?14, ?15, ?16, ?17)",
+        &[
+            whole(ticket),
+            whole(place),
+            whole(first.letter),
+            whole(first.number),
+            whole(first.cents),
+            whole(next),
+            whole(second.letter),
+            whole(second.number),
+            whole(second.cents),
+            whole(after_next),
+            whole(third.letter),
+            whole(third.number),
+            whole(third.cents),
+            whole(last),
+            whole(fourth.letter),
+            whole(fourth.number),
+            whole(fourth.cents),
+        ],
+    )?;
+    Ok(())
+}
+
+/// The first four lines, and those after them.
+#[derive(Clone, Copy)]
+struct FirstFour<'a> {
+    first: PaidRow,
+    second: PaidRow,
+    third: PaidRow,
+    fourth: PaidRow,
+    rest: &'a [PaidRow],
+}
+
+/// The first four lines, where there are so many.
+fn first_four(lines: &[PaidRow]) -> Option<FirstFour<'_>>
+    ensures { IfSome result (λ it. lines.now ≡ it.first ∷ it.second ∷ it.third ∷ it.fourth ∷ it.rest.now) }
+{
+    let (first, rest) = lines.split_first()?;
+    let (second, rest) = rest.split_first()?;
+    let (third, rest) = rest.split_first()?;
+    let (fourth, rest) = rest.split_first()?;
+    Some(FirstFour {
+        first: *first,
+        second: *second,
+        third: *third,
+        fourth: *fourth,
+        rest,
+    })
+}
+
+/// Adds lines to a ticket, in their places from this one on, one by one.
+fn add_each<S: Alter>(
+    tx: &mut Transaction<'_, S>,
+    ticket: u64,
+    place: u64,
+    lines: &[PaidRow],
+) -> Result<(), Failure>
+    requires ticket { Fits ticket }
+    requires places { Fits (place + length lines.now) }
+    requires lines { All FitsLine lines.now }
+    ensures same_reference { tx.new.conn.ghost_name ≡ tx.old.conn.ghost_name }
+    ensures open { StaysOpen (state S.Store tx.old.conn.now) (state S.Store tx.new.conn.now) result }
+    ensures inside { StaysInside (state S.Store tx.old.conn.now) (state S.Store tx.new.conn.now) result }
+    ensures added { Makes (state S.Store tx.old.conn.now) (state S.Store tx.new.conn.now) result
+        (λ rows. with_places rows ticket place (map row_of_line lines.now)) }
+    ensures room { TakesRoom (state S.Store tx.old.conn.now) (state S.Store tx.new.conn.now) result (length lines.now) }
+    ensures commit { CommitsNothing (state S.Store tx.old.conn.now) (state S.Store tx.new.conn.now) }
+    ensures cause { FailsByCause (state S.Store tx.old.conn.now) (state S.Store tx.new.conn.now) result
+        (λ rows. HasRoom (length lines.now) (state S.Store tx.old.conn.now) × CanPlaceAll rows ticket place (map row_of_line lines.now)) }
+    ensures crash { LeavesNoMore (state S.Store tx.old.conn.now) (state S.Store tx.new.conn.now) }
+{
+    match lines.split_first() {
+        None => Ok(()),
+        Some((line, rest)) => {
+            add_paid(tx, ticket, place, *line)?;
+            add_each(tx, ticket, place + 1, rest)
+        }
+    }
+}
+
+/// Adds lines to a ticket, in their places from this one on: four by one statement, and what is left over one by one.
+fn add_lines<S: Alter>(
+    tx: &mut Transaction<'_, S>,
+    ticket: u64,
+    place: u64,
+    lines: &[PaidRow],
+) -> Result<(), Failure>
+    requires ticket { Fits ticket }
+    requires places { Fits (place + length lines.now) }
+    requires lines { All FitsLine lines.now }
+    ensures same_reference { tx.new.conn.ghost_name ≡ tx.old.conn.ghost_name }
+    ensures open { StaysOpen (state S.Store tx.old.conn.now) (state S.Store tx.new.conn.now) result }
+    ensures inside { StaysInside (state S.Store tx.old.conn.now) (state S.Store tx.new.conn.now) result }
+    ensures added { Makes (state S.Store tx.old.conn.now) (state S.Store tx.new.conn.now) result
+        (λ rows. with_places rows ticket place (map row_of_line lines.now)) }
+    ensures room { TakesRoom (state S.Store tx.old.conn.now) (state S.Store tx.new.conn.now) result (length lines.now) }
+    ensures commit { CommitsNothing (state S.Store tx.old.conn.now) (state S.Store tx.new.conn.now) }
+    ensures cause { FailsByCause (state S.Store tx.old.conn.now) (state S.Store tx.new.conn.now) result
+        (λ rows. HasRoom (length lines.now) (state S.Store tx.old.conn.now) × CanPlaceAll rows ticket place (map row_of_line lines.now)) }
+    ensures crash { LeavesNoMore (state S.Store tx.old.conn.now) (state S.Store tx.new.conn.now) }
+{
+    match first_four(lines) {
+        None => add_each(tx, ticket, place, lines),
+        Some(four) => {
+            add_four(
+                tx,
+                ticket,
+                place,
+                four.first,
+                four.second,
+                four.third,
+                four.fourth,
+            )?;
+            add_lines(tx, ticket, place + 4, four.rest)
+        }
+    }
+}
+
+/// Marks the bonds of lines as paid on a ticket.
+fn mark_lines<S: Alter>(
+    tx: &mut Transaction<'_, S>,
+    ticket: u64,
+    lines: &[PaidRow],
+) -> Result<(), Failure>
+    requires ticket { Fits ticket }
+    requires lines { All FitsLine lines.now }
+    ensures same_reference { tx.new.conn.ghost_name ≡ tx.old.conn.ghost_name }
+    ensures open { StaysOpen (state S.Store tx.old.conn.now) (state S.Store tx.new.conn.now) result }
+    ensures inside { StaysInside (state S.Store tx.old.conn.now) (state S.Store tx.new.conn.now) result }
+    ensures marked { Makes (state S.Store tx.old.conn.now) (state S.Store tx.new.conn.now) result
+        (λ rows. all_marked rows ticket (map row_of_line lines.now)) }
+    ensures room { KeepsRoom (state S.Store tx.old.conn.now) (state S.Store tx.new.conn.now) result }
+    ensures commit { CommitsNothing (state S.Store tx.old.conn.now) (state S.Store tx.new.conn.now) }
+    ensures cause { FailsByCause (state S.Store tx.old.conn.now) (state S.Store tx.new.conn.now) result (λ _. HasRoom 0 (state S.Store tx.old.conn.now)) }
+    ensures crash { LeavesNoMore (state S.Store tx.old.conn.now) (state S.Store tx.new.conn.now) }
+{
+    match lines.split_first() {
+        None => Ok(()),
+        Some((line, rest)) => {
+            let serial = Serial {
+                letter: line.letter,
+                number: line.number,
+            };
+            mark_bond(tx, serial, ticket)?;
+            mark_lines(tx, ticket, rest)
+        }
+    }
 }
 
 /// Adds lines to a ticket, in their places from this one on, and marks their bonds as paid.
@@ -109,13 +265,8 @@ pub fn pay_lines<S: Alter>(
         (λ rows. HasRoom (length lines.now) (state S.Store tx.old.conn.now) × CanPayAll rows ticket place (map row_of_line lines.now)) }
     ensures crash { LeavesNoMore (state S.Store tx.old.conn.now) (state S.Store tx.new.conn.now) }
 {
-    match lines.split_first() {
-        None => Ok(()),
-        Some((line, rest)) => {
-            pay_line(tx, ticket, place, *line)?;
-            pay_lines(tx, ticket, place + 1, rest)
-        }
-    }
+    add_lines(tx, ticket, place, lines)?;
+    mark_lines(tx, ticket, lines)
 }
 
 impl Record for PlacedLine {

@@ -1,0 +1,62 @@
+use Rattle.std.proofs.Common.{[], ◌∷◌, None, refl, sym, ap, subst}
+use Rattle.ee_store_tables.specs.Statements.{IsExcused}
+use Rattle.ee_store_tables.proofs.Meaning.{add_four_text}
+use Rattle.ee_store_tables.proofs.CauseLemmas.{from_err, write_excused}
+use Rattle.ee_store_tables.proofs.AskLemmas.{writes_four}
+use Rattle.ee_store_tables.proofs.PutLemmas.{add_four_stays}
+use Rattle.sqlite.specs.Held.{state}
+use Rattle.ee_store_tables.specs.AsRows.{row_of_line}
+use Rattle.ee_store_tables.proofs.KeepLemmas.{inside_if_ok, execute_keeps}
+use Rattle.ee_store_tables.proofs.PlacesLemmas.{given_four, adds_four, room_lines}
+use Rattle.ee_store_tables.proofs.lines.add_four.Goals as goal
+
+pub returns-clause-added : goal.returns-clause-added
+returns-clause-added g c clean rows sees =
+    let old = state g.S.Store c.args.tx.now.conn.now in
+    let new = state g.S.Store c.execute.new.self.conn.now in
+    let inside = inside_if_ok old.in_transaction c.execute.result c.in_ok-execute.field-0 c.in_ok-execute.was c.execute.ensures.ended in
+    let it = c.in_ok-execute.ensures.runs clean inside in
+    let ran = rw (c.whole.ensures, c.whole-2.ensures, c.whole-3.ensures, c.whole-4.ensures, c.whole-5.ensures, c.whole-6.ensures, c.whole-7.ensures, c.whole-8.ensures, c.whole-9.ensures, c.whole-10.ensures, c.whole-11.ensures, c.whole-12.ensures, c.whole-13.ensures, c.whole-14.ensures, c.whole-15.ensures, c.whole-16.ensures, c.whole-17.ensures) at it.0 in
+    let first = sees it.1.was_open in
+    let after = adds_four old new c.args.ticket c.args.place (row_of_line c.args.first) (row_of_line c.args.second) (row_of_line c.args.third) (row_of_line c.args.fourth) c.in_ok-execute.field-0 first.0 ran in
+    λ _. (after.0, after.1 rows first.1)
+
+pub returns-clause-inside : goal.returns-clause-inside
+returns-clause-inside g c clean inside_old =
+    let old = state g.S.Store c.args.tx.now.conn.now in
+    let new = state g.S.Store c.execute.new.self.conn.now in
+    let inside = inside_if_ok old.in_transaction c.execute.result c.in_ok-execute.field-0 c.in_ok-execute.was c.execute.ensures.ended in
+    let it = c.in_ok-execute.ensures.runs clean inside in
+    let ran = rw (c.whole.ensures, c.whole-2.ensures, c.whole-3.ensures, c.whole-4.ensures, c.whole-5.ensures, c.whole-6.ensures, c.whole-7.ensures, c.whole-8.ensures, c.whole-9.ensures, c.whole-10.ensures, c.whole-11.ensures, c.whole-12.ensures, c.whole-13.ensures, c.whole-14.ensures, c.whole-15.ensures, c.whole-16.ensures, c.whole-17.ensures) at it.0 in
+    let after = adds_four old new c.args.ticket c.args.place (row_of_line c.args.first) (row_of_line c.args.second) (row_of_line c.args.third) (row_of_line c.args.fourth) c.in_ok-execute.field-0 (inside_old it.1.was_open).1 ran in
+    λ _. (it.1.mode, after.0)
+
+pub returns-in_err-execute-clause-cause : goal.returns-in_err-execute-clause-cause
+returns-in_err-execute-clause-cause g c clean inside endless rows sees allowed =
+    let old = state g.S.Store c.args.tx.now.conn.now in
+    let new = state g.S.Store c.execute.new.self.conn.now in
+    let t = c.args.ticket in
+    let p = c.args.place in
+    let x = row_of_line c.args.first in
+    let y = row_of_line c.args.second in
+    let z = row_of_line c.args.third in
+    let w = row_of_line c.args.fourth in
+    from_err c.from_residual.result c.from_residual.ensures.1 (λ failure same. subst (IsExcused old new) (sym same)
+    (write_excused add_four_text (given_four t p x y z w) None _ (writes_four t p x y z w) old new 4 rows allowed.0 sees
+    (λ stands unique room. add_four_stays old.now.trees rows stands unique room.1 t p x y z w allowed.1) inside endless refl c.in_err-execute.field-0.0
+    (rw (c.whole.ensures, c.whole-2.ensures, c.whole-3.ensures, c.whole-4.ensures, c.whole-5.ensures, c.whole-6.ensures, c.whole-7.ensures, c.whole-8.ensures, c.whole-9.ensures, c.whole-10.ensures, c.whole-11.ensures, c.whole-12.ensures, c.whole-13.ensures, c.whole-14.ensures, c.whole-15.ensures, c.whole-16.ensures, c.whole-17.ensures) at (c.in_err-execute.ensures.runs clean))))
+
+pub returns-clause-room : goal.returns-clause-room
+returns-clause-room g c clean inside_old rows sees n room =
+    let old = state g.S.Store c.args.tx.now.conn.now in
+    let new = state g.S.Store c.execute.new.self.conn.now in
+    let inside = inside_if_ok old.in_transaction c.execute.result c.in_ok-execute.field-0 c.in_ok-execute.was c.execute.ensures.ended in
+    let it = c.in_ok-execute.ensures.runs clean inside in
+    let ran = rw (c.whole.ensures, c.whole-2.ensures, c.whole-3.ensures, c.whole-4.ensures, c.whole-5.ensures, c.whole-6.ensures, c.whole-7.ensures, c.whole-8.ensures, c.whole-9.ensures, c.whole-10.ensures, c.whole-11.ensures, c.whole-12.ensures, c.whole-13.ensures, c.whole-14.ensures, c.whole-15.ensures, c.whole-16.ensures, c.whole-17.ensures) at it.0 in
+    let after = adds_four old new c.args.ticket c.args.place (row_of_line c.args.first) (row_of_line c.args.second) (row_of_line c.args.third) (row_of_line c.args.fourth) c.in_ok-execute.field-0 (inside_old it.1.was_open).1 ran in
+    let four = row_of_line c.args.first ∷ row_of_line c.args.second ∷ row_of_line c.args.third ∷ row_of_line c.args.fourth ∷ [] in
+    room_lines old new n c.args.ticket c.args.place four after.3 after.4 after.2 it.1.was_open room
+
+pub returns-in_err-execute-clause-commit : goal.returns-in_err-execute-clause-commit
+returns-in_err-execute-clause-commit g c clean inside =
+    execute_keeps (state g.S.Store c.args.tx.now.conn.now) (state g.S.Store c.execute.new.self.conn.now) add_four_text _ c.execute.result (c.execute.ensures.runs clean) (λ without. ap (state g.S.Store) (c.execute.ensures.ended without).1)
