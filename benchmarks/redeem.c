@@ -1,7 +1,8 @@
 /* What a delivery of the counter costs in C over SQLite's own library: the same tables, reads and writes, and one
    synchronous commit for each redemption. It decides nothing: the sums and texts are made up.
-   Build: cc -O2 -o redeem redeem.c -lsqlite3.  Run: ./redeem FILE BONDS TICKETS TICKETS_A_DAY [BONDS_A_TICKET [PAGE_SIZE]]
-   (the file must not be there; 1 bond a ticket if it isn't given, at most 100; SQLite's default page size if none is given). */
+   Build: cc -O2 -o redeem redeem.c -lsqlite3.  Run: ./redeem FILE BONDS TICKETS TICKETS_A_DAY [BONDS_A_TICKET [PAGE_SIZE [shown]]]
+   (the file must not be there; 1 bond a ticket if it isn't given, at most 100; SQLite's default page size if none is given, or 0).
+   With `shown` each line has an INSERT of its own, and each mark shows its bond by RETURNING, as the counter did it before. */
 #include <sqlite3.h>
 #include <stdio.h>
 #include <stdlib.h>
@@ -81,7 +82,8 @@ static void write_texts(char *act, char *reply, long ticket, long serial, long e
 }
 
 int main(int count, char **words) {
-    if (count < 5 || count > 7) return 2;
+    if (count < 5 || count > 8) return 2;
+    int shown = count > 7;
     long bonds = atol(words[2]), tickets = atol(words[3]), a_day = atol(words[4]), each = count > 5 ? atol(words[5]) : 1;
     if (each < 1 || each > 100 || bonds < tickets * each) return 2;
     if (sqlite3_open(words[1], &db)) fail("open");
@@ -96,7 +98,10 @@ int main(int count, char **words) {
     sqlite3_stmt *first = prepare("SELECT ticket FROM tickets WHERE day = ?1 ORDER BY ticket LIMIT 1");
     sqlite3_stmt *add_ticket = prepare("INSERT INTO tickets (ticket, day, payee, bonds, total) VALUES (?1, ?2, ?3, ?4, ?5)");
     sqlite3_stmt *add_paid = prepare("INSERT INTO paid (ticket, place, letter, number, cents) VALUES (?1, ?2, ?3, ?4, ?5)");
-    sqlite3_stmt *mark = prepare("UPDATE bonds SET ticket = ?3 WHERE letter = ?1 AND number = ?2 RETURNING denom, issued, owner, coowner");
+    sqlite3_stmt *add_four = prepare("INSERT INTO paid (ticket, place, letter, number, cents) VALUES (?1, ?2, ?3, ?4, ?5), (?1, ?6, ?7, ?8, ?9),"
+                                     " (?1, ?10, ?11, ?12, ?13), (?1, ?14, ?15, ?16, ?17)");
+    sqlite3_stmt *mark = prepare(shown ? "UPDATE bonds SET ticket = ?3 WHERE letter = ?1 AND number = ?2 RETURNING denom, issued, owner, coowner"
+                                       : "UPDATE bonds SET ticket = ?3 WHERE letter = ?1 AND number = ?2");
     sqlite3_stmt *add_answer = prepare("INSERT INTO answers (desk, number, act, reply) VALUES (?1, ?2, ?3, ?4)");
     double start = now();
     for (long i = 1; i <= tickets; i++) {
@@ -112,10 +117,11 @@ int main(int count, char **words) {
         with(last, 0, 0);
         WITH(first, day);
         WITH(add_ticket, i, day, 7, each, 2974 * each);
-        for (long k = 0; k < each; k++) {
-            WITH(add_paid, i, k + 1, 1, serial + k, 2974);
-            WITH(mark, 1, serial + k, i);
-        }
+        long k = 0;
+        for (; k + 4 <= each && !shown; k += 4)
+            WITH(add_four, i, k + 1, 1, serial + k, 2974, k + 2, 1, serial + k + 1, 2974, k + 3, 1, serial + k + 2, 2974, k + 4, 1, serial + k + 3, 2974);
+        for (; k < each; k++) WITH(add_paid, i, k + 1, 1, serial + k, 2974);
+        for (k = 0; k < each; k++) WITH(mark, 1, serial + k, i);
         sqlite3_bind_text(add_answer, 3, act, -1, SQLITE_STATIC);
         sqlite3_bind_text(add_answer, 4, reply, -1, SQLITE_STATIC);
         WITH(add_answer, 0, 1000 + i);
