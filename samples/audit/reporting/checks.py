@@ -248,6 +248,14 @@ def sums_are_conserved(store: Store, findings: Findings) -> None:
     findings.compare("batches", "all", "batches and the open day's tickets", texts.money(batches + today), texts.money(lines))
 
 
+def rates_are_those_announced(announced: dict[int, int], store: Store, findings: Findings) -> None:
+    """Each fixed rate is the one of a list that the auditor brings."""
+    for period, fixed in store.rows("SELECT period, rate FROM rates"):
+        findings.tested += 1
+        wanted = texts.rate_text(announced[period]) if period in announced else "no rate: the list has none"
+        findings.compare("rates", name_of("rates", (period,)), "rate", texts.rate_text(fixed), wanted)
+
+
 TESTS = (
     ("file", "The file is whole, as SQLite sees it", "FORMATS, The tables of a store", is_whole_file),
     ("checksums", "Each page ends in its checksum", "FORMATS, The tables of a store", page_checksums),

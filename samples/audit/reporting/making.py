@@ -1,6 +1,7 @@
 """A report of a store: the tests, the replay and the figures, as one value that JSON can hold."""
 
 import dataclasses
+import functools
 import sqlite3
 
 from . import checks, period, replay, texts
@@ -16,13 +17,18 @@ BOOKS = ("books", "The tables are what the kept requests make of nothing", "MODE
 ROWS = {"bonds": "bonds", "tickets": "tickets", "paid": "payments", "batches": "batches", "kept": "kept requests"}
 
 
-def report_of(store: Store, month: int | None) -> dict:
+ANNOUNCED = ("announced", "Each fixed rate that was entered is the one of the list that was given", "31 CFR Part 351; the list")
+
+
+def report_of(store: Store, month: int | None, announced: dict[int, int] | None = None) -> dict:
     """The whole report. A store without the tables of the program is tested for these alone."""
     if not needed_tables_are_there(store):
         findings = [checks.ran(store, *test) for test in checks.TESTS[:2]] + [without_tables(store)]
         return told(store, findings, month, None)
     make_views(store)
     findings = checks.run_all(store) + [checks.ran(store, *test) for test in KEPT_TESTS]
+    if announced is not None:
+        findings.append(checks.ran(store, *ANNOUNCED, functools.partial(checks.rates_are_those_announced, announced)))
     replies, books, entries = replay_findings(store, findings[1].tested > 0)
     return told(store, [*findings, replies, books], month, figures(store, entries, month))
 

@@ -10,8 +10,8 @@ MOST_DIFFERENCES, MOST_BARS, MOST_ROWS = 100, 40, 366
 STYLE = """
 body { color: #111; background: #fff; font: 1rem/1.5 system-ui, sans-serif; margin: 0 auto; padding: 0 1rem 2rem; max-width: 60rem; }
 h1 { font-size: 1.6rem; line-height: 1.2; } h2 { font-size: 1.25rem; margin-top: 2.5rem; } h3 { font-size: 1.05rem; }
-table { border-collapse: collapse; width: 100%; } caption { text-align: left; font-weight: bold; padding: .3rem 0; }
-th, td { border-bottom: 1px solid #999; padding: .25rem .6rem .25rem 0; text-align: left; vertical-align: top; }
+table { border-collapse: collapse; } caption { text-align: left; font-weight: bold; padding: .3rem 0; }
+th, td { border-bottom: 1px solid #999; padding: .25rem 1.2rem .25rem 0; text-align: left; vertical-align: top; }
 td.n, th.n { text-align: right; font-variant-numeric: tabular-nums; white-space: nowrap; }
 .wide { overflow-x: auto; } code, .sum { overflow-wrap: anywhere; font-family: ui-monospace, monospace; font-size: .9em; }
 .good, .bad { border: 2px solid #111; padding: .6rem 1rem; font-weight: bold; } .good { border-color: #1b5e20; } .bad { border-color: #a10000; color: #a10000; }
@@ -25,6 +25,7 @@ NOT_SHOWN = (
     "That a rate is Treasury's, that a bond is genuine, and that a payee is who they said: the store has what the bank entered.",
     "That nothing is missing at the end: a store that was restored from an older copy stands for the requests up to that copy, and a bond that was paid later is unpaid in it.",
     "That a change was made by the program, if all of it agrees: whoever rewrites a request, its reply, the books and what follows leaves nothing that differs. Compare the sums with those of earlier reports and copies.",
+    "Which desk and number a request had, and what a refused request asked for beyond what its refusal tells: the books don't depend on them. Only the checksums of the pages speak of them, and whoever wants to can write right ones.",
     "How often a request was sent under its own number: it acts once, and a retry leaves no trace in the store.",
 )
 

@@ -6,7 +6,7 @@ from typing import NamedTuple
 
 WIDTH, LEFT, RIGHT = 3600, 520, 3560
 TOP, BOTTOM, HEIGHT = 80, 1500, 1800
-MOST_LABELS = 7
+MARK = 75  # the width of a digit
 FILLS = {"": "#1f4e79", "P5": "#9c4a00", "MA": "#4d4d4d", "second": "#9c4a00"}
 
 
@@ -59,8 +59,8 @@ def grid(top: int, step: int, unit: str) -> list[str]:
 
 def labels(bars: list[Bar]) -> list[str]:
     """Some labels below the bars, evenly spaced, the first one among them."""
-    every = -(-len(bars) // MOST_LABELS)
-    room = RIGHT - LEFT
+    room, wide = RIGHT - LEFT, MARK * max([len(bar.label) for bar in bars] + [2]) + 2 * MARK
+    every = max(1, -(-len(bars) * wide // room))
     return [text_at(LEFT + (2 * place + 1) * room // (2 * len(bars)), BOTTOM + 180, bars[place].label) for place in range(0, len(bars), every)]
 
 

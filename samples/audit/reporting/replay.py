@@ -3,7 +3,7 @@ the requests were kept, and the replies and the books are compared with those of
 
 The number of a row of `answers` tells that order, since a new row gets the number after the last one.
 Rows that a migration from version 1 wrote stand in order of their request numbers, so their order in
-time isn't kept: for them an order is sought in which each reply is the kept one (`placed`)."""
+time isn't kept. What can be replayed of them is told at `replay_of`."""
 
 import dataclasses
 import hashlib
@@ -15,7 +15,6 @@ from .findings import Findings
 from .store import Store
 
 UNREADABLE = {"act": ""}
-MOST_SOUGHT_TWICE = 5000  # requests of version 1 for which the slower of two ways is tried too
 IN_ORDER = "SELECT place, desk, number, act, reply FROM kept ORDER BY place"
 
 
@@ -49,7 +48,6 @@ class Replay:
     findings: Findings
     entries: list[Entry]
     told_before: set[bytes]
-    reordered: int = 0
 
 
 def kept_requests(store: Store) -> Iterator[Kept]:
@@ -171,9 +169,9 @@ def note_entry(replay: Replay, kept: Kept, act: dict, reply: dict | None) -> Non
     replay.told_before.add(mark)
 
 
-def replayed(store: Store, findings: Findings, first: Iterable[Kept], after: int, reordered: int = 0) -> Replay:
+def replayed(store: Store, findings: Findings, first: Iterable[Kept], after: int) -> Replay:
     """A replay of some requests in the order given, and then of those in the rows after a row."""
-    replay = Replay(desk.Books(), findings, [], set(), reordered)
+    replay = Replay(desk.Books(), findings, [], set())
     for kept in first:
         next_of(replay, store, kept)
     for row in store.rows("SELECT place, desk, number, act, reply FROM kept WHERE place > ? ORDER BY place", after):
@@ -184,69 +182,72 @@ def replayed(store: Store, findings: Findings, first: Iterable[Kept], after: int
 # ---- requests of version 1, whose order in time isn't kept
 
 
-def migrated_at_most(store: Store, has_checksums: bool) -> int:
-    """The last row that a migration may have written: the rows from the first one on that belong to
-    desk 0 and rise in number. A store with checksums was made in version 2, so none of its rows was."""
-    if has_checksums:
-        return 0
-    last_place, last_number = 0, 0
-    for place, desk_number, number in store.rows("SELECT place, desk, number FROM kept ORDER BY place"):
-        if desk_number != 0 or number <= last_number:
+def migrated_at_most(store: Store, has_checksums: bool) -> list[Kept]:
+    """The requests that a migration may have written: those from the first row on that belong to desk 0
+    and rise in number. A store with checksums was made in version 2, so it has none."""
+    found: list[Kept] = []
+    for kept in kept_requests(store) if not has_checksums else ():
+        if kept.desk != 0 or (found and kept.number <= found[-1].number):
             break
-        last_place, last_number = place, number
-    return last_place
+        found.append(kept)
+    return found
 
 
-def placed(requests: list[Kept], adds_last: bool) -> tuple[list[Kept], list[Kept]]:
-    """The requests in an order in which each has its kept reply, as far as one is found, and those that
-    fit nowhere. It goes through those that are left again and again, and takes each that fits by then.
-    With `adds_last` rates and bonds wait until nothing else fits, and then one request of them is taken."""
-    books, order, left = desk.Books(), [], requests
+def order_told(requests: list[Kept]) -> list[Kept]:
+    """Accepted requests in the order that their replies tell: rates and bonds first, as their counts
+    allow, then each day's opening, its tickets by number, and its closing."""
+    adds, others = [], []
+    for kept in requests:
+        reply = texts.read_reply(kept.reply) or {}
+        if "new" in reply:
+            adds.append(kept)
+        elif "opened" in reply:
+            others.append(((reply["opened"], 0, 0), kept))
+        elif "day" in reply:
+            others.append(((reply["day"], 1, reply["ticket"]) if "ticket" in reply else (reply["day"], 2, 0), kept))
+    return adds_in_order(adds) + [kept for _, kept in sorted(others)]
+
+
+def adds_in_order(adds: list[Kept]) -> list[Kept]:
+    """Requests that add rates or bonds, each after those that make its reply right, as far as there is
+    such an order; the others at the end."""
+    books, order, left = desk.Books(), [], adds
     while left:
-        taken = fitting(books, left, not adds_last, len(left)) or fitting(books, left, True, 1)
-        if not taken:
+        later = []
+        for kept in left:
+            act = texts.read_act(kept.act)
+            own = desk.decide(books, act) if act else None
+            if own is not None and is_that_reply(act, own, kept.reply):
+                desk.take(books, act, own)
+                order.append(kept)
+            else:
+                later.append(kept)
+        if len(later) == len(left):
             break
-        order += taken
-        gone = set(taken)
-        left = [kept for kept in left if kept not in gone]
-    return order, left
-
-
-def fitting(books: desk.Books, left: list[Kept], with_adds: bool, most: int) -> list[Kept]:
-    """Of these requests, those that fit one after the other, and are done on the books."""
-    taken = []
-    for kept in left:
-        act = texts.read_act(kept.act)
-        own = desk.decide(books, act) if act else None
-        if own is None or not is_that_reply(act, own, kept.reply):
-            continue
-        if not desk.is_refused(own):
-            if act["act"] in ("rates", "bonds") and not with_adds:
-                continue
-            desk.take(books, act, own)
-        taken.append(kept)
-        if len(taken) == most:
-            break
-    return taken
+        left = later
+    return order + left
 
 
 def replay_of(store: Store, name: str, title: str, source: str, has_checksums: bool) -> Replay:
-    """The replay in order of rows; or, if requests differ that a migration may have written, the one in
-    the order that is found for them, if fewer differ by it."""
+    """The replay in order of rows; but if an accepted request of version 1 differs in it, and none does in
+    the order that the replies tell, the replay in that order, without the refused requests."""
     in_order = replayed(store, Findings(name, title, source), [], 0)
-    last = migrated_at_most(store, has_checksums)
     differing = {difference.row for difference in in_order.findings.differences}
-    first = [Kept(*row) for row in store.rows("SELECT place, desk, number, act, reply FROM kept WHERE place <= ? ORDER BY place", last)]
-    if not any(kept.row() in differing for kept in first):
+    first = migrated_at_most(store, has_checksums) if differing else []
+    accepted = [kept for kept in first if not desk.is_refused(texts.read_reply(kept.reply) or {})]
+    if not any(kept.row() in differing for kept in accepted):
         return in_order
-    ways = [placed(first, adds_last) for adds_last in ((False, True) if last <= MOST_SOUGHT_TWICE else (False,))]
-    order, left = min(ways, key=lambda way: len(way[1]))
-    other = replayed(store, Findings(name, title, source), [*order, *left], last, len(first))
-    other.findings.remarks.append(
-        f"The {last} requests of desk 0 that stand first may come from a store of version 1, which keeps no order in time. "
-        f"They were replayed in another order than that of their rows, in which {len(order)} of them have the kept reply."
+    as_told = replayed(store, Findings(name, title, source), order_told(first), first[-1].place)
+    if as_told.findings.differing:
+        return in_order
+    for kept in first:
+        if desk.is_refused(texts.read_reply(kept.reply) or {}):
+            note_entry(as_told, kept, texts.read_act(kept.act) or UNREADABLE, texts.read_reply(kept.reply))
+    as_told.findings.remarks.append(
+        f"The first {len(first)} requests come from a store of version 1, which keeps no order in time. The {len(accepted)} that were accepted were "
+        f"replayed in the order that their replies tell. The {len(first) - len(accepted)} refused ones were not: a refusal depends on its moment. Of them only the form of their texts was tested."
     )
-    return other if other.findings.differing < in_order.findings.differing else in_order
+    return as_told
 
 
 # ---- the books
