@@ -12,12 +12,14 @@ body { color: #111; background: #fff; font: 1rem/1.5 system-ui, sans-serif; marg
 h1 { font-size: 1.6rem; line-height: 1.2; } h2 { font-size: 1.25rem; margin-top: 2.5rem; } h3 { font-size: 1.05rem; }
 table { border-collapse: collapse; } caption { text-align: left; font-weight: bold; padding: .3rem 0; }
 th, td { border-bottom: 1px solid #999; padding: .25rem 1.2rem .25rem 0; text-align: left; vertical-align: top; }
-td.n, th.n { text-align: right; font-variant-numeric: tabular-nums; white-space: nowrap; }
+td.s { white-space: nowrap; } td.n, th.n { text-align: right; font-variant-numeric: tabular-nums; white-space: nowrap; }
 .wide { overflow-x: auto; } code, .sum { overflow-wrap: anywhere; font-family: ui-monospace, monospace; font-size: .9em; }
 .good, .bad { border: 2px solid #111; padding: .6rem 1rem; font-weight: bold; } .good { border-color: #1b5e20; } .bad { border-color: #a10000; color: #a10000; }
-figure { margin: 1rem 0; max-width: 34rem; } figcaption { font-weight: bold; } svg { width: 100%; height: auto; }
+.pair { display: grid; gap: 0 2rem; grid-template-columns: repeat(auto-fit, minmax(min(17rem, 100%), 1fr)); align-items: start; } .pair > * { min-width: 0; }
+figure { margin: 0 0 1rem; max-width: 30rem; } figcaption { font-weight: bold; padding: .3rem 0; } svg { width: 100%; height: auto; }
 svg text { fill: #111; font: 130px system-ui, sans-serif; }
 dl.sign dd { border-bottom: 1px solid #111; margin: 0 0 .5rem; min-height: 2.5rem; } dl.sign dt { font-size: .9rem; }
+small { color: #333; } @media (max-width: 30rem) { table { font-size: .8rem; } th, td { padding-right: .5rem; } .wide small { display: block; } }
 @media print { body { max-width: none; font-size: 10pt; } h2, h3, caption { break-after: avoid; } tr, figure, .sign { break-inside: avoid; } .wide { overflow: visible; } }
 """
 
@@ -40,16 +42,26 @@ def grouped_digits(value) -> str:
     return f"{int(whole):,}{point}{rest}"
 
 
+def kind_of(cell, is_number: bool) -> str:
+    """The class of a cell: a number, a short word or date that stays on one line, or nothing."""
+    is_short = len(str(cell)) <= 17 and "<" not in str(cell)
+    return ' class="n"' if is_number else ' class="s"' if is_short else ""
+
+
 def table(caption: str, heads: list[str], rows: list[list], numbers: set[int]) -> str:
     """A table; the columns whose places are in `numbers` hold numbers."""
-    mark = lambda place: ' class="n"' if place in numbers else ""
-    head = "".join(f'<th scope="col"{mark(place)}>{escaped(name)}</th>' for place, name in enumerate(heads))
-    body = "\n".join("<tr>" + "".join(f"<td{mark(place)}>{cell}</td>" for place, cell in enumerate(row)) + "</tr>" for row in rows)
+    head = "".join(f'<th scope="col"{kind_of(name, place in numbers)}>{escaped(name)}</th>' for place, name in enumerate(heads))
+    body = "\n".join("<tr>" + "".join(f"<td{kind_of(cell, place in numbers)}>{cell}</td>" for place, cell in enumerate(row)) + "</tr>" for row in rows)
     return f'<div class="wide">\n<table>\n<caption>{escaped(caption)}</caption>\n<thead><tr>{head}</tr></thead>\n<tbody>\n{body}\n</tbody>\n</table>\n</div>\n'
 
 
 def figure(caption: str, drawing: str) -> str:
     return f"<figure>\n<figcaption>{escaped(caption)}</figcaption>\n{drawing}\n</figure>\n"
+
+
+def pair(*parts: str) -> str:
+    """Parts that stand side by side where there is room."""
+    return '<div class="pair">\n' + "".join(parts) + "</div>\n"
 
 
 def dollars(money: str) -> int:
@@ -78,9 +90,9 @@ def what_was_read(report: dict) -> str:
 
 
 def tests_table(report: dict) -> str:
-    rows = [[escaped(test["name"]), escaped(test["title"]), escaped(test["source"]), grouped_digits(test["tested"]), grouped_digits(test["differing"])] for test in report["tests"]]
+    rows = [[escaped(test["name"]), f"{escaped(test['title'])}. <small>{escaped(test['source'])}</small>", grouped_digits(test["tested"]), grouped_digits(test["differing"])] for test in report["tests"]]
     remarks = "".join(f"<p>{escaped(test['name'])}: {escaped(remark)}</p>\n" for test in report["tests"] for remark in test["remarks"])
-    return "<h2>What was tested</h2>\n" + table("Tests", ["Test", "What it shows", "Rule", "Rows", "Differing"], rows, {3, 4}) + remarks
+    return "<h2>What was tested</h2>\n" + table("Tests", ["Test", "What it shows, and its rule", "Rows", "Differing"], rows, {2, 3}) + remarks
 
 
 def differences(report: dict) -> str:
@@ -101,7 +113,7 @@ def not_shown() -> str:
 
 def rates_table(report: dict) -> str:
     rows = [[one["from"], one["rate"], one["extension"], grouped_digits(one["bonds"])] for one in report["rates"]]
-    return "<h2>Rates that were entered</h2>\n<p>Compare each with Treasury's announcement.</p>\n" + table("Rates", ["Issued from", "Fixed rate", "Extended maturity", "Bonds"], rows, {1, 2, 3})
+    return "<h2>Rates that were entered</h2>\n<p>The fixed rate, and the rate of extended maturity. Compare each with Treasury's announcement.</p>\n" + table("Rates", ["Issued from", "Fixed", "Extension", "Bonds"], rows, {1, 2, 3})
 
 
 # ---- the period
@@ -140,7 +152,7 @@ def days_part(figures: dict) -> str:
     left = len(figures["days"]) - len(shown)
     rows = [[one["day"] + ("" if one["is_closed"] else " (open)"), grouped_digits(one["tickets"]), grouped_digits(one["bonds"]), grouped_digits(one["total"])] for one in shown]
     more = f"<p>The {left} days before stand in report.json.</p>\n" if left else ""
-    return "<h3>By day</h3>\n" + drawn + table("Days", ["Day", "Tickets", "Bonds", "Dollars"], rows, {1, 2, 3}) + more
+    return "<h3>By day</h3>\n" + pair(drawn) + table("Days", ["Day", "Tickets", "Bonds", "Dollars"], rows, {1, 2, 3}) + more
 
 
 def of_groups(figures: dict, key: str, name: str, heading: str, column: str) -> str:
@@ -148,9 +160,10 @@ def of_groups(figures: dict, key: str, name: str, heading: str, column: str) -> 
     if not groups:
         return ""
     bars = [Bar(str(one[name]), dollars(one["total"])) for one in groups]
-    drawn = figure(f"Dollars paid by {column.lower()}", pictures.rows(f"Dollars paid by {column.lower()}", bars, [f"{bar.size:,}" for bar in bars]))
+    caption = "Dollars paid " + heading.lower()
     rows = [[one[name], grouped_digits(one["bonds"]), grouped_digits(one["total"])] for one in groups]
-    return f"<h3>{heading}</h3>\n" + drawn + table(heading, [column, "Bonds", "Dollars"], rows, {1, 2})
+    shown = table(heading, [column, "Bonds", "Dollars"], rows, {1, 2})
+    return f"<h3>{heading}</h3>\n" + pair(figure(caption, pictures.rows(caption, bars, [f"{bar.size:,}" for bar in bars])), shown)
 
 
 def issues_part(figures: dict) -> str:
@@ -170,7 +183,7 @@ def ages_part(figures: dict) -> str:
     bars = [Bar(str(year), found[year]["bonds"], found[year]["note"]) if year in found else Bar(str(year), 0) for year in years]
     caption = "Bonds paid by age in years (brown: P5, with three months' penalty; blue: no note; grey: MA, matured)"
     rows = [[one["years"], one["note"], grouped_digits(one["bonds"]), grouped_digits(one["total"])] for one in ages]
-    return "<h3>By age</h3>\n" + figure(caption, pictures.columns(caption, bars)) + table("Ages", ["Years", "Note", "Bonds", "Dollars"], rows, {0, 2, 3})
+    return "<h3>By age</h3>\n" + pair(figure(caption, pictures.columns(caption, bars)), table("Ages", ["Years", "Note", "Bonds", "Dollars"], rows, {0, 2, 3}))
 
 
 def refusals_part(figures: dict) -> str:
@@ -179,7 +192,8 @@ def refusals_part(figures: dict) -> str:
         return "<h3>Refusals</h3>\n<p>No request was refused.</p>\n"
     bars = [Bar(f"{one['code']} {one['name']}", one["requests"], "second") for one in refusals]
     drawn = figure("Refused requests by code", pictures.rows("Refused requests by code", bars, [f"{bar.size:,}" for bar in bars]))
-    return "<h3>Refusals</h3>\n" + drawn + table("Refusals", ["Code", "Name", "Requests"], [[one["code"], one["name"], grouped_digits(one["requests"])] for one in refusals], {0, 2})
+    rows = [[one["code"], one["name"], grouped_digits(one["requests"])] for one in refusals]
+    return "<h3>Refusals</h3>\n" + pair(drawn, table("Refusals", ["Code", "Name", "Requests"], rows, {0, 2}))
 
 
 def desks_part(figures: dict) -> str:
@@ -191,7 +205,7 @@ def desks_part(figures: dict) -> str:
     bars = [Bar(f"desk {one['desk']}", one["again"], "second") for one in sorted(most, key=lambda one: one["desk"])]
     drawn = figure("Acts asked for again by desk", pictures.rows("Acts asked for again by desk", bars, [f"{bar.size:,}" for bar in bars]))
     rows = [[one["desk"], *(grouped_digits(one[name]) for name in ("requests", "refused", "again"))] for one in desks]
-    return "<h3>Desks and retries</h3>\n" + told + drawn + table("Desks", ["Desk", "Requests", "Refused", "Again"], rows, {0, 1, 2, 3})
+    return "<h3>Desks and retries</h3>\n" + told + pair(drawn, table("Desks", ["Desk", "Requests", "Refused", "Again"], rows, {0, 1, 2, 3}))
 
 
 def largest_part(figures: dict) -> str:
@@ -209,7 +223,7 @@ def outlook_part(figures: dict) -> str:
     drawn = figure(caption, pictures.area(caption, [Bar(one["month"], dollars(one["worth"])) for one in months]))
     shown = [one for place, one in enumerate(months) if place in (0, len(months) - 1) or one["month"].endswith("-01")]
     rows = [[one["month"], grouped_digits(one["worth"]), grouped_digits(one["earning"])] for one in shown]
-    return "<h3>Outlook</h3>\n" + told + drawn + table("Worth, each January", ["Month", "Dollars", "Bonds that earn"], rows, {1, 2})
+    return "<h3>Outlook</h3>\n" + told + pair(drawn, table("Worth, each January", ["Month", "Dollars", "Bonds that earn"], rows, {1, 2}))
 
 
 # ---- the page
