@@ -1,10 +1,9 @@
 """Stores for tests/audit_report: made by the program, or of version 1 by the statements of that version."""
 
-import json, os, sqlite3, subprocess, sys
+import os, sqlite3, subprocess, sys
 
-from counter_calls import apply, post
-from hostile import counter, desk, making, spelling
-from hostile.decoding import call
+from counter_calls import post
+from hostile import counter, desk, making
 
 TOP = os.path.join(os.path.dirname(os.path.abspath(__file__)), "..", "..")
 sys.path.insert(0, os.path.join(TOP, "samples", "audit"))
@@ -55,11 +54,6 @@ def is_rich(books):
     with_tickets = {ticket["day"] for ticket in books.tickets} & set(books.batches)
     refused = sum("refused" in reply for _, reply in books.kept.values())
     return len(with_tickets) >= 2 and len(books.batches) >= 3 and books.day is not None and refused >= 5 and len(books.bonds) > len(books.paid_on) + 2
-
-
-def made(program, path, messages):
-    """A store that the program makes of these messages."""
-    return apply(program, path, messages)
 
 
 def put_rows(path, form, rows):

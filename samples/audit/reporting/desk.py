@@ -4,7 +4,7 @@ given books, and what an accepted act does to them.
 `decide` changes nothing. `take` does what an accepted reply says. Both are apart, so that a replay can go
 on from a reply that differs."""
 
-from .texts import MONTHS, RATES, REFUSALS, batch_reply, compact, month_of_day, month_text, read_day, read_money, ticket_reply
+from .texts import MONTHS, RATES, REFUSALS, batch_reply, month_of_day, month_text, read_day, read_money, ticket_reply
 from .values import HOLD, may_be_unsettled, payable, rate_period
 
 MOST_ROWS, MOST_SERIALS, MOST_TICKETS = 500, 100, 1000
@@ -198,8 +198,3 @@ def take(books: Books, act: dict, reply: dict) -> None:
         day = read_day(reply["day"])
         books.batches[day] = (reply["tickets"], reply["bonds"], read_money(reply["total"]))
         books.day, books.last_day = None, day
-
-
-def text_of(books: Books, act: dict) -> str:
-    """The text of the reply to an act."""
-    return compact(decide(books, act))

@@ -2,8 +2,9 @@
 script and fetches nothing."""
 
 import html
+import json
 
-from . import pictures, texts
+from . import pictures
 from .pictures import Bar
 
 MOST_DIFFERENCES, MOST_BARS, MOST_ROWS = 100, 40, 366
@@ -246,4 +247,4 @@ def page(report: dict, json_sum: str) -> str:
 
 
 def json_text(report: dict) -> str:
-    return texts.json.dumps(report, indent=1, sort_keys=True) + "\n"
+    return json.dumps(report, indent=1, sort_keys=True) + "\n"

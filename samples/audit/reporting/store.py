@@ -103,6 +103,7 @@ def open_copy(path: str, sources: tuple[Source, ...]) -> Store:
     base.text_factory = lambda text: text.decode("utf-8", "replace")
     base.execute("PRAGMA wal_checkpoint(TRUNCATE)").fetchall()  # the log of the copy goes into the copy
     base.execute("PRAGMA query_only = ON")
+    base.execute("PRAGMA trusted_schema = OFF")
     statements = tuple(sql for (sql,) in base.execute("SELECT sql FROM sqlite_schema WHERE sql IS NOT NULL ORDER BY rowid"))
     return Store(path, base, sources, version_of(base), statements)
 
@@ -117,7 +118,7 @@ def version_of(base: sqlite3.Connection) -> int | None:
 
 def needed_tables_are_there(store: Store) -> bool:
     """Whether the tables are there that the report reads, whatever their schema is otherwise."""
-    names = {name for (name,) in store.rows("SELECT name FROM sqlite_schema WHERE type IN ('table', 'view')")}
+    names = {name for (name,) in store.rows("SELECT name FROM sqlite_schema WHERE type = 'table'")}
     kept = "replies" if store.version == 1 else "answers"
     return {*TABLES, kept} - {"answers", "extensions"} <= names
 
