@@ -167,7 +167,10 @@ def payment(books: Books, serial: str, payee: int) -> int | dict:
         return refused(53, serial=serial)
     if age < HOLD:
         return refused(54, serial=serial)
-    return payable(denomination, age, books.rates[rate_period(issued)])
+    terms = books.rates.get(rate_period(issued))
+    if terms is None:  # sound books have them; a replay that went on from a reply that differs may not
+        return refused(30, serial=serial)
+    return payable(denomination, age, terms)
 
 
 def decide_close(books: Books, day: str) -> dict:

@@ -204,7 +204,8 @@ def desks_part(figures: dict) -> str:
     told = "<p>“Again” counts requests for the same act as an earlier one of that desk, under another number. A retry under its own number acts once and leaves no trace.</p>\n"
     most = sorted(desks, key=lambda one: (-one["again"], one["desk"]))[:MOST_BARS]
     bars = [Bar(f"desk {one['desk']}", one["again"], "second") for one in sorted(most, key=lambda one: one["desk"])]
-    drawn = figure("Acts asked for again by desk", pictures.rows("Acts asked for again by desk", bars, [f"{bar.size:,}" for bar in bars]))
+    caption = "Acts asked for again by desk"
+    drawn = figure(caption, pictures.rows(caption, bars, [f"{bar.size:,}" for bar in bars])) if any(bar.size for bar in bars) else ""
     rows = [[one["desk"], *(grouped_digits(one[name]) for name in ("requests", "refused", "again"))] for one in desks]
     return "<h3>Desks and retries</h3>\n" + told + pair(drawn, table("Desks", ["Desk", "Requests", "Refused", "Again"], rows, {0, 1, 2, 3}))
 

@@ -6,7 +6,7 @@ from typing import NamedTuple
 
 WIDTH, LEFT, RIGHT = 3600, 480, 3420
 TOP, BOTTOM, HEIGHT = 80, 1500, 1800
-MARK = 75  # the width of a digit
+MARK, MOST_WIDE = 75, 400  # the width of a digit, and of an upright bar at most
 FILLS = {"": "#1f4e79", "P5": "#9c4a00", "MA": "#4d4d4d", "second": "#9c4a00"}
 
 
@@ -78,9 +78,8 @@ def columns(title: str, bars: list[Bar]) -> str:
     top, room, parts = top_of(most, step), RIGHT - LEFT, grid(top_of(most, step), step)
     for place, bar in enumerate(bars):
         left, right = LEFT + place * room // len(bars), LEFT + (place + 1) * room // len(bars)
-        gap = min(60, (right - left) // 5)
-        tall = height_of(bar.size, top)
-        parts.append(f'<rect x="{left + gap // 2}" y="{BOTTOM - tall}" width="{right - left - gap}" height="{tall}" fill="{FILLS[bar.fill]}"/>')
+        wide, tall = min(MOST_WIDE, right - left - min(60, (right - left) // 5)), height_of(bar.size, top)
+        parts.append(f'<rect x="{(left + right - wide) // 2}" y="{BOTTOM - tall}" width="{wide}" height="{tall}" fill="{FILLS[bar.fill]}"/>')
     return svg(title, HEIGHT, parts + labels(bars))
 
 
