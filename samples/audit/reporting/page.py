@@ -50,7 +50,9 @@ def kind_of(cell, is_number: bool) -> str:
 
 
 def table(caption: str, heads: list[str], rows: list[list], numbers: set[int]) -> str:
-    """A table; the columns whose places are in `numbers` hold numbers."""
+    """A table, or a line without rows; the columns whose places are in `numbers` hold numbers."""
+    if not rows:
+        return f"<p>{escaped(caption)}: none.</p>\n"
     head = "".join(f'<th scope="col"{kind_of(name, place in numbers)}>{escaped(name)}</th>' for place, name in enumerate(heads))
     body = "\n".join("<tr>" + "".join(f"<td{kind_of(cell, place in numbers)}>{cell}</td>" for place, cell in enumerate(row)) + "</tr>" for row in rows)
     return f'<div class="wide">\n<table>\n<caption>{escaped(caption)}</caption>\n<thead><tr>{head}</tr></thead>\n<tbody>\n{body}\n</tbody>\n</table>\n</div>\n'
@@ -212,7 +214,7 @@ def desks_part(figures: dict) -> str:
 
 def largest_part(figures: dict) -> str:
     rows = [[one["ticket"], one["day"], one["payee"], one["bonds"], grouped_digits(one["total"])] for one in figures["largest"]]
-    return "<h3>The largest tickets</h3>\n" + (table("Tickets", ["Ticket", "Day", "Payee", "Bonds", "Dollars"], rows, {0, 2, 3, 4}) if rows else "<p>No ticket was paid.</p>\n")
+    return "<h3>The largest tickets</h3>\n" + table("Tickets", ["Ticket", "Day", "Payee", "Bonds", "Dollars"], rows, {0, 2, 3, 4})
 
 
 def outlook_part(figures: dict) -> str:
