@@ -7,7 +7,7 @@ from hostile import counter, desk, making
 
 TOP = os.path.join(os.path.dirname(os.path.abspath(__file__)), "..", "..")
 sys.path.insert(0, os.path.join(TOP, "samples", "audit"))
-from reporting import making as reports, store as reading
+from reporting import making as reports, page, store as reading
 
 FIRST = [
     ("/rates", {"number": 2**62, "rates": [{"from": "2010-05", "rate": "3.50", "extension": "4.00"}, {"from": "2010-11", "rate": "3.50"}, {"from": "2005-05", "rate": "1.40"}]}),
@@ -28,6 +28,10 @@ def reported(path, folder, month=None):
         return reports.report_of(opened, month)
     finally:
         opened.base.close()
+
+
+def page_of(found):
+    return page.page(found, "")
 
 
 def message(path, body):
