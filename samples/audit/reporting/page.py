@@ -227,7 +227,7 @@ def outlook_part(figures: dict) -> str:
     drawn = figure(caption, pictures.area(caption, [Bar(one["month"], dollars(one["worth"])) for one in months]))
     shown = [one for place, one in enumerate(months) if place in (0, len(months) - 1) or one["month"].endswith("-01")]
     rows = [[one["month"], grouped_digits(one["worth"]), grouped_digits(one["earning"])] for one in shown]
-    return "<h3>Outlook</h3>\n" + told + pair(drawn, table("Worth, each January", ["Month", "Dollars", "Bonds that earn"], rows, {1, 2}))
+    return "<h3>Outlook</h3>\n" + told + pair(drawn, table("Worth in the first month, each January, and the last month", ["Month", "Dollars", "Bonds that earn"], rows, {1, 2}))
 
 
 # ---- the page
