@@ -19,7 +19,7 @@ td.s { white-space: nowrap; } td.n, th.n { text-align: right; font-variant-numer
 .pair { display: grid; gap: 0 2rem; grid-template-columns: repeat(auto-fit, minmax(min(17rem, 100%), 1fr)); align-items: start; } .pair > * { min-width: 0; }
 figure { margin: 0 0 1rem; max-width: 30rem; } figcaption { font-weight: bold; padding: .3rem 0; } svg { width: 100%; height: auto; }
 svg text { fill: #111; font: 130px system-ui, sans-serif; }
-dl.sign dd { border-bottom: 1px solid #111; margin: 0 0 .5rem; min-height: 2.5rem; } dl.sign dt { font-size: .9rem; }
+.sign dd { border-bottom: 1px solid #111; margin: 0 0 .5rem; min-height: 2.5rem; } .sign dt { font-size: .9rem; }
 small { color: #333; } @media (max-width: 30rem) { table { font-size: .8rem; } th, td { padding-right: .5rem; } .wide small { display: block; } }
 @media print { body { max-width: none; font-size: 10pt; } h2, h3, caption { break-after: avoid; } tr, figure, .sign { break-inside: avoid; } .wide { overflow: visible; } }
 """
@@ -237,7 +237,8 @@ def sign_part(report: dict, json_sum: str) -> str:
     sums = [[f"<code>{escaped(one['name'])}</code>", f'<span class="sum">{one["sha256"]}</span>'] for one in report["files"]]
     sums.append(["<code>report.json</code>", f'<span class="sum">{json_sum}</span>'])
     lines = "".join(f"<dt>{name}</dt>\n<dd>&nbsp;</dd>\n" for name in ("Name", "Organisation", "Place and date", "Signature"))
-    return "<h2>To sign</h2>\n<p>I read this report, and compared the sums below with the files.</p>\n" + table("Sums", ["File", "SHA-256"], sums, set()) + f'<dl class="sign">\n{lines}</dl>\n'
+    told = "<h2>To sign</h2>\n<p>I read this report, and compared the sums below with the files.</p>\n"
+    return f'<section class="sign">\n{told}{table("Sums", ["File", "SHA-256"], sums, set())}<dl>\n{lines}</dl>\n</section>\n'
 
 
 def page(report: dict, json_sum: str) -> str:
