@@ -1,9 +1,9 @@
 """The kept requests, from nothing: each act is answered by the rules of desk.py, in the order in which
 the requests were kept, and the replies and the books are compared with those of the store.
 
-The number of a row of `answers` tells that order, since a new row gets the number after the last one.
+The number of a row of `answers` gives that order, since a new row gets the number after the last one.
 Rows that a migration from version 1 wrote stand in order of their request numbers, so their order in
-time isn't kept. What can be replayed of them is told at `replay_of`."""
+time isn't kept. `replay_of` says which of them are replayed."""
 
 import dataclasses
 import hashlib
@@ -193,8 +193,8 @@ def migrated_at_most(store: Store, has_checksums: bool) -> list[Kept]:
     return found
 
 
-def order_told(requests: list[Kept]) -> list[Kept]:
-    """Accepted requests in the order that their replies tell: rates and bonds first, as their counts
+def order_shown(requests: list[Kept]) -> list[Kept]:
+    """Accepted requests in the order that their replies show: rates and bonds first, as their counts
     allow, then each day's opening, its tickets by number, and its closing."""
     adds, others = [], []
     for kept in requests:
@@ -230,14 +230,14 @@ def adds_in_order(adds: list[Kept]) -> list[Kept]:
 
 def replay_of(store: Store, name: str, title: str, source: str, has_checksums: bool) -> Replay:
     """The replay in order of rows; but if an accepted request of version 1 differs in it, and none does in
-    the order that the replies tell, the replay in that order, without the refused requests."""
+    the order that the replies show, the replay in that order, without the refused requests."""
     in_order = replayed(store, Findings(name, title, source), [], 0)
     differing = {difference.row for difference in in_order.findings.differences}
     first = migrated_at_most(store, has_checksums) if differing else []
     accepted = [kept for kept in first if not desk.is_refused(texts.read_reply(kept.reply) or {})]
     if not any(kept.row() in differing for kept in accepted):
         return in_order
-    as_told = replayed(store, Findings(name, title, source), order_told(first), first[-1].place)
+    as_told = replayed(store, Findings(name, title, source), order_shown(first), first[-1].place)
     if as_told.findings.differing:
         return in_order
     for kept in first:
@@ -245,7 +245,7 @@ def replay_of(store: Store, name: str, title: str, source: str, has_checksums: b
             note_entry(as_told, kept, texts.read_act(kept.act) or UNREADABLE, texts.read_reply(kept.reply))
     as_told.findings.remarks.append(
         f"The first {len(first)} requests come from a store of version 1, which keeps no order in time. The {len(accepted)} that were accepted were "
-        f"replayed in the order that their replies tell. The {len(first) - len(accepted)} refused ones were not: a refusal depends on its moment. Of them only the form of their texts was tested."
+        f"replayed in the order that their replies show. The {len(first) - len(accepted)} refused ones were not: a refusal depends on its moment. Of them only the form of their texts was tested."
     )
     return as_told
 
