@@ -48,6 +48,7 @@ class Replay:
     findings: Findings
     entries: list[Entry]
     told_before: set[bytes]
+    differing: set[tuple[int, int]]
 
 
 def kept_requests(store: Store) -> Iterator[Kept]:
@@ -126,6 +127,7 @@ def next_of(replay: Replay, store: Store, kept: Kept) -> None:
     done = reply
     if own is None or not is_that_reply(act, own, kept.reply):
         replay.findings.differs("answers", kept.row(), f"reply to {kept.act}", kept.reply, "no reply: the act can't be read" if own is None else texts.compact(own))
+        replay.differing.add((kept.desk, kept.number))
         done = the_one_that_was_done(store, act, own, reply)
     replay.findings.tested += 1
     note_entry(replay, kept, act, reply)
@@ -171,7 +173,7 @@ def note_entry(replay: Replay, kept: Kept, act: dict, reply: dict | None) -> Non
 
 def replayed(store: Store, findings: Findings, first: Iterable[Kept], after: int) -> Replay:
     """A replay of some requests in the order given, and then of those in the rows after a row."""
-    replay = Replay(desk.Books(), findings, [], set())
+    replay = Replay(desk.Books(), findings, [], set(), set())
     for kept in first:
         next_of(replay, store, kept)
     for row in store.rows("SELECT place, desk, number, act, reply FROM kept WHERE place > ? ORDER BY place", after):
@@ -232,10 +234,9 @@ def replay_of(store: Store, name: str, title: str, source: str, has_checksums: b
     """The replay in order of rows; but if an accepted request of version 1 differs in it, and none does in
     the order that the replies show, the replay in that order, without the refused requests."""
     in_order = replayed(store, Findings(name, title, source), [], 0)
-    differing = {difference.row for difference in in_order.findings.differences}
-    first = migrated_at_most(store, has_checksums) if differing else []
+    first = migrated_at_most(store, has_checksums) if in_order.differing else []
     accepted = [kept for kept in first if not desk.is_refused(texts.read_reply(kept.reply) or {})]
-    if not any(kept.row() in differing for kept in accepted):
+    if not any((kept.desk, kept.number) in in_order.differing for kept in accepted):
         return in_order
     as_told = replayed(store, Findings(name, title, source), order_shown(first), first[-1].place)
     if as_told.findings.differing:
