@@ -1,0 +1,101 @@
+"""What a disk may hold after a power loss: all writes before the last flush, and of the later ones any, in any order, and of each any sectors."""
+
+import os, zlib
+
+from . import volumes
+from .recorder import FLUSH, WRITE
+
+SECTOR = 512
+KINDS = ("lost", "kept", "some", "reordered", "torn", "last torn")
+
+
+def last_flush(steps, cut):
+    """The place of the last flush before a cut, 0 if there is none."""
+    return next((at for at in range(cut - 1, -1, -1) if steps[at].kind == FLUSH), 0)
+
+
+def next_flush(steps, cut):
+    """The place of the first flush from a cut on, or the end."""
+    return next((at for at in range(cut, len(steps)) if steps[at].kind == FLUSH), len(steps))
+
+
+def superblock_writes(base, steps, begin, end):
+    """The places after each write of the superblock that changes more than one of its sectors, so that a tear may break it."""
+    with open(base, "rb") as file:
+        file.seek(begin)
+        last = file.read(end - begin)
+    found = []
+    for place, step in enumerate(steps, 1):
+        if step.kind == WRITE and step.at <= begin and end <= step.at + step.size:
+            now = step.bytes_[begin - step.at : end - step.at]
+            if sum(now[at : at + SECTOR] != last[at : at + SECTOR] for at in range(0, end - begin, SECTOR)) > 1:
+                found.append(place)
+            last = now
+    return found
+
+
+def units(step, whole):
+    """The parts of a step that arrive or not: sectors, and the range `whole` in one."""
+    at, end = step.at, step.at + step.size
+    while at < end:
+        ends = min(end, whole[1] if whole[0] <= at < whole[1] else at + SECTOR)
+        yield at - step.at, ends - step.at
+        at = ends
+
+
+class Image:
+    """A file that gets what a disk holds, and a checksum of which steps it got. What lies in the range `whole` isn't torn."""
+
+    def __init__(self, base, path, whole):
+        volumes.copy(base, path)
+        self.file, self.sum, self.whole = os.open(path, os.O_RDWR), 0, whole
+
+    def put(self, step, begin, end):
+        """Do a range of a step."""
+        if step.kind == FLUSH or begin >= end:
+            return
+        if step.kind == WRITE:
+            os.pwrite(self.file, memoryview(step.bytes_)[begin:end], step.at + begin)
+        else:
+            volumes.punch(self.file, step.at + begin, end - begin)
+        self.sum = zlib.crc32(b"%d %d %d" % (id(step), begin, end), self.sum)
+
+    def put_torn(self, step, dice):
+        """Do a step for its first units, or for any."""
+        if step.kind != WRITE:
+            self.put(step, 0, SECTOR * dice.randint(0, step.size // SECTOR))
+            return
+        parts = list(units(step, self.whole))
+        if dice.random() < 0.4:
+            parts = parts[: dice.randint(0, len(parts))]
+        else:
+            parts = [part for part in parts if dice.getrandbits(1)]
+        for begin, end in parts:
+            self.put(step, begin, end)
+
+    def put_some(self, steps, kind, dice):
+        """Do what an image of a kind has of unflushed steps."""
+        if kind == "lost":
+            return
+        if kind == "reordered":
+            dice.shuffle(steps)
+            steps = steps[: dice.randint(0, len(steps))]
+        share = 1 if kind == "kept" else dice.random()
+        for place, step in enumerate(steps, 1):
+            if kind == "torn" and dice.random() < 0.6 or kind == "last torn" and place == len(steps):
+                self.put_torn(step, dice)
+            elif kind not in ("some", "torn") or dice.random() < share:
+                self.put(step, 0, step.size)
+
+
+def write_image(base, steps, cut, kind, dice, path, whole, ignores_flushes=False):
+    """Write what the disk may hold if power is lost before the step at a cut. The result tells images apart."""
+    image = Image(base, path, whole)
+    sure = 0 if ignores_flushes else last_flush(steps, cut)
+    try:
+        for step in steps[:sure]:
+            image.put(step, 0, step.size)
+        image.put_some([step for step in steps[sure:cut] if step.kind != FLUSH], kind, dice)
+    finally:
+        os.close(image.file)
+    return image.sum

@@ -1,0 +1,181 @@
+"""The load: requests of some days at the counter, sent one after the other, and how much of the disk was recorded when each was sent and answered."""
+
+import ctypes, os, platform, re, signal, socket, struct, subprocess, threading, time
+
+from hostile import judging, program, talk
+from hostile.judging import Wrong
+
+SECONDS = 120
+BONDS = 200
+OWNERS = (7, 8)
+DENOMINATIONS, ISSUES = (50, 75, 100, 200, 500, 1000, 5000, 10000), ("2010-06", "2010-10", "2010-11", "2011-02")
+# For each architecture: its number in a filter, and the numbers of fsync and fdatasync.
+SYNCS = {"x86_64": (0xC000003E, 74, 75), "aarch64": (0xC00000B7, 82, 83)}
+LOAD, JUMP_IF, RETURN = 0x20, 0x15, 0x06
+ALLOW, ANSWER_ZERO = 0x7FFF0000, 0x00050000
+NO_NEW_PRIVILEGES, FILTER = 38, 22
+
+
+def serial(number):
+    return f"A{number}EE"
+
+
+def bond(number, dice):
+    return '{"serial":"%s","denom":%d,"issued":"%s","owner":%d}' % (serial(number), dice.choice(DENOMINATIONS), dice.choice(ISSUES), dice.choice(OWNERS))
+
+
+def redemption(number, day, dice):
+    """A redemption of one to three bonds. Some are refused, since a bond was paid already or has another owner."""
+    serials = dice.sample(range(1, BONDS + 1), dice.choice((1, 1, 1, 2, 3)))
+    listed = ",".join(f'"{serial(one)}"' for one in serials)
+    return '/redeem {"desk":%d,"number":%d,"day":"%s","payee":%d,"serials":[%s]}' % (number % 3, number, day, dice.choice(OWNERS), listed)
+
+
+def requests(count, dice):
+    """`count` requests: rates, bonds, and days of redemptions. Some are sent twice."""
+    bonds = ",".join(bond(number, dice) for number in range(1, BONDS + 1))
+    found = ['/rates {"number":1,"rates":[{"from":"2010-05","rate":"2.00"},{"from":"2010-11","rate":"3.50"}]}', '/bonds {"number":2,"bonds":[%s]}' % bonds]
+    days = iter(range(1, 29))
+    while len(found) < count:
+        day = f"2012-02-{next(days):02}"
+        found.append('/day/open {"number":%d,"day":"%s"}' % (len(found) + 1, day))
+        for _ in range(max(10, count // 5)):
+            found.append(dice.choice(found[2:]) if dice.random() < 0.04 else redemption(len(found) + 1, day, dice))
+        found.append('/day/close {"number":%d,"day":"%s"}' % (len(found) + 1, day))
+    return [talk.message("POST " + text) for text in found[:count]]
+
+
+def drop_syncs():
+    """Let fsync and fdatasync of this process do nothing and return 0, by a filter of its system calls."""
+    mark, *numbers = SYNCS[platform.machine()]
+    words = [(LOAD, 0, 0, 4), (JUMP_IF, 0, 3, mark), (LOAD, 0, 0, 0), *((JUMP_IF, 3 - place, 0, number) for place, number in enumerate(numbers, 1))]
+    code = b"".join(struct.pack("=HBBI", *word) for word in [*words, (RETURN, 0, 0, ALLOW), (RETURN, 0, 0, ANSWER_ZERO)])
+    held = ctypes.create_string_buffer(code)
+    given = struct.pack("@HP", len(code) // 8, ctypes.addressof(held))
+    libc = ctypes.CDLL(None, use_errno=True)
+    if libc.prctl(NO_NEW_PRIVILEGES, 1, 0, 0, 0) != 0 or libc.prctl(FILTER, 2, ctypes.create_string_buffer(given), 0, 0) != 0:
+        os._exit(98)
+
+
+def read_answer(receive):
+    """Read one response by `receive`, which returns some more bytes of it."""
+    text, end = b"", None
+    while end is None or len(text) < end:
+        more = receive()
+        if not more:
+            raise Wrong(f"a connection ended after {text!r:.300}")
+        text += more
+        if end is None and b"\r\n\r\n" in text:
+            head = text.index(b"\r\n\r\n") + 4
+            end = head + int(re.search(rb"Content-Length: (\d+)", text[:head])[1])
+    return text
+
+
+class Applied:
+    """`apply`. It ends with its input, and checkpoints the log."""
+
+    def __init__(self, path, store, setup):
+        self.process = subprocess.Popen([path, "apply", "--db", store], stdin=subprocess.PIPE, stdout=subprocess.PIPE, preexec_fn=setup)
+
+    def ask(self, message):
+        self.process.stdin.write(message)
+        self.process.stdin.flush()
+        return read_answer(lambda: os.read(self.process.stdout.fileno(), 65536))
+
+    def end(self):
+        self.process.stdin.close()
+        if self.process.wait(SECONDS) != 0:
+            raise Wrong(f"`apply` ended with status {self.process.returncode}")
+
+
+class Served:
+    """`serve`. It is killed, so that its last requests stand in the log alone."""
+
+    def __init__(self, path, store, setup):
+        port = program.free_port()
+        self.process = subprocess.Popen([path, "serve", "--db", store, "--port", str(port)], stdout=subprocess.DEVNULL, preexec_fn=setup)
+        until = time.time() + SECONDS
+        while True:
+            try:
+                self.client = socket.create_connection(("127.0.0.1", port), timeout=SECONDS)
+                return
+            except ConnectionRefusedError:
+                if self.process.poll() is not None or time.time() > until:
+                    raise Wrong("`serve` doesn't listen")
+                time.sleep(0.005)
+
+    def ask(self, message):
+        self.client.sendall(message)
+        return read_answer(lambda: self.client.recv(65536))
+
+    def end(self):
+        self.process.send_signal(signal.SIGKILL)
+        self.process.wait(SECONDS)
+        self.client.close()
+
+
+class Neighbour:
+    """Another program on the same file system, whose syncs come between those of the counter."""
+
+    def __init__(self, folder, dice):
+        self.folder, self.dice, self.is_over = folder, dice, threading.Event()
+        self.thread = threading.Thread(target=self.run, daemon=True)
+        self.thread.start()
+
+    def run(self):
+        turn = 0
+        while not self.is_over.wait(self.dice.uniform(0.001, 0.02)):
+            turn += 1
+            path = os.path.join(self.folder, f"other{turn % 5}")
+            with open(path, "ab") as file:
+                file.write(self.dice.randbytes(self.dice.randint(1, 6000)))
+                if self.dice.random() < 0.3:
+                    os.fsync(file.fileno())
+            if self.dice.random() < 0.1:
+                os.replace(path, path + ".old")
+
+    def stop(self):
+        self.is_over.set()
+        self.thread.join()
+
+
+class Played:
+    """The requests and their responses, how much was recorded when each was sent and when its response had come, and the books after each by the rules."""
+
+    def __init__(self, messages, answers, sent, came):
+        self.messages, self.answers, self.sent, self.came = messages, answers, sent, came
+        asked = judging.messages_of(b"".join(messages))
+        self.chain, books = [judging.key_of(judging.desk.Books())], judging.desk.Books()
+        self.books = {self.chain[0]: books}
+        for place, message in enumerate(asked):
+            books, right = judging.delivered(books, message)
+            if right != answers[place]:
+                raise Wrong(f"request {place + 1} was answered {answers[place]!r:.600}, and not {right!r:.600}")
+            self.chain.append(judging.key_of(books))
+            self.books[self.chain[-1]] = books
+
+    def acknowledged(self, cut):
+        """Counts the responses that had come before the step at a cut."""
+        return sum(place <= cut for place in self.came)
+
+    def allowed(self, cut):
+        """The books that may stand at a cut: all acknowledged requests are in them, and none that wasn't sent."""
+        acknowledged, sent = self.acknowledged(cut), sum(place < cut for place in self.sent)
+        return set(self.chain[acknowledged : max(acknowledged, sent) + 1])
+
+
+def play(path, store, messages, position, dice, setup=None):
+    """Send the requests to `apply` and `serve` in turn. The first command meets no store."""
+    answers, sent, came, place, turn = [], [], [], 0, 0
+    while place < len(messages):
+        talked = (Applied, Served)[turn % 2](path, store, setup)
+        try:
+            for message in messages[place : place + dice.randint(5, 40)]:
+                sent.append(position())
+                answers.append(talked.ask(message))
+                came.append(position())
+            talked.end()
+        finally:
+            talked.process.kill()
+        place, turn = len(answers), turn + 1
+    return Played(messages, answers, sent, came)

@@ -1,0 +1,134 @@
+"""File systems in files: creating, copying, mounting over a loop device, unmounting."""
+
+import ctypes, os, shutil, subprocess, time
+
+MAKERS = {
+    "ext4": (192, ["mkfs.ext4", "-q", "-F", "-b", "4096", "-E", "lazy_itable_init=0,lazy_journal_init=0,nodiscard"]),
+    "xfs": (320, ["mkfs.xfs", "-q", "-f", "-K"]),
+    "btrfs": (256, ["mkfs.btrfs", "-q", "-f", "-K"]),
+}
+# The superblock, which a file system supposes to arrive whole, as a range of bytes. That of xfs is one sector.
+SUPERBLOCKS = {"ext4": (0, 4096), "xfs": (0, 512), "btrfs": (65536, 69632)}
+# What repairs a file system whose superblock was torn.
+REPAIRS = {"ext4": ["e2fsck", "-f", "-y"], "xfs": ["xfs_repair"], "btrfs": ["btrfs", "rescue", "super-recover", "-y"]}
+SECONDS = 60
+BLOCK = 65536
+PUNCH_HOLE, KEEP_SIZE = 2, 1
+PLACES = os.environ.get("PATH", "") + ":/usr/sbin:/sbin"
+libc = ctypes.CDLL(None, use_errno=True)
+libc.fallocate.argtypes = [ctypes.c_int, ctypes.c_int, ctypes.c_long, ctypes.c_long]
+
+
+class Failed(Exception):
+    """Something that the script needs of the machine failed."""
+
+
+class NotMounted(Exception):
+    """The kernel refused to mount an image, even after a repair."""
+
+
+def command(*words):
+    ran = subprocess.run(words, stdout=subprocess.PIPE, stderr=subprocess.STDOUT, text=True, errors="replace", env={**os.environ, "PATH": PLACES})
+    return ran.returncode, ran.stdout.strip()
+
+
+def done(*words):
+    status, told = command(*words)
+    if status:
+        raise Failed(f"{' '.join(words)} ended with status {status}: {told}")
+    return told
+
+
+def can_make(kind):
+    return shutil.which(MAKERS[kind][1][0], path=PLACES) is not None
+
+
+def make(kind, image):
+    """Create a file system in a new file."""
+    megabytes, words = MAKERS[kind]
+    with open(image, "wb") as file:
+        file.truncate(megabytes << 20)
+    done(*words, image)
+
+
+def copy(image, to):
+    """Copy a file. A block of zeros becomes a hole."""
+    with open(image, "rb") as source, open(to, "wb") as target:
+        size, at = os.fstat(source.fileno()).st_size, 0
+        target.truncate(size)
+        while (at := next_data(source.fileno(), at)) < size:
+            part = os.pread(source.fileno(), BLOCK, at)
+            if part.count(0) < len(part):
+                os.pwrite(target.fileno(), part, at)
+            at += len(part)
+
+
+def next_data(file, at):
+    """The next block that isn't in a hole, or the size of the file."""
+    try:
+        return os.lseek(file, at, os.SEEK_DATA) // BLOCK * BLOCK
+    except OSError:
+        return os.fstat(file).st_size
+
+
+def punch(file, at, size):
+    """Set a range of a file to zeros."""
+    if libc.fallocate(file, PUNCH_HOLE | KEEP_SIZE, at, size) != 0:
+        raise OSError(ctypes.get_errno(), "fallocate")
+
+
+def patiently(*words):
+    """Repeat a command until it succeeds: a probe of new devices may have them open for a moment."""
+    until = time.time() + SECONDS
+    while (ended := command(*words))[0]:
+        if time.time() > until:
+            raise Failed(f"{' '.join(words)} ended with status {ended[0]}: {ended[1]}")
+        time.sleep(0.01)
+    return ended[1]
+
+
+class Mounted:
+    """An image that is mounted over a loop device, for a `with`. If the kernel refuses it, it is repaired first."""
+
+    def __init__(self, kind, image, folder, options):
+        self.kind, self.image, self.folder, self.refusal = kind, image, folder, None
+        self.options = ["-o", options] if options else []
+
+    def __enter__(self):
+        os.makedirs(self.folder, exist_ok=True)
+        self.device = patiently("losetup", "--find", "--show", self.image)
+        status, told = self.mount()
+        if status:
+            self.refusal = told
+            _, repair = command(*REPAIRS[self.kind], self.device)
+            status, told = self.mount()
+        if status:
+            self.detach()
+            raise NotMounted(f"{told}; {' '.join(REPAIRS[self.kind])} told {repair}")
+        return self
+
+    def mount(self):
+        return command("mount", "-t", self.kind, *self.options, self.device, self.folder)
+
+    def __exit__(self, *_):
+        patiently("umount", self.folder)
+        self.detach()
+
+    def detach(self):
+        """Detach the loop device. btrfs remembers a device by the file system's name, and would refuse an older image of it elsewhere."""
+        if self.kind == "btrfs":
+            command("btrfs", "device", "scan", "--forget", self.device)
+        patiently("losetup", "--detach", self.device)
+
+
+def release(folder):
+    """Unmount and detach what an interrupted script may leave in a folder."""
+    with open("/proc/self/mounts") as mounts:
+        places = [line.split()[1] for line in mounts]
+    for place in reversed(places):
+        if place.startswith(folder + "/"):
+            command("umount", "--lazy", place)
+    for line in command("losetup", "--noheadings", "--output", "NAME,BACK-FILE")[1].splitlines():
+        device, file = line.split(None, 1)
+        if f"/{os.path.basename(folder)}/" in file:
+            command("losetup", "--detach", device)
