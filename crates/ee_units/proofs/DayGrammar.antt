@@ -1,4 +1,4 @@
--- `day_of` finds just the days that the grammar has.
+-- `day_of` accepts exactly the days of the grammar.
 use Rattle.std.proofs.Common.{◌≡◌, ◌∙◌, ℕ, ◌≤◌, true, List, ◌∷◌, ◌++◌, Some, None, refl, ap, arith, inl, inr, ℤ, pos, negsuc}
 use Rattle.std.specs.Prelude.{◌&&◌, nat_le}
 use Rattle.std.proofs.lemmas.Bool.{cases_Bool, and_parts, leb-true, le-leb}
@@ -15,7 +15,7 @@ unfolding day_of day_at
 day_complete text n g =
     rw (g.parts, parts_at-joined 45 g.ys (g.ms ++ 45 ∷ g.ds) refl g.year_is.writes.digits, parts_at-joined 45 g.ms g.ds refl g.month_is.writes.digits, digits_of-writes 4 g.ys g.year g.year_is, digits_of-writes 2 g.ms g.month g.month_is, digits_of-writes 2 g.ds g.day g.day_is, g.date, g.value, le-leb 12904 n g.low, le-leb n 84005 g.high) refl
 
--- a count in the range of days
+-- the count of a day is in range
 record IsInDays (z : ℤ) (n : ℕ) : Type 0 where
   is : z ≡ pos n
   low : 12904 ≤ n
@@ -35,7 +35,7 @@ in_days (pos k) n e = elim (cases_Bool (nat_le 12904 k && nat_le k 84005)) [
 ]
 in_days (negsuc k) n e = absurd (none-some n e)
 
--- a date in the range of days
+-- the text writes a date whose day is in range
 record IsDateText (year month day n : ℕ) : Type 0 where
   date : is_date year month day ≡ true
   days : IsInDays (days_from_civil (pos year) month day) n

@@ -7,7 +7,7 @@ use Rattle.ee_units.specs.Calendar.{is_date}
 pos_same : (a b : ℕ) → pos a ≡ pos b → a ≡ b
 pos_same a b e = cc e
 
--- a date of the calendar passes the test
+-- `is_date` accepts a date of the calendar
 pub known : (year month day : ℕ) (y : ℤ) (m d : ℕ) → y ≡ pos year → pos m ≡ pos month → pos d ≡ pos day → IsInRange 1 12 m → IsInRange 1 (days_in_month y m) d → is_date year month day ≡ true
 known year month day y m d ey em ed hm hd =
     let same_m : m ≡ month = pos_same m month em in

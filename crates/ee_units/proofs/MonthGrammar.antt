@@ -1,4 +1,4 @@
--- `month_of`, `day_of` and `serial_of` find just the values that the grammar has.
+-- `month_of`, `day_of` and `serial_of` accept exactly the texts of the grammar.
 use Rattle.std.proofs.Common.{◌≡◌, ◌∙◌, ℕ, suc, ◌<◌, ◌≤◌, ◌+◌, ◌-◌, ◌*◌, true, false, List, ◌∷◌, ◌++◌, length, get_or, Option, Some, None, Bool, refl, ap, arith, inl, inr, length-append, eqb-true}
 use Rattle.std.specs.Prelude.{◌==◌, nat_lt, nat_le}
 use Rattle.std.specs.Char.{is_ascii_digit}
@@ -30,7 +30,7 @@ digits_of-only count ds n e = elim (cases_Bool (length ds == count)) [
       absurd (none-some n none)
 ]
 
--- a byte that is neither a digit nor the one between two numbers is not in their text
+-- two numbers joined by one separator contain no other separator
 parts_at-absent : (c d : ℕ) (xs ys : List ℕ) → is_ascii_digit c ≡ false → (d == c) ≡ false → IsDigits xs → IsDigits ys → parts_at c (xs ++ d ∷ ys) ≡ None
 unfolding parts_at
 parts_at-absent c d xs ys other differs first second =

@@ -1,4 +1,4 @@
--- The month of a day, and its place there, are those of its date.
+-- The month of a day and the day of the month are those of its civil date.
 use Rattle.std.proofs.Common.{◌≡◌, ◌∙◌, ℕ, zero, suc, ◌<◌, ◌≤◌, ◌+◌, ◌-◌, ◌*◌, true, false, Bool, length, get_or, refl, sym, ap, arith, inl, inr, ℤ, pos, negsuc, ◌≤ℤ◌, unsigned_abs, ltb-true, nat_lt, add-one, true≢false, neg_ℤ, ◌+ℤ◌, subst, to_z, of_z, w16}
 use Rattle.std.specs.List.{position_or_len, range_with_len}
 use Rattle.std.proofs.lemmas.Bool.{cases_lt, lt-ltb, le-ltb, le-leb}
@@ -18,7 +18,7 @@ use Rattle.ee_units.specs.Calendar.{year_of, month_of_year, first_day, month_of_
 abbrev count_first : ℕ → ℕ
 count_first m = day_count (pos (year_of m)) (month_of_year m) 1
 
--- the days before a date of one month, and before the first of a later month
+-- a date of one month comes before the first of a later month
 month_order : (a b d : ℕ) → IsCivilDate (pos (year_of a)) (month_of_year a) d → a < b → day_count (pos (year_of a)) (month_of_year a) d < count_first b
 month_order a b d date lt = elim (cases_lt (year_of a) (year_of b)) [
   | inl later ↦ day_count-lt_year (pos (year_of a)) (month_of_year a) d (pos (year_of b)) (month_of_year b) 1 date (omega arith) (omega (arith, signed_arith))
@@ -28,7 +28,7 @@ month_order a b d date lt = elim (cases_lt (year_of a) (year_of b)) [
       rw year (day_count-lt_month (pos (year_of a)) (month_of_year a) d (month_of_year b) 1 date (omega arith) month)
 ]
 
--- 2005-05-01 and 2200-01-01
+-- the day counts of 2005-05-01 and 2200-01-01
 count_start : count_first 0 ≡ 4384857
 count_start = day_count-late (pos 2005) 12005 5 1 refl (omega arith) (omega arith) (omega arith)
 
@@ -61,7 +61,7 @@ first_day-count m few =
       | inr none ↦ omega (arith, signed_arith, days_from_civil-day_count (pos (year_of m)) (month_of_year m) 1, at_least_start m few, none)
     ]
 
--- the day that comes n days after 1970-01-01 is the date y-m-d
+-- the day n days after 1970-01-01 is the date y-m-d
 pub record IsDateOf (n : ℕ) (y : ℤ) (m d : ℕ) : Type 0 where
   pub date : IsCivilDate y m d
   pub same : days_from_civil y m d ≡ pos n
@@ -71,7 +71,7 @@ pub record IsDateOf (n : ℕ) (y : ℤ) (m d : ℕ) : Type 0 where
 count_of : (n : ℕ) (y : ℤ) (m d : ℕ) → IsDateOf n y m d → day_count y m d ≡ n + 4371953
 count_of n y m d is = omega (arith, signed_arith, days_from_civil-day_count y m d, is.same)
 
--- the year and the month of a date in the range
+-- a year and a month in range
 pub record InYears (y : ℤ) (m : ℕ) : Type 0 where
   pub year : ℕ
   pub is : y ≡ pos year
@@ -111,7 +111,7 @@ years n y m d is =
     ] in
     record { year = year; is = same; low = low; high = (let to_year : year ≤ 2199 = omega (arith, signed_arith) in let month = is.date.1 in omega (arith, month)) }
 
--- the month of the day, and the place there, are those of the date
+-- the month of the day and the day of the month are those of the date
 pub record IsMonthOf (n year m d : ℕ) : Type 0 where
   pub year_is : year ≡ year_of (month_of_day n)
   pub month_is : m ≡ month_of_year (month_of_day n)
@@ -124,7 +124,7 @@ earlier n k d some starts few j le = elim (cases_lt j k) [
   | inr same ↦ let is : j ≡ k = omega arith in rw is (omega arith)
 ]
 
--- the first number that passes
+-- the first number that satisfies the test
 first_that : (test : ℕ → Bool) (size k : ℕ) → k < size → ((j : ℕ) → j < k → test j ≡ false) → test k ≡ true → position_or_len test (range_with_len 0 size) ≡ k
 first_that test size k below before here =
     position_or_len_is test (range_with_len 0 size) k 0 (omega (arith, length-range_with_len 0 size))
@@ -154,7 +154,7 @@ month_is n year m d is low high =
     (lt-ltb n (first_day (k + 1)) (omega (arith, here, first_day-count (k + 1) (omega arith), month_order k (k + 1) d date (omega arith)))) in
     record { year_is = rw at (sym y); month_is = rw at (sym mm); day_is = rw at (omega (arith, starts)); bound = rw at few }
 
--- a date that the calendar has
+-- a date of the calendar
 pub record Found (n : ℕ) (date : Date) : Type 0 where
   pub year : ℕ
   pub is : date.year ≡ pos year
@@ -172,11 +172,11 @@ found n date same low high =
       small = omega (arith, y.high);
     }
 
--- what a cast of its year gives
+-- casting its year loses nothing
 pub cast_year : (n : ℕ) (date : Date) (f : Found n date) → to_z w16 (of_z w16 date.year) ≡ pos f.year
 cast_year n date f = rw f.is (to_z_pos w16 f.year (omega (arith, f.small)))
 
--- the other way: each day of the range has a date
+-- conversely, each day in range has a date
 record IsFirst (test : ℕ → Bool) (size k : ℕ) : Type 0 where
   bound : k < size
   passes : test k ≡ true

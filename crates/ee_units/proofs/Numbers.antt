@@ -15,7 +15,7 @@ IsDigits ds = list_all is_ascii_digit ds ≡ true
 pub own : IsNumeralModel IsDigits (digits_value 10)
 own = numerals_by_value _ (search rules)
 
--- what the test says
+-- what `is_number` says
 pub number_facts : (most : ℕ) (ds : List ℕ) → is_number most ds ≡ true → (1 ≤ length ds) × (length ds ≤ most) × IsDigits ds
 unfolding is_number
 number_facts most ds e =
@@ -26,7 +26,7 @@ number_facts most ds e =
 pub in_range_back : (low high n : ℕ) → low ≤ n → n ≤ high → in_range low high n ≡ Some n
 in_range_back low high n from to = rw (le-leb low n from, le-leb n high to) refl
 
--- such a number is below 2 ^ 64, so it parses
+-- a number that `is_number` accepts is below 2 ^ 64, so it parses
 pub parsed : {E : Type 0} (most : ℕ) (bs : List ℕ) (r : Result ℕ E) → ParsesUnsigned 64 10 bs r → is_number most bs ≡ true → most < 19 → result_ok r ≡ number_of most bs
 unfolding number_of
 parsed most bs r h e small =
@@ -38,7 +38,7 @@ parsed most bs r h e small =
     let ok = parse_gives own 64 bs r h f.2 (omega arith) (omega arith) in
     rw (ok, e) refl
 
--- a number of one or two digits is below 100
+-- a number of at most two digits is below 100
 pub number_of-small : (most : ℕ) (ds : List ℕ) → most ≤ 2 → IfSome (number_of most ds) (λ n. n < 100)
 unfolding number_of
 number_of-small most ds two = elim (cases_Bool (is_number most ds)) [
@@ -49,7 +49,7 @@ number_of-small most ds two = elim (cases_Bool (is_number most ds)) [
   | inr fails ↦ rw fails tt
 ]
 
--- and one of four below 10,000
+-- a number of at most four digits is below 10,000
 pub number_of-four : (most : ℕ) (ds : List ℕ) → most ≤ 4 → IfSome (number_of most ds) (λ n. n < 10000)
 unfolding number_of
 number_of-four most ds four = elim (cases_Bool (is_number most ds)) [

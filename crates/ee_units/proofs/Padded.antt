@@ -1,4 +1,4 @@
--- Two digits, as a hole `{:02}` and as two holes print them.
+-- Two digits as `{:02}` prints them equal those of two separate holes.
 use Rattle.std.proofs.Common.{◌≡◌, ◌∙◌, ℕ, ◌+◌, ◌-◌, ◌/◌, ◌%◌, ◌<◌, ◌^◌, [], ◌∷◌, ◌++◌, refl, sym, ap, ap₂, arith, inl, inr, lit<, append_assoc}
 use Rattle.std.specs.Fmt.{char_count, decimal, styled_decimal, format_spec, padded_integral}
 use Rattle.std.proofs.lemmas.Bool.{cases_lt}

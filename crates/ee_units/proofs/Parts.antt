@@ -1,4 +1,4 @@
--- Digits, and the parts of a text round a byte that is no digit.
+-- Digits, and splitting a text at a byte that is no digit.
 use Rattle.std.proofs.Common.{◌≡◌, ◌∙◌, ℕ, suc, ◌<◌, true, false, List, ◌∷◌, ◌++◌, length, get_or, Some, None, Bool, refl, sym, ap, ap₂, arith, inl, inr, length-append, true≢false, eqb-true, ltb-true}
 use Rattle.std.specs.Prelude.{◌==◌, nat_lt}
 use Rattle.std.specs.Char.{is_ascii_digit}
@@ -31,7 +31,7 @@ number_of-only most ds n e = elim (cases_Bool (is_number most ds)) [
       absurd (none-some n none)
 ]
 
--- a digit is no other byte
+-- a byte that is no digit differs from each digit
 pub digit_is_not : (c b : ℕ) → is_ascii_digit c ≡ false → is_ascii_digit b ≡ true → (b == c) ≡ false
 digit_is_not c b other digit = elim (cases_Bool (b == c)) [
   | inl same ↦ absurd (true≢false (sym digit ∙ ap is_ascii_digit (eqb-true _ _ same) ∙ other))

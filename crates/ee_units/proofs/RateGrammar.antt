@@ -1,4 +1,4 @@
--- `rate_of` finds just the rates that the grammar has.
+-- `rate_of` accepts exactly the rates of the grammar.
 use Rattle.std.proofs.Common.{◌≡◌, ◌∙◌, ℕ, ◌<◌, ◌≤◌, ◌+◌, ◌-◌, ◌*◌, true, false, List, [], ◌∷◌, ◌++◌, length, get_or, take, Option, Some, None, refl, sym, ap, ap₂, arith, subst, inl, inr, length-append, true≢false, append_assoc, ◌&&◌, eqb-true, ltb-true}
 use Rattle.std.specs.Prelude.{◌==◌, nat_le, if◌then◌else◌, option_and_then}
 use Rattle.std.specs.Char.{is_ascii_digit}
@@ -14,7 +14,7 @@ use Rattle.ee_units.proofs.Numbers.{IsDigits}
 use Rattle.ee_units.proofs.Texts.{strip_last-end, strip_last-other, split_last}
 use Rattle.ee_units.proofs.Parts.{number_of-writes, number_of-only, digit_at, parts_at-none, parts_at-joined, parts_at-split}
 
--- a text that ends with a digit keeps its end
+-- a text that ends with a digit keeps its last byte
 pub strip_last-digits : (c : ℕ) (xs ds : List ℕ) → is_ascii_digit c ≡ false → IsDigits ds → 1 ≤ length ds → strip_last c (xs ++ ds) ≡ xs ++ ds
 strip_last-digits c xs ds other digits some = strip_last-other c (xs ++ ds) (λ front same.
     let n = length-append xs ds in
@@ -43,7 +43,7 @@ point_digits : (whole ds : List ℕ) → IsDigits ds → 1 ≤ length ds → str
 point_digits whole ds digits some =
     ap (strip_last 37) (append-nil (whole ++ 46 ∷ ds) ∙ point whole ds) ∙ strip_last-digits 37 (whole ++ 46 ∷ []) ds refl digits some ∙ sym (point whole ds)
 
--- without the percent sign
+-- a rate without its percent sign
 unsigned : (whole fraction sign : List ℕ) (percents part : ℕ) → WritesNumber 2 whole percents → Fraction fraction part → Sign sign → strip_last 37 (whole ++ fraction ++ sign) ≡ whole ++ fraction
 unsigned whole fraction _ percents part w f percent = strip_last-end 37 (whole ++ fraction)
 unsigned whole _ _ percents _ w no_fraction no_sign = rw (append-nil whole) (rw (append-nil whole) (strip_last-digits 37 [] whole refl w.digits w.some))
@@ -58,7 +58,7 @@ complete text r g =
     let top : 100 * g.percents + g.part ≤ 2000 = rw (← g.value) (g.range) in
     rw (bare, value, le-leb 0 (100 * g.percents + g.part) (omega arith), le-leb (100 * g.percents + g.part) 2000 top, g.value) refl
 
--- a number in a range
+-- a number that `in_range` returns is the number given, and is in the range
 pub in_range-is : (low high x r : ℕ) → in_range low high x ≡ Some r → (x ≡ r) × ((low ≤ r) × (r ≤ high))
 in_range-is low high x r e = elim (cases_Bool (nat_le low x && nat_le x high)) [
   | inl holds ↦
@@ -72,7 +72,7 @@ in_range-is low high x r e = elim (cases_Bool (nat_le low x && nat_le x high)) [
       absurd (none-some r none)
 ]
 
--- the text without its sign, and its sign
+-- the text without its percent sign, and the sign
 record HasSign (text : List ℕ) : Type 0 where
   sign : List ℕ
   is : Sign sign

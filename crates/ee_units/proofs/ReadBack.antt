@@ -1,4 +1,4 @@
--- What is printed reads back: each printed text is one of the grammar.
+-- Each printed text is one of the grammar, so it reads back.
 use Rattle.std.proofs.Common.{◌≡◌, ℕ, ◌<◌, ◌≤◌, ◌+◌, ◌/◌, ◌%◌, ◌^◌, true, [], ◌∷◌, length, Some, refl, arith, lit<, lit≤, append_assoc, pos}
 use Rattle.std.specs.Char.{is_ascii_digit}
 use Rattle.std.specs.List.{list_all}
@@ -40,7 +40,7 @@ two_number n small =
 pub two_fits : (n : ℕ) → n < 100 → WritesDigits 2 (two_digits n) n
 two_fits n small = record { long = refl; writes = two_number n small }
 
--- a number with no leading zero
+-- a number without leading zeros
 whole_number : (most n : ℕ) → 0 < most → n < 10 ^ most → n < 2 ^ 64 → WritesNumber most (decimal n) n
 whole_number most n some small fits = record {
   some = decimal_nonempty n fits;

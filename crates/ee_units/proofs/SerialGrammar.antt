@@ -1,4 +1,4 @@
--- `serial_of` finds just the serials that the grammar has.
+-- `serial_of` accepts exactly the serial numbers of the grammar.
 use Rattle.std.proofs.Common.{◌≡◌, ◌∙◌, ℕ, ◌<◌, ◌≤◌, ◌+◌, ◌-◌, true, false, List, [], ◌∷◌, ◌++◌, length, get_or, take, drop, Some, None, refl, sym, ap, ap₂, arith, inl, inr, length-append, eqb-true, ltb-true, take-append-drop}
 use Rattle.std.specs.Prelude.{◌==◌, ◌&&◌, codes, nat_eq}
 use Rattle.std.specs.List.{ends_with}
@@ -28,7 +28,7 @@ strip_first-digits (d ∷ ds) digits some =
     let differs : (d == 45) ≡ false = digit_is_not 45 d refl (digit_at (d ∷ ds) 0 digits some) in
     rw differs refl
 
--- without the last hyphen, and then without the first
+-- without the last hyphen, then without the first
 without_last : (first digits last : List ℕ) (n : ℕ) → WritesNumber 10 digits n → Hyphen last → strip_last 45 (first ++ digits ++ last) ≡ first ++ digits
 without_last first digits _ n w hyphen = strip_last-end 45 (first ++ digits)
 without_last first digits _ n w no_hyphen = rw (append-nil (first ++ digits)) (strip_last-digits 45 first digits refl w.digits w.some)
@@ -49,7 +49,7 @@ serial_complete text s g =
     let high : letter ≤ 90 = omega (arith, g.letter_high) in
     rw (g.parts, le-leb 65 letter low, le-leb letter 90 high, body, last, first, number_of-writes 10 g.digits s.number g.digits_is, le-leb 1 s.number g.number_low, le-leb s.number 9999999999 g.number_high) (ap (λ l. Some (record { letter = l; number = s.number })) back)
 
--- the two bytes that end a text
+-- a text that ends with these two bytes
 ends : (xs : List ℕ) → pointwise nat_eq (codes "EE") xs ≡ true → xs ≡ codes "EE"
 ends [] e = cc
 ends (a ∷ []) e = absurd (false≢true (and_parts (69 == a) false e).1)

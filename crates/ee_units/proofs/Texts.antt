@@ -11,7 +11,7 @@ use Rattle.std.specs.Str.Pattern.{FindsTextSuffix, HasSuffixMatch, StripsSuffix}
 use Rattle.ee_units.specs.Spelling.{strip_first, serial_of, serial_from, before_end}
 use Rattle.std.proofs.lemmas.Bool.Decides.{nat_tests}
 
--- a text with c at its end, without it
+-- a text that ends with `c`, without it
 pub strip_last-end : (c : ℕ) (xs : List ℕ) → strip_last c (xs ++ c ∷ []) ≡ xs
 strip_last-end c xs =
     let n = length-append xs (c ∷ []) in
@@ -23,7 +23,7 @@ strip_last-end c xs =
     let at : length (xs ++ c ∷ []) - 1 ≡ length xs = omega arith in
     rw (yes, at) (take-append_seam xs (c ∷ []))
 
--- the last element, apart
+-- a list is its front and its last element
 pub split_last : (xs : List ℕ) → 0 < length xs → xs ≡ take (length xs - 1) xs ++ get_or xs (length xs - 1) 0 ∷ []
 split_last xs some =
     let n : suc (length xs - 1) ≡ length xs = omega arith in
@@ -42,7 +42,7 @@ strip_last-other c xs none = elim (cases_Bool (ends_with_byte c xs)) [
   | inr fails ↦ rw fails refl
 ]
 
--- what `strip_suffix` leaves, or else the text itself
+-- the result of `strip_suffix`, or the whole text if it found nothing
 pub strip_suffix_or : (c : ℕ) (text r : Bor (List ℕ)) (o : Option (Bor (List ℕ))) → MatchOption o ((front : List ℕ) → text.now ≢ front ++ c ∷ []) (λ x. text.now ≡ x.now ++ c ∷ []) → r ≡ unwrap_or o text → r.now ≡ strip_last c text.now
 strip_suffix_or c text r None h e = ap (λ (b : Bor (List ℕ)). b.now) e ∙ sym (strip_last-other c text.now h)
 strip_suffix_or c text r (Some x) h e = ap (λ (b : Bor (List ℕ)). b.now) e ∙ sym (rw h (strip_last-end c x.now))
@@ -57,12 +57,12 @@ strip_first-other c (x ∷ xs) none = elim (cases_Bool (x == c)) [
 pub strip_first-front : (c : ℕ) (xs : List ℕ) → strip_first c (c ∷ xs) ≡ xs
 strip_first-front c xs = let same : (c == c) ≡ true = grind (arith, nat_tests) in rw same refl
 
--- what `strip_prefix` leaves, or else the text itself
+-- the result of `strip_prefix`, or the whole text if it found nothing
 pub strip_prefix_or : (c : ℕ) (text r : Bor (List ℕ)) (o : Option (Bor (List ℕ))) → MatchOption o ((rest : List ℕ) → text.now ≢ c ∷ rest) (λ x. text.now ≡ c ∷ x.now) → r ≡ unwrap_or o text → r.now ≡ strip_first c text.now
 strip_prefix_or c text r None h e = ap (λ (b : Bor (List ℕ)). b.now) e ∙ sym (strip_first-other c text.now h)
 strip_prefix_or c text r (Some x) h e = ap (λ (b : Bor (List ℕ)). b.now) e ∙ sym (rw h (strip_first-front c x.now))
 
--- a text that may not be cut after its first byte is no serial
+-- a text that can't be split after its first byte is no serial number
 pub no_serial : (text : List ℕ) → IsUtf8 text → ¬ (IsCharBoundary text 1) → serial_of text ≡ None
 unfolding serial_from
 no_serial [] u cut = refl
@@ -76,7 +76,7 @@ no_serial (letter ∷ rest) u cut = elim (cases_Bool (nat_le 65 letter && nat_le
   | inr fails ↦ rw fails refl
 ]
 
--- what `strip_suffix` gives at a text
+-- the result of `strip_suffix` on a text
 pub before_end_is : (n s : List ℕ) (o : Option (Bor (List ℕ))) → MatchOption o (FindsTextSuffix n s None) (λ x. StripsSuffix (FindsTextSuffix n) s x.now) → option_map (λ x. x.now) o ≡ before_end n s
 before_end_is n s None h = let lacks = sym (ends_text false n s h) in rw lacks refl
 before_end_is n s (Some x) h =

@@ -15,7 +15,7 @@ dollars denom.Thousand = 1000
 dollars denom.FiveThousand = 5000
 dollars denom.TenThousand = 10000
 
--- the denomination of so many dollars
+-- the denomination of this number of dollars
 abbrev pub denom_with : ℕ → Option Denom
 denom_with n = if n == 50 then Some denom.Fifty
     else if n == 75 then Some denom.SeventyFive
@@ -42,7 +42,7 @@ units_of denom.TenThousand = 400
 abbrev pub price_of : Denom → ℕ
 price_of denom = 50 * dollars denom
 
--- the denomination that is written so
+-- the denomination that the text spells, by its number of dollars
 abbrev pub denom_of : List ℕ → Option Denom
 denom_of text = if bytes_eq text (codes "50") then Some denom.Fifty
     else if bytes_eq text (codes "75") then Some denom.SeventyFive

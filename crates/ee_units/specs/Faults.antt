@@ -1,4 +1,4 @@
--- The numbers of the faults of readers (this project's rule).
+-- The codes of the readers' faults (this project's rule).
 use Rattle.std.specs.Prelude.{ℕ}
 use Rattle.ee_units.specs.declared.faults.UnitFault.{UnitFault}
 use Rattle.ee_units.specs.declared.faults.UnitFault.TheVariants as fault

@@ -1,4 +1,4 @@
--- The spellings, as a grammar: which text writes which value (this project's rule).
+-- The accepted spellings, as a grammar: which text writes which value (this project's rule).
 use Rattle.std.specs.Prelude.{◌≡◌, ℕ, ◌+◌, ◌*◌, ◌≤◌, true, List, [], ◌∷◌, ◌++◌, length, codes, pos}
 use Rattle.std.specs.Char.{is_ascii_digit}
 use Rattle.std.specs.List.{list_all}
@@ -7,14 +7,14 @@ use Rattle.jiff_core.specs.Calendar.{days_from_civil}
 use Rattle.ee_units.specs.Calendar.{is_date}
 use Rattle.ee_units.specs.Spelling.{SerialNumber}
 
--- digits, one at least and `most` at most, that write n
+-- 1 to `most` digits that write n
 pub record WritesNumber (most : ℕ) (ds : List ℕ) (n : ℕ) : Type 0 where
   pub some : 1 ≤ length ds
   pub few : length ds ≤ most
   pub digits : list_all is_ascii_digit ds ≡ true
   pub value : digits_value 10 ds ≡ n
 
--- nothing, or a point and one or two digits, which write n hundredths
+-- nothing, or a point and one or two digits that write n hundredths
 pub data Fraction : List ℕ → ℕ → Type 0 where
   no_fraction : Fraction [] 0
   tenths : (ds : List ℕ) (n : ℕ) (one : length ds ≡ 1) (writes : WritesNumber 2 ds n) → Fraction (46 ∷ ds) (10 * n)
@@ -25,7 +25,7 @@ pub data Sign : List ℕ → Type 0 where
   no_sign : Sign []
   percent : Sign (37 ∷ [])
 
--- the text is digits, perhaps a fraction, perhaps a percent sign, and writes r hundredths of a percent
+-- digits, optionally a fraction, optionally a percent sign: the text writes r hundredths of a percent
 pub record IsRateText (text : List ℕ) (r : ℕ) : Type 0 where
   pub whole : List ℕ
   pub fraction : List ℕ
@@ -39,7 +39,7 @@ pub record IsRateText (text : List ℕ) (r : ℕ) : Type 0 where
   pub value : r ≡ 100 * percents + part
   pub range : r ≤ 2000
 
--- just so many digits, which write n
+-- exactly `count` digits that write n
 pub record WritesDigits (count : ℕ) (ds : List ℕ) (n : ℕ) : Type 0 where
   pub long : length ds ≡ count
   pub writes : WritesNumber count ds n
@@ -49,7 +49,7 @@ pub data WritesMonth : List ℕ → ℕ → ℕ → Type 0 where
   year_first : (ys ms : List ℕ) (year month : ℕ) (year_is : WritesDigits 4 ys year) (month_is : WritesDigits 2 ms month) → WritesMonth (ys ++ 45 ∷ ms) year month
   month_first : (ys ms : List ℕ) (year month : ℕ) (year_is : WritesDigits 4 ys year) (month_is : WritesDigits 2 ms month) → WritesMonth (ms ++ 47 ∷ ys) year month
 
--- the text writes a month of the years up to 2199, n months after May 2005
+-- the text writes a month n months after May 2005, in a year up to 2199
 pub record IsMonthText (text : List ℕ) (n : ℕ) : Type 0 where
   pub year : ℕ
   pub month : ℕ
@@ -59,7 +59,7 @@ pub record IsMonthText (text : List ℕ) (n : ℕ) : Type 0 where
   pub range : year ≤ 2199
   pub value : 12 * year + month ≡ 12 * 2005 + 5 + n
 
--- the text is YYYY-MM-DD and writes a real date, n days after 1970-01-01, in the range of days
+-- the text is YYYY-MM-DD and writes a date of the calendar, n days after 1970-01-01, in range
 pub record IsDayText (text : List ℕ) (n : ℕ) : Type 0 where
   pub ys : List ℕ
   pub ms : List ℕ
@@ -81,7 +81,7 @@ pub data Hyphen : List ℕ → Type 0 where
   no_hyphen : Hyphen []
   hyphen : Hyphen (45 ∷ [])
 
--- the text is a letter A to Z, perhaps a hyphen, one to ten digits, perhaps a hyphen, and EE
+-- the text is a letter A to Z, optionally a hyphen, one to ten digits, optionally a hyphen, and EE
 pub record IsSerialText (text : List ℕ) (s : SerialNumber) : Type 0 where
   pub first : List ℕ
   pub digits : List ℕ

@@ -1,4 +1,4 @@
--- How values are spelled (this project's rule): each function reads a text, and answers the value that it spells, or None.
+-- How values are spelled (this project's rule). Each function returns the value that a text spells, or None.
 use Rattle.std.specs.Prelude.{ℕ, ◌+◌, ◌*◌, ◌-◌, ◌==◌, ◌&&◌, Bool, List, [], ◌∷◌, length, nat_le, nat_lt, if◌then◌else◌, Option, Some, None, option_and_then, take, nat_eq, codes, pos}
 use Rattle.std.specs.Char.{is_ascii_digit}
 use Rattle.std.specs.Str.Parse.{digits_value}
@@ -11,24 +11,24 @@ infixl 10 ◌>>=◌
 abbrev pub ◌>>=◌ : {A B : Type 0} → Option A → (A → Option B) → Option B
 o >>= f = option_and_then f o
 
--- one digit or more, `most` at most
+-- the text has 1 to `most` digits and nothing else
 unfoldable pub is_number : ℕ → List ℕ → Bool
 is_number most ds = nat_le 1 (length ds) && (nat_le (length ds) most && list_all is_ascii_digit ds)
 
--- such digits, by their value
+-- the value of 1 to `most` digits
 unfoldable pub number_of : ℕ → List ℕ → Option ℕ
 number_of most ds = if is_number most ds then Some (digits_value 10 ds) else None
 
--- the value, where it lies in the range
+-- the value, if it is in the range
 abbrev pub in_range : ℕ → ℕ → ℕ → Option ℕ
 in_range low high n = if nat_le low n && nat_le n high then Some n else None
 
--- the parts round the first byte c
+-- the parts before and after the first byte c
 unfoldable pub parts_at : ℕ → List ℕ → Option (List ℕ × List ℕ)
 parts_at c ds = if nat_lt (position_or_len (λ b. b == c) ds) (length ds)
     then Some (before_first (λ b. b == c) ds, after_first (λ b. b == c) ds) else None
 
--- one digit after the point is tenths, two are hundredths
+-- after the point one digit means tenths, two mean hundredths
 unfoldable pub hundredths_of : List ℕ → Option ℕ
 hundredths_of ds = number_of 2 ds >>= λ n. Some (if length ds == 1 then 10 * n else n)
 
@@ -39,22 +39,22 @@ decimal_from ds (Some parts) = do
   part ← hundredths_of parts.1
   Some (100 * whole + part)
 
--- a decimal number with at most two places, in hundredths
+-- a decimal number with at most two decimal places, in hundredths
 unfoldable pub decimal_of : List ℕ → Option ℕ
 decimal_of ds = decimal_from ds (parts_at 46 ds)
 
--- a rate is a decimal number, and may end with a percent sign
+-- a rate is a decimal number, optionally followed by a percent sign
 unfoldable pub rate_of : List ℕ → Option ℕ
 rate_of text = decimal_of (strip_last 37 text) >>= in_range 0 2000
 
--- the count of months from 2005-05
+-- a month as its count from 2005-05
 unfoldable pub month_at : ℕ → ℕ → Option ℕ
 month_at year month = do
   m ← in_range 1 12 month
   y ← in_range 2005 2199 year
   if nat_le 24065 (12 * y + m) then Some (12 * y + m - 24065) else None
 
--- a number of just so many digits
+-- the value of exactly `count` digits
 unfoldable pub digits_of : ℕ → List ℕ → Option ℕ
 digits_of count ds = if length ds == count then number_of count ds else None
 
@@ -73,21 +73,21 @@ month_from None None = None
 unfoldable pub month_of : List ℕ → Option ℕ
 month_of text = month_from (parts_at 45 text) (parts_at 47 text)
 
--- a text without the byte c at its front, if it has one there
+-- the text without the byte c at its front, if it has one
 abbrev pub strip_first : ℕ → List ℕ → List ℕ
 strip_first c [] = []
 strip_first c (b ∷ bs) = if b == c then bs else b ∷ bs
 
--- a text that ends with these bytes, without them
+-- the text without these bytes at its end; None if it doesn't end with them
 abbrev pub before_end : List ℕ → List ℕ → Option (List ℕ)
 before_end end text = if ends_with nat_eq text end then Some (take (length text - length end) text) else None
 
--- what a serial is: its letter, 1 for A to 26 for Z, and its number
+-- a serial number: its letter, 1 for A to 26 for Z, and its number
 pub record SerialNumber : Type 0 where
   pub letter : ℕ
   pub number : ℕ
 
--- letter 1 to 26 for A to Z, and number
+-- the serial number of a letter, 1 to 26, and a number
 unfoldable pub serial_at : ℕ → ℕ → Option SerialNumber
 serial_at letter number = do
   l ← in_range 1 26 letter
@@ -102,7 +102,7 @@ serial_from letter rest = do
   m ← in_range 1 9999999999 n
   Some (record { letter = l - 64; number = m })
 
--- a serial is a letter, perhaps a hyphen, digits, perhaps a hyphen, and EE
+-- a serial is a letter, optionally a hyphen, digits, optionally a hyphen, and EE
 abbrev pub serial_of : List ℕ → Option SerialNumber
 serial_of [] = None
 serial_of (letter ∷ rest) = serial_from letter rest
@@ -111,11 +111,11 @@ serial_of (letter ∷ rest) = serial_from letter rest
 unfoldable pub customer_of : List ℕ → Option ℕ
 customer_of text = number_of 9 text >>= in_range 1 999999999
 
--- a month of issue is one up to 2099-12
+-- an issue month is at most 2099-12
 unfoldable pub issue_of : List ℕ → Option ℕ
 issue_of text = month_of text >>= in_range 0 1135
 
--- the count of days from 1970-01-01
+-- a date as its count of days from 1970-01-01
 unfoldable pub day_at : ℕ → ℕ → ℕ → Option ℕ
 day_at year month day = if is_date year month day then day_in_range (days_from_civil (pos year) month day) else None
 

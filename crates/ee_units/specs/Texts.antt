@@ -4,11 +4,11 @@ use Rattle.std.specs.Fmt.{decimal}
 use Rattle.ee_units.specs.Spelling.{SerialNumber}
 use Rattle.ee_units.specs.Calendar.{year_of, month_of_year, month_of_day, day_of_month}
 
--- a number below 100, in two digits
+-- a number below 100, as two digits
 abbrev pub two_digits : ℕ → List ℕ
 two_digits n = (48 + n / 10) ∷ (48 + n % 10) ∷ []
 
--- hundredths as a decimal number with two places
+-- hundredths as a decimal number with two decimal places
 unfoldable pub decimal_text : ℕ → List ℕ
 decimal_text n = decimal (n / 100) ++ 46 ∷ two_digits (n % 100)
 

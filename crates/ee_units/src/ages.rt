@@ -24,7 +24,7 @@ impl Model for Age {
 }
 
 impl Age {
-    /// The age of so many months, where it is in range.
+    /// The age of `months` months; `None` above 2335.
     pub const fn new(months: u16) -> Option<Age>
         ensures { result ≡ in_range 0 2335 months }
     {
@@ -35,7 +35,7 @@ impl Age {
         }
     }
 
-    /// The age of so many months.
+    /// The age of `months` months.
     pub const fn from_months(months: u16) -> Age
         requires { months ≤ 2335 }
         ensures { result ≡ months }
@@ -43,7 +43,7 @@ impl Age {
         Age { months }
     }
 
-    /// The count of months.
+    /// The number of months.
     pub const fn months(self) -> u16
         ensures value { result ≡ self }
         ensures range { self ≤ 2335 }

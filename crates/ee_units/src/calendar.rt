@@ -7,7 +7,7 @@ use crate::ages::Age;
 use crate::days::{Day, parts_of};
 use crate::months::{IssueMonth, Month};
 
-/// The age in a month of a bond issued in another, or None before its issue.
+/// The age, in `month`, of a bond issued in `issued`; `None` before its issue month.
 pub fn age(issued: IssueMonth, month: Month) -> Option<Age>
     ensures { result ≡ age_of issued month }
 {
@@ -15,8 +15,8 @@ pub fn age(issued: IssueMonth, month: Month) -> Option<Age>
     Some(Age::from_months(months))
 }
 
-/// The period of an issue month: the latest May or November that is not after it. Bonds of one
-/// period earn one rate.
+/// The rate period of an issue month: the latest May or November that is not after it. All bonds of
+/// one period earn the same rate.
 pub fn period_of(issued: IssueMonth) -> IssueMonth
     ensures value { result ≡ period_start issued }
     ensures period { IsPeriod issued result }
@@ -25,7 +25,7 @@ pub fn period_of(issued: IssueMonth) -> IssueMonth
     IssueMonth::from_count(count - count % 6)
 }
 
-/// Whether Treasury announces rates in a month: each May and November (31 CFR Part 351).
+/// Whether Treasury announces rates in this month: each May and November (31 CFR Part 351).
 pub fn is_announcement(month: IssueMonth) -> bool
     ensures { result ≡ is_announcement month }
 {

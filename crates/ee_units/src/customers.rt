@@ -1,4 +1,4 @@
-//! Numbers of customers.
+//! Customer numbers.
 
 ghost use Rattle.std.specs.Prelude.{◌≡◌, ◌≤◌};
 ghost use Rattle.std.specs.Option.{ok_or};
@@ -29,7 +29,7 @@ impl Model for Customer {
 }
 
 impl Customer {
-    /// The customer of that number, where it is in range.
+    /// The customer with this number; `None` unless it is 1 to 999,999,999.
     pub const fn new(number: u64) -> Option<Customer>
         ensures { result ≡ in_range 1 999999999 number }
     {
@@ -52,7 +52,7 @@ impl Customer {
     }
 }
 
-/// The plain number.
+/// The number in decimal, without leading zeros.
 impl fmt::Display for Customer {
     ghost use Rattle.std.specs.Prelude.{Some};
     ghost use Rattle.std.specs.Fmt.{decimal};
@@ -65,7 +65,7 @@ impl fmt::Display for Customer {
     }
 }
 
-/// The customer that one to nine digits spell, or `BadCustomer`. Leading zeros don't matter.
+/// Reads a customer number of one to nine digits. Leading zeros are accepted. Any other text, or 0, is `BadCustomer`.
 pub fn read_customer(text: &str) -> Result<Customer, UnitFault>
     ensures { result ≡ ok_or (customer_of text.now) UnitFault.BadCustomer }
 {

@@ -14,7 +14,7 @@ use std::fmt;
 use std::marker::Model;
 use std::str::FromStr;
 
-/// A day, 2005-05-01 to 2199-12-31, as its count from 1970-01-01.
+/// A day from 2005-05-01 to 2199-12-31, as its count of days from 1970-01-01.
 #[derive(Clone, Copy, Debug, PartialEq, Eq, PartialOrd, Ord)]
 pub struct Day {
     count: u32,
@@ -33,7 +33,7 @@ impl Model for Day {
 }
 
 impl Day {
-    /// The day of that count from 1970-01-01, where it is in range.
+    /// The day `count` days after 1970-01-01; `None` if it is out of range.
     pub const fn new(count: u64) -> Option<Day>
         ensures { result ≡ in_range 12904 84005 count }
     {
@@ -69,7 +69,7 @@ impl fmt::Display for Day {
     }
 }
 
-// The year, the month and the day of the date.
+// The year, month and day of the month.
 pub fn parts_of(day: Day) -> (u64, u64, u64)
     ensures year { result.0 ≡ year_of (month_of_day day) }
     ensures month { result.1 ≡ month_of_year (month_of_day day) }
@@ -89,7 +89,7 @@ fn date_of(day: Day) -> jiff_core::civil::Date
     jiff_core::civil::Date::from_unix_epoch_day(day.count as i64).unwrap()
 }
 
-/// The day that the text spells, as `YYYY-MM-DD`, or `BadDay`.
+/// Reads a day, `YYYY-MM-DD`. Any other text, or a day out of range, is `BadDay`.
 pub fn read_day(text: &str) -> Result<Day, UnitFault>
     ensures { result ≡ ok_or (day_of text.now) UnitFault.BadDay }
 {
@@ -130,7 +130,7 @@ fn day_at(year: u64, month: u64, day: u64) -> Option<Day>
     day_of_number(day_number(year, month, day)?)
 }
 
-// The day number of a date, if the calendar has it.
+// The days from 1970-01-01 to a date, if the calendar has that date.
 fn day_number(year: u64, month: u64, day: u64) -> Option<i32>
     requires year { year < 10000 }
     requires month { month < 100 }

@@ -1,4 +1,4 @@
-//! Denominations, with their units and prices.
+//! Denominations, with their units and issue prices.
 
 use crate::faults::UnitFault;
 use crate::money::Cents;
@@ -23,7 +23,7 @@ ghost use Rattle.std.specs.Option.{ok_or};
 ghost use Rattle.ee_units.specs.Denoms.{dollars, denom_with, units_of, price_of, denom_of};
 
 impl Denom {
-    /// The denomination of so many dollars, where bonds have it.
+    /// The denomination of this number of dollars; `None` if no bond has it.
     pub const fn with_dollars(dollars: u64) -> Option<Denom>
         ensures { result ≡ denom_with dollars }
     {
@@ -40,7 +40,7 @@ impl Denom {
         }
     }
 
-    /// The denomination in dollars.
+    /// The denomination in whole dollars.
     pub const fn dollars(self) -> u64
         ensures { result ≡ dollars self }
     {
@@ -64,14 +64,14 @@ pub fn units(denom: Denom) -> u64
     denom.dollars() / 25
 }
 
-/// The bond's issue price: half its denomination.
+/// The bond's issue price: half the denomination.
 pub fn price(denom: Denom) -> Cents
     ensures { result.0 ≡ price_of denom }
 {
     Cents(50 * denom.dollars())
 }
 
-/// The plain number of dollars.
+/// The number of dollars in decimal.
 impl fmt::Display for Denom {
     ghost use Rattle.std.specs.Prelude.{Some};
     ghost use Rattle.std.specs.Fmt.{decimal};
@@ -85,7 +85,7 @@ impl fmt::Display for Denom {
     }
 }
 
-/// The denomination that the text spells, by just its number of dollars, or `BadDenom`.
+/// Reads a denomination, spelled as its number of dollars alone. Any other text is `BadDenom`.
 pub fn read_denom(text: &str) -> Result<Denom, UnitFault>
     ensures { result ≡ ok_or (denom_of text.now) UnitFault.BadDenom }
 {

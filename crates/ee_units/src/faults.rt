@@ -1,10 +1,10 @@
-//! Why a text spells no value.
+//! Faults of the readers.
 
 ghost use Rattle.std.specs.Prelude.{◌≡◌};
 
 use thiserror::Error;
 
-/// Why a text spells no value. Each reader answers the one that is named after it.
+/// Why a text can't be read as a value. Each reader has one fault, named after it.
 #[derive(Clone, Copy, Debug, PartialEq, Eq, Error)]
 pub enum UnitFault {
     #[error("bad rate")]
@@ -24,7 +24,7 @@ pub enum UnitFault {
 impl UnitFault {
     ghost use Rattle.ee_units.specs.Faults.{code_of};
 
-    /// The fault's number, 1 to 6.
+    /// The code of the fault, 1 to 6.
     pub const fn code(self) -> u8
         ensures { result ≡ code_of self }
     {

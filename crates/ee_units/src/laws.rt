@@ -1,4 +1,4 @@
-//! Laws of the definitions: a body does nothing, and the clauses are the laws.
+//! Laws of the definitions. A body here does nothing; the clauses state the laws.
 
 ghost use Rattle.std.specs.Prelude.{◌≡◌, ℕ, ◌≤◌, ◌*◌, List, Some};
 ghost use Rattle.std.specs.Fmt.{decimal};
@@ -10,31 +10,31 @@ ghost use Rattle.ee_units.specs.Texts.{rate_text, month_text, day_text, serial_t
 
 use crate::denoms::Denom;
 
-/// The grammar of rates: `rate_of` finds a rate in a text just where the text writes that rate.
+/// The grammar of rates: `rate_of` reads a text as a rate if and only if the text writes that rate.
 pub const fn rate_law()
     ensures complete { (text : List ℕ) (r : ℕ) → IsRateText text r → rate_of text ≡ Some r }
     ensures sound { (text : List ℕ) (r : ℕ) → rate_of text ≡ Some r → IsRateText text r }
 {}
 
-/// The grammar of months: `month_of` finds a month in a text just where the text writes that month.
+/// The grammar of months: `month_of` reads a text as a month if and only if the text writes that month.
 pub const fn month_law()
     ensures complete { (text : List ℕ) (n : ℕ) → IsMonthText text n → month_of text ≡ Some n }
     ensures sound { (text : List ℕ) (n : ℕ) → month_of text ≡ Some n → IsMonthText text n }
 {}
 
-/// The grammar of days.
+/// The grammar of days, in the same way.
 pub const fn day_law()
     ensures complete { (text : List ℕ) (n : ℕ) → IsDayText text n → day_of text ≡ Some n }
     ensures sound { (text : List ℕ) (n : ℕ) → day_of text ≡ Some n → IsDayText text n }
 {}
 
-/// The grammar of serials.
+/// The grammar of serial numbers, in the same way.
 pub const fn serial_law()
     ensures complete { (text : List ℕ) (s : SerialNumber) → IsSerialText text s → serial_of text ≡ Some s }
     ensures sound { (text : List ℕ) (s : SerialNumber) → serial_of text ≡ Some s → IsSerialText text s }
 {}
 
-/// Each printed text reads back as the value that it was printed of.
+/// Each printed text reads back as the value that was printed.
 pub const fn texts_law()
     ensures rate { (r : ℕ) → r ≤ 2000 → rate_of (rate_text r) ≡ Some r }
     ensures month { (m : ℕ) → m ≤ 2335 → month_of (month_text m) ≡ Some m }
@@ -46,14 +46,14 @@ pub const fn texts_law()
     ensures denom { (d : Denom) → denom_of (decimal (dollars d)) ≡ Some d }
 {}
 
-/// Units and price: a denomination is 25 dollars a unit, and its price 12.50 dollars a unit.
+/// Units and price: a unit is 25 dollars of denomination and 12.50 dollars of issue price.
 pub const fn denom_law()
     ensures dollars { (d : Denom) → dollars d ≡ 25 * units_of d }
     ensures price { (d : Denom) → price_of d ≡ 1250 * units_of d }
 {}
 
-/// Periods: the months of announcement are those that are their own period, and each month has just
-/// one period.
+/// Periods: a month is its own period if and only if rates are announced in it, and each month has
+/// exactly one period.
 pub const fn calendar_law()
     ensures period { (m : ℕ) → IsPeriod m (period_start m) }
     ensures unique { (m p q : ℕ) → IsPeriod m p → IsPeriod m q → p ≡ q }

@@ -1,5 +1,5 @@
 //! The units of the counter: money, rates, months, days, ages, denominations, serial numbers and
-//! customers, with the one spelling that is printed of each and the spellings that are read.
+//! customers. Each value has one printed spelling, and a grammar of spellings that are read.
 #![tactic(auto)]
 
 mod ages;

@@ -10,7 +10,7 @@ use std::fmt;
 use std::marker::Model;
 use std::str::FromStr;
 
-/// A month, 2005-05 to 2199-12, as its count from 2005-05.
+/// A month from 2005-05 to 2199-12, as its count of months from 2005-05.
 #[derive(Clone, Copy, Debug, PartialEq, Eq, PartialOrd, Ord)]
 pub struct Month {
     count: u16,
@@ -29,7 +29,7 @@ impl Model for Month {
 }
 
 impl Month {
-    /// The month of that count from 2005-05, where it is in range.
+    /// The month `count` months after 2005-05; `None` after 2199-12.
     pub const fn new(count: u64) -> Option<Month>
         ensures { result ≡ in_range 0 2335 count }
     {
@@ -42,7 +42,7 @@ impl Month {
         }
     }
 
-    /// The month of that count from 2005-05.
+    /// The month `count` months after 2005-05.
     pub const fn from_count(count: u16) -> Month
         requires { count ≤ 2335 }
         ensures { result ≡ count }
@@ -73,7 +73,7 @@ impl fmt::Display for Month {
     }
 }
 
-/// The month that the text spells, as `YYYY-MM` or `MM/YYYY`, or `BadMonth`.
+/// Reads a month, `YYYY-MM` or `MM/YYYY`. Any other text, or a month out of range, is `BadMonth`.
 pub fn read_month(text: &str) -> Result<Month, UnitFault>
     ensures { result ≡ ok_or (month_of text.now) UnitFault.BadMonth }
 {
@@ -119,8 +119,8 @@ fn month_at(year: u64, month: u64) -> Option<Month>
     }
 }
 
-/// A month of issue, 2005-05 to 2099-12, as its count from 2005-05. A bond's issue date is its first
-/// day.
+/// An issue month from 2005-05 to 2099-12, as its count of months from 2005-05. A bond is issued as of
+/// the first day of its issue month.
 #[derive(Clone, Copy, Debug, PartialEq, Eq, PartialOrd, Ord)]
 pub struct IssueMonth {
     count: u16,
@@ -139,7 +139,7 @@ impl Model for IssueMonth {
 }
 
 impl IssueMonth {
-    /// The month of that count from 2005-05, where it is in range.
+    /// The issue month `count` months after 2005-05; `None` after 2099-12.
     pub const fn new(count: u64) -> Option<IssueMonth>
         ensures { result ≡ in_range 0 1135 count }
     {
@@ -152,7 +152,7 @@ impl IssueMonth {
         }
     }
 
-    /// The month of that count from 2005-05.
+    /// The issue month `count` months after 2005-05.
     pub const fn from_count(count: u16) -> IssueMonth
         requires { count ≤ 1135 }
         ensures { result ≡ count }
@@ -168,7 +168,7 @@ impl IssueMonth {
         self.count
     }
 
-    /// The same month, as any month.
+    /// The same month, as a `Month`.
     pub const fn month(self) -> Month
         ensures { result ≡ self }
     {
@@ -189,7 +189,7 @@ impl fmt::Display for IssueMonth {
     }
 }
 
-/// The month of issue that the text spells, as `YYYY-MM` or `MM/YYYY`, or `BadMonth`.
+/// Reads an issue month, `YYYY-MM` or `MM/YYYY`. Any other text, or a month out of range, is `BadMonth`.
 pub fn read_issue(text: &str) -> Result<IssueMonth, UnitFault>
     ensures { result ≡ ok_or (issue_of text.now) UnitFault.BadMonth }
 {

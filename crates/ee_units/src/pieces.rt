@@ -1,4 +1,4 @@
-//! Pieces of texts: numbers of so many digits, and the parts round a separator.
+//! Pieces of texts: numbers with a limited or exact number of digits, and the parts around a separator.
 
 ghost use Rattle.std.specs.Prelude.{◌≡◌, ◌<◌, ◌≤◌, IfSome, option_map};
 ghost use Rattle.std.specs.Char.{is_ascii_digit};
@@ -18,7 +18,7 @@ fn is_number(text: &str, most: usize) -> bool
     !text.is_empty() && text.len() <= most && is_all_digits(text)
 }
 
-/// The number that one digit or more write, `most` of them at most; None for any other text.
+/// The number that 1 to `most` digits write; `None` for any other text.
 #[tactic(auto, unfolding(crate::specs::Spelling::number_of))]
 pub fn number(text: &str, most: usize) -> Option<u64>
     requires { most < 19 }
@@ -33,7 +33,7 @@ pub fn number(text: &str, most: usize) -> Option<u64>
     }
 }
 
-/// The number that just so many digits write; None for any other text.
+/// The number that exactly `count` digits write; `None` for any other text.
 #[tactic(auto, unfolding(crate::specs::Spelling::digits_of))]
 pub fn digits(text: &str, count: usize) -> Option<u64>
     requires { count < 19 }
@@ -48,7 +48,7 @@ pub fn digits(text: &str, count: usize) -> Option<u64>
     }
 }
 
-/// The parts before and after the first point, where there is one.
+/// The parts before and after the first point; `None` without one.
 #[tactic(auto, unfolding(crate::specs::Spelling::parts_at))]
 pub fn parts_at_point(text: &str) -> Option<(&str, &str)>
     ensures { option_map (λ p. (p.0.now, p.1.now)) result ≡ parts_at 46 text.now }
@@ -56,7 +56,7 @@ pub fn parts_at_point(text: &str) -> Option<(&str, &str)>
     text.split_once('.')
 }
 
-/// The parts before and after the first hyphen, where there is one.
+/// The parts before and after the first hyphen; `None` without one.
 #[tactic(auto, unfolding(crate::specs::Spelling::parts_at))]
 pub fn parts_at_hyphen(text: &str) -> Option<(&str, &str)>
     ensures { option_map (λ p. (p.0.now, p.1.now)) result ≡ parts_at 45 text.now }
@@ -64,7 +64,7 @@ pub fn parts_at_hyphen(text: &str) -> Option<(&str, &str)>
     text.split_once('-')
 }
 
-/// The parts before and after the first slash, where there is one.
+/// The parts before and after the first slash; `None` without one.
 #[tactic(auto, unfolding(crate::specs::Spelling::parts_at))]
 pub fn parts_at_slash(text: &str) -> Option<(&str, &str)>
     ensures { option_map (λ p. (p.0.now, p.1.now)) result ≡ parts_at 47 text.now }

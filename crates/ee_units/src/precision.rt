@@ -5,7 +5,7 @@ ghost use Rattle.ee_units.specs.Spelling.{in_range};
 
 use std::marker::Model;
 
-/// The precision of a fixed-point number: its count of binary places, 8 to 62.
+/// The precision of a fixed-point number: its number of binary places, 8 to 62.
 #[derive(Clone, Copy, Debug, PartialEq, Eq)]
 pub struct Bits {
     places: u8,
@@ -24,7 +24,7 @@ impl Model for Bits {
 }
 
 impl Bits {
-    /// The precision of so many binary places, where it is in range.
+    /// The precision of `places` binary places; `None` unless it is 8 to 62.
     pub const fn new(places: u8) -> Option<Bits>
         ensures { result ≡ in_range 8 62 places }
     {
@@ -35,7 +35,7 @@ impl Bits {
         }
     }
 
-    /// The precision of so many binary places.
+    /// The precision of `places` binary places.
     pub const fn from_places(places: u8) -> Bits
         requires low { 8 ≤ places }
         requires high { places ≤ 62 }
@@ -44,7 +44,7 @@ impl Bits {
         Bits { places }
     }
 
-    /// The count of binary places.
+    /// The number of binary places.
     pub const fn places(self) -> u8
         ensures value { result ≡ self }
         ensures low { 8 ≤ self }

@@ -11,7 +11,7 @@ use std::fmt;
 use std::marker::Model;
 use std::str::FromStr;
 
-/// A yearly rate in hundredths of a percent, 0 to 2000.
+/// An annual rate in hundredths of a percent, 0 to 2000.
 #[derive(Clone, Copy, Debug, PartialEq, Eq, PartialOrd, Ord)]
 pub struct Rate {
     hundredths: u16,
@@ -30,7 +30,7 @@ impl Model for Rate {
 }
 
 impl Rate {
-    /// The rate of so many hundredths of a percent, where it is in range.
+    /// A rate of `hundredths` hundredths of a percent; `None` above 2000 (20.00 %).
     pub const fn new(hundredths: u64) -> Option<Rate>
         ensures { result ≡ in_range 0 2000 hundredths }
     {
@@ -43,7 +43,7 @@ impl Rate {
         }
     }
 
-    /// The rate of so many hundredths of a percent.
+    /// A rate of `hundredths` hundredths of a percent.
     pub const fn from_hundredths(hundredths: u16) -> Rate
         requires { hundredths ≤ 2000 }
         ensures { result ≡ hundredths }
@@ -51,7 +51,7 @@ impl Rate {
         Rate { hundredths }
     }
 
-    /// The hundredths of a percent.
+    /// The rate in hundredths of a percent.
     pub const fn hundredths(self) -> u16
         ensures value { result ≡ self }
         ensures range { self ≤ 2000 }
@@ -60,7 +60,7 @@ impl Rate {
     }
 }
 
-/// The percents with two places and a percent sign, as `3.50%`.
+/// The rate in percent with two decimal places and a percent sign, as `3.50%`.
 impl fmt::Display for Rate {
     ghost use Rattle.std.specs.Prelude.{Some};
     ghost use Rattle.ee_units.specs.Texts.{rate_text};
@@ -74,8 +74,8 @@ impl fmt::Display for Rate {
     }
 }
 
-/// The rate that the text spells, or `BadRate`: percents of one or two digits, then perhaps a point
-/// and one or two digits, then perhaps a percent sign.
+/// Reads a rate in percent: one or two digits, optionally a point and one or two digits, and
+/// optionally a percent sign. Any other text is `BadRate`.
 pub fn read_rate(text: &str) -> Result<Rate, UnitFault>
     ensures { result ≡ ok_or (rate_of text.now) UnitFault.BadRate }
 {

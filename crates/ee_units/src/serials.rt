@@ -16,16 +16,16 @@ use std::fmt;
 use std::marker::Model;
 use std::str::FromStr;
 
-// What a letter counts in a packed serial: more than any number.
+// The weight of a letter in a packed serial number: more than any number.
 const ONE_LETTER: u64 = 1 << 34;
 
 const _: () = prove!(size_of::<Serial>() == 8);
 
-/// A bond's serial number: a letter, and a number 1 to 9,999,999,999. Serials are ordered by letter,
-/// then by number. Leading zeros and hyphens belong to a spelling, and not to the serial.
+/// A bond's serial number: a letter, and a number from 1 to 9,999,999,999. Serial numbers are ordered
+/// by letter, then by number. Leading zeros and hyphens are part of a spelling, not of the serial number.
 #[derive(Clone, Copy)]
 pub struct Serial {
-    // The letter times 2^34 and the number: eight bytes, so that a register of many bonds takes less memory.
+    // The letter times 2^34, plus the number: eight bytes, so a large register of bonds takes less memory.
     packed: u64,
 }
 
@@ -44,7 +44,7 @@ impl Model for Serial {
 }
 
 impl Serial {
-    /// The serial of a letter, from 1 for A to 26 for Z, and a number, where both are in range.
+    /// The serial number of a letter, 1 for A to 26 for Z, and a number; `None` if one is out of range.
     #[tactic(auto, unfolding(crate::specs::Spelling::serial_at))]
     pub const fn new(letter: u64, number: u64) -> Option<Serial>
         ensures { result ≡ serial_at letter number }
@@ -74,7 +74,7 @@ impl Serial {
         self.packed % ONE_LETTER
     }
 
-    // The serial of a letter and a number that are in range.
+    // The serial number of a letter and a number that are in range.
     const fn pack(letter: u8, number: u64) -> Serial
         requires first_letter { 1 ≤ letter }
         requires last_letter { letter ≤ 26 }
@@ -136,7 +136,7 @@ impl fmt::Debug for Serial {
     }
 }
 
-/// Letter, number without leading zeros and `EE`, as `C12EE`.
+/// The letter, the number without leading zeros, and `EE`, as `C12EE`.
 impl fmt::Display for Serial {
     ghost use Rattle.std.specs.Prelude.{Some};
     ghost use Rattle.ee_units.specs.Texts.{serial_text};
@@ -150,8 +150,8 @@ impl fmt::Display for Serial {
     }
 }
 
-/// The serial that the text spells, or `BadSerial`: a letter A to Z, perhaps a hyphen, one to ten
-/// digits, perhaps a hyphen, and `EE`.
+/// Reads a serial number: a letter A to Z, optionally a hyphen, one to ten digits, optionally a hyphen,
+/// and `EE`. Any other text is `BadSerial`.
 pub fn read_serial(text: &str) -> Result<Serial, UnitFault>
     ensures { result ≡ ok_or (serial_of text.now) UnitFault.BadSerial }
 {
