@@ -1,4 +1,4 @@
--- How far directed powers lie from exact ones, and from one another.
+-- How far directed powers are from exact ones, and from each other.
 use Rattle.std.proofs.Common.{◌≡◌, ◌≢◌, ℕ, zero, suc, ◌+◌, ◌-◌, ◌*◌, ◌^◌, ◌<◌, ◌≤◌, arith, add-one, zero-mul, sym, ap, ◌∙◌, subst, inl, inr}
 use Rattle.std.proofs.Math.Nat.{mul-le-mul_left, lt_of_mul-lt-mul_left, pow-suc, pow-zero, one-mul, pow-le-pow_left, pow-lt-pow_left, one-le-pow, mul-lt-mul_of_pos_left}
 use Rattle.std.proofs.lemmas.Nat.{pow_pos, pow-add, mul-le}
@@ -17,7 +17,7 @@ pow-next n k =
 pow-next_one : (n k : ℕ) → n ^ (k + 1) ≡ n ^ k * n
 pow-next_one n k = ap (λ x. n ^ x) (add-one k) ∙ pow-suc n k
 
--- ---- a directed power against the exact one
+-- ---- a directed power beside the exact one
 
 pub power_up-ge : (b p k : ℕ) → p ^ (k + 1) ≤ power_up b p k * (2 ^ b) ^ k
 unfolding power_up
@@ -35,7 +35,7 @@ power_down-le b p (suc k) =
     let n : (2 ^ b) ^ k * (down b (power_down b p k) p * 2 ^ b) ≤ (2 ^ b) ^ k * (power_down b p k * p) = mul-le-mul_left ((2 ^ b) ^ k) (down_le b (power_down b p k) p) in
     rw (pow-next p k, pow-suc (2 ^ b) k) (omega (arith, m, n))
 
--- rounding up five times costs less than one more in the root
+-- five products rounded up exceed the exact power by less than one more unit in the root does
 pub power_up-le_next : (b p k : ℕ) → 2 ^ b ≤ p + 1 → power_up b p k * (2 ^ b) ^ k ≤ (p + 1) ^ (k + 1)
 unfolding power_up
 power_up-le_next b p zero h = rw (pow-zero (2 ^ b), pow-one (p + 1)) (omega (arith, power_up-none b p))
@@ -46,7 +46,7 @@ power_up-le_next b p (suc k) h =
     let o : (2 ^ b) ^ (k + 1) ≤ (p + 1) ^ (k + 1) = pow-le-pow_left h (k + 1) in
     rw (pow-next (p + 1) k, pow-suc (2 ^ b) k) (omega (arith, m, n, o, pow-next_one (2 ^ b) k))
 
--- and rounding down costs less than one less
+-- five products rounded down fall below the exact power by less than one unit less in the root does
 pub power_down-ge_before : (b p k : ℕ) → 2 ^ b ≤ p → p ^ (k + 1) ≤ power_down b (p + 1) k * (2 ^ b) ^ k
 unfolding power_down
 power_down-ge_before b p zero h = rw (pow-zero (2 ^ b), pow-one p) (omega (arith, power_down-none b (p + 1)))
@@ -56,7 +56,7 @@ power_down-ge_before b p (suc k) h =
     let o : (2 ^ b) ^ (k + 1) ≤ p ^ (k + 1) = pow-le-pow_left h (k + 1) in
     rw (pow-next p k, pow-suc (2 ^ b) k) (omega (arith, m, n, o, pow-next_one (2 ^ b) k))
 
--- ---- the bounds enclose the root, and lie close together
+-- ---- the bounds enclose the root, and are close together
 
 pub pow-pow : (n i j : ℕ) → n ^ (i * j) ≡ (n ^ j) ^ i
 pow-pow n zero j = ap (λ k. n ^ k) (zero-mul j) ∙ pow-zero n ∙ sym (pow-zero (n ^ j))
@@ -74,7 +74,7 @@ Encloses-from_root b r low high l h =
     let y : (2 ^ b) ^ 5 * (2 ^ b * (20000 + r)) ≤ (2 ^ b) ^ 5 * (power_down b high 5 * 20000) = mul-le-mul_left ((2 ^ b) ^ 5) h.1 in
     (rw (s6, t) (omega (arith, u, v)), rw (s6, t) (omega (arith, x, y)))
 
--- one more than the low bound is too much, even exactly and with one more again
+-- two more than the low bound is too large, even for the exact power
 low_next : (b r low : ℕ) → IsLow b r low → 2 ^ (6 * b) * (20000 + r) < (low + 2) ^ 6 * 20000
 low_next b r low l =
     let s6 : 2 ^ (6 * b) ≡ (2 ^ b) ^ 6 = pow-pow 2 6 b in
@@ -88,7 +88,7 @@ low_next b r low l =
     let v : (2 ^ b) ^ 5 * (2 ^ b * (20000 + r)) < (2 ^ b) ^ 5 * (power_up b (low + 1) 5 * 20000) = mul-lt-mul_of_pos_left over pos in
     rw (s6, t) (omega (arith, u', v))
 
--- two less than the high bound is too little, even exactly
+-- two less than the high bound is too small, even for the exact power
 high_before : (b r n : ℕ) → 2 ^ b ≤ n → IsHigh b r (n + 2) → n ^ 6 * 20000 < 2 ^ (6 * b) * (20000 + r)
 high_before b r n from_one h =
     let s6 : 2 ^ (6 * b) ≡ (2 ^ b) ^ 6 = pow-pow 2 6 b in
@@ -110,7 +110,7 @@ sixth_le : (m n : ℕ) → m ^ 6 ≤ n ^ 6 → m ≤ n
 sixth_le m n h =
     elim (cases_lt n m) [ inl lt ↦ absurd (omega (arith, h, sixth_lt n m lt)) | inr le ↦ le ]
 
--- the bounds lie within three of one another
+-- the bounds differ by at most three
 pub high-le : (b r low high : ℕ) → IsLow b r low → IsHigh b r high → high ≤ low + 3
 high-le b r low high l h =
     elim (cases_lt high (2 ^ b + 2)) [
@@ -131,7 +131,7 @@ low-le_high b r low high l h =
 
 -- ---- powers of the bounds
 
--- one product adds at most six to the distance
+-- one product adds at most six to the difference
 apart-step : (s p q l h l' h' k : ℕ) → k ≤ 4 → 0 < s → q ≤ p + 3 → 32 * q ≤ 33 * s → 32 * l ≤ (33 + 2 * k) * s
     → h ≤ l + (3 + 6 * k) → h' * s < h * q + s → l * p < l' * s + s → h' ≤ l' + (9 + 6 * k)
 apart-step s p q l h l' h' k few some close near_q near_l apart up_bound down_bound =

@@ -1,4 +1,4 @@
--- What directed products and powers keep.
+-- Properties of directed products and powers.
 use Rattle.std.proofs.Common.{◌≡◌, ℕ, zero, suc, ◌+◌, ◌-◌, ◌*◌, ◌/◌, ◌^◌, ◌<◌, ◌≤◌, arith, add-one, refl, sym, ap, ◌∙◌, subst, inl, inr}
 use Rattle.std.proofs.Math.Nat.{div-mul-le_self, lt-div-mul-add, lt_of_mul-lt-mul_left}
 use Rattle.std.proofs.lemmas.Grind.{div_ceil_times}
@@ -20,7 +20,7 @@ up_ge b p q = (div_ceil_times (p * q) (2 ^ b) (pow_pos b)).0
 pub up_lt : (b p q : ℕ) → up b p q * 2 ^ b < p * q + 2 ^ b
 up_lt b p q = (div_ceil_times (p * q) (2 ^ b) (pow_pos b)).1
 
--- a quotient is at most another where its product is below the other's with one more
+-- compares two quotients by their products
 le_by_product : (s x y n : ℕ) → x * s ≤ n → n < y * s + s → x ≤ y
 le_by_product s x y n h k =
     let e : s * x < s * (y + 1) = omega arith in omega (arith, lt_of_mul-lt-mul_left s e)
@@ -51,7 +51,7 @@ down-strict b p q p' q' one h k =
     let l : (down b p q + 1) * 2 ^ b ≤ p' * q' = omega (arith, down_le b p q, e, one) in
     omega (arith, le_by_product (2 ^ b) (down b p q + 1) (down b p' q') (p' * q') l (down_gt b p' q'))
 
--- from one on a larger base has a larger power
+-- among bases of at least one, a larger base has a larger power
 pub power_down-strict : (b p q k : ℕ) → 2 ^ b ≤ p → p < q → power_down b p k < power_down b q k
 unfolding power_down
 power_down-strict b p q zero one h = h
@@ -63,7 +63,7 @@ unfolding power_up
 power_up-mono b p q zero h = h
 power_up-mono b p q (suc k) h = up-mono b (power_up b p k) p (power_up b q k) q (power_up-mono b p q k h) h
 
--- ---- one, and what lies near it
+-- ---- one, and numbers near it
 
 pub down-one : (b : ℕ) → down b (2 ^ b) (2 ^ b) ≡ 2 ^ b
 down-one b =
@@ -103,7 +103,7 @@ power_down-le-up b p (suc k) =
     let n : down b (power_up b p k) p ≤ up b (power_up b p k) p = down-le-up b (power_up b p k) p in
     omega (arith, m, n)
 
--- a power near one grows by less than a sixteenth of one with each product
+-- each product raises a power near one by less than a sixteenth of one
 up-near : (s q p t c : ℕ) → 256 ≤ s → c ≤ 41 → 32 * p ≤ 33 * s → 32 * q ≤ c * s → t * s < q * p + s → 32 * t ≤ (c + 2) * s
 up-near s q p t c big small near_p near_q bound =
     let m : (32 * q) * (32 * p) ≤ (c * s) * (33 * s) = mul-le (32 * q) (32 * p) (c * s) (33 * s) near_q near_p in
@@ -124,7 +124,7 @@ power_up-near b p (suc k) h few near =
     up-near (2 ^ b) (power_up b p k) p (up b (power_up b p k) p) (33 + 2 * k) (one-ge-256 b h) (omega arith) near ih (up_lt b (power_up b p k) p) in
     omega (arith, step)
 
--- ---- five products of 33 / 32 are above 1.1
+-- ---- five products of 33 / 32 exceed 1.1
 
 down-grows : (b k x q : ℕ) → 2 ^ b ≡ 32 * k → 32 ≤ x → x * k ≤ q → (x + 1) * k ≤ down b q (33 * k)
 down-grows b k x q one big h =
@@ -141,7 +141,7 @@ power_down-grows b k (suc j) one =
     down-grows b k (33 + j) (power_down b (33 * k) j) one (omega arith) (power_down-grows b k j one) in
     omega (arith, g)
 
--- the sixth power of 33 / 32 is above that of each root
+-- the sixth power of 33 / 32 exceeds that of each root
 pub above_top : (b p r : ℕ) → 5 ≤ b → r ≤ 2000 → 32 * p ≡ 33 * 2 ^ b → 2 ^ b * (20000 + r) < power_down b p 5 * 20000
 above_top b p r h small top =
     let k : ℕ = 2 ^ (b - 5) in
@@ -153,7 +153,7 @@ above_top b p r h small top =
     let m : 2 ^ b * (20000 + r) ≤ 2 ^ b * 22000 = mul-le (2 ^ b) (20000 + r) (2 ^ b) 22000 (omega arith) (omega arith) in
     omega (arith, m, one, g', pow_pos (b - 5))
 
--- ---- what the loops use
+-- ---- facts for the loops
 
 pub power_up-none : (b p : ℕ) → power_up b p 0 ≡ p
 unfolding power_up
@@ -218,9 +218,9 @@ IsLow-from_next b r p above w wanted from_one next fits exceeds = (
   ],
 )
 
--- ---- steps up from the low bound
+-- ---- stepping up from the low bound
 
--- p is at most each number from one on whose power rounded down reaches the wanted one
+-- p is at most each number, from one on, whose power rounded down reaches the target
 abbrev pub IsAtMostHigh : ℕ → ℕ → ℕ → Type 0
 IsAtMostHigh b r p = (q : ℕ) → 2 ^ b ≤ q → IsAbove b r q → p ≤ q
 

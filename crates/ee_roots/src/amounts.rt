@@ -1,4 +1,4 @@
-//! Amounts that two bounds settle.
+//! Amounts that two bounds agree on.
 
 ghost use Rattle.std.specs.Prelude.{◌≡◌, ◌+◌, ◌^◌, ◌<◌, SomeIff};
 ghost use Rattle.ee_roots.specs.Amounts.{cents};
@@ -6,8 +6,8 @@ ghost use Rattle.ee_roots.specs.Amounts.{cents};
 use crate::products::one;
 use ee_units::Bits;
 
-/// Two amounts, in cents times `2^b` and below `2^(b + 63)`, rounded to the nearest cent, half a cent
-/// upwards: those cents where both have the same, else None.
+/// Rounds two amounts to the nearest cent; half a cent rounds up. Both are in cents times `2^b`, and below
+/// `2^(b + 63)`. Returns the cents if both round to the same, and `None` otherwise.
 pub fn settle(low: u128, high: u128, bits: Bits) -> Option<u64>
     requires low_fits { low < 2 ^ (bits + 63) }
     requires high_fits { high < 2 ^ (bits + 63) }

@@ -23,7 +23,7 @@ pub fn mul_up(p: u128, q: u128, bits: Bits) -> u128
     (p * q).div_ceil(1 << bits.places())
 }
 
-/// The number 1, with the range of the precision.
+/// The number 1, which fits the precision.
 pub fn one(bits: Bits) -> u128
     ensures value { result ≡ 2 ^ bits }
     ensures precise { 8 ≤ bits }
@@ -32,7 +32,7 @@ pub fn one(bits: Bits) -> u128
     1 << bits.places()
 }
 
-/// A number near 1, multiplied so many times by itself, each product rounded up.
+/// Multiplies a number near 1 by itself `times` times, and rounds each product up.
 pub fn raise_up(p: u128, times: u8, bits: Bits) -> u128
     requires near_one { 32 * p ≤ 33 * 2 ^ bits }
     requires few { times ≤ 5 }
@@ -47,7 +47,7 @@ pub fn raise_up(p: u128, times: u8, bits: Bits) -> u128
     product
 }
 
-/// A number near 1, multiplied so many times by itself, each product rounded down.
+/// Multiplies a number near 1 by itself `times` times, and rounds each product down.
 pub fn raise_down(p: u128, times: u8, bits: Bits) -> u128
     requires near_one { 32 * p ≤ 33 * 2 ^ bits }
     requires few { times ≤ 5 }

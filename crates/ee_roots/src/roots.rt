@@ -1,4 +1,4 @@
-//! Bounds of the sixth root of a half-year's growth, and of its powers.
+//! Bounds of one month's growth, the sixth root of a half-year's, and of its powers.
 
 ghost use Rattle.std.specs.Prelude.{◌≡◌, ◌+◌, ◌-◌, ◌*◌, ◌^◌, ◌≤◌};
 ghost use Rattle.ee_roots.specs.Products.{power_down, power_up};
@@ -9,7 +9,7 @@ use crate::search::{high_root, low_root};
 use ee_units::{Bits, Rate};
 use std::marker::Model;
 
-/// Bounds of a rate's root, a month's growth, at a precision. Only `root_bounds` makes one.
+/// The bounds of one month's growth at a rate, with their precision. Only `root_bounds` makes one.
 #[derive(Drop)]
 pub struct Root {
     low: u128,
@@ -54,9 +54,9 @@ impl Root {
     }
 }
 
-/// The bounds of the sixth root of `1 + rate / 20000`: the greatest number whose sixth power, each
-/// product rounded up, doesn't exceed that fraction, and the least whose sixth power, each product
-/// rounded down, reaches it; both from 1 on.
+/// The bounds of the sixth root of `1 + rate / 20000`. The low bound is the greatest number whose sixth
+/// power, each product rounded up, doesn't exceed that fraction; the high bound is the least whose sixth
+/// power, each product rounded down, reaches it. Both are at least 1.
 pub fn root_bounds(rate: Rate, bits: Bits) -> Root
     ensures bits { result.bits ≡ bits }
     ensures low { IsLow bits rate result.low }
@@ -70,7 +70,7 @@ pub fn root_bounds(rate: Rate, bits: Bits) -> Root
     Root { low, high, bits }
 }
 
-/// The bounds of the growth of 1 to 5 months: of the root's power, by directed products.
+/// The bounds of the growth over 1 to 5 months: powers of the root's bounds, by directed products.
 pub fn power_bounds(root: &Root, months: u8) -> (u128, u128)
     requires some { 1 ≤ months }
     requires few { months ≤ 5 }

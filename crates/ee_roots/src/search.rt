@@ -1,4 +1,4 @@
-//! The searches for the bounds: for the low one between 1 and 33/32, for the high one from there on.
+//! The searches for the bounds: the low one between 1 and 33/32, the high one from the low one upwards.
 
 ghost use Rattle.std.specs.Prelude.{◌≡◌, ◌+◌, ◌*◌, ◌^◌, ◌≤◌};
 ghost use Rattle.ee_roots.specs.Roots.{IsLow, IsHigh};
@@ -6,7 +6,7 @@ ghost use Rattle.ee_roots.specs.Roots.{IsLow, IsHigh};
 use crate::products::{raise_down, raise_up};
 use ee_units::{Bits, Rate};
 
-/// The sixth power of the root that is wanted, times 20000.
+/// The target of the searches: the sixth power of the root, times 20000.
 fn wanted(one: u128, rate: Rate) -> u128
     requires { one ≤ 2 ^ 62 }
     ensures value { result ≡ one * (20000 + rate) }
@@ -37,7 +37,7 @@ pub fn low_root(one: u128, rate: Rate, bits: Bits) -> u128
     low
 }
 
-/// The high bound of the root: it lies at most 3 above the low one.
+/// The high bound of the root. It is at most 3 above the low bound.
 pub fn high_root(low: u128, one: u128, rate: Rate, bits: Bits) -> u128
     requires one { one ≡ 2 ^ bits }
     requires precise { 8 ≤ bits }

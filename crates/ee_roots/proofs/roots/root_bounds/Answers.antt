@@ -2,7 +2,7 @@ use Rattle.std.proofs.Common.{arith, rules}
 use Rattle.ee_roots.proofs.Bounds.{Encloses-from_root, high-le, low-le_high}
 use Rattle.ee_roots.proofs.roots.root_bounds.Goals as goal
 
--- the clauses come first, so that wrong bounds are refused by them before the invariant of `Root`
+-- the clauses come first, so that they refuse wrong bounds before the invariant of `Root` does
 pub returns-clause-low : goal.returns-clause-low
 returns-clause-low c = search rules
 
