@@ -1,4 +1,4 @@
--- A unit never falls with age, and never below its price.
+-- A unit's value never falls with age, and is never below its price.
 use Rattle.std.proofs.Common.{◌≡◌, ℕ, zero, suc, ◌+◌, ◌-◌, ◌*◌, ◌/◌, ◌%◌, ◌<◌, ◌≤◌, min, true, false, arith, add-zero, refl, sym, ap, ◌∙◌, subst, inl, inr, Result, Ok, Err, MatchResult, IfOk}
 use Rattle.std.proofs.lemmas.Bool.{cases_lt, cases_eq, lt-ltb, le-ltb}
 use Rattle.ee_value.specs.declared.rates.Rates.{Rates}
@@ -15,7 +15,7 @@ unfolding accrued
 accrued-counted rates a =
     let e : min (min a 360) 360 ≡ min a 360 = omega arith in rw e refl
 
--- the value in half-year k, m months on
+-- the value m months after the start of half-year k
 abbrev pub inside : Rates → ℕ → ℕ → ℕ
 inside rates k m = grown (start rates k) (rate_in rates k) m
 
@@ -105,7 +105,7 @@ rounds_part (Ok c) rates a P Q small h =
     subst (λ n. Rounds (start rates (min a 360 / 6)) (rate_in rates (min a 360 / 6)) (min a 360 % 6) n) (sym h.1) (Rounds-accrued rates a small)
 rounds_part (Err e) rates a P Q small h = tt
 
--- ---- a walk along the chain
+-- ---- from one half-year to the next
 
 pub walk_some : (rates : Rates) (b k m u r c : ℕ) → k < 60 → m < 6 → u ≡ start rates k → r ≡ rate_in rates k
     → (is_unsettled u r m b ≡ false) × (c ≡ grown u r m)

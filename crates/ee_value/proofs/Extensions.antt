@@ -1,4 +1,4 @@
--- Terms by what is named of them.
+-- Terms, and the extension that they name.
 use Rattle.std.proofs.Common.{◌≡◌, ◌≢◌, ◌≤◌, ◌==◌, ℕ, Bool, true, false, Some, None, eq-eqb, ne_eqb, IfSome, refl, sym, ap}
 use Rattle.std.specs.Prelude.{if◌then◌else◌}
 use Rattle.std.proofs.lemmas.Bool.{eqb-true}
@@ -21,12 +21,12 @@ small_named : (r e : ℕ) (b : Bool) → e ≤ 2000 → IfSome (if b then None e
 small_named r e true small = tt
 small_named r e false small = small
 
--- what is named is in range
+-- a named extension is in range
 pub named-le : (rates : Rates) → InRange rates → IfSome (named_extension rates) (λ n. n ≤ 2000)
 unfolding named_extension
 named-le rates small = small_named rates.fixed rates.extension (rates.extension == rates.fixed) small.1
 
--- what is named of terms gives them again
+-- the fixed rate and the named extension give the terms again
 pub rates-back : (rates : Rates) → rates_with rates.fixed (named_extension rates) ≡ rates
 unfolding named_extension
 rates-back rates = with_named rates.fixed rates.extension (rates.extension == rates.fixed) refl

@@ -1,4 +1,4 @@
--- When a value stays open.
+-- Ages at which a value is open.
 use Rattle.std.proofs.Common.{◌≡◌, ◌≢◌, ◌⊎◌, ℕ, zero, suc, ◌+◌, ◌-◌, ◌*◌, ◌/◌, ◌%◌, ◌^◌, ◌<◌, ◌≤◌, ◌==◌, ◌&&◌, not, Bool, true, false, nat_le, arith, refl, sym, ap, ◌∙◌, inl, inr, eq-eqb, ne_eqb, Option, Some, None, MatchOption, SomeIff, min, MatchResult, Result, Ok, Err, IfErr}
 use Rattle.std.proofs.lemmas.Nat.{pow_pos, pow-add, mul-le}
 use Rattle.std.proofs.lemmas.Bool.{cases_lt, cases_eq, le-leb, lt-leb, lt-ltb, le-ltb, false≢true}
@@ -122,7 +122,7 @@ cents_apart : (b x y : ℕ) → x ≤ y → cents b x ≢ cents b y → cents b 
 cents_apart b x y h differ =
     let m : cents b x ≤ cents b y = shr_mono b (omega arith) in omega arith
 
--- ---- what `settle` says of the bounds
+-- ---- what `settle` says about the bounds
 
 module _ (u r m b low high : ℕ) (big : 8 ≤ b) (small : r ≤ 2000) (some : 1 ≤ u) (inside : 1 ≤ m) (few : m ≤ 5)
     (is_low : IsLow b r low) (is_high : IsHigh b r high) where

@@ -8,7 +8,7 @@ use Rattle.std.proofs.lemmas.Bool.{cases_lt, le-leb, lt-leb, leb-true}
 use Rattle.ee_value.specs.Rounding.{Rounds, greatest, grown}
 use Rattle.ee_roots.proofs.Lemmas.{sixth_lt}
 
--- ---- the greatest number that passes a test
+-- ---- the greatest number that satisfies a test
 
 pub greatest-is : (test : ℕ → Bool) (n p : ℕ) → p ≤ n → test p ≡ true → ((q : ℕ) → p < q → test q ≡ false) → greatest test n ≡ p
 unfolding greatest
@@ -80,7 +80,7 @@ grown-is u r m c few small h =
 
 -- ---- whole half-years
 
--- what is linear in the unit
+-- the part that is linear in the unit
 pub Rounds-linear : (u r c : ℕ) → 1 ≤ c → (2 * c - 1) * 20000 ≤ 2 * u * (20000 + r) → 2 * u * (20000 + r) < (2 * c + 1) * 20000 → Rounds u r 6 c
 Rounds-linear u r c some low high =
     let x : (2 * u * (20000 + r)) ^ 6 ≡ (2 * u) ^ 6 * (20000 + r) ^ 6 = mul-pow (2 * u) (20000 + r) 6 in
@@ -90,7 +90,7 @@ Rounds-linear u r c some low high =
     let h : (2 * u * (20000 + r)) ^ 6 < ((2 * c + 1) * 20000) ^ 6 = sixth_lt (2 * u * (20000 + r)) ((2 * c + 1) * 20000) high in
     (some, omega (arith, x, y, l), omega (arith, x, z, h))
 
--- the nearest whole number, in one division
+-- the nearest whole number, by one division
 abbrev pub linear : ℕ → ℕ → ℕ
 linear u r = (2 * u * (20000 + r) + 20000) / 40000
 
@@ -119,7 +119,7 @@ Rounds-half u r m c some half =
     let d : 20000 ^ m * (2 * c - 1) ^ 6 < 20000 ^ m * (2 * c + 1) ^ 6 = mul-lt-mul_of_pos_left lt t in
     (some, omega (arith, half), omega (arith, half, d))
 
--- ---- `grown` grows
+-- ---- `grown` is monotonic
 
 pub greatest-le : (test : ℕ → Bool) (n : ℕ) → greatest test n ≤ n
 unfolding greatest
@@ -144,7 +144,7 @@ passes_by : (test : ℕ → Bool) (n : ℕ) (b : Bool) → test (suc n) ≡ b �
 passes_by test n true e rest h = e
 passes_by test n false e rest h = rest h
 
--- what `greatest` gives passes, unless nothing does
+-- `greatest` returns a number that satisfies the test, unless none does
 pub greatest-passes : (test : ℕ → Bool) (n : ℕ) → 1 ≤ greatest test n → test (greatest test n) ≡ true
 unfolding greatest
 greatest-passes test zero h = absurd (omega (arith, h))

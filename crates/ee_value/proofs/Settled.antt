@@ -1,4 +1,4 @@
--- A month inside a half-year: what the bounds tell.
+-- A month within a half-year: what the bounds show.
 use Rattle.std.proofs.Common.{◌≡◌, ◌≢◌, ℕ, suc, ◌+◌, ◌-◌, ◌*◌, ◌/◌, ◌^◌, ◌<◌, ◌≤◌, arith, add-one, sym, ap, ◌∙◌, inl, inr}
 use Rattle.std.proofs.Math.Nat.{mul-le-mul_left, le_of_mul-le-mul_left, lt_of_mul-lt-mul_left, mul_comm, pow-suc, pow-le-pow_left, pow-lt-pow_left, one-le-pow, mul-lt-mul_of_pos_left, div-mul-le_self, lt-div-mul-add, mul-sub}
 use Rattle.std.proofs.lemmas.Nat.{pow_pos, pow-add, mul-pow, mul-le}
@@ -20,7 +20,7 @@ cancel l x p t s f some h k =
     let a : l * x * t ≤ p * t = mul-le (l * x) t p t h (omega arith) in
     let e : x * (l * t) ≤ x * (s * f) = omega (arith, a, k) in le_of_mul-le-mul_left e some
 
--- (n ^ 6 c) ^ (k + 1), taken apart
+-- (n ^ 6 c) ^ (k + 1), expanded
 sixth_terms : (n c k : ℕ) → (n ^ 6 * c) ^ (k + 1) ≡ (n ^ (k + 1)) ^ 6 * c ^ (k + 1)
 sixth_terms n c k = mul-pow (n ^ 6) c (k + 1) ∙ ap (λ x. x * c ^ (k + 1)) (sym (sixth-swap n (k + 1)))
 
@@ -76,9 +76,9 @@ cents_gt b x h =
     let d : x + 2 ^ (b - 1) < cents b x * 2 ^ b + 2 ^ b = lt-div-mul-add (pow_pos b) in
     let e = half b h in omega (arith, d, e)
 
--- ---- what bounds with the same cents settle
+-- ---- what bounds that round to the same cents show
 
--- y is u times a bound, x is what stands beside it
+-- y is u times a bound, x is the number compared with it
 scaled-le : (x u l s t f : ℕ) → 0 < s → x * s ≤ 2 * u * l → l ^ 6 * t ≤ s ^ 6 * f → x ^ 6 * t ≤ (2 * u) ^ 6 * f
 scaled-le x u l s t f some h k =
     let a : x ^ 6 * s ^ 6 ≤ (2 * u) ^ 6 * l ^ 6 = rw (mul-pow x s 6, mul-pow (2 * u) l 6) at (pow-le-pow_left h 6) in
@@ -97,7 +97,7 @@ scaled-lt x u l s t f some t_some h k =
     let e : s ^ 6 * ((2 * u) ^ 6 * f) < s ^ 6 * (x ^ 6 * t) = omega (arith, c, d) in
     lt_of_mul-lt-mul_left (s ^ 6) e
 
--- what lies below a value that has grown is at least what it grew from
+-- a whole number of cents below a value after growth is at least the value before
 some_cents : (u r m c : ℕ) → 1 ≤ u → (2 * u) ^ 6 * (20000 + r) ^ m < (2 * c + 1) ^ 6 * 20000 ^ m → 1 ≤ c
 some_cents u r m c some h =
     let g : 20000 ^ m ≤ (20000 + r) ^ m = pow-le-pow_left (omega arith) m in
@@ -157,7 +157,7 @@ Rounds-by_root u r n square big some =
     let p : 1 * 100 ≤ u * n = mul-le 1 100 u n some big in
     Rounds-exact u r n ((2 * u * n + 100) / 200) square (omega (arith, p)) (omega (arith, p)) (omega (arith, p))
 
--- ---- close to a half cent
+-- ---- values close to a half cent
 
 near-le : (x u l t v : ℕ) → x ≤ 2 * u * l → l ^ 6 * t ≤ v → x ^ 6 * t ≤ (2 * u) ^ 6 * v
 near-le x u l t v h k =

@@ -9,11 +9,11 @@ use Rattle.ee_value.specs.Rounding.{grown}
 use Rattle.ee_value.specs.Chain.{InRange, rate_in, start}
 use Rattle.ee_value.proofs.Rounding.{linear, grown-half_year}
 
--- the start of half-year k, from the one before
+-- the start of half-year k, from the start of the half-year before
 unfoldable pub step : ℕ → ℕ → ℕ → ℕ
 step r u k = if k == 40 then max (linear u r) 2500 else linear u r
 
--- the starts of half-years at these rates, by that division
+-- the starts of half-years at these rates, computed by that division
 unfoldable pub linear-start : (ℕ → ℕ) → ℕ → ℕ
 linear-start f zero = 1250
 linear-start f (suc k) = step (f k) (linear-start f k) (suc k)
@@ -84,7 +84,7 @@ pub rate-extended : (rates : Rates) (k : ℕ) → 40 ≤ k → rate_in rates k �
 unfolding rate_in
 rate-extended rates k h = rw (le-ltb k 40 h) refl
 
--- with one rate for the whole life the rate stays at 20 years
+-- if one rate holds for the whole life, the rate doesn't change at 20 years
 pub rate-kept : (rates : Rates) → rates.extension ≡ rates.fixed → rate_in rates 0 ≡ rate_in rates 40
 rate-kept rates same = rate-original rates 0 (omega arith) ∙ sym same ∙ sym (rate-extended rates 40 (omega arith))
 

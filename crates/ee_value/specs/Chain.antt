@@ -1,10 +1,10 @@
--- What one unit, 12.50 dollars of issue price, is worth at the start of each half-year from its issue
+-- The value of one unit, 12.50 dollars of issue price, at the start of each half-year since its issue
 -- (31 CFR Part 351; the unit, and that its rounded value compounds, are this project's rules). In cents.
 use Rattle.std.specs.Prelude.{ℕ, zero, suc, ◌≤◌, ◌==◌, nat_lt, max, Option, Some, None, if◌then◌else◌}
 use Rattle.ee_value.specs.declared.rates.Rates.{Rates}
 use Rattle.ee_value.specs.Rounding.{grown}
 
--- the rate in force in half-year k, from 0 on: the extension from 20 years on, which is half-year 40
+-- the rate in force in half-year k, from 0: the extension applies from 20 years on, which is half-year 40
 unfoldable pub rate_in : Rates → ℕ → ℕ
 rate_in rates k = if nat_lt k 40 then rates.fixed else rates.extension
 
@@ -12,20 +12,20 @@ rate_in rates k = if nat_lt k 40 then rates.fixed else rates.extension
 abbrev pub InRange : Rates → Type 0
 InRange rates = (rates.fixed ≤ 2000) × (rates.extension ≤ 2000)
 
--- the terms of a fixed rate and an extension; where none is named, the rate stays the same
+-- the terms of a fixed rate and an extension; without an extension the rate doesn't change
 abbrev pub rates_with : ℕ → Option ℕ → Rates
 rates_with r (Some e) = record { fixed = r; extension = e }
 rates_with r None = record { fixed = r; extension = r }
 
--- the extension, where it is another rate than the fixed one
+-- the extension, if it differs from the fixed rate
 unfoldable pub named_extension : Rates → Option ℕ
 named_extension rates = if rates.extension == rates.fixed then None else Some rates.extension
 
--- the terms of one rate for the whole life
+-- the terms with one rate for the whole life
 abbrev pub one_rate : ℕ → Rates
 one_rate r = record { fixed = r; extension = r }
 
--- the unit at the start of half-year k: at 20 years, which is half-year 40, at least twice its price
+-- the unit's value at the start of half-year k; at 20 years, half-year 40, it is at least twice the price
 unfoldable pub start : Rates → ℕ → ℕ
 start rates zero = 1250
 start rates (suc k) =

@@ -5,7 +5,7 @@ use Rattle.ee_value.specs.declared.faults.ValueFault.{ValueFault}
 use Rattle.ee_value.specs.declared.faults.ValueFault.TheVariants.{Unsettled, NoMemory}
 use Rattle.ee_value.specs.Open.{IsFirstOpen}
 
--- unsettled rates are told by their least open age
+-- unsettled rates are reported by their least open age
 abbrev pub IsFaultOf : Rates → ℕ → ValueFault → Type 0
 IsFaultOf rates b (Unsettled month) = IsFirstOpen rates b month
 IsFaultOf rates b NoMemory = Unit {0}

@@ -13,10 +13,10 @@ IsQuoteOf rates n a (Pays cents penalty matured) =
     (12 ≤ a) × (cents.0 ≡ n * redemption rates a) × (n * 1250 ≤ cents.0) × (cents.0 ≤ n * 761234)
     × (IsTrue penalty ↔ (a < 60)) × (IsTrue matured ↔ (360 ≤ a))
 
--- the age whose accrued value a bond pays at age a, from 12 on
+-- the age whose accrued value a bond pays at age a; a is at least 12
 abbrev pub counted_age : ℕ → ℕ
 counted_age a = if nat_lt a 60 then a - 3 else a
 
--- whether what a bond pays at age a is open with b binary places
+-- the payment at age a is open with b binary places
 unfoldable pub is_payment_open : Rates → ℕ → ℕ → Bool
 is_payment_open rates a b = not (nat_lt a 12) && is_open rates (counted_age a) b

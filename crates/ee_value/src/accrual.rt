@@ -15,9 +15,9 @@ use ee_units::{Age, Bits};
 /// The age at which interest stops, in months.
 pub const FINAL_MATURITY: u16 = 360;
 
-/// The accrued value of one unit at an age, in cents and without penalty, or `Unsettled` where the
-/// precision doesn't settle it: then the true value is close to a half cent. Above an age of 360
-/// months it is the value at 360. It takes no memory.
+/// The accrued value of one unit at an age, in cents, without penalty. Above an age of 360 months it is the
+/// value at 360. `Unsettled` if the precision doesn't settle it: the true value is then close to a half cent.
+/// Takes no memory.
 pub fn unit_at(rates: Rates, age: Age, bits: Bits) -> Result<u64, Unsettled>
     ensures value { MatchResult result
         (λ cents. (is_open rates age bits ≡ false) × (cents ≡ accrued rates age))

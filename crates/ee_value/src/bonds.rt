@@ -20,11 +20,11 @@ const FIRST_REDEMPTION: u16 = 12;
 /// The age from which no penalty is taken, in months.
 const FREE_REDEMPTION: u16 = 60;
 
-/// The months of interest that the penalty takes.
+/// The months of interest that the penalty takes off.
 const PENALTY: u16 = 3;
 
-/// What a bond pays at an age: nothing before a year, the value of three months earlier before five
-/// years, and its accrued value from then on.
+/// What a bond pays at an age: nothing before one year, the accrued value of three months earlier before
+/// five years, and its accrued value from then on.
 pub fn bond_value(table: &UnitTable, denom: Denom, age: Age) -> Quote
     ensures { IsQuoteOf table.now (units_of denom) age result }
 {
@@ -35,8 +35,8 @@ pub fn bond_value(table: &UnitTable, denom: Denom, age: Age) -> Quote
     paid(denom, age, unit)
 }
 
-/// What a bond pays at an age, as `bond_value` tells it, by the value of one unit alone; or `Unsettled`
-/// where the precision doesn't settle that value. It takes no memory.
+/// What a bond pays at an age, as `bond_value` returns it, from the value of one unit alone. `Unsettled` if
+/// the precision doesn't settle that value. Takes no memory.
 #[tactic(auto, unfolding(crate::specs::Payment::is_payment_open))]
 pub fn bond_value_at(rates: Rates, denom: Denom, age: Age, bits: Bits) -> Result<Quote, Unsettled>
     ensures { MatchResult result
@@ -52,7 +52,7 @@ pub fn bond_value_at(rates: Rates, denom: Denom, age: Age, bits: Bits) -> Result
     }
 }
 
-/// What one unit pays at an age from which it can be redeemed.
+/// What one unit pays at an age at which it can be redeemed.
 #[tactic(auto, unfolding(crate::specs::Value::redemption, crate::specs::Payment::is_payment_open))]
 fn redeemed_unit(rates: Rates, age: Age, bits: Bits) -> Result<u64, Unsettled>
     requires { 12 ≤ age }
@@ -65,7 +65,7 @@ fn redeemed_unit(rates: Rates, age: Age, bits: Bits) -> Result<u64, Unsettled>
     unit_at(rates, counted_age(age), bits)
 }
 
-/// The age whose accrued value a bond pays, at an age from which it can be redeemed.
+/// The age whose accrued value a bond pays, at an age at which it can be redeemed.
 fn counted_age(age: Age) -> Age
     requires { 12 ≤ age }
     ensures { result ≡ counted_age age }
@@ -78,7 +78,7 @@ fn counted_age(age: Age) -> Age
     })
 }
 
-/// The quote of a bond, of which one unit pays so much.
+/// The quote of a bond if one unit pays `unit` cents.
 fn paid(denom: Denom, age: Age, unit: u64) -> Quote
     requires grown { 12 ≤ age }
     requires at_least_price { 1250 ≤ unit }

@@ -1,4 +1,4 @@
-//! Why there is no value.
+//! Reasons for a missing value.
 
 use ee_units::Age;
 use std::alloc::{AllocError, AllocFailed};
@@ -8,14 +8,14 @@ use thiserror::Error;
 #[derive(Clone, Copy, Debug, PartialEq, Eq, Error)]
 #[error("unsettled at age {}", month.months())]
 pub struct Unsettled {
-    /// The age that was asked for.
+    /// The age that was asked for, in months.
     pub month: Age,
 }
 
-/// Why there is no table of unit values.
+/// Why a table of unit values can't be made.
 #[derive(Clone, Copy, Debug, PartialEq, Eq, Error)]
 pub enum ValueFault {
-    /// The precision doesn't settle the value at this age, nor is there an earlier such age.
+    /// The precision doesn't settle the value at this age; it is the least such age.
     #[error("unsettled at age {}", month.months())]
     Unsettled { month: Age },
     /// Memory was refused.

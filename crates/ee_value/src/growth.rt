@@ -1,4 +1,4 @@
-//! Months inside a half-year.
+//! Growth within a half-year.
 
 ghost use Rattle.std.specs.Prelude.{◌≡◌, ◌≢◌, ℕ, ◌+◌, ◌-◌, ◌*◌, ◌≤◌, true, false, MatchOption};
 ghost use Rattle.ee_roots.specs.Products.{power_down, power_up};
@@ -10,10 +10,10 @@ use crate::powers::Powers;
 use ee_roots::{Root, power_bounds, root_bounds, settle};
 use ee_units::{Bits, Rate};
 
-/// The months of a quarter year, the only ones whose growth can be a fraction.
+/// The months of a quarter of a year, the only part of a half-year whose growth can be a fraction.
 const QUARTER: u8 = 3;
 
-/// A hundred times the growth of three months, where it is a whole number.
+/// A hundred times the growth of three months, if that is a whole number.
 fn exact_root(rate: Rate) -> Option<u64>
     ensures { MatchOption result
         (rate ≢ 0 → is_exact rate ≡ false)
@@ -33,8 +33,8 @@ fn exact_root(rate: Rate) -> Option<u64>
     }
 }
 
-/// What the unit grows to in some months of a half-year, where no bounds are needed to tell it: in none,
-/// without interest, and in a quarter year whose growth is a fraction.
+/// The unit after `months` months of a half-year, if it is known without bounds: after none, at a rate of
+/// zero, and after three months if their growth is a fraction.
 fn exact_unit(unit: u64, rate: Rate, months: u8) -> Option<u64>
     requires some { 1 ≤ unit }
     requires small { unit ≤ 380617 }
@@ -56,7 +56,7 @@ fn exact_unit(unit: u64, rate: Rate, months: u8) -> Option<u64>
     None
 }
 
-/// What the unit grows to in some months of a half-year, where it can be told.
+/// The unit after `months` months of a half-year; `None` if the bounds don't settle it.
 pub fn grown_unit(unit: u64, rate: Rate, months: u8, powers: &Powers) -> Option<u64>
     requires some { 1 ≤ unit }
     requires small { unit ≤ 380617 }
@@ -73,8 +73,8 @@ pub fn grown_unit(unit: u64, rate: Rate, months: u8, powers: &Powers) -> Option<
     bounded_unit(unit, rate, months, powers.root(), powers.at(months))
 }
 
-/// What the unit grows to in some months of a half-year, where it can be told at this precision. It looks
-/// for the bounds of a root only where they are needed.
+/// The unit after `months` months of a half-year; `None` if this precision doesn't settle it. Computes the
+/// bounds of a root only if they are needed.
 pub fn grown_once(unit: u64, rate: Rate, months: u8, bits: Bits) -> Option<u64>
     requires some { 1 ≤ unit }
     requires small { unit ≤ 380617 }
@@ -91,7 +91,7 @@ pub fn grown_once(unit: u64, rate: Rate, months: u8, bits: Bits) -> Option<u64>
     bounded_unit(unit, rate, months, &root, bounds)
 }
 
-/// What the unit grows to, where the bounds of the growth of these months settle it.
+/// The unit after these months, if the bounds of their growth settle it.
 fn bounded_unit(unit: u64, rate: Rate, months: u8, root: &Root, bounds: (u128, u128)) -> Option<u64>
     requires some { 1 ≤ unit }
     requires small { unit ≤ 380617 }

@@ -1,4 +1,4 @@
-//! Whole half-years: the unit at the start of each.
+//! Whole half-years: the unit's value at the start of each.
 
 ghost use Rattle.std.specs.Prelude.{◌≡◌, ◌+◌, ◌^◌, ◌<◌, ◌≤◌};
 ghost use Rattle.ee_value.specs.Rounding.{grown};
@@ -10,7 +10,7 @@ use ee_units::Rate;
 /// The issue price of one unit, in cents.
 pub const PRICE: u64 = 1250;
 
-/// The value of one unit, a half-year later, to the nearest cent.
+/// The value of one unit a half-year later, to the nearest cent.
 fn next_unit(unit: u64, rate: Rate) -> u64
     requires some { 1 ≤ unit }
     requires small { unit < 2 ^ 32 }
@@ -20,7 +20,7 @@ fn next_unit(unit: u64, rate: Rate) -> u64
     (doubled + 20_000) / 40_000
 }
 
-/// The unit at the start of the next half-year: at 20 years at least twice its price.
+/// The unit's value at the start of the next half-year; at 20 years it is at least twice the price.
 pub fn next_start(unit: u64, half_year: u16, rates: &Rates) -> u64
     requires early { half_year < 60 }
     requires begun { unit ≡ start rates.now half_year }
@@ -34,7 +34,7 @@ pub fn next_start(unit: u64, half_year: u16, rates: &Rates) -> u64
     }
 }
 
-/// The unit at the start of a half-year.
+/// The unit's value at the start of a half-year.
 pub fn start_unit(rates: &Rates, half_year: u16) -> u64
     requires { half_year ≤ 60 }
     ensures { result ≡ start rates.now half_year }

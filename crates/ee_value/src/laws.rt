@@ -1,4 +1,4 @@
-//! Laws of the definitions: a body does nothing, and the clauses are the laws.
+//! Laws of the definitions. A body here does nothing; the clauses state the laws.
 
 ghost use Rattle.std.specs.Prelude.{◌≡◌, ◌≢◌, ◌↔◌, ℕ, ◌+◌, ◌-◌, ◌*◌, ◌/◌, ◌%◌, ◌^◌, ◌<◌, ◌≤◌, max, true, false, map, [], ◌∷◌, Some, None};
 ghost use Rattle.std.specs.List.{range_with_len};
@@ -9,7 +9,8 @@ ghost use Rattle.ee_value.specs.Chain.{InRange, one_rate, rates_with, named_exte
 ghost use Rattle.ee_value.specs.Value.{accrued, redemption};
 ghost use Rattle.ee_value.specs.Open.{low_root, high_root, is_exact, is_open, first_open, NeverOpen, IsFirstOpen};
 
-/// Rounding: just one cent fits, `grown` is that cent, and an exact half cent rounds up.
+/// Rounding: exactly one number of cents satisfies `Rounds`, `grown` returns it, and an exact half cent
+/// rounds up.
 pub const fn rounding_law()
     ensures fits { (u r m : ℕ) → 1 ≤ u → m ≤ 6 → r ≤ 2000 → Rounds u r m (grown u r m) }
     ensures unique { (u r m c d : ℕ) → Rounds u r m c → Rounds u r m d → c ≡ d }
@@ -19,8 +20,8 @@ pub const fn rounding_law()
     ensures quarter_of_4_02_percent { Rounds 1250 402 3 1263 }
 {}
 
-/// Terms by a rate and, where it is another, an extension: what is named of terms gives them again, and
-/// an extension that is the rate isn't named.
+/// Terms are a fixed rate and, if it differs, an extension. The named extension gives the terms again, and
+/// an extension equal to the fixed rate isn't named.
 pub const fn rates_law()
     ensures back { (rates : Rates) → rates_with rates.fixed (named_extension rates) ≡ rates }
     ensures named { (r e : ℕ) → e ≢ r → named_extension (rates_with r (Some e)) ≡ Some e }
@@ -28,7 +29,7 @@ pub const fn rates_law()
     ensures unnamed { (r : ℕ) → named_extension (rates_with r None) ≡ None }
 {}
 
-/// The chain of half-years: it begins at the unit's price, each start is the one before, grown for six
+/// The chain of half-years: it begins at the unit's price. Each start is the one before, grown for six
 /// months and rounded, and the start at 20 years is at least twice the price.
 pub const fn chain_law()
     ensures original { (rates : Rates) (k : ℕ) → k < 40 → rate_in rates k ≡ rates.fixed }
@@ -42,9 +43,9 @@ pub const fn chain_law()
         → (1250 ≤ start rates k) × (start rates k ≤ 380617) }
 {}
 
-/// Accrued values: at an age the start of its half-year, grown for the months since and rounded; it
-/// stops after 30 years, is never below the price, and never falls. Redemption takes three months off
-/// below five years.
+/// Accrued values: the value at an age is the start of its half-year, grown for the months since and
+/// rounded. It stops after 30 years, is never below the price, and never falls. Redemption before five
+/// years takes off three months.
 pub const fn value_law()
     ensures accrued { (rates : Rates) (a : ℕ) → InRange rates → a ≤ 360
         → Rounds (start rates (a / 6)) (rate_in rates (a / 6)) (a % 6) (accrued rates a) }
@@ -57,8 +58,8 @@ pub const fn value_law()
     ensures no_penalty { (rates : Rates) (a : ℕ) → 60 ≤ a → redemption rates a ≡ accrued rates a }
 {}
 
-/// Chains of four rates and of two pairs, in part: the half cents of 3.60 % and 20.00 % round up, and at
-/// 20 years 3.40 % is raised to 2500 while 3.60 % has more, whatever the extension.
+/// Parts of the chains of four rates and two pairs: the half cents of 3.60 % and 20.00 % round up. At 20
+/// years 3.40 % is raised to 2500, while 3.60 % has more, whatever the extension.
 pub const fn examples_law()
     ensures begins_3_50 { map (start (one_rate 350)) (range_with_len 0 11)
         ≡ 1250 ∷ 1272 ∷ 1294 ∷ 1317 ∷ 1340 ∷ 1363 ∷ 1387 ∷ 1411 ∷ 1436 ∷ 1461 ∷ 1487 ∷ [] }
@@ -76,7 +77,7 @@ pub const fn examples_law()
         ≡ 2507 ∷ 2552 ∷ 2552 ∷ 2552 ∷ [] }
 {}
 
-/// Rates whose growth of three months is a fraction: up to 20 % these are 0.00, 4.02, 8.08, 12.18 and
+/// Rates whose growth over three months is a fraction: up to 20 % these are 0.00, 4.02, 8.08, 12.18 and
 /// 16.32 %.
 pub const fn exact_law()
     ensures exact { (is_exact 0 ≡ true) × (is_exact 402 ≡ true) × (is_exact 808 ≡ true) × (is_exact 1218 ≡ true)
@@ -84,7 +85,7 @@ pub const fn exact_law()
     ensures inexact { (r : ℕ) → r ≤ 2000 → r ≢ 0 → r ≢ 402 → r ≢ 808 → r ≢ 1218 → r ≢ 1632 → is_exact r ≡ false }
 {}
 
-/// Open ages: what the bounds are, which ages are never open, and what `first_open` finds.
+/// Open ages: what the bounds are, which ages are never open, and what `first_open` returns.
 pub const fn open_law()
     ensures low { (b r p : ℕ) → 8 ≤ b → r ≤ 2000 → IsLow b r p → low_root b r ≡ p }
     ensures high { (b r p : ℕ) → 8 ≤ b → r ≤ 2000 → IsHigh b r p → high_root b r ≡ p }

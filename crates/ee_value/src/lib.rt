@@ -1,6 +1,6 @@
-//! The value of Series EE savings bonds that earn a fixed rate and, after original maturity, perhaps
-//! another (31 CFR Part 351): what one unit, 12.50 dollars of issue price, has accrued to at an age, and
-//! what a bond pays.
+//! The value of Series EE savings bonds that earn a fixed rate and, after original maturity, possibly
+//! another one (31 CFR Part 351): the accrued value at an age of one unit, 12.50 dollars of issue price,
+//! and what a bond pays.
 #![tactic(auto)]
 
 mod accrual;

@@ -1,4 +1,4 @@
-//! The bounds of the growth of some months, worked once for a root.
+//! The bounds of the growth over 1 to 5 months, computed once for a root.
 
 ghost use Rattle.std.specs.Prelude.{◌≡◌, ◌+◌, ◌-◌, ◌*◌, ◌^◌, ◌≤◌};
 ghost use Rattle.ee_roots.specs.Products.{power_down, power_up};
@@ -7,7 +7,7 @@ use ee_roots::{Root, power_bounds};
 use ee_units::Bits;
 use std::marker::Model;
 
-/// A root's bounds, and those of the growth of 1 to 5 months. Only `Powers::of` makes them.
+/// A root's bounds, and those of the growth over 1 to 5 months. Only `Powers::of` makes them.
 #[derive(Drop)]
 pub struct Powers {
     root: Root,
@@ -64,7 +64,7 @@ impl Powers {
         &self.root
     }
 
-    /// The bounds of the growth of 1 to 5 months.
+    /// The bounds of the growth over 1 to 5 months.
     pub fn at(&self, months: u8) -> (u128, u128)
         requires some { 1 ≤ months }
         requires few { months ≤ 5 }

@@ -5,9 +5,9 @@ use ee_units::Cents;
 /// What a bond pays to its payee.
 #[derive(Clone, Copy, Debug, PartialEq, Eq)]
 pub enum Quote {
-    /// It can't be redeemed yet: its age is below 12 months.
+    /// The bond can't be redeemed yet: its age is below 12 months.
     NotEligible,
-    /// It pays these cents. `penalty` means that three months of interest were taken off, `matured`
+    /// The bond pays these cents. `penalty` means that three months of interest were taken off, `matured`
     /// that interest has stopped.
     Pays {
         cents: Cents,

@@ -1,17 +1,17 @@
-//! The rates that bonds earn by.
+//! The rates at which bonds earn interest.
 
 use ee_units::{IssueMonth, Rate};
 
-/// The half-years to original maturity, after 20 years.
+/// The half-years up to original maturity, at 20 years.
 pub const ORIGINAL_MATURITY: u16 = 40;
 
-/// The terms that a bond earns by: a yearly rate for its first 20 years, and one for the 10 years of
-/// extended maturity.
+/// The terms of a bond: an annual rate for its first 20 years, and one for the 10 years of extended
+/// maturity.
 #[derive(Clone, Copy, Debug, PartialEq, Eq, PartialOrd, Ord)]
 pub struct Rates {
-    /// The yearly rate to original maturity.
+    /// The annual rate to original maturity.
     pub fixed: Rate,
-    /// The yearly rate from original to final maturity.
+    /// The annual rate from original to final maturity.
     pub extension: Rate,
 }
 
@@ -19,7 +19,7 @@ impl Rates {
     ghost use Rattle.std.specs.Prelude.{◌≡◌};
     ghost use Rattle.ee_value.specs.Chain.{InRange, rate_in, rates_with, named_extension};
 
-    /// The terms of a fixed rate and an extension; where none is named, the rate stays the same.
+    /// The terms of a fixed rate and an extension. Without an extension the rate doesn't change.
     pub const fn new(fixed: Rate, extension: Option<Rate>) -> Rates
         ensures { result ≡ rates_with fixed extension }
     {
@@ -32,7 +32,7 @@ impl Rates {
         }
     }
 
-    /// The extension, where it is another rate than the fixed one.
+    /// The extension, if it differs from the fixed rate.
     #[tactic(auto, unfolding(crate::specs::Chain::named_extension))]
     pub fn named_extension(&self) -> Option<Rate>
         ensures { result ≡ named_extension self.now }
@@ -44,7 +44,7 @@ impl Rates {
         }
     }
 
-    /// The rate in force in a half-year from issue: the fixed rate to original maturity, then the
+    /// The rate in force in a half-year since issue: the fixed rate to original maturity, then the
     /// extension.
     #[tactic(auto, unfolding(crate::specs::Chain::rate_in))]
     pub fn rate_in(&self, half_year: u16) -> Rate
@@ -61,7 +61,7 @@ impl Rates {
     }
 }
 
-/// The rates of the bonds that are issued in the six months from a May or November on.
+/// The rate of the bonds issued in the six months from a May or November on.
 #[derive(Clone, Copy, Debug, PartialEq, Eq)]
 pub struct RateRow {
     /// The May or November.

@@ -1,4 +1,4 @@
-//! Tables of unit values, age by age.
+//! Tables of unit values by age.
 
 ghost use Rattle.std.specs.Prelude.{◌≡◌, ℕ, ◌+◌, ◌*◌, ◌<◌, ◌≤◌, map, false, MatchResult, None};
 ghost use Rattle.std.specs.List.{range_with_len};
@@ -19,10 +19,10 @@ use ee_units::{Age, Bits};
 use std::alloc::Global;
 use std::marker::Model;
 
-/// The half-years to final maturity, after 30 years.
+/// The half-years up to final maturity, at 30 years.
 const FINAL_HALF_YEAR: u16 = 60;
 
-/// The accrued unit values of some rates, for ages 0 to 360. Only `unit_table` makes one.
+/// The accrued unit values at some rates, for ages 0 to 360. Only `unit_table` makes one.
 #[derive(Drop)]
 pub struct UnitTable {
     rates: Rates,
@@ -44,7 +44,7 @@ impl Model for UnitTable {
 }
 
 impl UnitTable {
-    /// The accrued value of one unit at an age, in cents; above an age of 360 months that of 360.
+    /// The accrued value of one unit at an age, in cents. Above an age of 360 months it is the value at 360.
     pub fn at(&self, age: Age) -> u64
         ensures value { result ≡ accrued self.now age }
         ensures at_least_price { 1250 ≤ result }
@@ -54,8 +54,7 @@ impl UnitTable {
     }
 }
 
-/// The bounds of the growth after 20 years, from those before: they are found anew only where another rate
-/// comes into force.
+/// The bounds of the growth after 20 years. They are computed again only if the rate changes.
 fn powers_after(before: Powers, rates: &Rates) -> Powers
     requires of_low { IsLow before.bits (rate_in rates.now 0) before.low }
     requires of_high { IsHigh before.bits (rate_in rates.now 0) before.high }
@@ -70,7 +69,7 @@ fn powers_after(before: Powers, rates: &Rates) -> Powers
     }
 }
 
-/// Appends the values of the six months of a half-year.
+/// Appends the values at the six months of a half-year.
 fn push_half_year(
     units: &mut Vec<u64>,
     unit: u64,
@@ -102,8 +101,8 @@ fn push_half_year(
     Ok(())
 }
 
-/// Appends the values of the months of some half-years, in which one rate is in force, and tells the unit at
-/// their end.
+/// Appends the values at the months of some half-years with one rate in force, and returns the unit's
+/// value at their end.
 fn push_half_years(
     units: &mut Vec<u64>,
     begun: u64,
@@ -133,8 +132,8 @@ fn push_half_years(
     Ok(unit)
 }
 
-/// The unit values of these rates at each age, or the least age at which the precision doesn't
-/// settle one. It takes memory once, for 361 values.
+/// The unit values at these rates, for each age from 0 to 360. If the precision doesn't settle all of
+/// them, the fault names the least age at which it doesn't. Allocates once, for 361 values.
 #[tactic(auto, using(crate::proofs::FirstOpen::fault_at))]
 pub fn unit_table(alloc: Global, rates: Rates, bits: Bits) -> Result<UnitTable, ValueFault>
     ensures value { MatchResult result

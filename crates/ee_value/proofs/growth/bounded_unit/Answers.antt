@@ -8,7 +8,7 @@ use Rattle.ee_value.specs.Open.{bounds_differ}
 use Rattle.ee_value.proofs.OpenAges.{settle_cases, settled, unsettled, unit-fits}
 use Rattle.ee_value.proofs.growth.bounded_unit.Goals as goal
 
--- the clause comes first, so that it refuses a body that settles by one bound
+-- the clause comes first, so that it refuses a body that decides by one bound
 pub returns : goal.returns
 returns c =
     let u = c.args.unit in let r = c.args.rate in let m = c.args.months in let b = c.args.root.now.bits in
