@@ -1,5 +1,5 @@
-//! Compares the redemption values of the US Treasury's tables with those of this product, row by row:
-//! prints the first few that differ, and how many are equal.
+//! Compares the redemption values of the US Treasury's tables with those of this product, row by row.
+//! Prints the first rows that differ, and how many are equal.
 #![tactic(auto)]
 
 mod published;
@@ -11,10 +11,10 @@ use published::Published;
 use rate_tables::RateTables;
 use std::fs::File;
 
-/// At most so many rows that differ are printed.
+/// The number of differing rows that are printed at most.
 const SHOWN: u64 = 10;
 
-/// How many rows were compared, and how many of them differ.
+/// How many rows were compared, and how many differ.
 #[derive(Clone, Copy)]
 struct Tally {
     compared: u64,
@@ -32,12 +32,12 @@ fn main(rt: HostRuntime) -> Result<()> {
     Ok(())
 }
 
-/// The file of rows under a header at a path, where it opens.
+/// Opens the file of rows at a path; `None` if it can't be opened.
 fn opened(rt: &HostRuntime, path: &str) -> Option<Reader<File>> {
     Reader::from_path(rt, rt.alloc(), path).ok()
 }
 
-/// Compares each row with ours.
+/// Compares each row with this product's value.
 fn compare(rt: &HostRuntime, tables: &RateTables, mut rows: Reader<File>) -> Result<Tally> {
     let mut tally = Tally {
         compared: 0,
@@ -50,7 +50,7 @@ fn compare(rt: &HostRuntime, tables: &RateTables, mut rows: Reader<File>) -> Res
     Ok(tally)
 }
 
-/// Counts a row, and prints it where it is one of the first that differ.
+/// Counts a row, and prints it if it is among the first that differ.
 fn counted(rt: &HostRuntime, tally: Tally, row: Published, agrees: bool) -> Result<Tally> {
     let differing = tally.differing.saturating_add(u64::from(!agrees));
     if !agrees && differing <= SHOWN {

@@ -1,11 +1,11 @@
-//! The values that the Treasury published.
+//! The values that Treasury published.
 
 use anyhow::{Context, Result};
 use csv::StringRecord;
 use ee_units::{Cents, IssueMonth, Month};
 use std::fmt;
 
-/// A row of the Treasury's tables: what 25 dollars of denomination, issued in a month, paid in another.
+/// A row of Treasury's tables: what 25 dollars of denomination, issued in one month, paid in another.
 #[derive(Clone, Copy, Debug, PartialEq, Eq)]
 pub struct Published {
     pub issued: IssueMonth,
@@ -14,7 +14,7 @@ pub struct Published {
 }
 
 impl Published {
-    /// The row of a record of the columns `issued,redeemed,unit_cents`, where it was read.
+    /// Reads the row of a record with the columns `issued,redeemed,unit_cents`.
     pub fn from_record(record: Option<StringRecord>) -> Result<Published> {
         Published::of_fields(&record.context("the published values can't be read")?)
     }

@@ -1,4 +1,4 @@
-//! Our unit values, by rate period.
+//! This product's unit values, by rate period.
 
 ghost use Rattle.std.specs.Prelude.{◌≡◌, ◌↔◌, IsTrue};
 ghost use Rattle.std.specs.Option.{option_copied};
@@ -16,14 +16,14 @@ use std::alloc::Global;
 use std::collections::BTreeMap;
 use std::fs::File;
 
-/// The unit values of each rate period, by the period's first month.
+/// The unit values of each rate period, by the first month of the period.
 #[derive(Drop)]
 pub struct RateTables {
     periods: BTreeMap<IssueMonth, UnitTable>,
 }
 
 impl RateTables {
-    /// The tables of rows of the columns `from,rate`.
+    /// Makes the tables from rows with the columns `from,rate`.
     pub fn of_rows(alloc: Global, mut rows: Reader<File>) -> Result<RateTables> {
         let mut tables = RateTables {
             periods: BTreeMap::new(alloc),
@@ -34,7 +34,7 @@ impl RateTables {
         Ok(tables)
     }
 
-    /// Adds the table of a record, where it was read.
+    /// Adds the table of a record.
     fn add(&mut self, alloc: Global, record: Option<StringRecord>) -> Result<()> {
         let (from, rate) = period(&record.context("the rates can't be read")?)?;
         let table = unit_table(alloc, Rates::new(rate, None), Bits::from_places(62))?;
@@ -42,7 +42,7 @@ impl RateTables {
         Ok(())
     }
 
-    /// Whether a bond of that issue month pays the published value in that month.
+    /// Whether a bond of this issue month pays the published value in this month.
     pub fn agree_with(&self, row: &Published) -> bool
         ensures { IsTrue result ↔ PaysOf (get nat_cmp self.now.periods (period_start row.now.issued))
             (age_of row.now.issued row.now.redeemed) row.now.unit.0 }
@@ -69,7 +69,7 @@ fn period(record: &StringRecord) -> Result<(IssueMonth, Rate)> {
     Ok((from.parse()?, rate.parse()?))
 }
 
-/// Whether a bond pays so much a unit at an age: 50 dollars of denomination are two units.
+/// Whether a unit pays `unit` at an age: 50 dollars of denomination are two units.
 fn pays(table: &UnitTable, age: Age, unit: Cents) -> bool
     ensures { IsTrue result ↔ Pays table.now age unit.0 }
 {
