@@ -5,7 +5,7 @@ use Rattle.ee_calculator.specs.declared.columns.Column.{Column}
 use Rattle.ee_calculator.specs.declared.writing.Line.{Line}
 use Rattle.ee_calculator.specs.declared.writing.Line.TheVariants as line
 
--- a line's text in a column
+-- the text of a line in a column
 abbrev pub cell_of : Line → Column → List ℕ
 cell_of line.Heading c = heading c
 cell_of (line.Row row) c = row_cell row.now c

@@ -3,7 +3,7 @@ use Rattle.std.specs.Prelude.{ℕ, List, [], Option, Some, None, codes, nat_lt, 
 use Rattle.ee_calculator.specs.declared.notes.Note.{Note}
 use Rattle.ee_calculator.specs.declared.notes.Note.TheVariants as note
 
--- no payment below 12 months, a penalty below 60, no interest from 360 on (31 CFR Part 351)
+-- no payment before 12 months, a penalty before 60, no interest from 360 on (31 CFR Part 351)
 abbrev pub note_at : Option ℕ → Note
 note_at None = note.Ni
 note_at (Some age) =

@@ -10,7 +10,7 @@ use Rattle.ee_calculator.specs.declared.notes.Note.{Note}
 use Rattle.ee_calculator.specs.declared.notes.Note.TheVariants as note
 use Rattle.ee_calculator.specs.declared.rows.Row.{Row}
 
--- the columns that the note decides: months as counts, money in cents
+-- the columns that depend on the note: months as counts, money in cents
 pub record Columns : Type 0 where
   pub next_accrual : Option ℕ
   pub final_maturity : Option ℕ
@@ -20,11 +20,11 @@ pub record Columns : Type 0 where
   pub value : ℕ
   pub note : Note
 
--- the value of a bond in a month, from age 12 on: its units times the redemption value of one at its age
+-- the value of a bond in a month, from age 12 on: its units times the redemption value of one unit at that age
 unfoldable pub value_in : ℕ → ℕ → Rates → ℕ → ℕ
 value_in units issued rates month = units * redemption rates (month - issued)
 
--- columns, in the order of the table below
+-- the columns, in the order of the table below
 abbrev pub columns_with : Note → ℕ → ℕ → ℕ → Option ℕ → Option ℕ → Option ℕ → Columns
 columns_with note price interest value rate next last = record {
   next_accrual = next;
@@ -36,8 +36,8 @@ columns_with note price interest value rate next last = record {
   note = note;
 }
 
--- what the columns show under each note, of a price, a value, a rate, the month after, and the last month of interest:
--- the note, price, interest, value, rate, next accrual and final maturity
+-- what the columns show under each note, given a price, a value, a rate, the next month and the last month of interest:
+-- note, price, interest, value, rate, next accrual and final maturity
 abbrev pub shown : Note → ℕ → ℕ → ℕ → ℕ → ℕ → Columns
 shown note.Ni price value rate next last = columns_with note.Ni 0 0 0 None None None
 shown note.Ne price value rate next last = columns_with note.Ne price 0 price (Some rate) (Some next) (Some last)
@@ -45,8 +45,8 @@ shown note.P5 price value rate next last = columns_with note.P5 price (value - p
 shown note.Plain price value rate next last = columns_with note.Plain price (value - price) value (Some rate) (Some next) (Some last)
 shown note.Ma price value rate next last = columns_with note.Ma price (value - price) value None None (Some last)
 
--- the columns in a month of a bond of so many units, with a price of 12.50 dollars a unit, the rate in force in that
--- month and 30 years of interest
+-- the columns, in a month, of a bond with this number of units: a price of 12.50 dollars a unit, the rate in force in that
+-- month, and 30 years of interest
 unfoldable pub columns_of : ℕ → ℕ → Rates → ℕ → Columns
 columns_of units issued rates month =
     shown (note_at (age_of issued month)) (1250 * units) (value_in units issued rates month)

@@ -1,4 +1,4 @@
--- The text of a sheet (this project's rule). Widths are least widths.
+-- The text of a sheet (this project's rule). Widths are minimum widths.
 use Rattle.std.specs.Prelude.{ℕ, ◌-◌, ◌++◌, List, [], ◌∷◌, Option, Some, None, length, replicate, codes}
 use Rattle.std.specs.List.{flat_map}
 use Rattle.std.specs.Fmt.{decimal}
@@ -10,7 +10,7 @@ use Rattle.ee_calculator.specs.declared.columns.Column.{Column}
 use Rattle.ee_calculator.specs.declared.columns.Column.TheVariants as column
 use Rattle.ee_calculator.specs.declared.sheets.Sheet.{Sheet}
 
--- from left to right
+-- the columns from left to right
 abbrev pub columns : List Column
 columns = column.Serial ∷ column.Series ∷ column.Denom ∷ column.Issued ∷ column.Next ∷ column.Final ∷ column.Price ∷ column.Interest ∷ column.Rate ∷ column.Value ∷ column.Note ∷ []
 
@@ -27,14 +27,14 @@ heading column.Rate = codes "Rate"
 heading column.Value = codes "Value"
 heading column.Note = codes "Note"
 
--- at least so wide, by spaces after or before
+-- padded to a minimum width, by spaces after the text or before it
 abbrev pub on_left : ℕ → List ℕ → List ℕ
 on_left width text = text ++ replicate (width - length text) 32
 
 abbrev pub on_right : ℕ → List ℕ → List ℕ
 on_right width text = replicate (width - length text) 32 ++ text
 
--- a text in its column: a space parts it from the column before, and an empty note takes no room
+-- the text in its column: one space separates it from the column before, and an empty note takes no room
 abbrev pub placed : Column → List ℕ → List ℕ
 placed column.Serial text = on_left 13 text
 placed column.Series text = 32 ∷ on_left 6 text
@@ -49,7 +49,7 @@ placed column.Value text = 32 ∷ on_right 14 text
 placed column.Note [] = []
 placed column.Note (b ∷ bs) = 32 ∷ b ∷ bs
 
--- a line, by the text of each column; it ends with a line feed
+-- a line, from the text of each column, with a line feed at its end
 unfoldable pub line : (Column → List ℕ) → List ℕ
 line cell = flat_map (λ c. placed c (cell c)) columns ++ 10 ∷ []
 
@@ -57,7 +57,7 @@ abbrev pub when_some : {A : Type 0} → (A → List ℕ) → Option A → List �
 when_some text None = []
 when_some text (Some x) = text x
 
--- a row's text in a column
+-- the text of a row in a column
 abbrev pub row_cell : Row → Column → List ℕ
 row_cell row column.Serial = when_some serial_text row.serial
 row_cell row column.Series = codes "EE"
@@ -71,7 +71,7 @@ row_cell row column.Rate = when_some rate_text row.rate
 row_cell row column.Value = decimal_text row.value.0
 row_cell row column.Note = note_text row.note
 
--- the last line's text in a column
+-- the text of the totals in a column
 abbrev pub total_cell : Sheet → Column → List ℕ
 total_cell sheet column.Serial = codes "Total"
 total_cell sheet column.Price = decimal_text sheet.price.0
@@ -79,6 +79,6 @@ total_cell sheet column.Interest = decimal_text sheet.interest.0
 total_cell sheet column.Value = decimal_text sheet.value.0
 total_cell sheet c = []
 
--- the heading, a line for each row, and the totals
+-- the heading, one line for each row, and the totals
 unfoldable pub sheet_text : Sheet → List ℕ
 sheet_text sheet = line heading ++ flat_map (λ r. line (row_cell r)) sheet.rows.items ++ line (total_cell sheet)

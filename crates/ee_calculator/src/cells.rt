@@ -1,4 +1,4 @@
-//! The text of a column in a line, in a fixed room, so that it takes no memory.
+//! The text of a column in a line, in a buffer of fixed size, so that it takes no memory.
 
 ghost use Rattle.std.specs.Prelude.{◌≡◌, ◌+◌, ◌<◌, ◌≤◌, length};
 ghost use Rattle.std.specs.Fmt.{decimal};
@@ -12,7 +12,7 @@ use arrayvec::ArrayString;
 use ee_units::{Month, Rate, Serial};
 use itoa::Buffer;
 
-/// A column's text: a total has at most 40 bytes.
+/// The text of a column; a total has at most 40 bytes.
 pub type Cell = ArrayString<48>;
 
 /// The heading of a column.
@@ -35,7 +35,7 @@ pub fn heading(column: Column) -> Cell
     })
 }
 
-/// A column of a row.
+/// The text of a row in a column.
 pub fn row_cell(row: &Row, column: Column) -> Cell
     ensures text { result.bytes ≡ row_cell row.now column }
     ensures short { length result.bytes ≤ 44 }
@@ -58,7 +58,7 @@ pub fn row_cell(row: &Row, column: Column) -> Cell
     }
 }
 
-/// A column of the line of totals.
+/// The text of the totals in a column.
 pub fn total_cell(sheet: &Sheet, column: Column) -> Cell
     ensures text { result.bytes ≡ total_cell sheet.now column }
     ensures short { length result.bytes ≤ 44 }

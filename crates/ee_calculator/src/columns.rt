@@ -36,10 +36,10 @@ pub const COLUMNS: [Column; 11] = [
     Column::Note,
 ];
 
-/// The text of a line, in a fixed room: each of its columns has at most 45 bytes.
+/// The text of a line, in a buffer of fixed size: each column has at most 45 bytes.
 pub type LineText = ArrayString<512>;
 
-/// Appends a text in its column: with the space before it, and those that fill it up.
+/// Appends a text to its column, with the space before it and the padding.
 #[tactic(auto, using(std::proofs::Common::append_assoc))]
 pub fn push_placed(line: &mut LineText, column: Column, text: &str)
     requires short { length text.now ≤ 44 }

@@ -1,4 +1,4 @@
-//! The notes of a row, by the age of its bond.
+//! The note of a row, by the age of its bond.
 
 use ee_units::Age;
 use std::fmt;
@@ -12,18 +12,18 @@ const FREE_OF_PENALTY: u16 = 60;
 /// The age at which interest stops, in months.
 pub(crate) const FINAL_MATURITY: u16 = 360;
 
-/// What the calculator notes of a bond in a month.
+/// The calculator's note on a bond in a month.
 #[derive(Clone, Copy)]
 pub enum Note {
     /// Not issued yet.
     Ni,
-    /// Issued, and not eligible for payment: below 12 months of age.
+    /// Issued, but not yet eligible for payment: below 12 months of age.
     Ne,
-    /// The value leaves out the last three months of interest: 12 to 59 months of age.
+    /// The value excludes the last three months of interest: 12 to 59 months of age.
     P5,
-    /// Matured and not earning interest: 360 months of age and more.
+    /// Matured and no longer earning interest: 360 months of age and more.
     Ma,
-    /// Nothing to note: 60 to 359 months of age.
+    /// No note: 60 to 359 months of age.
     Plain,
 }
 
@@ -31,7 +31,7 @@ ghost use Rattle.std.specs.Prelude.{◌≡◌, ◌≤◌, length};
 ghost use Rattle.ee_calculator.specs.Notes.{note_at, note_text};
 
 impl Note {
-    /// The note at an age; without an age the bond isn't issued yet.
+    /// The note at an age; `None` means that the bond isn't issued yet.
     pub const fn at(age: Option<Age>) -> Note
         ensures { result ≡ note_at age }
     {
@@ -46,7 +46,7 @@ impl Note {
         }
     }
 
-    /// The note as it is printed: `NI`, `NE`, `P5`, `MA`, and nothing for `Plain`.
+    /// The note as it is printed: `NI`, `NE`, `P5`, `MA`, or nothing for `Plain`.
     pub const fn as_str(self) -> &'static str
         ensures text { result.now ≡ note_text self }
         ensures short { length result.now ≤ 2 }
@@ -61,7 +61,7 @@ impl Note {
     }
 }
 
-/// `NI`, `NE`, `P5`, `MA`, and nothing for `Plain`.
+/// Prints `NI`, `NE`, `P5`, `MA`, or nothing for `Plain`.
 impl fmt::Display for Note {
     ghost use Rattle.std.specs.Prelude.{Some};
     ghost use Rattle.ee_calculator.specs.Notes.{note_text};

@@ -11,7 +11,7 @@ use crate::rows::Row;
 use ee_units::{Age, Cents, Denom, IssueMonth, Month, Rate, calendar, price};
 use ee_value::{Quote, Rates, UnitTable, bond_value};
 
-/// The row of a bond in a month. The table is that of the rates, which are those of the bond's issue
+/// The row of a bond in a month. `table` holds the unit values at `rates`, the rates of the bond's issue
 /// period.
 pub fn row(bond: &Bond, rates: Rates, table: &UnitTable, month: Month) -> Row
     requires { table.now ≡ rates }
@@ -25,8 +25,8 @@ pub fn row(bond: &Bond, rates: Rates, table: &UnitTable, month: Month) -> Row
     row
 }
 
-/// The row, without a serial, of a bond of that denomination and issue month. The table is that of the
-/// rates.
+/// The row, without a serial number, of a bond of this denomination and issue month. `table` holds the unit
+/// values at `rates`.
 #[tactic(auto, unfolding(crate::specs::Rows::columns_of, crate::specs::Rows::value_in))]
 pub fn plain_row(
     denom: Denom,
@@ -47,8 +47,8 @@ pub fn plain_row(
     }
 }
 
-/// The row, without a serial, of a bond of that denomination and issue month, which pays that quote in a
-/// month from its issue on.
+/// The row, without a serial number, of a bond of this denomination and issue month in a month not before
+/// its issue, given what it pays in that month.
 #[tactic(auto, unfolding(crate::specs::Rows::columns_of, crate::specs::Rows::value_in))]
 pub fn issued_row(denom: Denom, issued: IssueMonth, rates: Rates, quote: Quote, month: Month) -> Row
     requires issued { issued ≤ month }
@@ -73,7 +73,7 @@ pub fn issued_row(denom: Denom, issued: IssueMonth, rates: Rates, quote: Quote, 
     }
 }
 
-/// The row, without a serial, of a bond of that denomination and issue month in a month before its issue.
+/// The row, without a serial number, of a bond in a month before its issue.
 pub const fn unissued_row(denom: Denom, issued: IssueMonth) -> Row
     ensures columns { columns_in result ≡ shown Note.Ni 0 0 0 0 0 }
     ensures serial { result.serial ≡ None }

@@ -5,8 +5,7 @@ ghost use Rattle.std.specs.Prelude.{◌≡◌, ◌+◌};
 use crate::rows::Row;
 use ee_units::Total;
 
-/// Rows with the sums of their prices, values and interest. The value is the price and the interest
-/// together.
+/// Rows with the sums of their prices, interest and values. The value is the sum of price and interest.
 #[derive(Drop)]
 pub struct Sheet {
     pub rows: Vec<Row>,

@@ -1,4 +1,4 @@
-//! The sheet of rows, with their sums.
+//! Making a sheet: rows and their sums.
 
 ghost use Rattle.std.specs.Prelude.{◌≡◌, ◌<◌, ◌^◌, sum_by};
 
@@ -6,7 +6,7 @@ use crate::rows::Row;
 use crate::sheets::Sheet;
 use ee_units::{Cents, Total};
 
-/// The sheet of these rows, in their order.
+/// The sheet of these rows, in the given order.
 #[tactic(auto, using(std::proofs::lemmas::List::Sums::sum_by_more))]
 pub fn sheet(rows: Vec<Row>) -> Sheet
     ensures rows { result.rows.items ≡ rows.items }
