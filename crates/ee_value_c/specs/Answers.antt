@@ -26,7 +26,7 @@ note_number note.Ne = 2
 note_number note.P5 = 3
 note_number note.Ma = 4
 
--- what is paid of a value: nothing before 12 months of age
+-- the part of a value that is paid: nothing before 12 months of age
 abbrev pub payable : Note → ℕ → ℕ
 payable note.Ni value = 0
 payable note.Ne value = 0
@@ -34,7 +34,7 @@ payable note.P5 value = value
 payable note.Plain value = value
 payable note.Ma value = value
 
--- the answer with these columns of the calculator
+-- the answer that shows these columns of the calculator
 abbrev pub row_with : Columns → ValueRow
 row_with columns = record {
   payable_cents = payable columns.note columns.value;
@@ -60,12 +60,12 @@ refused n = record {
   final_maturity = 0;
 }
 
--- whether a bond of that age, if it has one, has a value that is open with 62 binary places
+-- the value of a bond at that age is open with 62 binary places; False without an age
 abbrev pub is_row_open : Rates → Option ℕ → Bool
 is_row_open rates None = false
 is_row_open rates (Some a) = is_payment_open rates a 62
 
--- the row that is asked for, where it is settled
+-- the row that is asked for, if its value is settled
 unfoldable pub row_of : Question → Result ValueRow Refusal
 row_of q =
     if is_row_open q.rates (age_of q.issued q.month) then Err refusal.Unsettled
@@ -79,7 +79,7 @@ row_asked (Err e) = Err e
 unfoldable pub row_at : ValueQuestion → Result ValueRow Refusal
 row_at q = row_asked (question_at q)
 
--- what a bond of that age, if it has one, pays
+-- what a bond of that age pays; without an age it isn't issued yet
 abbrev pub paid_at : Denom → Rates → Option ℕ → Result ℕ Refusal
 paid_at d rates None = Err refusal.NotIssued
 paid_at d rates (Some a) = if nat_lt a 12 then Err refusal.NotEligible
@@ -98,12 +98,12 @@ payment_asked (Err e) = Err e
 unfoldable pub payment_at : ValueQuestion → Result ℕ Refusal
 payment_at q = payment_asked (question_at q)
 
--- the answer as a row: a refusal by its status
+-- the answer as a row; a refusal is its status
 abbrev pub row_or_refused : Result ValueRow Refusal → ValueRow
 row_or_refused (Ok row) = row
 row_or_refused (Err e) = refused (status_of e)
 
--- the answer as a number: cents, or a refusal by its status below zero
+-- the answer as a number: cents, or the negated status of a refusal
 abbrev pub cents_or_refused : Result ℕ Refusal → ℤ
 cents_or_refused (Ok cents) = pos cents
 cents_or_refused (Err e) = neg_ℤ (pos (status_of e))
@@ -112,7 +112,7 @@ cents_or_refused (Err e) = neg_ℤ (pos (status_of e))
 abbrev pub answer_to : ValueQuestion → ValueRow
 answer_to q = row_or_refused (row_at q)
 
--- a bond that pays nothing yet: the note of its row says why
+-- the bond pays nothing yet, and the note of its row says why
 abbrev pub IsUnpaid : Refusal → ℕ → Type 0
 IsUnpaid refusal.NotIssued n = n ≡ note_number note.Ni
 IsUnpaid refusal.NotEligible n = n ≡ note_number note.Ne
@@ -123,8 +123,8 @@ IsUnpaid refusal.BadRate n = ⊥
 IsUnpaid refusal.BadExtension n = ⊥
 IsUnpaid refusal.Unsettled n = ⊥
 
--- a row and a payment of the same numbers agree: the row pays those cents; where nothing is paid yet it pays 0 and its
--- note says why; and any other refusal is the refusal of both
+-- a row and a payment for the same numbers agree: the row pays those cents; if nothing is paid yet, it pays 0 and its note
+-- says why; any other refusal is the same for both
 abbrev pub AreSame : Result ValueRow Refusal → Result ℕ Refusal → Type 0
 AreSame (Ok row) (Ok cents) = row.payable_cents ≡ cents
 AreSame (Ok row) (Err e) = (row.payable_cents ≡ 0) × IsUnpaid e row.note

@@ -1,17 +1,17 @@
--- What the plain numbers of a caller stand for (this project's rules).
+-- The values that a caller's plain numbers represent (this project's rules).
 use Rattle.std.specs.Prelude.{ℕ, ◌+◌, ◌*◌, ◌/◌, ◌%◌, Option, Some, None, option_and_then}
 use Rattle.ee_units.specs.Spelling.{in_range, month_at}
 use Rattle.ee_units.specs.Calendar.{year_of, month_of_year}
 
--- the month of a number YYYYMM, as 201005: its count from May 2005
+-- the month of a number YYYYMM, as 201005, as its count from May 2005
 unfoldable pub month_in : ℕ → Option ℕ
 month_in n = month_at (n / 100) (n % 100)
 
--- a month of issue is one up to 209912
+-- an issue month is at most 209912
 unfoldable pub issue_in : ℕ → Option ℕ
 issue_in n = option_and_then (in_range 0 1135) (month_in n)
 
--- the number of a month, or 0 for none
+-- the number of a month, or 0 for None
 abbrev pub month_number : Option ℕ → ℕ
 month_number None = 0
 month_number (Some m) = 100 * year_of m + month_of_year m

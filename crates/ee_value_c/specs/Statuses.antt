@@ -1,4 +1,4 @@
--- The statuses of a call: 0 is an answer, and each refusal has a number and a text of its own.
+-- The statuses of a call: 0 means an answer, and each refusal has a number and a text of its own.
 use Rattle.std.specs.Prelude.{ℕ, ◌-◌, ◌==◌, List, ◌++◌, length, take, drop, min, slice_set, codes, if◌then◌else◌}
 use Rattle.ee_value_c.specs.declared.refusals.Refusal.{Refusal}
 use Rattle.ee_value_c.specs.declared.refusals.Refusal.TheVariants as refusal
@@ -13,7 +13,7 @@ status_of refusal.NotIssued = 6
 status_of refusal.NotEligible = 7
 status_of refusal.Unsettled = 8
 
--- what a status says
+-- the text of a status
 abbrev pub status_text : ℕ → List ℕ
 status_text n = if n == 0 then codes "done"
     else if n == 1 then codes "the dollars are no denomination"
@@ -26,7 +26,7 @@ status_text n = if n == 0 then codes "done"
     else if n == 8 then codes "the precision doesn't settle the value"
     else codes "no status of this library"
 
--- a buffer with as much of the text as fits before a byte 0, and its other bytes as they were
+-- a buffer with as much of the text as fits before a byte 0; its other bytes don't change
 abbrev pub text_fits : ℕ → List ℕ → List ℕ → List ℕ
 text_fits k text buffer = slice_set (take k text ++ drop k buffer) k 0
 

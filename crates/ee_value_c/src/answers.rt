@@ -1,4 +1,4 @@
-//! The rows that calls answer.
+//! The rows that calls return.
 
 ghost use Rattle.std.specs.Prelude.{◌≡◌};
 ghost use Rattle.ee_calculator.specs.Rows.{columns_in};
@@ -9,23 +9,23 @@ use crate::numbers::month_number;
 use crate::refusals::Refusal;
 use ee_calculator::{Note, Row};
 
-/// What the calculator shows of a bond in a month, and what the bond pays.
+/// What the calculator shows for a bond in a month, and what the bond pays.
 #[repr(C)]
 #[derive(Clone, Copy)]
 pub struct ValueRow {
-    /// What is paid: 0 where the bond can't be redeemed.
+    /// The payment in cents; 0 if the bond can't be redeemed.
     pub payable_cents: u64,
     /// The issue price; 0 before issue.
     pub price_cents: u64,
-    /// What is earned above the price, without a penalty taken.
+    /// The interest earned above the price, less any penalty.
     pub interest_cents: u64,
-    /// What the calculator shows as the value: the price and the interest.
+    /// The calculator's value: the sum of price and interest.
     pub value_cents: u64,
-    /// 0, or the status of a refusal; then all else is 0.
+    /// 0, or the status of a refusal; then all other fields are 0.
     pub status: u32,
-    /// 0 for none, 1 for NI, 2 for NE, 3 for P5, 4 for MA.
+    /// 0 for no note, 1 for NI, 2 for NE, 3 for P5, 4 for MA.
     pub note: u32,
-    /// The month in which interest is next added, as YYYYMM; 0 for none.
+    /// The month in which interest is next added, as YYYYMM; 0 if none is.
     pub next_accrual: u32,
     /// The month in which interest stops, as YYYYMM; 0 before issue.
     pub final_maturity: u32,
@@ -63,7 +63,7 @@ pub fn refused_row(refusal: Refusal) -> ValueRow
     }
 }
 
-/// What is paid of a value under a note: nothing before 12 months of age.
+/// The part of a value that is paid under a note: nothing before 12 months of age.
 const fn payable(note: Note, value: u64) -> u64
     ensures { result ≡ payable note value }
 {

@@ -1,6 +1,6 @@
-//! The calls of the library. Each takes what its numbers stand for in one order: the denomination in
-//! dollars, the month of issue and the month that is asked for as numbers YYYYMM, and the fixed rate and
-//! that of extended maturity in hundredths of a percent.
+//! The calls of the library. Each checks its numbers in this order: the denomination in dollars, the issue
+//! month and the value month as numbers YYYYMM, and the fixed rate and the rate of extended maturity in
+//! hundredths of a percent.
 
 ghost use Rattle.std.specs.Prelude.{◌≡◌, ◌++◌, length, map, take, drop, min};
 ghost use Rattle.ee_value_c.specs.Questions.{numbers};
@@ -12,7 +12,7 @@ use crate::questions::ValueQuestion;
 use crate::texts::{put_text, status_text};
 use crate::values::{payment_at, row_at};
 
-/// What the bond pays in a month, in cents; or a refusal, as its status below zero.
+/// What the bond pays in a month, in cents; or the negated status of a refusal.
 #[unsafe(no_mangle)]
 pub extern "C" fn ee_value_cents(
     dollars: u32,
@@ -55,7 +55,7 @@ pub extern "C" fn ee_value_row(
     })
 }
 
-/// The same row, written to memory of the caller; the result is its status.
+/// Writes the same row to the caller's memory, and returns its status.
 #[unsafe(no_mangle)]
 pub extern "C" fn ee_value_row_into(
     dollars: u32,
@@ -72,8 +72,8 @@ pub extern "C" fn ee_value_row_into(
     row.status
 }
 
-/// The rows of many questions, in their order, as many as there are places for. The result is how many
-/// were written.
+/// Answers a list of questions in order, as many as there are places for the rows. Returns the number of rows
+/// written.
 #[unsafe(no_mangle)]
 pub extern "C" fn ee_value_rows(questions: &[ValueQuestion], rows: &mut [ValueRow]) -> usize
     ensures rows { rows.new
@@ -97,8 +97,8 @@ fn answer(question: ValueQuestion) -> ValueRow
     }
 }
 
-/// Writes the text of a status to a buffer, as much of it as fits, and a byte 0 behind it. The result
-/// is the length of the whole text.
+/// Writes as much of a status's text as fits into a buffer, followed by a byte 0. Returns the length of the
+/// whole text.
 #[unsafe(no_mangle)]
 pub extern "C" fn ee_value_status_text(status: u32, buffer: &mut [u8]) -> usize
     ensures text { buffer.new ≡ text_into (status_text status) buffer.old }
@@ -109,7 +109,7 @@ pub extern "C" fn ee_value_status_text(status: u32, buffer: &mut [u8]) -> usize
     text.len()
 }
 
-/// The version of this library: 10000 times the first part, 100 times the second, and the third.
+/// The version of this library: 10000 times the major, 100 times the minor, plus the patch number.
 #[unsafe(no_mangle)]
 pub extern "C" fn ee_value_version() -> u32
     ensures { result ≡ 10000 }

@@ -1,5 +1,5 @@
-//! The value of a Series EE bond for programs in C: `include/ee_value.h` declares the functions.
-//! No call takes memory, keeps anything or fails: each answers every combination of numbers.
+//! The value of a Series EE bond for programs in C; `include/ee_value.h` declares the functions. No call
+//! allocates, keeps anything or fails: each answers every combination of numbers.
 #![tactic(auto)]
 
 mod answers;

@@ -1,4 +1,4 @@
-//! What the plain numbers of a caller stand for.
+//! The values that a caller's plain numbers represent.
 
 ghost use Rattle.std.specs.Prelude.{◌≡◌, Some};
 ghost use Rattle.ee_units.specs.Denoms.{denom_with};
@@ -7,7 +7,7 @@ ghost use Rattle.ee_value_c.specs.Numbers.{month_in, issue_in, month_number};
 
 use ee_units::{Denom, IssueMonth, Month, Rate};
 
-/// The denomination of so many dollars.
+/// The denomination of this number of dollars.
 pub fn denomination(dollars: u32) -> Option<Denom>
     ensures { result ≡ denom_with dollars }
 {
@@ -28,7 +28,7 @@ pub fn month(number: u32) -> Option<Month>
     }
 }
 
-/// The month of issue of a number YYYYMM.
+/// The issue month of a number YYYYMM.
 #[tactic(auto, unfolding(crate::specs::Numbers::issue_in))]
 pub fn issue_month(number: u32) -> Option<IssueMonth>
     ensures { result ≡ issue_in number }
@@ -36,14 +36,14 @@ pub fn issue_month(number: u32) -> Option<IssueMonth>
     IssueMonth::new(u64::from(month(number)?.count()))
 }
 
-/// The rate of so many hundredths of a percent.
+/// The rate of `hundredths` hundredths of a percent.
 pub fn rate(hundredths: u32) -> Option<Rate>
     ensures { result ≡ in_range 0 2000 hundredths }
 {
     Rate::new(u64::from(hundredths))
 }
 
-/// The number YYYYMM of a month, or 0 for none.
+/// The number YYYYMM of a month, or 0 for `None`.
 pub fn month_number(month: Option<Month>) -> u32
     ensures { result ≡ month_number month }
 {

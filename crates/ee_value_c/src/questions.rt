@@ -1,4 +1,4 @@
-//! What a call asks for.
+//! The question that a call asks.
 
 ghost use Rattle.std.specs.Prelude.{◌≡◌};
 ghost use Rattle.ee_value_c.specs.Questions.{question_at};
@@ -8,15 +8,15 @@ use crate::refusals::Refusal;
 use ee_units::{Denom, IssueMonth, Month};
 use ee_value::Rates;
 
-/// The numbers of a question, each as the calls with plain numbers take it.
+/// The numbers of a question, in the form in which the calls with plain numbers take them.
 #[repr(C)]
 #[derive(Clone, Copy)]
 pub struct ValueQuestion {
     /// The denomination, in dollars.
     pub dollars: u32,
-    /// The month of issue, as YYYYMM.
+    /// The issue month, as YYYYMM.
     pub issued: u32,
-    /// The month that is asked for, as YYYYMM.
+    /// The value month, as YYYYMM.
     pub month: u32,
     /// The fixed rate, in hundredths of a percent.
     pub rate: u32,
@@ -24,7 +24,7 @@ pub struct ValueQuestion {
     pub extension: u32,
 }
 
-/// What a call asks for: a bond at its rates, in a month.
+/// A question: a bond at its rates, in a month.
 #[derive(Clone, Copy)]
 pub struct Question {
     pub denom: Denom,
@@ -33,7 +33,7 @@ pub struct Question {
     pub rates: Rates,
 }
 
-/// What the numbers ask for, or the first refusal, in the order of the fields.
+/// The question of these numbers, or the first refusal, in the order of the fields.
 #[tactic(auto, unfolding(crate::specs::Questions::question_at))]
 pub fn question_at(question: ValueQuestion) -> Result<Question, Refusal>
     ensures { result ≡ question_at question }

@@ -1,22 +1,22 @@
-//! Why a call has no answer.
+//! Reasons for a refused call.
 
 ghost use Rattle.std.specs.Prelude.{◌≡◌};
 ghost use Rattle.ee_value_c.specs.Statuses.{status_of};
 
-/// Why a call has no answer.
+/// Why a call is refused.
 #[derive(Clone, Copy)]
 pub enum Refusal {
-    /// The dollars are no denomination of a paper bond.
+    /// No paper bond has this denomination.
     BadDenomination,
-    /// The month of issue is no month from 200505 to 209912.
+    /// The issue month isn't a month from 200505 to 209912.
     BadIssueMonth,
-    /// The month is no month from 200505 to 219912.
+    /// The value month isn't a month from 200505 to 219912.
     BadMonth,
     /// The rate is above 20 percent.
     BadRate,
     /// The rate of extended maturity is above 20 percent.
     BadExtension,
-    /// The month is before the month of issue.
+    /// The value month is before the issue month.
     NotIssued,
     /// The bond can't be redeemed yet: its age is below 12 months.
     NotEligible,
@@ -25,7 +25,7 @@ pub enum Refusal {
 }
 
 impl Refusal {
-    /// The status that C is told.
+    /// The status that a C caller gets.
     pub const fn status(self) -> u32
         ensures { result ≡ status_of self }
     {

@@ -28,12 +28,12 @@ fn numbers(row: &ValueRow) -> [u64; 8] {
     ]
 }
 
-/// Whether a row is that of a 50-dollar bond of May 2010 at 3.40 % and then 4.00 %, in November 2030.
+/// Whether a row describes a 50-dollar bond of May 2010 at 3.40 % and then 4.00 %, in November 2030.
 fn is_extended(row: &ValueRow) -> bool {
     numbers(row) == [5100, 2500, 2600, 5100, 0, 0, 203012, 204005]
 }
 
-/// Whether a row is that of a month that is none.
+/// Whether a row refuses its value month.
 fn is_of_bad_month(row: &ValueRow) -> bool {
     numbers(row) == [0, 0, 0, 0, 3, 0, 0, 0]
 }

@@ -22,7 +22,7 @@ pub const fn status_text(status: u32) -> &'static str
     }
 }
 
-/// Writes a text to a buffer, as much of it as fits, and a byte 0 behind it.
+/// Writes as much of a text as fits into a buffer, followed by a byte 0.
 #[tactic(auto, unfolding(crate::specs::Statuses::text_into))]
 pub fn put_text(text: &str, buffer: &mut [u8])
     ensures { buffer.new ≡ text_into text.now buffer.old }

@@ -1,4 +1,4 @@
-//! What is asked for, by the value of one unit and with no table, so that no memory is taken.
+//! Answers computed from the value of one unit, without a table, so that no memory is taken.
 
 ghost use Rattle.std.specs.Prelude.{◌≡◌, ◌≤◌, true, false, MatchResult, IfOk};
 ghost use Rattle.ee_units.specs.Denoms.{units_of};
@@ -13,7 +13,7 @@ use ee_calculator::{issued_row, unissued_row};
 use ee_units::{Age, Bits, Denom, calendar};
 use ee_value::{Quote, Rates, bond_value_at};
 
-/// The binary places of every value.
+/// The binary places used for every value.
 const PLACES: u8 = 62;
 
 /// The row that the numbers ask for, or the first refusal.

@@ -9,7 +9,7 @@ use Rattle.ee_value_c.specs.Questions.{question_at}
 use Rattle.ee_value_c.specs.Answers.{row_of, row_at, payment_of, payment_at, row_asked, payment_asked, AreSame}
 use Rattle.ee_value_c.proofs.laws.answers_law.Goals as goal
 
--- by the tests of the bond's age, and whether its value is open
+-- by cases on the bond's age and on whether its value is open
 same : (q : Question) → AreSame (row_of q) (payment_of q)
 unfolding row_of payment_of columns_of value_in is_payment_open
 same q = elim (cases_Bool (nat_le q.issued q.month)) [
