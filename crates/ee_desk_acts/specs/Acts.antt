@@ -1,4 +1,4 @@
--- Acts on the books.
+-- The effects of acts on the books.
 use Rattle.std.specs.Prelude.{Bool, false, ◌&&◌, nat_eq, List, [], ◌∷◌, ◌++◌, Option, Some, None}
 use Rattle.std.specs.Cmp.Lexicographic.{pointwise}
 use Rattle.std.specs.FinMap as finite
@@ -36,7 +36,7 @@ abbrev pub with_bonds : FinMap serial_cmp Bond → List Bond → FinMap serial_c
 with_bonds bonds [] = bonds
 with_bonds bonds (bond ∷ more) = with_bonds (finite.insert bonds bond.serial bond) more
 
--- the books after an act that no test refuses
+-- the books after an act that isn't refused
 abbrev pub done : PlainBooks → Act → PlainBooks
 done books (AddRates rows) = record books { rates = with_rates books.rates (new_rates (shown books) [] rows) }
 done books (AddBonds bonds) = record books { bonds = with_bonds books.bonds (new_bonds (shown books) bonds) }
@@ -66,7 +66,7 @@ changed books (change.Ticket ticket) = record books { tickets = books.tickets ++
 changed books (change.Batch batch) =
     record books { batches = books.batches ++ batch ∷ []; last_day = Some batch.day; day = None }
 
--- the books after changes, one after the other
+-- the books after changes, applied in order
 abbrev pub applied : PlainBooks → List Change → PlainBooks
 applied books [] = books
 applied books (change ∷ changes) = applied (changed books change) changes

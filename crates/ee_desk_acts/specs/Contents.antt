@@ -1,4 +1,4 @@
--- The books and the content that a list of requests leaves.
+-- The books and the content after a list of requests.
 use Rattle.std.specs.Prelude.{List, [], ◌∷◌}
 use Rattle.std.specs.FinMap as finite
 use Rattle.std.specs.FinMap.{FinMap}
@@ -9,7 +9,7 @@ use Rattle.ee_desk_acts.specs.PlainBooks.{PlainBooks}
 use Rattle.ee_desk_acts.specs.Outcomes.{act}
 use Rattle.ee_desk_acts.specs.Repeats.{Content, once}
 
--- the books after requests that know nothing of numbers
+-- the books after the acts of a list of requests, whatever their numbers
 abbrev pub acted : PlainBooks → List Request → PlainBooks
 acted books [] = books
 acted books (q ∷ qs) = acted (act books q.act).books qs
@@ -17,7 +17,7 @@ acted books (q ∷ qs) = acted (act books q.act).books qs
 abbrev pub books_after : Content → List Request → PlainBooks
 books_after start requests = acted start.books (once start requests)
 
--- one entry for each request: its number, its act and its reply
+-- one kept entry for each request: its number, its act and its reply
 abbrev pub noted : PlainBooks → FinMap number_cmp Kept → List Request → FinMap number_cmp Kept
 noted books kept [] = kept
 noted books kept (q ∷ qs) =

@@ -1,4 +1,4 @@
--- What an act does, by what it sees.
+-- The effects of an act, given what it sees.
 use Rattle.std.specs.Prelude.{◌-◌, List, [], ◌∷◌, ◌++◌, length, map, filter, is_none, Option, Some, None, if◌then◌else◌}
 use Rattle.ee_value.specs.declared.rates.RateRow.{RateRow}
 use Rattle.ee_calculator.specs.declared.bonds.Bond.{Bond}
@@ -14,7 +14,7 @@ use Rattle.ee_desk_acts.specs.declared.changes.Effects.{Effects}
 use Rattle.ee_desk_acts.specs.Seen.{Seen, ticket_for, closing_batch}
 use Rattle.ee_desk_acts.specs.Refusals.{known_rate, refusal_of}
 
--- the rows that nothing seen and no earlier row holds
+-- the rows whose rates are neither in the books nor in an earlier row
 abbrev pub new_rates : Seen → List RateRow → List RateRow → List RateRow
 new_rates seen earlier [] = []
 new_rates seen earlier (row ∷ rows) =
@@ -31,7 +31,7 @@ added new asked = Added (length new) (length asked - length new)
 abbrev pub rate_change : RateRow → Change
 rate_change row = change.Rates row.from row.rates
 
--- what an act does that no test refuses
+-- the effects of an act that isn't refused
 abbrev pub accepted : Seen → Act → Effects
 accepted seen (AddRates rows) =
     record { changes = map rate_change (new_rates seen [] rows); reply = added (new_rates seen [] rows) rows }

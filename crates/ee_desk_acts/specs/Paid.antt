@@ -1,4 +1,4 @@
--- What was paid: serials and cents over all lines of all tickets.
+-- What was paid: the serial numbers and cents of all lines of all tickets.
 use Rattle.std.specs.Prelude.{◌≡◌, ℕ, ◌+◌, ◌≤◌, false, List, [], ◌∷◌, Some, ⊤}
 use Rattle.std.specs.List.{AllByRecursion, flat_map}
 use Rattle.std.specs.FinMap as finite
@@ -15,13 +15,13 @@ use Rattle.ee_desk_acts.specs.Values.{value_of}
 abbrev pub paid_lines : List Ticket → List Line
 paid_lines tickets = flat_map (λ ticket. ticket.lines) tickets
 
--- no serial stands on two lines
+-- no serial number is on two lines
 abbrev pub NoneTwice : List Line → Type 0
 NoneTwice [] = ⊤
 NoneTwice (line ∷ lines) = AllByRecursion (λ other. same_serial line.serial other.serial ≡ false) lines × NoneTwice lines
 
--- a line pays the bond of its serial, 12 months old at least, what that bond is worth in the month of the day, at the
--- rates of its period
+-- a line pays the bond with its serial number, at least 12 months old, the value of that bond in the month of the day,
+-- at the rates of its period
 abbrev pub PaysValue : PlainBooks → ℕ → Line → Type 0
 PaysValue books day line =
     (bond : Bond) × (rates : Rates)
@@ -30,6 +30,6 @@ PaysValue books day line =
     × (bond.issued + 12 ≤ month_of_day day)
     × (line.cents.0 ≡ value_of rates bond (month_of_day day))
 
--- each line of each ticket does, in the month of its ticket's day
+-- each line of each ticket pays the value of its bond in the month of the ticket's day
 abbrev pub ArePaidRight : PlainBooks → Type 0
 ArePaidRight books = AllByRecursion (λ ticket. AllByRecursion (PaysValue books ticket.day) ticket.lines) books.tickets

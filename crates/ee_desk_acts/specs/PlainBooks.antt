@@ -1,4 +1,4 @@
--- What a desk keeps, as plain lists and finite maps: no kept replies; a bond is paid where a ticket names it (this project's rule).
+-- What a desk keeps, as plain lists and finite maps, without kept replies. A bond is paid if a ticket names it (this project's rule).
 use Rattle.std.specs.Prelude.{ℕ, Bool, ◌&&◌, ◌==◌, nat_eq, List, [], Option, Some, None, find, length, filter, sum_by}
 use Rattle.std.specs.List.{list_any}
 use Rattle.std.specs.Option.{option_map, option_eq}
@@ -26,11 +26,11 @@ pub record PlainBooks : Type 0 where
 abbrev pub no_books : PlainBooks
 no_books = record { rates = finite.empty; bonds = finite.empty; day = None; last_day = None; tickets = []; batches = [] }
 
--- whether a ticket pays the serial
+-- the ticket pays this serial number
 abbrev pub names : SerialNumber → Ticket → Bool
 names serial ticket = list_any (λ line. same_serial serial line.serial) ticket.lines
 
--- the number of the ticket that pays a serial
+-- the number of the ticket that pays a serial number
 abbrev pub ticket_of : List Ticket → SerialNumber → Option ℕ
 ticket_of tickets serial = option_map (λ ticket. ticket.ticket) (find (names serial) tickets)
 
@@ -56,7 +56,7 @@ batch_of day tickets =
 abbrev pub no_batch : Batch
 no_batch = record { day = 0; tickets = 0; bonds = 0; total = record { 0 = 0 } }
 
--- the batch of the open day's tickets so far: zeros where none is open
+-- the batch of the open day's tickets so far; zeros if no day is open
 abbrev pub batch_so_far : Option ℕ → List Ticket → Batch
 batch_so_far None tickets = no_batch
 batch_so_far (Some day) tickets = batch_of day tickets
@@ -64,6 +64,6 @@ batch_so_far (Some day) tickets = batch_of day tickets
 abbrev pub same_denom : Denom → Denom → Bool
 same_denom a b = dollars a == dollars b
 
--- the same content
+-- two bonds have the same content
 abbrev pub same_bond : Bond → Bond → Bool
 same_bond a b = same_serial a.serial b.serial && same_denom a.denom b.denom && (a.issued == b.issued) && (a.owner == b.owner) && option_eq nat_eq a.coowner b.coowner

@@ -1,4 +1,4 @@
--- What is asked of books without changing them (this project's rule).
+-- Queries, which don't change the books (this project's rule).
 use Rattle.std.specs.Prelude.{ℕ, Bool, ◌&&◌, ◌==◌, List, filter, find, is_none, Option, Some, None, sum_by, map}
 use Rattle.std.specs.Option.{option_map}
 use Rattle.std.specs.List.{filter_map}
@@ -25,15 +25,15 @@ ticket_numbered books number = find (λ ticket. ticket.ticket == number) books.t
 abbrev pub batch_on : PlainBooks → ℕ → Option Batch
 batch_on books day = find (λ batch. batch.day == day) books.batches
 
--- whether a bond is this customer's, and no ticket pays it
+-- the customer owns the bond, and no ticket pays it
 abbrev pub is_open_bond : List Ticket → ℕ → Bond → Bool
 is_open_bond tickets customer bond = (bond.owner == customer) && is_none (ticket_of tickets bond.serial)
 
--- the unpaid bonds whose owner is this customer, in order of serial
+-- the unpaid bonds whose owner is this customer, in order of serial number
 abbrev pub bonds_of : PlainBooks → ℕ → List Bond
 bonds_of books customer = filter (is_open_bond books.tickets customer) (finite.values books.bonds)
 
--- all that a row shows
+-- everything that a row shows
 pub record PlainRow : Type 0 where
   pub serial : Option SerialNumber
   pub denom : Denom
@@ -48,17 +48,17 @@ abbrev pub plain_row : Option SerialNumber → Denom → ℕ → ℕ → Rates �
 plain_row serial denom issued month rates =
     record { serial = serial; denom = denom; issued = issued; columns = columns_of (units_of denom) issued rates month }
 
--- the row of a bond in a month, at the rates of its issue period; none without rates
+-- the row of a bond in a month, at the rates of its issue period; None without rates
 abbrev pub row_of : FinMap nat_cmp Rates → ℕ → Bond → Option PlainRow
 row_of rates month bond =
     option_map (plain_row (Some bond.serial) bond.denom bond.issued month) (finite.get rates (period_start bond.issued))
 
--- the row of a bond that isn't registered
+-- the row of a bond that isn't in the register
 abbrev pub quote_of : PlainBooks → Denom → ℕ → ℕ → Option PlainRow
 quote_of books denom issued month =
     option_map (plain_row None denom issued month) (finite.get books.rates (period_start issued))
 
--- all that a sheet shows: rows, and their sums in cents
+-- everything that a sheet shows: rows, and their sums in cents
 pub record PlainSheet : Type 0 where
   pub rows : List PlainRow
   pub price : ℕ

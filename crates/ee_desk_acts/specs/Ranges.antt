@@ -1,4 +1,4 @@
--- Acts and changes whose plain numbers are in the ranges of their types, as all that a program holds are.
+-- Acts and changes whose plain numbers are in the ranges of their types, as in every program.
 use Rattle.std.specs.Prelude.{⊤}
 use Rattle.std.specs.List.{AllByRecursion}
 use Rattle.ee_desk_acts.specs.declared.acts.Act.{Act}

@@ -1,4 +1,4 @@
--- When an act is refused, in the one order of the tests (this project's rule; eligibility: 31 CFR Part 351, payees: 31 CFR Part 353).
+-- When an act is refused, in the order of the tests (this project's rule; eligibility: 31 CFR Part 351, payees: 31 CFR Part 353).
 use Rattle.std.specs.Prelude.{ℕ, ◌-◌, Bool, false, not, ◌==◌, nat_lt, nat_le, List, [], ◌∷◌, ◌++◌, length, is_some, is_none, find, Option, Some, None, if◌then◌else◌}
 use Rattle.std.specs.Option.{option_map, option_or, option_map_or}
 use Rattle.std.specs.List.{list_any}
@@ -18,7 +18,7 @@ use Rattle.ee_calculator.specs.Bonds.{is_payee, has_coowner}
 use Rattle.ee_desk_acts.specs.PlainBooks.{same_bond}
 use Rattle.ee_desk_acts.specs.Seen.{Seen, rate_of}
 
--- the first refusal among tests in their order
+-- the first refusal of several tests
 abbrev pub first : List (Option Refusal) → Option Refusal
 first [] = None
 first (test ∷ tests) = option_or test (first tests)
@@ -26,7 +26,7 @@ first (test ∷ tests) = option_or test (first tests)
 abbrev pub when : Bool → Refusal → Option Refusal
 when holds refusal = if holds then Some refusal else None
 
--- the first refusal among those of the rows in their order
+-- the first refusal of several rows
 abbrev pub first_of : {A : Type 0} → (A → Option Refusal) → List A → Option Refusal
 first_of refusal [] = None
 first_of refusal (row ∷ rows) = option_or (refusal row) (first_of refusal rows)
@@ -40,11 +40,11 @@ most_serials = 100
 abbrev pub most_tickets : ℕ
 most_tickets = 1000
 
--- how the length of a list refuses it
+-- the refusal of a list by its length
 abbrev pub refusal_of_length : ℕ → ℕ → Option Refusal
 refusal_of_length most count = option_or (when (count == 0) Empty) (when (nat_lt most count) TooMany)
 
--- how the length of its list refuses an act, whatever the books are
+-- the refusal of an act by the length of its list, whatever the books are
 abbrev pub length_refusal : Act → Option Refusal
 length_refusal (AddRates rows) = refusal_of_length most_rows (length rows)
 length_refusal (AddBonds bonds) = refusal_of_length most_rows (length bonds)
@@ -52,7 +52,7 @@ length_refusal (OpenDay day) = None
 length_refusal (Redeem day payee serials) = refusal_of_length most_serials (length serials)
 length_refusal (CloseDay day) = None
 
--- whether other rates than these are held
+-- the known rates differ from these
 abbrev pub is_other : Option Rates → Rates → Bool
 is_other held rates = option_map_or (λ other. not (same_rates other rates)) held false
 
@@ -62,12 +62,12 @@ unannounced row = when (not (is_announcement row.from)) (NotAnnouncementMonth ro
 abbrev pub near : RateRow → Option Refusal
 near row = option_map RateUnsettled (unsettled row.rates)
 
--- the rates of a month, or else those of an earlier row
+-- the known rates of a month, or else those of an earlier row
 abbrev pub known_rate : Seen → List RateRow → ℕ → Option Rates
 known_rate seen earlier month =
     option_or (seen.rate month) (option_map (λ row. row.rates) (find (λ row. row.from == month) earlier))
 
--- the first month that holds other rates, already or in an earlier row
+-- the first month with other rates, in the books or in an earlier row
 abbrev pub rate_conflict : Seen → List RateRow → List RateRow → Option Refusal
 rate_conflict seen earlier [] = None
 rate_conflict seen earlier (row ∷ rows) =
@@ -84,7 +84,7 @@ tests_of_rates seen rows =
     ∷ first_of near rows
     ∷ []
 
--- the first serial that stands earlier in the list
+-- the first serial number that occurs earlier in the list
 abbrev pub repeated : List SerialNumber → List SerialNumber → Option Refusal
 repeated earlier [] = None
 repeated earlier (serial ∷ serials) =
@@ -101,7 +101,7 @@ own_coowner bond = when (has_coowner bond bond.owner) (SameCoowner bond.serial)
 abbrev pub unrated : Seen → Bond → Option Refusal
 unrated seen bond = when (is_none (rate_of seen bond)) (NoRate bond.serial)
 
--- whether a serial is registered with other content
+-- the serial number is registered with other content
 abbrev pub is_other_bond : Option Held → Bond → Bool
 is_other_bond None bond = false
 is_other_bond (Some held) bond = not (same_bond held.bond bond)
@@ -125,12 +125,12 @@ tests_of_open seen day =
     ∷ when (option_map_or (λ closed. nat_le day closed) seen.last_day false) DayNotLater
     ∷ []
 
--- the day that a request names is the open one
+-- the day that a request names must be the open day
 abbrev pub refusal_of_day : Option ℕ → ℕ → Option Refusal
 refusal_of_day None day = Some NoOpenDay
 refusal_of_day (Some other) day = when (not (other == day)) DayIsOther
 
--- the tests of a registered bond in their order
+-- the tests of a registered bond, in order
 abbrev pub tests_of_held : ℕ → ℕ → SerialNumber → Held → List (Option Refusal)
 tests_of_held month payee serial held =
     when (not (is_payee held.bond payee)) (NotPayee serial)
@@ -139,7 +139,7 @@ tests_of_held month payee serial held =
     ∷ when (nat_lt (month - held.bond.issued) 12) (NotEligible serial)
     ∷ []
 
--- a serial through the tests of its own
+-- the tests of one serial number
 abbrev pub refusal_of_held : ℕ → ℕ → SerialNumber → Option Held → Option Refusal
 refusal_of_held month payee serial None = Some (UnknownSerial serial)
 refusal_of_held month payee serial (Some held) = first (tests_of_held month payee serial held)
@@ -157,7 +157,7 @@ tests_of_redeem seen day payee serials =
     ∷ first_of (refusal_of_serial seen (month_of_day day) payee) serials
     ∷ []
 
--- the tests of an act in their order
+-- the tests of an act, in order
 abbrev pub tests_of : Seen → Act → List (Option Refusal)
 tests_of seen (AddRates rows) = tests_of_rates seen rows
 tests_of seen (AddBonds bonds) = tests_of_bonds seen bonds

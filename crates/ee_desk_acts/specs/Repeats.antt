@@ -1,4 +1,4 @@
--- Requests that may come again, without their repeats (this project's rule: a number acts at most once).
+-- Requests with repeats, and the same requests without them (this project's rule: a number acts at most once).
 use Rattle.std.specs.Prelude.{Bool, ◌||◌, List, [], ◌∷◌, if◌then◌else◌}
 use Rattle.std.specs.FinMap as finite
 use Rattle.std.specs.FinMap.{FinMap}
@@ -7,7 +7,7 @@ use Rattle.ee_desk_acts.specs.declared.acts.Request.{Request}
 use Rattle.ee_desk_acts.specs.declared.changes.Kept.{Kept}
 use Rattle.ee_desk_acts.specs.PlainBooks.{PlainBooks, no_books}
 
--- books, and kept replies by number
+-- books, and the kept replies by request number
 pub record Content : Type 0 where
   pub books : PlainBooks
   pub kept : FinMap number_cmp Kept
@@ -15,7 +15,7 @@ pub record Content : Type 0 where
 abbrev pub nothing : Content
 nothing = record { books = no_books; kept = finite.empty }
 
--- the requests whose number isn't known, the first of each number alone
+-- the first request of each number that isn't known
 abbrev pub firsts : (Number → Bool) → List Request → List Request
 firsts known [] = []
 firsts known (q ∷ qs) = if known (number_of q) then firsts known qs else q ∷ firsts (λ n. known n || (same_number n (number_of q))) qs

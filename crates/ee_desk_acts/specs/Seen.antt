@@ -1,4 +1,4 @@
--- What an act is decided by.
+-- What an act sees of the books.
 use Rattle.std.specs.Prelude.{ℕ, suc, List, Option, map, length, sum_by}
 use Rattle.std.specs.Option.{option_map, option_map_or}
 use Rattle.std.specs.FinMap as finite
@@ -23,18 +23,18 @@ pub record Seen : Type 0 where
   pub day_bonds : ℕ
   pub day_total : ℕ
 
--- a registered bond with the ticket that paid it
+-- a registered bond, with the ticket that paid it
 abbrev pub held_as : List Ticket → SerialNumber → Bond → Held
 held_as tickets serial bond = record { bond = bond; ticket = ticket_of tickets serial }
 
 abbrev pub held_of : PlainBooks → SerialNumber → Option Held
 held_of books serial = option_map (held_as books.tickets serial) (finite.get books.bonds serial)
 
--- what the open day has
+-- the tickets of the open day, as a batch
 abbrev pub open_batch : PlainBooks → Batch
 open_batch books = batch_so_far books.day books.tickets
 
--- all that books show
+-- everything that the books show
 abbrev pub shown : PlainBooks → Seen
 shown books = record {
   rate = finite.get books.rates;
@@ -50,18 +50,18 @@ shown books = record {
 abbrev pub rate_of : Seen → Bond → Option Rates
 rate_of seen bond = seen.rate (period_start bond.issued)
 
--- what a bond is worth in a month, at the rates that are seen
+-- the value of a bond in a month, at the rates that are seen
 abbrev pub value_in : Seen → ℕ → Bond → ℕ
 value_in seen month bond = option_map_or (λ rates. value_of rates bond month) (rate_of seen bond) 0
 
--- what the bond of a serial is worth
+-- the value of the bond with this serial number
 abbrev pub worth : Seen → ℕ → SerialNumber → ℕ
 worth seen month serial = option_map_or (λ held. value_in seen month held.bond) (seen.held serial) 0
 
 abbrev pub line_for : Seen → ℕ → SerialNumber → Line
 line_for seen month serial = record { serial = serial; cents = record { 0 = worth seen month serial } }
 
--- the next ticket, of these serials
+-- the next ticket, which pays these serial numbers
 abbrev pub ticket_for : Seen → ℕ → ℕ → List SerialNumber → Ticket
 ticket_for seen day payee serials =
     let lines = map (line_for seen (month_of_day day)) serials in

@@ -1,4 +1,4 @@
--- What holds of all books (this project's rule).
+-- What holds for all books (this project's rule).
 use Rattle.std.specs.Prelude.{◌≡◌, ℕ, suc, ◌+◌, ◌≤◌, true, false, ◌==◌, List, [], ◌∷◌, ◌++◌, map, length, Option, Some, None, IfSome, IsSome, sum_by, count_by, ⊤}
 use Rattle.std.specs.List.{AllByRecursion, list_any}
 use Rattle.std.specs.FinMap as finite
@@ -20,28 +20,28 @@ use Rattle.ee_desk_acts.specs.Lists.{Rising, NeverFalling}
 use Rattle.ee_calculator.specs.Bonds.{has_coowner, is_payee}
 use Rattle.ee_desk_acts.specs.PlainBooks.{PlainBooks, cents_of, batch_of}
 
--- from 2005-05-01 to 2199-12-31, as counts from 1970-01-01
+-- a day from 2005-05-01 to 2199-12-31, as a count from 1970-01-01
 abbrev pub IsDay : ℕ → Type 0
 IsDay day = (12904 ≤ day) × (day ≤ 84005)
 
--- up to 2099-12, as counts from 2005-05
+-- an issue month up to 2099-12, as a count from 2005-05
 abbrev pub IsIssueMonth : ℕ → Type 0
 IsIssueMonth month = month ≤ 1135
 
--- rates stand at an announced month, and leave no value unsettled
+-- rates are those of an announcement month, and leave no value unsettled
 pub record IsRightRate (month : ℕ) (rates : Rates) : Type 0 where
   pub announced : is_announcement month ≡ true
   pub settled : unsettled rates ≡ None
   pub in_range : IsIssueMonth month × InRange rates
 
--- a registered bond stands under its serial, has rates, and no coowner who is the owner
+-- a registered bond is filed under its serial number, has rates, and no coowner who is the owner
 pub record IsRightBond (rates : FinMap nat_cmp Rates) (serial : SerialNumber) (bond : Bond) : Type 0 where
   pub keyed : bond.serial ≡ serial
   pub rated : IsSome (finite.get rates (period_start bond.issued))
   pub owned : has_coowner bond bond.owner ≡ false
   pub in_range : IsIssueMonth bond.issued
 
--- a line pays a registered bond of the payee, 12 months old at least, its value in the month of the day
+-- a line pays a registered bond of the payee, at least 12 months old, its value in the month of the day
 abbrev pub IsRightLine : FinMap nat_cmp Rates → FinMap serial_cmp Bond → Ticket → Line → Type 0
 IsRightLine rates bonds ticket line =
     (bond : Bond) × (terms : Rates)
@@ -57,7 +57,7 @@ pub record IsRightTicket (rates : FinMap nat_cmp Rates) (bonds : FinMap serial_c
   pub lines : AllByRecursion (IsRightLine rates bonds ticket) ticket.lines
   pub total : ticket.total.0 ≡ sum_by cents_of ticket.lines
 
--- numbered on from this number
+-- tickets are numbered consecutively from this number
 abbrev pub NumberedFrom : ℕ → List Ticket → Type 0
 NumberedFrom number [] = ⊤
 NumberedFrom number (ticket ∷ tickets) = (ticket.ticket ≡ number) × NumberedFrom (suc number) tickets
@@ -72,7 +72,7 @@ abbrev pub open_days : Option ℕ → List ℕ
 open_days None = []
 open_days (Some day) = day ∷ []
 
--- the closed days and the open one
+-- the closed days and the open day
 abbrev pub days : PlainBooks → List ℕ
 days books = map day_of_batch books.batches ++ open_days books.day
 
@@ -89,9 +89,9 @@ pub record IsSound (books : PlainBooks) : Type 0 where
   pub once : NoneTwice (paid_lines books.tickets)
   pub in_order : NeverFalling (map day_of books.tickets)
   pub few : (day : ℕ) → count_by (λ ticket. ticket.day == day) books.tickets ≤ most_tickets
-  -- each ticket's day is a closed one or the open one
+  -- each ticket's day is a closed day or the open day
   pub dated : AllByRecursion (λ ticket. list_any (λ day. ticket.day == day) (days books) ≡ true) books.tickets
-  -- the closed days rise, and the open one is later
+  -- the closed days are in rising order, and the open day is later
   pub rising : Rising (days books)
   pub in_range : AllByRecursion IsDay (days books)
   pub last : books.last_day ≡ last_of books.batches

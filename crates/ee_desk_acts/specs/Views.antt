@@ -1,4 +1,4 @@
--- What an act names of the books.
+-- The part of the books that an act names.
 use Rattle.std.specs.Prelude.{ℕ, List, [], map, Option, Some, None}
 use Rattle.std.specs.Option.{option_map}
 use Rattle.std.specs.List.{filter_map}
@@ -42,7 +42,7 @@ shown_by view = record {
   day_total = view.day_total;
 }
 
--- what is found for these keys
+-- the entries for these keys
 abbrev pub entry_of : {K V : Type 0} → (K → Option V) → K → Option (K × V)
 entry_of look key = option_map (λ value. (key, value)) (look key)
 
@@ -59,7 +59,7 @@ serials_of (CloseDay day) = []
 abbrev pub period_of_held : Held → ℕ
 period_of_held held = period_start held.bond.issued
 
--- the months of rows, or the issue periods of rows or of the registered bonds that are named
+-- the months of the rows, or the issue periods of the rows or of the registered bonds that are named
 abbrev pub periods_of : PlainBooks → Act → List ℕ
 periods_of books (AddRates rows) = map (λ row. row.from) rows
 periods_of books (AddBonds bonds) = map (λ bond. period_start bond.issued) bonds
@@ -87,7 +87,7 @@ view_of books asked = record {
   day_total = (counted books asked).total.0;
 }
 
--- what of these counts an act is decided by: a redemption by how many tickets the day has, and not by what they pay
+-- the counts that an act depends on: a redemption depends on how many tickets the day has, and not on what they pay
 abbrev pub needed_counts : PlainBooks → Act → Batch
 needed_counts books (Redeem day payee serials) = record no_batch { tickets = (open_batch books).tickets }
 needed_counts books (CloseDay day) = open_batch books
@@ -95,7 +95,7 @@ needed_counts books (AddRates rows) = no_batch
 needed_counts books (AddBonds bonds) = no_batch
 needed_counts books (OpenDay day) = no_batch
 
--- a view of nothing
+-- a view that shows nothing
 abbrev pub no_view : PlainView
 no_view = record {
   rates = finite.empty;
@@ -108,7 +108,7 @@ no_view = record {
   day_total = 0;
 }
 
--- what an act is decided by whose list is neither empty nor too long
+-- what an act depends on whose list is neither empty nor too long
 abbrev pub needed_within : PlainBooks → Act → PlainView
 needed_within books asked = record (view_of books asked) {
   day_tickets = (needed_counts books asked).tickets;
@@ -120,6 +120,6 @@ abbrev pub needed_unless : PlainBooks → Act → Option Refusal → PlainView
 needed_unless books asked (Some refusal) = no_view
 needed_unless books asked None = needed_within books asked
 
--- what an act is decided by: nothing of the books where the length of its list refuses it
+-- what an act depends on: nothing of the books if the length of its list refuses it
 abbrev pub needed_of : PlainBooks → Act → PlainView
 needed_of books asked = needed_unless books asked (length_refusal asked)

@@ -14,14 +14,14 @@ use ee_units::{Customer, Day, Serial};
 use ee_value::RateRow;
 use std::alloc::AllocError;
 
-/// What a desk is asked to do. Each act is done whole or not at all.
+/// An act that a desk asks for. It is done whole or not at all.
 #[derive(Debug, PartialEq, Eq, Drop)]
 pub enum Act {
     /// Enters rates, 1 to 500 rows.
     AddRates(Rows<RateRow>),
     /// Registers bonds, 1 to 500 rows.
     AddBonds(Rows<Bond>),
-    /// Opens a day. One day is open at a time, and days that are opened rise.
+    /// Opens a day. Only one day is open at a time, and each day opened is later than those before.
     OpenDay(Day),
     /// Pays 1 to 100 bonds to their owner or coowner on one ticket of the open day.
     Redeem {
@@ -29,11 +29,11 @@ pub enum Act {
         payee: Customer,
         serials: Rows<Serial>,
     },
-    /// Closes the open day with the batch of its tickets.
+    /// Closes the open day, with the batch of its tickets.
     CloseDay(Day),
 }
 
-/// An act under a desk and a number that let it act at most once.
+/// An act under a desk and a number. It acts at most once.
 #[derive(Debug, Drop)]
 pub struct Request {
     pub desk: Desk,
@@ -42,7 +42,7 @@ pub struct Request {
 }
 
 impl Request {
-    /// The desk and the number, which stand for this request alone.
+    /// The desk and the number, which identify this request.
     pub fn request_number(&self) -> RequestNumber
         ensures { result ≡ number_of self.now }
     {
@@ -51,7 +51,7 @@ impl Request {
 }
 
 impl Act {
-    /// The same act once more.
+    /// A copy. Fails only if memory is refused.
     pub fn copy(&self) -> Result<Act, AllocError>
         ensures { IfOk result (λ a. a ≡ self.now) }
     {

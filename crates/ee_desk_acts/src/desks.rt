@@ -1,4 +1,4 @@
-//! The desks of a bank.
+//! The numbers of desks.
 
 ghost use Rattle.std.specs.Prelude.{◌≡◌, ◌≤◌, option_and_then};
 ghost use Rattle.std.specs.Char.{is_ascii_digit};
@@ -8,7 +8,7 @@ ghost use Rattle.ee_desk_acts.specs.Desks.{is_desk, desk_of};
 
 use std::marker::Model;
 
-/// One of the counters of a bank, 0 to 999: each numbers its requests apart.
+/// The number of a desk, 0 to 999. Each desk numbers its requests independently.
 #[derive(Clone, Copy, Debug, PartialEq, Eq, PartialOrd, Ord)]
 pub struct Desk {
     number: u16,
@@ -27,7 +27,7 @@ impl Model for Desk {
 }
 
 impl Desk {
-    /// The desk of that number, where it is in range.
+    /// The desk with this number; `None` above 999.
     pub const fn new(number: u16) -> Option<Desk>
         ensures { result ≡ in_range 0 999 number }
     {
@@ -38,7 +38,7 @@ impl Desk {
         }
     }
 
-    /// The first desk, 0: that of a request which names none.
+    /// The first desk, 0. A request that names no desk belongs to it.
     pub const fn first() -> Desk
         ensures { result ≡ 0 }
     {
@@ -67,7 +67,7 @@ fn is_desk(text: &str) -> bool
     !text.is_empty() && text.len() <= 3 && is_all_digits(text)
 }
 
-/// The desk that one to three digits spell. Leading zeros don't matter. It takes no memory.
+/// Reads a desk, one to three digits. Leading zeros are accepted. Takes no memory.
 pub fn read_desk(text: &str) -> Option<Desk>
     ensures { result ≡ desk_of text.now }
 {

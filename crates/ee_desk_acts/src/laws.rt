@@ -1,4 +1,4 @@
-//! Laws of the definitions: a body does nothing, and the clauses are the laws.
+//! Laws of the definitions. A body here does nothing; the clauses state the laws.
 
 ghost use Rattle.std.specs.Prelude.{◌≡◌, ◌↔◌, ℕ, true, [], Some};
 ghost use Rattle.ee_desk_acts.specs.declared.acts.Act.{Act};
@@ -15,8 +15,8 @@ ghost use Rattle.ee_desk_acts.specs.Sound.{IsSound};
 ghost use Rattle.ee_desk_acts.specs.Effects.{effects_of};
 ghost use Rattle.ee_desk_acts.specs.Queries.{bonds_of, inventory};
 
-/// Two books of which an act sees the same have the same effects; so have two books that agree in what
-/// the act is decided by. An act that the length of its list refuses is refused whatever is seen.
+/// If an act sees the same of two books, it has the same effects on both; so it has if both agree in what
+/// the act depends on. An act that the length of its list refuses is refused whatever the books are.
 pub const fn one_view()
     ensures seen { (one other : PlainBooks) (asked : Act) → view_of one asked ≡ view_of other asked
         → effects_of (shown one) asked ≡ effects_of (shown other) asked }
@@ -26,8 +26,8 @@ pub const fn one_view()
         → effects_of seen asked ≡ record { changes = []; reply = Refused refusal } }
 {}
 
-/// An act is decided on what it sees of the books as on the books, and on what it needs of them as on what it
-/// sees: the reply is that of the act, and the changes, applied one after another, give the books of the act.
+/// An act can be decided on what it sees of the books, and on what it needs of them: the reply is the same
+/// as on the whole books, and its changes, applied in order, give the books after the act.
 pub const fn view_decides()
     ensures reply { (books : PlainBooks) (asked : Act) → (effects_of (shown_by (view_of books asked)) asked).reply ≡ reply_to books asked }
     ensures books { (books : PlainBooks) (asked : Act) → applied books (effects_of (shown_by (view_of books asked)) asked).changes ≡ books_after books asked }
@@ -35,7 +35,7 @@ pub const fn view_decides()
         → effects_of (shown_by (needed_of books asked)) asked ≡ effects_of (shown_by (view_of books asked)) asked }
 {}
 
-/// An inventory shows that owner's unpaid bonds, the rates and the month alone: books that agree
+/// An inventory depends only on that owner's unpaid bonds, the rates and the month: books that agree
 /// there have the same sheet.
 pub const fn shows_own_bonds_alone()
     ensures { (one other : PlainBooks) (customer month : ℕ) → one.rates ≡ other.rates → bonds_of one customer ≡ bonds_of other customer
@@ -47,8 +47,8 @@ pub const fn same_acts()
     ensures { (one other : Act) → (same_act one other ≡ true) ↔ (one ≡ other) }
 {}
 
-/// Acts keep books sound. An act's plain numbers are in range, as those of all acts are that a
-/// program holds; or those of its changes are.
+/// Acts keep books sound, if the act's plain numbers are in range, as in every act of a program, or those
+/// of its changes are.
 pub const fn acts_keep_sound()
     ensures acts { (books : PlainBooks) (asked : Act) → IsSound books → IsActInRange asked → IsSound (books_after books asked) }
     ensures changes { (books : PlainBooks) (asked : Act) → IsSound books → AllByRecursion IsInRange (effects_of (shown books) asked).changes

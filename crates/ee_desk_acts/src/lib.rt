@@ -1,5 +1,5 @@
-//! What the desk of a paying agent is asked, what it answers, and what these mean: acts and replies
-//! as types, the books, the order of refusals, and requests that may come again as definitions.
+//! What the desk of a paying agent is asked and what it answers: acts and replies as types. The
+//! definitions describe the books, the order of refusals, and requests that may be repeated.
 #![tactic(auto)]
 
 mod acts;

@@ -6,7 +6,7 @@ ghost use Rattle.ee_units.specs.Spelling.{in_range};
 use crate::desks::Desk;
 use std::marker::Model;
 
-/// The number that a desk gives a request, 1 to 2^63 - 1.
+/// The number that a desk gives to a request, 1 to 2^63 - 1.
 #[derive(Clone, Copy, Debug, PartialEq, Eq, PartialOrd, Ord)]
 pub struct Number {
     value: u64,
@@ -25,7 +25,7 @@ impl Model for Number {
 }
 
 impl Number {
-    /// The number, where it is in range.
+    /// The number; `None` if it is out of range.
     pub const fn new(value: u64) -> Option<Number>
         ensures { result ≡ in_range 1 9223372036854775807 value }
     {
@@ -46,7 +46,7 @@ impl Number {
     }
 }
 
-/// A desk, and a number that it gave: what a request is known by. One request acts at most once.
+/// A desk and a number of that desk. It identifies a request, which acts at most once.
 #[derive(Clone, Copy, Debug, PartialEq, Eq, PartialOrd, Ord)]
 pub struct RequestNumber {
     desk: Desk,
@@ -78,7 +78,7 @@ impl RequestNumber {
         self.desk
     }
 
-    /// The number at that desk.
+    /// The number given by that desk.
     pub const fn number(self) -> Number
         ensures { result ≡ self.1 }
     {

@@ -1,4 +1,4 @@
-//! The plain numbers of what was typed are in range.
+//! Proof that the plain numbers of typed values are in range.
 
 ghost use Rattle.std.specs.List.{AllByRecursion};
 ghost use Rattle.ee_desk_acts.specs.Ranges.{IsInRange};

@@ -1,4 +1,4 @@
-//! Why an act is refused, and why a request is unserved.
+//! Refusals of acts, and reasons why a request is unserved.
 
 ghost use Rattle.std.specs.Prelude.{◌≡◌};
 ghost use Rattle.ee_desk_acts.specs.Codes.{code_of, name_of, number_of_unserved};
@@ -7,33 +7,33 @@ use ee_units::{Age, IssueMonth, Serial};
 use std::alloc::AllocError;
 use thiserror::Error;
 
-/// Why an act is refused. The first that holds is answered, in the order of the codes; those from 50
-/// on are tested serial by serial. A refusal changes nothing.
+/// Why an act is refused. If several apply, the reply is the first in order of the codes; those from 50
+/// on are tested serial number by serial number. A refusal changes nothing.
 #[derive(Clone, Copy, Debug, PartialEq, Eq)]
 pub enum Refusal {
-    /// The number has a kept reply for another act. This answer isn't kept.
+    /// The number has a kept reply to another act. This answer isn't kept.
     NumberReused,
-    /// There is no row, or no serial.
+    /// There are no rows, or no serial numbers.
     Empty,
-    /// There are more than 500 rows, or more than 100 serials.
+    /// There are more than 500 rows, or more than 100 serial numbers.
     TooMany,
-    /// The serial stands earlier in the request.
+    /// The serial number occurs earlier in the request.
     Repeated(Serial),
     /// The coowner is the owner.
     SameCoowner(Serial),
-    /// Rates are announced in May and November alone.
+    /// Rates are announced only in May and November.
     NotAnnouncementMonth(IssueMonth),
-    /// The month holds other rates, in the books or in an earlier row.
+    /// The month has other rates, in the books or in an earlier row.
     RateConflict(IssueMonth),
-    /// Some value at these rates can't be settled to the cent; this is the least such age.
+    /// A value at these rates can't be settled to the cent; this is the least such age.
     RateUnsettled(Age),
-    /// There are no rates for the period of issue.
+    /// There are no rates for the issue period.
     NoRate(Serial),
-    /// The serial is registered with other content.
+    /// The serial number is registered with other content.
     SerialConflict(Serial),
     /// A day is open.
     DayOpen,
-    /// The day is not after the last closed one.
+    /// The day is not after the last closed day.
     DayNotLater,
     /// No day is open.
     NoOpenDay,
@@ -41,13 +41,13 @@ pub enum Refusal {
     DayIsOther,
     /// The day has 1,000 tickets.
     DayFull,
-    /// The serial isn't registered.
+    /// The serial number isn't registered.
     UnknownSerial(Serial),
-    /// The payee is neither owner nor coowner.
+    /// The payee is neither the owner nor the coowner.
     NotPayee(Serial),
-    /// The bond stands on that ticket.
+    /// The bond was paid on this ticket.
     AlreadyPaid(Serial, u64),
-    /// The day's month is before the month of issue.
+    /// The day's month is before the issue month.
     NotIssued(Serial),
     /// The bond is younger than 12 months (31 CFR Part 351).
     NotEligible(Serial),
@@ -111,7 +111,7 @@ impl Refusal {
     }
 }
 
-/// Why a request got no reply. It then changed nothing, and its number stays as it was.
+/// Why a request got no reply. It changed nothing, and its number is as free as before.
 #[derive(Clone, Copy, Debug, PartialEq, Eq, Error)]
 pub enum Unserved {
     #[error("no memory")]
@@ -121,7 +121,7 @@ pub enum Unserved {
 }
 
 impl Unserved {
-    /// Its number, 1 or 2.
+    /// The code, 1 or 2.
     pub const fn code(self) -> u8
         ensures { result ≡ number_of_unserved self }
     {

@@ -1,4 +1,4 @@
-//! The terms that bonds earn by, with the unit values that they give.
+//! The terms at which bonds earn interest, with their unit values.
 
 ghost use Rattle.std.specs.Prelude.{◌≡◌, None, IfOk, MatchResult};
 ghost use Rattle.ee_value.specs.Fault.{IsFaultAt};
@@ -11,8 +11,8 @@ use std::fmt;
 use std::marker::Model;
 use std::rc::Rc;
 
-/// Rates, and the table of the unit values that they give. They leave no value unsettled. All that
-/// share terms share the one table.
+/// Rates and the table of their unit values. They leave no value unsettled. Copies of the terms share
+/// one table.
 #[derive(Drop)]
 pub struct Terms {
     rates: Rates,
@@ -32,8 +32,8 @@ impl Model for Terms {
 }
 
 impl Terms {
-    /// The terms of these rates: it makes their table. It fails by the least age at which a value is
-    /// unsettled, or by want of memory.
+    /// Makes the terms of these rates, with their table. Fails with the least age at which a value is unsettled,
+    /// or if memory is refused.
     pub fn new(alloc: Global, rates: Rates) -> Result<Terms, ValueFault>
         ensures { MatchResult result (λ terms. (terms ≡ rates) × (unsettled rates ≡ None)) (IsFaultAt (unsettled rates)) }
     {
@@ -43,7 +43,7 @@ impl Terms {
         Ok(Terms { rates, table })
     }
 
-    /// The rates. They leave no value unsettled.
+    /// The rates, which leave no value unsettled.
     pub fn rates(&self) -> Rates
         ensures value { result ≡ self.now }
         ensures settled { unsettled self.now ≡ None }
@@ -58,8 +58,7 @@ impl Terms {
         &self.table
     }
 
-    /// The same terms once more, with the same table. It takes no memory; it fails only where the
-    /// count of those that share the table is full.
+    /// A copy that shares the table. Takes no memory; fails only if the reference count is at its maximum.
     pub fn share(&self) -> Result<Terms, AllocError>
         ensures { IfOk result (λ terms. terms ≡ self.now) }
     {

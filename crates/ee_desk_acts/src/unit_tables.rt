@@ -1,4 +1,4 @@
-//! Terms that are kept, so that each of the rates has one table.
+//! Terms that are kept, so that each pair of rates has one table.
 
 ghost use Rattle.std.specs.Prelude.{◌≡◌, None, IfOk, IfSome, OnOk, OnErr, MatchResult};
 ghost use Rattle.std.specs.FinMap as finite;
@@ -13,7 +13,7 @@ use std::alloc::{AllocError, Global};
 use std::collections::BTreeMap;
 use std::marker::Model;
 
-/// Terms by their rates: for each of the rates one table, which is made once and shared.
+/// Terms by their rates. The table of each pair of rates is made once and shared.
 #[derive(Drop)]
 pub struct UnitTables {
     kept: BTreeMap<Rates, Terms>,
@@ -50,7 +50,7 @@ fn put(kept: &mut BTreeMap<Rates, Terms>, terms: &Terms) -> Result<(), AllocErro
 }
 
 impl UnitTables {
-    /// None. It takes no memory.
+    /// Creates an empty collection. Takes no memory.
     pub fn new(alloc: Global) -> UnitTables
         ensures { result ≡ finite.empty }
     {
@@ -59,7 +59,7 @@ impl UnitTables {
         }
     }
 
-    /// The terms that are kept of these rates.
+    /// The kept terms of these rates.
     fn found(&self, rates: Rates) -> Option<&Terms>
         ensures value { option_copied result ≡ finite.get self.now rates }
         ensures own { IfSome result (λ terms. terms.now ≡ rates) }
@@ -67,8 +67,8 @@ impl UnitTables {
         self.kept.get(&rates)
     }
 
-    /// The terms of these rates, with the table that is kept; None where none is. It takes no memory,
-    /// and fails only where the count of those that share the table is full.
+    /// The terms of these rates with their kept table; `None` if none is kept. Takes no memory; fails only if
+    /// the table's reference count is at its maximum.
     pub fn terms(&self, rates: Rates) -> Result<Option<Terms>, AllocError>
         ensures value { IfOk result (λ terms. terms ≡ finite.get self.now rates) }
         ensures own { IfOk result (λ terms. IfSome terms (λ own. own ≡ rates)) }
@@ -79,9 +79,8 @@ impl UnitTables {
         }
     }
 
-    /// The terms of these rates, with the table that is kept. Where none is, it makes the table and
-    /// keeps it. It fails by the least age at which a value is unsettled, or by want of memory, and
-    /// then keeps what it kept.
+    /// The terms of these rates with their kept table. If none is kept, makes one and keeps it. Fails with the
+    /// least age at which a value is unsettled, or if memory is refused; the kept tables then don't change.
     pub fn add(&mut self, alloc: Global, rates: Rates) -> Result<Terms, ValueFault>
         ensures value { MatchResult result (λ terms. (terms ≡ rates) × (unsettled rates ≡ None)) (IsFaultAt (unsettled rates)) }
         ensures ok { OnOk result (self.new ≡ finite.insert self.old rates rates) }
@@ -95,8 +94,8 @@ impl UnitTables {
         Ok(self.keep(&terms)?)
     }
 
-    /// These terms, with the table that is kept of their rates. Where none is, theirs is kept. Where
-    /// memory is refused, it keeps what it kept.
+    /// These terms with the kept table of their rates. If none is kept, keeps theirs. If memory is refused, the
+    /// kept tables don't change.
     pub fn keep(&mut self, terms: &Terms) -> Result<Terms, AllocError>
         ensures value { IfOk result (λ kept. kept ≡ terms.now) }
         ensures ok { OnOk result (self.new ≡ finite.insert self.old terms.now terms.now) }
