@@ -1,4 +1,4 @@
--- A run over any keeper, in the words of the laws.
+-- A run over any keeper, in the terms of the laws.
 use Rattle.std.specs.Prelude.{◌≡◌, true, List, [], ◌∷◌, ◌++◌, Result, Ok, Err}
 use Rattle.ee_desk_acts.specs.declared.acts.Request.{Request}
 use Rattle.ee_desk_acts.specs.declared.refusals.Unserved.{Unserved}
@@ -16,14 +16,14 @@ replies [] = []
 replies (Ok reply ∷ answers) = reply ∷ replies answers
 replies (Err error ∷ answers) = replies answers
 
--- a run as events: a request is delivered, or it isn't served
+-- a run as events: each request is delivered, or unserved
 abbrev pub events_of : List Request → List (Result Reply Unserved) → List Event
 events_of [] answers = []
 events_of (q ∷ qs) [] = []
 events_of (q ∷ qs) (Ok reply ∷ answers) = Deliver q ∷ events_of qs answers
 events_of (q ∷ qs) (Err error ∷ answers) = Not_served q ∷ events_of qs answers
 
--- the replies of a run are those told to its served requests
+-- the replies of a run are those given to its served requests
 abbrev pub TellsServed : Type 0
 TellsServed = (start : Content) (before qs : List Request) (answers : List (Result Reply Unserved))
     → AreAnswers start before qs answers → replies answers ≡ told start before (served qs answers)

@@ -1,4 +1,4 @@
--- Tellers whose requests come interleaved (this project's rule).
+-- Tellers whose requests are interleaved (this project's rule).
 use Rattle.std.specs.Prelude.{◌≡◌, ℕ, ◌+◌, ◌≤◌, false, ◌==◌, nat_lt, List, [], ◌∷◌, ◌++◌, length, map, filter, sum_by, drop, slice_index_or, IsPermutation, ⊤, if◌then◌else◌}
 use Rattle.std.specs.List.{AllByRecursion, list_any}
 use Rattle.ee_desk_acts.specs.declared.acts.Act.{Act}
@@ -21,7 +21,7 @@ use Rattle.ee_desk_acts.specs.Repeats.{Content}
 use Rattle.ee_desk_acts.specs.Contents.{books_after}
 use Rattle.ee_desk_acts.specs.Answers.{answer}
 
--- a request, and the place of its teller
+-- a request, and the position of its teller
 pub record Asked : Type 0 where
   pub teller : ℕ
   pub request : Request
@@ -29,15 +29,15 @@ pub record Asked : Type 0 where
 abbrev pub requests : List Asked → List Request
 requests merge = map (λ a. a.request) merge
 
--- a teller's requests in a merge, in their order
+-- a teller's requests in a merge, in order
 abbrev pub asked_by : ℕ → List Asked → List Request
 asked_by teller merge = requests (filter (λ a. a.teller == teller) merge)
 
--- what a teller has to ask
+-- the requests of a teller
 abbrev pub list_of : List (List Request) → ℕ → List Request
 list_of tellers teller = slice_index_or tellers teller []
 
--- a merge has each teller's requests in their order, and no others
+-- the merge contains each teller's requests in order, and no others
 abbrev pub IsMerge : List (List Request) → List Asked → Type 0
 IsMerge tellers merge = (teller : ℕ) → asked_by teller merge ≡ list_of tellers teller
 
@@ -48,7 +48,7 @@ IsRedeem (AddBonds bonds) = ⊥
 IsRedeem (OpenDay day) = ⊥
 IsRedeem (CloseDay day) = ⊥
 
--- two requests of different numbers, with no serial in both
+-- two requests with different numbers and no serial number in common
 abbrev pub AreStrange : Request → Request → Type 0
 AreStrange q r = (same_number (number_of q) (number_of r) ≡ false)
     × AllByRecursion (λ serial. list_any (same_serial serial) (serials_of r.act) ≡ false) (serials_of q.act)
@@ -56,12 +56,12 @@ AreStrange q r = (same_number (number_of q) (number_of r) ≡ false)
 abbrev pub AreStrangers : List Request → List Request → Type 0
 AreStrangers qs rs = AllByRecursion (λ q. AllByRecursion (AreStrange q) rs) qs
 
--- tellers that redeem, with no serial and no request number in two of the lists
+-- tellers that redeem, with no serial number and no request number in two of the lists
 pub record AreTellers (tellers : List (List Request)) : Type 0 where
   pub redeem : AllByRecursion (AllByRecursion (λ q. IsRedeem q.act)) tellers
   pub apart : (one other : ℕ) → (one == other) ≡ false → AreStrangers (list_of tellers one) (list_of tellers other)
 
--- how many tickets the open day has, 0 where none is open
+-- the number of tickets of the open day; 0 if no day is open
 abbrev pub open_tickets : PlainBooks → ℕ
 open_tickets books = (open_batch books).tickets
 
@@ -70,7 +70,7 @@ abbrev pub told : Content → List Request → List Request → List Reply
 told start before [] = []
 told start before (q ∷ qs) = answer start before q ∷ told start (before ++ q ∷ []) qs
 
--- those of a merge's replies that go to a teller
+-- the replies of a merge that go to one teller
 abbrev pub for_teller : ℕ → List Asked → List Reply → List Reply
 for_teller teller [] replies = []
 for_teller teller (a ∷ merge) [] = []
@@ -80,7 +80,7 @@ for_teller teller (a ∷ merge) (reply ∷ replies) =
 abbrev pub replies_to : ℕ → Content → List Asked → List Reply
 replies_to teller start merge = for_teller teller merge (told start [] (requests merge))
 
--- the number of a ticket, if it isn't one of the new ones
+-- the number of a ticket, if it isn't new
 abbrev pub old_number : ℕ → ℕ → ℕ
 old_number old ticket = if nat_lt old ticket then 0 else ticket
 
@@ -94,7 +94,7 @@ unnumbered old (reply.Ticket ticket) = reply.Ticket (record ticket { ticket = ol
 unnumbered old (Refused refusal) = Refused (unnumbered_refusal old refusal)
 unnumbered old other = other
 
--- the lines, so the serials and cents, that are paid after the start
+-- the lines, with their serial numbers and cents, that are paid after the start
 abbrev pub new_lines : Content → List Asked → List Line
 new_lines start merge = paid_lines (drop (length start.books.tickets) (books_after start (requests merge)).tickets)
 
@@ -105,7 +105,7 @@ pub record SameForAll (start : Content) (one other : List Asked) : Type 0 where
   pub paid : IsPermutation (new_lines start one) (new_lines start other)
   pub closes : (q : Request) (day : ℕ) → q.act ≡ CloseDay day → answer start (requests one) q ≡ answer start (requests other) q
 
--- in any two merges of the same lists, where the open day has room for all
+-- for any two merges of the same lists, if the open day has room for all tickets
 abbrev pub Interleaved : Type 0
 Interleaved = (start : Content) (tellers : List (List Request)) (one other : List Asked)
     → AreTellers tellers → IsMerge tellers one → IsMerge tellers other

@@ -1,4 +1,4 @@
--- What a keeper's store owes to the events.
+-- What a keeper's store must satisfy for the events.
 use Rattle.std.specs.Prelude.{◌≡◌, ◌⊎◌, true, false, List, [], ◌∷◌, Contains}
 use Rattle.std.specs.FinMap as finite
 use Rattle.ee_desk_acts.specs.declared.acts.Request.{Request}
@@ -7,22 +7,22 @@ use Rattle.ee_desk_acts.specs.Repeats.{Content}
 use Rattle.ee_desk_laws.specs.Events.{World, Told, Happens, one, decided, unserved}
 use Rattle.ee_desk_laws.specs.Events.Event.{Stop_between, Reopen}
 
--- what a disk may hold after a crash stands for a content that the world may leave
+-- whatever a disk may hold after a crash represents a content that the world may leave
 abbrev pub Leaves : {Disk : Type 0} → (Disk → Content → Type 0) → (Disk → Type 0) → World → Type 0
 Leaves Stands may_leave w = (disk : _) → may_leave disk → (left : Content) × Contains w.may left × Stands disk left
 
--- a keeper has the world's content, and a crash leaves it what it may leave the world
+-- a keeper has the world's content, and a crash leaves what the world may leave
 abbrev pub Follows : {Disk Keeper : Type 0} → (Disk → Content → Type 0) → (Keeper → Content → Type 0) → (Keeper → Disk → Type 0) → Keeper → World → Type 0
 Follows Stands has may_leave keeper w = has keeper w.now × Leaves Stands (may_leave keeper) w
 
--- the reply to a number that wasn't kept: a crash leaves the new content alone
+-- a reply to a number that wasn't kept: a crash leaves only the new content
 abbrev pub LeavesNew : {Disk Store : Type 0} → (Disk → Content → Type 0) → (Store → Disk → Type 0) → Type 0
 LeavesNew Stands may_leave = (store : _) (w : World) (q : Request) (told : List Told)
     → finite.contains_key w.now.kept (number_of q) ≡ false
     → ((disk : _) → may_leave store disk → Stands disk (one w.now q))
     → Leaves Stands (may_leave store) (decided w q told)
 
--- the reply to a kept number: a crash leaves what it could leave before
+-- a reply to a kept number: a crash leaves what it could leave before
 abbrev pub LeavesKept : {Disk Store : Type 0} → (Disk → Content → Type 0) → (Store → Disk → Type 0) → Type 0
 LeavesKept Stands may_leave = (old new : _) (w : World) (q : Request) (told : List Told)
     → finite.contains_key w.now.kept (number_of q) ≡ true
@@ -41,7 +41,7 @@ LeavesAsBefore Stands may_leave = (old new : _) (w : World)
     → ((disk : _) → may_leave new disk → may_leave old disk)
     → Leaves Stands (may_leave old) w → Leaves Stands (may_leave new) w
 
--- a crash leaves a disk, and a store is opened on it that leaves what stands for the same: a stop and a reopening
+-- a crash leaves a disk, and a store opened on it leaves what represents the same: a stop and a reopening
 abbrev pub LeavesReopened : {Disk Store : Type 0} → (Disk → Content → Type 0) → (Store → Disk → Type 0) → Type 0
 LeavesReopened {Disk = Disk} Stands may_leave = (old new : _) (w : World) (found : Disk)
     → may_leave old found

@@ -1,5 +1,5 @@
-//! Laws over the definitions of requests alone: what stops and retries leave, what the order of
-//! tellers changes, and what a keeper over a store owes to the first of them.
+//! Laws that follow from the definitions of requests alone: what stops and retries leave, what the order
+//! of tellers changes, and what a keeper over a store must satisfy for the first of them.
 #![tactic(auto)]
 
 mod laws;
