@@ -1,5 +1,5 @@
--- Acts and replies as JSON (this project's rule): keys in the order of their bytes; money, rates, months, days and
--- serials are strings, all other numbers are numbers.
+-- Acts and replies as JSON (this project's rule). Keys are in the order of their bytes. Money, rates, months, days and
+-- serial numbers are strings; all other numbers are numbers.
 use Rattle.std.specs.Prelude.{ℕ, List, map, codes, Option, Some, None}
 use Rattle.serde_json.specs.Data.{Data, number, unsigned, string, array, object, Members, no_members, member}
 use Rattle.serde_json.specs.View.{items_of}
@@ -48,7 +48,7 @@ list_data row rows = array (items_of (map row rows))
 
 -- ---- acts
 
--- where the extension is the fixed rate, its key is missing
+-- if the extension equals the fixed rate, its key is missing
 abbrev pub with_extension : Option ℕ → Members → Members
 with_extension None members = members
 with_extension (Some extension) members = member (codes "extension") (rate_data extension) members
@@ -59,7 +59,7 @@ rate_row_data row =
     object (with_extension (named_extension row.rates) (member (codes "from") (month_data row.from)
     (member (codes "rate") (rate_data row.rates.fixed) no_members)))
 
--- without a coowner that key is missing
+-- without a coowner, the key is missing
 abbrev pub with_coowner : Option ℕ → Members → Members
 with_coowner None members = members
 with_coowner (Some coowner) members = member (codes "coowner") (number_data coowner) members
@@ -122,7 +122,7 @@ names (refusal.AlreadyPaid serial ticket) = named.Paid serial ticket
 names (refusal.NotIssued serial) = named.Bond serial
 names (refusal.NotEligible serial) = named.Bond serial
 
--- a refusal's code, its name and what it names; an age stands as a number under the key `month`
+-- a refusal's code, its name and what it names; an age is a number under the key `month`
 abbrev pub refused_data : ℕ → List ℕ → Named → Data
 refused_data code name named.Nothing =
     object (member (codes "code") (number_data code) (member (codes "refused") (string name) no_members))

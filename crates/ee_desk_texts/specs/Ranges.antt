@@ -1,4 +1,4 @@
--- Acts and replies whose plain numbers are in the ranges of their types, as all that a program holds are.
+-- Acts and replies whose plain numbers are in the ranges of their types, as in every program.
 use Rattle.std.specs.Prelude.{ℕ, ◌^◌, ◌<◌, ◌≤◌, IfSome, ⊤}
 use Rattle.std.specs.List.{AllByRecursion}
 use Rattle.ee_units.specs.Spelling.{SerialNumber}

@@ -1,4 +1,5 @@
--- Which act, and which reply, a JSON is. The readers are lenient: a text is taken only where it is the text of what was read.
+-- The act or reply that a JSON value represents. The readers are lenient; a text is accepted only if it is the canonical
+-- text of what was read.
 use Rattle.std.specs.Prelude.{◌≡◌, ◌≢◌, ℕ, ◌+◌, ◌*◌, ◌-◌, ◌^◌, ◌==◌, ◌&&◌, Bool, nat_lt, nat_le, length, if◌then◌else◌, List, [], ◌∷◌, codes, Option, Some, None, option_and_then, option_map, bytes_eq, MatchOption}
 use Rattle.std.specs.Option.{option_or}
 use Rattle.std.specs.Char.{is_ascii_digit}
@@ -33,11 +34,11 @@ cents_of text = do
   part ← digits_of 2 (parts.1)
   in_range 0 (2 ^ 64 - 1) (100 * whole + part)
 
--- one digit or more, and nothing else
+-- one or more digits, and nothing else
 unfoldable pub is_whole : List ℕ → Bool
 is_whole text = nat_le 1 (length text) && list_all is_ascii_digit text
 
--- the number that they write, below 2^64
+-- the number that these digits write, below 2^64
 unfoldable pub count_of : List ℕ → Option ℕ
 count_of text = if is_whole text then (if nat_lt (digits_value 10 text) (2 ^ 64) then Some (digits_value 10 text) else None) else None
 
@@ -132,7 +133,7 @@ act_named name d =
 abbrev pub act_of : Json → Option Act
 act_of d = text_at (codes "act") d >>= λ name. act_named name d
 
--- an act in range whose canonical text this is, or None where there is none
+-- an act in range whose canonical text this is, or None if there is none
 abbrev pub ReadsAct : List ℕ → Option Act → Type 0
 ReadsAct text o = MatchOption o ((a : Act) → ActFits a → text ≢ act_text a) (λ a. ActFits a × (text ≡ act_text a))
 
@@ -225,13 +226,13 @@ refused_of d = do
   refusal ← refusal_with code (named_of d)
   Some (reply.Refused refusal)
 
--- the shapes one after the other
+-- the shapes, tried in order
 abbrev pub short_reply_of : Json → Option Reply
 short_reply_of d = option_or (added_of d) (option_or (opened_of d) (option_or (batch_of d) (refused_of d)))
 
 abbrev pub reply_of : Json → Option Reply
 reply_of d = option_or (short_reply_of d) (ticket_of d)
 
--- a reply in range whose text this is, or None where there is none
+-- a reply in range whose text this is, or None if there is none
 abbrev pub ReadsReply : List ℕ → Option Reply → Type 0
 ReadsReply text o = MatchOption o ((p : Reply) → ReplyFits p → text ≢ reply_text p) (λ p. ReplyFits p × (text ≡ reply_text p))

@@ -1,4 +1,4 @@
-//! Acts back from their texts.
+//! Reading acts from their texts.
 
 ghost use Rattle.std.specs.Prelude.{◌≡◌, IfOk, option_map};
 ghost use Rattle.json.specs.Value.{value_view, items_view};
@@ -176,7 +176,7 @@ fn act_of(alloc: Global, value: &Value<'_>) -> Result<Option<Act>, AllocError>
     }
 }
 
-/// The act of which the text is the canonical one, or None where it is that of none. Another order
+/// Parses a canonical act. `None` if the text isn't exactly the canonical text of an act: another order
 /// of keys, another spelling or a space makes another text.
 pub fn read_act(alloc: Global, text: &str) -> Result<Option<Act>, AllocError>
     ensures { IfOk result (λ o. ReadsAct text.now o) }

@@ -1,4 +1,4 @@
-//! Acts as JSON, and its text.
+//! Acts as JSON, and their canonical texts.
 
 ghost use Rattle.std.specs.Prelude.{◌≡◌, IfOk, codes, string_bytes, [], ◌∷◌};
 ghost use Rattle.json.specs.Token as token;
@@ -71,7 +71,7 @@ fn begin_act(out: &mut Writer, name: &str) -> Result<(), AllocError>
     out.string(name)
 }
 
-// An act that has a list alone, under its own name.
+// An act that consists of a list, under its own name.
 fn write_list_act<R: Row>(
     alloc: Global,
     out: &mut Writer,
@@ -86,7 +86,7 @@ fn write_list_act<R: Row>(
     out.end_object()
 }
 
-// An act that has a day alone.
+// An act that consists of a day.
 fn write_day_act(alloc: Global, out: &mut Writer, name: &str, day: Day) -> Result<(), AllocError>
     ensures { AddsData result out.old out.new
         (object (member (codes "act") (string name.now) (member (codes "day") (day_data day) no_members))) }
@@ -128,8 +128,8 @@ fn write_act(alloc: Global, out: &mut Writer, act: &Act) -> Result<(), AllocErro
     }
 }
 
-/// The canonical text of an act: compact JSON, with keys in the order of their bytes. Two acts have
-/// one text only where they are equal (`texts_law`). Any act is in range, by its types.
+/// The canonical text of an act: compact JSON, with keys in the order of their bytes. Different acts have
+/// different texts (`texts_law`). Each act is in range, by its types.
 pub fn canonical(alloc: Global, act: &Act) -> Result<String, AllocError>
     ensures text { IfOk result (λ s. string_bytes s ≡ act_text act.now) }
     ensures fits { ActFits act.now }

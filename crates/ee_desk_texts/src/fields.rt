@@ -1,4 +1,4 @@
-//! Values under a key of a JSON object, whose texts are borrowed.
+//! Values under a key of a JSON object; their texts are borrowed.
 
 ghost use Rattle.std.specs.Prelude.{◌≡◌, option_map};
 ghost use Rattle.std.specs.Char.{is_ascii_digit};

@@ -1,4 +1,4 @@
-//! Laws of the definitions: a body does nothing, and the clauses are the laws.
+//! Laws of the definitions. A body here does nothing; the clauses state the laws.
 
 ghost use Rattle.std.specs.Prelude.{◌≡◌, Option, Some};
 ghost use Rattle.ee_desk_acts.specs.declared.acts.Act.{Act};
@@ -7,8 +7,8 @@ ghost use Rattle.ee_desk_texts.specs.Texts.{act_text, reply_text};
 ghost use Rattle.ee_desk_texts.specs.Ranges.{ActFits, ReplyFits};
 ghost use Rattle.ee_desk_texts.specs.Reading.{ReadsAct, ReadsReply};
 
-/// What is written reads back: from the canonical text of an act just that act is read, and from the
-/// text of a reply just that reply. So each text is that of one act, or of one reply, alone.
+/// What is written reads back: the canonical text of an act is read as that act, and the text of a reply
+/// as that reply. So no two acts share a text, and no two replies do.
 pub const fn texts_law()
     ensures acts { (a : Act) (o : Option Act) → ActFits a → ReadsAct (act_text a) o → o ≡ Some a }
     ensures replies { (p : Reply) (o : Option Reply) → ReplyFits p → ReadsReply (reply_text p) o → o ≡ Some p }

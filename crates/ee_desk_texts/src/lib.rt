@@ -1,5 +1,5 @@
-//! The JSON texts of acts and replies: canonical texts of acts, by which acts are kept and compared,
-//! texts of replies, and both read back; and JSON that is written a value at a time.
+//! The JSON texts of acts and replies: canonical texts, by which acts are kept and compared, and texts of
+//! replies. Both can be read back. Also writes JSON one value at a time.
 #![tactic(auto)]
 
 mod act_reading;

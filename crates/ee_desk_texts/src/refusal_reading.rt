@@ -1,4 +1,4 @@
-//! Refusals back from their JSON.
+//! Reading refusals from their JSON.
 
 ghost use Rattle.std.specs.Prelude.{◌≡◌};
 ghost use Rattle.json.specs.Value.{value_view};
@@ -106,7 +106,7 @@ fn refusal_with(code: u64, named: Named) -> Option<Refusal>
     }
 }
 
-/// The refusal that the JSON is, by its code and by what it names.
+/// The refusal that a JSON value represents, by its code and by what it names.
 #[tactic(auto, unfolding(crate::specs::Reading::refused_of))]
 pub fn refused_of(value: &Value<'_>) -> Option<Reply>
     ensures { result ≡ refused_of (value_view value.now) }

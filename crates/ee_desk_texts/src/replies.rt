@@ -1,4 +1,4 @@
-//! Replies as JSON, and its text.
+//! Replies as JSON, and their texts.
 
 ghost use Rattle.std.specs.Prelude.{◌≡◌, IfOk, string_bytes};
 ghost use Rattle.ee_desk_acts.specs.declared.replies.Reply.TheVariants as reply;
@@ -80,8 +80,8 @@ fn write_reply(alloc: Global, out: &mut Writer, reply: &Reply) -> Result<(), All
     }
 }
 
-/// The text of a reply: compact JSON, with keys in the order of their bytes. Two replies have one
-/// text only where they are equal (`texts_law`). Any reply is in range, by its types.
+/// The text of a reply: compact JSON, with keys in the order of their bytes. Different replies have
+/// different texts (`texts_law`). Each reply is in range, by its types.
 pub fn reply_text(alloc: Global, reply: &Reply) -> Result<String, AllocError>
     ensures text { IfOk result (λ s. string_bytes s ≡ reply_text reply.now) }
     ensures fits { ReplyFits reply.now }

@@ -1,4 +1,4 @@
-//! Replies back from their texts.
+//! Reading replies from their texts.
 
 ghost use Rattle.std.specs.Prelude.{◌≡◌, IfOk, option_map};
 ghost use Rattle.json.specs.Value.{value_view, items_view};
@@ -110,7 +110,7 @@ fn reply_of(alloc: Global, value: &Value<'_>) -> Result<Option<Reply>, AllocErro
     }
 }
 
-/// The reply whose text this is, or None where it is that of none.
+/// Parses the text of a reply. `None` if the text isn't exactly the text of a reply.
 pub fn read_reply(alloc: Global, text: &str) -> Result<Option<Reply>, AllocError>
     ensures { IfOk result (λ o. ReadsReply text.now o) }
 {

@@ -1,4 +1,4 @@
-//! JSON that is written a value at a time, with no tree of it in memory.
+//! Writing JSON one value at a time, without a tree in memory.
 
 ghost use Rattle.std.specs.Prelude.{◌≡◌, IfSome, [], string_bytes};
 ghost use Rattle.json.specs.Print.{print};
@@ -10,7 +10,7 @@ use json::Writer;
 use std::alloc::{AllocError, Global};
 use std::fmt::Display;
 
-/// Writes a string: the value as it is printed.
+/// Writes a string: the value as it is displayed.
 pub fn write_string<D: Display>(
     alloc: Global,
     out: &mut Writer,
@@ -22,7 +22,7 @@ pub fn write_string<D: Display>(
     out.string(text.as_str())
 }
 
-/// Writes a member whose value is a string: the value as it is printed.
+/// Writes a member whose value is a string: the value as it is displayed.
 pub fn write_string_member<D: Display>(
     alloc: Global,
     out: &mut Writer,
@@ -80,7 +80,7 @@ pub fn write_list_member<R: Row>(
     out.end_array()
 }
 
-/// The text that was written.
+/// The text written so far.
 pub fn text_of(out: Writer) -> String
     requires { out.before ≡ [] }
     ensures { string_bytes result ≡ print out.tokens }
