@@ -1,4 +1,4 @@
--- Where none of the rows is refused, each of them isn't.
+-- If none of the rows is refused, no single row is.
 use Rattle.std.proofs.Common.{◌≡◌, ℕ, zero, suc, ◌<◌, List, [], ◌∷◌, length, get_or, Option, None, arith, ap, ◌∙◌}
 use Rattle.ee_desk_acts.specs.declared.refusals.Refusal.{Refusal}
 use Rattle.ee_desk_acts.specs.Refusals.{first_of}

@@ -1,4 +1,4 @@
--- What the parts of a view stand for.
+-- The view that its parts represent.
 use Rattle.std.specs.FinMap as finite
 use Rattle.ee_desk_acts.specs.Views.{PlainView}
 use Rattle.ee_desk_decide.specs.declared.views.ViewParts.{ViewParts}

@@ -1,4 +1,4 @@
-//! The tests of acts, in their order.
+//! The tests of acts, in order.
 ghost use Rattle.std.specs.Prelude.{◌≡◌, None, [], find, ◌==◌, length, IfOk};
 ghost use Rattle.std.specs.Option.{option_map};
 ghost use Rattle.std.specs.List.{list_any};
@@ -17,7 +17,7 @@ use ee_units::{Customer, Day, IssueMonth, Month, Serial};
 use ee_value::Rates;
 use std::alloc::{AllocError, Global};
 
-/// How the length of a list refuses it.
+/// The refusal of a list by its length.
 fn refusal_of_length(most: usize, count: usize) -> Option<Refusal>
     ensures { result ≡ is.refusal_of_length most count }
 {
@@ -30,7 +30,7 @@ fn refusal_of_length(most: usize, count: usize) -> Option<Refusal>
     None
 }
 
-/// How the length of its list refuses an act: then nothing of the books has to be looked at.
+/// The refusal of an act by the length of its list. If there is one, nothing has to be looked up.
 pub fn length_refusal(act: &Act) -> Option<Refusal>
     ensures { result ≡ is.length_refusal act.now }
 {
@@ -53,7 +53,7 @@ fn first_unannounced(rows: &[RateRow]) -> Option<Refusal>
     None
 }
 
-/// The rates of a month in the first row that has it.
+/// The rates of a month in the first row for it.
 fn rate_among(rows: &[RateRow], month: IssueMonth) -> Option<Rates>
     ensures { result ≡ option_map (λ row. row.rates) (find (λ row. row.from == month) rows.now) }
 {
@@ -256,7 +256,7 @@ fn refusal_of_day(opened: Option<Day>, day: Day) -> Option<Refusal>
     }
 }
 
-/// A serial through the tests of its own.
+/// The tests of one serial number.
 fn refusal_of_serial(view: &View, month: Month, payee: Customer, serial: Serial) -> Option<Refusal>
     ensures { result ≡ is.refusal_of_serial (shown_by view.now) month payee serial }
 {
@@ -316,7 +316,7 @@ fn refusal_of_redeem(view: &View, day: Day, payee: Customer, serials: &[Serial])
     first_unpayable(view, month_of(day), payee, serials)
 }
 
-/// The first refusal of an act. The tables of new rates are kept.
+/// The first refusal of an act. Keeps the tables of new rates.
 pub fn refusal(
     alloc: Global,
     tables: &mut UnitTables,

@@ -1,4 +1,4 @@
-//! The decision of an act by what it sees.
+//! Deciding an act on what it sees.
 ghost use Rattle.std.specs.Prelude.{◌≡◌, ◌+◌, ◌≤◌, ◌<◌, [], ◌∷◌, ◌-◌, map, length, IfOk, None, Some};
 ghost use Rattle.ee_units.specs.Calendar.{month_of_day};
 ghost use Rattle.ee_desk_acts.specs.Views.{shown_by};
@@ -18,7 +18,7 @@ use ee_units::calendar::{month_of, period_of};
 use ee_units::{Cents, Customer, Day, Month, Serial};
 use std::alloc::{AllocError, Global};
 
-/// What a bond is worth in a month, at the rates that the view has.
+/// The value of a bond in a month, at the rates in the view.
 fn worth_by(view: &View, bond: &Bond, month: Month) -> Cents
     requires { bond.now.issued + 12 ≤ month }
     ensures value { result.0 ≡ seen.value_in (shown_by view.now) month bond.now }
@@ -43,7 +43,7 @@ fn line_for(view: &View, month: Month, payee: Customer, serial: Serial) -> Line
     Line { serial, cents }
 }
 
-/// The next ticket, of these serials.
+/// The next ticket, which pays these serial numbers.
 fn ticket_for(
     alloc: Global,
     view: &View,
@@ -73,7 +73,7 @@ fn ticket_for(
     })
 }
 
-/// A change for each row that is new, with the table that is kept of its rates.
+/// One change for each new row, with the kept table of its rates.
 fn new_rates(
     alloc: Global,
     tables: &mut UnitTables,
@@ -94,7 +94,7 @@ fn new_rates(
     Ok(changes)
 }
 
-/// A change for each bond that is new.
+/// One change for each new bond.
 fn new_bonds(alloc: Global, view: &View, bonds: &[Bond]) -> Result<Vec<Change>, AllocError>
     ensures changes { IfOk result (λ c. c.items ≡ map change.Bond (is.new_bonds (shown_by view.now) bonds.now)) }
     ensures few { IfOk result (λ c. length c.items ≤ length bonds.now) }
@@ -108,7 +108,7 @@ fn new_bonds(alloc: Global, view: &View, bonds: &[Bond]) -> Result<Vec<Change>, 
     Ok(changes)
 }
 
-/// These changes, and how many of the rows are new.
+/// The effects of adding rows: these changes, and the counts of new and known rows.
 fn added(changes: Vec<Change>, asked: usize) -> Effects
     requires { length changes.items ≤ asked }
     ensures { result ≡ record { changes = changes.items; reply = Reply.Added (length changes.items) (asked - length changes.items) } }
@@ -177,7 +177,7 @@ fn refused(alloc: Global, refusal: Refusal) -> Effects
     }
 }
 
-/// What an act does that no test refuses.
+/// The effects of an act that isn't refused.
 fn accepted(
     alloc: Global,
     tables: &mut UnitTables,
@@ -206,8 +206,8 @@ fn accepted(
     }
 }
 
-/// The effects of an act, by what it sees of the books: its first refusal and no change, or the
-/// changes that do the whole act and its reply. It fails by want of memory alone.
+/// The effects of an act, decided on what it sees of the books: its first refusal and no change, or the
+/// changes of the whole act and its reply. Fails only if memory is refused.
 pub fn decide(alloc: Global, view: &View, act: &Act) -> Result<Effects, AllocError>
     ensures { IfOk result (λ e. e ≡ is.effects_of (shown_by view.now) act.now) }
 {

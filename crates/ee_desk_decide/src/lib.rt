@@ -1,4 +1,4 @@
-//! What an act sees of the books, and what it does by that alone.
+//! What an act sees of the books, and its effects, which depend on nothing else.
 #![tactic(auto)]
 
 mod checks;

@@ -1,4 +1,4 @@
-//! What a bond is worth, and which rates leave a value unsettled.
+//! The value of a bond, and rates that leave a value unsettled.
 
 ghost use Rattle.std.specs.Prelude.{◌≡◌, ◌+◌, ◌≤◌, IfOk, IfSome, IsSome, true, None};
 ghost use Rattle.ee_desk_acts.specs.Values.{value_of, unsettled};
@@ -10,7 +10,7 @@ use ee_units::{Age, Cents, Month};
 use ee_value::{Quote, Rates, ValueFault, bond_value};
 use std::alloc::{AllocError, Global};
 
-/// Whether the view has these very rates: they then leave no value unsettled.
+/// Whether the view has exactly these rates: they then leave no value unsettled.
 fn has_rates(view: &View, row: &RateRow) -> bool
     ensures { result ≡ true → unsettled row.now.rates ≡ None }
 {
@@ -20,7 +20,7 @@ fn has_rates(view: &View, row: &RateRow) -> bool
     }
 }
 
-/// The least age at which a value at a row's rates is unsettled. The table of new rates is kept.
+/// The least age at which a value at the row's rates is unsettled. Keeps the table of new rates.
 pub fn unsettled(
     alloc: Global,
     tables: &mut UnitTables,
@@ -47,7 +47,7 @@ fn unsettled_age(fault: ValueFault) -> Result<Option<Age>, AllocError>
     }
 }
 
-/// The terms of rates that leave no value unsettled, with the table that is kept.
+/// The terms of rates that leave no value unsettled, with their kept table.
 pub fn settled_terms(
     alloc: Global,
     tables: &mut UnitTables,
@@ -63,7 +63,7 @@ pub fn settled_terms(
     }
 }
 
-/// What a bond is worth in a month, at least 12 months after its issue.
+/// The value of a bond in a month at least 12 months after its issue.
 pub fn worth(terms: &Terms, bond: &Bond, month: Month) -> Cents
     requires { bond.now.issued + 12 ≤ month }
     ensures value { result.0 ≡ value_of terms.now bond.now month }

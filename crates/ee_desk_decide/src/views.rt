@@ -17,10 +17,10 @@ use std::alloc::Global;
 use std::collections::BTreeMap;
 use std::marker::Model;
 
-/// The most tickets of sound books: 1,000 on each day.
+/// The maximum number of tickets in sound books: 1,000 on each day.
 const MOST_TICKETS: u64 = 71_200_000;
 
-/// The tickets of the open day: how many they are, how many bonds they paid, and their sum.
+/// The tickets of the open day: how many there are, how many bonds they paid, and their sum.
 #[derive(Clone, Copy)]
 pub struct DayCounts {
     pub tickets: u64,
@@ -29,7 +29,7 @@ pub struct DayCounts {
 }
 
 impl DayCounts {
-    /// So many tickets, without what they paid.
+    /// Counts `tickets` tickets, without what they paid.
     pub const fn of_tickets(tickets: u64) -> DayCounts
         ensures tickets { result.tickets ≡ tickets }
         ensures bonds { result.bonds ≡ 0 }
@@ -43,32 +43,32 @@ impl DayCounts {
     }
 }
 
-/// The parts of a view, as a store has them: for each act the rates and bonds that it names, the
-/// days, and the counts of tickets.
+/// The parts of a view, as a store supplies them: the rates and bonds that the act names, the days, and
+/// the counts of tickets.
 #[derive(Drop)]
 pub struct ViewParts {
-    /// The terms of a period: the months of the rows, or the issue periods of the rows or of the
+    /// The terms by period, for the months of the rows, or for the issue periods of the rows or of the
     /// registered bonds that are named. Terms carry their table, which is made once and shared.
     pub rates: BTreeMap<IssueMonth, Terms>,
-    /// The registered bonds that are named, and the tickets that paid them.
+    /// The named bonds that are registered, and the tickets that paid them.
     pub bonds: BTreeMap<Serial, Held>,
     /// The open day.
     pub day: Option<Day>,
     /// The last closed day.
     pub last_day: Option<Day>,
-    /// How many tickets there are over all days.
+    /// The number of tickets across all days.
     pub tickets: u64,
-    /// How many tickets the open day has, for the acts that count them; else 0.
+    /// The number of tickets of the open day, for acts that count them; else 0.
     pub day_tickets: u64,
-    /// How many bonds these paid. A redemption isn't decided by it.
+    /// The number of bonds that these paid. A redemption doesn't depend on it.
     pub day_bonds: u64,
-    /// Their sum. A redemption isn't decided by it.
+    /// Their sum. A redemption doesn't depend on it.
     pub day_total: Cents,
 }
 
 /// What an act sees of the books: the rates and bonds that it names, the days, and the counts of
-/// tickets. Its rates leave no value unsettled, and their tables are shared with the books. It counts
-/// at most 71,200,000 tickets.
+/// tickets. The rates leave no value unsettled, and their tables are shared with the books. The view
+/// counts at most 71,200,000 tickets.
 #[derive(Drop)]
 pub struct View {
     parts: ViewParts,
@@ -91,7 +91,7 @@ impl Model for View {
 }
 
 impl View {
-    /// The view of these parts.
+    /// The view with these parts.
     pub fn new(parts: ViewParts) -> View
         requires { parts.tickets ≤ 71200000 }
         ensures { result ≡ plain_parts parts }
@@ -99,7 +99,7 @@ impl View {
         View { parts }
     }
 
-    /// A view of nothing. It takes no memory.
+    /// A view that shows nothing. Takes no memory.
     pub fn of_nothing(alloc: Global) -> View
         ensures { result ≡ no_view }
     {
@@ -117,8 +117,8 @@ impl View {
         }
     }
 
-    /// The view of parts that a store has; None where they count more than 71,200,000 tickets, as no
-    /// sound books do. It takes no memory.
+    /// The view with the parts that a store supplies; `None` if they count more than 71,200,000 tickets,
+    /// which sound books never do. Takes no memory.
     pub fn from_parts(parts: ViewParts) -> Option<View>
         ensures some { IfSome result (λ v. v ≡ plain_parts parts) }
         ensures fits { (books : PlainBooks) (asked : Act) → IsSound books → plain_parts parts ≡ view_of books asked → IsSome result }
@@ -170,7 +170,7 @@ impl View {
         self.parts.last_day
     }
 
-    /// How many tickets there are over all days.
+    /// The number of tickets across all days.
     pub fn tickets(&self) -> u64
         ensures value { result ≡ self.now.tickets }
         ensures few { self.now.tickets ≤ 71200000 }
