@@ -1,4 +1,4 @@
--- What is checked of parts.
+-- What is checked about parts.
 use Rattle.std.specs.Prelude.{◌≡◌, ℕ, ◌+◌, ◌<◌, ◌≤◌, true, List, [], ◌∷◌, map, Option, Some, IfSome, ⊤}
 use Rattle.std.specs.List.{AllByRecursion}
 use Rattle.std.specs.declared.cmp.Ordering.TheVariants.{Less}
@@ -38,27 +38,27 @@ rates_in rows = finite.from_entries (map entry_of_row rows)
 abbrev pub bonds_in : List Bond → FinMap serial_cmp Bond
 bonds_in bonds = finite.from_entries (map entry_of_bond bonds)
 
--- each stands in this relation to all after it
+-- each element is related so to all after it
 abbrev pub InOrder : {K : Type 0} → (K → K → Type 0) → List K → Type 0
 InOrder R [] = ⊤
 InOrder R (k ∷ ks) = AllByRecursion (R k) ks × InOrder R ks
 
--- the last one, if there is one, stands in it to the next
+-- the last element, if there is one, is related so to the next
 abbrev pub IsAfter : {K : Type 0} → (K → K → Type 0) → Option K → K → Type 0
 IsAfter R last k = IfSome last (λ j. R j k)
 
 abbrev pub IsBefore : SerialNumber → SerialNumber → Type 0
 IsBefore one other = serial_cmp one other ≡ Less
 
--- each month is below those after it
+-- each month is before those after it in the list
 abbrev pub HaveRisingMonths : List RateRow → Type 0
 HaveRisingMonths rows = InOrder ◌<◌ (map (λ row. row.from) rows)
 
--- each serial is before those after it
+-- each serial number is before those after it in the list
 abbrev pub HaveRisingSerials : List Bond → Type 0
 HaveRisingSerials bonds = InOrder IsBefore (map (λ bond. bond.serial) bonds)
 
--- the books that parts stand for
+-- the books that parts represent
 abbrev pub books_of : Parts → PlainBooks
 books_of parts = record {
   rates = rates_in parts.rates;
@@ -69,7 +69,7 @@ books_of parts = record {
   batches = parts.batches;
 }
 
--- parts of sound books
+-- the parts of sound books
 pub record AreSound (parts : Parts) : Type 0 where
   pub months : HaveRisingMonths parts.rates
   pub serials : HaveRisingSerials parts.bonds
@@ -78,11 +78,11 @@ pub record AreSound (parts : Parts) : Type 0 where
 abbrev pub IsRightRow : RateRow → Type 0
 IsRightRow row = IsRightRate row.from row.rates
 
--- a bond that may stand under its own serial
+-- a bond that may be registered under its own serial number
 abbrev pub IsRightOwn : FinMap nat_cmp Rates → Bond → Type 0
 IsRightOwn rates bond = IsRightBond rates bond.serial bond
 
--- a line pays a bond of the payee, 12 months old at least, its value in the month of the day
+-- a line pays a bond of the payee, at least 12 months old, its value in the month of the day
 abbrev pub PaysBond : FinMap nat_cmp Rates → Bond → Ticket → Line → Type 0
 PaysBond rates bond ticket line =
     (terms : Rates)
@@ -98,7 +98,7 @@ pub record IsRegister (rows : List RateRow) (own : List Bond) : Type 0 where
   pub right : AllByRecursion IsRightRow rows
   pub owned : AllByRecursion (IsRightOwn (rates_in rows)) own
 
--- tickets that pay registered bonds, each once, what they are worth at these rates
+-- tickets that pay registered bonds, each once, their value at these rates
 pub record CanBePaid (rates : FinMap nat_cmp Rates) (held : List (SerialNumber × Held)) (tickets : List Ticket) : Type 0 where
   pub numbered : NumberedFrom 1 tickets
   pub in_order : InOrder ◌≤◌ (map day_of tickets)

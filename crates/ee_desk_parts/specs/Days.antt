@@ -15,7 +15,7 @@ use Rattle.ee_desk_decide.specs.declared.views.DayCounts.{DayCounts}
 abbrev pub counts_at : List (ℕ × DayCounts) → ℕ → Option DayCounts
 counts_at counts day = lookup (is_at (nat_cmp day)) counts
 
--- the closed days and the open one
+-- the closed days and the open day
 abbrev pub days_of : List Batch → Option ℕ → List ℕ
 days_of batches day = map day_of_batch batches ++ open_days day
 
@@ -30,40 +30,40 @@ counts_on tickets day = record {
   total = record { 0 = sum_by total_of (of_day day tickets) };
 }
 
--- each of some days has the counts of its tickets
+-- each of these days has the counts of its tickets
 abbrev pub AreCounted : List (ℕ × DayCounts) → List ℕ → List Ticket → Type 0
 AreCounted counts days tickets = (day : ℕ) → counts_at counts day ≡ (if list_any (λ d. day == d) days then Some (counts_on tickets day) else None)
 
--- each of some days has counts of nothing, and no other day has counts
+-- each of these days has zero counts, and no other day has counts
 abbrev pub AreNothing : List (ℕ × DayCounts) → List ℕ → Type 0
 AreNothing counts days = (day : ℕ) → counts_at counts day ≡ (if list_any (λ d. day == d) days then Some no_counts else None)
 
--- with some days' counts begun
+-- the same counts, with zero counts for more days
 abbrev pub HasMore : List (ℕ × DayCounts) → List (ℕ × DayCounts) → List ℕ → Type 0
 HasMore old new days = (day : ℕ) → counts_at new day ≡ (if list_any (λ d. day == d) days then Some no_counts else counts_at old day)
 
--- at most 100 lines, of bonds that are worth 3,044,936.00 dollars at most
+-- at most 100 lines, for bonds that are each worth at most 3,044,936.00 dollars
 abbrev pub IsSmall : Ticket → Type 0
 IsSmall ticket = (length ticket.lines ≤ 100) × (ticket.total.0 ≤ 30449360000)
 
--- counts with a ticket more, if it is of their day
+-- the counts after one more ticket, if it is of their day
 abbrev pub counted : Bool → Ticket → DayCounts → DayCounts
 counted own ticket counts = if own then record { tickets = counts.tickets + 1; bonds = counts.bonds + length ticket.lines; total = record { 0 = counts.total.0 + ticket.total.0 } } else counts
 
--- counts that a small ticket can be added to
+-- counts to which a small ticket can be added
 abbrev pub HasSpace : Ticket → DayCounts → Type 0
 HasSpace ticket counts = (counts.tickets < most_tickets) × (counts.bonds + length ticket.lines ≤ 100000) × (counts.total.0 + ticket.total.0 ≤ 30449360000000)
 
--- a day that is known has room for one ticket more
+-- the day has counts, with room for one more ticket
 abbrev pub HasRoom : Option DayCounts → Type 0
 HasRoom None = ⊥
 HasRoom (Some counts) = counts.tickets < most_tickets
 
--- each ticket's day is one of these, and none has more than 1,000
+-- each ticket's day is one of these, and no day has more than 1,000 tickets
 abbrev pub FitDays : List ℕ → List Ticket → Type 0
 FitDays days tickets = AllByRecursion (λ ticket. list_any (λ day. ticket.day == day) days ≡ true) tickets × ((day : ℕ) → count_by (λ ticket. ticket.day == day) tickets ≤ most_tickets)
 
--- the same, where the days are those that have counts
+-- the same, for the days that have counts
 abbrev pub FitCounts : List (ℕ × DayCounts) → List Ticket → Type 0
 FitCounts counts tickets = AllByRecursion (λ ticket. IsSome (counts_at counts ticket.day)) tickets × ((day : ℕ) → count_by (λ ticket. ticket.day == day) tickets ≤ most_tickets)
 

@@ -1,4 +1,4 @@
--- What books in memory keep beside their parts.
+-- What books in memory keep besides their parts.
 use Rattle.std.specs.Prelude.{◌≡◌, map}
 use Rattle.ee_desk_acts.specs.PlainBooks.{batch_so_far}
 use Rattle.ee_desk_parts.specs.declared.parts.Parts.{Parts}
@@ -7,7 +7,7 @@ use Rattle.ee_desk_parts.specs.Checks.{entry_of_row, bonds_in, AreSound}
 use Rattle.ee_desk_parts.specs.Marks.{bonds_held, AreMarked}
 use Rattle.ee_desk_parts.specs.Days.{counts_in}
 
--- they are those of these parts, which are sound
+-- the indexes of these parts, which are sound
 pub record IsMadeOf (parts : Parts) (made : Indexes) : Type 0 where
   pub sound : AreSound parts
   pub rates : made.terms.entries ≡ map entry_of_row parts.rates

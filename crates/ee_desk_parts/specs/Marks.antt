@@ -17,7 +17,7 @@ use Rattle.ee_desk_acts.specs.Paid.{NoneTwice}
 abbrev pub bonds_held : List (SerialNumber × Held) → FinMap serial_cmp Bond
 bonds_held bonds = finite.from_entries (map (λ e. (e.0, e.1.bond)) bonds)
 
--- what is kept of a serial
+-- the entry of a serial number
 abbrev pub held_at : List (SerialNumber × Held) → SerialNumber → Option Held
 held_at bonds serial = lookup (is_at (serial_cmp serial)) bonds
 
@@ -25,7 +25,7 @@ held_at bonds serial = lookup (is_at (serial_cmp serial)) bonds
 abbrev pub AreMarked : List (SerialNumber × Held) → List Ticket → Type 0
 AreMarked bonds tickets = (serial : SerialNumber) → IfSome (held_at bonds serial) (λ held. held.ticket ≡ ticket_of tickets serial)
 
--- a bond as a ticket leaves it, if the ticket pays it
+-- a bond after a ticket, which marks it if it pays it
 abbrev pub marked : Bool → ℕ → Held → Held
 marked pays ticket held = record { bond = held.bond; ticket = if pays then Some ticket else held.ticket }
 
@@ -38,6 +38,6 @@ abbrev pub IsFree : Option Held → Type 0
 IsFree None = ⊥
 IsFree (Some held) = held.ticket ≡ None
 
--- lines pay bonds that are free, and none of them twice
+-- the lines pay unpaid registered bonds, and none of them twice
 abbrev pub ArePayable : List (SerialNumber × Held) → List Line → Type 0
 ArePayable bonds lines = AllByRecursion (λ line. IsFree (held_at bonds line.serial)) lines × NoneTwice lines

@@ -10,7 +10,7 @@ use Rattle.ee_desk_parts.specs.declared.parts.Parts.{Parts}
 abbrev pub row_of_entry : ℕ × Rates → RateRow
 row_of_entry entry = record { from = entry.0; rates = entry.1 }
 
--- the parts of books: rates in rising order of month, bonds in rising order of serial
+-- the parts of books: rates sorted by month, bonds sorted by serial number
 abbrev pub parts_of : PlainBooks → Parts
 parts_of books = record {
   rates = map row_of_entry (finite.entries books.rates);

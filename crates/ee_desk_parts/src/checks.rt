@@ -1,4 +1,4 @@
-//! Whether parts are those of sound books.
+//! Checking whether parts are those of sound books.
 
 ghost use Rattle.std.specs.Prelude.{◌≡◌, ◌↔◌, true, [], map, IfOk, IfErr};
 ghost use Rattle.std.specs.List.{AllByRecursion};
@@ -23,9 +23,9 @@ use ee_units::{Day, IssueMonth, Serial};
 use std::alloc::Global;
 use std::collections::BTreeMap;
 
-/// What books in memory keep beside the lists of their parts: the tables of their rates,
-/// terms by month, bonds by serial, each marked with the ticket that pays it, and the counts of the
-/// open day.
+/// What books in memory keep besides the lists of their parts: the tables of their rates, terms by
+/// month, bonds by serial number, each marked with the ticket that pays it, and the counts of the open
+/// day.
 #[derive(Drop)]
 pub struct Indexes {
     pub tables: UnitTables,
@@ -42,7 +42,7 @@ struct Register {
     bonds: BTreeMap<Serial, Held>,
 }
 
-/// Rates and bonds as maps, where sound books may have them.
+/// Makes maps of rates and bonds, if sound books may have them.
 fn registered(alloc: Global, rates: &[RateRow], bonds: &[Bond]) -> Result<Register, PartsFault>
     ensures terms { IfOk result (λ maps. maps.terms.entries ≡ map entry_of_row rates.now) }
     ensures bonds { IfOk result (λ maps. maps.bonds.entries ≡ map unpaid bonds.now) }
@@ -68,7 +68,7 @@ fn registered(alloc: Global, rates: &[RateRow], bonds: &[Bond]) -> Result<Regist
     })
 }
 
-/// Marks the bonds that tickets pay, where sound books may have these tickets.
+/// Marks the bonds that tickets pay, if sound books may have these tickets.
 fn pay(
     terms: &BTreeMap<IssueMonth, Terms>,
     bonds: &mut BTreeMap<Serial, Held>,
@@ -91,7 +91,7 @@ fn pay(
     mark_paid(bonds, tickets)
 }
 
-/// The counts of each day, where each ticket is of one of them and none has too many.
+/// The counts of each day, if each ticket is of one of these days and no day has too many.
 fn known_counts(
     alloc: Global,
     tickets: &[Ticket],
@@ -109,7 +109,7 @@ fn known_counts(
     }
 }
 
-/// The counts of the open day, where sound books with these tickets may have these batches.
+/// The counts of the open day, if sound books with these tickets may have these batches.
 fn counted(
     alloc: Global,
     tickets: &[Ticket],
@@ -129,7 +129,7 @@ fn counted(
     Ok(open_counts(&counts, day))
 }
 
-/// The counts of the open day, where sound books may have these days and batches.
+/// The counts of the open day, if sound books may have these days and batches.
 fn closed(
     alloc: Global,
     tickets: &[Ticket],
@@ -152,7 +152,7 @@ fn closed(
     counted(alloc, tickets, batches, day)
 }
 
-/// The same of lists.
+/// The same, for lists.
 fn checked_lists(
     alloc: Global,
     rates: &[RateRow],
@@ -185,8 +185,8 @@ fn checked_lists(
     })
 }
 
-/// What books in memory keep beside these parts. It fails where no sound books have these parts, or
-/// where memory is refused.
+/// What books in memory keep besides these parts. Fails if no sound books have these parts, or if memory
+/// is refused.
 pub fn checked(alloc: Global, parts: &Parts) -> Result<Indexes, PartsFault>
     ensures ok { IfOk result (IsMadeOf parts.now) }
     ensures unsound { IfErr result (λ fault. fault ≡ PartsFault.Unsound → AreUnsound parts.now) }

@@ -1,4 +1,4 @@
-//! Whether the days of tickets and batches are those of sound books.
+//! Checking whether the days of tickets and batches are those of sound books.
 
 ghost use Rattle.std.specs.Prelude.{◌≡◌, ◌↔◌, ◌<◌, ℕ, true, None, ◌==◌, IfOk, OnOk, IfSome, [], ◌∷◌, unwrap_or, option_and_then};
 ghost use Rattle.std.specs.Option.{option_map};
@@ -47,7 +47,7 @@ fn are_later(last: Option<Day>, day: Option<Day>) -> bool
     }
 }
 
-/// Whether the closed days rise, and the open one is later.
+/// Whether the closed days are in rising order, and the open day is later.
 pub fn days_rise(batches: &[Batch], day: Option<Day>) -> bool
     ensures { (result ≡ true) ↔ InOrder ◌<◌ (days_of batches.now day) }
 {
@@ -100,7 +100,7 @@ fn none_yet() -> DayCounts
     }
 }
 
-/// Begins the counts of a day.
+/// Adds zero counts for a day.
 fn add_day(counts: &mut BTreeMap<Day, DayCounts>, day: Day) -> Result<(), AllocError>
     ensures { OnOk result (HasMore counts.old.entries counts.new.entries (day ∷ [])) }
 {
@@ -117,7 +117,7 @@ fn add_open(counts: &mut BTreeMap<Day, DayCounts>, day: Option<Day>) -> Result<(
     }
 }
 
-/// Counts of nothing for each closed day and the open one.
+/// Zero counts for each closed day and the open day.
 fn empty_counts(
     alloc: Global,
     batches: &[Batch],
@@ -133,7 +133,7 @@ fn empty_counts(
     Ok(counts)
 }
 
-/// Whether a day is known, and has room for one ticket more.
+/// Whether a day has counts, with room for one more ticket.
 fn has_room(counts: &BTreeMap<Day, DayCounts>, day: Day) -> bool
     ensures { (result ≡ true) ↔ HasRoom (counts_at counts.now.entries day) }
 {
@@ -159,7 +159,7 @@ fn count(counts: &mut BTreeMap<Day, DayCounts>, ticket: &Ticket)
     }
 }
 
-/// Counts tickets on their days, as long as these are known and have room.
+/// Counts tickets on their days; stops at a ticket whose day has no counts or no room.
 fn count_all(counts: &mut BTreeMap<Day, DayCounts>, tickets: &[Ticket]) -> bool
     requires small { AllByRecursion IsSmall tickets.now }
     requires empty { (q : ℕ) → IfSome (counts_at counts.old.entries q) (λ own. own ≡ no_counts) }
@@ -175,8 +175,8 @@ fn count_all(counts: &mut BTreeMap<Day, DayCounts>, tickets: &[Ticket]) -> bool
     true
 }
 
-/// The counts of each closed day and the open one; None where a ticket is of another day, or a day
-/// has more than 1,000.
+/// The counts of each closed day and the open day; `None` if a ticket is of another day, or a day has
+/// more than 1,000 tickets.
 pub fn counts_of(
     alloc: Global,
     tickets: &[Ticket],
@@ -220,7 +220,7 @@ pub fn are_counted(counts: &BTreeMap<Day, DayCounts>, batches: &[Batch]) -> bool
     true
 }
 
-/// The counts of the open day: zeros where none is open.
+/// The counts of the open day; zeros if no day is open.
 pub fn open_counts(counts: &BTreeMap<Day, DayCounts>, day: Option<Day>) -> DayCounts
     ensures { result ≡ unwrap_or (option_and_then (counts_at counts.now.entries) day) no_counts }
 {

@@ -1,4 +1,4 @@
-//! The parts of a desk's books as lists, and whether they are those of sound books.
+//! The parts of a desk's books as lists, and the check whether they are those of sound books.
 #![tactic(auto)]
 
 mod checks;

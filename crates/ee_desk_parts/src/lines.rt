@@ -1,4 +1,4 @@
-//! Whether tickets are those of sound books, each by itself.
+//! Checking whether each ticket by itself is one of sound books.
 
 ghost use Rattle.std.specs.Prelude.{◌≡◌, ◌↔◌, ◌+◌, ◌≤◌, true, sum_by};
 ghost use Rattle.std.specs.List.{AllByRecursion};
@@ -19,7 +19,7 @@ use std::collections::BTreeMap;
 /// The age from which a bond can be redeemed, in months.
 const FIRST_REDEMPTION: u16 = 12;
 
-/// Whether a bond is 12 months old at least in a month, and worth these cents.
+/// Whether a bond is at least 12 months old in a month, and worth these cents.
 fn is_worth(terms: &Terms, bond: &Bond, month: Month, cents: Cents) -> bool
     ensures { (result ≡ true) ↔ ((bond.now.issued + 12 ≤ month) × (cents.0 ≡ value_of terms.now bond.now month)) }
 {
@@ -34,7 +34,7 @@ fn is_worth(terms: &Terms, bond: &Bond, month: Month, cents: Cents) -> bool
     }
 }
 
-/// Whether a ticket's line pays a bond right.
+/// Whether a ticket's line pays a bond correctly.
 fn pays_bond(rates: &BTreeMap<IssueMonth, Terms>, bond: &Bond, ticket: &Ticket, line: &Line) -> bool
     ensures { (result ≡ true) ↔ PaysBond (finite.from_entries rates.now.entries) bond.now ticket.now line.now }
 {
@@ -45,7 +45,7 @@ fn pays_bond(rates: &BTreeMap<IssueMonth, Terms>, bond: &Bond, ticket: &Ticket, 
     }
 }
 
-/// Whether a ticket's line pays a registered bond right.
+/// Whether a ticket's line pays a registered bond correctly.
 fn is_right_line(
     rates: &BTreeMap<IssueMonth, Terms>,
     bonds: &BTreeMap<Serial, Held>,
@@ -76,7 +76,7 @@ fn are_right_lines(
     true
 }
 
-/// Whether lines pay this much together.
+/// Whether lines add up to this total.
 fn sums_to(lines: &[Line], total: Cents) -> bool
     ensures { (result ≡ true) ↔ (total.0 ≡ sum_by cents_of lines.now) }
 {
@@ -90,7 +90,7 @@ fn sums_to(lines: &[Line], total: Cents) -> bool
     left == 0
 }
 
-/// Whether a ticket has 1 to 100 lines, each of them right, and their sum.
+/// Whether a ticket has 1 to 100 lines, all of them correct, and their sum.
 fn is_right_ticket(
     rates: &BTreeMap<IssueMonth, Terms>,
     bonds: &BTreeMap<Serial, Held>,
@@ -121,7 +121,7 @@ pub fn are_right_tickets(
     true
 }
 
-/// Whether tickets are numbered 1, 2, 3 and on.
+/// Whether tickets are numbered 1, 2, 3 and so on.
 pub fn are_numbered(tickets: &[Ticket]) -> bool
     ensures { (result ≡ true) ↔ NumberedFrom 1 tickets.now }
 {

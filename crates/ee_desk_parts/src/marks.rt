@@ -1,4 +1,4 @@
-//! Marks of tickets on the bonds that they pay.
+//! Marking bonds with the tickets that pay them.
 
 ghost use Rattle.std.specs.Prelude.{◌≡◌, ◌↔◌, true, false, List, [], ◌++◌, map, IfOk};
 ghost use Rattle.std.specs.Option.{option_map};
@@ -36,7 +36,7 @@ pub fn mark_all(bonds: &mut BTreeMap<Serial, Held>, lines: &[Line], ticket: u64)
     }
 }
 
-/// Bonds whose serials rise, by serial and paid by no ticket.
+/// The bonds by serial number, all unpaid. The list is sorted by serial number.
 pub fn held_by_serial(alloc: Global, bonds: &[Bond]) -> Result<BTreeMap<Serial, Held>, AllocError>
     requires { HaveRisingSerials bonds.now }
     ensures { IfOk result (λ held. held.entries ≡ map unpaid bonds.now) }
@@ -52,7 +52,7 @@ pub fn held_by_serial(alloc: Global, bonds: &[Bond]) -> Result<BTreeMap<Serial, 
     Ok(held)
 }
 
-/// Whether a serial is registered, and no ticket has paid it.
+/// Whether a serial number is registered and unpaid.
 fn is_free(bonds: &BTreeMap<Serial, Held>, serial: Serial) -> bool
     ensures { (result ≡ true) ↔ IsFree (held_at bonds.now.entries serial) }
 {
@@ -62,7 +62,7 @@ fn is_free(bonds: &BTreeMap<Serial, Held>, serial: Serial) -> bool
     }
 }
 
-/// Marks the bonds of a ticket's lines, as long as they are free.
+/// Marks the bonds of a ticket's lines; stops at a bond that isn't registered and unpaid.
 fn mark_free(bonds: &mut BTreeMap<Serial, Held>, lines: &[Line], ticket: u64) -> bool
     ensures taken { result ≡ false → (more : List Line) → ArePayable bonds.old.entries (lines.now ++ more) → ⊥ }
     ensures free { result ≡ true → (more : List Line) → ArePayable bonds.old.entries (lines.now ++ more) ↔ ArePayable bonds.new.entries more }
@@ -78,7 +78,7 @@ fn mark_free(bonds: &mut BTreeMap<Serial, Held>, lines: &[Line], ticket: u64) ->
     true
 }
 
-/// Marks the bonds that tickets pay, as long as each of them is registered and paid once.
+/// Marks the bonds that tickets pay; stops unless each is registered and paid once.
 pub fn mark_paid(bonds: &mut BTreeMap<Serial, Held>, tickets: &[Ticket]) -> bool
     requires { AreMarked bonds.old.entries [] }
     ensures once { (result ≡ true) ↔ ArePayable bonds.old.entries (paid_lines tickets.now) }

@@ -1,4 +1,4 @@
-//! Whether rows stand in order.
+//! Checking the order of rows.
 
 ghost use Rattle.std.specs.Prelude.{◌≡◌, ◌↔◌, ◌<◌, ◌≤◌, true, map};
 ghost use Rattle.ee_desk_acts.specs.Sound.{day_of};
@@ -35,7 +35,7 @@ fn is_no_earlier(last: Option<Day>, day: Day) -> bool
     }
 }
 
-/// Whether each month is below those after it.
+/// Whether each month is before those after it in the list.
 pub fn months_rise(rows: &[RateRow]) -> bool
     ensures { (result ≡ true) ↔ HaveRisingMonths rows.now }
 {
@@ -49,7 +49,7 @@ pub fn months_rise(rows: &[RateRow]) -> bool
     true
 }
 
-/// Whether each serial is before those after it.
+/// Whether each serial number is before those after it in the list.
 pub fn serials_rise(bonds: &[Bond]) -> bool
     ensures { (result ≡ true) ↔ HaveRisingSerials bonds.now }
 {

@@ -7,8 +7,8 @@ use ee_value::ValueFault;
 use std::alloc::{AllocError, AllocFailed};
 use thiserror::Error;
 
-/// Books as lists: rates in rising order of month and bonds in rising order of serial, each key
-/// once; tickets in order of number, batches in order of day.
+/// Books as lists: rates sorted by month and bonds sorted by serial number, each key once; tickets by
+/// number, batches by day.
 #[derive(Drop)]
 pub struct Parts {
     pub rates: Rows<RateRow>,

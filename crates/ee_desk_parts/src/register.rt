@@ -1,4 +1,4 @@
-//! Whether rates and bonds are those of sound books.
+//! Checking whether rates and bonds are those of sound books.
 
 ghost use Rattle.std.specs.Prelude.{◌≡◌, ◌↔◌, true, map, IfOk, IfErr, is_some};
 ghost use Rattle.std.specs.List.{AllByRecursion};
@@ -15,7 +15,7 @@ use ee_units::calendar::{is_announcement, period_of};
 use std::alloc::Global;
 use std::collections::BTreeMap;
 
-/// The terms of a row that books may have.
+/// The terms of a row, if books may have it.
 fn right_terms(alloc: Global, tables: &mut UnitTables, row: &RateRow) -> Result<Terms, PartsFault>
     ensures value { IfOk result (λ terms. terms ≡ row.now.rates) }
     ensures right { IfOk result (λ _. IsRightRow row.now) }
@@ -31,7 +31,7 @@ fn right_terms(alloc: Global, tables: &mut UnitTables, row: &RateRow) -> Result<
     Ok(terms)
 }
 
-/// The terms of rows by month, where these rise and books may have each row.
+/// The terms of rows by month, if the rows are sorted by month and books may have each.
 pub fn terms_by_month(
     alloc: Global,
     tables: &mut UnitTables,
@@ -65,7 +65,7 @@ fn is_right_bond(rates: &BTreeMap<IssueMonth, Terms>, bond: &Bond) -> bool
     is_rated(rates, bond) && !bond.has_coowner(bond.owner)
 }
 
-/// Whether books with these rates may have the bonds.
+/// Whether books with these rates may have these bonds.
 pub fn are_right_bonds(rates: &BTreeMap<IssueMonth, Terms>, bonds: &[Bond]) -> bool
     ensures { (result ≡ true) ↔ AllByRecursion (IsRightOwn (finite.from_entries rates.now.entries)) bonds.now }
 {
