@@ -1,4 +1,4 @@
--- Rows that changes add to a map, and take out again.
+-- Rows that changes add to a map, and that are removed again.
 use Rattle.std.specs.Prelude.{◌≡◌, ◌||◌, ℕ, Bool, false, List, [], ◌∷◌, Option, Some, None, IfSome, ⊤}
 use Rattle.std.specs.Option.{option_map_or}
 use Rattle.std.specs.Ordering.{eq_by_cmp}
@@ -20,7 +20,7 @@ rate_row (change.Day day) = None
 rate_row (change.Ticket ticket) = None
 rate_row (change.Batch batch) = None
 
--- and to the bonds
+-- the row that a change adds to the bonds
 abbrev pub bond_row : Change → Option (SerialNumber × Bond)
 bond_row (change.Rates from rates) = None
 bond_row (change.Bond bond) = Some (bond.serial, bond)
@@ -28,7 +28,7 @@ bond_row (change.Day day) = None
 bond_row (change.Ticket ticket) = None
 bond_row (change.Batch batch) = None
 
--- and to the bonds in memory
+-- the row that a change adds to the bonds in memory
 abbrev pub held_row : Change → Option (SerialNumber × Held)
 held_row (change.Rates from rates) = None
 held_row (change.Bond bond) = Some (bond.serial, record { bond = bond; ticket = None })
@@ -59,7 +59,7 @@ AreNew row found (c ∷ cs) = IfSome (row c) (λ r. finite.get found r.0 ≡ Non
 
 -- ---- in two turns
 
--- the first, the third, and so on
+-- the first element, the third, and so on
 abbrev pub every_second : {X : Type 0} → List X → List X
 every_second [] = []
 every_second (x ∷ []) = x ∷ []
@@ -74,6 +74,6 @@ abbrev pub adds_at : {K V : Type 0} (R : K → K → Ordering) → (Change → O
 adds_at R row q [] = false
 adds_at R row q (c ∷ cs) = is_row R q (row c) || adds_at R row q cs
 
--- two maps have the same under each key that none of the changes adds
+-- two maps agree on each key that none of the changes adds
 abbrev pub AgreeBeside : {K V : Type 0} {R : K → K → Ordering} → (Change → Option (K × V)) → List Change → FinMap R V → FinMap R V → Type 0
 AgreeBeside {K} {R = R} row cs m n = (q : K) → adds_at R row q cs ≡ false → finite.get m q ≡ finite.get n q

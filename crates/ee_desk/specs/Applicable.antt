@@ -1,4 +1,4 @@
--- Changes that the books in memory take.
+-- Changes that can be applied to the books in memory.
 use Rattle.std.specs.Prelude.{◌≡◌, ◌<◌, List, [], ◌∷◌, ◌++◌, length, sum_by, Some, None, IfSome, ⊤}
 use Rattle.std.specs.List.{AllByRecursion}
 use Rattle.ee_desk_acts.specs.declared.changes.Change.{Change}
@@ -21,24 +21,24 @@ IsBond (change.Day day) = ⊥
 IsBond (change.Ticket ticket) = ⊥
 IsBond (change.Batch batch) = ⊥
 
--- no ticket names the serial of the bond that a change adds
+-- no ticket names the serial number of the bond that a change adds
 abbrev pub IsUnpaid : PlainBooks → Change → Type 0
 IsUnpaid books change = IfSome (bond_row change) (λ row. ticket_of books.tickets row.0 ≡ None)
 
--- with the ticket, the counts of its day stay small
+-- with this ticket, the counts of its day stay small
 abbrev pub HasRoom : List Ticket → Ticket → Type 0
 HasRoom tickets ticket =
     (length (of_day ticket.day (tickets ++ ticket ∷ [])) < 4294967296)
     × (sum_by bonds_on (of_day ticket.day (tickets ++ ticket ∷ [])) < 4611686018427387904)
     × (sum_by total_of (of_day ticket.day (tickets ++ ticket ∷ [])) < 4611686018427387904)
 
--- the ticket is one of the open day, and its bonds stand on no other
+-- the ticket is of the open day, and its bonds are on no other ticket
 abbrev pub IsNextTicket : PlainBooks → Ticket → Type 0
 IsNextTicket books ticket =
     AllByRecursion (λ line. ticket_of books.tickets line.serial ≡ None) ticket.lines
     × (books.day ≡ Some ticket.day) × HasRoom books.tickets ticket
 
--- changes that the books take, one after the other
+-- changes that can be applied to the books in order
 abbrev pub AreApplicable : PlainBooks → List Change → Type 0
 AreApplicable books [] = ⊤
 AreApplicable books (change.Rates from rates ∷ cs) = AllByRecursion IsRate cs × AreNew rate_row books.rates (change.Rates from rates ∷ cs)

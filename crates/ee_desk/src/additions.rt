@@ -1,4 +1,4 @@
-//! Rows that are added to a map whole or not at all.
+//! Adding rows to a map, all or none.
 
 ghost use Rattle.std.specs.Prelude.{◌≡◌, drop, OnOk, OnErr};
 ghost use Rattle.ee_desk.specs.Kept.{rates_in, held_in};
@@ -9,8 +9,8 @@ use ee_units::{IssueMonth, Serial};
 use std::alloc::AllocError;
 use std::collections::BTreeMap;
 
-/// Adds rates whose periods are new: all of them, or none. Equal rates share one table; a table that
-/// is kept for rates that are then taken out stays, and changes nothing.
+/// Adds rates with new periods: all of them, or none. Equal rates share one table. The table of rates that
+/// are removed again is kept, which changes nothing.
 pub fn add_rates(
     tables: &mut UnitTables,
     rates: &mut BTreeMap<IssueMonth, Terms>,
@@ -55,7 +55,7 @@ fn take_rate(rates: &mut BTreeMap<IssueMonth, Terms>, change: &Change)
     }
 }
 
-/// Takes the rates of these changes out.
+/// Removes the rates of these changes.
 fn take_rates(rates: &mut BTreeMap<IssueMonth, Terms>, changes: &[Change])
     ensures { rates_in rates.new.entries ≡ without_changes rate_row (rates_in rates.old.entries) changes.now }
 {
@@ -64,8 +64,8 @@ fn take_rates(rates: &mut BTreeMap<IssueMonth, Terms>, changes: &[Change])
     }
 }
 
-/// Registers bonds whose serials are new: all of them, or none. Every second one goes first, and the
-/// others between them, so that rows in order of serial fill the leaves of the map.
+/// Registers bonds with new serial numbers: all of them, or none. Adds every second bond first, then the
+/// others between them, so that rows in order of serial number fill the leaves of the map.
 pub fn add_bonds(bonds: &mut BTreeMap<Serial, Held>, changes: &[Change]) -> Result<(), AllocError>
     requires { AreNew held_row (held_in bonds.old.entries) changes.now }
     ensures ok { OnOk result (held_in bonds.new.entries ≡ with_changes held_row (held_in bonds.old.entries) changes.now) }
@@ -80,7 +80,7 @@ pub fn add_bonds(bonds: &mut BTreeMap<Serial, Held>, changes: &[Change]) -> Resu
     }
 }
 
-/// Registers every second bond, from the first on, and then the others.
+/// Registers every second bond, from the first, and then the others.
 fn add_in_turns(bonds: &mut BTreeMap<Serial, Held>, changes: &[Change]) -> Result<(), AllocError>
     ensures ok { OnOk result (held_in bonds.new.entries
         ≡ with_changes held_row (with_changes held_row (held_in bonds.old.entries) (every_second changes.now)) (every_second (drop 1 changes.now))) }
@@ -99,7 +99,7 @@ fn after_first(changes: &[Change]) -> &[Change]
     }
 }
 
-/// Registers every second bond, from the first on.
+/// Registers every second bond, from the first.
 fn add_every_second(
     bonds: &mut BTreeMap<Serial, Held>,
     changes: &[Change],
@@ -137,7 +137,7 @@ fn take_bond(bonds: &mut BTreeMap<Serial, Held>, change: &Change)
     }
 }
 
-/// Takes the bonds of these changes out.
+/// Removes the bonds of these changes.
 fn take_bonds(bonds: &mut BTreeMap<Serial, Held>, changes: &[Change])
     ensures { held_in bonds.new.entries ≡ without_changes held_row (held_in bonds.old.entries) changes.now }
 {

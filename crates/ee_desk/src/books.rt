@@ -26,7 +26,7 @@ use std::alloc::{AllocError, Global};
 use std::marker::Model;
 
 /// The books of a desk: rates by period, registered bonds, the open day, tickets and batches. They
-/// are always sound: no serial is paid twice, and each bond is paid its value in the month of its
+/// are always sound: no serial number is paid twice, and each bond is paid its value in the month of its
 /// ticket's day.
 #[derive(Drop)]
 pub struct Books {
@@ -50,7 +50,7 @@ impl Model for Books {
 }
 
 impl Books {
-    /// Books with nothing in them. It takes no memory.
+    /// Empty books. Takes no memory.
     pub fn empty(alloc: Global) -> Books
         ensures { result ≡ no_books }
     {
@@ -60,8 +60,8 @@ impl Books {
         }
     }
 
-    /// The books of these parts. It answers `Unsound` exactly where no sound books have them, as where
-    /// rates or bonds stand in another order.
+    /// The books with these parts. `Unsound` if and only if no sound books have them; for example, rates or
+    /// bonds in another order.
     pub fn from_parts(alloc: Global, parts: Parts) -> Result<Books, PartsFault>
         ensures ok { IfOk result (λ books. parts_of books ≡ parts) }
         ensures unsound { IfErr result (λ fault. fault ≡ PartsFault.Unsound → AreUnsound parts) }
@@ -71,17 +71,17 @@ impl Books {
         Ok(Books { alloc, ledger })
     }
 
-    /// A copy of the books as lists: rates in rising order of month, bonds in rising order of serial,
-    /// tickets in order of number, batches in order of day.
+    /// A copy of the books as lists: rates sorted by month, bonds by serial number, tickets by number,
+    /// batches by day.
     pub fn parts(&self) -> Result<Parts, AllocError>
         ensures { IfOk result (λ parts. parts ≡ parts_of self.now) }
     {
         self.ledger.parts(self.alloc)
     }
 
-    /// What all books are: sound, so that no serial is paid twice and each line pays the value of its
-    /// bond in the month of its ticket's day; and what was paid stands in the batches and on the open
-    /// day.
+    /// What holds for all books. They are sound, so no serial number is paid twice, and each line pays the
+    /// value of its bond in the month of its ticket's day. The batches and the open day together add up to
+    /// what was paid.
     pub fn known(&self)
         ensures sound { IsSound self.now }
         ensures once { NoneTwice (paid_lines self.now.tickets) }
@@ -98,8 +98,8 @@ impl Books {
         seeing::view_of(self.alloc, &self.ledger, act)
     }
 
-    /// What an act changes, and its reply: decided by what it sees of the books, and not yet made. Of the
-    /// books it reads only what decides the act: nothing where the length of its list refuses it.
+    /// The changes of an act and its reply, decided on what it sees of the books, and not applied yet. Reads
+    /// only what the act depends on: nothing if the length of its list refuses it.
     pub fn effects_of(&self, act: &Act) -> Result<Effects, AllocError>
         ensures { IfOk result (λ e. e ≡ effects_of (shown_by (view_of self.now act.now)) act.now) }
     {
@@ -108,7 +108,7 @@ impl Books {
         Ok(effects)
     }
 
-    /// Makes the effects of an act: all of them, or none where memory is refused.
+    /// Applies the effects of an act: all of them, or none if memory is refused.
     pub fn apply(&mut self, effects: &Effects) -> Result<(), AllocError>
         requires { (asked : Act) × (effects.now ≡ effects_of (shown_by (view_of self.old asked)) asked) }
         ensures ok { OnOk result (self.new ≡ applied self.old effects.now.changes) }
@@ -118,7 +118,7 @@ impl Books {
         self.ledger.apply(effects.changes.as_slice())
     }
 
-    /// Does an act and answers it. Where memory is refused nothing has changed.
+    /// Does an act and returns its reply. If memory is refused, nothing changes.
     pub fn step(&mut self, act: &Act) -> Result<Reply, AllocError>
         ensures reply { IfOk result (λ r. r ≡ reply_to self.old act.now) }
         ensures books { OnOk result (self.new ≡ books_after self.old act.now) }
@@ -132,15 +132,14 @@ impl Books {
 }
 
 impl Books {
-    /// A copy of the ticket of a number; tickets are numbered from 1 on.
+    /// A copy of the ticket with this number; tickets are numbered from 1.
     pub fn ticket(&self, number: u64) -> Result<Option<Ticket>, AllocError>
         ensures { IfOk result (λ ticket. ticket ≡ ticket_numbered self.now number) }
     {
         self.ledger.ticket(number)
     }
 
-    /// The batch of a closed day: how many tickets that day has, how many bonds they paid, and their
-    /// sum.
+    /// The batch of a closed day: the number of its tickets, the number of bonds they paid, and their sum.
     pub fn batch(&self, day: Day) -> Option<Batch>
         ensures found { result ≡ batch_on self.now day }
         ensures sums { IfSome result (λ batch. batch ≡ batch_of day self.now.tickets) }
@@ -148,17 +147,17 @@ impl Books {
         self.ledger.batch(day)
     }
 
-    /// The unpaid bonds whose owner is this customer, in order of serial.
+    /// The unpaid bonds whose owner is this customer, in order of serial number.
     pub fn bonds_of(&self, customer: Customer) -> Result<Vec<Bond>, AllocError>
         ensures { IfOk result (λ bonds. bonds.items ≡ bonds_of self.now customer) }
     {
         self.ledger.bonds_of(self.alloc, customer)
     }
 
-    /// The sheet in a month of the unpaid bonds whose owner is this customer, in order of serial.
+    /// The sheet, in a month, of the unpaid bonds whose owner is this customer, in order of serial number.
     pub fn inventory(&self, customer: Customer, month: Month) -> Result<Sheet, AllocError>
         ensures sheet { IfOk result (λ sheet. shown_in_sheet sheet ≡ inventory self.now customer month) }
-        // Each of the bonds has its row.
+        // Each of the bonds has a row.
         ensures whole { IfOk result (λ sheet. map (λ row. row.serial) sheet.rows.items ≡ map (λ bond. Some bond.serial) (bonds_of self.now customer)) }
     {
         let bonds = self.bonds_of(customer)?;
@@ -166,8 +165,8 @@ impl Books {
         Ok(sheet(rows))
     }
 
-    /// The row in a month of a bond of that denomination and issue month, whether or not one is
-    /// registered; None without rates for its issue period.
+    /// The row, in a month, of a bond of this denomination and issue month, registered or not; `None`
+    /// without rates for its issue period.
     pub fn quote(
         &self,
         denom: Denom,

@@ -1,4 +1,4 @@
-//! What a desk keeps, in memory.
+//! The records of a desk, in memory.
 
 ghost use Rattle.std.specs.Prelude.{◌≡◌, IfOk, OnOk, OnErr, [], Some};
 ghost use Rattle.std.specs.List.{AllByRecursion};
@@ -57,7 +57,7 @@ impl Model for Ledger {
 }
 
 impl Ledger {
-    /// Nothing.
+    /// An empty ledger.
     pub fn empty(alloc: Global) -> Ledger
         ensures { result ≡ no_books }
     {
@@ -73,7 +73,7 @@ impl Ledger {
         }
     }
 
-    /// Adds rates whose periods are new: all of them, or none.
+    /// Adds rates with new periods: all of them, or none.
     fn add_rates(&mut self, changes: &[Change]) -> Result<(), AllocError>
         requires { AreNew rate_row self.old.rates changes.now }
         ensures ok { OnOk result (self.new ≡ record self.old { rates = with_changes rate_row self.old.rates changes.now }) }
@@ -82,7 +82,7 @@ impl Ledger {
         add_rates(&mut self.tables, &mut self.rates, changes)
     }
 
-    /// Registers bonds whose serials are new, and which no ticket names: all of them, or none.
+    /// Registers bonds with new serial numbers that no ticket names: all of them, or none.
     fn add_bonds(&mut self, changes: &[Change]) -> Result<(), AllocError>
         requires fresh { AreNew bond_row self.old.bonds changes.now }
         requires unpaid { AllByRecursion (IsUnpaid self.old) changes.now }
@@ -114,7 +114,7 @@ impl Ledger {
         Ok(())
     }
 
-    /// Takes a ticket of the open day, whose bonds no ticket has paid.
+    /// Adds a ticket of the open day, whose bonds are unpaid.
     fn add_ticket(&mut self, ticket: &Ticket) -> Result<(), AllocError>
         requires { IsNextTicket self.old ticket.now }
         ensures ok { OnOk result (self.new ≡ changed self.old (change.Ticket ticket.now)) }
@@ -135,7 +135,7 @@ impl Ledger {
 }
 
 impl Ledger {
-    /// Makes changes, one after the other: all of them, or none.
+    /// Applies changes in order: all of them, or none.
     pub fn apply(&mut self, changes: &[Change]) -> Result<(), AllocError>
         requires { AreApplicable self.old changes.now }
         ensures ok { OnOk result (self.new ≡ applied self.old changes.now) }
@@ -198,7 +198,7 @@ impl Ledger {
         self.tickets.as_slice()
     }
 
-    /// What the open day's tickets are: zeros where no day is open.
+    /// The counts of the open day's tickets; zeros if no day is open.
     pub fn counts(&self) -> DayCounts
         ensures { AreCounts (open_batch self.now) result }
     {
@@ -207,7 +207,7 @@ impl Ledger {
 }
 
 impl Ledger {
-    /// A copy of the ticket of a number.
+    /// A copy of the ticket with this number.
     pub fn ticket(&self, number: u64) -> Result<Option<Ticket>, AllocError>
         ensures { IfOk result (λ ticket. ticket ≡ ticket_numbered self.now number) }
     {
@@ -221,7 +221,7 @@ impl Ledger {
         queries::batch_on(self.batches.as_slice(), day)
     }
 
-    /// The unpaid bonds of an owner, in order of serial.
+    /// The unpaid bonds of an owner, in order of serial number.
     pub fn bonds_of(&self, alloc: Global, customer: Customer) -> Result<Vec<Bond>, AllocError>
         requires { AreKeyed self.now }
         ensures { IfOk result (λ bonds. bonds.items ≡ bonds_of self.now customer) }
@@ -231,7 +231,7 @@ impl Ledger {
 }
 
 impl Ledger {
-    /// What these parts and their indexes are.
+    /// The ledger with these parts and their indexes.
     pub fn of_parts(parts: Parts, indexes: Indexes) -> Ledger
         requires marked { AreMarked indexes.bonds.entries parts.tickets }
         requires counted { AreCounts (batch_so_far parts.day parts.tickets) indexes.counts }
@@ -262,7 +262,7 @@ impl Ledger {
         }
     }
 
-    /// A copy of it as lists.
+    /// A copy of the ledger as lists.
     pub fn parts(&self, alloc: Global) -> Result<Parts, AllocError>
         ensures { IfOk result (λ parts. parts ≡ parts_of self.now) }
     {

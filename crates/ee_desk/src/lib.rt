@@ -1,5 +1,5 @@
-//! The desk of a paying agent: books of rates, bonds, tickets and batches, what acts do to them, and what queries
-//! show of them.
+//! The desk of a paying agent: books of rates, bonds, tickets and batches, the effects of acts on them,
+//! and queries.
 #![tactic(auto)]
 
 mod additions;

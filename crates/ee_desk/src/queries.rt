@@ -1,4 +1,4 @@
-//! What is asked of what a desk keeps, without changing it.
+//! Queries on the records of a desk, which change nothing.
 
 ghost use Rattle.std.specs.Prelude.{◌≡◌, ◌==◌, IfOk, find};
 ghost use Rattle.std.specs.List.{filter_map};
@@ -13,7 +13,7 @@ use ee_units::{Customer, Day, Serial};
 use std::alloc::{AllocError, Global};
 use std::collections::BTreeMap;
 
-/// A copy of the ticket of a number.
+/// A copy of the ticket with this number.
 pub fn ticket_numbered(tickets: &[Ticket], number: u64) -> Result<Option<Ticket>, AllocError>
     ensures { IfOk result (λ t. t ≡ find (λ ticket. ticket.ticket == number) tickets.now) }
 {
@@ -37,7 +37,7 @@ pub fn batch_on(batches: &[Batch], day: Day) -> Option<Batch>
     None
 }
 
-/// The unpaid bonds of an owner, in order of serial.
+/// The unpaid bonds of an owner, in order of serial number.
 pub fn own_bonds(
     alloc: Global,
     bonds: &BTreeMap<Serial, Held>,

@@ -19,7 +19,7 @@ use ee_units::{IssueMonth, Serial};
 use std::alloc::{AllocError, Global};
 use std::collections::BTreeMap;
 
-/// Notes the terms of a period, where there are some.
+/// Notes the terms of a period, if there are any.
 fn note_rate(
     found: &mut BTreeMap<IssueMonth, Terms>,
     ledger: &Ledger,
@@ -34,7 +34,7 @@ fn note_rate(
     Ok(())
 }
 
-/// Notes the terms of the issue period of a bond, where it is registered.
+/// Notes the terms of a bond's issue period, if the bond is registered.
 fn note_rate_of(
     found: &mut BTreeMap<IssueMonth, Terms>,
     ledger: &Ledger,
@@ -59,7 +59,7 @@ fn put(found: &mut BTreeMap<Serial, Held>, serial: Serial, held: &Held) -> Resul
     Ok(())
 }
 
-/// Notes what is held of a serial, where it is registered.
+/// Notes the entry of a serial number, if it is registered.
 fn note_held(
     found: &mut BTreeMap<Serial, Held>,
     ledger: &Ledger,
@@ -104,7 +104,7 @@ fn rates_of_serials(
     Ok(found)
 }
 
-/// What is held of the serials that are named.
+/// The entries of the serial numbers that are named.
 fn held_of_serials(
     alloc: Global,
     ledger: &Ledger,
@@ -134,7 +134,7 @@ fn rates_of_bonds(
     Ok(found)
 }
 
-/// What is held of the serials of rows.
+/// The entries of the serial numbers of rows.
 fn held_of_bonds(
     alloc: Global,
     ledger: &Ledger,
@@ -188,7 +188,7 @@ fn bonds_of(alloc: Global, ledger: &Ledger, act: &Act) -> Result<BTreeMap<Serial
     }
 }
 
-/// The open day's tickets, for the acts that count them.
+/// The open day's tickets, for acts that count them.
 fn counted(ledger: &Ledger, act: &Act) -> DayCounts
     ensures { AreCounts (is.counted ledger.now act.now) result }
 {
@@ -198,7 +198,7 @@ fn counted(ledger: &Ledger, act: &Act) -> DayCounts
     }
 }
 
-/// What of the open day's tickets an act is decided by: a redemption by how many they are.
+/// The counts of the open day that an act depends on: a redemption depends on the number of tickets.
 fn needed_counts(ledger: &Ledger, act: &Act) -> DayCounts
     ensures { AreCounts (is.needed_counts ledger.now act.now) result }
 {
@@ -209,7 +209,7 @@ fn needed_counts(ledger: &Ledger, act: &Act) -> DayCounts
     }
 }
 
-/// What an act names of a ledger, with these counts of the open day's tickets.
+/// What an act names in a ledger, with these counts of the open day's tickets.
 fn view_with(
     alloc: Global,
     ledger: &Ledger,
@@ -235,7 +235,7 @@ fn view_with(
     }))
 }
 
-/// What an act names of a ledger.
+/// What an act names in a ledger.
 pub fn view_of(alloc: Global, ledger: &Ledger, act: &Act) -> Result<View, AllocError>
     requires { length ledger.now.tickets ≤ 71200000 }
     ensures { IfOk result (λ v. v ≡ is.view_of ledger.now act.now) }
@@ -244,7 +244,7 @@ pub fn view_of(alloc: Global, ledger: &Ledger, act: &Act) -> Result<View, AllocE
     view_with(alloc, ledger, act, counts)
 }
 
-/// What an act is decided by that the length of its list doesn't refuse.
+/// What an act depends on, if the length of its list doesn't refuse it.
 fn needed_within(alloc: Global, ledger: &Ledger, act: &Act) -> Result<View, AllocError>
     requires { length ledger.now.tickets ≤ 71200000 }
     ensures { IfOk result (λ v. v ≡ is.needed_within ledger.now act.now) }
@@ -253,7 +253,7 @@ fn needed_within(alloc: Global, ledger: &Ledger, act: &Act) -> Result<View, Allo
     view_with(alloc, ledger, act, counts)
 }
 
-/// What an act is decided by: nothing of the ledger where the length of its list refuses it.
+/// What an act depends on: nothing of the ledger if the length of its list refuses it.
 pub fn needed_of(alloc: Global, ledger: &Ledger, act: &Act) -> Result<View, AllocError>
     requires { length ledger.now.tickets ≤ 71200000 }
     ensures { IfOk result (λ v. v ≡ is.needed_of ledger.now act.now) }

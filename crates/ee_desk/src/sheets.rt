@@ -1,4 +1,4 @@
-//! Rows of bonds, on terms by issue period. No table of unit values is made.
+//! Rows of bonds, at the terms of their issue periods. Makes no table of unit values.
 
 ghost use Rattle.std.specs.Prelude.{◌≡◌, ◌++◌, [], map, Some, None, IfOk, OnOk};
 ghost use Rattle.std.specs.Option.{option_map, option_copied};
@@ -15,7 +15,7 @@ use ee_units::{Denom, IssueMonth, Month, Rate};
 use std::alloc::{AllocError, Global};
 use std::collections::BTreeMap;
 
-/// The row of a bond on these terms.
+/// The row of a bond at these terms.
 fn row_at(terms: &Terms, bond: &Bond, month: Month) -> Row
     ensures { shown_in_row result ≡ is.plain_row (Some bond.now.serial) bond.now.denom bond.now.issued month terms.now }
 {
@@ -29,7 +29,7 @@ fn terms_at(terms: &BTreeMap<IssueMonth, Terms>, period: IssueMonth) -> Option<&
     terms.get(&period)
 }
 
-/// The row of a bond, where there are terms of its issue period.
+/// The row of a bond, if its issue period has terms.
 fn row_of(terms: &BTreeMap<IssueMonth, Terms>, bond: &Bond, month: Month) -> Option<Row>
     ensures { option_map shown_in_row result ≡ is.row_of (rates_in terms.now.entries) month bond.now }
 {
@@ -56,7 +56,7 @@ fn push_some<T: Drop>(items: &mut Vec<T>, item: Option<T>) -> Result<(), AllocEr
     Ok(())
 }
 
-/// The rows in a month of those bonds of whose issue periods there are terms, in their order.
+/// The rows, in a month, of the bonds whose issue periods have terms, in the order of the bonds.
 pub fn rows_of(
     alloc: Global,
     terms: &BTreeMap<IssueMonth, Terms>,
@@ -68,14 +68,14 @@ pub fn rows_of(
     let mut rows = Vec::new(alloc);
     for bond in bonds {
         let row = row_of(terms, bond, month);
-        // The proof of this loop has to meet the type of a row's rate.
+        // The proof of this loop needs the type of a row's rate to occur.
         let _rate = rate_in(&row);
         push_some(&mut rows, row)?;
     }
     Ok(rows)
 }
 
-/// The row in a month of a bond that isn't registered, where there are terms of its issue period.
+/// The row, in a month, of an unregistered bond, if its issue period has terms.
 pub fn quote(terms: Option<&Terms>, denom: Denom, issued: IssueMonth, month: Month) -> Option<Row>
     ensures { option_map shown_in_row result ≡ option_map (is.plain_row None denom issued month) (option_copied terms.entry) }
 {
