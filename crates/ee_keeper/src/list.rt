@@ -23,7 +23,7 @@ use std::alloc::{AllocError, Global};
 use std::collections::BTreeMap;
 use std::marker::Model;
 
-/// Books, and the one reply that is kept for each desk and number, in memory. It never answers `StoreFailed`.
+/// Books, and the one reply kept for each desk and number, in memory. Never answers `StoreFailed`.
 #[derive(Drop)]
 pub struct ListKeeper {
     books: Books,
@@ -43,7 +43,7 @@ impl Model for ListKeeper {
 }
 
 impl ListKeeper {
-    /// A keeper with empty books and no kept replies. It takes no memory.
+    /// A keeper with empty books and no kept replies. Takes no memory.
     pub fn empty(alloc: Global) -> ListKeeper
         ensures empty { result ≡ nothing }
         ensures sound { IsSound result.books }
@@ -56,8 +56,9 @@ impl ListKeeper {
         }
     }
 
-    /// What a keeper's books always are: no serial is paid twice, each line pays the value of its bond
-    /// in the month of its ticket's day, and what was paid stands in the batches and on the open day.
+    /// What holds for the keeper's books at all times: no serial number is paid twice, and each line pays the
+    /// value of its bond in the month of its ticket's day. The batches and the open day together add up to
+    /// what was paid.
     pub fn known(&self)
         ensures sound { IsSound self.now.books }
         ensures once { NoneTwice (paid_lines self.now.books.tickets) }
@@ -67,9 +68,9 @@ impl ListKeeper {
         self.books.known();
     }
 
-    /// Answers a request, and keeps the reply to a new number together with what its act does. A number
-    /// that has a kept reply gets that reply where the act is the same, and else `NumberReused`. Where
-    /// memory is refused nothing has changed. `StoreFailed` is never answered.
+    /// Answers a request, and keeps the reply to a new number together with the effects of its act. A number
+    /// with a kept reply gets that reply if the act is the same, and `NumberReused` otherwise. If memory is
+    /// refused, nothing has changed. Never answers `StoreFailed`.
     pub fn deliver(&mut self, request: &Request) -> Result<Reply, Unserved>
         ensures reply { IfOk result (λ r. r ≡ answer self.old [] request.now) }
         ensures content { OnOk result (self.new ≡ content_after self.old (request.now ∷ [])) }
@@ -94,7 +95,7 @@ impl ListKeeper {
         self.decide(request)
     }
 
-    /// Decides a new number, and keeps its reply.
+    /// Decides a request with a new number, and keeps its reply.
     fn decide(&mut self, request: &Request) -> Result<Reply, AllocError>
         requires { finite.get self.old.kept (number_of request.now) ≡ None }
         ensures reply { IfOk result (λ r. r ≡ (act self.old.books request.now.act).reply) }
@@ -117,7 +118,7 @@ impl ListKeeper {
 }
 
 impl ListKeeper {
-    /// The sheet in a month of the unpaid bonds whose owner is this customer, in order of serial.
+    /// The sheet, in a month, of the unpaid bonds whose owner is this customer, in order of serial number.
     pub fn inventory(&self, customer: Customer, month: Month) -> Result<Sheet, Unserved>
         ensures sheet { IfOk result (λ sheet. IsInventory self.now.books customer month sheet) }
         ensures memory { IfErr result (λ e. e ≡ Unserved.NoMemory) }
@@ -125,7 +126,7 @@ impl ListKeeper {
         Ok(self.books.inventory(customer, month)?)
     }
 
-    /// The unpaid bonds whose owner is this customer, in order of serial.
+    /// The unpaid bonds whose owner is this customer, in order of serial number.
     pub fn bonds_of(&self, customer: Customer) -> Result<Vec<Bond>, Unserved>
         ensures bonds { IfOk result (λ bonds. bonds.items ≡ bonds_of self.now.books customer) }
         ensures memory { IfErr result (λ e. e ≡ Unserved.NoMemory) }
@@ -133,7 +134,7 @@ impl ListKeeper {
         Ok(self.books.bonds_of(customer)?)
     }
 
-    /// A copy of the ticket of a number, where there is one.
+    /// A copy of the ticket with this number, if there is one.
     pub fn ticket(&self, number: u64) -> Result<Option<Ticket>, Unserved>
         ensures ticket { IfOk result (λ ticket. ticket ≡ ticket_numbered self.now.books number) }
         ensures memory { IfErr result (λ e. e ≡ Unserved.NoMemory) }
@@ -141,15 +142,15 @@ impl ListKeeper {
         Ok(self.books.ticket(number)?)
     }
 
-    /// The batch of a day, where that day is closed.
+    /// The batch of a day, if that day is closed.
     pub fn batch(&self, day: Day) -> Option<Batch>
         ensures { result ≡ batch_on self.now.books day }
     {
         self.books.batch(day)
     }
 
-    /// The row in a month of a bond of that denomination and issue month, whether or not one is
-    /// registered; None without rates for its issue period.
+    /// The row, in a month, of a bond of this denomination and issue month, registered or not; `None`
+    /// without rates for its issue period.
     pub fn quote(
         &self,
         denom: Denom,
@@ -228,14 +229,14 @@ fn keep(
     Ok(())
 }
 
-/// Takes out what a number keeps.
+/// Removes the entry of a number.
 fn forget(kept: &mut BTreeMap<RequestNumber, Kept>, number: RequestNumber)
     ensures { kept_in kept.new.entries ≡ finite.remove (kept_in kept.old.entries) number }
 {
     let _ = kept.remove(&number);
 }
 
-/// The reply to a number that comes again.
+/// The reply to a repeated number.
 fn reply_again(kept: &Kept, again: &Act) -> Result<Reply, AllocError>
     ensures { IfOk result (λ r. r ≡ reply_again kept.now.act kept.now.reply again.now) }
 {
