@@ -1,4 +1,4 @@
--- What the body of a POST asks for, as a function of its JSON.
+-- The request of a POST's body, as a function of its JSON.
 use Rattle.std.specs.Prelude.{◌≡◌, List, [], ◌∷◌, codes, Result, Ok, Err}
 use Rattle.std.specs.Option.{ok_or}
 use Rattle.serde_json.specs.Data.{Data, Items, no_items, item}
@@ -113,13 +113,13 @@ request_of post.DayOpen d = open_day d
 request_of post.DayClose d = close_day d
 request_of post.Redeem d = redeem d
 
--- ---- what a function answers, where memory may be wanting
+-- ---- the result of a function, if memory may be refused
 
 abbrev pub Fails : {Y : Type 0} → BodyFault → Result Y Field → Type 0
 Fails fault.NoMemory r = Unit {0}
 Fails (fault.Field f) r = r ≡ Err f
 
--- it is what the definition gives, seen by view, unless memory was wanting
+-- the result, seen by view, is that of the definition, unless memory was refused
 abbrev pub Gives : {X Y : Type 0} → (X → Y) → Result X BodyFault → Result Y Field → Type 0
 Gives view (Ok x) r = r ≡ Ok (view x)
 Gives view (Err e) r = Fails e r

@@ -23,11 +23,11 @@ abbrev pub IsOfBody : BodyFault → WireFault → Type 0
 IsOfBody (body.Field f) e = e ≡ BadField f
 IsOfBody body.NoMemory e = e ≡ NoMemory
 
--- it is what the definition gives, or memory was wanting
+-- the result is that of the definition, or memory was refused
 abbrev pub IsUnlessMemory : {A : Type 0} → Result A WireFault → Result A WireFault → Type 0
 IsUnlessMemory result meant = result ≢ Err NoMemory → result ≡ meant
 
--- the JSON that the bytes are
+-- the JSON value of the bytes
 abbrev pub json_of : List ℕ → Option Data
 json_of body = if is_utf8 body then read body else None
 

@@ -7,13 +7,13 @@ use Rattle.serde_json.specs.Find.{get, as_null}
 use Rattle.ee_wire_calls.specs.declared.faults.Field.{Field}
 use Rattle.ee_wire_calls.specs.declared.faults.Field.TheVariants.{Other}
 
--- the next step, where this one gave a value
+-- continues with the value, if there is one
 infixl 10 ◌>>=◌
 abbrev pub ◌>>=◌ : {A B : Type 0} → Result A Field → (A → Result B Field) → Result B Field
 ◌>>=◌ (Ok x) f = f x
 ◌>>=◌ (Err e) f = Err e
 
--- the field of this name by this kind, or the fault that names it
+-- the field with this name, read as this kind, or the fault that names it
 abbrev pub field : {A : Type 0} → List ℕ → (Data → Option A) → Field → Data → Result A Field
 field name kind fault d = ok_or (option_and_then kind (get name d)) fault
 
@@ -24,11 +24,11 @@ abbrev pub or_missing : {A : Type 0} → (Data → Option A) → Field → Optio
 or_missing kind fault None = Ok None
 or_missing kind fault (Some d) = or_null kind fault d
 
--- the same, where it may be missing or null
+-- the same, but the field may be missing or null
 abbrev pub optional : {A : Type 0} → List ℕ → (Data → Option A) → Field → Data → Result (Option A) Field
 optional name kind fault d = or_missing kind fault (get name d)
 
--- a value for one that is missing or null
+-- a default for a field that is missing or null
 abbrev pub given_or : {A : Type 0} → A → Result (Option A) Field → Result A Field
 given_or a (Ok None) = Ok a
 given_or a (Ok (Some b)) = Ok b
@@ -49,11 +49,11 @@ keys_of (string s) = []
 keys_of (array ds) = []
 keys_of (object ms) = keys ms
 
--- no field but these
+-- the object has no fields but these
 abbrev pub no_other : List (List ℕ) → Data → Result (Unit {0}) Field
 no_other names d = if list_all (λ k. list_any (λ n. bytes_eq n k) names) (keys_of d) then Ok tt else Err Other
 
--- the value is an object, else the fault
+-- the value is an object, or the fault
 abbrev pub an_object : Field → Data → Result Data Field
 an_object fault (object ms) = Ok (object ms)
 an_object fault null = Err fault

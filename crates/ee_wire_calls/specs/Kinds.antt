@@ -1,4 +1,4 @@
--- Which value a JSON value or a part of a path is, by kind (this project's rule).
+-- The value that a JSON value or a part of a path represents, by kind (this project's rule).
 use Rattle.std.specs.Prelude.{ℕ, ◌&&◌, nat_le, if◌then◌else◌, List, length, Option, None, option_and_then}
 use Rattle.std.specs.Char.{is_ascii_digit}
 use Rattle.std.specs.List.{list_all}
@@ -18,7 +18,7 @@ number_text text =
 
 -- ---- JSON
 
--- a number without point or exponent, 0 to 2^64 - 1
+-- a number without a point or an exponent, from 0 to 2^64 - 1
 abbrev pub whole_number : Data → Option ℕ
 whole_number d = option_and_then as_u64 (as_number d)
 
@@ -34,7 +34,7 @@ customer_in d = option_and_then (in_range 1 999999999) (whole_number d)
 abbrev pub denom_in : Data → Option Denom
 denom_in d = option_and_then denom_with (whole_number d)
 
--- strings, spelled as everywhere
+-- strings, with the usual spellings
 abbrev pub day_in : Data → Option ℕ
 day_in d = option_and_then day_of (as_str d)
 

@@ -1,4 +1,4 @@
--- The parts of a path, and the query that they ask.
+-- The parts of a path, and the query that they make.
 use Rattle.std.specs.Prelude.{ℕ, zero, suc, ◌==◌, List, Option, Result, Ok}
 use Rattle.std.specs.List.{before_first, after_first}
 use Rattle.std.specs.Option.{ok_or}
@@ -13,12 +13,12 @@ use Rattle.ee_wire_calls.specs.declared.calls.Query.TheVariants as ask
 use Rattle.ee_wire_calls.specs.declared.routes.Get.{Get}
 use Rattle.ee_wire_calls.specs.declared.routes.Get.TheVariants as get
 
--- the part of a path behind so many slashes
+-- the part of a path after `slashes` slashes
 abbrev pub segment : ℕ → List ℕ → List ℕ
 segment zero path = before_first (λ b. b == 47) path
 segment (suc slashes) path = segment slashes (after_first (λ b. b == 47) path)
 
--- that part by this kind, or the fault that names it
+-- that part, read as this kind, or the fault that names it
 abbrev pub part : {A : Type 0} → ℕ → (List ℕ → Option A) → Field → List ℕ → Result A Field
 part slashes kind fault path = ok_or (kind (segment slashes path)) fault
 

@@ -1,4 +1,4 @@
--- The routes, and which of them a path takes.
+-- The routes, and the route that a path takes.
 use Rattle.std.specs.Prelude.{ℕ, List, [], codes, Option, Result, Ok, Err, option_map}
 use Rattle.matchit.specs.Rows.{RowsOf}
 use Rattle.matchit.specs.Seek.{first}
@@ -14,7 +14,7 @@ use Rattle.ee_wire_calls.specs.declared.routes.Get.TheVariants as query
 abbrev pub Routes : Type 0
 Routes = RowsOf (RouteOf Route)
 
--- the routes with one more, whose text was read
+-- the routes with one more, whose pattern was read
 abbrev pub with_read : Result Scan InsertError → Route → Routes → Routes
 with_read (Ok s) route rows = placed (s.pattern, route_from s route) rows
 with_read (Err e) route rows = rows

@@ -1,4 +1,4 @@
-//! Bodies of POST.
+//! Bodies of POST messages.
 ghost use Rattle.std.specs.Prelude.{◌≡◌};
 ghost use Rattle.serde_json.specs.View.{view, items_view};
 ghost use Rattle.ee_wire_calls.specs.Bodies.{
@@ -83,7 +83,7 @@ fn read_bonds(alloc: Global, values: &[Value]) -> Result<Vec<Bond>, BodyFault>
     let mut rows = Vec::new(alloc);
     for value in values {
         let bond = read_bond(value)?;
-        // The borrow checker has to see the type of the coowner in this body.
+        // The borrow checker needs the type of the coowner to occur in this body.
         let coowner = bond.coowner;
         rows.push(Bond { coowner, ..bond })?;
     }

@@ -1,19 +1,19 @@
-//! What a message may ask for.
+//! What a message can ask for.
 
 use ee_desk_acts::Request;
 use ee_units::{Customer, Day, Denom, IssueMonth, Month};
 
-/// What a GET asks of the books.
+/// A query on the books, sent by GET.
 #[derive(Clone, Copy, Debug)]
 pub enum Query {
-    /// The unpaid bonds of an owner, with their values in that month.
+    /// The unpaid bonds of an owner, with their values in a month.
     Inventory {
         customer: Customer,
         month: Month,
     },
-    /// The ticket of that number, 1 to 2^63 - 1.
+    /// The ticket with this number, 1 to 2^63 - 1.
     Ticket(u64),
-    /// The batch of that day.
+    /// The batch of a day.
     Batch(Day),
     /// The value of a bond that isn't registered.
     Value {

@@ -1,4 +1,4 @@
-//! Why a message asks for nothing.
+//! Faults: why a message asks for nothing.
 
 ghost use Rattle.std.specs.Prelude.{◌≡◌};
 ghost use Rattle.ee_wire_calls.specs.Faults.{code_of, name_of, field_name};
@@ -28,9 +28,9 @@ pub enum Field {
     Coowner,
     Day,
     Payee,
-    /// The list, or a serial of it.
+    /// The list, or a serial number in it.
     Serials,
-    /// A field that the object doesn't have.
+    /// A field that the object can't have.
     Other,
     Customer,
     Month,
@@ -67,11 +67,11 @@ impl Field {
     }
 }
 
-/// Why a message asks for nothing. Framing is tested before the route, the route before the method,
+/// Why a message asks for nothing. Framing is checked before the route, the route before the method, and
 /// the method before the body.
 #[derive(Clone, Copy, Debug, PartialEq, Eq, Error)]
 pub enum WireFault {
-    /// The bytes are no message, and the connection ends.
+    /// The bytes are no message, so the connection ends.
     #[error("no message: {0}")]
     Framing(FramingFault),
     /// The body isn't JSON.
@@ -86,13 +86,13 @@ pub enum WireFault {
     /// The target's route has another method.
     #[error("the route has another method")]
     BadMethod,
-    /// A growth was refused.
+    /// Memory was refused.
     #[error("no memory")]
     NoMemory,
 }
 
 impl WireFault {
-    /// The fault's code, 60 to 68, or 1 for want of memory.
+    /// The fault's code: 60 to 68, or 1 if memory was refused.
     pub fn code(self) -> u8
         ensures { result ≡ code_of self }
     {
@@ -129,7 +129,7 @@ impl WireFault {
     }
 }
 
-/// Why a body gives no request.
+/// Why a body is no request.
 #[derive(Clone, Copy)]
 pub enum BodyFault {
     Field(Field),

@@ -16,7 +16,7 @@ use ee_desk_acts::{Desk, Number};
 use ee_units::{Customer, Day, Denom, IssueMonth, Rate, Serial};
 use serde_json::{Map, Value};
 
-/// The value, where it is an object.
+/// The value, if it is an object; else the fault.
 pub fn an_object(value: &Value, fault: Field) -> Result<&Value, Field>
     ensures { map_ok view_at result ≡ an_object fault (view value.now) }
 {
@@ -27,7 +27,7 @@ pub fn an_object(value: &Value, fault: Field) -> Result<&Value, Field>
     }
 }
 
-/// The desk in the field `desk`, which may be missing or null: then it is 0; the fault where it is of the wrong kind or out of range.
+/// The desk in the field `desk`. If the field is missing or null, the desk is 0. Faults name the field.
 pub fn desk_field(body: &Value) -> Result<Desk, Field>
     ensures { result ≡ optional_or 0 (codes "desk") desk_in Field.Desk (view body.now) }
 {
@@ -46,70 +46,71 @@ fn optional_desk(value: &Value) -> Result<Desk, Field>
     desk_in(value).ok_or(Field::Desk)
 }
 
-/// The request number in the field `number`; the fault where it is missing, of the wrong kind or out of range.
+/// The request number in the field `number`. The fault names the field if it is missing, of the wrong kind or out of range;
+/// the same goes for the fields below.
 pub fn number_field(body: &Value) -> Result<Number, Field>
     ensures { result ≡ field (codes "number") number_in Field.Number (view body.now) }
 {
     body.get("number").and_then(number_in).ok_or(Field::Number)
 }
 
-/// The day in the field `day`; the fault where it is missing, of the wrong kind or out of range.
+/// The day in the field `day`.
 pub fn day_field(body: &Value) -> Result<Day, Field>
     ensures { result ≡ field (codes "day") day_in Field.Day (view body.now) }
 {
     body.get("day").and_then(day_in).ok_or(Field::Day)
 }
 
-/// The month of issue from which rates hold in the field `from`; the fault where it is missing, of the wrong kind or out of range.
+/// The issue month from which rates apply, in the field `from`.
 pub fn from_field(row: &Value) -> Result<IssueMonth, Field>
     ensures { result ≡ field (codes "from") issue_in Field.From (view row.now) }
 {
     row.get("from").and_then(issue_in).ok_or(Field::From)
 }
 
-/// The rate in the field `rate`; the fault where it is missing, of the wrong kind or out of range.
+/// The rate in the field `rate`.
 pub fn rate_field(row: &Value) -> Result<Rate, Field>
     ensures { result ≡ field (codes "rate") rate_in Field.Rate (view row.now) }
 {
     row.get("rate").and_then(rate_in).ok_or(Field::Rate)
 }
 
-/// The serial number in the field `serial`; the fault where it is missing, of the wrong kind or out of range.
+/// The serial number in the field `serial`.
 pub fn serial_field(row: &Value) -> Result<Serial, Field>
     ensures { result ≡ field (codes "serial") serial_in Field.Serial (view row.now) }
 {
     row.get("serial").and_then(serial_in).ok_or(Field::Serial)
 }
 
-/// The denomination in the field `denom`; the fault where it is missing, of the wrong kind or out of range.
+/// The denomination in the field `denom`.
 pub fn denom_field(row: &Value) -> Result<Denom, Field>
     ensures { result ≡ field (codes "denom") denom_in Field.Denom (view row.now) }
 {
     row.get("denom").and_then(denom_in).ok_or(Field::Denom)
 }
 
-/// The month of issue in the field `issued`; the fault where it is missing, of the wrong kind or out of range.
+/// The issue month in the field `issued`.
 pub fn issued_field(row: &Value) -> Result<IssueMonth, Field>
     ensures { result ≡ field (codes "issued") issue_in Field.Issued (view row.now) }
 {
     row.get("issued").and_then(issue_in).ok_or(Field::Issued)
 }
 
-/// The owner in the field `owner`; the fault where it is missing, of the wrong kind or out of range.
+/// The owner in the field `owner`.
 pub fn owner_field(row: &Value) -> Result<Customer, Field>
     ensures { result ≡ field (codes "owner") customer_in Field.Owner (view row.now) }
 {
     row.get("owner").and_then(customer_in).ok_or(Field::Owner)
 }
 
-/// The payee in the field `payee`; the fault where it is missing, of the wrong kind or out of range.
+/// The payee in the field `payee`.
 pub fn payee_field(row: &Value) -> Result<Customer, Field>
     ensures { result ≡ field (codes "payee") customer_in Field.Payee (view row.now) }
 {
     row.get("payee").and_then(customer_in).ok_or(Field::Payee)
 }
 
-/// The coowner, which may be missing or null.
+/// The coowner; the field may be missing or null.
 pub fn coowner_field(row: &Value) -> Result<Option<Customer>, Field>
     ensures { result ≡ optional (codes "coowner") customer_in Field.Coowner (view row.now) }
 {
@@ -128,7 +129,7 @@ fn optional_customer(value: &Value) -> Result<Option<Customer>, Field>
     customer_in(value).map(Some).ok_or(Field::Coowner)
 }
 
-/// The extension, which may be missing or null.
+/// The extension; the field may be missing or null.
 pub fn extension_field(row: &Value) -> Result<Option<Rate>, Field>
     ensures { result ≡ optional (codes "extension") rate_in Field.Extension (view row.now) }
 {
@@ -147,7 +148,7 @@ fn optional_rate(value: &Value) -> Result<Option<Rate>, Field>
     rate_in(value).map(Some).ok_or(Field::Extension)
 }
 
-/// The list of this name.
+/// The list in the field with this name.
 pub fn list_field<'a>(body: &'a Value, name: &str, fault: Field) -> Result<&'a Vec<Value>, Field>
     ensures { map_ok (λ v. items_view v.now.items) result ≡ field name.now as_array fault (view body.now) }
 {
@@ -166,7 +167,7 @@ fn keys_named(members: &Map<String, Value>, names: &[&str]) -> bool
     members.keys().all(|name| is_named(names, name.as_str()))
 }
 
-/// Refuses a field of another name.
+/// Refuses fields with any other name.
 pub fn no_other(body: &Value, names: &[&str]) -> Result<(), Field>
     ensures { result ≡ no_other (map text_at names.now) (view body.now) }
 {

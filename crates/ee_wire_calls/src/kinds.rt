@@ -33,35 +33,35 @@ pub fn customer_in(value: &Value) -> Option<Customer>
     Customer::new(value.as_u64()?)
 }
 
-/// A denomination: its dollars, as a whole number.
+/// A denomination: its number of dollars, as a whole number.
 pub fn denom_in(value: &Value) -> Option<Denom>
     ensures { result ≡ denom_in (view value.now) }
 {
     Denom::with_dollars(value.as_u64()?)
 }
 
-/// A day: its text.
+/// A day, as text.
 pub fn day_in(value: &Value) -> Option<Day>
     ensures { result ≡ day_in (view value.now) }
 {
     read_day(value.as_str()?).ok()
 }
 
-/// A month of issue: its text.
+/// An issue month, as text.
 pub fn issue_in(value: &Value) -> Option<IssueMonth>
     ensures { result ≡ issue_in (view value.now) }
 {
     read_issue(value.as_str()?).ok()
 }
 
-/// A yearly rate: its text, in per cent.
+/// An annual rate in percent, as text.
 pub fn rate_in(value: &Value) -> Option<Rate>
     ensures { result ≡ rate_in (view value.now) }
 {
     read_rate(value.as_str()?).ok()
 }
 
-/// A serial number: its text.
+/// A serial number, as text.
 pub fn serial_in(value: &Value) -> Option<Serial>
     ensures { result ≡ serial_in (view value.now) }
 {

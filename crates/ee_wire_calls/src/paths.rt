@@ -35,7 +35,7 @@ fn after_slash(text: &str) -> &str
     }
 }
 
-/// The part of a path behind so many slashes.
+/// The part of a path after `slashes` slashes.
 fn segment(path: &str, slashes: usize) -> &str
     ensures { result.now ≡ segment slashes path.now }
 {
@@ -52,7 +52,7 @@ fn is_all_digits(text: &str) -> bool
     text.bytes().all(|b| b.is_ascii_digit())
 }
 
-/// 1 to 19 digits, from 1 to 2^63 - 1.
+/// A number of 1 to 19 digits, from 1 to 2^63 - 1.
 fn number_text(text: &str) -> Option<u64>
     ensures { result ≡ number_text text.now }
 {

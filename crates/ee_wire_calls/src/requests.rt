@@ -51,7 +51,7 @@ fn called(
     }
 }
 
-/// What a message asks for, by routes that were made before it came.
+/// What a message asks for, given the routes, which were made before.
 #[tactic(auto, unfolding(crate::specs::Calls::decoded))]
 pub fn decode_with(
     alloc: Global,
@@ -69,7 +69,7 @@ pub fn decode_with(
     called(alloc, route, path, method, body)
 }
 
-/// What a message asks for.
+/// What a message asks for; makes the routes for this message alone.
 pub fn decode(alloc: Global, path: &[u8], method: &[u8], body: &[u8]) -> Result<Call, WireFault>
     ensures { IsUnlessMemory result (decoded path.now method.now body.now) }
 {

@@ -6,7 +6,7 @@ use matchit::{InsertError, Router};
 use std::alloc::{AllocError, Global};
 use std::marker::Model;
 
-/// A route of requests, which are posted.
+/// A route of requests, sent by POST.
 #[derive(Clone, Copy)]
 pub enum Post {
     Rates,
@@ -16,7 +16,7 @@ pub enum Post {
     Redeem,
 }
 
-/// A route of queries.
+/// A route of queries, sent by GET.
 #[derive(Clone, Copy)]
 pub enum Get {
     Inventory,
@@ -71,7 +71,7 @@ impl Routes {
     }
 }
 
-/// The routes of requests.
+/// Adds the routes of requests.
 fn add_posts(router: &mut Router<Route>) -> Result<(), InsertError>
     ensures { router.old ≡ [] → OnOk result (router.new ≡ posts) }
 {
@@ -83,7 +83,7 @@ fn add_posts(router: &mut Router<Route>) -> Result<(), InsertError>
     Ok(())
 }
 
-/// The routes of queries beside those of requests.
+/// Adds the routes of queries.
 fn add_gets(router: &mut Router<Route>) -> Result<(), InsertError>
     ensures { router.old ≡ posts → OnOk result (router.new ≡ routes) }
 {
@@ -94,7 +94,7 @@ fn add_gets(router: &mut Router<Route>) -> Result<(), InsertError>
     Ok(())
 }
 
-/// The router.
+/// Makes the router.
 fn router(alloc: Global) -> Result<Router<Route>, InsertError>
     ensures { IfOk result (λ r. r ≡ routes) }
 {
