@@ -1,4 +1,4 @@
--- What the reader of command lines answers.
+-- The results of the command line reader.
 use Rattle.std.specs.Prelude.{◌≡◌, ◌≢◌, List, [], Some, Result, Ok, Err, ⊤, map}
 use Rattle.std.specs.Borrow.{Bor}
 use Rattle.clap.specs.Words.{IsAmong, Text, fault_of}
@@ -19,15 +19,15 @@ view_of (command.Export customer db) = export customer db.now
 view_of (command.Sheet customer month db) = sheet customer month db.now
 view_of (command.Serve db port connections) = serve db.now port connections
 
--- clap reads the words by the program's rows, and this is what they ask for. The words for the kinds of files stand behind
--- references, and clap reads the same wherever those point.
+-- clap reads the words by the program's rows, and this is what they ask for. The words for the kinds of files are behind
+-- references, and clap reads the same wherever these point.
 pub record IsAsked (words : List Text) (r : Result Asked Text) : Type 0 where
   pub kinds : Bor (List (Bor Text))
   pub kind_words_are : map (λ k. k.now) kinds.now ≡ kind_words
   pub read : fault_of (program kinds) words ≡ []
   pub asks : asked_by (program kinds) words ≡ Some r
 
--- clap refuses the words, with this kind of fault among others
+-- clap refuses the words with an error of this kind
 pub record IsRefusedBy (kind : ErrorKind) (words : List Text) : Type 0 where
   pub kinds : Bor (List (Bor Text))
   pub kind_words_are : map (λ k. k.now) kinds.now ≡ kind_words
@@ -41,34 +41,34 @@ AsksForHelp words = IsRefusedBy DisplayHelp words
 abbrev pub AsksForVersion : List Text → Type 0
 AsksForVersion words = IsRefusedBy DisplayVersion words
 
--- clap refuses the words for another cause than memory, which is neither that they ask for help nor for the version
+-- clap refuses the words with an error other than want of memory, help and the version
 pub record IsRefused (words : List Text) : Type 0 where
   pub kind : ErrorKind
   pub by : IsRefusedBy kind words
   pub no_help : kind ≢ DisplayHelp
   pub no_version : kind ≢ DisplayVersion
 
--- words ask for one thing at most
+-- words ask for at most one thing
 abbrev pub AsksForOne : Type 0
 AsksForOne = (words : List Text) (r s : Result Asked Text) → IsAsked words r → IsAsked words s → r ≡ s
 
--- words that ask for something are not refused, nor do they ask for help or the version
+-- words that ask for something are not refused, and ask neither for help nor for the version
 abbrev pub AsksUnrefused : Type 0
 AsksUnrefused = (words : List Text) (r : Result Asked Text) (kind : ErrorKind) → IsAsked words r → IsRefusedBy kind words → ⊥
 
--- words that ask for help are not refused for another cause
+-- words that ask for help are not refused with another error
 abbrev pub AsksForHelpAlone : Type 0
 AsksForHelpAlone = (words : List Text) → AsksForHelp words → IsRefused words → ⊥
 
--- words that ask for the version are not refused for another cause
+-- words that ask for the version are not refused with another error
 abbrev pub AsksForVersionAlone : Type 0
 AsksForVersionAlone = (words : List Text) → AsksForVersion words → IsRefused words → ⊥
 
--- no words ask for help and for the version
+-- no words ask both for help and for the version
 abbrev pub NeverAsksForBoth : Type 0
 NeverAsksForBoth = (words : List Text) → AsksForHelp words → AsksForVersion words → ⊥
 
--- what an answer says of the words
+-- what a result says about the words
 abbrev pub IsAnswer : List Text → Result Command CommandFault → Type 0
 IsAnswer words (Ok c) = IsAsked words (Ok (view_of c))
 IsAnswer words (Err (fault.Argument name)) = IsAsked words (Err name.now)
@@ -82,7 +82,7 @@ abbrev pub Spells : {X Y : Type 0} → (X → Y) → Result X (Bor Text) → Res
 Spells view (Ok x) read = read ≡ Ok (view x)
 Spells view (Err name) read = read ≡ Err name.now
 
--- the same, where the fault names the word
+-- the same, with a fault that names the word
 abbrev pub Gives : {X Y : Type 0} → (X → Y) → Result X CommandFault → Result Y Text → Type 0
 Gives view (Ok x) read = read ≡ Ok (view x)
 Gives view (Err (fault.Argument name)) read = read ≡ Err name.now
@@ -91,7 +91,7 @@ Gives view (Err fault.Version) read = ⊥
 Gives view (Err (fault.Line text)) read = ⊥
 Gives view (Err fault.NoMemory) read = ⊥
 
--- what an error of clap's comes to
+-- the fault for an error of clap
 abbrev pub Refuses : ErrorKind → CommandFault → Type 0
 Refuses kind (fault.Help text) = kind ≡ DisplayHelp
 Refuses kind fault.Version = kind ≡ DisplayVersion

@@ -1,4 +1,4 @@
--- The command line: the rows that clap is asked to match, and what the words that it matched ask for.
+-- The command line: the rows that clap is asked to match, and what the matched words ask for.
 use Rattle.std.specs.Prelude.{ℕ, List, [], ◌∷◌, Option, Some, None, Result, Ok, Err, true, false, codes, option_and_then, option_map, if◌then◌else◌}
 use Rattle.std.specs.Option.{ok_or, option_map_or}
 use Rattle.std.specs.Borrow.{Bor}
@@ -14,31 +14,31 @@ use Rattle.ee_desk_acts.specs.Desks.{desk_of}
 use Rattle.ee_cli_commands.specs.declared.commands.FileKind.{FileKind}
 use Rattle.ee_cli_commands.specs.declared.commands.FileKind.TheVariants as kind
 
--- a word that has to stand in its place
+-- a required positional word
 abbrev pub positional : Text → Rule
 positional id = record (new_rule id) { required = true }
 
--- the same, which may be left out
+-- an optional positional word
 abbrev pub optional_positional : Text → Rule
 optional_positional id = record (positional id) { required = false }
 
--- `--id VALUE`, which has to be there
+-- a required option `--id VALUE`
 abbrev pub option : Text → Rule
 option id = record (new_rule id) { long = Some id; required = true }
 
--- the same, which may be left out
+-- an optional option `--id VALUE`
 abbrev pub optional_option : Text → Rule
 optional_option id = record (option id) { required = false }
 
--- `--id NUMBER`, which has to be there, of a whole number from 1 to this one
+-- a required option `--id NUMBER`, with a whole number from 1 to the given maximum
 abbrev pub number_option : Text → ℕ → Rule
 number_option id most = record (option id) { parser = Some (parser.Unsigned 1 most) }
 
--- the same, which may be left out
+-- an optional one
 abbrev pub optional_number : Text → ℕ → Rule
 optional_number id most = record (number_option id most) { required = false }
 
--- the words that stand for a kind of file
+-- the words for the kinds of files
 abbrev pub kind_words : List Text
 kind_words = codes "rates" ∷ codes "inventory" ∷ []
 
@@ -51,7 +51,7 @@ most_port = 65535
 abbrev pub most_connections : ℕ
 most_connections = 1000
 
--- how many connections where the line doesn't say: as many as come
+-- the number of connections if the line doesn't give one: unlimited
 abbrev pub unlimited : ℕ
 unlimited = 18446744073709551615
 
@@ -84,14 +84,14 @@ abbrev pub serve_row : App
 serve_row = with_rule (with_rule (with_rule (new_app (codes "serve")) (option (codes "db")))
     (number_option (codes "port") most_port)) (optional_number (codes "connections") most_connections)
 
--- the program, with no row: a line has to name one, help is asked for by --help alone, and --version stands before any row
+-- the program without a row: a line has to name one, only --help asks for help, and --version comes before any row
 abbrev pub no_row : App
 no_row = record (new_app (codes "ee_cli")) { top = record (new_app (codes "ee_cli")).top { has_version = true; subcommand_required = true; disable_help_subcommand = true } }
 
 abbrev pub first_rows : App
 first_rows = with_subcommand (with_subcommand no_row value_row.top) apply_row.top
 
--- the program's rows, where these words stand for the kinds of files
+-- the program's rows, given the words for the kinds of files
 abbrev pub program : Bor (List (Bor Text)) → App
 program kinds = with_subcommand (with_subcommand (with_subcommand (with_subcommand first_rows (import_row kinds).top) export_row.top) sheet_row.top) serve_row.top
 
@@ -109,15 +109,15 @@ abbrev pub ◌>>=◌ : {A B : Type 0} → Result A Text → (A → Result B Text
 (Ok x) >>= f = f x
 (Err e) >>= f = Err e
 
--- the value that the word of this name spells, or the name
+-- the value that the word with this name spells, or the name
 abbrev pub spelled : {A : Type 0} → Text → (Text → Option A) → List Row → Result A Text
 spelled name read rows = ok_or (option_and_then read (first_of name rows)) name
 
--- the same, or none where there is no such word
+-- the same, or None if there is no such word
 abbrev pub spelled_or_none : {A : Type 0} → Text → (Text → Option A) → List Row → Result (Option A) Text
 spelled_or_none name read rows = option_map_or (λ word. ok_or (option_map Some (read word)) name) (first_of name rows) (Ok None)
 
--- the same, or this one where there is no such word
+-- the same, or a default if there is no such word
 abbrev pub spelled_or : {A : Type 0} → A → Text → (Text → Option A) → List Row → Result A Text
 spelled_or otherwise name read rows = option_map_or (λ word. ok_or (read word) name) (first_of name rows) (Ok otherwise)
 
@@ -128,14 +128,14 @@ text_of word = Some word
 abbrev pub kind_of_file : Text → Option FileKind
 kind_of_file word = if bytes_eq word (codes "rates") then Some kind.Rates else (if bytes_eq word (codes "inventory") then Some kind.Inventory else None)
 
--- a whole number from 1 to this one, as clap reads it
+-- a whole number from 1 to the given maximum, as clap reads it
 abbrev pub number_word : ℕ → Text → Option ℕ
 number_word most word = if is_unsigned_in 1 most word then Some (digits_value 10 (without_leading_plus word)) else None
 
 abbrev pub numbered : Text → ℕ → List Row → Result ℕ Text
 numbered name most rows = ok_or (option_and_then (number_word most) (one_of name rows)) name
 
--- the same, or this number where there is no such word
+-- the same, or a default if there is no such word
 abbrev pub numbered_or : ℕ → Text → ℕ → List Row → Result ℕ Text
 numbered_or otherwise name most rows = option_map_or (λ word. numbered name most rows) (first_of name rows) (Ok otherwise)
 
@@ -182,7 +182,7 @@ serve_asked rows = do
   connections ← numbered_or unlimited (codes "connections") most_connections rows
   Ok (serve db port connections)
 
--- what a row of this name asks for, or the name of its first word that spells no value
+-- what a row with this name asks for, or the name of its first word that spells no value
 abbrev pub asked : Text × List Row → Result Asked Text
 asked row = if bytes_eq row.0 (codes "value") then value_asked row.1
     else (if bytes_eq row.0 (codes "apply") then apply_asked row.1

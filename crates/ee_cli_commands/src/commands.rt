@@ -1,4 +1,4 @@
-//! The words of a command line, read by clap.
+//! Reading the words of a command line, by clap.
 
 ghost use Rattle.std.specs.Prelude.{◌≡◌, IfOk, Some, List, map, true};
 ghost use Rattle.clap.specs.Words.{Row, Text, found_of, has_subcommand, kind_of, rows_of, subcommand_rows_of};
@@ -27,35 +27,35 @@ pub enum FileKind {
 /// What a command line asks for.
 #[derive(Clone, Copy)]
 pub enum Command<'a> {
-    /// The value in a month of a bond of that denomination and issue month, at that fixed rate and that
-    /// extension: the rate from original to final maturity, where the line names one.
+    /// The value, in a month, of a bond of this denomination and issue month, at this fixed rate and, if the
+    /// line names one, this extension: the rate from original to final maturity.
     Value(Denom, IssueMonth, Month, Rate, Option<Rate>),
-    /// To serve the messages of standard input over the store of that path.
+    /// Serves the messages of standard input over the store at this path.
     Apply(&'a str),
-    /// To import a file of that kind and path into the store of that path, under that number of that desk:
-    /// 0 where the line doesn't name one.
+    /// Imports a file of this kind and path into the store at this path, under this number of this desk. The
+    /// desk is 0 if the line doesn't name one.
     Import(FileKind, &'a str, &'a str, Desk, Number),
-    /// The inventory of a customer as CSV, from the store of that path.
+    /// Exports the inventory of a customer as CSV, from the store at this path.
     Export(Customer, &'a str),
-    /// The sheet of a customer's bonds in a month, from the store of that path.
+    /// Prints the sheet of a customer's bonds in a month, from the store at this path.
     Sheet(Customer, Month, &'a str),
-    /// To serve over the store of that path, on that port, that many connections: from 1 to 1,000, or
-    /// `u64::MAX`, as many as come, where the line doesn't say how many.
+    /// Serves over the store at this path, on this port, this number of connections: 1 to 1,000, or
+    /// `u64::MAX`, which means unlimited, if the line doesn't say.
     Serve(&'a str, u16, u64),
 }
 
 /// Why a command line asks for nothing.
 #[derive(Drop)]
 pub enum CommandFault {
-    /// The words ask for help: the text of clap.
+    /// The words ask for help; the text is clap's.
     Help(String),
     /// The words ask for the version.
     Version,
-    /// The words fit no row: the text of clap.
+    /// The words fit no row; the text is clap's.
     Line(String),
-    /// The word of that name spells no value; the first such in the row's order.
+    /// The word with this name spells no value; the first such word in the row's order.
     Argument(&'static str),
-    /// A growth was refused.
+    /// Memory was refused.
     NoMemory,
 }
 
@@ -70,11 +70,10 @@ impl From<AllocError> for CommandFault {
     }
 }
 
-/// What the words ask for, the first of which is the program's name. A request number is at least 1
-/// and below 2^63, a desk from 0 to 999, and 0 where it is left out, a port from 1 to 65535, a count of
-/// connections from 1 to 1,000. That count may be left out: the command then serves `u64::MAX`
-/// connections, as many as come, until it is stopped. Help and the version are asked for by `--help` or `-h`, after a
-/// command's name too, and by `--version` or `-V`.
+/// What the words ask for. The first word is the program's name. A request number is at least 1 and below
+/// 2^63; a desk is 0 to 999, and 0 if it is left out; a port is 1 to 65535. A count of connections is 1
+/// to 1,000; if it is left out, the command serves `u64::MAX` connections, which means until it is stopped.
+/// `--help` or `-h` asks for help, also after a command's name, and `--version` or `-V` for the version.
 pub fn read_command<'a, S: AsStr>(
     alloc: Global,
     words: &'a [S],
@@ -87,7 +86,7 @@ pub fn read_command<'a, S: AsStr>(
     }
 }
 
-// What the row that was matched asks for.
+// What the matched row asks for.
 fn line<'a>(matches: &ArgMatches<'a>) -> Result<Command<'a>, CommandFault>
     requires { has_subcommand matches.now ≡ true }
     ensures { (name : Text) (rows : List Row) → subcommand_rows_of matches.now ≡ Some (name, rows)
@@ -115,7 +114,7 @@ fn row_line<'a>(name: &str, row: &ArgMatches<'a>) -> Result<Command<'a>, WordNam
     }
 }
 
-// What an error of clap's comes to.
+// The fault for an error of clap.
 fn refusal(alloc: Global, error: &Error) -> Result<CommandFault, AllocError>
     ensures { IfOk result (λ fault. Refuses (kind_of error.now) fault) }
 {

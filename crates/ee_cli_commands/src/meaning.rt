@@ -1,15 +1,15 @@
-//! What words mean, as a law: the body does nothing, and the clauses are the law.
+//! The meaning of words, as a law. The body does nothing; the clauses state the law.
 
 ghost use Rattle.ee_cli_commands.specs.Answer.{AsksForHelpAlone, AsksForOne, AsksForVersionAlone, AsksUnrefused, NeverAsksForBoth};
 
-/// What the words of a line ask for is determined by the words.
+/// The words of a line determine what they ask for.
 ///
-/// - `one`: they ask for one thing at most, so the command that `read_command` answers is the only one
-///   that they ask for, or the argument that it names the only one.
-/// - `unrefused`: words that ask for something are neither refused, nor do they ask for help or the version.
-/// - `help_alone`: words that ask for help are not refused for another cause.
-/// - `version_alone`: words that ask for the version are not refused for another cause.
-/// - `never_both`: no words ask for help and for the version.
+/// - `one`: they ask for at most one thing. So the command that `read_command` returns is the only one
+///   that they ask for, and the argument that it names the only one.
+/// - `unrefused`: words that ask for something are not refused, and ask neither for help nor for the version.
+/// - `help_alone`: words that ask for help are not refused with another error.
+/// - `version_alone`: words that ask for the version are not refused with another error.
+/// - `never_both`: no words ask both for help and for the version.
 pub const fn one_meaning()
     ensures one { AsksForOne }
     ensures unrefused { AsksUnrefused }

@@ -13,7 +13,7 @@ use std::alloc::{AllocError, Global};
 /// The version of the program.
 pub const VERSION: &str = "1.0.0";
 
-// What stands below the commands in the help of the program.
+// The notes below the commands in the program's help.
 const NOTES: &str = "\
 ee_cli COMMAND --help tells the words of a command, with an example.
 
@@ -64,7 +64,7 @@ fn first_rows<'a>(alloc: Global) -> Result<Command<'a>, AllocError>
     with_row(rows, apply_command(alloc))
 }
 
-/// Rows with a further row, where both were made.
+/// Adds a row, if both were made.
 fn with_row<'a>(
     rows: Result<Command<'a>, AllocError>,
     row: Result<Command<'a>, AllocError>,
@@ -182,7 +182,7 @@ fn serve_command<'a>(alloc: Global) -> Result<Command<'a>, AllocError>
     with(row, connections(alloc))
 }
 
-// The row of that name, with a text above its words in its help, and one below them.
+// The row with this name, with one text above its words in its help, and one below them.
 fn named<'a>(alloc: Global, name: &'a str, about: &'a str, below: &'a str) -> Command<'a>
     ensures shape { app_of result ≡ new_app name.entry.now }
     ensures local { (fields_of result).has_globals ≡ false }
@@ -190,7 +190,7 @@ fn named<'a>(alloc: Global, name: &'a str, about: &'a str, below: &'a str) -> Co
     Command::new(alloc, name).about(about).after_help(below)
 }
 
-/// A row with a further argument, where the row was made.
+/// Adds an argument to a row, if the row was made.
 fn with<'a>(row: Result<Command<'a>, AllocError>, arg: Arg<'a>) -> Result<Command<'a>, AllocError>
     requires row { IfOk row (λ r. (fields_of r).has_globals ≡ false) }
     requires arg { arg.global ≡ false }

@@ -1,4 +1,4 @@
-//! The values that the words of a row spell.
+//! The values of the words of a row.
 
 ghost use Rattle.std.specs.Prelude.{◌≡◌, ◌≤◌, IfOk, option_and_then, option_map};
 ghost use Rattle.clap.specs.Words.{first_of, found_of, one_of, rows_of};
@@ -27,7 +27,7 @@ use ee_units::{
     read_rate,
 };
 
-/// The name of a word, as that of one which spells no value.
+/// The name of a word that spells no value.
 pub type WordName = &'static str;
 
 const MOST_NUMBER: u64 = 9_223_372_036_854_775_807;
@@ -40,7 +40,7 @@ fn word<'a>(matches: &ArgMatches<'a>, name: WordName) -> Option<&'a str>
     matches.get_str(name)
 }
 
-/// The word of a name, as it stands.
+/// The word with this name, unchanged.
 pub fn text<'a>(matches: &ArgMatches<'a>, name: WordName) -> Result<&'a str, WordName>
     ensures { Spells (λ s. s.now) result (spelled name.now text_of (rows_of (found_of matches.now))) }
 {
@@ -87,7 +87,7 @@ pub fn rate(matches: &ArgMatches, name: WordName) -> Result<Rate, WordName>
     }
 }
 
-/// A rate, or none where there is no such word.
+/// A rate; `None` if there is no such word.
 pub fn rate_or_none(matches: &ArgMatches, name: WordName) -> Result<Option<Rate>, WordName>
     ensures { Spells (λ v. v) result (spelled_or_none name.now rate_of (rows_of (found_of matches.now))) }
 {
@@ -125,7 +125,7 @@ fn whole_number(matches: &ArgMatches, name: WordName, most: u64) -> Option<u64>
     matches.get_one::<u64>(name)
 }
 
-/// A whole number from 1 to that one.
+/// A whole number from 1 to `most`.
 pub fn number(matches: &ArgMatches, name: WordName, most: u64) -> Result<u64, WordName>
     ensures number { Spells (λ v. v) result (numbered name.now most (rows_of (found_of matches.now))) }
     ensures low { IfOk result (λ n. 1 ≤ n) }
@@ -137,7 +137,7 @@ pub fn number(matches: &ArgMatches, name: WordName, most: u64) -> Result<u64, Wo
     }
 }
 
-/// A whole number from 1 to that one, or `otherwise` where there is no such word.
+/// A whole number from 1 to `most`, or `otherwise` if there is no such word.
 pub fn number_or(
     matches: &ArgMatches,
     name: WordName,
@@ -162,7 +162,7 @@ pub fn request_number(matches: &ArgMatches, name: WordName) -> Result<Number, Wo
     }
 }
 
-/// A desk, or the first where there is no such word.
+/// A desk; the first desk if there is no such word.
 pub fn desk(matches: &ArgMatches, name: WordName) -> Result<Desk, WordName>
     ensures { Spells (λ v. v) result (spelled_or 0 name.now desk_of (rows_of (found_of matches.now))) }
 {
