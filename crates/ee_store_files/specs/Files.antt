@@ -1,4 +1,4 @@
--- What two files hold as a store is opened in them, and what is left of them if it isn't.
+-- What two files hold when a store is opened in them, and what is left of them if it isn't.
 use Rattle.std.specs.Prelude.{◌≡◌, ◌⊎◌, ◌+◌, ◌<◌, ◌≤◌, ℕ, List, length, slice_index}
 use Rattle.sqlite_disk.specs.declared.Disk.{Ghosts}
 use Rattle.sqlite_disk.specs.declared.Files.{Files}
@@ -13,7 +13,7 @@ use Rattle.sqlite_store.specs.FileStore.{recovers}
 use Rattle.sqlite.specs.declared.file.Leftover.{Leftover}
 use Rattle.sqlite.specs.declared.file.Leftover.TheVariants as left
 
--- what a new store uses of each page of 1,024 bytes: the page ends in a checksum of 8 bytes
+-- a new store has pages of 1,024 bytes; each ends with a checksum of 8 bytes
 abbrev pub page_size : ℕ
 page_size = 1016
 

@@ -1,4 +1,4 @@
-//! Whether a database is still to be created in two files, and creating it.
+//! Creating a database in two files, and finding out whether that is still to be done.
 
 ghost use Rattle.std.specs.Prelude.{◌≡◌, ◌↔◌, [], true, IsTrue, IfOk, IfErr};
 ghost use Rattle.sqlite_wal.specs.Reads.{IsClean, AreClean, OnlyReads};
@@ -24,10 +24,10 @@ const NEW_PAGE: usize = 1024;
 /// Whether a new store's pages end in the checksum of SQLite's cksumvfs.
 const HAS_SUMS: bool = true;
 
-/// Where the log's header counts its checkpoints.
+/// The offset of the checkpoint count in the log's header.
 const CHECKPOINTS: usize = 12;
 
-/// Whether the log's header has the count of checkpoints that it gets as a database is created.
+/// Whether the log's header has the checkpoint count that it gets when a database is created.
 fn is_marked<D: Disk>(log: &mut D) -> io::Result<bool>
     requires { IsTrue (D.Disk.is_usable log.old) }
     ensures ok { IfOk result (λ b. IsClean D.Disk log.new → (IsTrue b ↔ IsMarked (D.Disk.seen log.old))) }
@@ -41,7 +41,7 @@ fn is_marked<D: Disk>(log: &mut D) -> io::Result<bool>
     Ok(count.iter().all(|byte| *byte == 0xff))
 }
 
-/// Whether the file is a single byte that no crash left there as a database was created.
+/// Whether the file is a single byte that no crash left there while a database was created.
 fn is_stray<D: Disk>(files: &mut Files<D>) -> io::Result<bool>
     requires log { IsTrue (D.Disk.is_usable files.old.log) }
     requires db { IsTrue (D.Disk.is_usable files.old.db) }
@@ -56,11 +56,12 @@ fn is_stray<D: Disk>(files: &mut Files<D>) -> io::Result<bool>
     Ok(!is_marked)
 }
 
-/// Whether a database is still to be created: the file is empty, or a crash left it half created. It writes nothing.
+/// Whether a database is still to be created: the file is empty, or a crash left it half created. Writes
+/// nothing.
 ///
 /// # Errors
 ///
-/// A file that is a single stray byte is refused as no database.
+/// A file that is a single stray byte is refused, since it is no database.
 pub fn is_uncreated<D: Disk>(alloc: Global, files: &mut Files<D>) -> Result<bool, Error>
     requires log { IsTrue (D.Disk.is_usable files.old.log) }
     requires db { IsTrue (D.Disk.is_usable files.old.db) }

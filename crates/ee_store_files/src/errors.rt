@@ -1,4 +1,4 @@
-//! How a file that isn't opened is told.
+//! The errors for files that aren't opened.
 
 ghost use Rattle.std.specs.Prelude.{IsTrue};
 ghost use Rattle.sqlite.specs.Opening.{is_open_error};
@@ -16,7 +16,7 @@ pub const NO_DATABASE: Error = Error::SqliteFailure(ErrorCode::NotADatabase);
 
 pub const CANNOT_OPEN: Error = Error::SqliteFailure(ErrorCode::CannotOpen);
 
-/// Names why a file wasn't probed.
+/// The error for a file that couldn't be examined.
 pub fn probe_error(error: sqlite_wal::Error) -> Error
     ensures { IsTrue (is_open_error result) }
 {
@@ -27,7 +27,7 @@ pub fn probe_error(error: sqlite_wal::Error) -> Error
     }
 }
 
-/// Names why a database wasn't created.
+/// The error for a database that couldn't be created.
 pub fn create_error(error: OpenError) -> Error
     ensures { IsTrue (is_open_error result) }
 {

@@ -1,4 +1,4 @@
-//! The two files of a store: the database file and its log. They are opened, or a database is created in them.
+//! The two files of a store: the database file and its log. Opens them, or creates a database in them.
 #![tactic(auto)]
 
 mod creating;

@@ -13,13 +13,13 @@ use sqlite::{Connection, Error, FileStore, Files, Leftover, Options};
 use sqlite_disk::Disk;
 use std::alloc::Global;
 
-/// Opens the database in two files, with the page size that it has. In an empty file, or one that a crash left half created,
-/// it creates an empty database with pages of 1,024 bytes.
+/// Opens the database in two files, with its own page size. In an empty file, or one that a crash left half
+/// created, creates an empty database with pages of 1,024 bytes.
 ///
 /// # Errors
 ///
-/// The error comes with what is left of the files. A file that is a single byte is refused, unless a crash left it there as
-/// a database was created.
+/// The error comes with what is left of the files. A file that is a single byte is refused, unless a crash
+/// left it there while a database was created.
 pub fn open_files<D: Disk + Drop>(
     alloc: Global,
     mut files: Files<D>,

@@ -17,8 +17,8 @@ use sqlite_std_file::OpenError;
 use std::hash::{BuildHasher, RandomState};
 use std::io::ErrorKind;
 
-/// Opens the file at a path and its log, and makes those that are missing. It refuses the names that SQLite takes for
-/// something else than a file.
+/// Opens the file at a path and its log, and creates missing ones. Refuses names that SQLite doesn't take
+/// for a file.
 fn open_pair<S: Start>(rt: &HostRuntime, path: &str, start: S) -> Result<Files<FileFrom<S>>, Error>
     ensures memory { path.now ≡ codes ":memory:" → result ≡ Err (Error.SqliteFailure ErrorCode.CannotOpen) }
     ensures named { IfErr result (λ e. IsTrue (is_open_error e)) }
@@ -37,7 +37,7 @@ fn open_pair<S: Start>(rt: &HostRuntime, path: &str, start: S) -> Result<Files<F
     }
 }
 
-/// Chooses how much a connection keeps in memory, and a random number for the log's salts.
+/// Chooses the size of a connection's cache, and a random number for the log's salts.
 fn options(rt: &HostRuntime) -> Result<Options, Error>
     ensures { IfErr result (λ e. e ≡ Error.SqliteFailure ErrorCode.CannotOpen) }
 {
@@ -47,11 +47,12 @@ fn options(rt: &HostRuntime) -> Result<Options, Error>
     Ok(Options::new(seed))
 }
 
-/// Opens the database in the file at a path, as `open_files` does, where `S` stands for what the file and its log held.
+/// Opens the database in the file at a path, as `open_files` does. `S` represents what the file and its log
+/// held.
 ///
 /// # Errors
 ///
-/// Those of `open_files`; with nothing left of the files if the system didn't open them.
+/// Those of `open_files`. If the system didn't open the files, nothing is left of them.
 pub fn open_path<S: Start>(
     rt: &HostRuntime,
     path: &str,
