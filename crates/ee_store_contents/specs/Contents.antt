@@ -40,7 +40,7 @@ stored_rate row = record { period = row.from; rate = row.rates.fixed }
 abbrev pub extension_row : ℕ → ℕ → StoredRate
 extension_row period extension = record { period = period; rate = extension }
 
--- its extension, where that is another rate than the fixed one
+-- its extension, if it differs from the fixed rate
 abbrev pub stored_extension : RateRow → Option StoredRate
 stored_extension row = option_map (extension_row row.from) (named_extension row.rates)
 
@@ -55,7 +55,7 @@ stored_held held = record {
   ticket = held.ticket;
 }
 
--- a bond with the ticket that pays it
+-- a bond, with the ticket that pays it
 abbrev pub stored_bond : List Ticket → Bond → StoredBond
 stored_bond tickets bond = stored_held (held_as tickets bond.serial bond)
 
@@ -65,7 +65,7 @@ stored_ticket ticket = record { ticket = ticket.ticket; day = ticket.day; payee 
 abbrev pub stored_line : ℕ → ℕ → Line → StoredLine
 stored_line ticket place line = record { ticket = ticket; place = place; letter = line.serial.letter; number = line.serial.number; cents = line.cents.0 }
 
--- lines of a ticket, from a place on
+-- the lines of a ticket, numbered from this place
 abbrev pub placed_lines : ℕ → ℕ → List Line → List StoredLine
 placed_lines ticket place [] = []
 placed_lines ticket place (line ∷ lines) = stored_line ticket place line ∷ placed_lines ticket (place + 1) lines
@@ -76,7 +76,7 @@ stored_lines ticket = placed_lines ticket.ticket 1 ticket.lines
 abbrev pub stored_batch : Batch → StoredBatch
 stored_batch batch = record { day = batch.day; tickets = batch.tickets; bonds = batch.bonds; total = batch.total.0 }
 
--- the rows are those of these parts of books, of the version of their form
+-- the rows are those of these parts of books, in the version of their form
 pub record AreRowsOf (parts : Parts) (stored : AllRows) : Type 0 where
   pub desk : stored.desk.items ≡ stored_desk (version_of stored.form) parts.day parts.last_day ∷ []
   pub rates : stored.rates.items ≡ map stored_rate parts.rates
@@ -95,7 +95,7 @@ pub record PartsFit (parts : Parts) : Type 0 where
   pub tickets : AllByRecursion TicketFits parts.tickets
   pub batches : AllByRecursion BatchFits parts.batches
 
--- a row of an act and the reply that is kept
+-- a row with an act and a reply that is kept
 pub record IsAnswerRow (row : StoredAnswer) (kept : Kept) : Type 0 where
   pub is_kept : IsKept (row.desk, row.number) kept
   pub act : string_bytes row.act ≡ act_text kept.act
@@ -104,6 +104,6 @@ pub record IsAnswerRow (row : StoredAnswer) (kept : Kept) : Type 0 where
 abbrev pub KeepsAnswer : StoredAnswer → Type 0
 KeepsAnswer row = (kept : Kept) × IsAnswerRow row kept
 
--- the tables of unit values for the rates of each period: one for each pair
+-- the tables of unit values for the rates of each period, one for each pair of rates
 abbrev pub tables_for : FinMap nat_cmp Rates → FinMap rates_cmp Rates
 tables_for rates = from_entries (map (λ e. (e.1, e.1)) (entries rates))

@@ -1,4 +1,4 @@
--- Rows of the tables as the values that they stand for.
+-- The values that the rows of the tables represent.
 use Rattle.std.specs.Prelude.{ℕ, ◌+◌, nat_le, ◌&&◌, ◌==◌, nat_eq, List, [], ◌∷◌, length, take, drop, Option, Some, None, if◌then◌else◌}
 use Rattle.std.specs.Option.{option_map, option_eq}
 use Rattle.std.specs.Map.{lookup}
@@ -24,7 +24,7 @@ use Rattle.ee_store_opening.specs.declared.entries.StoredBatch.{StoredBatch}
 use Rattle.ee_store_opening.specs.declared.whole.AllRows.{AllRows}
 use Rattle.ee_store_making.specs.Forms.{version_of}
 
--- what each row stands for, if each stands for something
+-- the value of each row, if each has one
 abbrev pub each : {A B : Type 0} → (A → Option B) → List A → Option (List B)
 each read [] = Some []
 each read (x ∷ xs) = read x >>= λ y. each read xs >>= λ ys. Some (y ∷ ys)
@@ -52,17 +52,17 @@ days_of row = do
   last_day ← optional_in day_in row.last_day
   Some (record { day = day; last_day = last_day })
 
--- one row, under 1, of this version
+-- one row, with id 1 and this version
 abbrev pub days_in : ℕ → List StoredDesk → Option Days
 days_in version [] = None
 days_in version (row ∷ []) = if (row.id == 1) && (row.version == version) then days_of row else None
 days_in version (row ∷ other ∷ rows) = None
 
--- a rate that is another than the fixed one
+-- a rate that differs from the fixed one
 abbrev pub other_rate : ℕ → ℕ → Option ℕ
 other_rate fixed hundredths = rate_of hundredths >>= λ rate. if rate == fixed then None else Some rate
 
--- a row with its extension, which may be absent
+-- a row with its extension, if there is one
 unfoldable pub rate_in : Option ℕ → StoredRate → Option RateRow
 rate_in extension row = do
   from ← issue_in row.period
@@ -70,17 +70,17 @@ rate_in extension row = do
   other ← optional_in (other_rate fixed) extension
   Some (record { from = from; rates = rates_with fixed other })
 
--- the extension of a period, which is that of the first row where that has the period
+-- the extension of a period: that of the first row, if the row is of this period
 abbrev pub extension_of : ℕ → List StoredRate → Option ℕ
 extension_of period [] = None
 extension_of period (row ∷ rows) = if row.period == period then Some row.rate else None
 
--- the rows after it
+-- the rows after that extension
 abbrev pub after_extension : ℕ → List StoredRate → List StoredRate
 after_extension period [] = []
 after_extension period (row ∷ rows) = if row.period == period then rows else row ∷ rows
 
--- rates, each with its extension, so that no extension is left over
+-- rates, each with its extension; no extension is left over
 abbrev pub rates_in : List StoredRate → List StoredRate → Option (List RateRow)
 rates_in [] [] = Some []
 rates_in [] (extension ∷ extensions) = None
@@ -95,11 +95,11 @@ plain_bond_in coowner row = do
   owner ← customer_in row.owner
   Some (record { serial = serial; denom = denom; issued = issued; owner = owner; coowner = coowner })
 
--- a bond that stands on the ticket that pays it
+-- a bond whose row names the ticket that pays it
 abbrev pub marked_right : (SerialNumber → Option ℕ) → Option ℕ → Bond → Option Bond
 marked_right paid ticket bond = if option_eq nat_eq ticket (paid bond.serial) then Some bond else None
 
--- a bond with this coowner, that stands on the ticket that pays it
+-- a bond with this coowner, whose row names the ticket that pays it
 abbrev pub bond_with : (SerialNumber → Option ℕ) → Option ℕ → StoredBond → Option Bond
 bond_with paid coowner row = plain_bond_in coowner row >>= marked_right paid row.ticket
 
@@ -115,7 +115,7 @@ line_in row = do
 abbrev pub line_at : ℕ → ℕ → StoredLine → Option Line
 line_at ticket place row = if (row.ticket == ticket) && (row.place == place) then line_in row else None
 
--- the lines of a ticket, from a place on
+-- the lines of a ticket, numbered from this place
 abbrev pub lines_at : ℕ → ℕ → List StoredLine → Option (List Line)
 lines_at ticket place [] = Some []
 lines_at ticket place (row ∷ rows) = line_at ticket place row >>= λ line. lines_at ticket (place + 1) rows >>= λ lines. Some (line ∷ lines)
@@ -126,11 +126,11 @@ ticket_with row lines = do
   payee ← customer_in row.payee
   Some (record { ticket = row.ticket; day = day; payee = payee; lines = lines; total = record { 0 = row.total } })
 
--- a ticket with its lines, which these rows are
+-- a ticket, with these rows as its lines
 abbrev pub ticket_in : StoredTicket → List StoredLine → Option Ticket
 ticket_in row own = lines_at row.ticket 1 own >>= ticket_with row
 
--- tickets, each with its lines, so that no line is left over
+-- tickets, each with its lines; no line is left over
 abbrev pub tickets_in : List StoredTicket → List StoredLine → Option (List Ticket)
 tickets_in [] [] = Some []
 tickets_in [] (line ∷ lines) = None
@@ -144,11 +144,11 @@ batch_in row = do
   day ← day_in row.day
   Some (record { day = day; tickets = row.tickets; bonds = row.bonds; total = record { 0 = row.total } })
 
--- the ticket that pays a serial
+-- the ticket that pays a serial number
 abbrev pub mark_at : List (SerialNumber × ℕ) → SerialNumber → Option ℕ
 mark_at marks serial = lookup (is_at (serial_cmp serial)) marks
 
--- the parts of books whose rows these are, if they are the rows of books
+-- the parts of the books with these rows, if there are such books
 unfoldable pub parts_in : AllRows → Option Parts
 parts_in stored = do
   days ← days_in (version_of stored.form) stored.desk.items

@@ -1,4 +1,4 @@
--- Which books and kept replies the rows of the store's tables stand for (this project's rule: version 2 of the tables, and version 1 before it).
+-- The books and kept replies that the rows of the store's tables represent (this project's rule: version 2 of the tables, and version 1 before it).
 use Rattle.std.specs.Prelude.{◌≡◌, ◌≢◌, ℕ, ◌+◌, ◌≤◌, Option, List, [], ◌∷◌, map, length, IfSome, flat_map, filter_map, option_map}
 use Rattle.std.specs.List.{AllByRecursion}
 use Rattle.std.specs.FinMap as finite
@@ -29,7 +29,7 @@ use Rattle.ee_store_tables.specs.Rows.{Rows, DeskRow, BondRow, TicketRow, PaidRo
 
 -- ---- the rows of a content
 
--- one row, under 1: the version of the tables, the open day and the last closed day
+-- one row, with id 1: the version of the tables, the open day and the last closed day
 abbrev pub desk_rows : ℕ → Option ℕ → Option ℕ → FinMap nat_cmp DeskRow
 desk_rows version day last_day = from_entries ((1, record { version = version; day = day; last_day = last_day }) ∷ [])
 
@@ -37,7 +37,7 @@ desk_rows version day last_day = from_entries ((1, record { version = version; d
 abbrev pub rate_rows : FinMap nat_cmp Rates → FinMap nat_cmp ℕ
 rate_rows rates = from_entries (map (λ e. (e.0, e.1.fixed)) (entries rates))
 
--- extensions by period, only where they are other rates than the fixed ones
+-- extensions by period, only those that differ from the fixed rate
 abbrev pub extension_entry : ℕ × Rates → Option (ℕ × ℕ)
 extension_entry e = option_map (λ extension. (e.0, extension)) (named_extension e.1)
 
@@ -56,7 +56,7 @@ bond_row held = record {
   ticket = held.ticket;
 }
 
--- bonds by serial, each with the ticket that pays it
+-- bonds by serial number, each with the ticket that pays it
 abbrev pub bond_rows : FinMap serial_cmp Bond → List Ticket → FinMap pair_cmp BondRow
 bond_rows bonds tickets = from_entries (map (λ e. (key_of e.0, bond_row (held_as tickets e.0 e.1))) (entries bonds))
 
@@ -69,7 +69,7 @@ ticket_rows tickets = from_entries (map (λ ticket. (ticket.ticket, ticket_row t
 abbrev pub paid_row : Line → PaidRow
 paid_row line = record { letter = line.serial.letter; number = line.serial.number; cents = line.cents.0 }
 
--- lines of a ticket, from a place on
+-- the lines of a ticket, numbered from this place
 abbrev pub placed : ℕ → ℕ → List Line → List ((ℕ × ℕ) × PaidRow)
 placed ticket place [] = []
 placed ticket place (line ∷ lines) = ((ticket, place), paid_row line) ∷ placed ticket (place + 1) lines
@@ -92,7 +92,7 @@ reply_row kept = record { act = act_text kept.act; reply = reply_text kept.reply
 abbrev pub reply_rows : FinMap number_cmp Kept → FinMap pair_cmp ReplyRow
 reply_rows kept = from_entries (map (λ e. (e.0, reply_row e.1)) (entries kept))
 
--- all rows of books and kept replies, where the desk's row names this version
+-- all rows of books and kept replies; the desk's row names this version
 abbrev pub rows_at : ℕ → Content → Rows
 rows_at version content = record {
   desk = desk_rows version content.books.day content.books.last_day;
@@ -117,7 +117,7 @@ pub record AreInRange (books : PlainBooks) : Type 0 where
   pub tickets : AllByRecursion TicketFits books.tickets
   pub batches : AllByRecursion BatchFits books.batches
 
--- a reply that is kept under a desk's number: any but that the number was used for another act
+-- a reply that may be kept under a desk's number: any except that the number was used for another act
 pub record IsKept (number : Number) (kept : Kept) : Type 0 where
   pub desk_in_range : number.0 ≤ 999
   pub number_in_range : (1 ≤ number.1) × (number.1 ≤ 9223372036854775807)
@@ -131,11 +131,11 @@ pub record IsRight (content : Content) : Type 0 where
   pub in_range : AreInRange content.books
   pub kept : (number : Number) → IfSome (finite.get content.kept number) (IsKept number)
 
--- the rows, in which the desk's row names this version, are those of the content
+-- the rows are those of the content; the desk's row names this version
 pub record StandAt (version : ℕ) (rows : Rows) (content : Content) : Type 0 where
   pub are : rows ≡ rows_at version content
   pub right : IsRight content
 
--- rows of version 2 are those of the content
+-- the rows are those of the content, in version 2
 abbrev pub StandFor : Rows → Content → Type 0
 StandFor rows content = StandAt 2 rows content

@@ -21,8 +21,8 @@ fn is_reuse(reply: &Reply) -> bool
     }
 }
 
-/// Whether a row has a desk and a number of requests, the canonical text of an act, and the text of a reply that is
-/// kept.
+/// Whether a row has a valid desk and number, the canonical text of an act, and the text of a reply that
+/// may be kept.
 fn keeps_answer(alloc: Global, row: &StoredAnswer) -> Result<bool, AllocError>
     ensures { IfOk result (λ right. (right ≡ true) ↔ KeepsAnswer row.now) }
 {
@@ -38,7 +38,7 @@ fn keeps_answer(alloc: Global, row: &StoredAnswer) -> Result<bool, AllocError>
     Ok(!is_reuse(&reply))
 }
 
-/// The test that a row is of an act and of a reply that is kept.
+/// Tests that a row has an act and a reply that may be kept.
 pub struct KeptReply;
 
 impl RowTest<StoredAnswer> for KeptReply {

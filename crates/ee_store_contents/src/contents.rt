@@ -1,4 +1,4 @@
-//! The books that the rows of a store stand for.
+//! The books that the rows of a store represent.
 
 ghost use Rattle.std.specs.Prelude.{◌≡◌, ◌↔◌, Some, None, IfOk, IfErr, IfSome};
 ghost use Rattle.ee_desk_acts.specs.Repeats.{Content};
@@ -28,7 +28,7 @@ use thiserror::Error;
 /// Why rows give no books.
 #[derive(Clone, Copy, Debug, PartialEq, Eq, Error)]
 pub enum ContentFault {
-    /// The rows stand for no books and kept replies.
+    /// The rows represent no books and kept replies.
     #[error("the rows of the store are unusable")]
     Unusable,
     /// Memory was refused.
@@ -47,7 +47,7 @@ impl From<AllocError> for ContentFault {
     }
 }
 
-/// The parts of books whose rows these are.
+/// The parts of the books with these rows.
 #[tactic(auto, unfolding(crate::specs::Reading::parts_in))]
 fn parts_in(alloc: Global, stored: &AllRows) -> Result<Option<Parts>, AllocError>
     ensures value { IfOk result (λ o. o ≡ parts_in stored.now) }
@@ -81,7 +81,7 @@ fn parts_in(alloc: Global, stored: &AllRows) -> Result<Option<Parts>, AllocError
     Ok(Some(parts))
 }
 
-/// The parts of the books whose rows these are. The rows are let go.
+/// The parts of the books with these rows. Drops the rows.
 fn right_parts(alloc: Global, stored: AllRows) -> Result<Parts, ContentFault>
     ensures found { IfOk result (λ parts. Some parts ≡ parts_in stored) }
     ensures fits { IfOk result PartsFit }
@@ -111,7 +111,7 @@ fn fault_of(fault: PartsFault) -> ContentFault
     }
 }
 
-/// What books in memory keep beside these parts, or `Unusable` where no sound books have them.
+/// What books in memory keep besides these parts; `Unusable` if no sound books have them.
 fn indexes_of(alloc: Global, parts: &Parts) -> Result<Indexes, ContentFault>
     ensures ok { IfOk result (IsMadeOf parts.now) }
     ensures unusable { IfErr result (λ fault. fault ≡ ContentFault.Unusable → AreUnsound parts.now) }
@@ -122,20 +122,19 @@ fn indexes_of(alloc: Global, parts: &Parts) -> Result<Indexes, ContentFault>
     }
 }
 
-/// What opening goes on with, of rows that stand for books and kept replies.
+/// What opening needs of rows that represent books and kept replies.
 #[derive(Drop)]
 pub struct Tested {
     /// The tables of unit values for the rates of the books.
     pub tables: UnitTables,
-    /// The kept replies of a store of version 1, which its migration writes anew; of version 2 none.
+    /// The kept replies of a store of version 1, which its migration writes again; none for version 2.
     pub answers: Vec<StoredAnswer>,
 }
 
-/// The tables of unit values for the rates of the books that the rows of a store stand for, where they
-/// stand for books and kept replies: one for each pair of rates, which is the one that the test of the
-/// books made. The rows are those that were read, of which the kept replies were tested (`KeptReply`) and
-/// all others are given. It answers `Unusable` exactly where the rows stand for none. They are let go as soon
-/// as they are tested.
+/// The tables of unit values for the rates of the books that the rows of a store represent: one table for
+/// each pair of rates, made while the books were tested. The rows are those that were read; their kept
+/// replies have been tested (`KeptReply`), and all other rows are given. `Unusable` if and only if the rows
+/// represent no books and kept replies. Drops the rows as soon as they are tested.
 pub fn tables_of(alloc: Global, stored: AllRows) -> Result<Tested, ContentFault>
     requires { AreInOrder stored }
     ensures ok { IfOk result (λ tested. (rows : TableRows) → AreRead KeepsAnswer stored rows → (content : Content)

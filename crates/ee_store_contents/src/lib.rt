@@ -1,4 +1,4 @@
-//! What the rows of the store's tables stand for: books, and the replies that are kept.
+//! What the rows of the store's tables represent: books, and kept replies.
 #![tactic(auto)]
 
 mod answers;

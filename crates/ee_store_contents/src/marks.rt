@@ -13,7 +13,7 @@ use ee_units::Serial;
 use std::alloc::{AllocError, Global};
 use std::collections::BTreeMap;
 
-/// Notes the ticket that pays a serial number, where none is noted yet.
+/// Notes the ticket that pays a serial number, unless one is noted.
 fn note(marks: &mut BTreeMap<Serial, u64>, serial: Serial, ticket: u64) -> Result<(), AllocError>
     ensures { OnOk result
         ((q : SerialNumber) → mark_at marks.new.entries q ≡ option_or (mark_at marks.old.entries q) (if same_serial q serial then Some ticket else None)) }

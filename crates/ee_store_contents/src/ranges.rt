@@ -1,4 +1,4 @@
-//! The plain numbers of parts are in range, by their types.
+//! Proof that the plain numbers of parts are in range, by their types.
 
 ghost use Rattle.std.specs.Prelude.{IfSome};
 ghost use Rattle.std.specs.List.{AllByRecursion};

@@ -9,7 +9,7 @@ use ee_units::{IssueMonth, Rate};
 use ee_value::Rates;
 use std::alloc::{AllocError, Global};
 
-/// A rate that is another than the fixed one.
+/// A rate that differs from the fixed one.
 fn other_rate(fixed: Rate, hundredths: u64) -> Option<Rate>
     ensures { result ≡ other_rate fixed hundredths }
 {
@@ -20,7 +20,7 @@ fn other_rate(fixed: Rate, hundredths: u64) -> Option<Rate>
     Some(rate)
 }
 
-/// An extension, which may be absent: where there is one, it is another rate than the fixed one.
+/// An optional extension; if there is one, it differs from the fixed rate.
 fn optional_extension(fixed: Rate, hundredths: Option<u64>) -> Option<Option<Rate>>
     ensures { result ≡ optional_in (other_rate fixed) hundredths }
 {
@@ -46,7 +46,7 @@ fn rate_in(extension: Option<u64>, row: &StoredRate) -> Option<RateRow>
     })
 }
 
-/// The extension of a period, where the first row has that period, and the rows after it.
+/// The extension of a period, if the first row is of that period, and the rows after it.
 fn split_extension(period: u64, rows: &[StoredRate]) -> (Option<u64>, &[StoredRate])
     ensures extension { result.0 ≡ extension_of period rows.now }
     ensures rest { result.1.now ≡ after_extension period rows.now }
@@ -61,7 +61,7 @@ fn split_extension(period: u64, rows: &[StoredRate]) -> (Option<u64>, &[StoredRa
     }
 }
 
-/// The rates of rows, each with its extension, so that no extension is left over.
+/// The rates of rows, each with its extension; `None` if an extension is left over.
 pub fn rates_in(
     alloc: Global,
     rows: &[StoredRate],

@@ -1,4 +1,4 @@
-//! Rows of one table as the values that they stand for.
+//! The values that the rows of one table represent.
 
 ghost use Rattle.std.specs.Prelude.{◌≡◌, IfOk, option_map};
 ghost use Rattle.ee_store_contents.specs.Reading.{
@@ -64,7 +64,7 @@ fn days_of(row: &StoredDesk) -> Option<Days>
     Some(Days { day, last_day })
 }
 
-/// The days of the desk's one row, where that is of this version.
+/// The days in the desk's one row, if the row is of this version.
 pub fn days_in(version: u64, rows: &[StoredDesk]) -> Option<Days>
     ensures { result ≡ days_in version rows.now }
 {
@@ -118,7 +118,7 @@ fn bond_with(
     }
 }
 
-/// The bonds of rows, where each stands on the ticket that pays it.
+/// The bonds of rows, if each row names the ticket that pays its bond.
 pub fn bonds_in(
     alloc: Global,
     marks: &BTreeMap<Serial, u64>,

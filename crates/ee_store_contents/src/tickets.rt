@@ -29,7 +29,7 @@ fn line_at(ticket: u64, place: u64, row: &StoredLine) -> Option<Line>
     }
 }
 
-/// The lines of a ticket, whose places are 1, 2, 3 and on.
+/// The lines of a ticket, with the places 1, 2, 3 and so on.
 fn lines_of(
     alloc: Global,
     ticket: u64,
@@ -62,7 +62,7 @@ fn ticket_with(row: &StoredTicket, lines: Vec<Line>) -> Option<Ticket>
     })
 }
 
-/// A ticket whose lines these are.
+/// A ticket with these lines.
 fn ticket_in(
     alloc: Global,
     row: &StoredTicket,
@@ -76,7 +76,7 @@ fn ticket_in(
     }
 }
 
-/// The tickets of rows, each with its lines, so that no line is left over.
+/// The tickets of rows, each with its lines; `None` if a line is left over.
 pub fn tickets_in(
     alloc: Global,
     rows: &[StoredTicket],
