@@ -7,10 +7,10 @@ use Rattle.ee_store_tables.specs.declared.failures.Failure.{Failure}
 use Rattle.ee_store_lookups.specs.Seen.{SeesContent}
 use Rattle.ee_store_tables.specs.Statements.{IsExcused}
 
--- it is in no transaction, and statements may take any number of steps
+-- the connection is in no transaction, and its statements may take any number of steps
 abbrev pub IsReady : State → Type 0
 IsReady s = (s.in_transaction ≡ false) × (s.step_limit ≡ None)
 
--- in a transaction that sees a content of which this holds, with no limit on steps
+-- in a transaction that sees an allowed content, without a limit on steps
 abbrev pub FailsByCause : {X : Type 0} → State → State → Result X Failure → (Content → Type 0) → Type 0
 FailsByCause old new result Allows = HasCleanDisk new → IsInside old → old.step_limit ≡ None → (content : Content) → SeesContent old content → Allows content → IfErr result (IsExcused old new)

@@ -15,7 +15,7 @@ bonds_found found = finite.from_entries found
 abbrev pub terms_found : List (ℕ × Rates) → FinMap nat_cmp Rates
 terms_found found = finite.from_entries found
 
--- with what is found for one more key, if there is something
+-- a map with what is found for one more key, if anything is
 abbrev pub with_found : {K V : Type 0} {R : K → K → Ordering} → FinMap R V → K → Option V → FinMap R V
 with_found found key None = found
 with_found found key (Some value) = finite.insert found key value

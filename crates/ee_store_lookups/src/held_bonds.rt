@@ -1,4 +1,4 @@
-//! What is found by keys in a transaction.
+//! Look-ups of bonds in a transaction.
 
 ghost use Rattle.std.specs.Prelude.{◌≡◌, Option, IfSome, IsSome, IfOk, OnOk, ⊤};
 ghost use Rattle.std.specs.Result.{IsOk};
@@ -34,7 +34,7 @@ fn coowner_of(number: Option<u64>) -> Option<Option<Customer>>
     }
 }
 
-/// The bond that a row shows, and the ticket that paid it.
+/// The bond of a row, and the ticket that paid it; `None` if the row is none of a register.
 pub fn held_from(serial: Serial, row: BondRow) -> Option<Held>
     ensures shown { IfSome result (λ held. (bond_row held ≡ row_of_bond row) × (held.bond.serial ≡ serial)) }
     ensures read { (held : Held) → row_of_bond row ≡ bond_row held → BondFits held.bond → IsSome result }
@@ -56,7 +56,7 @@ pub fn held_from(serial: Serial, row: BondRow) -> Option<Held>
     })
 }
 
-/// What a look-up showed of a serial number.
+/// The result of a look-up of a serial number.
 fn held_shown(serial: Serial, found: Option<BondRow>) -> Result<Option<Held>, Failure>
     ensures shown { IfOk result (λ held. (option_map bond_row held ≡ option_map row_of_bond found) × IfSome held (λ held. held.bond.serial ≡ serial)) }
     ensures read { (held : Option Held) → option_map row_of_bond found ≡ option_map bond_row held → IfSome held (λ held. BondFits held.bond) → IsOk result }
@@ -70,7 +70,7 @@ fn held_shown(serial: Serial, found: Option<BondRow>) -> Result<Option<Held>, Fa
     }
 }
 
-/// What is held of a serial number.
+/// Finds a registered bond, and the ticket that paid it.
 fn find_held<S: Alter>(tx: &mut Transaction<'_, S>, serial: Serial) -> Result<Option<Held>, Failure>
     ensures same_reference { tx.new.conn.ghost_name ≡ tx.old.conn.ghost_name }
     ensures only_reads { OnlyReads (state S.Store tx.old.conn.now) (state S.Store tx.new.conn.now) result }
@@ -95,7 +95,7 @@ fn put(found: &mut BTreeMap<Serial, Held>, serial: Serial, held: &Held) -> Resul
     Ok(())
 }
 
-/// Notes what is held of a serial number, where it is registered.
+/// Notes a bond, if it is registered.
 fn note_held(
     found: &mut BTreeMap<Serial, Held>,
     serial: Serial,
@@ -115,7 +115,7 @@ fn no_bonds(alloc: Global) -> BTreeMap<Serial, Held>
     BTreeMap::new(alloc)
 }
 
-/// What is held of serial numbers.
+/// Finds the registered bonds among these serial numbers.
 pub fn held_in<S: Alter>(
     tx: &mut Transaction<'_, S>,
     alloc: Global,

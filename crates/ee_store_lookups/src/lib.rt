@@ -1,4 +1,5 @@
-//! Look-ups in a transaction: terms of periods, held bonds and counts of tickets, as the content that the transaction sees has them.
+//! Look-ups in a transaction: terms of periods, registered bonds and counts of tickets. Each returns what the
+//! content has that the transaction sees.
 #![tactic(auto)]
 
 mod held_bonds;

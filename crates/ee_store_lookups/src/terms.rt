@@ -19,7 +19,7 @@ use sqlite::{Alter, Transaction};
 use std::alloc::{AllocError, Global};
 use std::collections::BTreeMap;
 
-/// The terms of rates, with the table that is kept of them.
+/// The terms of rates, with their kept table.
 fn terms_of(alloc: Global, tables: &mut UnitTables, rates: Rates) -> Result<Terms, Failure>
     ensures value { IfOk result (λ terms. terms ≡ rates) }
     ensures read { unsettled rates ≡ None → IfErr result (λ e. e ≡ Failure.NoMemory) }
@@ -31,7 +31,7 @@ fn terms_of(alloc: Global, tables: &mut UnitTables, rates: Rates) -> Result<Term
     }
 }
 
-/// The fixed rate of a period, in hundredths of a percent, and its extension where one is named.
+/// The fixed rate of a period, in hundredths of a percent, and its extension if there is one.
 fn find_rates<S: Alter>(
     tx: &mut Transaction<'_, S>,
     period: IssueMonth,
@@ -49,7 +49,7 @@ fn find_rates<S: Alter>(
     Ok((fixed, extension))
 }
 
-/// A rate that a row showed, in hundredths of a percent.
+/// The rate in a row, in hundredths of a percent.
 fn rate_shown(hundredths: u64) -> Result<Rate, Failure>
     ensures value { IfOk result (λ rate. rate ≡ hundredths) }
     ensures read { hundredths ≤ 2000 → IsOk result }
@@ -60,7 +60,7 @@ fn rate_shown(hundredths: u64) -> Result<Rate, Failure>
     }
 }
 
-/// The rates that rows showed.
+/// The rates in rows.
 fn rates_shown(fixed: u64, extension: Option<u64>) -> Result<Rates, Failure>
     ensures value { IfOk result (λ rates. rates ≡ rates_with fixed extension) }
     ensures read { InRange (rates_with fixed extension) → IsOk result }
@@ -72,7 +72,7 @@ fn rates_shown(fixed: u64, extension: Option<u64>) -> Result<Rates, Failure>
     }
 }
 
-/// The terms that look-ups showed.
+/// The terms that look-ups found.
 fn terms_shown(
     alloc: Global,
     tables: &mut UnitTables,
@@ -120,7 +120,7 @@ fn put(
     Ok(())
 }
 
-/// Notes the terms of a period, where it has some.
+/// Notes the terms of a period, if it has any.
 pub fn note_terms(
     found: &mut BTreeMap<IssueMonth, Terms>,
     period: IssueMonth,
@@ -134,7 +134,7 @@ pub fn note_terms(
     }
 }
 
-/// The terms of no period. It takes no memory.
+/// An empty map of terms. Takes no memory.
 pub fn no_terms(alloc: Global) -> BTreeMap<IssueMonth, Terms>
     ensures { terms_found result.entries ≡ finite.empty }
 {

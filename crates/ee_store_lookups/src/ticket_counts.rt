@@ -1,4 +1,4 @@
-//! How many tickets there are, read in a transaction.
+//! Counts of tickets, read in a transaction.
 
 ghost use Rattle.std.specs.Prelude.{◌≡◌, ◌-◌, ◌^◌, ◌<◌, IfOk, Some, length, sum_by, ⊤};
 ghost use Rattle.std.specs.Result.{IsOk};
@@ -25,7 +25,7 @@ fn or_zero(number: Option<u64>) -> u64
     }
 }
 
-/// How many tickets there are over all days.
+/// The number of tickets across all days.
 pub fn tickets_in<S: Alter>(tx: &mut Transaction<'_, S>) -> Result<u64, Failure>
     ensures same_reference { tx.new.conn.ghost_name ≡ tx.old.conn.ghost_name }
     ensures only_reads { OnlyReads (state S.Store tx.old.conn.now) (state S.Store tx.new.conn.now) result }
@@ -98,7 +98,7 @@ fn open_day_in<S: Alter>(
     }
 }
 
-/// How many tickets there are from the first one of a day to the last one of all.
+/// The number of tickets from the first of a day to the last of all.
 fn from_first(first: Option<u64>, last: u64) -> u64
     ensures { result ≡ option_map_or (λ n. last - (n - 1)) first 0 }
 {
@@ -108,7 +108,7 @@ fn from_first(first: Option<u64>, last: u64) -> u64
     }
 }
 
-/// How many tickets the open day has. Of all tickets, of which there are so many, they are the last ones.
+/// Counts the open day's tickets: the last of all `tickets`.
 fn length_of_day_in<S: Alter>(
     tx: &mut Transaction<'_, S>,
     day: Day,
@@ -125,7 +125,7 @@ fn length_of_day_in<S: Alter>(
     Ok(from_first(first, tickets))
 }
 
-/// How many tickets the open day has, if one is open.
+/// Counts the open day's tickets; 0 if no day is open.
 fn length_of_open_day_in<S: Alter>(
     tx: &mut Transaction<'_, S>,
     day: Option<Day>,
@@ -144,8 +144,8 @@ fn length_of_open_day_in<S: Alter>(
     }
 }
 
-/// The tickets of the open day, for the acts that count them, where there are so many tickets over all
-/// days: a redemption asks how many they are, a closing also what they paid.
+/// The open day's tickets, for acts that count them, out of `tickets` across all days. A redemption needs
+/// how many there are; a closing also needs what they paid.
 pub fn counted_in<S: Alter>(
     tx: &mut Transaction<'_, S>,
     alloc: Global,
