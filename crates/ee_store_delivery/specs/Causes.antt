@@ -13,25 +13,25 @@ use Rattle.ee_store_tables.specs.Statements.{IsExcused}
 use Rattle.ee_store_delivery.specs.declared.known.Known.{Known}
 use Rattle.ee_store_delivery.specs.Known.{IsInformed}
 
--- in a transaction that sees rows, room is left for that many rows less
+-- in a transaction that sees rows, room for `count` rows is taken
 abbrev pub LeavesRoom : {X : Type 0} → State → State → Result X Failure → ℕ → Type 0
 LeavesRoom old new result count = HasCleanDisk new → IsInside old → OnOk result ((rows : Rows) → Sees old rows → (n : ℕ) → HasRoom (count + n) old → HasRoom n new)
 
--- the text of the request and that of its reply fit a row
+-- the texts of the request and of its reply fit a row
 abbrev pub TextsFit : Content → Request → Type 0
 TextsFit content request = length (act_text request.act) + length (reply_text (act content.books request.act).reply) ≤ 900000000
 
--- in a transaction that sees a content, a request takes room for 501 rows at most
+-- in a transaction that sees a content, a request takes room for at most 501 rows
 abbrev pub LeavesRoomAfter : {X : Type 0} → State → State → Result X Failure → Type 0
 LeavesRoomAfter old new result = HasCleanDisk new → IsInside old → OnOk result ((content : Content) → SeesContent old content → (n : ℕ) → HasRoom (501 + n) old → HasRoom n new)
 
--- a request to a store that is ready, with room for the rows of one request, whose texts fit
+-- a request to a ready store, with room for the rows of one request, whose texts fit
 abbrev pub CanDeliver : State → Content → Request → Type 0
 CanDeliver old content request = IsReady old × HasContent old content × TextsFit content request × HasRoom 501 old
 
 abbrev pub DeliversOrFails : {X : Type 0} → State → State → Known → Request → Result X Failure → Type 0
 DeliversOrFails old new known request result = HasCleanDisk new → IsInformed old known → (content : Content) → CanDeliver old content request → IfErr result (IsExcused old new)
 
--- a request takes room for 501 rows at most
+-- a request takes room for at most 501 rows
 abbrev pub TakesRequestRoom : State → State → Type 0
 TakesRequestRoom old new = HasCleanDisk new → IsReady old → (content : Content) → HasContent old content → (n : ℕ) → HasRoom (501 + n) old → HasRoom n new

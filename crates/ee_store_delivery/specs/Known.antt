@@ -18,7 +18,7 @@ use Rattle.ee_store_lookups.specs.Seen.{HasContent, SeesContent}
 use Rattle.ee_store_delivery.specs.declared.known.Desk.{Desk}
 use Rattle.ee_store_delivery.specs.declared.known.Known.{Known}
 
--- the days of the books, how many tickets they have, and these counts of the open day
+-- the days of the books, their number of tickets, and these counts of the open day
 pub record IsDesk (desk : Desk) (books : PlainBooks) (counts : Batch) : Type 0 where
   pub day : desk.day ≡ books.day
   pub last_day : desk.last_day ≡ books.last_day
@@ -27,27 +27,27 @@ pub record IsDesk (desk : Desk) (books : PlainBooks) (counts : Batch) : Type 0 w
   pub day_bonds : desk.counts.bonds ≡ counts.bonds
   pub day_total : desk.counts.total.0 ≡ counts.total.0
 
--- what a redemption counts of the open day: how many tickets it has, and not what they pay
+-- the counts of the open day that a redemption needs: the number of tickets, and not what they pay
 abbrev pub redeemed_counts : PlainBooks → Batch
 redeemed_counts books = record no_batch { tickets = (open_batch books).tickets }
 
--- the desk that the next redemption is decided by, after an act on the books
+-- the desk that the next redemption is decided on, after an act on the books
 abbrev pub IsDeskAfter : PlainBooks → Act → Desk → Type 0
 IsDeskAfter books asked desk = IsDesk desk (books_after books asked) (redeemed_counts (books_after books asked))
 
--- terms of periods, each as the books have it
+-- terms of periods, as the books have them
 abbrev pub AreTermsOf : FinMap nat_cmp Rates → PlainBooks → Type 0
 AreTermsOf terms books = (period : ℕ) → IfSome (finite.get terms period) (λ rates. finite.get books.rates period ≡ Some rates)
 
--- what is known is so in the books
+-- what is known is correct for these books
 pub record AreKnown (known : Known) (books : PlainBooks) : Type 0 where
   pub desk : IfSome known.desk (λ desk. IsDesk desk books (redeemed_counts books))
   pub terms : AreTermsOf (terms_found known.terms.entries) books
 
--- what holds of the books that a transaction sees, once this held of them
+-- if the first held for the books that a transaction sees, the second holds for them now
 abbrev pub LearnsIn : {X : Type 0} → State → State → Result X Failure → (PlainBooks → Type 0) → (PlainBooks → Type 0) → Type 0
 LearnsIn old new result Before After = HasCleanDisk new → IsInside old → OnOk result ((content : Content) → SeesContent old content → Before content.books → After content.books)
 
--- the store has a content in whose books what is known is so
+-- the store has a content, and what is known is correct for its books
 abbrev pub IsInformed : State → Known → Type 0
 IsInformed s known = HasCleanDisk s → (content : Content) × HasContent s content × AreKnown known content.books

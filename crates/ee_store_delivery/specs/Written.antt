@@ -1,4 +1,4 @@
--- The rows after changes of the books.
+-- The rows after changes to the books.
 use Rattle.std.specs.Prelude.{◌≡◌, ◌≤◌, ⊤, ℕ, ◌+◌, List, [], ◌∷◌, map, length, Option, Some, None, IfSome}
 use Rattle.std.specs.List.{AllByRecursion}
 use Rattle.std.specs.FinMap.{get}
@@ -11,12 +11,12 @@ use Rattle.ee_store_tables.specs.AsRows.{Fits}
 use Rattle.ee_store_tables.specs.Rows.{Rows, with_rate, with_extension, with_bond, with_day, with_batch, with_ticket, with_lines, CanPayAll}
 use Rattle.ee_store_contents.specs.Standing.{key_of, bond_row, ticket_row, paid_row, batch_row}
 
--- the rows with the extension of a period, where one is named
+-- the rows with the extension of a period, if there is one
 abbrev pub with_named : Rows → ℕ → Option ℕ → Rows
 with_named rows from None = rows
 with_named rows from (Some extension) = with_extension rows (from, extension)
 
--- the rows after one change, where this is the last closed day
+-- the rows after one change, given the last closed day
 abbrev pub changed_rows : Option ℕ → Rows → Change → Rows
 changed_rows last_day rows (change.Rates from rates) = with_named (with_rate rows (from, rates.fixed)) from (named_extension rates)
 changed_rows last_day rows (change.Bond bond) = with_bond rows (key_of bond.serial, bond_row (record { bond = bond; ticket = None }))
@@ -24,14 +24,14 @@ changed_rows last_day rows (change.Day day) = with_day rows (Some day) last_day
 changed_rows last_day rows (change.Ticket ticket) = with_lines (with_ticket rows ticket.ticket (ticket_row ticket)) ticket.ticket 1 (map paid_row ticket.lines)
 changed_rows last_day rows (change.Batch batch) = with_day (with_batch rows batch.day (batch_row batch)) None (Some batch.day)
 
--- the rows after changes, one after the other
+-- the rows after changes, applied in order
 abbrev pub applied_rows : Option ℕ → Rows → List Change → Rows
 applied_rows last_day rows [] = rows
 applied_rows last_day rows (change ∷ changes) = applied_rows last_day (changed_rows last_day rows change) changes
 
 -- ---- what can be written
 
--- a ticket of a new number whose amounts fit, with at most 100 lines that no ticket paid
+-- a ticket with a new number and amounts that fit, with at most 100 lines for unpaid bonds
 pub record CanPayTicket (rows : Rows) (ticket : Ticket) : Type 0 where
   pub number : Fits ticket.ticket
   pub total : Fits ticket.total.0
@@ -40,14 +40,14 @@ pub record CanPayTicket (rows : Rows) (ticket : Ticket) : Type 0 where
   pub new : get rows.tickets ticket.ticket ≡ None
   pub unpaid : CanPayAll (with_ticket rows ticket.ticket (ticket_row ticket)) ticket.ticket 1 (map paid_row ticket.lines)
 
--- the batch of a day without one, whose sums fit
+-- the batch of a day without a batch, whose sums fit
 pub record CanClose (rows : Rows) (batch : Batch) : Type 0 where
   pub tickets : Fits batch.tickets
   pub bonds : Fits batch.bonds
   pub total : Fits batch.total.0
   pub new : get rows.batches batch.day ≡ None
 
--- the change can be written, where this is the last closed day
+-- the change can be written, given the last closed day
 abbrev pub CanWrite : Option ℕ → Rows → Change → Type 0
 CanWrite last_day rows (change.Rates from rates) = ⊤
 CanWrite last_day rows (change.Bond bond) = ⊤
@@ -55,12 +55,12 @@ CanWrite last_day rows (change.Day day) = IfSome last_day Fits
 CanWrite last_day rows (change.Ticket ticket) = CanPayTicket rows ticket
 CanWrite last_day rows (change.Batch batch) = CanClose rows batch
 
--- so can changes, one after the other
+-- changes can be written, applied in order
 abbrev pub CanWriteAll : Option ℕ → Rows → List Change → Type 0
 CanWriteAll last_day rows [] = ⊤
 CanWriteAll last_day rows (change ∷ changes) = CanWrite last_day rows change × CanWriteAll last_day (changed_rows last_day rows change) changes
 
--- how many rows with a hidden rowid a change adds at most
+-- the number of rows with a hidden rowid that a change adds at most
 abbrev pub added_rows : Change → ℕ
 added_rows (change.Rates from rates) = 0
 added_rows (change.Bond bond) = 1

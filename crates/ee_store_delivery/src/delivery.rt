@@ -1,4 +1,4 @@
-//! A request in a transaction, and its delivery: all that it does and its reply are committed together.
+//! A request in a transaction, and its delivery: all its effects and its reply are committed together.
 
 ghost use Rattle.std.specs.Prelude.{◌≡◌, IfOk, IfErr, None, IsTrue, string_bytes, true, false, [], ◌∷◌, OnOk, OnErr};
 ghost use Rattle.ee_desk_acts.specs.declared.acts.Act.{Act};
@@ -34,8 +34,8 @@ use sqlite::{Alter, Connection, Transaction};
 use std::alloc::Global;
 use std::mem;
 
-/// The reply to a number that comes again, by the kept texts of its act and its reply, and by the text of
-/// the act that is asked now: the kept reply where the acts are the same, and else `NumberReused`.
+/// The reply to a repeated number, from the kept texts of its act and reply, and the text of the act that is
+/// asked for now: the kept reply if the acts are the same, and `NumberReused` otherwise.
 pub fn reply_again(alloc: Global, act: &str, reply: &str, asked: &str) -> Result<Reply, Failure>
     ensures read { (number : Number) (kept : Kept) → IsKept number kept → reply.now ≡ reply_text kept.reply → IfErr result (λ e. e ≡ Failure.NoMemory) }
     ensures told { IfOk result (λ told. (number : Number) (kept : Kept) (again : Act) → IsKept number kept → ActFits again
@@ -87,7 +87,7 @@ fn decide_in<S: Alter>(
     Ok(reply)
 }
 
-/// The reply to a request, and whether its number is new. What a new number does is written.
+/// The reply to a request, and whether its number is new. Writes the effects of a new number.
 pub fn serve_in<S: Alter>(
     tx: &mut Transaction<'_, S>,
     alloc: Global,
@@ -121,10 +121,10 @@ pub fn serve_in<S: Alter>(
     Ok((true, reply))
 }
 
-/// The reply to a request, which acts once: all that it does and its reply are committed together.
+/// Answers a request, which acts once: all its effects and its reply are committed together.
 ///
-/// Each clause that tells what a request does supposes that what is known of the store is so (`IsInformed`), and the
-/// call leaves it so (`informed`): where it fails nothing stays known.
+/// Each clause about the effects of a request assumes that what is known of the store is correct
+/// (`IsInformed`). The call keeps it correct (`informed`); if the call fails, nothing stays known.
 pub fn deliver_on<S: Alter>(
     conn: &mut Connection<S>,
     alloc: Global,

@@ -18,7 +18,7 @@ use ee_units::{Day, IssueMonth};
 use std::alloc::{AllocError, Global};
 use std::collections::BTreeMap;
 
-/// The days, how many tickets there are, and those of the open day, for the acts that count them.
+/// The days, the number of tickets, and the open day's tickets, for acts that count them.
 #[derive(Clone, Copy)]
 pub struct Desk {
     pub(crate) day: Option<Day>,
@@ -30,8 +30,8 @@ pub struct Desk {
 /// What is known of the books of a store without reading it: the desk as a redemption counts it, and the
 /// terms of periods.
 ///
-/// A redemption that was served leaves it known for the next one. Any other act of a new number, and each
-/// failure, leaves nothing known, and then the next redemption reads it again.
+/// A served redemption leaves it known for the next one. Any other act with a new number, and each failure,
+/// leaves nothing known, and the next redemption reads it again.
 #[derive(Drop)]
 pub struct Known {
     pub(crate) desk: Option<Desk>,
@@ -44,7 +44,7 @@ fn found(known: &BTreeMap<IssueMonth, Terms>, period: IssueMonth) -> Option<&Ter
     known.get(&period)
 }
 
-/// The terms that are known of a period.
+/// The known terms of a period.
 pub fn known_terms(
     known: &BTreeMap<IssueMonth, Terms>,
     period: IssueMonth,
@@ -66,7 +66,7 @@ fn shared(terms: &Option<Terms>) -> Result<Option<Terms>, AllocError>
     }
 }
 
-/// Keeps the terms of a period, where it has some.
+/// Keeps the terms of a period, if it has any.
 pub fn learn_terms(
     known: &mut BTreeMap<IssueMonth, Terms>,
     period: IssueMonth,
@@ -78,7 +78,7 @@ pub fn learn_terms(
 }
 
 impl Desk {
-    /// The desk with one ticket more of the open day; None above 2^64 - 1.
+    /// The desk with one more ticket of the open day; `None` above 2^64 - 1.
     fn with_ticket(self) -> Option<Desk>
         ensures { IfSome result (λ desk. (desk.day ≡ self.day) × (desk.last_day ≡ self.last_day) × (desk.tickets ≡ self.tickets + 1)
             × (desk.counts.tickets ≡ self.counts.tickets + 1) × (desk.counts.bonds ≡ self.counts.bonds) × (desk.counts.total.0 ≡ self.counts.total.0)) }
@@ -98,7 +98,7 @@ impl Desk {
     }
 }
 
-/// A desk that is known, after a redemption with this reply.
+/// A known desk, after a redemption with this reply.
 fn after_redemption(desk: Option<Desk>, reply: &Reply) -> Option<Desk>
     ensures { (books : PlainBooks) (day payee : ℕ) (serials : List SerialNumber) → IfSome desk (λ desk. IsDesk desk books (redeemed_counts books))
         → reply.now ≡ reply_to books (act.Redeem day payee serials) → IfSome result (IsDeskAfter books (act.Redeem day payee serials)) }
@@ -114,7 +114,7 @@ fn after_redemption(desk: Option<Desk>, reply: &Reply) -> Option<Desk>
 }
 
 impl Known {
-    /// Nothing. It takes no memory.
+    /// Knows nothing. Takes no memory.
     pub fn nothing(alloc: Global) -> Known
         ensures { (books : PlainBooks) → AreKnown result books }
     {
@@ -124,7 +124,7 @@ impl Known {
         }
     }
 
-    /// The desk, where it is known as this act counts it.
+    /// The desk, if it is known as this act counts it.
     pub fn desk_for(&self, act: &Act) -> Option<Desk>
         ensures { (books : PlainBooks) → AreKnown self.now books → IfSome result (λ desk. IsDesk desk books (needed_counts books act.now)) }
     {
@@ -134,7 +134,7 @@ impl Known {
         }
     }
 
-    /// Keeps the desk, if it is as a redemption counts it.
+    /// Keeps the desk, if it is counted as for a redemption.
     pub fn note_desk(&mut self, act: &Act, desk: &Desk)
         ensures { (books : PlainBooks) → AreKnown self.old books → IsDesk desk.now books (needed_counts books act.now) → AreKnown self.new books }
     {
@@ -143,7 +143,8 @@ impl Known {
         }
     }
 
-    /// Follows an act that had this reply: a redemption, or else nothing stays known.
+    /// Updates what is known after an act with this reply: after a redemption it stays known, after any other
+    /// act nothing does.
     pub fn follow(&mut self, alloc: Global, act: &Act, reply: &Reply)
         ensures { (books : PlainBooks) → AreKnown self.old books → reply.now ≡ reply_to books act.now → AreKnown self.new (books_after books act.now) }
     {

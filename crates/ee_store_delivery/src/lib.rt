@@ -1,4 +1,5 @@
-//! The delivery of a request to a store: its number is looked up, its act decided on what it sees, and all that it does is written with its reply.
+//! The delivery of a request to a store: looks up its number, decides its act on what it sees, and writes all
+//! its effects with its reply.
 #![tactic(auto)]
 
 mod delivery;

@@ -1,4 +1,4 @@
-//! What an act names: the serial numbers of bonds, and the periods of rates.
+//! What an act names: serial numbers of bonds, and periods of rates.
 
 ghost use Rattle.std.specs.Prelude.{◌≡◌, [], ◌++◌, IfOk, OnOk, map};
 ghost use Rattle.std.specs.Option.{option_map};
@@ -59,7 +59,7 @@ fn periods_of_bonds(alloc: Global, bonds: &[Bond]) -> Result<Vec<IssueMonth>, Al
     Ok(periods)
 }
 
-/// What is found of a serial number.
+/// The entry that was found for a serial number.
 fn found_of(found: &BTreeMap<Serial, Held>, serial: Serial) -> Option<Held>
     ensures { result ≡ finite.get (bonds_found found.now.entries) serial }
 {
@@ -75,7 +75,7 @@ fn push_period(periods: &mut Vec<IssueMonth>, held: Option<Held>) -> Result<(), 
     Ok(())
 }
 
-/// The issue periods of those bonds that were found.
+/// The issue periods of the bonds that were found.
 fn periods_found(
     alloc: Global,
     found: &BTreeMap<Serial, Held>,
@@ -91,7 +91,7 @@ fn periods_found(
     Ok(periods)
 }
 
-/// The periods whose rates an act asks for, where these are the bonds that it names.
+/// The periods whose rates an act needs, given the bonds that it names.
 pub fn periods_of(
     alloc: Global,
     found: &BTreeMap<Serial, Held>,

@@ -23,7 +23,7 @@ use ee_store_tables::{BatchRow, Failure, PaidRow, TicketRow, UnpaidBond};
 use ee_units::Customer;
 use std::alloc::Global;
 
-/// A number that a column of the store can hold.
+/// A number that fits a column of the store: `StoreFailed` above 2^63 - 1.
 pub fn whole(number: u64) -> Result<u64, Failure>
     ensures value { IfOk result (λ n. (n ≡ number) × Fits n) }
     ensures fits { Fits number → IsOk result }
@@ -35,7 +35,7 @@ pub fn whole(number: u64) -> Result<u64, Failure>
     }
 }
 
-/// A number, or none, that a column of the store can hold: `StoreFailed` above 2^63 - 1.
+/// An optional number that fits a column of the store: `StoreFailed` above 2^63 - 1.
 pub fn whole_option(number: Option<u64>) -> Result<Option<u64>, Failure>
     ensures value { IfOk result (λ n. (n ≡ number) × IfSome n Fits) }
     ensures fits { IfSome number Fits → IsOk result }
@@ -74,7 +74,7 @@ pub fn line_rows(alloc: Global, lines: &[Line]) -> Result<Vec<PaidRow>, Failure>
     Ok(rows)
 }
 
-/// The row of a ticket: `StoreFailed` where its total exceeds 2^63 - 1 cents, which no column holds.
+/// The row of a ticket: `StoreFailed` if its total exceeds 2^63 - 1 cents, which no column holds.
 pub fn ticket_row(ticket: &Ticket) -> Result<TicketRow, Failure>
     ensures row { IfOk result (λ row. (row_of_ticket row ≡ standing.ticket_row ticket.now) × FitsTicket row) }
     ensures fits { length ticket.now.lines ≤ 100 → Fits ticket.now.total.0 → IsOk result }
@@ -89,7 +89,7 @@ pub fn ticket_row(ticket: &Ticket) -> Result<TicketRow, Failure>
     })
 }
 
-/// The row of a batch: `StoreFailed` where one of its numbers exceeds 2^63 - 1, which no column holds.
+/// The row of a batch: `StoreFailed` if one of its numbers exceeds 2^63 - 1, which no column holds.
 pub fn batch_row(batch: &Batch) -> Result<BatchRow, Failure>
     ensures row { IfOk result (λ row. (row_of_batch row ≡ standing.batch_row batch.now) × FitsBatch row) }
     ensures fits { Fits batch.now.tickets → Fits batch.now.bonds → Fits batch.now.total.0 → IsOk result }
@@ -114,7 +114,7 @@ fn coowner_number(coowner: Option<Customer>) -> Option<u64>
     }
 }
 
-/// The row of a bond that no ticket pays.
+/// The row of an unpaid bond.
 pub fn bond_row(bond: &Bond) -> UnpaidBond
     ensures key { key_of_unpaid result ≡ standing.key_of bond.now.serial }
     ensures row { row_of_unpaid result ≡ standing.bond_row (record { bond = bond.now; ticket = None }) }

@@ -1,4 +1,4 @@
-//! What an act sees of the books, as it is known, or else read by its keys in a transaction.
+//! What an act sees of the books: known already, or else read by its keys in a transaction.
 
 ghost use Rattle.std.specs.Prelude.{◌≡◌, ◌≤◌, IfOk, IfSome, IsSome, Some, None, length, ⊤};
 ghost use Rattle.std.specs.Result.{IsOk};
@@ -43,7 +43,7 @@ fn optional_day(count: Option<u64>) -> Option<Option<Day>>
     }
 }
 
-/// The open day and the day that was closed last.
+/// The open day and the last closed day.
 #[derive(Drop)]
 struct Days {
     day: Option<Day>,
@@ -63,7 +63,7 @@ fn days_of(desk: tables::DeskRow) -> Result<Days, Failure>
     Ok(Days { day, last_day })
 }
 
-/// The days that a look-up showed.
+/// The days that a look-up found.
 fn days_shown(found: Option<tables::DeskRow>) -> Result<Days, Failure>
     ensures value { IfOk result
         (λ days. (desk : DeskRow) → option_map row_of_desk found ≡ Some desk → (days.day ≡ desk.day) × (days.last_day ≡ desk.last_day)) }
@@ -75,7 +75,7 @@ fn days_shown(found: Option<tables::DeskRow>) -> Result<Days, Failure>
     }
 }
 
-/// The open day and the day that was closed last.
+/// The open day and the last closed day.
 fn days_in<S: Alter>(tx: &mut Transaction<'_, S>) -> Result<Days, Failure>
     ensures same_reference { tx.new.conn.ghost_name ≡ tx.old.conn.ghost_name }
     ensures only_reads { OnlyReads (state S.Store tx.old.conn.now) (state S.Store tx.new.conn.now) result }
@@ -87,7 +87,7 @@ fn days_in<S: Alter>(tx: &mut Transaction<'_, S>) -> Result<Days, Failure>
     days_shown(found)
 }
 
-/// The terms of a period, as they are known, or as they are read now and known from then on.
+/// The terms of a period: known already, or else read now and known from then on.
 fn terms_of<S: Alter>(
     tx: &mut Transaction<'_, S>,
     alloc: Global,
@@ -111,7 +111,7 @@ fn terms_of<S: Alter>(
     Ok(terms)
 }
 
-/// The terms of periods. Those that are read are known from then on.
+/// The terms of periods. Terms that are read are known from then on.
 fn terms_for<S: Alter>(
     tx: &mut Transaction<'_, S>,
     alloc: Global,
@@ -169,14 +169,14 @@ fn keys_in<S: Alter>(
     Ok(Keys { terms, bonds })
 }
 
-/// How many tickets there are, and those of the open day, for the acts that count them.
+/// The number of tickets, and the open day's tickets, for acts that count them.
 #[derive(Drop)]
 struct Counts {
     tickets: u64,
     day: DayCounts,
 }
 
-/// How many tickets there are, and those of the open day, for the acts that count them.
+/// The number of tickets, and the open day's tickets, for acts that count them.
 fn counts_in<S: Alter>(
     tx: &mut Transaction<'_, S>,
     alloc: Global,
@@ -216,7 +216,7 @@ fn desk_in<S: Alter>(tx: &mut Transaction<'_, S>, alloc: Global, act: &Act) -> R
     })
 }
 
-/// The same: as it is known, or else as it is read.
+/// The same, known already or else read now.
 fn desk_for<S: Alter>(
     tx: &mut Transaction<'_, S>,
     alloc: Global,
@@ -277,7 +277,7 @@ fn view_from(keys: Keys, desk: &Desk) -> Result<View, Failure>
     }
 }
 
-/// What an act is decided by that the length of its list doesn't refuse.
+/// What an act depends on, if the length of its list doesn't refuse it.
 fn view_within<S: Alter>(
     tx: &mut Transaction<'_, S>,
     alloc: Global,
@@ -299,7 +299,7 @@ fn view_within<S: Alter>(
     view_from(keys, &desk)
 }
 
-/// What an act is decided by. Where the length of its list refuses it nothing is read.
+/// What an act depends on. If the length of its list refuses it, nothing is read.
 fn view_in<S: Alter>(
     tx: &mut Transaction<'_, S>,
     alloc: Global,
@@ -329,8 +329,8 @@ fn count_of(day: Option<Day>) -> Option<u64>
     }
 }
 
-/// The effects of an act on the books that the transaction sees, and, where it changes something, the day
-/// that was closed last.
+/// The effects of an act on the books that the transaction sees and, if it changes anything, the last closed
+/// day.
 pub fn effects_in<S: Alter>(
     tx: &mut Transaction<'_, S>,
     alloc: Global,

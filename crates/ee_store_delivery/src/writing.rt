@@ -1,4 +1,4 @@
-//! The changes of the books, written as rows.
+//! Writing changes to the books as rows.
 
 ghost use Rattle.std.specs.Prelude.{◌≡◌, IfSome, length, Some, None};
 ghost use Rattle.sqlite.specs.Held.{state};
@@ -28,7 +28,7 @@ use ee_units::{Day, IssueMonth, Rate};
 use sqlite::{Alter, Transaction};
 use std::alloc::Global;
 
-/// Writes the extension of a period, where one is named.
+/// Writes the extension of a period, if there is one.
 fn write_extension<S: Alter>(
     tx: &mut Transaction<'_, S>,
     period: u64,
@@ -53,7 +53,7 @@ fn write_extension<S: Alter>(
     }
 }
 
-/// Writes the terms of a period: its fixed rate, and its extension where one is named.
+/// Writes the terms of a period: its fixed rate, and its extension if there is one.
 fn write_terms<S: Alter>(
     tx: &mut Transaction<'_, S>,
     from: IssueMonth,
@@ -141,7 +141,7 @@ fn write_batch<S: Alter>(tx: &mut Transaction<'_, S>, batch: &Batch) -> Result<(
     Ok(())
 }
 
-/// Writes the day that is opened, where this is the day that was closed last.
+/// Writes the day that is opened, given the last closed day.
 fn write_day<S: Alter>(
     tx: &mut Transaction<'_, S>,
     last_day: Option<u64>,
@@ -162,7 +162,7 @@ fn write_day<S: Alter>(
     Ok(())
 }
 
-/// Writes a change, where this is the day that was closed last.
+/// Writes a change, given the last closed day.
 fn write_change<S: Alter>(
     tx: &mut Transaction<'_, S>,
     alloc: Global,
@@ -188,7 +188,7 @@ fn write_change<S: Alter>(
     }
 }
 
-/// Writes changes, one after the other, where this is the day that was closed last.
+/// Writes changes in order, given the last closed day.
 pub fn write_changes<S: Alter>(
     tx: &mut Transaction<'_, S>,
     alloc: Global,
