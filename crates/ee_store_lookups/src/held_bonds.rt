@@ -34,7 +34,7 @@ fn coowner_of(number: Option<u64>) -> Option<Option<Customer>>
     }
 }
 
-/// The bond of a row, and the ticket that paid it; `None` if the row is none of a register.
+/// The bond of a row, and the ticket that paid it; `None` if no registered bond has this row.
 pub fn held_from(serial: Serial, row: BondRow) -> Option<Held>
     ensures shown { IfSome result (λ held. (bond_row held ≡ row_of_bond row) × (held.bond.serial ≡ serial)) }
     ensures read { (held : Held) → row_of_bond row ≡ bond_row held → BondFits held.bond → IsSome result }
