@@ -12,7 +12,7 @@ use Rattle.ee_store_tables.specs.Rows.{Rows, Has, Stores}
 use Rattle.ee_store_making.specs.declared.forms.Form.{Form}
 use Rattle.ee_store_making.specs.declared.forms.Form.TheVariants.{Current, First, Earliest}
 use Rattle.ee_store_making.specs.declared.answers.StoredAnswer.{StoredAnswer}
-use Rattle.ee_store_making.specs.Forms.{version_of, HasForm, HoldsIn, HadIn}
+use Rattle.ee_store_making.specs.Forms.{version_of, HasForm, IsOurs, HoldsIn, HadIn}
 use Rattle.ee_store_making.specs.Making.{IsBlank}
 use Rattle.ee_store_making.specs.Migrating.{answer_entry, become, Lists, Migrates, AnswersFit, CanBecome}
 use Rattle.ee_store_making.proofs.Lemmas.Forms.{kept_had, one_form, lacks_current}
@@ -46,6 +46,10 @@ module _ (old middle : State) (form : Form) (rows : Rows) (kept : KeepsCommit ol
     (found : HadIn form middle rows) where
   pub had : HadIn form old rows
   had = had_before old middle form rows kept is_open found
+
+  -- the tables that it had are those of this program
+  pub is_ours : IsOurs old
+  is_ours = (form, λ o. (had o).0)
 
   found_form : (other : Form) → HasForm other old → other ≡ form
   found_form other has = one_form other form (sym (kept_form old middle other kept has is_open) ∙ (found is_open).0)

@@ -1,6 +1,8 @@
 -- What a store that is opened has, and what it had.
 -- Of a store that a failing disk has shut nothing is said.
 use Rattle.std.specs.Prelude.{◌≡◌, ◌≤◌, ◌⊎◌, ◌+◌, ◌^◌, ℕ, None, false, [], ◌∷◌, Contains, Option, IsTrue, ⊤}
+use Rattle.std.specs.Ordering.{nat_cmp}
+use Rattle.std.specs.FinMap.{FinMap}
 use Rattle.sqlite_disk.specs.declared.Disk.{Ghosts}
 use Rattle.sqlite.specs.declared.FileStore.{FileStore}
 use Rattle.sqlite.specs.Tree.{Trees}
@@ -18,9 +20,9 @@ use Rattle.ee_store_making.specs.declared.forms.Form.TheVariants.{Current, First
 use Rattle.ee_store_making.specs.Forms.{version_of, StoresIn, HasForm, IsOurs, HadIn}
 use Rattle.ee_store_making.specs.Migrating.{AnswersFit}
 use Rattle.ee_store_making.specs.Making.{IsBlank}
-use Rattle.ee_store_tables.specs.Rows.{Rows, HasRoomIn, HasRoom}
+use Rattle.ee_store_tables.specs.Rows.{Rows, DeskRow, HasRoomIn, HasRoom}
 use Rattle.ee_store_tables.specs.Statements.{HasCause}
-use Rattle.ee_store_opening.specs.Opening.{HasTables, IsOtherVersion}
+use Rattle.ee_store_opening.specs.Opening.{HasTables, IsOther, IsOtherVersion, ShowsOther, SeesDesk}
 use Rattle.ee_store_making.specs.declared.faults.OpenFault.{OpenFault}
 use Rattle.ee_store_making.specs.declared.faults.OpenFault.TheVariants.{StoreFailed, WrongVersion, Unusable}
 use Rattle.ee_store.specs.declared.opening.Rest.{Rest}
@@ -103,13 +105,22 @@ StaysStopped old new = IsTrue old.is_open → (form : Form) (w : World) (left : 
 abbrev pub HadNone : State → Type 0
 HadNone old = IsTrue old.is_open → ((form : Form) (content : Content) → HadContent form old content → ⊥) × (IsBlank old → ⊥)
 
--- the rows of a store that was open are of another version
-abbrev pub HadOtherVersion : State → Type 0
-HadOtherVersion old = IsTrue old.is_open → (form : Form) (rows : Rows) → HadIn form old rows → IsOtherVersion rows
+-- it had tables, and they weren't those of this program
+abbrev pub HadOthers : State → Type 0
+HadOthers old = ¬ IsOurs old × ¬ IsBlank old
 
--- the rows of a store that was open are of no other version
+-- The rows of a store that was open are of another version. Over other tables `sqlite` shows another version, and where the first one
+-- is the desk its row names it.
+abbrev pub HadOtherVersion : State → Type 0
+HadOtherVersion old =
+    IsTrue old.is_open → ((form : Form) (rows : Rows) → HadIn form old rows → IsOtherVersion rows)
+    × (HadOthers old → ShowsOther old × ((rows : FinMap nat_cmp DeskRow) → SeesDesk old rows → IsOther rows))
+
+-- The rows of a store that was open are of no other version, also where the desk is the first of other tables.
 abbrev pub HadNoOtherVersion : State → Type 0
-HadNoOtherVersion old = IsTrue old.is_open → (form : Form) (rows : Rows) → HadIn form old rows → ¬ IsOtherVersion rows
+HadNoOtherVersion old =
+    IsTrue old.is_open → ((form : Form) (rows : Rows) → HadIn form old rows → ¬ IsOtherVersion rows)
+    × (HadOthers old → (rows : FinMap nat_cmp DeskRow) → SeesDesk old rows → ¬ IsOther rows)
 
 -- A crash of a store with any table leaves what it could leave before. Where it was of version 1, a crash may also leave version 2
 -- with the content that it had, and nothing between.

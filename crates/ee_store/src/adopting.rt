@@ -133,7 +133,8 @@ impl<S: Alter> SqlKeeper<S> {
     ///   content, and the events of the law go on from there.
     /// - `version`, `unusable`: a store that has a content, or no tables, is refused for neither.
     /// - `other`, `tested`: `WrongVersion` is told only where the rows have another version, and `Unusable`
-    ///   never there.
+    ///   never there. Over other tables `WrongVersion` is told only if `sqlite` shows another version for the
+    ///   desk's row, and if the desk is the first table, just then.
     /// - `ready`: a connection in no transaction, with no limit on steps, makes a keeper that takes requests. If it is
     ///   refused, it is handed back so.
     /// - `room`: it has room for as many rows with hidden numbers as its trees have; a store that was new, for 2^63 - 1.

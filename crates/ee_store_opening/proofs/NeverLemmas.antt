@@ -13,7 +13,8 @@ use Rattle.ee_store_making.specs.Asking.{IsNeverRefused}
 use Rattle.ee_store_opening.specs.Reading.{whole_table}
 use Rattle.ee_store_opening.proofs.TextLemmas.{begun_with, of_each, IsCompiled, IsMistyped, NeverOverflows, never_refused}
 use Rattle.ee_store_opening.proofs.QuestionLemmas.{by_key, by_pair, desk_terms, rate_terms, bond_terms, ticket_terms, line_terms, batch_terms, reply_terms, answer_terms, rowid_terms, whole_desk, whole_rates, whole_bonds, whole_bond_rowids, whole_tickets, whole_lines, whole_line_rowids, whole_batches, whole_replies, whole_answers, whole_answer_rowids, whole_extensions}
-use Rattle.ee_store_opening.proofs.VersionLemmas.{version_text, version_query, version_is, given_id}
+use Rattle.ee_store_opening.specs.Opening.{version_text, given_id}
+use Rattle.ee_store_opening.proofs.VersionLemmas.{version_query, version_is}
 
 never_sums : (tree : ℕ) (terms : List Term) (order : List (Term × Key)) → NeverOverflows (whole_table tree terms order) []
 never_sums tree terms order trees (inl none) = none

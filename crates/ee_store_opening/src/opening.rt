@@ -10,7 +10,7 @@ ghost use Rattle.ee_store_making.specs.Faults.{FailsForCause, StaysOutside};
 ghost use Rattle.ee_store_making.specs.Forms.{IsOurs, HadIn};
 ghost use Rattle.ee_store_making.specs.Making.{IsBlank};
 ghost use Rattle.ee_store_opening.specs.Whole.{AreRead, AreInOrder};
-ghost use Rattle.ee_store_opening.specs.Opening.{HasTables, IsOfForm, IsOtherVersion, AreReadable};
+ghost use Rattle.ee_store_opening.specs.Opening.{HasTables, IsOfForm, IsOtherVersion, AreReadable, IsTold};
 
 use crate::ours::{form_of, has_no_tables};
 use crate::testing::RowTest;
@@ -30,6 +30,7 @@ pub fn is_blank<S: Alter>(conn: &Connection<S>) -> bool
 
 /// Why a store with other tables isn't opened.
 fn refusal<S: Alter>(conn: &mut Connection<S>) -> OpenFault
+    ensures told { HasCleanDisk (state S.Store conn.new) → IsTold (state S.Store conn.old) result }
     ensures kept { HasCleanDisk (state S.Store conn.new) → KeepsCommit (state S.Store conn.old) (state S.Store conn.new) }
     ensures outside { StaysOutside (state S.Store conn.old) (state S.Store conn.new) }
     ensures crash { LeavesNoMore (state S.Store conn.old) (state S.Store conn.new) }
@@ -54,6 +55,8 @@ fn refusal<S: Alter>(conn: &mut Connection<S>) -> OpenFault
 /// - `found`: a store whose tables are of this form has these rows, and they were read: all but the kept replies come, and of
 ///   those it is told whether each passed. What a store has determines its rows.
 /// - `those`: the rows that the store had before were read.
+/// - `others`: of a store with other tables `WrongVersion` is told only if `sqlite` shows another version
+///   for the desk's row. If the desk is the first table, it is told just then.
 ///
 /// # Errors
 ///
@@ -80,6 +83,8 @@ pub fn open_rows<S: Alter, P: RowTest<StoredAnswer>>(
         → HadIn form (state S.Store conn.old) rows → IsTrue (state S.Store conn.old).is_open → ¬ IsOtherVersion rows) }
     ensures unusable { HasCleanDisk (state S.Store conn.new) → IfErr result (λ e. e ≡ OpenFault.Unusable → (form : Form) (rows : Rows)
         → HadIn form (state S.Store conn.old) rows → IsTrue (state S.Store conn.old).is_open → ¬ AreReadable form rows) }
+    ensures others { HasCleanDisk (state S.Store conn.new) → IfErr result (λ e. IsTrue (state S.Store conn.old).is_open → ¬ IsOurs (state S.Store conn.old)
+        → IsTold (state S.Store conn.old) e) }
     ensures inside { IfErr result (λ e. (e ≡ OpenFault.StoreFailed) ⊎ ((state S.Store conn.old).in_transaction ≡ false)) }
     ensures kept { HasCleanDisk (state S.Store conn.new) → KeepsCommit (state S.Store conn.old) (state S.Store conn.new) }
     ensures outside { StaysOutside (state S.Store conn.old) (state S.Store conn.new) }

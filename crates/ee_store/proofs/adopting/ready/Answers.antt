@@ -17,9 +17,9 @@ use Rattle.ee_store_making.proofs.Lemmas.Faults.{each_fault, two_faults, handed_
 use Rattle.ee_store_making.proofs.Lemmas.Causes.{cause_then, excused_if_open}
 use Rattle.ee_store_making.proofs.Lemmas.Forms.{not_blank}
 use Rattle.ee_store_opening.proofs.Lemmas.{one_version}
-use Rattle.ee_store.specs.Adopted.{HadNone, HadNoOtherVersion, FailsToAdopt}
+use Rattle.ee_store.specs.Adopted.{HadNone, HadOtherVersion, HadNoOtherVersion, FailsToAdopt}
 use Rattle.ee_store.proofs.Opened.{of_nothing, begun_survives, of_version, blank_had_none}
-use Rattle.ee_store.proofs.Migrated.{lists_all, made_of, fits_rows, keeps_content, has_some, stood_for_none, not_begun, leaves_as_before, leaves_present, read_then}
+use Rattle.ee_store.proofs.Migrated.{lists_all, made_of, fits_rows, keeps_content, has_some, stood_for_none, is_ours, not_begun, leaves_as_before, leaves_present, read_then}
 use Rattle.ee_store.proofs.Meeting.{goes_on, carries_world, begins_world, stays_stopped}
 use Rattle.ee_store_contents.proofs.Lemmas.{readable}
 use Rattle.ee_store.proofs.OpenedRoom.{opened_room}
@@ -142,12 +142,10 @@ returns-in_err-all-clause-kept g c clean =
 pub returns-in_err-all-clause-version : goal.returns-in_err-all-clause-version
 returns-in_err-all-clause-version g c clean =
     let old = state g.S.Store c.args.conn.now in
-    let told : IfErr c.from_residual-in_err-all.result (λ e. e ≡ WrongVersion → (form : Form) (rows : Rows) → HadIn form old rows → IsTrue old.is_open → IsOtherVersion rows) = search rules in
-    let apart : IfErr c.from_residual-in_err-all.result (λ e. (e ≡ StoreFailed) ⊎ (old.in_transaction ≡ false)) = search rules in
-    two_faults c.from_residual-in_err-all.result (λ e other apart is is_open. (
-      λ form content had. of_version form content (other is form (rows_at (version_of form) content) had.rows is_open),
-      λ none. elim apart [ inl failed ↦ cc | inr outside ↦ c.is_blank.ensures.tables c.if-is_blank.false outside is_open (none is_open) ],
-    )) told apart
+    handed_on (λ e. e ≡ WrongVersion → HadNone old) c.from_residual-in_err-all.result c.in_err-all.field-0.0 c.from_residual-in_err-all.ensures.1 (λ is is_open. (
+      λ form content had. of_version form content (c.in_err-all.ensures.version clean is form (rows_at (version_of form) content) had.rows is_open),
+      λ none. elim c.in_err-all.ensures.inside [ inl failed ↦ cc | inr outside ↦ c.is_blank.ensures.tables c.if-is_blank.false outside is_open (none is_open) ],
+    ))
 
 pub returns-in_err-all-clause-unusable : goal.returns-in_err-all-clause-unusable
 returns-in_err-all-clause-unusable g c clean =
@@ -161,15 +159,17 @@ returns-in_err-all-clause-unusable g c clean =
 
 pub returns-in_err-all-clause-other : goal.returns-in_err-all-clause-other
 returns-in_err-all-clause-other g c clean =
-    let old = state g.S.Store c.args.conn.now in
-    let told : IfErr c.from_residual-in_err-all.result (λ e. e ≡ WrongVersion → (form : Form) (rows : Rows) → HadIn form old rows → IsTrue old.is_open → IsOtherVersion rows) = search rules in
-    each_fault c.from_residual-in_err-all.result (λ e other is is_open form rows had. other is form rows had is_open) told
+    handed_on (λ e. e ≡ WrongVersion → HadOtherVersion (state g.S.Store c.args.conn.now)) c.from_residual-in_err-all.result c.in_err-all.field-0.0 c.from_residual-in_err-all.ensures.1 (λ is is_open. (
+      λ form rows had. c.in_err-all.ensures.version clean is form rows had is_open,
+      λ had. let it = c.in_err-all.ensures.others clean is_open had.0 in (it.shown is, it.other is),
+    ))
 
 pub returns-in_err-all-clause-tested : goal.returns-in_err-all-clause-tested
 returns-in_err-all-clause-tested g c clean =
-    let old = state g.S.Store c.args.conn.now in
-    let told : IfErr c.from_residual-in_err-all.result (λ e. e ≡ Unusable → (form : Form) (rows : Rows) → HadIn form old rows → IsTrue old.is_open → ¬ IsOtherVersion rows) = search rules in
-    each_fault c.from_residual-in_err-all.result (λ e tested is is_open form rows had. tested is form rows had is_open) told
+    handed_on (λ e. e ≡ Unusable → HadNoOtherVersion (state g.S.Store c.args.conn.now)) c.from_residual-in_err-all.result c.in_err-all.field-0.0 c.from_residual-in_err-all.ensures.1 (λ is is_open. (
+      λ form rows had. c.in_err-all.ensures.tested clean is form rows had is_open,
+      λ had. (c.in_err-all.ensures.others clean is_open had.0).tested is,
+    ))
 
 pub returns-in_err-all-clause-cause : goal.returns-in_err-all-clause-cause
 returns-in_err-all-clause-cause g c clean =
@@ -222,8 +222,15 @@ returns-in_err-tested-clause-unusable g c clean =
 
 pub returns-in_err-tested-clause-tested : goal.returns-in_err-tested-clause-tested
 returns-in_err-tested-clause-tested g c clean =
+    let old = state g.S.Store c.args.conn.now in
+    let it = c.in_ok-all.ensures in
+    let were_open = it.open clean in
+    let found = it.found clean in
     let told : IfErr c.from_residual-in_err-tested.result (λ e. e ≢ WrongVersion) = search rules in
-    each_fault c.from_residual-in_err-tested.result (λ e _ is is_open form rows had. one_version form rows (c.in_ok-all.ensures.first clean form rows had is_open)) told
+    each_fault c.from_residual-in_err-tested.result (λ e _ is is_open. (
+      λ form rows had. one_version form rows (it.first clean form rows had is_open),
+      λ had. absurd (had.0 (is_ours old (state g.S.Store c.open_rows.new.conn) c.in_ok-all.all.form found.0 (it.kept clean) were_open.0 were_open.1 found.1)),
+    )) told
 
 pub returns-in_err-tested-clause-cause : goal.returns-in_err-tested-clause-cause
 returns-in_err-tested-clause-cause g c clean =

@@ -58,12 +58,22 @@ returns-in-Some-clause-unusable g c clean =
     each_fault c.read_all.result (λ e usable told other rows had is_open readable.
     usable told rows (had_as form old rows other ours had) is_open (subst (λ f. AreReadable f rows) (sym (one_form form other (sym (ours is_open) ∙ (had is_open).0))) readable)) (c.read_all.ensures.usable clean)
 
+pub returns-in-Some-clause-others : goal.returns-in-Some-clause-others
+returns-in-Some-clause-others g c clean =
+    let old = state g.S.Store c.args.conn.now in
+    let form = c.in-Some.form in
+    let ours = form_found old (c.is_autocommit.ensures.settled c.if-not-is_autocommit.false) c.schema.result.now c.schema.ensures.value form ((c.form_of.ensures form).0 c.in-Some.is) in
+    each_fault c.read_all.result (λ e _ is_open foreign. absurd (foreign (form, ours))) (c.read_all.ensures.version clean)
+
 pub returns-in-Some-clause-cause : goal.returns-in-Some-clause-cause
 returns-in-Some-clause-cause g c clean starts limit =
     let old = state g.S.Store c.args.conn.now in
     let form = c.in-Some.form in
     let ours = form_found old (c.is_autocommit.ensures.settled c.if-not-is_autocommit.false) c.schema.result.now c.schema.ensures.value form ((c.form_of.ensures form).0 c.in-Some.is) in
     c.read_all.ensures.cause clean (starts.0, ours) limit
+
+pub returns-in-None-clause-others : goal.returns-in-None-clause-others
+returns-in-None-clause-others g c clean is_open foreign = c.refusal.ensures.told clean
 
 pub returns-in-None-clause-cause : goal.returns-in-None-clause-cause
 returns-in-None-clause-cause g c clean starts limit =
@@ -87,6 +97,9 @@ returns-then-not-is_autocommit-clause-inside g c = inl refl
 
 pub returns-then-not-is_autocommit-clause-version : goal.returns-then-not-is_autocommit-clause-version
 returns-then-not-is_autocommit-clause-version g c clean told = absurd (cc)
+
+pub returns-then-not-is_autocommit-clause-others : goal.returns-then-not-is_autocommit-clause-others
+returns-then-not-is_autocommit-clause-others g c clean is_open foreign = record { shown = λ told. absurd (cc); other = λ told. absurd (cc); tested = λ told. absurd (cc) }
 
 pub returns-then-not-is_autocommit-clause-found : goal.returns-then-not-is_autocommit-clause-found
 returns-then-not-is_autocommit-clause-found g c = search rules

@@ -1,5 +1,12 @@
 use Rattle.ee_store_opening.proofs.opening.refusal.Goals as goal
 
+pub returns-in-Ok-clause-told : goal.returns-in-Ok-clause-told
+returns-in-Ok-clause-told g c clean =
+    record { shown = λ told. absurd (cc); other = λ told. absurd (cc); tested = λ told. c.in-Ok.ensures.known_desk clean }
+
+pub returns-in-Err-clause-told : goal.returns-in-Err-clause-told
+returns-in-Err-clause-told g c clean = c.in-Err.ensures.told clean
+
 pub returns-in-Ok-clause-kept : goal.returns-in-Ok-clause-kept
 returns-in-Ok-clause-kept g c clean = c.known_version.ensures.kept clean
 

@@ -1,4 +1,6 @@
-use Rattle.std.proofs.Common.{◌≢◌, IsTrue, inl, sym, subst}
+use Rattle.std.proofs.Common.{◌≢◌, IsTrue, inl, sym, subst, nat_cmp}
+use Rattle.std.specs.FinMap.{FinMap}
+use Rattle.ee_store_tables.specs.Rows.{DeskRow}
 use Rattle.sqlite.specs.Listing.{understood}
 use Rattle.sqlite.proofs.Callers.{IsPlain}
 use Rattle.sqlite.proofs.InsideLemmas.{unchanged_keeps}
@@ -12,7 +14,8 @@ use Rattle.ee_store_making.specs.Faults.{IsExcused}
 use Rattle.ee_store_making.proofs.Lemmas.Faults.{query_usable, told_as}
 use Rattle.ee_store_making.proofs.Lemmas.Causes.{excused_if_open, query_excused}
 use Rattle.ee_store_opening.proofs.NeverLemmas.{never_version}
-use Rattle.ee_store_opening.proofs.VersionLemmas.{version_text, version_plain, given_id, shows_version}
+use Rattle.ee_store_opening.specs.Opening.{version_text, given_id, SeesDesk}
+use Rattle.ee_store_opening.proofs.VersionLemmas.{version_plain, shows_version, plain_there, shows_desk, first_shown}
 use Rattle.ee_store_opening.proofs.version.version_rows.Goals as goal
 
 pub returns-in_err-rows-clause-kept : goal.returns-in_err-rows-clause-kept
@@ -60,3 +63,22 @@ returns-in_err-rows-clause-cause g c clean ours limit =
     let new = state g.S.Store c.query_all.new.self in
     told_as (IsExcused old new) c.from_residual.result c.in_err-rows.field-0.0 c.from_residual.ensures.1 (excused_if_open old new _ (λ is_open.
     query_excused old new version_text given_id (subst (λ s. IsNeverRefused s version_text given_id) (sym (ours.1 is_open)) (never_version ours.0)) limit _ (c.in_err-rows.ensures.err clean)))
+
+pub returns-clause-any : goal.returns-clause-any
+returns-clause-any g c clean desk sees =
+    let old = state g.S.Store c.args.conn.now in
+    let new = state g.S.Store c.query_all.new.self in
+    shows_desk old desk sees new c.in_ok-rows.rows.items (c.in_ok-rows.ensures.ok clean)
+
+pub returns-clause-shown : goal.returns-clause-shown
+returns-clause-shown g c clean row first =
+    let old = state g.S.Store c.args.conn.now in
+    let new = state g.S.Store c.query_all.new.self in
+    first_shown old new c.in_ok-rows.rows.items row first (c.in_ok-rows.ensures.ok clean)
+
+pub returns-in_err-rows-clause-asked : goal.returns-in_err-rows-clause-asked
+returns-in_err-rows-clause-asked g c clean =
+    let old = state g.S.Store c.args.conn.now in
+    let new = state g.S.Store c.query_all.new.self in
+    told_as (λ e. (desk : FinMap nat_cmp DeskRow) → SeesDesk old desk → e ≢ Unusable) c.from_residual.result c.in_err-rows.field-0.0 c.from_residual.ensures.1 (λ desk sees.
+    query_usable old new version_text given_id _ (plain_there old desk sees) (inl (c.in_err-rows.ensures.err clean)))
