@@ -17,6 +17,7 @@ CLIENT = {"X-Counter-Client": "test", "Content-Type": "application/json"}
 
 #: What stands for Debian's own nginx.conf. The media types are those that the page needs.
 PLAIN = """
+{modules}
 worker_processes 2;
 user {user};
 pid {folder}/nginx.pid;
@@ -30,9 +31,11 @@ http {{
     fastcgi_temp_path {folder}/fastcgi;
     uwsgi_temp_path {folder}/uwsgi;
     scgi_temp_path {folder}/scgi;
-    include {folder}/conf.d/counter.conf;
+    include {folder}/conf.d/*.conf;
 }}
 """
+#: Debian's module for scripts, which the log with replies needs.
+SCRIPTS = "load_module /usr/lib/nginx/modules/ngx_http_js_module.so;"
 
 
 def free_port():
@@ -63,9 +66,10 @@ def basic(user, password):
 
 
 class Nginx:
-    """nginx over the sample, or over another configuration. `users` has a password and groups for each user. `rate` replaces the sample's limit of requests a second."""
+    """nginx over the sample, or over another configuration. `users` has a password and groups for each user. `rate` replaces the sample's limit of requests a second.
+    `requests` turns on the log of requests with their replies: the file, and the port of syslog on the machine."""
 
-    def __init__(self, folder, counter_port, users, *, conf=SAMPLE / "counter.conf", rate=None, user=None, hashed=None):
+    def __init__(self, folder, counter_port, users, *, conf=SAMPLE / "counter.conf", rate=None, user=None, hashed=None, requests=None):
         self.folder, self.users, self.port = Path(folder), users, free_port()
         for name in ("conf.d", "log"):
             (self.folder / name).mkdir(parents=True)
@@ -73,7 +77,10 @@ class Nginx:
         self.make_users(hashed or self.hashed)
         self.make_settings(conf, counter_port, rate)
         user = user or ("root" if os.getuid() == 0 else "nobody")
-        (self.folder / "nginx.conf").write_text(PLAIN.format(folder=self.folder, user=user))
+        modules = SCRIPTS if requests else ""
+        if requests:
+            self.make_requests(*requests)
+        (self.folder / "nginx.conf").write_text(PLAIN.format(folder=self.folder, user=user, modules=modules))
         self.process = self.started()
 
     def make_certificate(self):
@@ -101,7 +108,13 @@ class Nginx:
         if rate is not None:
             text = replaced(text, [("rate=10r/s", f"rate={rate}r/s")])
         (self.folder / "conf.d" / "counter.conf").write_text(text)
-        (self.folder / "pass_to_counter.conf").write_text(passing.replace("127.0.0.1:8377", f"127.0.0.1:{counter_port}"))
+        (self.folder / "pass_to_counter.conf").write_text(passing.replace("127.0.0.1:8377", f"127.0.0.1:{counter_port}").replace("/etc/counter/", f"{self.folder}/"))
+
+    def make_requests(self, file, syslog_port):
+        where = replaced((SAMPLE / "server_requests.conf").read_text(), [("/srv/requests/requests.log", str(file)), ("127.0.0.1:514", f"127.0.0.1:{syslog_port}")])
+        (self.folder / "server_requests.conf").write_text(where)
+        for name, place in (("requests.conf", "conf.d/0-counter-requests.conf"), ("each_reply.conf", "each_reply.conf"), ("counter_replies.js", "counter_replies.js")):
+            (self.folder / place).write_text((SAMPLE / name).read_text())
 
     def started(self):
         process = subprocess.Popen(["nginx", "-c", f"{self.folder}/nginx.conf", "-e", f"{self.folder}/nginx.log", "-g", "daemon off;"])
