@@ -1,0 +1,208 @@
+"""Sends messages to the program, one after the other, and takes each answer before the next is sent: by `apply`, or by `serve` in a network of its own."""
+import contextlib
+import ctypes
+import fcntl
+import os
+import socket
+import struct
+import subprocess
+import time
+
+#: A connection has at most 1,000 messages.
+MOST_MESSAGES = 1000
+#: From how many requests on `serve` is worth a network of its own: each start of `apply` reads the whole store.
+MANY = 5000
+NEW_USER, NEW_NETWORK = 0x10000000, 0x40000000
+GET_FLAGS, SET_FLAGS, UP = 0x8913, 0x8914, 1
+PORT = 8377
+
+
+class Failed(Exception):
+    """The program failed, or doesn't start."""
+
+
+def body_length(head):
+    for line in head.split(b"\r\n")[1:]:
+        name, _, value = line.partition(b":")
+        if name.lower() == b"content-length":
+            return int(value)
+    raise Failed(f"an answer without a length: {head.decode(errors='replace')}")
+
+
+class Carrier:
+    """What both ways share: reading answers, and counting messages."""
+
+    def __init__(self, program, store):
+        self.program, self.store = program, store
+        self.process, self.messages, self.held = None, 0, b""
+
+    def answer(self, message):
+        """Status and body of the answer to one message."""
+        if self.messages == MOST_MESSAGES:
+            self.next_connection()
+        if not self.is_open():
+            self.open()
+        self.messages += 1
+        try:
+            self.send(message)
+            while (end := self.held.find(b"\r\n\r\n")) < 0:
+                self.more()
+            length = body_length(self.held[:end])
+            while len(self.held) < end + 4 + length:
+                self.more()
+        except OSError as fault:
+            raise self.failure() from fault
+        status, body = int(self.held.split(b" ", 2)[1]), self.held[end + 4 : end + 4 + length].decode()
+        self.held = self.held[end + 4 + length :]
+        if status == 503:
+            raise Failed(f"the program answers {body}")
+        return status, body
+
+    def more(self):
+        piece = self.receive()
+        if not piece:
+            raise self.failure()
+        self.held += piece
+
+    def failure(self):
+        """Ends the program, and says what it said."""
+        process, self.process = self.process, None
+        if process is None:
+            return Failed("the program ended")
+        if process.stdin:
+            with contextlib.suppress(OSError):
+                process.stdin.close()
+        try:
+            process.wait(5)
+        except subprocess.TimeoutExpired:
+            process.kill()
+        said = process.stderr.read().decode(errors="replace").strip()
+        return Failed(f"the program ended with status {process.wait()}: {said or 'it said nothing'}")
+
+
+class Applied(Carrier):
+    """By `apply`: a process for each 1,000 messages, over its standard input and output."""
+
+    name = "apply"
+
+    def is_open(self):
+        return self.process is not None
+
+    def open(self):
+        self.messages = 0
+        self.process = subprocess.Popen([self.program, "apply", "--db", self.store], stdin=subprocess.PIPE, stdout=subprocess.PIPE, stderr=subprocess.PIPE, bufsize=0)
+
+    def send(self, message):
+        self.process.stdin.write(message)
+
+    def receive(self):
+        return os.read(self.process.stdout.fileno(), 65536)
+
+    def next_connection(self):
+        self.rest()
+
+    def rest(self):
+        """Ends the program, which writes the log back."""
+        if self.process is not None:
+            self.process.stdin.close()
+            if self.process.wait() != 0:
+                raise self.failure()
+            self.process.stdout.close()
+            self.process.stderr.close()
+            self.process = None
+
+    def end(self):
+        if self.process is not None:
+            self.process.kill()
+            self.process.wait()
+
+
+class Served(Carrier):
+    """By `serve`: one process, and a connection for each 1,000 messages, on the loopback of a network that only this process and the program are in."""
+
+    name = "serve in a network of its own"
+
+    def __init__(self, program, store):
+        super().__init__(program, store)
+        self.client = None
+
+    def is_open(self):
+        return self.client is not None
+
+    def open(self):
+        if self.process is None:
+            self.process = subprocess.Popen([self.program, "serve", "--db", self.store, "--port", str(PORT)], stdin=subprocess.DEVNULL, stdout=subprocess.DEVNULL, stderr=subprocess.PIPE)
+        while self.client is None:
+            try:
+                self.client = socket.create_connection(("127.0.0.1", PORT))
+            except ConnectionRefusedError:
+                if self.process.poll() is not None:
+                    raise self.failure() from None
+                time.sleep(0.01)
+        self.client.setsockopt(socket.IPPROTO_TCP, socket.TCP_NODELAY, 1)
+        self.messages = 0
+
+    def send(self, message):
+        self.client.sendall(message)
+
+    def receive(self):
+        return self.client.recv(65536)
+
+    def next_connection(self):
+        self.client.close()
+        self.client = None
+
+    def rest(self):
+        """Ends the program, and lets another one write the log back."""
+        self.end()
+        if os.path.exists(self.store):
+            ran = subprocess.run([self.program, "apply", "--db", self.store], stdin=subprocess.DEVNULL, stdout=subprocess.DEVNULL, stderr=subprocess.PIPE)
+            if ran.returncode != 0:
+                raise Failed(f"the program ended with status {ran.returncode}: {ran.stderr.decode(errors='replace').strip()}")
+
+    def end(self):
+        if self.client is not None:
+            self.next_connection()
+        if self.process is not None:
+            self.process.terminate()
+            self.process.wait()
+            self.process.stderr.close()
+            self.process = None
+
+
+def into_own_network():
+    """Brings this process into a network of its own, with its loopback up."""
+    user, group = os.getuid(), os.getgid()
+    is_root = user == 0
+    if ctypes.CDLL(None, use_errno=True).unshare(NEW_NETWORK if is_root else NEW_NETWORK | NEW_USER) != 0:
+        raise OSError(ctypes.get_errno(), "no network of its own")
+    if not is_root:
+        for name, text in (("setgroups", "deny"), ("uid_map", f"{user} {user} 1"), ("gid_map", f"{group} {group} 1")):
+            with open(f"/proc/self/{name}", "w") as file:
+                file.write(text)
+    with socket.socket() as any_socket:
+        asked = struct.pack("16sh14x", b"lo", 0)
+        flags = struct.unpack("16sh14x", fcntl.ioctl(any_socket, GET_FLAGS, asked))[1]
+        fcntl.ioctl(any_socket, SET_FLAGS, struct.pack("16sh14x", b"lo", flags | UP))
+
+
+def way_for(by, requests):
+    """The way that was asked for; or `serve` for many requests, if there can be a network for it."""
+    if by == "apply" or (by is None and requests <= MANY):
+        return Applied
+    try:
+        into_own_network()
+    except OSError:
+        if by == "serve":
+            raise
+        return Applied
+    return Served
+
+
+@contextlib.contextmanager
+def carrier(program, store, by, requests):
+    carrying = way_for(by, requests)(program, store)
+    try:
+        yield carrying
+    finally:
+        carrying.end()
