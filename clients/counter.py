@@ -19,6 +19,9 @@ A refusal raises Refused. If the counter can't read a request, its first sending
 ends the request, since nothing was done. After a second sending neither tells anything about the first, so the request stays open and is sent again: `told`
 gets a text, and NoReply is raised when `patience` ends.
 
+With an `archive`, each request is written to a file before it is sent, and each reply when it has come: from it a bank restores a store that was lost
+(docs/RESTORE.md).
+
 Replies, tickets, batches and rows are the counter's own JSON objects, with money as texts. The module needs the standard library only, Python 3.8 or later,
 and a system with flock. `python3 counter.py --help` lists the commands.
 """
@@ -40,7 +43,7 @@ import time
 import urllib.parse
 from typing import Any, Callable, Dict, Iterator, List, NamedTuple, Optional, Sequence, Tuple, Union
 
-__all__ = ["BadFile", "BadJournal", "BadValue", "Counter", "CounterError", "Fault", "Forbidden", "JournalInUse", "NoReply", "Refused", "Sheet", "StillOpen", "register"]
+__all__ = ["BadArchive", "BadFile", "BadJournal", "BadValue", "Counter", "CounterError", "Fault", "Forbidden", "JournalInUse", "NoReply", "Refused", "Sheet", "StillOpen", "register"]
 
 Json = Dict[str, Any]
 Reader = Callable[[str], Optional[Any]]
@@ -84,6 +87,10 @@ class BadFile(CounterError):
 
 class BadJournal(CounterError):
     """The file is no journal, or another desk's."""
+
+
+class BadArchive(CounterError):
+    """The archive isn't as it was written."""
 
 
 class JournalInUse(CounterError):
@@ -437,6 +444,85 @@ class Journal:
         os.close(self.lock)
 
 
+# ---- the archive: docs/FORMATS.md, "The archive of requests"
+
+ACTS = {"/rates": "rates", "/bonds": "bonds", "/day/open": "open", "/redeem": "redeem", "/day/close": "close"}
+ARCHIVED = re.compile(rb'\{"before":"([0-9a-f]{64})","time":"[^"]+","desk":\d{1,3},"number":\d+,"act":\{.*\}\}')
+
+
+def printed_rate(text: str) -> str:
+    whole_part, _, rest = text.rstrip("%").partition(".")
+    return f"{int(whole_part)}.{rest:0<2}%"
+
+
+def terms_of(row: Json) -> Json:
+    """A row of rates as the counter keeps it: an extension that is the fixed rate isn't named."""
+    kept = {"from": row["from"], "rate": printed_rate(row["rate"])}
+    extension = printed_rate(row.get("extension", row["rate"]))
+    return kept if extension == kept["rate"] else {"extension": extension, **kept}
+
+
+def act_text(path: str, fields: Json) -> str:
+    """The canonical text of the act that is asked for."""
+    kept = fields
+    if path == "/rates":
+        kept = {"rates": [terms_of(row) for row in fields["rates"]]}
+    elif path == "/bonds":
+        kept = {"bonds": [dict(sorted(bond.items())) for bond in fields["bonds"]]}
+    return compact({"act": ACTS[path], **dict(sorted(kept.items()))})
+
+
+class Archive:
+    """A file with each request before it is sent, and again with its reply. Each line names the checksum of the line before."""
+
+    def __init__(self, path: str) -> None:
+        self.path = os.path.abspath(path)
+        self.file = os.open(self.path, os.O_RDWR | os.O_CREAT | os.O_APPEND, 0o600)
+        try:
+            self.last = self.tested()
+        except BaseException:
+            os.close(self.file)
+            raise
+
+    def tested(self) -> bytes:
+        """Reads the file, or begins it, and returns its last line. A last line without an end, as a stop leaves it, is taken off."""
+        with open(self.path, "rb") as file:
+            lines = file.read().split(b"\n")
+        if lines[-1]:
+            os.ftruncate(self.file, sum(len(line) + 1 for line in lines[:-1]))
+        lines = lines[:-1]
+        if not lines:
+            return self.write(compact({"archive": 1, "of": "desk", "id": os.urandom(16).hex(), "time": self.time()}).encode())
+        if not lines[0].startswith(b'{"archive":1,"of":"desk",'):
+            raise BadArchive(f"{self.path} is no archive of a desk")
+        for count, (before, line) in enumerate(zip(lines, lines[1:]), 2):
+            found = ARCHIVED.fullmatch(line)
+            if found is None or found[1].decode() != hashlib.sha256(before).hexdigest():
+                raise BadArchive(f"{self.path}: line {count} doesn't follow line {count - 1}: one of them was changed, taken out or moved")
+        return lines[-1]
+
+    @staticmethod
+    def time() -> str:
+        return datetime.datetime.now(datetime.timezone.utc).strftime("%Y-%m-%dT%H:%M:%S.%f")[:-3] + "Z"
+
+    def write(self, line: bytes) -> bytes:
+        size = os.fstat(self.file).st_size
+        if os.write(self.file, line + b"\n") != len(line) + 1:
+            os.ftruncate(self.file, size)
+            raise OSError(f"{self.path} can't be written")
+        os.fsync(self.file)
+        return line
+
+    def add(self, desk: int, request: Json, reply: Optional[Json] = None) -> None:
+        before, act = hashlib.sha256(self.last).hexdigest(), act_text(request["path"], request["fields"])
+        told = "" if reply is None else f',"reply":{compact(reply)}'
+        text = f'{{"before":"{before}","time":"{self.time()}","desk":{desk},"number":{request["number"]},"act":{act}{told}}}'
+        self.last = self.write(text.encode())
+
+    def close(self) -> None:
+        os.close(self.file)
+
+
 # ---- the way to the counter
 
 
@@ -488,7 +574,7 @@ class Counter:
     """The counter at an address, for the desk of a journal.
 
     `patience` is for how many seconds a call tries before it raises NoReply; None is without an end. `told` is called with a text for each failure that is met.
-    `again` says of the last request whether it was sent more than once."""
+    `archive` names a file for each request and its reply. `again` says of the last request whether it was sent more than once."""
 
     def __init__(
         self,
@@ -502,9 +588,15 @@ class Counter:
         patience: Optional[float] = None,
         time_limit: float = TIME_LIMIT,
         told: Callable[[str], None] = lambda text: None,
+        archive: Optional[str] = None,
     ) -> None:
         self.way = Way(address, user, password, certificate, time_limit)
         self.journal = Journal(journal, desk)
+        try:
+            self.archive = None if archive is None else Archive(archive)
+        except BaseException:
+            self.journal.close()
+            raise
         self.patience, self.told, self.again = patience, told, False
         self.failures, self.met = 0, ""
 
@@ -516,6 +608,8 @@ class Counter:
 
     def close(self) -> None:
         self.journal.close()
+        if self.archive is not None:
+            self.archive.close()
 
     @property
     def desk(self) -> int:
@@ -624,6 +718,8 @@ class Counter:
         self.told(f"no reply: {self.met}" + ("; the request was sent before, and may have been done" if is_later else ""))
 
     def sent_once(self) -> Answer:
+        if self.archive is not None and self.journal.record["open"]["sent"] == 0:
+            self.archive.add(self.desk, self.journal.record["open"])
         sending = {**self.journal.record["open"], "sent": self.journal.record["open"]["sent"] + 1}
         self.journal.change(open=sending)
         path, fields = sending["path"], sending["fields"]
@@ -645,6 +741,8 @@ class Counter:
         if self.again:
             done = "it was done once" if answer.kind == "reply" else "no attempt changed anything"
             self.told(f"request {request['number']} was sent {request['sent']} times; {done}")
+        if self.archive is not None:
+            self.archive.add(self.desk, request, answer.value)
         is_marked = answer.kind == "reply" and request["bookmark"] is not None
         self.journal.change(open=None, last={**request, "reply": answer.value}, bookmark=request["bookmark"] if is_marked else record["bookmark"])
         if answer.kind == "refused":
@@ -819,6 +917,7 @@ def words_of(line: Optional[Sequence[str]]) -> argparse.Namespace:
     parser.add_argument("--user", help="the user, if a proxy asks for a password")
     parser.add_argument("--password-file", help="a file whose first line is the password")
     parser.add_argument("--certificate", help="a file with the certificate to trust, instead of the system's")
+    parser.add_argument("--archive", help="a file that gets each request before it is sent, and each reply; it is created if it doesn't exist")
     parser.add_argument("--patience", type=float, help="seconds until it gives up and leaves the request open (default: never)")
     commands = parser.add_subparsers(dest="command", required=True, metavar="COMMAND")
     for name, does, arguments, _ in COMMANDS:
@@ -840,7 +939,7 @@ def run(words: argparse.Namespace) -> int:
         print(text, file=sys.stderr, flush=True)
 
     password = password_of(words)
-    with Counter(words.journal, words.at, desk=words.desk, user=words.user, password=password, certificate=words.certificate, patience=words.patience, told=told) as counter:
+    with Counter(words.journal, words.at, desk=words.desk, user=words.user, password=password, certificate=words.certificate, patience=words.patience, told=told, archive=words.archive) as counter:
         return next(run for name, _, _, run in COMMANDS if name == words.command)(counter, words)
 
 
