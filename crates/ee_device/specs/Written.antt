@@ -1,8 +1,8 @@
--- What a writer has taken of a text (this project's rule: no failed write is tried again).
+-- The part of a text that a writer has taken (this project's rule: a failed write is not repeated).
 use Rattle.std.specs.Prelude.{◌≡◌, ◌≢◌, ℕ, List, [], ◌++◌, Option, Bool, true, false, Result, Ok, Err, ⊤}
 use Rattle.std.specs.Io.KnownBytes.{Appends}
 
--- a writer took the front of the text: all of it where it was done, and else not all of it
+-- a writer took the front of the text: all of it if it is done, and otherwise not all of it
 pub record WritesFront (old new : Option (List ℕ)) (text : List ℕ) (done : Bool) : Type 0 where
   pub front : List ℕ
   pub rest : List ℕ

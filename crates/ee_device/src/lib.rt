@@ -1,4 +1,4 @@
-//! Devices: reading a source whole, and writing a text whole or a front of it where the device failed.
+//! Devices: reading a source whole, and writing a text whole, or only its front if the device failed.
 #![tactic(auto)]
 
 ghost use Rattle.std.specs.Prelude.{◌≡◌, false};
@@ -12,9 +12,9 @@ pub use reading::{ReadFault, read_whole};
 pub use sink::Sink;
 pub use source::Source;
 
-/// Writes the text, and answers whether the writer took all of it. The first failed write ends it,
-/// with no second try; an interrupted write, and one that takes no byte, is a failed one. The writer
-/// has then taken a front of the text.
+/// Writes the text, and returns whether the writer took all of it. Stops at the first failed write, without
+/// a second try; an interrupted write, and one that takes no byte, is a failed one. The writer has then
+/// taken only the front of the text.
 pub fn write_whole<W: Sink>(writer: &mut W, text: &[u8]) -> bool
     ensures written { WritesFront (W.contents writer.old) (W.contents writer.new) text.now result }
     ensures failed { result ≡ false → W.may_have_failed writer.new }

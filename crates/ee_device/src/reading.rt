@@ -21,9 +21,9 @@ pub enum ReadFault {
     NoMemory,
 }
 
-/// All that the reader has left, where that is at most `most` bytes. The first failed read ends it,
-/// with no second try; an interrupted read is a failed one. Of a longer source `most + 1` bytes are
-/// taken, of no source more.
+/// Reads all bytes that the reader has left, if they are at most `most`. Stops at the first failed read,
+/// without a second try; an interrupted read is a failed one. Takes `most + 1` bytes from a longer source,
+/// and never more.
 pub fn read_whole<R: Source>(
     alloc: Global,
     reader: &mut R,

@@ -10,9 +10,9 @@ use std::fs::File;
 use std::io::{self, Stderr, Stdout, Write};
 use std::net::TcpStream;
 
-/// A writer that says when a write to it may have failed. A function that writes through it says only
-/// then that the writer failed. For a writer of your own, let `may_have_failed` be `{ λ _. ⊤ }`, and
-/// let `write_once` call `write`.
+/// A writer that says when a write to it may have failed. A function that writes through it reports a failed
+/// writer only then. For a writer of your own, let `may_have_failed` be `{ λ _. ⊤ }`, and let `write_once`
+/// call `write`.
 pub trait Sink: Write {
     /// The last write may have failed, or have taken no byte of a text.
     ghost may_have_failed: { Self → Type 0 };
@@ -33,7 +33,7 @@ impl<A: Allocator> Sink for Vec<u8, A> {
     }
 }
 
-/// A slice, which is written from its front on. A write to it fails only if it is full.
+/// A slice that is written from its front. A write to it fails only if it is full.
 impl Sink for &mut [u8] {
     ghost may_have_failed = { λ s. s.now ≡ [] };
 

@@ -9,8 +9,8 @@ use std::io::{self, Empty, Read, Stdin};
 use std::net::TcpStream;
 
 /// A reader that says when a read of it may have failed: never for bytes in memory, at any time for a
-/// device. A function that reads through it says only then that the reader failed. For a reader of your
-/// own, let `may_have_failed` be `{ λ _. ⊤ }`, and let `read_once` call `read`.
+/// device. A function that reads through it reports a failed reader only then. For a reader of your own, let
+/// `may_have_failed` be `{ λ _. ⊤ }`, and let `read_once` call `read`.
 pub trait Source: Read {
     /// The last read may have failed.
     ghost may_have_failed: { Self → Type 0 };
