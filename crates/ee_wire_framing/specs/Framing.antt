@@ -1,4 +1,4 @@
--- How a stream of bytes is split into requests: a head of the grammar of HTTP/1.x, and a body whose length the head states.
+-- How a stream of bytes is split into requests: a head by the grammar of HTTP/1.x, and a body with the length that the head states.
 use Rattle.std.specs.Prelude.{◌≡◌, ℕ, ◌<◌, ◌≤◌, ◌⊎◌, Bool, ◌&&◌, ◌||◌, ◌==◌, nat_lt, not, if◌then◌else◌, List, [], ◌∷◌, ◌++◌, length, map, codes, bytes_eq, Option, Some, None, Result, Ok, Err}
 use Rattle.std.specs.List.{list_all, list_any}
 use Rattle.std.specs.Char.{is_ascii_digit, to_ascii_lowercase}
@@ -11,35 +11,35 @@ use Rattle.ee_wire_framing.specs.declared.FramingFault.TheVariants.{BadHead, Hea
 
 -- ---- the limits
 
--- the most bytes of a head
+-- the maximum length of a head in bytes
 abbrev pub most_head : ℕ
 most_head = 16384
 
--- the most fields of a head
+-- the maximum number of fields in a head
 abbrev pub most_fields : ℕ
 most_fields = 32
 
--- the most bytes of a body
+-- the maximum length of a body in bytes
 abbrev pub most_body : ℕ
 most_body = 1048576
 
--- the most bytes that are held: a head, a body, and one read
+-- the maximum number of bytes held: a head, a body, and one read
 abbrev pub most_held : ℕ
 most_held = 1069056
 
 -- ---- the head
 
--- the bytes are the head h, of at most 16,384 bytes, and then rest
+-- the bytes are the head h, of at most 16,384 bytes, followed by rest
 abbrev pub BeginsHead : List ℕ → RequestHead → List ℕ → Type 0
 BeginsHead bytes h rest = ReadsRequest bytes h rest × (length (print_request h) ≤ most_head)
 
--- the lines so far, up to a line feed in the first 16,384 bytes, begin no head, whatever follows
+-- the lines up to some line feed in the first 16,384 bytes begin no head, whatever follows
 abbrev pub HasBadHead : List ℕ → Type 0
 HasBadHead bytes =
     (lines : List ℕ) × (rest : List ℕ) × (bytes ≡ lines ++ line_feed ∷ rest)
     × (length lines < most_head) × NeverHasRequest (lines ++ line_feed ∷ [])
 
--- neither is so: no head stands there yet, and one may come
+-- neither holds: the bytes contain no head yet, and may still become one
 pub record IsUndecided (bytes : List ℕ) : Type 0 where
   pub no_head : (h : RequestHead) (rest : List ℕ) → ¬ (BeginsHead bytes h rest)
   pub not_bad : ¬ (HasBadHead bytes)
@@ -50,16 +50,16 @@ pub record IsUndecided (bytes : List ℕ) : Type 0 where
 abbrev pub Pair : Type 0
 Pair = List ℕ × List ℕ
 
--- the same text, without regard to ASCII case
+-- the same text, ignoring ASCII case
 unfoldable pub same_word : List ℕ → List ℕ → Bool
 same_word a b = bytes_eq (map to_ascii_lowercase a) (map to_ascii_lowercase b)
 
--- the values of the fields of this name
+-- the values of the fields with this name
 abbrev pub values_of : List ℕ → List Pair → List (List ℕ)
 values_of name [] = []
 values_of name (f ∷ fs) = if same_word f.0 name then f.1 ∷ values_of name fs else values_of name fs
 
--- digits alone, and at least one
+-- one or more digits, and nothing else
 abbrev pub is_digits : List ℕ → Bool
 is_digits text = nat_lt 0 (length text) && list_all is_ascii_digit text
 
@@ -77,7 +77,7 @@ abbrev pub unless_coded : List (List ℕ) → Result ℕ FramingFault → Result
 unless_coded [] length = length
 unless_coded (coding ∷ codings) length = Err BadLength
 
--- the length of the body, or what is wrong with the fields that state it
+-- the length of the body, or the fault of the fields that state it
 abbrev pub body_length : List Pair → Result ℕ FramingFault
 body_length fields =
     if nat_lt most_fields (length fields) then Err BadHead
@@ -102,11 +102,11 @@ pub record Message : Type 0 where
   pub body : List ℕ
   pub closes : Bool
 
--- the message of a head with this body
+-- the message with this head and body
 abbrev pub message_of : RequestHead → List ℕ → Message
 message_of h body = record { method = h.method; target = h.target; body = body; closes = asks_to_close h }
 
--- the bytes begin with this message, and rest follows it
+-- the bytes begin with this message, followed by rest
 pub record BeginsMessage (bytes : List ℕ) (m : Message) (rest : List ℕ) : Type 0 where
   pub head : RequestHead
   pub body : List ℕ
@@ -114,7 +114,7 @@ pub record BeginsMessage (bytes : List ℕ) (m : Message) (rest : List ℕ) : Ty
   pub framed : body_length_of head ≡ Ok (length body)
   pub is : m ≡ message_of head body
 
--- no head within the limit stands there, for this cause
+-- the bytes begin with no head within the limit, for this cause
 abbrev pub LacksHead : List ℕ → FramingFault → Type 0
 LacksHead bytes BadHead = HasBadHead bytes
 LacksHead bytes HeadTooLong = IsUndecided bytes × (most_head ≤ length bytes)
@@ -122,18 +122,18 @@ LacksHead bytes Truncated = IsUndecided bytes × (0 < length bytes) × (length b
 LacksHead bytes BodyTooLong = ⊥
 LacksHead bytes BadLength = ⊥
 
--- a head stands there, whose fields are refused for this cause
+-- the bytes begin with a head whose fields are refused for this cause
 abbrev pub HasBadFields : List ℕ → FramingFault → Type 0
 HasBadFields bytes fault =
     (h : RequestHead) × (rest : List ℕ) × BeginsHead bytes h rest × (body_length_of h ≡ Err fault)
 
--- a head stands there, and not all of its body
+-- the bytes begin with a head, and lack a part of its body
 abbrev pub HasCutBody : List ℕ → Type 0
 HasCutBody bytes =
     (h : RequestHead) × (rest : List ℕ) × (n : ℕ) × BeginsHead bytes h rest
     × (body_length_of h ≡ Ok n) × (length rest < n)
 
--- no message comes next, for this cause
+-- the bytes begin with no message, for this cause
 abbrev pub BeginsFault : List ℕ → FramingFault → Type 0
 BeginsFault bytes fault =
     LacksHead bytes fault ⊎ HasBadFields bytes fault ⊎ ((fault ≡ Truncated) × HasCutBody bytes)
@@ -143,7 +143,7 @@ pub data Ending : Type 0 where
   end : Ending
   fault : FramingFault → Ending
 
--- this fault, or none
+-- ends with this fault, or without one
 abbrev pub ending_of : Option FramingFault → Ending
 ending_of None = end
 ending_of (Some f) = fault f
@@ -152,12 +152,12 @@ abbrev pub EndsWith : List ℕ → Ending → Type 0
 EndsWith bytes end = bytes ≡ []
 EndsWith bytes (fault f) = BeginsFault bytes f
 
--- the bytes begin with these messages, one after another, and rest follows them
+-- the bytes begin with these messages in order, followed by rest
 abbrev pub BeginsMessages : List ℕ → List Message → List ℕ → Type 0
 BeginsMessages bytes [] rest = bytes ≡ rest
 BeginsMessages bytes (m ∷ ms) rest = (after : List ℕ) × BeginsMessage bytes m after × BeginsMessages after ms rest
 
--- the bytes are these messages and end so
+-- the bytes are these messages, with this ending
 pub record Splits (bytes : List ℕ) (messages : List Message) (ending : Ending) : Type 0 where
   pub rest : List ℕ
   pub first : BeginsMessages bytes messages rest

@@ -1,4 +1,4 @@
--- What is known of the front of some bytes.
+-- What is known about the front of some bytes.
 use Rattle.std.specs.Prelude.{◌≡◌, ◌≢◌, ℕ, ◌+◌, ◌<◌, ◌≤◌, min, List, [], ◌∷◌, ◌++◌, length, take, drop, get_or, Option, Some, None}
 use Rattle.httparse.specs.Ascii.{line_feed}
 use Rattle.httparse.specs.Grammar.{LineEnd, lf, print_blank, RequestHead, ReadsRequest, HasNoRequest, NeverHasRequest, print_request}
@@ -19,7 +19,7 @@ use Rattle.ee_wire_framing.specs.Framing.{most_head, HasBadHead, IsUndecided, bo
 abbrev pub IsLines : List ℕ → Type 0
 IsLines bytes = (front : List ℕ) × (bytes ≡ front ++ line_feed ∷ [])
 
--- the bytes begin with the head h, and found is its summary
+-- the bytes begin with the head h, and `found` is its summary
 pub record IsHeadAt (bytes : List ℕ) (found : Head) (h : RequestHead) : Type 0 where
   pub reads : ReadsRequest bytes h (drop found.len bytes)
   pub len : found.len ≡ length (print_request h)
@@ -31,7 +31,7 @@ pub record IsHeadAt (bytes : List ℕ) (found : Head) (h : RequestHead) : Type 0
   pub body : found.body ≡ body_length_of h
   pub closes : found.closes ≡ asks_to_close h
 
--- no head begins the lines, and more bytes may change that
+-- the lines begin no head, and more bytes may change that
 pub record IsOpen (lines : List ℕ) : Type 0 where
   pub no_head : HasNoRequest lines
   pub not_bad : ¬ (NeverHasRequest lines)
@@ -40,15 +40,15 @@ pub record IsOpen (lines : List ℕ) : Type 0 where
 abbrev pub AreEmptyLines : List ℕ → Type 0
 AreEmptyLines lines = (ends : List LineEnd) × (lines ≡ print_blank ends)
 
--- the bytes are all lines of a head but the last, the empty one
+-- the bytes are all lines of a head except the last, which is empty
 abbrev pub AreFieldLines : List ℕ → Type 0
 AreFieldLines lines = (h : RequestHead) × ReadsRequest (lines ++ line_feed ∷ []) h [] × (h.last ≡ lf)
 
--- each line feed among the first n bytes leaves open what stands there
+-- at each line feed among the first n bytes, the lines so far are open
 abbrev pub AreOpen : List ℕ → ℕ → Type 0
 AreOpen bytes n = (k : ℕ) → k < n → get_or bytes k 0 ≡ line_feed → IsOpen (take (k + 1) bytes)
 
--- the last line feed from start on and before end, if there is one
+-- the last line feed at or after start and before end, if there is one
 abbrev pub IsLastLineFeed : List ℕ → ℕ → ℕ → Option ℕ → Type 0
 IsLastLineFeed bytes start end None = (k : ℕ) → start ≤ k → k < end → get_or bytes k 0 ≢ line_feed
 IsLastLineFeed bytes start end (Some at) =
@@ -58,12 +58,12 @@ abbrev pub length_of : Lines → ℕ
 length_of (lines.Empty n) = n
 length_of (lines.Fields n) = n
 
--- the bytes begin with such lines
+-- the bytes begin with these lines
 abbrev pub BeginsLines : List ℕ → Lines → Type 0
 BeginsLines bytes (lines.Empty n) = AreEmptyLines (take n bytes)
 BeginsLines bytes (lines.Fields n) = AreFieldLines (take n bytes)
 
--- the bytes begin with these lines, and no line feed comes after them among the first n bytes
+-- the bytes begin with these lines, without a line feed after them among the first n bytes
 pub record AreLinesUpTo (bytes : List ℕ) (tested : Lines) (n : ℕ) : Type 0 where
   pub begins : BeginsLines bytes tested
   pub ordered : length_of tested ≤ n
@@ -77,18 +77,18 @@ Judges lines (Found found) = (h : RequestHead) × IsHeadAt lines found h
 Judges lines Bad = NeverHasRequest lines
 Judges lines (Partial tested) = (length_of tested ≡ length lines) × BeginsLines lines tested
 
--- what stands at the front of the bytes
+-- what the bytes begin with
 abbrev pub Finds : List ℕ → Verdict → Type 0
 Finds bytes (Found found) = (h : RequestHead) × IsHeadAt bytes found h × (found.len ≤ most_head)
 Finds bytes Bad = HasBadHead bytes
 Finds bytes (Partial tested) = IsUndecided bytes × AreLinesUpTo bytes tested (min (length bytes) most_head)
 
--- what earlier tests said of the bytes: the lines among so many of them, or a head
+-- what earlier tests found in the bytes: lines within the first n bytes, or a head
 abbrev pub Knows : List ℕ → Progress → Type 0
 Knows bytes (progress.Tested tested n) = AreLinesUpTo bytes tested n
 Knows bytes (progress.Found found) = (h : RequestHead) × IsHeadAt bytes found h × (found.len ≤ most_head)
 
--- what was found of the values of a name
+-- the values that were found for a name
 abbrev pub AreValues : List ℕ → List (List ℕ) → Values → Type 0
 AreValues lines vs values.None = vs ≡ []
 AreValues lines vs (values.One s) = IsWithin (length lines) s × (vs ≡ span_bytes lines s ∷ [])

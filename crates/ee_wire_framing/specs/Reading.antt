@@ -1,4 +1,4 @@
--- What a call of `next_message` says of the bytes.
+-- What a call of `next_message` says about the bytes.
 use Rattle.std.specs.Prelude.{◌≡◌, ℕ, ◌<◌, ◌≤◌, ◌⊎◌, List, [], ◌++◌, length, take, drop, slice_range, Option, Some, None, Result, Ok, Err, IfSome, ⊤}
 use Rattle.std.specs.Io.KnownBytes.{Keeps, Consumes, IsAtEnd, prepend_known}
 use Rattle.ee_wire_framing.specs.declared.FramingFault.{FramingFault}
@@ -20,11 +20,11 @@ use Rattle.ee_wire_framing.specs.Framing.{most_head, BeginsMessage, BeginsFault,
 abbrev pub Answer : Type 0
 Answer = Result Next WireEnd
 
--- what is still to be answered: what was read, and what will be
+-- the bytes that are still to be answered: those read, and those to be read
 abbrev pub left : Stream → Option (List ℕ) → Option (List ℕ)
 left stream remaining = prepend_known stream.held remaining
 
--- the message whose parts stand in these bytes
+-- the message whose parts are in these bytes
 abbrev pub message_in : List ℕ → Message → framing.Message
 message_in bytes m = record {
   method = slice_range bytes m.method.start m.method.end;
@@ -33,17 +33,17 @@ message_in bytes m = record {
   closes = m.closes;
 }
 
--- known bytes begin with the message, and lose it
+-- known bytes begin with the message, which is removed
 abbrev pub Gives : framing.Message → Option (List ℕ) → Option (List ℕ) → Type 0
 Gives m None new = ⊤
 Gives m (Some bytes) None = ⊥
 Gives m (Some bytes) (Some rest) = BeginsMessage bytes m rest
 
--- were these all the bytes, the stream would end here, or be cut
+-- if these were all the bytes, the stream would end here, or be cut
 abbrev pub NeedsMore : List ℕ → Type 0
 NeedsMore bytes = EndsWith bytes end ⊎ EndsWith bytes (fault Truncated)
 
--- what an answer says of the bytes before and after
+-- what an answer says about the bytes before and after
 abbrev pub Answers : Stream → Option (List ℕ) → Answer → Stream → Option (List ℕ) → Type 0
 Answers old before (Ok (next.Message m)) new after = Gives (message_in new.shown m) (left old before) (left new after)
 Answers old before (Ok next.End) new after = IfSome (left old before) (λ bytes. EndsWith bytes end)
@@ -51,28 +51,28 @@ Answers old before (Err (wire.Fault f)) new after = IfSome (left old before) (λ
 Answers old before (Err wire.ReadFailed) new after = Keeps (left old before) (left new after) × NeedsMore new.held
 Answers old before (Err wire.NoMemory) new after = Keeps (left old before) (left new after) × NeedsMore new.held
 
--- ---- the same by what is held, which says as much where nobody knows what the reader will give
+-- ---- the same for the bytes held, which also applies if nobody knows what the reader will give
 
--- the most bytes of one read
+-- the maximum number of bytes in one read
 abbrev pub most_read : ℕ
 most_read = 4096
 
--- no bytes were read after those held, or each read but the last left more to be read
+-- nothing was read beyond the bytes held, or each read except the last left more to be read
 abbrev pub AreNeeded : List ℕ → List ℕ → Type 0
 AreNeeded held got =
     (got ≡ []) ⊎ ((early : List ℕ) × (last : List ℕ) × (got ≡ early ++ last) × NeedsMore (held ++ early) × (length last ≤ most_read))
 
--- some bytes were read, as they were needed, and what was held, and they after it, is shown or held
+-- bytes were read as needed; those held and then these are what is now shown or held
 abbrev pub Takes : Stream → Option (List ℕ) → Stream → Option (List ℕ) → Type 0
 Takes old before new after =
     (got : List ℕ) × Consumes before after got × (new.shown ++ new.held ≡ old.held ++ got) × AreNeeded old.held got
 
--- the bytes begin the fault, whatever follows; or they are cut, and no more come
+-- the bytes begin with the fault, whatever follows; or they are cut, and no more come
 abbrev pub ShowsFault : List ℕ → Option (List ℕ) → FramingFault → Type 0
 ShowsFault bytes after f =
     ((more : List ℕ) → BeginsFault (bytes ++ more) f) ⊎ ((f ≡ Truncated) × BeginsFault bytes f × IsAtEnd after)
 
--- what stands in the bytes held that settles the answer, or that settles none; only those of a message are shown
+-- what the bytes held settle about the answer, if anything; only the bytes of a message are shown
 abbrev pub Settles : Answer → Stream → Option (List ℕ) → Type 0
 Settles (Ok (next.Message m)) new after = BeginsMessage (new.shown ++ new.held) (message_in new.shown m) new.held
 Settles (Ok next.End) new after = (new.shown ≡ []) × EndsWith new.held end × IsAtEnd after
@@ -93,7 +93,7 @@ answer_of stop.End = Ok next.End
 answer_of (stop.Fault f) = Err (wire.Fault f)
 answer_of stop.ReadFailed = Err wire.ReadFailed
 
--- ---- what stands at the front of the bytes so far
+-- ---- the front of the bytes so far
 
 abbrev pub IsFront : List ℕ → Front → Type 0
 IsFront bytes (front.Message m len) =
@@ -112,7 +112,7 @@ EndsAt bytes (Err wire.NoMemory) = ⊥
 
 -- ---- one read
 
--- n bytes came, and none only if no more come; or none came, and nothing changed
+-- n bytes were read, and none only if there are no more; or the read failed, and nothing changed
 abbrev pub ReadsMore : Stream → Option (List ℕ) → Result ℕ ReadFault → Stream → Option (List ℕ) → Type 0
 ReadsMore old before (Ok n) new after =
     (got : List ℕ) × (length got ≡ n) × (new ≡ record old { held = old.held ++ got }) × Consumes before after got

@@ -1,4 +1,4 @@
-//! Messages out of a reader, however it cuts the bytes.
+//! Reading messages from a reader, however it cuts the bytes.
 ghost use Rattle.std.specs.Prelude.{◌≡◌, ◌≤◌, ◌<◌, ◌+◌, [], length, take, drop, slice_range, IfSome, IfErr, Some, None};
 ghost use Rattle.ee_wire_framing.specs.Framing.{most_head, most_body, most_held};
 ghost use Rattle.ee_wire_framing.specs.Reading.{Answers, Takes, Settles, IsFront, ReadsMore, NeedsMore, EndsAt, stop_of, answer_of};
@@ -11,7 +11,7 @@ use httparse::spans::{EMPTY_HEADER_SPAN, HeaderSpan, Span};
 use std::alloc::Global;
 use std::marker::Model;
 
-/// How a stream ended, which each later call answers again.
+/// How a stream ended. Each later call returns the same again.
 #[derive(Clone, Copy, Debug, PartialEq, Eq)]
 pub enum Stop {
     End,
@@ -19,8 +19,8 @@ pub enum Stop {
     ReadFailed,
 }
 
-/// Where the parts of a message stand in the buffer, and whether it asks to close the connection
-/// (HTTP/1.0, or a header `Connection: close`).
+/// The positions of a message's parts in the buffer, and whether it asks to close the connection (HTTP/1.0,
+/// or a header `Connection: close`).
 #[derive(Clone, Copy, Debug, PartialEq, Eq)]
 pub struct Message {
     pub method: Span,
@@ -33,29 +33,29 @@ pub struct Message {
 #[derive(Clone, Copy, Debug, PartialEq, Eq)]
 pub enum Next {
     Message(Message),
-    /// The stream ends, before the first byte of a message.
+    /// The stream ends before the first byte of a message.
     End,
 }
 
-/// Why no message comes.
+/// Why there is no message.
 #[derive(Clone, Copy, Debug, PartialEq, Eq)]
 pub enum WireEnd {
-    /// The bytes are no message. Each later call answers this again.
+    /// The bytes are no message. Each later call returns this again.
     Fault(FramingFault),
-    /// The reader failed, or was interrupted. Each later call answers this again.
+    /// The reader failed, or was interrupted. Each later call returns this again.
     ReadFailed,
-    /// A growth was refused. No byte is lost, and the call may be made again.
+    /// Memory was refused. No byte is lost, and the call may be repeated.
     NoMemory,
 }
 
-/// Why a read brought nothing.
+/// Why a read gave nothing.
 pub enum ReadFault {
     Failed,
     NoMemory,
 }
 
-/// Bytes that were read: those of the message that was answered last, and those that come after
-/// it, at most `BUFFER_LIMIT` in all (1,069,056).
+/// Bytes that were read: those of the last message, and those that come after it; at most `BUFFER_LIMIT`
+/// (1,069,056) in all.
 #[derive(Drop)]
 pub struct Buffer {
     bytes: Vec<u8>,
@@ -78,7 +78,7 @@ impl Model for Buffer {
 }
 
 impl Buffer {
-    /// A buffer without bytes, for a new stream.
+    /// An empty buffer for a new stream.
     #[tactic(auto, using(crate::proofs::Tested::none_tested))]
     pub fn new(alloc: Global) -> Buffer
         ensures { result ≡ record { shown = []; held = []; ended = None } }
@@ -97,7 +97,7 @@ impl Buffer {
         self.ended
     }
 
-    /// A part of the message that was answered last: what of the range lies in it.
+    /// A part of the last message: the bytes of this range that lie in it.
     pub fn part(&self, span: Span) -> &[u8]
         ensures bytes { result.now ≡ slice_range self.now.shown span.start span.end }
         ensures room { length self.now.shown + length self.now.held ≤ most_held }
@@ -113,7 +113,7 @@ impl Buffer {
         &self.bytes[self.at..]
     }
 
-    /// What stands at the front of what is held.
+    /// What the bytes held begin with.
     fn front(&mut self, headers: &mut [HeaderSpan]) -> Front
         ensures front { IsFront self.old.held result }
         ensures same { self.new ≡ self.old }
@@ -123,7 +123,7 @@ impl Buffer {
         read_front(self.held(), verdict)
     }
 
-    /// Takes so many bytes as answered.
+    /// Marks the first `count` bytes as answered.
     #[tactic(auto, using(crate::proofs::Tested::none_tested))]
     fn show(&mut self, len: usize)
         requires fits { len ≤ length self.old.held }
@@ -134,7 +134,7 @@ impl Buffer {
         self.progress = Progress::Tested(Lines::Empty(0), 0);
     }
 
-    /// Lets go of what was answered.
+    /// Drops the bytes that were answered.
     fn discard(&mut self)
         ensures { self.new ≡ record { shown = []; held = self.old.held; ended = self.old.ended } }
     {
@@ -150,7 +150,7 @@ impl Buffer {
         self.ended = Some(stop);
     }
 
-    /// The end of the stream, after what is held.
+    /// The end of the stream, after the bytes held.
     fn at_end(&mut self) -> Result<Next, WireEnd>
         requires { NeedsMore self.old.held }
         ensures ends { EndsAt self.old.held result }
@@ -164,7 +164,7 @@ impl Buffer {
         Err(WireEnd::Fault(FramingFault::Truncated))
     }
 
-    /// One read.
+    /// Reads once.
     fn read_more<R: Source>(&mut self, reader: &mut R) -> Result<usize, ReadFault>
         requires none { self.old.shown ≡ [] }
         requires room { length self.old.held < most_head + most_body }
@@ -185,10 +185,10 @@ impl Buffer {
     }
 }
 
-/// The next message, or how the stream ends, whatever pieces the reader hands out. It reads at most
-/// 4,096 bytes at a time, only while what it holds decides nothing. A line of a head is tested when
-/// it has come, and not again as more comes; a head that came in pieces is read once more, as a
-/// whole. The parts of the message stay in the buffer until the next call.
+/// Returns the next message, or how the stream ends, however the reader cuts the bytes. Reads at most 4,096
+/// bytes at a time, and only while the bytes held settle nothing. Each line of a head is tested once, when
+/// it has come; a head that came in pieces is parsed once more as a whole. The parts of the message stay in
+/// the buffer until the next call.
 pub fn next_message<R: Source>(reader: &mut R, buffer: &mut Buffer) -> Result<Next, WireEnd>
     ensures answers { buffer.old.ended ≡ None
         → Answers buffer.old (R.remaining reader.old) result buffer.new (R.remaining reader.new) }

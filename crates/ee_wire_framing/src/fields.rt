@@ -1,4 +1,4 @@
-//! What the fields of a head say of the body and the connection.
+//! What the fields of a head say about the body and the connection.
 ghost use Rattle.std.specs.Prelude.{◌≡◌, ◌+◌, length, map, All, if◌then◌else◌, true, nat_le, ◌≤◌, ◌*◌};
 ghost use Rattle.std.specs.Char.{is_ascii_digit, digit_value};
 ghost use Rattle.httparse.specs.Spans.{IsHeaderWithin, header_bytes};
@@ -8,7 +8,7 @@ ghost use Rattle.ee_wire_framing.specs.Heads.{AreValues, next};
 use crate::{BODY_LIMIT, FramingFault, HEADER_LIMIT};
 use httparse::spans::{HeaderSpan, Span};
 
-/// The values of the fields of one name.
+/// The values of the fields with one name.
 #[derive(Clone, Copy)]
 pub enum Values {
     None,
@@ -44,7 +44,7 @@ fn values_of(lines: &[u8], fields: &[HeaderSpan], name: &[u8]) -> Values
     values
 }
 
-/// The number with one more digit, as long as it is within the limit.
+/// The number with one more digit, up to the limit.
 fn with_digit(value: usize, byte: u8) -> usize
     requires digit { is_ascii_digit byte ≡ true }
     requires small { value ≤ 10485769 }

@@ -1,4 +1,4 @@
-//! What stands at the front of some bytes.
+//! What some bytes begin with.
 ghost use Rattle.std.specs.Prelude.{◌≤◌};
 ghost use Rattle.httparse.specs.Grammar.{RequestHead};
 ghost use Rattle.ee_wire_framing.specs.Framing.{most_head};
@@ -10,24 +10,24 @@ use crate::head::{Head, Lines, Verdict, find_head};
 use crate::{FramingFault, HEAD_LIMIT};
 use httparse::spans::{HeaderSpan, Span};
 
-/// What earlier tests said of some bytes.
+/// What earlier tests found in some bytes.
 #[derive(Clone, Copy)]
 pub enum Progress {
-    /// These lines stand there, and so many bytes were tested.
+    /// The bytes begin with these lines; the second field is the number of bytes tested.
     Tested(Lines, usize),
-    /// This head stands there.
+    /// The bytes begin with this head.
     Found(Head),
 }
 
 /// What the bytes so far begin with.
 pub enum Front {
-    /// A message of so many bytes.
+    /// A message, and its length in bytes.
     Message(Message, usize),
     Fault(FramingFault),
     More,
 }
 
-/// What the parser says of the bytes; what was tested before isn't tested again.
+/// The parser's verdict on the bytes. What was tested before is not tested again.
 pub fn judge_front(bytes: &[u8], progress: Progress, headers: &mut [HeaderSpan]) -> Verdict
     requires { Knows bytes.now progress }
     ensures { Finds bytes.now result }
@@ -51,7 +51,7 @@ pub fn learn(bytes: &[u8], verdict: Verdict) -> Progress
     }
 }
 
-/// What the bytes so far begin with, by what the parser says of them.
+/// What the bytes begin with, given the parser's verdict.
 pub fn read_front(bytes: &[u8], verdict: Verdict) -> Front
     requires { Finds bytes.now verdict }
     ensures { IsFront bytes.now result }

@@ -1,4 +1,4 @@
-//! Where a head ends.
+//! Finding the end of a head.
 ghost use Rattle.std.specs.Prelude.{◌≡◌, ◌≤◌, ◌<◌, length, take, drop, true, false, MatchOption};
 ghost use Rattle.std.specs.List.{list_all};
 ghost use Rattle.httparse.specs.Grammar.{RequestHead};
@@ -25,7 +25,7 @@ use httparse::spans::{
 };
 use httparse::{Error, Status};
 
-/// What is kept of a head.
+/// The summary of a head.
 #[derive(Clone, Copy)]
 pub struct Head {
     pub method: Span,
@@ -35,25 +35,25 @@ pub struct Head {
     pub body: Result<usize, FramingFault>,
 }
 
-/// Whole lines that begin a head and don't end it, in so many bytes.
+/// Whole lines that begin a head and don't end it, by their length in bytes.
 #[derive(Clone, Copy)]
 pub enum Lines {
-    /// Empty lines, or none.
+    /// Empty lines, or none at all.
     Empty(usize),
     /// A request line and field lines, after any empty lines.
     Fields(usize),
 }
 
-/// What the parser says of some bytes.
+/// The parser's verdict on some bytes.
 #[derive(Clone, Copy)]
 pub enum Verdict {
     Found(Head),
     Bad,
-    /// These lines stand there so far.
+    /// The bytes begin with these lines so far.
     Partial(Lines),
 }
 
-/// Tests the lines from the first on, or says None where they have more headers than there is room.
+/// Tests the lines from the first on. `None` if there isn't room for their headers.
 fn judge(lines: &[u8], headers: &mut [HeaderSpan]) -> Option<Verdict>
     requires lines { IsLines lines.now }
     requires started { list_all is_newline lines.now ≡ false }
@@ -70,7 +70,7 @@ fn judge(lines: &[u8], headers: &mut [HeaderSpan]) -> Option<Verdict>
     }
 }
 
-/// Tests line ends that follow so many bytes of empty lines. They have no headers.
+/// Tests line ends after `tested` bytes of empty lines. They have no headers.
 fn judge_empty(lines: &[u8], tested: usize) -> Verdict
     requires lines { IsLines lines.now }
     requires tested { AreEmptyLines (take tested lines.now) }
@@ -85,8 +85,8 @@ fn judge_empty(lines: &[u8], tested: usize) -> Verdict
     }
 }
 
-/// Tests the lines that follow so many bytes of a request line and field lines, or says None where there
-/// are more headers than there is room.
+/// Tests the lines after `tested` bytes of a request line and field lines. `None` if there isn't room for
+/// the headers.
 fn judge_fields(lines: &[u8], tested: usize, headers: &mut [HeaderSpan]) -> Option<Verdict>
     requires lines { IsLines lines.now }
     requires tested { AreFieldLines (take tested lines.now) }
@@ -110,8 +110,8 @@ fn has_line_ends_alone(bytes: &[u8]) -> bool
     bytes.iter().all(|byte| *byte == b'\r' || *byte == b'\n')
 }
 
-/// Tests the lines that follow those that were tested before, or says None where there are more headers
-/// than there is room. A head that ends there is read once more, as a whole.
+/// Tests the lines after those that were tested before. `None` if there isn't room for the headers. A head
+/// that ends there is parsed once more, as a whole.
 fn judge_after(tested: Lines, lines: &[u8], headers: &mut [HeaderSpan]) -> Option<Verdict>
     requires lines { IsLines lines.now }
     requires tested { BeginsLines lines.now tested }
@@ -131,8 +131,8 @@ fn judge_after(tested: Lines, lines: &[u8], headers: &mut [HeaderSpan]) -> Optio
     }
 }
 
-/// The same with room for all headers that the limit of a head leaves. That room lies on the stack, and
-/// is cleared first: so it has a function of its own, for lines of more headers than a head may have.
+/// The same, with room for all headers that fit the limit of a head. That room is on the stack and is cleared
+/// first, so it is a function of its own, for lines with more headers than a message may have.
 #[cold]
 #[inline(never)]
 fn judge_many(tested: Lines, lines: &[u8]) -> Verdict
@@ -163,7 +163,7 @@ fn summary(lines: &[u8], headers: &[HeaderSpan], spans: RequestSpans) -> Head
     }
 }
 
-/// The last line feed among the bytes from `start` on and before `end`.
+/// The last line feed at or after `start` and before `end`.
 fn last_line_feed(bytes: &[u8], start: usize, end: usize) -> Option<usize>
     requires { end ≤ length bytes.now }
     ensures { IsLastLineFeed bytes.now start end result }
@@ -178,7 +178,7 @@ fn last_line_feed(bytes: &[u8], start: usize, end: usize) -> Option<usize>
     None
 }
 
-/// Tests the lines that follow those that were tested before, in this room where it is enough.
+/// Tests the lines after those that were tested before, in the given room if it is enough.
 fn judge_lines(tested: Lines, lines: &[u8], headers: &mut [HeaderSpan]) -> Verdict
     requires lines { IsLines lines.now }
     requires tested { BeginsLines lines.now tested }
@@ -192,8 +192,9 @@ fn judge_lines(tested: Lines, lines: &[u8], headers: &mut [HeaderSpan]) -> Verdi
     }
 }
 
-/// Looks for a head at the front of the bytes, of which so many were tested before: these lines,
-/// and no line feed after them. One test at the last line feed decides as much as a test at each.
+/// Looks for a head at the front of the bytes. The first `tested` bytes were tested before: they begin with
+/// these lines, without a line feed after them. One test at the last line feed settles as much as a test at
+/// each.
 pub fn find_head(bytes: &[u8], lines: Lines, tested: usize, headers: &mut [HeaderSpan]) -> Verdict
     requires { AreLinesUpTo bytes.now lines tested }
     ensures { Finds bytes.now result }

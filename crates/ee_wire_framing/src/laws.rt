@@ -1,4 +1,4 @@
-//! Laws of the definitions: the clauses are the laws.
+//! Laws of the definitions. The clauses state the laws.
 ghost use Rattle.std.specs.Prelude.{◌≡◌, List, ℕ};
 ghost use Rattle.ee_wire_framing.specs.Reading.{IsFront};
 ghost use Rattle.ee_wire_framing.specs.Framing.{most_head, most_fields, most_body, most_held, Message, Ending, ending_of, Splits};
@@ -8,7 +8,7 @@ use crate::head::{Lines, find_head};
 use crate::{BODY_LIMIT, BUFFER_LIMIT, FEW_HEADERS, FramingFault, HEAD_LIMIT, HEADER_LIMIT};
 use httparse::spans::{EMPTY_HEADER_SPAN, HeaderSpan};
 
-/// The limits of the code are those of the definitions.
+/// The limits in the code equal those in the definitions.
 pub const fn limits()
     ensures head { HEAD_LIMIT ≡ most_head }
     ensures fields { HEADER_LIMIT ≡ most_fields }
@@ -16,7 +16,7 @@ pub const fn limits()
     ensures held { BUFFER_LIMIT ≡ most_held }
 {}
 
-/// A stream is split in one way.
+/// A stream can be split in only one way.
 pub const fn one_split()
     ensures { (bytes : List ℕ) (ms ns : List Message) (d e : Ending) → Splits bytes ms d → Splits bytes ns e → (ms ≡ ns) × (d ≡ e) }
 {}
@@ -28,7 +28,7 @@ fn front_of(bytes: &[u8], headers: &mut [HeaderSpan]) -> Front
     read_front(bytes, find_head(bytes, Lines::Empty(0), 0, headers))
 }
 
-/// Every slice of bytes splits: into messages, and then nothing, or this fault.
+/// Every slice of bytes splits into messages, followed by nothing or by this fault.
 pub fn every_split(bytes: &[u8]) -> Option<FramingFault>
     ensures { (ms : List Message) × Splits bytes.now ms (ending_of result) }
 {

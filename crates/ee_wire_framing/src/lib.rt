@@ -1,5 +1,5 @@
-//! Requests of HTTP/1.x out of a stream of bytes, however a reader cuts them: heads of `httparse`'s
-//! grammar, and bodies whose length the head states.
+//! Requests of HTTP/1.x from a stream of bytes, however a reader cuts them: heads by `httparse`'s grammar,
+//! and bodies whose length the head states.
 #![tactic(auto)]
 
 mod buffer;
@@ -13,27 +13,27 @@ pub use httparse::spans::Span;
 pub use laws::{every_split, limits, one_split};
 use thiserror::Error;
 
-/// The most bytes of a head.
+/// The maximum length of a head in bytes.
 pub const HEAD_LIMIT: usize = 16_384;
-/// The most headers.
+/// The maximum number of headers.
 pub const HEADER_LIMIT: usize = 32;
-/// The most bytes of a body.
+/// The maximum length of a body in bytes.
 pub const BODY_LIMIT: usize = 1_048_576;
 
-/// The most bytes of one read.
+/// The maximum number of bytes in one read.
 const CHUNK: usize = 4_096;
-/// The most bytes that a `Buffer` holds: one message and one read.
+/// The maximum number of bytes in a `Buffer`: one message and one read.
 pub const BUFFER_LIMIT: usize = HEAD_LIMIT + BODY_LIMIT + CHUNK;
 
-/// Room for headers: no head within the limit has so many.
+/// Room for headers: more than fit into a head within the limit.
 const HEADER_ROOM: usize = 5_462;
 /// Room for headers that is tried first: more than a message may have.
 const FEW_HEADERS: usize = 64;
 
-/// Why a stream is no sequence of messages.
+/// Why a stream isn't a sequence of messages.
 #[derive(Clone, Copy, Debug, PartialEq, Eq, Error)]
 pub enum FramingFault {
-    /// The bytes begin no head, or one of more than 32 headers.
+    /// The bytes begin with no head, or with one that has more than 32 headers.
     #[error("no head of HTTP/1.x with at most 32 headers")]
     BadHead,
     /// No head ends within 16,384 bytes.
