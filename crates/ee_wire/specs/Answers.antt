@@ -1,4 +1,4 @@
--- The bytes of an answer (this project's rule): its status, its body and its head.
+-- The bytes of a response (this project's rule): its status, its body and its head.
 use Rattle.std.specs.Prelude.{ℕ, Bool, true, false, ◌||◌, List, [], ◌++◌, length, codes, Option, Some, None, Result, Ok, Err}
 use Rattle.std.specs.Io.KnownBytes.{Appends}
 use Rattle.serde_json.specs.Data.{Data, number, unsigned, string, object, Members, no_members, member}
@@ -73,12 +73,12 @@ kind_of (answer.Unserved cause) = kind.Json
 abbrev pub number_data : ℕ → Data
 number_data n = number (unsigned n)
 
--- the text, or the empty one
+-- the text, or an empty text for None
 abbrev pub text_or_none : (ℕ → List ℕ) → Option ℕ → List ℕ
 text_or_none text None = []
 text_or_none text (Some n) = text n
 
--- a row without its serial
+-- a row without its serial number
 abbrev pub row_data : Row → Data
 row_data r =
     object (member (codes "denom") (number_data (dollars r.denom)) (member (codes "final") (string (text_or_none month_text r.final_maturity))
@@ -113,7 +113,7 @@ not_found = codes "{\"code\":69,\"fault\":\"NotFound\"}"
 abbrev pub no_rate : List ℕ
 no_rate = codes "{\"code\":30,\"refused\":\"NoRate\"}"
 
--- the text of a fault; want of memory is told as a request that wasn't served
+-- the text of a fault; want of memory is reported as a request that wasn't served
 abbrev pub fault_text : WireFault → List ℕ
 fault_text (fault.Framing cause) = compact_text (fault_data (fault.Framing cause))
 fault_text fault.BadJson = compact_text (fault_data fault.BadJson)
@@ -122,7 +122,7 @@ fault_text fault.NoRoute = compact_text (fault_data fault.NoRoute)
 fault_text fault.BadMethod = compact_text (fault_data fault.BadMethod)
 fault_text fault.NoMemory = unserved_text unserved.NoMemory
 
--- a ticket and a batch have the text of the reply that made them
+-- a ticket or a batch has the text of the reply that made it
 abbrev pub body_of : Answer → List ℕ
 body_of (answer.Reply reply) = reply_text reply
 body_of (answer.Sheet sheet) = sheet_text sheet
@@ -135,7 +135,7 @@ body_of (answer.Batch None) = not_found
 body_of (answer.Fault fault) = fault_text fault
 body_of (answer.Unserved cause) = unserved_text cause
 
--- ---- the whole
+-- ---- the whole response
 
 -- the connection ends with the answer to a framing fault
 abbrev pub ends_connection : Answer → Bool
@@ -152,15 +152,15 @@ ends_connection (answer.Fault fault.BadMethod) = false
 ends_connection (answer.Fault fault.NoMemory) = false
 ends_connection (answer.Unserved cause) = false
 
--- an answer of this body
+-- a response with this body
 unfoldable pub whole_text : Status → Kind → List ℕ → Bool → List ℕ
 whole_text status kind body closes = head_text status kind (length body) closes ++ body
 
--- the bytes of an answer; closing: the connection ends with it
+-- the bytes of a response; closing: the connection ends with it
 abbrev pub answer_text : Answer → Bool → List ℕ
 answer_text a closing = whole_text (status_of a) (kind_of a) (body_of a) (closing || ends_connection a)
 
--- the cause, where the answer says that nothing was served
+-- the cause, if the answer says that nothing was served
 abbrev pub unserved_in : Answer → Option Unserved
 unserved_in (answer.Reply reply) = None
 unserved_in (answer.Sheet sheet) = None
@@ -175,7 +175,7 @@ unserved_in (answer.Fault fault.BadMethod) = None
 unserved_in (answer.Fault fault.NoMemory) = Some unserved.NoMemory
 unserved_in (answer.Unserved cause) = Some cause
 
--- what a writer has taken of an answer: all of it, a front of it where the writer failed, or nothing
+-- what a writer has taken of a response: all of it; only its front if the writer failed; or nothing
 abbrev pub WritesAnswer : List ℕ → Option (List ℕ) → Option (List ℕ) → Result (Unit {0}) WriteEnd → Type 0
 WritesAnswer text old new (Ok u) = WritesFront old new text true
 WritesAnswer text old new (Err written.WriteFailed) = WritesFront old new text false

@@ -1,11 +1,11 @@
--- The head of an answer (RFC 9112, section 4; its headers are this project's rule).
+-- The head of a response (RFC 9112, section 4; its headers are this project's rule).
 use Rattle.std.specs.Prelude.{ℕ, Bool, if◌then◌else◌, List, [], ◌∷◌, ◌++◌, codes, decimal}
 use Rattle.ee_wire.specs.declared.answers.Status.{Status}
 use Rattle.ee_wire.specs.declared.answers.Status.TheVariants as status
 use Rattle.ee_wire.specs.declared.answers.Kind.{Kind}
 use Rattle.ee_wire.specs.declared.answers.Kind.TheVariants as kind
 
--- a text, CR and LF
+-- a text, followed by CR and LF
 unfoldable pub line : List ℕ → List ℕ
 line text = text ++ 13 ∷ 10 ∷ []
 
@@ -25,7 +25,7 @@ kind_line kind.Text = codes "Content-Type: text/plain"
 abbrev pub closing_line : Bool → List ℕ
 closing_line closes = if closes then line (codes "Connection: close") else []
 
--- the head of an answer with a body of so many bytes
+-- the head of a response with a body of `length` bytes
 unfoldable pub head_text : Status → Kind → ℕ → Bool → List ℕ
 head_text status kind length closes =
     line (status_line status)

@@ -1,4 +1,4 @@
-//! Answers, their status and the kind of their body.
+//! Answers, with their status and the kind of their body.
 
 ghost use Rattle.std.specs.Prelude.{◌≡◌};
 ghost use Rattle.ee_wire.specs.Answers.{status_of, status_of_fault, kind_of, ends_connection};
@@ -9,18 +9,18 @@ use ee_wire_calls::WireFault;
 use ee_wire_framing::FramingFault;
 use thiserror::Error;
 
-/// What a message is answered by.
+/// The answer to a message.
 #[derive(Drop)]
 pub enum Answer {
     /// The reply to a request.
     Reply(Reply),
     /// The sheet of an owner's bonds.
     Sheet(Sheet),
-    /// The row of a bond, or none where no rates are held for its month of issue.
+    /// The row of a bond, or `None` if its issue period has no rates.
     Row(Option<Row>),
-    /// The ticket, or none of that number.
+    /// The ticket, or `None` if there is none with that number.
     Ticket(Option<Ticket>),
-    /// The batch, or none of that day.
+    /// The batch, or `None` if that day has none.
     Batch(Option<Batch>),
     /// Why the message asks for nothing.
     Fault(WireFault),
@@ -28,13 +28,13 @@ pub enum Answer {
     Unserved(Unserved),
 }
 
-/// Why an answer isn't written whole.
+/// Why a response wasn't written whole.
 #[derive(Clone, Copy, Debug, PartialEq, Eq, Error)]
 pub enum WriteEnd {
-    /// The writer failed. It has taken a front of the answer, and not all of it.
+    /// The writer failed. It has taken the front of the response, and not all of it.
     #[error("the writer failed")]
     WriteFailed,
-    /// A growth was refused, before the first byte.
+    /// Memory was refused, before the first byte was written.
     #[error("no memory")]
     NoMemory,
 }
@@ -51,7 +51,7 @@ pub enum Status {
     ServiceUnavailable,
 }
 
-/// What the body of an answer is.
+/// The kind of a response's body.
 #[derive(Clone, Copy)]
 pub enum Kind {
     Json,
@@ -77,7 +77,7 @@ fn status_of_fault(fault: WireFault) -> Status
 }
 
 impl Answer {
-    /// The status that stands at the front of the answer.
+    /// The status of the response.
     pub fn status(&self) -> Status
         ensures { result ≡ status_of self.now }
     {
@@ -94,7 +94,7 @@ impl Answer {
         }
     }
 
-    /// What the body of the answer is.
+    /// The kind of the response's body.
     pub fn kind(&self) -> Kind
         ensures { result ≡ kind_of self.now }
     {
@@ -104,7 +104,7 @@ impl Answer {
         }
     }
 
-    /// Whether the connection ends with the answer, whatever else: a framing fault.
+    /// Whether the connection ends with this answer in any case: a framing fault.
     pub fn ends_connection(&self) -> bool
         ensures { result ≡ ends_connection self.now }
     {

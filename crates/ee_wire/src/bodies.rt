@@ -1,4 +1,4 @@
-//! The bodies of answers.
+//! The bodies of responses.
 ghost use Rattle.std.specs.Prelude.{◌≡◌, IfOk, string_bytes};
 ghost use Rattle.serde_json.specs.Written.{compact_text};
 ghost use Rattle.ee_calculator.specs.Sheets.{sheet_text};

@@ -1,4 +1,4 @@
-//! The head of an answer.
+//! The head of a response.
 ghost use Rattle.std.specs.Prelude.{◌≡◌, ◌++◌, IfOk, OnOk};
 ghost use Rattle.ee_wire.specs.Heads.{line, status_line, kind_line, closing_line, head_text};
 
@@ -28,7 +28,7 @@ fn kind_line(kind: Kind) -> &'static str
     }
 }
 
-/// Adds a line, ended by CR LF.
+/// Appends a line, followed by CR LF.
 #[tactic(auto, unfolding(crate::specs::Heads::line))]
 fn push_line(out: &mut Vec<u8>, text: &str) -> Result<(), AllocError>
     ensures { OnOk result (out.new.items ≡ out.old.items ++ line text.now) }
@@ -37,7 +37,7 @@ fn push_line(out: &mut Vec<u8>, text: &str) -> Result<(), AllocError>
     out.extend_from_slice(b"\r\n")
 }
 
-/// Adds the line that says that the connection ends, where it does.
+/// Appends the line which says that the connection ends, if it does.
 fn push_closing(out: &mut Vec<u8>, closing: bool) -> Result<(), AllocError>
     ensures { OnOk result (out.new.items ≡ out.old.items ++ closing_line closing) }
 {
@@ -47,7 +47,7 @@ fn push_closing(out: &mut Vec<u8>, closing: bool) -> Result<(), AllocError>
     Ok(())
 }
 
-/// The head of an answer whose body has so many bytes.
+/// The head of a response whose body has `length` bytes.
 pub fn head_text(
     alloc: Global,
     status: Status,

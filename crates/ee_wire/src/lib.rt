@@ -1,4 +1,4 @@
-//! HTTP messages: requests out of a stream, what they ask for, and the bytes of the answers.
+//! HTTP messages: requests from a stream, what they ask for, and the bytes of the responses.
 #![tactic(auto)]
 
 mod answers;

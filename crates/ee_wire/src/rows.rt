@@ -39,7 +39,7 @@ fn write_rate_member(
     }
 }
 
-/// Writes the row, without a serial; what is empty is the empty string.
+/// Writes the row without its serial number; an empty column is an empty string.
 pub fn write_row(alloc: Global, out: &mut Writer, row: &Row) -> Result<(), AllocError>
     ensures { AddsData result out.old out.new (row_data row.now) }
 {

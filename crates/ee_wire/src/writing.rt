@@ -1,4 +1,4 @@
-//! Writing the bytes of an answer.
+//! Writing the bytes of a response.
 
 ghost use Rattle.std.specs.Prelude.{◌≡◌, ◌≢◌, IfOk, IfErr, Err, is_some, true};
 ghost use Rattle.ee_wire.specs.Answers.{status_of, kind_of, body_of, whole_text, answer_text, unserved_in, WritesAnswer};
@@ -13,7 +13,7 @@ use ee_device::{Sink, write_whole};
 use ee_wire_calls::WireFault;
 use std::alloc::{AllocError, Global};
 
-/// Why the answer says that nothing was served, where it does.
+/// The cause, if the answer says that nothing was served.
 fn unserved_in(answer: &Answer) -> Option<Unserved>
     ensures { result ≡ unserved_in answer.now }
 {
@@ -61,10 +61,10 @@ fn write_text<W: Sink>(writer: &mut W, text: &[u8]) -> Result<(), WriteEnd>
     }
 }
 
-/// Writes an answer: its head, which says `Connection: close` where the connection ends with it
-/// (`closing`, or a framing fault), and its body. Where the writer fails, it has taken a front of the
-/// answer. Where a growth is refused, nothing is written; `Unserved`, and the fault `NoMemory`, which
-/// is told as it, take no memory.
+/// Writes a response: its head, which says `Connection: close` if the connection ends with it (`closing`, or a
+/// framing fault), and its body. If the writer fails, it has taken only the front of the response. If memory
+/// is refused, nothing is written. `Unserved`, and the fault `NoMemory`, which has the same response, take no
+/// memory.
 pub fn write_reply<W: Sink>(
     alloc: Global,
     writer: &mut W,
