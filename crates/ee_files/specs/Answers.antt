@@ -1,4 +1,4 @@
--- What a call answers of a file.
+-- The results of calls on a file.
 use Rattle.std.specs.Prelude.{◌≡◌, ◌≢◌, ℕ, List, Option, Result, Ok, Err, true, false, ⊤}
 use Rattle.ee_device.specs.Written.{WritesFront}
 use Rattle.ee_files.specs.declared.faults.FileCode.{FileCode}
@@ -7,7 +7,7 @@ use Rattle.ee_files.specs.declared.faults.FileFault.{FileFault}
 use Rattle.ee_files.specs.declared.faults.WriteFault.{WriteFault}
 use Rattle.ee_files.specs.declared.faults.WriteFault.TheVariants as fault
 
--- a fault is the first of the file; but a failed read and want of memory tell nothing of it, and name row 1
+-- a fault is the first of the file; a failed read and want of memory say nothing about the file, and name row 1
 abbrev pub Fails : {Y : Type 0} → ℕ → FileCode → Result Y FileFault → Type 0
 Fails row code.NoMemory read = row ≡ 1
 Fails row code.ReadFailed read = row ≡ 1
@@ -25,19 +25,19 @@ TellsNothing code.WrongFieldCount = ⊥
 TellsNothing (code.BadValue column) = ⊥
 TellsNothing code.FileTooLong = ⊥
 
--- the fault says nothing of a failed read
+-- the fault is none of a failed read
 abbrev pub WasRead : FileFault → Type 0
 WasRead e = e.code ≢ code.ReadFailed
 
 abbrev pub Unreadable : FileFault → Type 0
 Unreadable e = (e.row ≡ 1) × TellsNothing e.code
 
--- the answer is what the file gives, or says that the file couldn't be read
+-- the result is that of the file, or says that the file couldn't be read
 abbrev pub Gives : {X Y : Type 0} → (X → Y) → Result X FileFault → Result Y FileFault → Type 0
 Gives view (Ok x) read = read ≡ Ok (view x)
 Gives view (Err e) read = Fails e.row e.code read
 
--- what stands in the writer: the text; where the writer failed a front of it, and not all; without memory, nothing of it
+-- what the writer has taken: the text; only its front if the writer failed; nothing if memory was refused
 abbrev pub Unwritten : {W : Type 0} → (W → Option (List ℕ)) → W → W → List ℕ → WriteFault → Type 0
 Unwritten contents old new text fault.WriteFailed = WritesFront (contents old) (contents new) text false
 Unwritten contents old new text fault.NoMemory = new ≡ old

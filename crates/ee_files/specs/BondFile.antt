@@ -18,7 +18,7 @@ use Rattle.ee_files.specs.declared.faults.FileFault.{FileFault}
 abbrev pub bond_columns : List Column
 bond_columns = column.Serial ∷ column.Denom ∷ column.Issued ∷ column.Owner ∷ column.Coowner ∷ []
 
--- an empty field is no coowner
+-- an empty field means no coowner
 abbrev pub coowner_of : Bytes → Option (Option ℕ)
 coowner_of [] = Some None
 coowner_of (b ∷ bs) = option_map Some (customer_of (b ∷ bs))
@@ -38,16 +38,16 @@ bond_entry row fields = if length fields == 5 then (do
 abbrev pub bonds_of_file : Bytes → Result (List Bond) FileFault
 bonds_of_file bytes = rows_of_file (bond_columns ∷ []) (λ _. bond_entry) bytes
 
--- no coowner is an empty field
+-- no coowner is written as an empty field
 abbrev pub coowner_text : Option ℕ → Bytes
 coowner_text None = []
 coowner_text (Some c) = decimal c
 
--- the fields that are written of a bond
+-- the fields of a bond
 abbrev pub bond_fields : Bond → List Bytes
 bond_fields b = serial_text b.serial ∷ decimal (dollars b.denom) ∷ month_text b.issued ∷ decimal b.owner ∷ coowner_text b.coowner ∷ []
 
--- the header, and a line for each bond, in order
+-- the header, and one line for each bond, in order
 unfoldable pub inventory_text : List Bond → Bytes
 inventory_text bonds = flat_map (row_text default_writer) (header_of bond_columns ∷ map bond_fields bonds)
 

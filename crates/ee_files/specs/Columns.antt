@@ -3,7 +3,7 @@ use Rattle.std.specs.Prelude.{ℕ, List, codes}
 use Rattle.ee_files.specs.declared.columns.Column.{Column}
 use Rattle.ee_files.specs.declared.columns.Column.TheVariants as column
 
--- a column's name, as it stands in a header
+-- a column's name in a header
 abbrev pub column_name : Column → List ℕ
 column_name column.From = codes "from"
 column_name column.Rate = codes "rate"

@@ -1,4 +1,4 @@
--- The faults of files, by number and text (this project's rule).
+-- The faults of files, by code and text (this project's rule).
 use Rattle.std.specs.Prelude.{ℕ, List, ◌++◌, codes}
 use Rattle.std.specs.Fmt.{decimal}
 use Rattle.ee_files.specs.declared.faults.FileCode.{FileCode}

@@ -9,7 +9,7 @@ use Rattle.ee_files.specs.declared.faults.FileFault.{FileFault}
 abbrev pub Bytes : Type 0
 Bytes = List ℕ
 
--- the first fault, else the next step
+-- stops at the first fault, and otherwise continues
 infixl 10 ◌>>=◌
 abbrev pub ◌>>=◌ : {A B : Type 0} → Result A FileFault → (A → Result B FileFault) → Result B FileFault
 (Ok x) >>= f = f x
@@ -19,7 +19,7 @@ abbrev pub ◌>>=◌ : {A B : Type 0} → Result A FileFault → (A → Result B
 abbrev pub text_of : Option Bytes → Option Bytes
 text_of field = option_and_then (λ f. if is_utf8 f then Some f else None) field
 
--- the value that a field spells, all of it: no space is trimmed, and a field that is no text spells none
+-- the value that a whole field spells: no space is trimmed, and a field that is no text spells no value
 abbrev pub field_value : {A : Type 0} → (Bytes → Option A) → Option Bytes → Option A
 field_value read field = option_and_then read (text_of field)
 

@@ -16,7 +16,7 @@ pub record HasLeft (reader : TextReader) (rest : List (List (List ℕ))) : Type 
   pub source : source_of (λ s. Some s.now) reader ≡ Some text
   pub records : AreRecords default_config (reader_state reader) text rest
 
--- what a read gives of these records
+-- the result of reading the next of these records
 abbrev pub TakesNext : TextReader → List (List (List ℕ)) → Bool → List (List ℕ) → Type 0
 TakesNext after [] found fields = found ≡ false
 TakesNext after (record_fields ∷ rest) found fields = (found ≡ true) × (fields ≡ record_fields) × HasLeft after rest

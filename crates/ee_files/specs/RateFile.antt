@@ -19,16 +19,16 @@ rate_columns = column.From ∷ column.Rate ∷ []
 abbrev pub extended_columns : List Column
 extended_columns = column.From ∷ column.Rate ∷ column.Extension ∷ []
 
--- an empty field names no extension
+-- an empty field means no extension
 abbrev pub extension_of : Bytes → Option (Option ℕ)
 extension_of [] = Some None
 extension_of (b ∷ bs) = option_map Some (rate_of (b ∷ bs))
 
--- the extension of a record under a header of so many fields
+-- the extension of a record, given the number of fields in the header
 abbrev pub extension_at : ℕ → ℕ → List Bytes → Result (Option ℕ) FileFault
 extension_at width row fields = if width == 3 then value_at row column.Extension extension_of (field_at fields 2) else Ok None
 
--- the row of one record under a header of so many fields, or its first fault from the left
+-- the row of one record, given the number of fields in the header, or its first fault from the left
 unfoldable pub rate_entry : ℕ → ℕ → List Bytes → Result RateRow FileFault
 rate_entry width row fields = if length fields == width then (do
   from ← value_at row column.From issue_of (field_at fields 0)

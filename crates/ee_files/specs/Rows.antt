@@ -11,7 +11,7 @@ use Rattle.ee_files.specs.declared.columns.Column.{Column}
 use Rattle.ee_files.specs.declared.faults.FileCode.TheVariants.{BadHeader, FileTooLong}
 use Rattle.ee_files.specs.declared.faults.FileFault.{FileFault}
 
--- the rows of the records from this row on, at most so many, or the first fault
+-- the rows of the records from this row on, up to a maximum, or the first fault
 unfoldable pub rows_from : {A : Type 0} → (ℕ → List Bytes → Result A FileFault) → ℕ → ℕ → List (List Bytes) → Result (List A) FileFault
 rows_from entry row zero rest = Ok []
 rows_from entry row (suc most) [] = Ok []
@@ -20,30 +20,30 @@ rows_from entry row (suc most) (fields ∷ rest) = do
   others ← rows_from entry (row + 1) most rest
   Ok (first ∷ others)
 
--- whether two records have the same fields
+-- two records have the same fields
 abbrev pub same_fields : List Bytes → List Bytes → Bool
 same_fields fields others = pointwise bytes_eq fields others
 
--- whether the field at a place is this column's name
+-- the field at this position is the column's name
 abbrev pub name_at : List Bytes → ℕ → Column → Bool
 name_at fields place column = bytes_eq (unwrap_or (field_at fields place) []) (column_name column)
 
 abbrev pub header_of : List Column → List Bytes
 header_of columns = map column_name columns
 
--- whether a record is one of the headers
+-- the record is one of the headers
 abbrev pub is_header : List (List Column) → List Bytes → Bool
 is_header headers fields = list_any (λ columns. same_fields fields (header_of columns)) headers
 
--- the first 501 rows under one of the headers, whose count of fields decides what a record is read as; a file with no
--- record has no rows
+-- the first 501 rows under one of the headers; the number of fields in the header decides how a record is read; a file
+-- without a record has no rows
 unfoldable pub rows_of_records : {A : Type 0} → List (List Column) → (ℕ → ℕ → List Bytes → Result A FileFault) → List (List Bytes)
     → Result (List A) FileFault
 rows_of_records headers entry [] = Ok []
 rows_of_records headers entry (header ∷ rest) =
     if is_header headers header then rows_from (entry (length header)) 2 501 rest else Err (record { row = 1; code = BadHeader })
 
--- the rows of a file: at most 1,048,576 bytes, and a byte order mark before the first record is dropped
+-- the rows of a file of at most 1,048,576 bytes; a byte order mark before the first record is dropped
 unfoldable pub rows_of_file : {A : Type 0} → List (List Column) → (ℕ → ℕ → List Bytes → Result A FileFault)
     → Bytes → Result (List A) FileFault
 rows_of_file headers entry bytes = if nat_lt 1048576 (length bytes) then Err (record { row = 1; code = FileTooLong })

@@ -5,21 +5,21 @@ use std::fmt;
 /// A column of a file.
 #[derive(Clone, Copy, Debug, PartialEq, Eq)]
 pub enum Column {
-    /// The month from which rates hold.
+    /// The month from which rates apply.
     From,
     /// The fixed rate.
     Rate,
-    /// The extension, or nothing.
+    /// The extension; may be empty.
     Extension,
     /// A bond's serial number.
     Serial,
-    /// Its denomination.
+    /// The bond's denomination.
     Denom,
-    /// Its month of issue.
+    /// The bond's issue month.
     Issued,
-    /// Its owner.
+    /// The bond's owner.
     Owner,
-    /// Its coowner, or nothing.
+    /// The bond's coowner; may be empty.
     Coowner,
 }
 
@@ -27,7 +27,7 @@ impl Column {
     ghost use Rattle.std.specs.Prelude.{◌≡◌};
     ghost use Rattle.ee_files.specs.Columns.{column_name};
 
-    /// The name that stands in a file's header.
+    /// The column's name in a header.
     pub const fn name(self) -> &'static str
         ensures { result.now ≡ column_name self }
     {
@@ -44,7 +44,7 @@ impl Column {
     }
 }
 
-/// The column's name.
+/// Prints the column's name.
 impl fmt::Display for Column {
     ghost use Rattle.std.specs.Prelude.{Some};
     ghost use Rattle.ee_files.specs.Columns.{column_name};

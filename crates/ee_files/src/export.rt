@@ -1,4 +1,4 @@
-//! Inventory files, written.
+//! Writing inventory files.
 
 ghost use Rattle.std.specs.Prelude.{◌≡◌, All, Some, IfOk, IfErr, OnOk, string_bytes};
 ghost use Rattle.csv.specs.Writing.{default_writer, row_text, text_written};
@@ -16,9 +16,9 @@ use ee_device::{Sink, write_whole};
 use ee_units::Customer;
 use std::alloc::{AllocError, Global};
 
-/// Writes an inventory file: the header, and a line for each bond in the order given. Memory is taken
-/// before the first byte. Where the writer fails, it has taken a front of the file. Each bond's values are
-/// in range, by their types, so the file of up to 500 bonds reads back as they are: `inventory_law`.
+/// Writes an inventory file: the header, and one line for each bond, in the given order. Takes memory only
+/// before the first byte. If the writer fails, it has taken only the front of the file. Each bond's values
+/// are in range, by their types, so a file of up to 500 bonds reads back as these bonds (`inventory_law`).
 pub fn write_inventory<W: Sink>(
     alloc: Global,
     writer: &mut W,
@@ -51,7 +51,7 @@ fn inventory_bytes(alloc: Global, bonds: &[Bond]) -> Result<Vec<u8>, WriteFault>
     }
 }
 
-// A writer that holds the header.
+// A writer that has written the header.
 fn writer_with_header(alloc: Global) -> Result<Writer<Vec<u8>>, WriteFault>
     ensures ok { IfOk result (λ w. IsBetweenRows w
         × (text_written (λ v. Some v.items) w ≡ Some (row_text default_writer (header_of bond_columns)))) }

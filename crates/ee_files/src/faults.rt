@@ -1,4 +1,4 @@
-//! Why a file gives no rows.
+//! Faults of files.
 
 use crate::columns::Column;
 use std::fmt;
@@ -10,7 +10,7 @@ pub enum FileCode {
     /// The first record isn't the header.
     #[error("bad header")]
     BadHeader,
-    /// A record hasn't one field for each column.
+    /// A record has another number of fields than there are columns.
     #[error("wrong number of fields")]
     WrongFieldCount,
     /// A field spells no value of its column.
@@ -31,7 +31,7 @@ impl FileCode {
     ghost use Rattle.std.specs.Prelude.{◌≡◌};
     ghost use Rattle.ee_files.specs.Faults.{code_of};
 
-    /// The number of the fault, 70 to 75.
+    /// The code of the fault, 70 to 75.
     pub const fn code(self) -> u8
         ensures { result ≡ code_of self }
     {
@@ -46,15 +46,15 @@ impl FileCode {
     }
 }
 
-/// The first fault of a file, and the record where it stands. Records are counted from 1, which is the
-/// header; `ReadFailed`, `NoMemory` and `FileTooLong` stand in row 1.
+/// The first fault of a file, and its record. Records are counted from 1, which is the header;
+/// `ReadFailed`, `NoMemory` and `FileTooLong` are faults of row 1.
 #[derive(Clone, Copy, Debug, PartialEq, Eq)]
 pub struct FileFault {
     pub row: u64,
     pub code: FileCode,
 }
 
-/// `row 4 code 71`.
+/// Prints `row 4 code 71`.
 impl fmt::Display for FileFault {
     ghost use Rattle.std.specs.Prelude.{Some};
     ghost use Rattle.ee_files.specs.Faults.{fault_text};
@@ -73,7 +73,7 @@ impl std::error::Error for FileFault {}
 /// Why bonds were not written.
 #[derive(Clone, Copy, Debug, PartialEq, Eq, Error)]
 pub enum WriteFault {
-    /// The writer failed. It has taken a front of the text, and not all of it.
+    /// The writer failed. It has taken the front of the text, and not all of it.
     #[error("the writer failed")]
     WriteFailed,
     /// Memory was refused, before the first byte was written.

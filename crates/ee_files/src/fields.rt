@@ -17,7 +17,7 @@ use ee_units::{
 };
 use std::str;
 
-/// The value, or the fault that this column's field of this row spells none.
+/// The value, or the fault that this column in this row spells none.
 pub fn value_or_fault<T>(value: Option<T>, row: u64, column: Column) -> Result<T, FileFault>
     ensures gives { result ≡ ok_or value (record { row = row; code = FileCode.BadValue column }) }
     ensures read { IfErr result WasRead }
@@ -34,43 +34,43 @@ fn text_in(field: Option<&[u8]>) -> Option<&str>
     str::from_utf8(field?).ok()
 }
 
-/// The rate that a field spells, in per cent; none where there is no field or it spells none.
+/// The rate that a field spells, in percent; `None` without a field, or if it spells none.
 pub fn rate_in(field: Option<&[u8]>) -> Option<Rate>
     ensures { result ≡ field_value rate_of (option_map (λ f. f.now) field.entry) }
 {
     read_rate(text_in(field)?).ok()
 }
 
-/// The serial number that a field spells; none where there is no field or it spells none.
+/// The serial number that a field spells; `None` without a field, or if it spells none.
 pub fn serial_in(field: Option<&[u8]>) -> Option<Serial>
     ensures { result ≡ field_value serial_of (option_map (λ f. f.now) field.entry) }
 {
     read_serial(text_in(field)?).ok()
 }
 
-/// The denomination that a field spells, in dollars; none where there is no field or it spells none.
+/// The denomination that a field spells, in dollars; `None` without a field, or if it spells none.
 pub fn denom_in(field: Option<&[u8]>) -> Option<Denom>
     ensures { result ≡ field_value denom_of (option_map (λ f. f.now) field.entry) }
 {
     read_denom(text_in(field)?).ok()
 }
 
-/// The month of issue that a field spells; none where there is no field or it spells none.
+/// The issue month that a field spells; `None` without a field, or if it spells none.
 pub fn issue_in(field: Option<&[u8]>) -> Option<IssueMonth>
     ensures { result ≡ field_value issue_of (option_map (λ f. f.now) field.entry) }
 {
     read_issue(text_in(field)?).ok()
 }
 
-/// The customer that a field spells; none where there is no field or it spells none.
+/// The customer that a field spells; `None` without a field, or if it spells none.
 pub fn customer_in(field: Option<&[u8]>) -> Option<Customer>
     ensures { result ≡ field_value customer_of (option_map (λ f. f.now) field.entry) }
 {
     read_customer(text_in(field)?).ok()
 }
 
-/// The extension that a field spells, where an empty field names none; none where there is no field or
-/// it spells no rate.
+/// The extension that a field spells; an empty field means no extension. `None` without a field, or if it
+/// spells no rate.
 pub fn extension_in(field: Option<&[u8]>) -> Option<Option<Rate>>
     ensures { result ≡ field_value extension_of (option_map (λ f. f.now) field.entry) }
 {
@@ -82,8 +82,8 @@ pub fn extension_in(field: Option<&[u8]>) -> Option<Option<Rate>>
     }
 }
 
-/// The coowner that a field spells, where an empty field is no coowner; none where there is no field or
-/// it spells none.
+/// The coowner that a field spells; an empty field means no coowner. `None` without a field, or if it spells
+/// no customer.
 pub fn coowner_in(field: Option<&[u8]>) -> Option<Option<Customer>>
     ensures { result ≡ field_value coowner_of (option_map (λ f. f.now) field.entry) }
 {

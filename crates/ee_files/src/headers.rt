@@ -32,7 +32,7 @@ fn names_extensions(fields: &ByteRecord) -> bool
         && names(fields, 2, Column::Extension)
 }
 
-/// Whether these are the column names of a rate file, in their order: with an extension or without.
+/// Whether these are the column names of a rate file, in order, with or without an extension.
 pub fn is_rate_header(fields: &ByteRecord) -> bool
     ensures { result ≡ is_header (rate_columns ∷ extended_columns ∷ []) (fields_of fields.now) }
 {
@@ -54,7 +54,7 @@ fn names_owners(fields: &ByteRecord) -> bool
     names(fields, 3, Column::Owner) && names(fields, 4, Column::Coowner)
 }
 
-/// Whether these are the column names of an inventory, in their order.
+/// Whether these are the column names of an inventory, in order.
 pub fn is_bond_header(fields: &ByteRecord) -> bool
     ensures { result ≡ (length (fields_of fields.now) == 5)
         && ((name_at (fields_of fields.now) 0 Column.Serial

@@ -1,4 +1,4 @@
-//! Inventory files.
+//! Reading inventory files.
 
 ghost use Rattle.std.specs.Prelude.{◌≡◌, ℕ, List, [], ◌∷◌, Some, IfErr};
 ghost use Rattle.csv.specs.Records.{fields_of};
@@ -16,11 +16,10 @@ use ee_calculator::Bond;
 use ee_device::Source;
 use std::alloc::Global;
 
-/// The first 501 bonds of an inventory file, or its first fault: the header
-/// `serial,denom,issued,owner,coowner`, and a record for each bond, with an empty coowner for none. The
-/// file is read whole first; a failed or interrupted read is `ReadFailed`, and want of memory `NoMemory`.
-/// At most 1,048,577 bytes are taken from the reader, one more than a file may have; it keeps those that
-/// follow them.
+/// Reads the first 501 bonds of an inventory file, or its first fault. The file has the header
+/// `serial,denom,issued,owner,coowner`, and one record for each bond; an empty coowner means none. The file
+/// is read whole first. A failed or interrupted read is `ReadFailed`, and want of memory `NoMemory`. Takes at
+/// most 1,048,577 bytes from the reader, one more than a file may have, and leaves the bytes that follow.
 pub fn read_inventory<R: Source>(alloc: Global, reader: &mut R) -> Result<Vec<Bond>, FileFault>
     ensures gives { (source : List ℕ) → R.remaining reader.old ≡ Some source
         → Gives (λ v. v.items) result (bonds_of_file source) }

@@ -1,4 +1,4 @@
-//! Files of comma-separated values: rates and inventories of bonds are read, inventories are written.
+//! Files of comma-separated values: reads rates and inventories of bonds, and writes inventories.
 #![tactic(auto)]
 
 mod columns;

@@ -1,4 +1,4 @@
-//! The plain numbers of bonds are in range, by their types.
+//! Proof that the plain numbers of bonds are in range, by their types.
 
 ghost use Rattle.std.specs.Prelude.{All};
 ghost use Rattle.ee_files.specs.BondFile.{IsBond};

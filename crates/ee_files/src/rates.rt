@@ -1,4 +1,4 @@
-//! Rate files.
+//! Reading rate files.
 
 ghost use Rattle.std.specs.Prelude.{◌≡◌, ℕ, List, [], ◌∷◌, Some, IfErr};
 ghost use Rattle.csv.specs.Records.{fields_of};
@@ -17,11 +17,11 @@ use ee_units::Rate;
 use ee_value::{RateRow, Rates};
 use std::alloc::Global;
 
-/// The first 501 rows of a rate file, or its first fault: the header `from,rate` or
-/// `from,rate,extension`, and a record for each row, where an empty extension is the rate. The file is
-/// read whole first; a failed or interrupted read is `ReadFailed`, and want of memory `NoMemory`. At most
-/// 1,048,577 bytes are taken from the reader, one more than a file may have; it keeps those that follow
-/// them.
+/// Reads the first 501 rows of a rate file, or its first fault. The file has the header `from,rate` or
+/// `from,rate,extension`, and one record for each row; an empty extension means that the rate doesn't
+/// change. The file is read whole first. A failed or interrupted read is `ReadFailed`, and want of memory
+/// `NoMemory`. Takes at most 1,048,577 bytes from the reader, one more than a file may have, and leaves the
+/// bytes that follow.
 pub fn read_rates<R: Source>(alloc: Global, reader: &mut R) -> Result<Vec<RateRow>, FileFault>
     ensures gives { (source : List ℕ) → R.remaining reader.old ≡ Some source
         → Gives (λ v. v.items) result (rates_of_file source) }

@@ -1,4 +1,4 @@
-//! Records of a file, and the rows that they give under a header.
+//! Records of a file, and their rows under a header.
 
 ghost use Rattle.std.specs.Prelude.{◌≡◌, ℕ, List, Some, Result, IfOk, IfErr};
 ghost use Rattle.csv.specs.Reading.{default_config, records, strip_bom};
@@ -15,10 +15,10 @@ use csv::{ByteRecord, Reader, ReaderBuilder};
 use ee_device::{ReadFault, Source, read_whole};
 use std::alloc::Global;
 
-/// A file of more bytes isn't read; at most one byte more is taken of it.
+/// The maximum length of a file in bytes. At most one byte more is taken.
 pub const MOST_BYTES: usize = 1_048_576;
 
-/// What a record of a file is read as.
+/// The type of row that a record is read as.
 pub trait FileRow: Copy + Drop {
     ghost headers: { List (List Column) };
 
@@ -28,7 +28,7 @@ pub trait FileRow: Copy + Drop {
     fn is_header(fields: &ByteRecord) -> bool
         ensures { result ≡ is_header headers (fields_of fields.now) };
 
-    /// The row of one record under a header of so many fields, or the first fault from the left.
+    /// The row of one record, given the number of fields in the header, or its first fault from the left.
     fn from_record(fields: &ByteRecord, width: usize, row: u64) -> Result<Self, FileFault>
         ensures gives { Gives (λ row. row) result (entry width row (fields_of fields.now)) }
         ensures read { IfErr result WasRead };
@@ -40,7 +40,7 @@ const fn unreadable(code: FileCode) -> FileFault
     FileFault { row: 1, code }
 }
 
-// The bytes are in memory, so that an error is want of memory.
+// The bytes are in memory, so an error is want of memory.
 fn next_record(records: &mut Reader<&[u8]>, fields: &mut ByteRecord) -> Result<bool, FileFault>
     ensures ok { IfOk result (λ found. (rest : List (List (List ℕ))) → HasLeft records.old rest → TakesNext records.new rest found (fields_of fields.new)) }
     ensures err { IfErr result Unreadable }
@@ -52,7 +52,7 @@ fn next_record(records: &mut Reader<&[u8]>, fields: &mut ByteRecord) -> Result<b
     Ok(found)
 }
 
-// The rows of the records that are left, at most 501.
+// The rows of the remaining records, at most 501.
 fn rows_under_header<T: FileRow>(
     alloc: Global,
     records: &mut Reader<&[u8]>,
@@ -76,7 +76,7 @@ fn rows_under_header<T: FileRow>(
     Ok(rows)
 }
 
-// A reader over a text with all of its records left.
+// A reader over a text with all its records left.
 fn reader_of(alloc: Global, bytes: &[u8]) -> Reader<&[u8]>
     ensures { HasLeft result (records default_config (strip_bom bytes.entry.now)) }
 {
@@ -106,7 +106,7 @@ fn rows_in<T: FileRow>(alloc: Global, bytes: &[u8]) -> Result<Vec<T>, FileFault>
     rows_under_header(alloc, &mut records, header.len())
 }
 
-/// The rows of a file, which is read whole first: one byte more than a file may have is taken at most.
+/// The rows of a file, which is read whole first. Takes at most one byte more than a file may have.
 #[tactic(auto, unfolding(crate::specs::Rows::rows_of_file))]
 pub fn read_rows<T: FileRow, R: Source>(alloc: Global, reader: &mut R) -> Result<Vec<T>, FileFault>
     ensures gives { (source : List ℕ) → R.remaining reader.old ≡ Some source
