@@ -123,7 +123,7 @@ impl Buffer {
         read_front(self.held(), verdict)
     }
 
-    /// Marks the first `count` bytes as answered.
+    /// Marks the first `len` bytes as answered.
     #[tactic(auto, using(crate::proofs::Tested::none_tested))]
     fn show(&mut self, len: usize)
         requires fits { len ≤ length self.old.held }
