@@ -1,4 +1,4 @@
--- The answer to a message, at a content of books and kept replies.
+-- The answer to a message, given a content of books and kept replies.
 use Rattle.std.specs.Prelude.{◌≡◌, [], ◌∷◌, Result, Ok, Err, ⊤}
 use Rattle.ee_desk_acts.specs.PlainBooks.{PlainBooks}
 use Rattle.ee_desk_acts.specs.Repeats.{Content}
@@ -21,7 +21,7 @@ use Rattle.ee_wire.specs.declared.answers.Answer.TheVariants as told
 abbrev pub call_of : Message → Result Call WireFault
 call_of m = decoded m.target m.method m.body
 
--- what the books answer to a query
+-- the answer of the books to a query
 abbrev pub ShowsQuery : PlainBooks → Query → Answer → Type 0
 ShowsQuery books (ask.Inventory customer month) (told.Sheet sheet) = IsInventory books customer month sheet
 ShowsQuery books (ask.Ticket number) (told.Ticket ticket) = ticket ≡ ticket_numbered books number
@@ -29,34 +29,34 @@ ShowsQuery books (ask.Batch day) (told.Batch batch) = batch ≡ batch_on books d
 ShowsQuery books (ask.Value denom issued month) (told.Row row) = IsQuote books denom issued month row
 ShowsQuery books _ _ = ⊥
 
--- the answer to a request is the one reply to it, to a query what the books show, to a fault that fault
+-- the answer to a request is the one reply to it, to a query what the books show, and to a fault that fault
 abbrev pub IsAnswer : Content → Result Call WireFault → Answer → Type 0
 IsAnswer c (Ok (call.Request request)) (told.Reply reply) = reply ≡ desk.answer c [] request
 IsAnswer c (Ok (call.Query query)) answer = ShowsQuery c.books query answer
 IsAnswer c (Err fault) (told.Fault other) = other ≡ fault
 IsAnswer c _ _ = ⊥
 
--- a request changes the content, and nothing else does
+-- only a request changes the content
 abbrev pub after_call : Content → Result Call WireFault → Content
 after_call c (Ok (call.Request request)) = content_after c (request ∷ [])
 after_call c (Ok (call.Query query)) = c
 after_call c (Err fault) = c
 
--- in the place of each answer 503 may stand, where memory or the store failed
+-- each answer may instead be 503, if memory or the store failed
 abbrev pub IsRight : Content → Result Call WireFault → Answer → Type 0
 IsRight c call (told.Unserved cause) = ⊤
 IsRight c call answer = IsAnswer c call answer
 
--- the content that an answer leaves: 503 changes nothing
+-- the content after an answer; 503 changes nothing
 abbrev pub left_after : Content → Result Call WireFault → Answer → Content
 left_after c call (told.Unserved cause) = c
 left_after c call answer = after_call c call
 
--- a right answer, and the content that it leaves. `Has` says which contents a keeper then has.
+-- a right answer, and the content after it. `Has` is the relation of contents that the keeper then has.
 abbrev pub Answers : Content → Result Call WireFault → Answer → (Content → Type 0) → Type 0
 Answers c call answer Has = IsRight c call answer × Has (left_after c call answer)
 
--- the answer, or none, and then nothing has changed
+-- the answer; or none, and then nothing has changed
 abbrev pub AnswersUnless : Content → Result Call WireFault → Result Answer Unserved → (Content → Type 0) → Type 0
 AnswersUnless c call (Ok answer) Has = IsAnswer c call answer × Has (after_call c call)
 AnswersUnless c call (Err unserved) Has = Has c

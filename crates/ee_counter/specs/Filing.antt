@@ -20,23 +20,23 @@ use Rattle.ee_counter.specs.declared.files.ExportFault.TheVariants as export
 abbrev pub Reading : Type 0 → Type 0
 Reading A = List ℕ → Result (List A) FileFault
 
--- the rows of the file that the reader told, or why it has none; of a reader that tells no bytes nothing is said
+-- the rows of the file that the reader gave, or why it has none; nothing is said if the reader's bytes aren't known
 abbrev pub Reads : {A : Type 0} → Reading A → Option (List ℕ) → Result (List A) FileFault → Type 0
 Reads rows_of known read = (source : List ℕ) → known ≡ Some source → Gives (λ rows. rows) read (rows_of source)
 
--- the file's rows were delivered in one request under the desk and the number, or nothing was delivered
+-- the file's rows were delivered as one request under the desk and number, or nothing was delivered
 abbrev pub Imports : {A : Type 0} → Reading A → (List A → Act) → Option (List ℕ) → Number → Content → Result Reply ImportFault → (Content → Type 0) → Type 0
 Imports {A} rows_of act_of known number c (Ok reply) Has =
     (rows : List A) × Reads rows_of known (Ok rows) × Delivers c (numbered number (act_of rows)) (Ok reply) Has
 Imports rows_of act_of known number c (Err (import.File fault)) Has = Reads rows_of known (Err fault) × Has c
 Imports rows_of act_of known number c (Err (import.Unserved cause)) Has = Has c
 
--- the file wasn't read, since a read failed
+-- the file wasn't read, because a read failed
 abbrev pub IsFailedRead : ImportFault → Type 0
 IsFailedRead (import.File fault) = fault.code ≡ code.ReadFailed
 IsFailedRead (import.Unserved cause) = ⊥
 
--- the file of the customer's unpaid bonds was written, or a front of it where the writer failed, or nothing
+-- the file of the customer's unpaid bonds was written; only its front if the writer failed; or nothing
 abbrev pub Exports : Option (List ℕ) → Option (List ℕ) → ℕ → Content → Result ℕ ExportFault → (Content → Type 0) → Type 0
 Exports old new customer c (Ok count) Has =
     (count ≡ length (bonds_of c.books customer)) × WritesFront old new (inventory_text (bonds_of c.books customer)) true × Has c

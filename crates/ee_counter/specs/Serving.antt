@@ -1,4 +1,4 @@
--- What serving a connection writes, and what it leaves (this project's rule).
+-- What serving a connection writes, and the content after it (this project's rule).
 use Rattle.std.specs.Prelude.{◌≡◌, ℕ, ◌+◌, ◌<◌, ◌≤◌, ◌⊎◌, ◌==◌, ◌||◌, Bool, true, false, List, [], ◌∷◌, ◌++◌, length, map, Option, Some, None, Result, Ok, Err, ⊤}
 use Rattle.std.specs.List.{AllByRecursion, list_any}
 use Rattle.std.specs.Option.{option_map_or}
@@ -26,24 +26,24 @@ use Rattle.ee_counter.specs.declared.connections.Why.TheVariants.{Closed, Asked,
 
 -- ---- answers in order
 
--- a message, and what it was answered
+-- a message, and the answer to it
 pub record Told : Type 0 where
   pub message : Message
   pub answer : Answer
 
--- whether the connection ends with the answer to this message, after n others: it asks for that, or is the 1,000th
+-- the connection ends with the answer to this message, after n others: the message asks for that, or is the 1,000th
 abbrev pub is_last : ℕ → Message → Bool
 is_last n m = m.closes || (n + 1 == 1000)
 
 abbrev pub text_of : ℕ → Told → List ℕ
 text_of n t = answer_text t.answer (is_last n t.message)
 
--- the answers in order, after n others
+-- the responses in order, after n others
 abbrev pub texts : ℕ → List Told → List ℕ
 texts n [] = []
 texts n (t ∷ ts) = text_of n t ++ texts (n + 1) ts
 
--- the content that a message and its answer leave
+-- the content after a message and its answer
 abbrev pub left_by : Content → Told → Content
 left_by c t = left_after c (call_of t.message) t.answer
 
@@ -51,12 +51,12 @@ abbrev pub left_by_all : Content → List Told → Content
 left_by_all c [] = c
 left_by_all c (t ∷ ts) = left_by_all (left_by c t) ts
 
--- each answer is right at the content left by those before it
+-- each answer is right at the content after those before it
 abbrev pub AreRight : Content → List Told → Type 0
 AreRight c [] = ⊤
 AreRight c (t ∷ ts) = IsRight c (call_of t.message) t.answer × AreRight (left_by c t) ts
 
--- each answer is that of the content left by those before it, and none is 503
+-- each answer is that of the content after those before it, and none is 503
 abbrev pub AreAnswered : Content → List Told → Type 0
 AreAnswered c [] = ⊤
 AreAnswered c (t ∷ ts) = IsAnswer c (call_of t.message) t.answer × AreAnswered (after_call c (call_of t.message)) ts
@@ -75,7 +75,7 @@ requests_in (t ∷ ts) = request_in (call_of t.message) t.answer ++ requests_in 
 
 -- ---- a store that failed
 
--- whether an answer tells that the store failed
+-- an answer says that the store failed
 abbrev pub tells_failure : Answer → Bool
 tells_failure (told.Unserved StoreFailed) = true
 tells_failure answer = false
@@ -83,11 +83,11 @@ tells_failure answer = false
 abbrev pub told_failure : Told → Bool
 told_failure t = tells_failure t.answer
 
--- whether one of the answers tells that
+-- one of the answers says that the store failed
 abbrev pub any_told_failure : List Told → Bool
 any_told_failure told = list_any told_failure told
 
--- ---- the end, at a content c after n answers
+-- ---- the end, at a content c, after n answers
 
 -- the answer to a framing fault
 abbrev pub fault_text : FramingFault → List ℕ
@@ -97,14 +97,14 @@ fault_text f = answer_text (told.Fault (Framing f)) true
 abbrev pub CutsShort : List ℕ → Option (List ℕ) → Option (List ℕ) → Type 0
 CutsShort text old new = WritesFront old new text false
 
--- the next message, with its answer: the bytes begin with it. `Has` says which contents the keeper then has.
+-- the bytes begin with this next message, and this is its answer. `Has` is the relation of contents that the keeper then has.
 abbrev pub Tells : Told → List ℕ → Content → (Content → Type 0) → Type 0
 Tells t bytes c Has =
     ((after : List ℕ) × BeginsMessage bytes t.message after) × IsRight c (call_of t.message) t.answer × Has (left_by c t)
 
--- how the connection ends, by its cause: the message whose answer ended it, if one did, the bytes that were read and not
--- answered, those that the reader has left, what was written before and after, the content and the count of answers before,
--- and the count after
+-- how the connection ends, by its cause: the message whose answer ended it, if one did; the bytes that were read and not
+-- answered; those that the reader has left; what was written before and after; the content and the number of answers before;
+-- and the number after
 abbrev pub EndsBy : Why → Option Told → List ℕ → Option (List ℕ) → Option (List ℕ) → Option (List ℕ) → Content → ℕ → ℕ → (Content → Type 0) → Type 0
 -- every byte was answered, and none is left
 EndsBy Closed None bytes remaining old new c n count Has = EndsWith bytes end × IsAtEnd remaining × Appends old new [] × (count ≡ n) × Has c
@@ -113,20 +113,20 @@ EndsBy Asked (Some t) bytes remaining old new c n count Has =
 EndsBy Limit None bytes remaining old new c n count Has = (n ≡ 1000) × Appends old new [] × (count ≡ n) × Has c
 EndsBy (Fault f) None bytes remaining old new c n count Has =
     ShowsFault bytes remaining f × Appends old new (fault_text f) × (count ≡ n + 1) × Has c
--- no whole message, and no fault, stands in the bytes that were read
+-- the bytes that were read contain no whole message and no fault
 EndsBy ReadFailed None bytes remaining old new c n count Has = NeedsMore bytes × Appends old new [] × (count ≡ n) × Has c
--- memory was refused to the answer to a message, which was answered: no byte of it was written
+-- memory was refused to the response to a message, which was decided: no byte of it was written
 EndsBy NoMemory (Some t) bytes remaining old new c n count Has = Appends old new [] × (count ≡ n) × Tells t bytes c Has
--- or to more bytes, or to the answer to a fault
+-- memory was refused to more bytes, or to the response to a fault
 EndsBy NoMemory None bytes remaining old new c n count Has =
     Appends old new [] × (count ≡ n) × (NeedsMore bytes ⊎ ((f : FramingFault) × ShowsFault bytes remaining f)) × Has c
--- the message whose answer was cut was answered
+-- the message whose response was cut was decided
 EndsBy WriteFailed (Some t) bytes remaining old new c n count Has = (count ≡ n) × Tells t bytes c Has × CutsShort (text_of n t) old new
 EndsBy WriteFailed None bytes remaining old new c n count Has =
     (count ≡ n) × ((f : FramingFault) × ShowsFault bytes remaining f × CutsShort (fault_text f) old new) × Has c
 EndsBy _ _ bytes remaining old new c n count Has = ⊥
 
--- the connection ends so; it says that the store failed where one of the answers before told that (was), or the last one
+-- how the connection ends; it says that the store failed if an answer before said so (`was`), or the last one does
 abbrev pub Ends : Ended → Bool → List ℕ → Option (List ℕ) → Option (List ℕ) → Option (List ℕ) → Content → ℕ → (Content → Type 0) → Type 0
 Ends e was bytes remaining old new c n Has =
     (last : Option Told) × (e.store_failed ≡ (option_map_or told_failure last false || was))
@@ -134,7 +134,7 @@ Ends e was bytes remaining old new c n Has =
 
 -- ---- one turn
 
--- the message m is answered, and the connection goes on or ends; was says whether an answer before told that the store failed
+-- the message m is answered, and the connection goes on or ends; `was`: an answer before said that the store failed
 abbrev pub AnswersOne : Message → Option (List ℕ) → Option (List ℕ) → Content → ℕ → Bool → ControlFlow Ended Bool → (Content → Type 0) → Type 0
 AnswersOne m old new c n was (Continue failed) Has =
     (answer : Answer) × Answers c (call_of m) answer Has × (m.closes ≡ false)
@@ -142,7 +142,7 @@ AnswersOne m old new c n was (Continue failed) Has =
 AnswersOne m old new c n was (Break e) Has =
     (bytes after : List ℕ) (remaining : Option (List ℕ)) → BeginsMessage bytes m after → Ends e was bytes remaining old new c n Has
 
--- the answer to the fault is written whole, or not
+-- the response to the fault is written whole, or not
 abbrev pub RefusesBy : Why → FramingFault → Option (List ℕ) → Option (List ℕ) → ℕ → ℕ → Type 0
 RefusesBy (Fault g) f old new n count = (g ≡ f) × Appends old new (fault_text f) × (count ≡ n + 1)
 RefusesBy WriteFailed f old new n count = CutsShort (fault_text f) old new × (count ≡ n)
@@ -155,7 +155,7 @@ RefusesBy ReadFailed f old new n count = ⊥
 abbrev pub Refuses : FramingFault → Option (List ℕ) → Option (List ℕ) → ℕ → Ended → Type 0
 Refuses f old new n e = RefusesBy e.why f old new n e.messages
 
--- after these bytes some more may be read, as they are needed; then a message is answered, and others are left, or the
+-- after these bytes more may be read, as they are needed; then a message is answered, and other bytes are left, or the
 -- connection ends
 abbrev pub Turns : List ℕ → List ℕ → Option (List ℕ) → Option (List ℕ) → Option (List ℕ) → Option (List ℕ) → Content → ℕ → Bool → ControlFlow Ended Bool → (Content → Type 0) → Type 0
 Turns bytes others before after old new c n was (Continue failed) Has =
@@ -165,12 +165,12 @@ Turns bytes others before after old new c n was (Continue failed) Has =
 Turns bytes others before after old new c n was (Break e) Has =
     (got : List ℕ) × Consumes before after got × AreNeeded bytes got × Ends e was (bytes ++ got) after old new c n Has
 
--- it is told that the store failed only where that may be
+-- a failed store is reported only if that may happen
 abbrev pub FlowFailsOnlyIf : Type 0 → ControlFlow Ended Bool → Type 0
 FlowFailsOnlyIf may_fail (Continue failed) = failed ≡ true → may_fail
 FlowFailsOnlyIf may_fail (Break e) = e.store_failed ≡ true → may_fail
 
--- it is told that the reader or the writer failed only where that may be
+-- a failed reader or writer is reported only if that may have happened
 abbrev pub DeviceFailsOnlyIf : Type 0 → Type 0 → Why → Type 0
 DeviceFailsOnlyIf read_may write_may ReadFailed = read_may
 DeviceFailsOnlyIf read_may write_may WriteFailed = write_may
@@ -189,15 +189,15 @@ FlowDeviceFailsOnlyIf read_may write_may (Break e) = DeviceFailsOnlyIf read_may 
 abbrev pub messages : List Told → List Message
 messages ts = map (λ t. t.message) ts
 
--- the bytes begin with these messages, and rest follows; they were answered whole and in order, each at the content left
--- by those before it, and none of them asks to close
+-- the bytes begin with these messages, followed by rest; they were answered whole and in order, each at the content after
+-- those before it, and none of them asks to close
 pub record SoFar (bytes rest : List ℕ) (old : Option (List ℕ)) (new : Option (List ℕ)) (c : Content) (told : List Told) : Type 0 where
   pub begins : BeginsMessages bytes (messages told) rest
   pub right : AreRight c told
   pub none_asks : AllByRecursion (λ t. t.message.closes ≡ false) told
   pub wrote : Appends old new (texts 0 told)
 
--- nothing was read, or before the last read the bytes had as many whole messages as `Few` allows, and the next wasn't whole
+-- nothing was read; or before the last read the bytes had an allowed number of whole messages, and the next wasn't whole
 abbrev pub WereNeeded : (ℕ → Type 0) → List ℕ → Type 0
 WereNeeded Few bytes =
     (bytes ≡ []) ⊎ ((early : List ℕ) × (last : List ℕ) × (bytes ≡ early ++ last) × (length last ≤ most_read)
@@ -208,13 +208,13 @@ abbrev pub AreFew : Why → ℕ → Type 0
 AreFew why n = (n < 1000) ⊎ ((why ≡ Limit) × (n ≡ 1000))
 
 -- the connection gave bytes that begin with these messages, which were answered, and then it ended: what the reader has
--- left before and after, what was written before and after, the content before, how it ended, and which contents the
--- keeper then has
+-- left before and after, what was written before and after, the content before, how it ended, and the relation of contents
+-- that the keeper then has
 pub record Serves (before : Option (List ℕ)) (remaining : Option (List ℕ)) (old : Option (List ℕ)) (new : Option (List ℕ)) (c : Content) (e : Ended) (Has : Content → Type 0) : Type 0 where
   pub bytes : List ℕ
   pub read : Consumes before remaining bytes
   pub told : List Told
-  -- no read came after the one that settled the end: before it, no message but those told was whole, and fewer than 1,000
+  -- nothing was read after the read that settled the end: before it, only these messages were whole, fewer than 1,000
   pub needed : WereNeeded (λ n. (n ≤ length told) × (n < 1000)) bytes
   pub few : AreFew e.why (length told)
   pub rest : List ℕ

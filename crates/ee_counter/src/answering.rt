@@ -56,7 +56,7 @@ fn answer_call<K: Keeper>(keeper: &mut K, call: &Call) -> Result<Answer, Unserve
     }
 }
 
-/// What `answer_message` says, of a message that this decodes.
+/// What `answer_message` returns, for a message that decodes to this.
 pub fn answer_decoded<K: Keeper>(
     decoder: &Decoder,
     keeper: &mut K,
@@ -79,9 +79,9 @@ pub fn answer_decoded<K: Keeper>(
     }
 }
 
-/// The answer to a message at the content that the keeper has: the reply to a request, which is delivered
-/// once, what the books show to a query, or the message's first fault. Where memory or the store fails it is
-/// `Unserved`, and nothing has changed; of a store that can't fail it never says `StoreFailed`.
+/// The answer to a message at the keeper's content: the reply to a request, which is delivered once; what the
+/// books show for a query; or the message's first fault. If memory or the store fails, it is `Unserved`, and
+/// nothing has changed; a store that can't fail never gives `StoreFailed`.
 pub fn answer_message<K: Keeper>(
     alloc: Global,
     keeper: &mut K,

@@ -19,35 +19,35 @@ use ee_wire::{
 use std::alloc::Global;
 use std::ops::ControlFlow;
 
-/// The most messages of a connection.
+/// The maximum number of messages on a connection.
 pub const MOST_MESSAGES: usize = 1_000;
 
 /// Why serving a connection ended.
 #[derive(Clone, Copy, Debug, PartialEq, Eq)]
 pub enum Why {
-    /// The other side closed, between two messages.
+    /// The other side closed the connection, between two messages.
     Closed,
-    /// A message asked for it: HTTP/1.0, or `Connection: close`.
+    /// A message asked to close: HTTP/1.0, or `Connection: close`.
     Asked,
-    /// It had 1,000 messages.
+    /// The connection had 1,000 messages.
     Limit,
-    /// The bytes are no message. That was answered.
+    /// The bytes are no message. This fault was answered.
     Fault(FramingFault),
     /// The reader failed, or was interrupted. The messages that were read whole are answered.
     ReadFailed,
-    /// The writer failed, or was interrupted, inside an answer. Its message was decided.
+    /// The writer failed, or was interrupted, inside a response. Its message was decided.
     WriteFailed,
-    /// Memory was refused, to a message or to the text of an answer, of which no byte was written. The
-    /// last message may have been decided.
+    /// Memory was refused, to a message or to the text of a response, of which no byte was written. The last
+    /// message may have been decided.
     NoMemory,
 }
 
 /// How serving a connection ended.
 #[derive(Clone, Copy)]
 pub struct Ended {
-    /// The answers that were written whole, that to a framing fault too: at most 1,000.
+    /// The number of responses that were written whole, including that to a framing fault: at most 1,000.
     pub messages: usize,
-    /// Whether an answer told that the store failed.
+    /// Whether an answer said that the store failed.
     pub store_failed: bool,
     pub why: Why,
 }
@@ -60,7 +60,7 @@ fn is_last(closes: bool, messages: usize) -> bool
     closes || messages + 1 == MOST_MESSAGES
 }
 
-/// Whether this answer tells that the store failed, or one before did.
+/// Whether this answer, or one before, says that the store failed.
 fn has_failed(answer: &Answer, before: bool) -> bool
     ensures { result ≡ (tells_failure answer.now || before) }
 {
@@ -70,7 +70,7 @@ fn has_failed(answer: &Answer, before: bool) -> bool
     }
 }
 
-/// The answer to a message of the buffer.
+/// The answer to a message in the buffer.
 fn answer_to<K: Keeper>(
     decoder: &Decoder,
     keeper: &mut K,
@@ -88,8 +88,8 @@ fn answer_to<K: Keeper>(
     answer_decoded(decoder, keeper, target, method, body)
 }
 
-/// Answers a message, and writes the answer. Where the connection goes on, it says whether an answer told that
-/// the store failed, this one or one before.
+/// Answers a message, and writes the response. If the connection goes on, returns whether this answer, or one
+/// before, said that the store failed.
 fn answer_one<K: Keeper, W: Sink>(
     decoder: &Decoder,
     keeper: &mut K,
@@ -165,8 +165,8 @@ fn refuse<W: Sink>(
     }
 }
 
-/// Reads a message and answers it. Where the connection goes on, it says whether an answer told that the store
-/// failed, this one or one before.
+/// Reads a message and answers it. If the connection goes on, returns whether this answer, or one before, said
+/// that the store failed.
 fn turn<K: Keeper, R: Source, W: Sink>(
     decoder: &Decoder,
     keeper: &mut K,
@@ -219,16 +219,16 @@ fn turn<K: Keeper, R: Source, W: Sink>(
     }
 }
 
-/// Answers the messages of a connection one after another, each at the content left by those before it,
-/// until the other side closes, a message asks to close, the bytes are no message, which is answered, 1,000
-/// messages were answered, or a device or memory fails.
+/// Answers the messages of a connection in order, each at the content after those before it, until the other
+/// side closes, a message asks to close, the bytes are no message (which is answered), 1,000 messages were
+/// answered, or a device or memory fails.
 ///
-/// What is written is the answers in order and whole; only the last may be cut, where the writer failed. A
-/// message that is answered 503 changed nothing. After the 1,000th message none is decided. No read comes after
-/// the one that settled the end: before the last read, of at most 4,096 bytes, the next message wasn't whole.
-/// Where the reader fails, no whole message is left among the bytes that were read. Where an answer told that
-/// the store failed, the end says so, whatever ended the connection; of a store that can't fail it never does.
-/// The claims are of any content `c` that the keeper had, and hold where its store is clean at the end.
+/// The responses are written in order and whole; only the last may be cut, if the writer failed. A message
+/// answered with 503 changed nothing. After the 1,000th message none is decided. Nothing is read after the
+/// read that settled the end: before the last read, of at most 4,096 bytes, the next message wasn't whole. If
+/// the reader fails, the bytes that were read contain no further whole message. If an answer said that the
+/// store failed, the result says so, whatever ended the connection; a store that can't fail never does. The
+/// claims are about any content `c` that the keeper had, and hold if its store is clean at the end.
 pub fn serve<K: Keeper, R: Source, W: Sink>(
     alloc: Global,
     keeper: &mut K,

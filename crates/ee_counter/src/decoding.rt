@@ -5,8 +5,8 @@ ghost use Rattle.ee_wire_calls.specs.Calls.{decoded, IsUnlessMemory};
 use ee_wire::{Call, Routes, WireFault, decode, decode_with};
 use std::alloc::Global;
 
-/// What decodes the messages of a connection: by routes that were made once, or where memory was refused to
-/// them, by routes that are made for each message.
+/// Decodes the messages of a connection by routes that were made once or, if memory was refused to them, by
+/// routes that are made for each message.
 #[derive(Drop)]
 pub struct Decoder {
     alloc: Global,

@@ -20,7 +20,7 @@ use thiserror::Error;
 /// Why an import has no reply.
 #[derive(Clone, Copy, Debug, PartialEq, Eq, Error)]
 pub enum ImportFault {
-    /// The file has a fault, or wasn't read. Nothing was delivered, and the number stays as it was.
+    /// The file has a fault, or wasn't read. Nothing was delivered, and the number is as free as before.
     #[error("file: {0}")]
     File(FileFault),
     /// The request wasn't served. Nothing has changed.
@@ -34,14 +34,14 @@ pub enum ExportFault {
     /// The books weren't shown, or memory was refused. Nothing was written.
     #[error("{0}")]
     Unserved(Unserved),
-    /// The writer failed. It has taken a front of the file, and not all of it.
+    /// The writer failed. It has taken the front of the file, and not all of it.
     #[error("the writer failed")]
     WriteFailed,
 }
 
-/// Enters the rates of a file, with the extensions that it names, under a number of a desk, as one request:
-/// the file's rows, its first 501, or nothing. A file that was imported under that desk and number before gets
-/// its first reply again. Of the reader at most 1,048,577 bytes are taken, one more than a file may have.
+/// Enters the rates of a file, with the extensions that it names, under a number of a desk, as one request: the
+/// file's rows, its first 501, or nothing. A file imported before under that desk and number gets its first
+/// reply again. Takes at most 1,048,577 bytes from the reader, one more than a file may have.
 pub fn import_rates<K: Keeper, R: Source>(
     alloc: Global,
     keeper: &mut K,
@@ -72,8 +72,8 @@ pub fn import_rates<K: Keeper, R: Source>(
 }
 
 /// Registers the bonds of a file under a number of a desk, as one request: the file's rows, its first 501, or
-/// nothing. A file that was imported under that desk and number before gets its first reply again. Of the
-/// reader at most 1,048,577 bytes are taken, one more than a file may have.
+/// nothing. A file imported before under that desk and number gets its first reply again. Takes at most
+/// 1,048,577 bytes from the reader, one more than a file may have.
 pub fn import_inventory<K: Keeper, R: Source>(
     alloc: Global,
     keeper: &mut K,
@@ -103,8 +103,8 @@ pub fn import_inventory<K: Keeper, R: Source>(
     }
 }
 
-/// Writes the file of the unpaid bonds whose owner is this customer, in order of serial, and answers how
-/// many they are. Memory is taken before the first byte.
+/// Writes the file of the unpaid bonds whose owner is this customer, in order of serial number, and returns
+/// their number. Takes memory only before the first byte.
 pub fn export_inventory<K: Keeper, W: Sink>(
     alloc: Global,
     keeper: &mut K,

@@ -1,4 +1,4 @@
-//! Laws of the definitions: a body does nothing, and the clauses are the laws.
+//! Laws of the definitions. A body here does nothing; the clauses state the laws.
 
 ghost use Rattle.std.specs.Prelude.{◌≡◌, ℕ, [], Bool, List, Result, length};
 ghost use Rattle.std.specs.List.{AllByRecursion};
@@ -15,9 +15,9 @@ ghost use Rattle.ee_counter.specs.Served.{IsServed};
 ghost use Rattle.ee_counter.specs.Answering.{IsAnswer, call_of};
 ghost use Rattle.ee_counter.specs.Serving.{Told, AreAnswered, left_by_all, messages, requests_in, texts};
 
-/// Two keepers that have one content give the same answers, as a keeper in memory and one with tables do:
-/// two lists of right answers to the same requests in which each request is served are equal, and leave
-/// the same content.
+/// Two keepers with the same content give the same answers, such as a keeper in memory and one with tables: two
+/// lists of right answers to the same requests, if each request is served, are equal and leave the same
+/// content.
 pub const fn same_answers()
     ensures answers { (c : Content) (requests : List Request) (one other : List (Result Reply Unserved))
         → AreAnswers c [] requests one → AreAnswers c [] requests other
@@ -27,15 +27,15 @@ pub const fn same_answers()
         → content_after c (served requests answers) ≡ content_after c requests }
 {}
 
-/// The bytes of the answer to a message are settled by the content: two right answers have one text.
+/// The content determines the bytes of the response to a message: two right answers have the same text.
 pub const fn one_text()
     ensures { (c : Content) (message : Message) (one other : Answer) (closing : Bool)
         → IsAnswer c (call_of message) one → IsAnswer c (call_of message) other
         → answer_text one closing ≡ answer_text other closing }
 {}
 
-/// What a connection writes is settled by its bytes and by the content before: of as many messages, each
-/// answered and none by 503, the answers have one text.
+/// The bytes of a connection and the content before determine what it writes: for the same number of messages,
+/// each answered and none with 503, the responses have the same text.
 pub const fn one_stream()
     ensures { (c : Content) (bytes rest other_rest : List ℕ) (one other : List Told)
         → BeginsMessages bytes (messages one) rest → BeginsMessages bytes (messages other) other_rest
@@ -43,8 +43,8 @@ pub const fn one_stream()
         → texts 0 one ≡ texts 0 other }
 {}
 
-/// What a connection leaves is what its requests leave, those that weren't answered 503: to them applies
-/// all that is said of lists of requests.
+/// What a connection leaves is what its requests leave, except those answered with 503. Everything that holds
+/// for lists of requests applies to them.
 pub const fn served_requests()
     ensures { (c : Content) (told : List Told) → left_by_all c told ≡ content_after c (requests_in told) }
 {}
