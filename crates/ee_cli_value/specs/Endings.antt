@@ -7,7 +7,7 @@ use Rattle.ee_cli_value.specs.declared.endings.Outcome.TheVariants.{Unsettled}
 use Rattle.ee_cli_value.specs.declared.endings.PrintFault.{PrintFault}
 use Rattle.ee_cli_value.specs.declared.endings.PrintFault.TheVariants as fault
 
--- where there is no table of values
+-- the ending if there is no table of values
 abbrev pub ending_of_value : ValueFault → Result Outcome PrintFault
 ending_of_value (value.Unsettled month) = Ok (Unsettled month)
 ending_of_value value.NoMemory = Err fault.NoMemory

@@ -14,13 +14,13 @@ infixl 10 ◌>>=◌
 abbrev pub ◌>>=◌ : {A B : Type 0} → Option A → (A → Option B) → Option B
 o >>= f = option_and_then f o
 
--- the extension of the words after the rate: none, or that of one word
+-- the extension in the words after the rate: none, or that of one word
 abbrev pub extension_of : List (List ℕ) → Option (Option ℕ)
 extension_of [] = Some None
 extension_of (word ∷ []) = option_map Some (rate_of word)
 extension_of (word ∷ more ∷ rest) = None
 
--- what the words ask for after `value`, each in its place
+-- what the words after `value` ask for, each in its place
 abbrev pub asked_by : List ℕ → List ℕ → List ℕ → List ℕ → List (List ℕ) → Option ValueLine
 asked_by denom issued month rate rest = do
   d ← denom_of denom
@@ -30,18 +30,18 @@ asked_by denom issued month rate rest = do
   e ← extension_of rest
   Some (record { denom = d; issued = i; month = m; rates = rates_with r e })
 
--- what the words of a line ask for, the first of which is the program's name
+-- what the words of a line ask for; the first word is the program's name
 abbrev pub line_of_words : List (List ℕ) → Option ValueLine
 line_of_words (name ∷ command ∷ denom ∷ issued ∷ month ∷ rate ∷ rest) =
     if bytes_eq command (codes "value") then asked_by denom issued month rate rest else None
 line_of_words words = None
 
--- the line's value is printed, or not, and the status says how that ended
+-- the value of the line is printed, or not, and the status says how that ended
 abbrev pub RunsValue : ValueLine → Option (List ℕ) → Option (List ℕ) → ℕ → Type 0
 RunsValue line old new status =
     (ended : Result Outcome PrintFault) × PrintsValue line.denom line.issued line.month line.rates old new ended × IsStatusOf ended status
 
--- a line that asks for a value is run, and nothing is done of any other
+-- a line that asks for a value is run, and any other line does nothing
 abbrev pub RunsLine : Option ValueLine → Option (List ℕ) → Option (List ℕ) → Option ℕ → Type 0
 RunsLine (Some line) old new status = IsSomeAnd status (RunsValue line old new)
 RunsLine None old new status = (status ≡ None) × (new ≡ old)

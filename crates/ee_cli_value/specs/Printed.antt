@@ -8,7 +8,7 @@ use Rattle.ee_calculator.specs.Notes.{note_text}
 use Rattle.ee_calculator.specs.Rows.{columns_of}
 use Rattle.ee_calculator.specs.declared.notes.Note.{Note}
 
--- a space and the note, where there is one
+-- a space and the note, if there is one
 abbrev pub noted : List ℕ → List ℕ
 noted [] = []
 noted (b ∷ bs) = 32 ∷ b ∷ bs

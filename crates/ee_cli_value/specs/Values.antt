@@ -10,8 +10,8 @@ use Rattle.ee_cli_value.specs.declared.endings.Outcome.TheVariants.{Done, Refuse
 use Rattle.ee_cli_value.specs.declared.endings.PrintFault.{PrintFault}
 use Rattle.ee_cli_value.specs.declared.endings.PrintFault.TheVariants as fault
 
--- the value's line is printed, or a front of it where the output failed; or nothing, where the rates have an open age at
--- 62 binary places, of which the least is told, or where memory was refused
+-- the line of the value is printed, or only its front if the output failed; nothing is printed if memory was refused, or if
+-- the rates have an open age at 62 binary places, of which the least is returned
 abbrev pub PrintsValue : Denom → ℕ → ℕ → Rates → Option (List ℕ) → Option (List ℕ) → Result Outcome PrintFault → Type 0
 PrintsValue denom issued month rates old new (Ok Done) = WritesFront old new (value_line denom issued month rates) true
 PrintsValue denom issued month rates old new (Ok Refused) = ⊥

@@ -6,7 +6,7 @@ use thiserror::Error;
 /// How a command ended that was carried out.
 #[derive(Clone, Copy, Debug, PartialEq, Eq)]
 pub enum Outcome {
-    /// It was done.
+    /// The command was done.
     Done,
     /// The answer was a refusal.
     Refused,
@@ -20,7 +20,7 @@ pub enum PrintFault {
     /// Writing failed.
     #[error("input or output failed")]
     Device,
-    /// A growth was refused.
+    /// Memory was refused.
     #[error("no memory")]
     NoMemory,
 }

@@ -20,7 +20,7 @@ pub struct ValueLine {
     pub rates: Rates,
 }
 
-/// Parses the words of a line, the first of which is the program's name. `None` if they aren't
+/// Parses the words of a line; the first is the program's name. `None` if they aren't
 /// `value DENOM ISSUED MONTH RATE [EXTENSION]`, each word in its place spelled as a value.
 pub fn read_line(words: &[String]) -> Option<ValueLine>
     ensures { result ≡ line_of_words (map (λ w. string_bytes w) words.now) }
@@ -58,7 +58,7 @@ fn asked_by(
     })
 }
 
-// The extension that the words after the rate name, if there is one.
+// The extension in the words after the rate, if there is one.
 fn extension_of(rest: &[String]) -> Option<Option<Rate>>
     ensures { result ≡ extension_of (map (λ w. string_bytes w) rest.now) }
 {
@@ -69,8 +69,8 @@ fn extension_of(rest: &[String]) -> Option<Option<Rate>>
     }
 }
 
-/// Runs a line of words, the first of which is the program's name, and returns its exit status. Words that
-/// `read_line` doesn't parse are `None`, and nothing is printed.
+/// Runs a line of words, of which the first is the program's name, and returns its exit status. For words that
+/// `read_line` doesn't parse it returns `None` and prints nothing.
 pub fn run_line<W: Sink, E: Write>(
     alloc: Global,
     words: &[String],

@@ -19,8 +19,7 @@ pub const BAD_LINE: u8 = 2;
 /// A file, a socket, memory or a store failed.
 pub const FAILED: u8 = 3;
 
-/// Reports how a command ended that was carried out, and returns its exit status. An unsettled value is
-/// named on `faults`.
+/// Returns the exit status of a command that was carried out. Reports an unsettled value on `faults`.
 pub fn conclude<E: Write>(outcome: Outcome, faults: &mut E) -> u8
     ensures { IsStatusFor outcome result }
 {
@@ -38,7 +37,7 @@ pub fn conclude<E: Write>(outcome: Outcome, faults: &mut E) -> u8
     }
 }
 
-/// Names a fault on `faults`, and returns the exit status of what failed.
+/// Reports a fault on `faults`, and returns the exit status of a command that failed.
 pub fn report<F: fmt::Display, E: Write>(fault: &F, faults: &mut E) -> u8
     ensures { result ≡ 3 }
 {

@@ -17,9 +17,9 @@ use std::alloc::{AllocError, Global};
 /// The precision of the program's values: 62 binary places.
 const PRECISION: u8 = 62;
 
-/// Prints the value in a month of a bond of that denomination and issue month, at those rates: the value,
-/// then a space and the note where there is one. A month before issue needs no table of the rates; from
-/// issue on, the rates' least unsettled age is answered where they have one.
+/// Prints the value, in a month, of a bond of this denomination and issue month at these rates: the value, then
+/// a space and the note if there is one. A month before issue needs no table of the rates; from issue on, the
+/// result is the rates' least unsettled age, if they have one.
 pub fn print_value<W: Sink>(
     alloc: Global,
     denom: Denom,
@@ -38,7 +38,7 @@ pub fn print_value<W: Sink>(
     }
 }
 
-// How the command ends where there is no table of values.
+// How the command ends if there is no table of values.
 fn without_value(fault: ValueFault) -> Result<Outcome, PrintFault>
     ensures { result ≡ ending_of_value fault }
 {
