@@ -1,4 +1,4 @@
--- What an exit status says of the words of a line, and of what was carried out.
+-- What an exit status says about the words of a line, and about what was carried out.
 use Rattle.std.specs.Prelude.{◌≡◌, ◌≢◌, ◌≤◌, ◌⊎◌, ◌++◌, ◌∷◌, [], ℕ, List, codes, Option, Result, Ok, Err, IfOk, ⊤}
 use Rattle.clap.specs.Words.{Text}
 use Rattle.ee_units.specs.declared.denoms.Denom.{Denom}
@@ -13,17 +13,17 @@ use Rattle.ee_cli_actions.specs.declared.faults.RunFault.{RunFault}
 use Rattle.ee_cli_commands.specs.CommandLine.{Asked, value, apply, imports, export, sheet, serve}
 use Rattle.ee_cli_commands.specs.Answer.{IsAsked, IsRefused, AsksForHelp, AsksForVersion}
 
--- as a command ended that prints a value
+-- the ending of a command that prints a value
 abbrev pub ending_of_print : Result Outcome PrintFault → Result Outcome RunFault
 ending_of_print (Ok outcome) = Ok outcome
 ending_of_print (Err cause) = Err (fault_of_print cause)
 
--- a value is printed, or not, and the command ends so
+-- a value is printed, or not, and the command ends accordingly
 abbrev pub ShowsValue : Denom → ℕ → ℕ → Rates → Option (List ℕ) → Option (List ℕ) → Result Outcome RunFault → Type 0
 ShowsValue denom issued month rates old new result =
     (ended : Result Outcome PrintFault) × PrintsValue denom issued month rates old new ended × (result ≡ ending_of_print ended)
 
--- whatever the store holds: a value is printed, and what shows or serves is never refused. A value needs no store.
+-- whatever the store holds: a value is printed, and commands that show or serve are never refused. A value needs no store.
 abbrev pub Carries : Option (List ℕ) → Option (List ℕ) → Asked → Result Outcome RunFault → Type 0
 Carries old new (value denom issued month rate extension) result = ShowsValue denom issued month (rates_with rate extension) old new result
 Carries old new (apply db) result = ⊤
@@ -40,15 +40,15 @@ version_line = codes "ee_cli 1.0.0, store version 2" ++ 10 ∷ []
 abbrev pub AsksToShow : List Text → Type 0
 AsksToShow words = AsksForHelp words ⊎ AsksForVersion words
 
--- how a command ended, by the status: 0 done, 1 refused or unsettled, never 2; 3 says nothing
+-- how a command ended, by its status: 0 done, 1 refused or unsettled, never 2; 3 says nothing
 pub record Ends (Carried : Result Outcome RunFault → Type 0) (status : ℕ) : Type 0 where
   pub done : status ≡ 0 → Carried (Ok outcome.Done)
   pub refused : status ≡ 1 → Carried (Ok outcome.Refused) ⊎ ((age : ℕ) × Carried (Ok (outcome.Unsettled age)))
   pub is_good_line : status ≢ 2
 
--- 0: the words ask for a command, which was done, or for help or the version; 1: for a command that was refused; 2: one of them spells
--- no value, or clap refuses them; 3: anything. `Carried` says what is known of a command that ended so: whichever command
--- the words ask for ended as the status says.
+-- 0: the words ask for a command, which was done, or for help or the version; 1: for a command that was refused; 2: one of
+-- them spells no value, or clap refuses them; 3: anything. `Carried` is what is known about a command that ended so: whichever
+-- command the words ask for ended as the status says.
 pub record IsRun (words : List Text) (Carried : Asked → Result Outcome RunFault → Type 0) (status : ℕ) : Type 0 where
   pub range : status ≤ 3
   pub ends : (asked : Asked) → IsAsked words (Ok asked) → Ends (Carried asked) status

@@ -15,7 +15,7 @@ use Rattle.ee_cli_commands.specs.CommandLine.{Asked, value, apply, imports, expo
 abbrev pub AreClean : {S : Type 0} → (S → Type 0) → Type 0
 AreClean {S} is_clean = (store : S) → is_clean store
 
--- the command was carried out over the store that it was given; or a file or a port was not opened, and nothing was printed
+-- the command was carried out over the given store; or a file or a port was not opened, and nothing was printed
 abbrev pub Tries : Option (List ℕ) → Option (List ℕ) → Result Outcome RunFault → Type 0 → Type 0
 Tries old new result Carried = Carried ⊎ (IsErr result × (new ≡ old))
 
@@ -23,7 +23,7 @@ Tries old new result Carried = Carried ⊎ (IsErr result × (new ≡ old))
 abbrev pub EndsAs : Result Outcome RunFault → Result Outcome RunFault → Type 0
 EndsAs ended result = (result ≡ ended) ⊎ (IsOk ended × (result ≡ Err (Store NotWrittenBack)))
 
--- the work ended so over a store, which was left so and then closed: where the command did not fail, it is at rest
+-- the work ended so over a store, which was then closed; if the command did not fail, the store is at rest
 pub record Works {S R : Type 0} (rests : S → R → Type 0) (result : Result Outcome RunFault) (Carried : S → Result Outcome RunFault → Type 0) : Type 0 where
   pub left : S
   pub ended : Result Outcome RunFault
@@ -35,8 +35,8 @@ pub record Works {S R : Type 0} (rests : S → R → Type 0) (result : Result Ou
 abbrev pub Over : {S R : Type 0} → (S → R → Type 0) → Option (List ℕ) → Option (List ℕ) → Result Outcome RunFault → (S → Result Outcome RunFault → Type 0) → Type 0
 Over rests old new result Carried = Works rests result Carried ⊎ (IsErr result × (new ≡ old))
 
--- a command over the store that its line names, where `contents` says what each store holds: the bytes of the input and what
--- is left of them, those of the output before and after, and how it ended. Of a file that is imported nobody knows the bytes.
+-- a command over the store that its line names; `contents` says what each store holds. The arguments are the input before and
+-- after, the output before and after, and how the command ended. The bytes of a file that is imported aren't known.
 abbrev pub CarriesOver : {S R : Type 0} → (S → Content → Type 0) → (S → R → Type 0) → (Text → Content) → Option (List ℕ) → Option (List ℕ) → Option (List ℕ) → Option (List ℕ) → Asked → Result Outcome RunFault → Type 0
 CarriesOver has rests contents input left old new (value denom issued month rate extension) result = ⊤
 CarriesOver has rests contents input left old new (apply db) result =

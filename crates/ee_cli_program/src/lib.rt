@@ -1,4 +1,5 @@
-//! Running one command line of the counter's program: over stores that its words name, to an exit status.
+//! Running one command line of the counter's program, over the stores that its words name. Returns the exit
+//! status.
 #![tactic(auto)]
 
 mod carrying;

@@ -15,7 +15,7 @@ use std::fs;
 use std::net::TcpListener;
 use std::time::Duration;
 
-/// Imports the file of that path. A file that doesn't open is told as `Device`.
+/// Imports the file at this path. A file that can't be opened is `Device`.
 pub fn import_path<K: Keeper, W: Sink>(
     rt: &HostRuntime,
     keeper: &mut K,
@@ -35,10 +35,10 @@ pub fn import_path<K: Keeper, W: Sink>(
     }
 }
 
-/// So many seconds a client may be silent, or leave an answer unread.
+/// The seconds that a client may be silent, or leave a response unread.
 const PATIENCE: u64 = 30;
 
-/// Serves on a port of 127.0.0.1. A port that can't be bound is told as `Device`.
+/// Serves on a port of 127.0.0.1. A port that can't be bound is `Device`.
 pub fn serve_port<K: Keeper, W: Sink>(
     rt: &HostRuntime,
     keeper: &mut K,

@@ -23,13 +23,13 @@ use ee_store_opening::STORE_VERSION;
 use std::alloc::{AllocError, Global};
 use std::io::{self, ErrorKind, Write};
 
-/// Runs the line of those words, the first of which is the program's name, over these stores: the exit
-/// status. What is told of faults goes to `faults`, all else to `output`.
+/// Runs the line of these words over these stores, and returns the exit status. The first word is the
+/// program's name. Faults are written to `faults`, everything else to `output`.
 ///
-/// - `status`: what the words were, and how the command ended that they ask for. They ask for one thing at
-///   most (`ee_cli_commands::one_meaning`).
-/// - `printed`: where they ask for a value and the status is 0, the output gained just that value's line.
-/// - `version`: where they ask for the version and the status is 0, it gained just the line of the versions.
+/// - `status`: what the words were, and how the command ended that they ask for. They ask for at most one
+///   thing (`ee_cli_commands::one_meaning`).
+/// - `printed`: if they ask for a value and the status is 0, the output gained exactly that value's line.
+/// - `version`: if they ask for the version and the status is 0, it gained exactly the line of the versions.
 /// - `over`: what a command over a store did and printed, by what the store held (`contents`).
 pub fn run_words<O: Stores, R: Source, W: Sink, E: Write>(
     rt: &HostRuntime,
@@ -62,8 +62,8 @@ pub fn run_words<O: Stores, R: Source, W: Sink, E: Write>(
     }
 }
 
-/// Tells that the words of a line were not read, and why: the exit status. One that isn't UTF-8 makes a bad line; else
-/// memory was refused.
+/// Reports why the words of a line were not read, and returns the exit status. A word that isn't UTF-8 makes a
+/// bad line; otherwise memory was refused.
 pub fn refuse_words<E: Write>(error: &io::Error, faults: &mut E) -> u8
     ensures not_text { error_kind error.now ≡ ErrorKind.InvalidData → (result ≡ 2) ⊎ (result ≡ 3) }
     ensures memory { error_kind error.now ≢ ErrorKind.InvalidData → result ≡ 3 }
@@ -108,7 +108,7 @@ fn version(alloc: Global) -> Result<String, AllocError>
     format!(in alloc; "ee_cli {VERSION}, store version {STORE_VERSION}\n")
 }
 
-// Tells that the words fit no row.
+// Reports that the words fit no row.
 fn refuse_line<E: Write>(text: &str, faults: &mut E) -> u8
     ensures { (result ≡ 2) ⊎ (result ≡ 3) }
 {
@@ -116,7 +116,7 @@ fn refuse_line<E: Write>(text: &str, faults: &mut E) -> u8
     if told.is_ok() { BAD_LINE } else { FAILED }
 }
 
-// Tells which word spells no value.
+// Reports which word spells no value.
 fn refuse_argument<E: Write>(name: &str, faults: &mut E) -> u8
     ensures { (result ≡ 2) ⊎ (result ≡ 3) }
 {

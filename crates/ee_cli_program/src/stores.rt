@@ -1,4 +1,4 @@
-//! Where the program's stores come from.
+//! The stores of the program's commands.
 
 ghost use Rattle.std.specs.Prelude.{◌≡◌, List, IfOk, IfErr, ℕ};
 ghost use Rattle.ee_desk_acts.specs.Repeats.{Content};
@@ -10,20 +10,20 @@ use ee_keeper::Keeper;
 pub trait Stores {
     type Store: Keeper;
 
-    /// What is left of a store that was closed.
+    /// What is left of a store after it is closed.
     type Rest: Drop;
 
-    /// The contents that the store of a path may be said to hold.
+    /// The contents that the store at a path may have.
     ghost holds: { Self → List ℕ → Content → Type 0 };
 
-    /// What is left of a store has all that the store had, at rest.
+    /// What is left of a store has everything that the store had, at rest.
     ghost rests: { Self.Store → Self.Rest → Type 0 };
 
-    /// The store of a path; its tables are made where it has none.
+    /// Opens the store at a path; creates its tables if there are none.
     fn open(&self, path: &str) -> Result<Self::Store, RunFault>
         ensures { IfOk result (λ store. Self.Store.is_clean store → (c : Content) → holds self.now path.now c → Self.Store.has store c) };
 
-    /// Closes a store, which is then at rest. Where that fails, what it committed stays as it was.
+    /// Closes a store, which is then at rest. If that fails, what was committed doesn't change.
     fn close(&self, store: Self::Store) -> Result<Self::Rest, RunFault>
         ensures rests { IfOk result (λ rest. rests store rest) }
         ensures fault { IfErr result (λ fault. fault ≡ RunFault.Store StoreFault.NotWrittenBack) };
