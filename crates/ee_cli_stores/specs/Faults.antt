@@ -1,4 +1,4 @@
--- How a store that isn't opened is told.
+-- The fault of a store that isn't opened.
 use Rattle.ee_store_making.specs.declared.faults.OpenFault.{OpenFault}
 use Rattle.ee_store_making.specs.declared.faults.OpenFault.TheVariants as opening
 use Rattle.ee_cli_actions.specs.declared.faults.StoreFault.TheVariants as store

@@ -11,7 +11,7 @@ use ee_cli_program::Stores;
 use ee_store::{OpenFault, SqlKeeper, open_as};
 use sqlite::{FileFrom, FileStore, Files, Start};
 
-/// A file of which nothing is told that it held anything. A torn write leaves each byte old or new.
+/// A file whose earlier bytes aren't known. A torn write leaves each byte old or new.
 #[derive(Clone, Copy)]
 pub struct Untold;
 
@@ -29,7 +29,7 @@ impl Start for Untold {
     }
 }
 
-/// The stores in the files of this system, where `start` stands for what each held as it is opened.
+/// The stores in the files of this system; `start` represents what each file held when it was opened.
 #[derive(Clone, Copy)]
 pub struct StoreFiles<'a, F: Start> {
     pub rt: &'a HostRuntime,
@@ -41,10 +41,10 @@ impl<F: Start + Copy> Stores for StoreFiles<'_, F> {
 
     type Rest = Files<FileFrom<F>>;
 
-    // What each held is a store of that content at rest.
+    // Each file held a store at rest with that content.
     ghost holds = { λ _ _ content. StandsAlone (image_at F.Start) content };
 
-    // The files are at rest with what the store had, and that is what its whole history led to.
+    // The files are at rest with what the store had, which is what its whole history led to.
     ghost rests = { λ store files. RestsIn store.conn files × RestsAfter store.conn files };
 
     fn open(&self, path: &str) -> Result<SqlKeeper<FileStore<FileFrom<F>>>, RunFault> {
@@ -65,7 +65,7 @@ impl<F: Start + Copy> Stores for StoreFiles<'_, F> {
     }
 }
 
-// How a store that isn't opened is told.
+// The fault of a store that isn't opened.
 fn told(fault: OpenFault) -> RunFault
     ensures { result ≡ fault_of_opening fault }
 {
