@@ -15,11 +15,11 @@ use ee_desk_acts::{Reply, Request, Unserved};
 use ee_keeper::Keeper;
 use std::alloc::{AllocError, Global};
 
-/// Delivers requests one after another, and gives one answer for each. A list of requests may repeat
-/// numbers, as where a reply was lost: each number acts at most once. The memory of the answers is
-/// taken first, so where the whole answer is want of memory nothing was delivered.
+/// Delivers requests in order, and returns one answer for each. A list of requests may repeat numbers, as
+/// after a lost reply: each number acts at most once. Memory for the answers is taken first, so if the whole
+/// result is want of memory, nothing was delivered.
 ///
-/// Each claim is of any content `c` that the keeper had at the start, and holds where its store is clean at
+/// Each claim is about any content `c` that the keeper had at the start, and holds if its store is clean at
 /// the end.
 pub fn run<K: Keeper>(
     alloc: Global,
@@ -27,13 +27,13 @@ pub fn run<K: Keeper>(
     requests: &[Request],
 ) -> Result<Vec<Result<Reply, Unserved>>, AllocError>
     ensures count { IfOk result (λ answers. length answers.items ≡ length requests.now) }
-    // Each request that is served gets the one answer to it after those that were served before.
+    // Each served request gets the one answer to it after the requests that were served before.
     ensures answers { K.is_clean keeper.new → (c : Content) → K.has keeper.old c
         → IfOk result (λ answers. AreAnswers c [] requests.now answers.items) }
     // The books and the kept replies are those of the served requests, each number once.
     ensures content { K.is_clean keeper.new → (c : Content) → K.has keeper.old c
         → IfOk result (λ answers. K.has keeper.new (content_after c (served requests.now answers.items))) }
-    // In those books no serial stands on two lines over all tickets.
+    // In those books no serial number is on two lines, across all tickets.
     ensures once { K.is_clean keeper.new → (c : Content) → K.has keeper.old c
         → IfOk result (λ answers. NoneTwice (paid_lines (books_after c (served requests.now answers.items)).tickets)) }
     // Each line pays the value of its bond in the month of its ticket's day.
@@ -41,10 +41,10 @@ pub fn run<K: Keeper>(
         → IfOk result (λ answers. ArePaidRight (books_after c (served requests.now answers.items))) }
     ensures sound { K.is_clean keeper.new → (c : Content) → K.has keeper.old c
         → IfOk result (λ answers. IsSound (books_after c (served requests.now answers.items))) }
-    // The batches and the open day's tickets have what was paid.
+    // The batches and the open day's tickets together add up to what was paid.
     ensures conserved { K.is_clean keeper.new → (c : Content) → K.has keeper.old c
         → IfOk result (λ answers. IsConserved (books_after c (served requests.now answers.items))) }
-    // No answer says that the store failed where it can't.
+    // If the store can't fail, no answer says that it failed.
     ensures failed { IfOk result (λ answers. AllByRecursion (FailsOnlyIf K.may_fail) answers.items) }
     ensures clean { K.is_clean keeper.new → K.is_clean keeper.old }
     ensures err { OnErr result (keeper.new ≡ keeper.old) }

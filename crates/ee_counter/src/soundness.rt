@@ -1,4 +1,4 @@
-//! What the books of every keeper are.
+//! What holds for the books of every keeper.
 
 ghost use Rattle.ee_desk_acts.specs.Repeats.{Content};
 ghost use Rattle.ee_desk_acts.specs.Paid.{paid_lines, NoneTwice, ArePaidRight};
@@ -7,9 +7,9 @@ ghost use Rattle.ee_desk_acts.specs.Conserved.{IsConserved};
 
 use ee_keeper::Keeper;
 
-/// What the books of every keeper are, at any time and whatever was answered: no serial stands on two lines
-/// over all tickets, each line pays the value of its bond in the month of its ticket's day, and what was
-/// paid stands in the batches and on the open day. It does nothing.
+/// What holds for the books of every keeper, at all times and whatever was answered: no serial number is on two
+/// lines across all tickets, each line pays the value of its bond in the month of its ticket's day, and the batches
+/// and the open day together add up to what was paid. It does nothing.
 pub fn known<K: Keeper>(keeper: &K)
     ensures sound { (c : Content) → K.has keeper.now c → IsSound c.books }
     ensures once { (c : Content) → K.has keeper.now c → NoneTwice (paid_lines c.books.tickets) }
