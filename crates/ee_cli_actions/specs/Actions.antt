@@ -1,4 +1,4 @@
--- What the commands over a store do, at a content of the store. `Has` says which contents it then has.
+-- What the commands over a store do, given a content of the store. `Has` is the relation of contents that it then has.
 use Rattle.std.specs.Prelude.{◌≡◌, ℕ, List, Option, Result, Ok, Err, true, false}
 use Rattle.ee_device.specs.Written.{WritesFront}
 use Rattle.ee_calculator.specs.Sheets.{sheet_text}
@@ -26,8 +26,8 @@ use Rattle.ee_cli_value.specs.declared.endings.Outcome.TheVariants.{Done}
 use Rattle.ee_cli_actions.specs.declared.faults.RunFault.{RunFault}
 use Rattle.ee_cli_actions.specs.declared.faults.RunFault.TheVariants as fault
 
--- the input is served as one connection, and so much of it is left: what is written is the answers to its stream; and the
--- command ends as that ended
+-- the input is served as one connection, and this is left of it: the responses to its stream are written, and the command ends
+-- as the connection did
 abbrev pub Applies : Option (List ℕ) → Option (List ℕ) → Option (List ℕ) → Option (List ℕ) → Content → Result Outcome RunFault → (Content → Type 0) → Type 0
 Applies input left old new c result Has = (ended : Ended) × Serves input left old new c ended Has × (result ≡ ending_of ended)
 
@@ -36,7 +36,7 @@ abbrev pub ImportsFile : FileKind → Option (List ℕ) → Number → Content �
 ImportsFile kind.Rates file number c answer Has = Imports rates_of_file act.AddRates file number c answer Has
 ImportsFile kind.Inventory file number c answer Has = Imports bonds_of_file act.AddBonds file number c answer Has
 
--- the reply's line is printed, or a front of it where the output failed, or nothing where memory was refused; a fault prints nothing
+-- the line of the reply is printed; only its front if the output failed; nothing if memory was refused; a fault prints nothing
 abbrev pub TellsReply : Option (List ℕ) → Option (List ℕ) → Result Reply ImportFault → Result Outcome RunFault → Type 0
 TellsReply old new (Ok reply) (Ok outcome) = WritesFront old new (reply_line reply) true × (outcome ≡ outcome_of reply)
 TellsReply old new (Ok reply) (Err fault.Device) = WritesFront old new (reply_line reply) false
@@ -45,18 +45,18 @@ TellsReply old new (Ok reply) (Err (fault.File cause)) = ⊥
 TellsReply old new (Ok reply) (Err (fault.Store cause)) = ⊥
 TellsReply old new (Err cause) result = (result ≡ Err (fault_of_import cause)) × (new ≡ old)
 
--- the file is imported, and its reply is told
+-- the file is imported, and its reply is printed
 abbrev pub ImportsInto : FileKind → Option (List ℕ) → Option (List ℕ) → Option (List ℕ) → Number → Content → Result Outcome RunFault → (Content → Type 0) → Type 0
 ImportsInto kind file old new number c result Has =
     (answer : Result Reply ImportFault) × ImportsFile kind file number c answer Has × TellsReply old new answer result
 
--- how an export ends a command
+-- the ending of a command by that of an export
 abbrev pub ending_of_export : Result ℕ ExportFault → Result Outcome RunFault
 ending_of_export (Ok count) = Ok Done
 ending_of_export (Err export.WriteFailed) = Err fault.Device
 ending_of_export (Err (export.Unserved cause)) = Err (fault_of_unserved cause)
 
--- the customer's unpaid bonds are written as a file, or a front of it where the output failed, or nothing
+-- the customer's unpaid bonds are written as a file; only its front if the output failed; or nothing
 abbrev pub ExportsFrom : Option (List ℕ) → Option (List ℕ) → ℕ → Content → Result Outcome RunFault → (Content → Type 0) → Type 0
 ExportsFrom old new customer c result Has =
     (answer : Result ℕ ExportFault) × Exports old new customer c answer Has × (result ≡ ending_of_export answer)
@@ -67,7 +67,7 @@ TellsSheet old new (Ok sheet) (Ok outcome) = WritesFront old new (sheet_text she
 TellsSheet old new (Ok sheet) (Err cause) = WritesFront old new (sheet_text sheet) false × (cause ≡ fault.Device)
 TellsSheet old new (Err cause) result = (result ≡ Err (fault_of_unserved cause)) × (new ≡ old)
 
--- the sheet of the customer's unpaid bonds in the month is written, or a front of it where the output failed, or nothing
+-- the sheet of the customer's unpaid bonds in the month is written; only its front if the output failed; or nothing
 abbrev pub ShowsSheet : Option (List ℕ) → Option (List ℕ) → ℕ → ℕ → Content → Result Outcome RunFault → Type 0 → Type 0
 ShowsSheet old new customer month c result Stays =
     (shown : Result Sheet Unserved) × Shows (IsInventory c.books customer month) shown Stays × TellsSheet old new shown result

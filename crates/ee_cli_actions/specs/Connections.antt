@@ -1,4 +1,4 @@
--- Connections that are served one after another.
+-- Connections that are served in order.
 use Rattle.std.specs.Prelude.{◌≡◌, ℕ, ◌≤◌, Bool, true, false, List, [], ◌∷◌, ◌++◌, length, Option, None, Result, Ok, Err, ⊤}
 use Rattle.std.specs.List.{list_any}
 use Rattle.std.specs.Io.KnownBytes.{Appends}
@@ -12,8 +12,8 @@ use Rattle.ee_cli_actions.specs.declared.faults.RunFault.{RunFault}
 use Rattle.ee_cli_actions.specs.declared.faults.RunFault.TheVariants.{File, Store, Device, NoMemory}
 use Rattle.ee_cli_actions.specs.declared.faults.StoreFault.TheVariants.{StoreFailed}
 
--- a connection is served over a socket, whose bytes nobody knows: its messages are answered rightly, each at the content
--- left by those before it, and it ends so
+-- a connection is served over a socket, whose bytes aren't known: its messages are answered rightly, each at the content
+-- after those before it, and this is how it ends
 abbrev pub ServesSocket : Content → Ended → (Content → Type 0) → Type 0
 ServesSocket c e Has = Serves None None None None c e Has
 
@@ -22,35 +22,35 @@ abbrev pub ServesNext : Content → Result Ended RunFault → (Content → Type 
 ServesNext c (Ok e) Has = ServesSocket c e Has
 ServesNext c (Err cause) Has = (cause ≡ Device) × Has c
 
--- each connection is served at the content that those before it left, and ends so
+-- each connection is served at the content after those before it, and this is how it ends
 abbrev pub ServesEach : Content → List Ended → (Content → Type 0) → Type 0
 ServesEach c [] Has = Has c
 ServesEach c (e ∷ es) Has = (d : Content) × ServesSocket c e (λ left. left ≡ d) × ServesEach d es Has
 
--- a front of the text was written
+-- the front of the text was written
 pub record WritesSome (old new : Option (List ℕ)) (text : List ℕ) : Type 0 where
   pub front : List ℕ
   pub rest : List ℕ
   pub parts : text ≡ front ++ rest
   pub written : Appends old new front
 
--- a line is printed, or a front of it where a device or memory failed
+-- a line is printed, or only its front if a device or memory failed
 abbrev pub PrintsLine : Option (List ℕ) → Option (List ℕ) → List ℕ → Result (Unit {0}) RunFault → Type 0
 PrintsLine old new line (Ok u) = Appends old new line
 PrintsLine old new line (Err cause) = WritesSome old new line
 
--- an answer told that the store failed, on one of these connections
+-- on one of these connections an answer said that the store failed
 abbrev pub any_failed : List Ended → Bool
 any_failed es = list_any (λ e. e.store_failed) es
 
--- no connection follows one on which an answer told that the store failed
+-- no connection follows one on which an answer said that the store failed
 abbrev pub EndsWithFailure : List Ended → Type 0
 EndsWithFailure [] = ⊤
 EndsWithFailure (e ∷ []) = ⊤
 EndsWithFailure (e ∷ f ∷ es) = (e.store_failed ≡ false) × EndsWithFailure (f ∷ es)
 
--- a line is printed for each connection: for so many, where the store failed on none; for fewer, where it failed on the
--- last; or for some, the last line perhaps cut, where a device or memory failed
+-- a line is printed for each connection: for all of them, if the store failed on none; for fewer, if it failed on the last;
+-- or for some, and possibly only the front of the last line, if a device or memory failed
 abbrev pub PrintsLines : ℕ → Option (List ℕ) → Option (List ℕ) → List Ended → Result Outcome RunFault → Type 0
 PrintsLines most old new ended (Ok outcome) =
     (outcome ≡ Done) × (length ended ≡ most) × (any_failed ended ≡ false) × Appends old new (connection_lines 0 ended)
@@ -60,7 +60,7 @@ PrintsLines most old new ended (Err Device) = (length ended ≤ most) × WritesS
 PrintsLines most old new ended (Err NoMemory) = (length ended ≤ most) × WritesSome old new (connection_lines 0 ended)
 PrintsLines most old new ended (Err (File cause)) = ⊥
 
--- connections were served one after another, and a line was printed for each that says how it ended
+-- connections were served in order, and a line was printed for each that says how it ended
 pub record ServesAll (most : ℕ) (old new : Option (List ℕ)) (c : Content) (result : Result Outcome RunFault) (Has : Content → Type 0) : Type 0 where
   pub ended : List Ended
   pub each : ServesEach c ended Has

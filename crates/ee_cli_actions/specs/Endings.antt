@@ -1,4 +1,4 @@
--- How a command ends, by what it met.
+-- How a command ends, by what happened.
 use Rattle.std.specs.Prelude.{◌≡◌, Result, Ok, Err, if◌then◌else◌}
 use Rattle.ee_desk_acts.specs.declared.refusals.Unserved.{Unserved}
 use Rattle.ee_desk_acts.specs.declared.refusals.Unserved.TheVariants as unserved
@@ -19,7 +19,7 @@ use Rattle.ee_cli_actions.specs.declared.faults.StoreFault.TheVariants.{StoreFai
 use Rattle.ee_cli_actions.specs.declared.faults.RunFault.{RunFault}
 use Rattle.ee_cli_actions.specs.declared.faults.RunFault.TheVariants as fault
 
--- why a value was not printed
+-- the fault of a value that was not printed
 abbrev pub fault_of_print : PrintFault → RunFault
 fault_of_print print.Device = fault.Device
 fault_of_print print.NoMemory = fault.NoMemory
@@ -32,7 +32,7 @@ abbrev pub fault_of_import : ImportFault → RunFault
 fault_of_import (import.File cause) = fault.File cause
 fault_of_import (import.Unserved cause) = fault_of_unserved cause
 
--- a refusal was the reply, or something else
+-- whether the reply was a refusal
 abbrev pub outcome_of : Reply → Outcome
 outcome_of (reply.Added new same) = Done
 outcome_of (reply.Opened day) = Done
@@ -40,8 +40,8 @@ outcome_of (reply.Ticket ticket) = Done
 outcome_of (reply.Batch batch) = Done
 outcome_of (reply.Refused refusal) = Refused
 
--- how serving one connection ends a command whose answers don't tell that the store failed: a framing fault was answered,
--- and is a refusal
+-- the ending of a command that served one connection on which no answer said that the store failed; a framing fault was
+-- answered, and is a refusal
 abbrev pub ending_by : Why → Result Outcome RunFault
 ending_by why.Closed = Ok Done
 ending_by why.Asked = Ok Done
@@ -51,18 +51,18 @@ ending_by why.ReadFailed = Err fault.Device
 ending_by why.WriteFailed = Err fault.Device
 ending_by why.NoMemory = Err fault.NoMemory
 
--- where an answer told that the store failed, the command ends by that
+-- if an answer said that the store failed, the command ends with that
 abbrev pub ending_of : Ended → Result Outcome RunFault
 ending_of e = if e.store_failed then Err (fault.Store StoreFailed) else ending_by e.why
 
--- it is told that the store failed only where that may be
+-- a failed store is reported only if that may have happened
 abbrev pub TellsFailureOnlyIf : Type 0 → Result Outcome RunFault → Type 0
 TellsFailureOnlyIf may_fail result = result ≡ Err (fault.Store StoreFailed) → may_fail
 
--- it is told that a device failed only where that may be
+-- a failed device is reported only if that may have happened
 abbrev pub TellsDeviceOnlyIf : Type 0 → Result Outcome RunFault → Type 0
 TellsDeviceOnlyIf may_fail result = result ≡ Err fault.Device → may_fail
 
--- it is told that a read of the file failed only where that may be
+-- a failed read of the file is reported only if that may have happened
 abbrev pub TellsUnreadOnlyIf : Type 0 → Result Outcome RunFault → Type 0
 TellsUnreadOnlyIf may_fail result = (cause : FileFault) → result ≡ Err (fault.File cause) → cause.code ≡ ReadFailed → may_fail

@@ -13,7 +13,7 @@ use Rattle.ee_counter.specs.declared.connections.Why.TheVariants as why
 abbrev pub reply_line : Reply → List ℕ
 reply_line reply = reply_text reply ++ 10 ∷ []
 
--- why serving a connection ended; a framing fault by its code
+-- why a connection ended; for a framing fault, its code
 abbrev pub why_text : Why → List ℕ
 why_text why.Closed = codes "Closed"
 why_text why.Asked = codes "Asked"

@@ -11,11 +11,11 @@ use ee_device::{Sink, Source};
 use ee_keeper::Keeper;
 use std::alloc::Global;
 
-/// Serves the input as one connection, and writes the answers to the output. It is done where the input
-/// ends between two messages, where a message asks to close, and after 1,000 messages; it is refused where
-/// the bytes are no message, which is answered. Where an answer told that the store failed it is
-/// `StoreFailed`, however serving ended. Else, where a device failed it is `Device`, and where memory was
-/// refused `NoMemory`: the last message may then have been decided without a whole answer.
+/// Serves the input as one connection, and writes the responses to the output. The command is done if the input
+/// ends between two messages, if a message asks to close, or after 1,000 messages. It is refused if the bytes
+/// are no message, which is answered. If an answer said that the store failed, it is `StoreFailed`, however
+/// serving ended. Otherwise a failed device is `Device`, and refused memory `NoMemory`; the last message may
+/// then have been decided without a whole response.
 pub fn apply_to<K: Keeper, R: Source, W: Sink>(
     alloc: Global,
     keeper: &mut K,

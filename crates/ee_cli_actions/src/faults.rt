@@ -10,19 +10,19 @@ use ee_files::FileFault;
 use std::alloc::AllocError;
 use thiserror::Error;
 
-/// Why a store doesn't serve. Its text is its name.
+/// Why a store doesn't serve. The text of the fault is its name.
 #[derive(Clone, Copy, Debug, PartialEq, Eq, Error)]
 pub enum StoreFault {
-    /// The store failed, or it isn't one.
+    /// The store failed, or the file is no store.
     #[error("StoreFailed")]
     StoreFailed,
-    /// Its tables are of another version.
+    /// The tables have another version.
     #[error("WrongVersion")]
     WrongVersion,
-    /// Its rows stand for no books.
+    /// The rows represent no books.
     #[error("Unusable")]
     Unusable,
-    /// Its log was not written back. What was decided stands, in the file and the log together.
+    /// The log was not written back. What was decided is in the file and the log together.
     #[error("NotWrittenBack")]
     NotWrittenBack,
 }
@@ -39,7 +39,7 @@ pub enum RunFault {
     /// Reading or writing failed, or a file or a socket wasn't opened.
     #[error("{it}", it = PrintFault::Device)]
     Device,
-    /// A growth was refused.
+    /// Memory was refused.
     #[error("{it}", it = PrintFault::NoMemory)]
     NoMemory,
 }

@@ -21,10 +21,10 @@ use ee_keeper::Keeper;
 use ee_units::Customer;
 use std::alloc::{AllocError, Global};
 
-/// Imports a file of that kind as one request under the desk's number, and prints the reply's text on a line; it
-/// is refused where the reply is a refusal. Where the file has a fault nothing was delivered. Where the
-/// output failed, or memory was refused to the reply's text, the request was delivered: the same line
-/// gives its reply again.
+/// Imports a file of this kind as one request under the desk's number, and prints the text of the reply on a
+/// line. The command is refused if the reply is a refusal. If the file has a fault, nothing was delivered. If
+/// the output failed, or memory was refused to the text of the reply, the request was delivered: the same
+/// command line gives its reply again.
 pub fn import_into<K: Keeper, R: Source, W: Sink>(
     alloc: Global,
     keeper: &mut K,
@@ -65,7 +65,7 @@ fn import_file<K: Keeper, R: Source>(
     }
 }
 
-// Prints the reply, or says why there is none.
+// Prints the reply, or returns why there is none.
 fn tell<W: Sink>(
     alloc: Global,
     answer: Result<Reply, ImportFault>,
@@ -108,8 +108,8 @@ fn outcome(reply: &Reply) -> Outcome
     }
 }
 
-/// Writes the customer's unpaid bonds as a file of the kind that an import reads, in order of serial. Where
-/// the store didn't serve, or memory was refused, nothing is written; where the output failed, a front.
+/// Writes the customer's unpaid bonds as a file that an import reads, in order of serial number. If the store
+/// didn't serve, or memory was refused, nothing is written; if the output failed, only the front.
 pub fn export_from<K: Keeper, W: Sink>(
     alloc: Global,
     keeper: &mut K,

@@ -1,4 +1,4 @@
-//! A socket that waits for its other side no longer than so long.
+//! A socket with a time limit for each turn.
 
 ghost use Rattle.std.specs.Prelude.{⊤};
 
@@ -8,23 +8,23 @@ use std::io::{self, ErrorKind, Read, Write};
 use std::net::{Shutdown, TcpStream};
 use std::time::{Clock, Duration, Instant};
 
-/// Which way bytes go.
+/// The direction of bytes.
 #[derive(Clone, Copy)]
 enum Way {
     In,
     Out,
 }
 
-/// Since when bytes go this way.
+/// The time since which bytes go in this direction.
 #[derive(Clone, Copy)]
 struct Turn {
     way: Way,
     begun: Instant,
 }
 
-/// A socket on which all reads from one write to the next, and all writes from one read to the next, take no
-/// longer than `patience` together; then a call fails. So a message has that long to come, and an answer to be
-/// taken, also where bytes move one now and then, which a timeout of the socket alone would allow.
+/// A socket on which all reads between two writes, and all writes between two reads, together take at most
+/// `patience`; then a call fails. So a message has that long to arrive, and a response to be taken, even if
+/// single bytes move now and then, which a timeout of the socket alone would allow.
 #[derive(Drop)]
 pub struct Patient<'c, 's, C: Clock> {
     clock: &'c C,
@@ -34,7 +34,7 @@ pub struct Patient<'c, 's, C: Clock> {
 }
 
 impl<'c, 's, C: Clock> Patient<'c, 's, C> {
-    /// The stream, each of whose turns may take `patience`, by this clock.
+    /// The stream with a time limit of `patience` for each turn, by this clock.
     pub fn new(clock: &'c C, stream: &'s TcpStream, patience: Duration) -> Patient<'c, 's, C> {
         Patient {
             clock,
@@ -44,7 +44,7 @@ impl<'c, 's, C: Clock> Patient<'c, 's, C> {
         }
     }
 
-    /// How long the next call this way may wait. The time begins anew where the way turns.
+    /// How long the next call in this direction may wait. The time begins again when the direction changes.
     fn left(&self, way: Way) -> io::Result<Duration> {
         let now = Instant::now(self.clock)?;
         let begun = match self.turn.get() {
@@ -58,9 +58,9 @@ impl<'c, 's, C: Clock> Patient<'c, 's, C> {
         }
     }
 
-    /// Ends a connection to which answers were written: says that none follow, and reads and drops what still
-    /// comes, until the other side ends too, or its time is over. A socket that is closed before, with bytes
-    /// unread, is reset by the system, and the other side may lose answers.
+    /// Ends a connection on which responses were written: tells the other side that none follow, then reads and
+    /// drops what still comes, until the other side ends too or its time is over. If a socket is closed before
+    /// that, with unread bytes, the system resets it, and the other side may lose responses.
     pub fn let_go(&self) -> io::Result<()> {
         self.stream.shutdown(Shutdown::Write)?;
         let mut reader = self;

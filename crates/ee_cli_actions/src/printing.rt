@@ -6,7 +6,7 @@ ghost use Rattle.ee_device.specs.Written.{WritesFront};
 use crate::faults::RunFault;
 use ee_device::{Sink, write_whole};
 
-/// Prints the text: all of it, or a front of it where the output failed, which is told as `Device`.
+/// Prints the text: all of it, or only its front if the output failed, which is `Device`.
 pub fn print<W: Sink>(text: &str, output: &mut W) -> Result<(), RunFault>
     ensures printed { WritesFront (W.contents output.old) (W.contents output.new) text.now (is_ok result) }
     ensures fault { IfErr result (λ fault. fault ≡ RunFault.Device) }

@@ -1,10 +1,10 @@
-//! Why a connection ended, as it is printed.
+//! Why a connection ended, as printed.
 
 use ee_counter::Why;
 use ee_wire::WireFault;
 use std::fmt;
 
-/// The name of what ended a connection; of a framing fault `Fault` and its code, as `Fault 63`.
+/// The name of what ended a connection; for a framing fault, `Fault` and its code, as `Fault 63`.
 #[derive(Clone, Copy)]
 pub struct Reason(pub Why);
 

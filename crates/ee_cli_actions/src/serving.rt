@@ -17,13 +17,13 @@ use std::alloc::{AllocError, Global};
 use std::net::{TcpListener, TcpStream};
 use std::time::{Clock, Duration};
 
-/// Serves so many connections, one after another, and prints a line for each as it ends:
-/// `connection I: M messages, WHY`, with I from 1, M the answers that were written whole, and WHY the name
-/// of what ended it. However a connection ends, the next one is served. A message that doesn't come whole
-/// within `patience`, and an answer that isn't taken within it, end the connection by `ReadFailed` and
-/// `WriteFailed`. Serving ends early where no connection could be accepted or a line not be written (`Device`),
-/// where memory was refused to a line (`NoMemory`), or after a connection of which an answer told that the
-/// store failed (`StoreFailed`), whose line is printed.
+/// Serves connections one after another, up to the given number, and prints a line when each ends:
+/// `connection I: M messages, WHY`, with I from 1, M the number of responses that were written whole, and WHY
+/// the name of what ended it. However a connection ends, the next one is served. If a message doesn't arrive
+/// whole within `patience`, the connection ends by `ReadFailed`; if a response isn't taken within it, by
+/// `WriteFailed`. Serving ends early if no connection could be accepted or a line not be written (`Device`), if
+/// memory was refused to a line (`NoMemory`), or after a connection on which an answer said that the store
+/// failed (`StoreFailed`), whose line is printed.
 pub fn serve_on<C: Clock, K: Keeper, W: Sink>(
     clock: &C,
     alloc: Global,

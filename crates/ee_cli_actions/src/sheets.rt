@@ -15,8 +15,8 @@ use ee_device::Sink;
 use ee_keeper::Keeper;
 use ee_units::{Customer, Month};
 
-/// Writes the sheet in a month of the unpaid bonds whose owner is this customer, in order of serial. Where
-/// the store didn't serve nothing is written; where the output failed, a front of the sheet.
+/// Writes the sheet, in a month, of the unpaid bonds whose owner is this customer, in order of serial number. If
+/// the store didn't serve, nothing is written; if the output failed, only the front of the sheet.
 pub fn sheet_of<K: Keeper, W: Sink>(
     keeper: &mut K,
     customer: Customer,
