@@ -67,7 +67,7 @@ unpaid_bond_of e = record { letter = e.0.0; number = e.0.1; denom = e.1.denom; i
 abbrev pub unpaid_columns : UnpaidBond → Row
 unpaid_columns bond = number bond.letter ∷ number bond.number ∷ number bond.denom ∷ number bond.issued ∷ number bond.owner ∷ optional bond.coowner ∷ []
 
--- ---- what a column of whole numbers holds: less than 2 to the 63rd
+-- ---- the numbers that a column of whole numbers holds: less than 2 to the 63rd
 
 abbrev pub Fits : ℕ → Type 0
 Fits n = n < 2 ^ 63

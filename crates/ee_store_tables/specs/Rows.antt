@@ -99,7 +99,7 @@ pub record Stores (db : Trees) (rows : Rows) : Type 0 where
   pub sound : IsSound counter_schema db
   pub holds : Holds db rows
 
--- Of a store that a failing disk has shut nothing is said. A transaction is begun, over the counter's tables
+-- A transaction has begun, over the counter's tables. Nothing is said of a store that a failing disk has shut.
 abbrev pub IsInside : State → Type 0
 IsInside s = IsTrue s.is_open → IsTrue s.in_transaction × (s.now.schema ≡ counter_schema)
 
@@ -111,16 +111,16 @@ Sees s rows = IsTrue s.is_open → (s.now.schema ≡ counter_schema) × Holds s.
 abbrev pub Has : State → Rows → Type 0
 Has s rows = IsTrue s.is_open → (s.committed.schema ≡ counter_schema) × Holds s.committed.trees rows
 
--- the rowids rise from one on, and so many more fit above them
+-- the rowids rise from one, and this many more fit above them
 abbrev pub Rises : ℕ → ℕ → List Row → Type 0
 Rises low n [] = low + n ≤ 2 ^ 63
 Rises low n (r ∷ rows) = (id : ℕ) × (rowid r ≡ Int (pos id)) × (low ≤ id) × Rises (id + 1) n rows
 
--- so many rows more fit in `bonds`, in `paid` and in `answers`, where a new rowid is one above the last
+-- this many more rows fit in `bonds`, in `paid` and in `answers`, where a new rowid is one above the last
 abbrev pub HasRoomIn : ℕ → Trees → Type 0
 HasRoomIn n db = Rises 1 n (db 2) × Rises 1 n (db 7) × Rises 1 n (db 13)
 
--- what a transaction sees obeys the tables, and has such room
+-- what a transaction sees obeys the tables, and has this room
 abbrev pub HasRoom : ℕ → State → Type 0
 HasRoom n s = IsTrue s.is_open → IsDatabase s.now × HasRoomIn n s.now.trees
 
@@ -130,12 +130,12 @@ IsText r = IsUtf8 r.act × IsUtf8 r.reply
 
 -- ---- what is written
 
--- an entry for a key that has none
+-- with an entry for a key, unless the key has one
 abbrev pub insert_new : {K X : Type 0} {R : K → K → Ordering} → FinMap R X → K → X → Option X → FinMap R X
 insert_new m k x None = insert m k x
 insert_new m k x (Some old) = m
 
--- the open day and the day closed last, if the desk's row is there
+-- with the open day and the last closed day, if the desk's row exists
 abbrev pub day_set : Rows → Option ℕ → Option ℕ → Option DeskRow → Rows
 day_set rows day last_day None = rows
 day_set rows day last_day (Some desk) = record rows { desk = insert rows.desk 1 (record desk { day = day; last_day = last_day }) }
@@ -143,7 +143,7 @@ day_set rows day last_day (Some desk) = record rows { desk = insert rows.desk 1 
 abbrev pub with_day : Rows → Option ℕ → Option ℕ → Rows
 with_day rows day last_day = day_set rows day last_day (get rows.desk 1)
 
--- the desk's row, if it is there, names the version
+-- with the version in the desk's row, if it exists
 abbrev pub with_version_of : FinMap nat_cmp DeskRow → ℕ → Option DeskRow → FinMap nat_cmp DeskRow
 with_version_of desk version None = desk
 with_version_of desk version (Some row) = insert desk 1 (record row { version = version })
@@ -151,15 +151,15 @@ with_version_of desk version (Some row) = insert desk 1 (record row { version = 
 abbrev pub with_version : FinMap nat_cmp DeskRow → ℕ → FinMap nat_cmp DeskRow
 with_version desk version = with_version_of desk version (get desk 1)
 
--- a rate for a period, unless it has one
+-- with a rate for a period, unless the period has one
 abbrev pub with_rate : Rows → ℕ × ℕ → Rows
 with_rate rows rate = record rows { rates = insert_new rows.rates rate.0 rate.1 (get rows.rates rate.0) }
 
--- an extension for a period, unless it has one
+-- with an extension for a period, unless the period has one
 abbrev pub with_extension : Rows → ℕ × ℕ → Rows
 with_extension rows extension = record rows { extensions = insert_new rows.extensions extension.0 extension.1 (get rows.extensions extension.0) }
 
--- a bond under its serial number, unless that has one
+-- with a bond under its serial number, unless that has one
 abbrev pub with_bond : Rows → (ℕ × ℕ) × BondRow → Rows
 with_bond rows bond = record rows { bonds = insert_new rows.bonds bond.0 bond.1 (get rows.bonds bond.0) }
 
@@ -175,7 +175,7 @@ with_ticket rows n ticket = record rows { tickets = insert rows.tickets n ticket
 abbrev pub with_paid : Rows → ℕ × ℕ → PaidRow → Rows
 with_paid rows k line = record rows { paid = insert rows.paid k line }
 
--- the bond stands on the ticket, if it is there
+-- with the bond marked as paid on the ticket, if it is registered
 abbrev pub marked_as : Rows → ℕ × ℕ → ℕ → Option BondRow → Rows
 marked_as rows k t None = rows
 marked_as rows k t (Some bond) = record rows { bonds = insert rows.bonds k (record bond { ticket = Some t }) }
@@ -186,7 +186,7 @@ marked rows k t = marked_as rows k t (get rows.bonds k)
 abbrev pub with_line : Rows → ℕ → ℕ → PaidRow → Rows
 with_line rows t place line = marked (with_paid rows (t, place) line) (line.letter, line.number) t
 
--- the lines of a ticket, from a place on
+-- with lines added to a ticket, in consecutive places from this one, and their bonds marked
 abbrev pub with_lines : Rows → ℕ → ℕ → List PaidRow → Rows
 with_lines rows t place [] = rows
 with_lines rows t place (line ∷ lines) = with_lines (with_line rows t place line) t (place + 1) lines
@@ -205,14 +205,14 @@ IsUnpaid rows k = AllByRecursion (λ e. (e.1.letter, e.1.number) ≢ k) (entries
 abbrev pub CanPay : Rows → ℕ → ℕ → PaidRow → Type 0
 CanPay rows t place line = (get rows.paid (t, place) ≡ None) × IsUnpaid rows (line.letter, line.number)
 
--- so it is of each line in turn, from a place on
+-- the same for each line in order, in consecutive places from this one
 abbrev pub CanPayAll : Rows → ℕ → ℕ → List PaidRow → Type 0
 CanPayAll rows t place [] = ⊤
 CanPayAll rows t place (line ∷ lines) = CanPay rows t place line × CanPayAll (with_line rows t place line) t (place + 1) lines
 
 -- ---- what is looked up
 
--- the tickets of a day, in order of their numbers
+-- the tickets of a day, by number
 abbrev pub tickets_on : Rows → ℕ → List (ℕ × TicketRow)
 tickets_on rows day = filter (λ e. e.1.day == day) (entries rows.tickets)
 
@@ -227,10 +227,10 @@ last_number [] = None
 last_number (e ∷ []) = Some e.0
 last_number (e ∷ f ∷ more) = last_number (f ∷ more)
 
--- the lines of a ticket, in order of their places
+-- the lines of a ticket, by place
 abbrev pub lines_on : Rows → ℕ → List ((ℕ × ℕ) × PaidRow)
 lines_on rows ticket = filter (λ e. e.0.0 == ticket) (entries rows.paid)
 
--- the bonds of an owner that no ticket paid, in order of their serial numbers
+-- the unpaid bonds of an owner, by serial number
 abbrev pub unpaid_of : Rows → ℕ → List ((ℕ × ℕ) × BondRow)
 unpaid_of rows owner = filter (λ e. (e.1.owner == owner) && is_none e.1.ticket) (entries rows.bonds)

@@ -1,5 +1,5 @@
 -- What a statement in a transaction does to the store, and to the rows that are seen there.
--- Of a store that a failing disk has shut nothing is said.
+-- Nothing is said of a store that a failing disk has shut.
 use Rattle.std.specs.Prelude.{◌≡◌, ◌⊎◌, ⊤, ℕ, ◌+◌, false, None, Result, IsTrue, IfOk, IfErr, OnOk, OnErr}
 use Rattle.sqlite_disk.specs.Disk.{MoreFaults}
 use Rattle.sqlite.specs.declared.error.Error.{Error}
@@ -31,7 +31,7 @@ LeavesNoMore old new = Survives old new (λ _. ⊥)
 
 -- ---- what a statement writes
 
--- what it makes of the rows
+-- the change that it makes to the rows
 abbrev pub Makes : {X E : Type 0} → State → State → Result X E → (Rows → Rows) → Type 0
 Makes old new result next = HasCleanDisk new → OnOk result ((rows : Rows) → Sees old rows → Sees new (next rows))
 
@@ -39,17 +39,17 @@ Makes old new result next = HasCleanDisk new → OnOk result ((rows : Rows) → 
 abbrev pub LeavesSound : {X E : Type 0} → State → State → Result X E → Type 0
 LeavesSound old new result = HasCleanDisk new → IsInside old → OnOk result (IsTrue new.is_open → IsDatabase new.now)
 
--- as many rows more fit as before
+-- as many more rows fit as before
 abbrev pub KeepsRoom : {X E : Type 0} → State → State → Result X E → Type 0
 KeepsRoom old new result = HasCleanDisk new → IsInside old → OnOk result ((rows : Rows) → Sees old rows → (n : ℕ) → HasRoom n old → HasRoom n new)
 
--- so many fewer fit
+-- `count` fewer rows fit
 abbrev pub TakesRoom : {X E : Type 0} → State → State → Result X E → ℕ → Type 0
 TakesRoom old new result count = HasCleanDisk new → IsInside old → OnOk result ((rows : Rows) → Sees old rows → (n : ℕ) → HasRoom (n + count) old → HasRoom n new)
 
 -- ---- what a statement reads
 
--- what it finds of the rows
+-- what it finds in the rows
 abbrev pub Finds : {X E : Type 0} → State → State → Result X E → (Rows → X → Type 0) → Type 0
 Finds old new result Shows = HasCleanDisk new → IfOk result (λ found. (rows : Rows) → Sees old rows → Shows rows found)
 
@@ -65,19 +65,19 @@ FailsAlone old new result = HasCleanDisk new → IsInside old → OnErr result (
 abbrev pub HasCause : State → State → Type 0
 HasCause old new = MoreFaults old.faults new.faults ⊎ (old.is_open ≡ false)
 
--- it is want of memory, or a failure of the store that has such a cause
+-- want of memory, or a failure of the store with such a cause
 abbrev pub IsExcused : State → State → Failure → Type 0
 IsExcused old new NoMemory = ⊤
 IsExcused old new StoreFailed = HasCause old new
 
--- in a transaction that sees rows of which this holds, with no limit on steps
+-- in a transaction that sees allowed rows, without a limit on steps
 abbrev pub FailsByCause : {X : Type 0} → State → State → Result X Failure → (Rows → Type 0) → Type 0
 FailsByCause old new result Allows = HasCleanDisk new → IsInside old → old.step_limit ≡ None → (rows : Rows) → Sees old rows → Allows rows → IfErr result (IsExcused old new)
 
--- the same of a query, whatever rows it finds
+-- the same for a query, whatever rows it finds
 abbrev pub QueryFailsByCause : {X : Type 0} → State → State → Result X Error → Type 0
 QueryFailsByCause old new result = HasCleanDisk new → IsInside old → old.step_limit ≡ None → IfErr result (λ e. IsExcused old new (failure_of e))
 
--- nothing but want of memory
+-- only want of memory
 abbrev pub IsMemory : Error → Type 0
 IsMemory e = failure_of e ≡ NoMemory

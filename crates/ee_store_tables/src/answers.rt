@@ -31,7 +31,7 @@ use crate::values::whole;
 use sqlite::types::ToSql;
 use sqlite::{Alter, Error, Row, Transaction};
 
-/// Keeps the texts of an act and a reply under a desk and a number.
+/// Adds the texts of an act and a reply, under a desk and a number.
 pub fn add_answer_texts<S: Alter>(
     tx: &mut Transaction<'_, S>,
     desk: u64,
@@ -65,7 +65,7 @@ pub fn add_answer_texts<S: Alter>(
     Ok(())
 }
 
-/// Keeps an act and a reply under a desk and a number.
+/// Adds an act and a reply, under a desk and a number.
 pub fn add_answer<S: Alter>(
     tx: &mut Transaction<'_, S>,
     desk: u64,
@@ -89,7 +89,7 @@ pub fn add_answer<S: Alter>(
     add_answer_texts(tx, desk, number, entry.act.as_str(), entry.reply.as_str())
 }
 
-/// The row that is kept under the desk and the number, if there is one.
+/// The row under the desk and the number, if there is one.
 fn answer_rows<S: Alter>(
     tx: &mut Transaction<'_, S>,
     desk: u64,
@@ -112,7 +112,7 @@ fn answer_rows<S: Alter>(
     )
 }
 
-/// The entry that a look-up showed.
+/// The entry that a look-up found.
 fn read_entry(rows: &[Row]) -> Result<Option<ReplyRow>, Error>
     ensures found { IfOk result
         (λ found. (kept : Option table.ReplyRow) → rows.now ≡ option_to_list (option_map reply_columns kept) → option_map row_of_reply found ≡ kept) }
@@ -128,7 +128,7 @@ fn read_entry(rows: &[Row]) -> Result<Option<ReplyRow>, Error>
     }
 }
 
-/// What is kept under the desk and the number.
+/// Finds the entry under the desk and the number.
 pub fn find_answer<S: Alter>(
     tx: &mut Transaction<'_, S>,
     desk: u64,

@@ -75,7 +75,7 @@ fn batch_rows<S: Alter>(tx: &mut Transaction<'_, S>, day: u64) -> Result<Vec<Row
     )
 }
 
-/// The batch that a look-up showed.
+/// The batch that a look-up found.
 fn read_batch(rows: &[Row]) -> Result<Option<BatchRow>, Error>
     ensures found { IfOk result
         (λ found. (batch : Option table.BatchRow) → rows.now ≡ option_to_list (option_map batch_columns batch) → option_map row_of_batch found ≡ batch) }
@@ -91,7 +91,7 @@ fn read_batch(rows: &[Row]) -> Result<Option<BatchRow>, Error>
     }
 }
 
-/// The batch of a day.
+/// Finds the batch of a day.
 pub fn find_batch<S: Alter>(
     tx: &mut Transaction<'_, S>,
     day: u64,

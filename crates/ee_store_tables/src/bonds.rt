@@ -30,7 +30,7 @@ use crate::values::{optional, whole};
 use sqlite::{Alter, Error, Row, Transaction};
 use std::alloc::Global;
 
-/// Registers a bond. Where its serial number has one, nothing changes.
+/// Registers a bond. If its serial number is registered, nothing changes.
 pub fn add_bond<S: Alter>(tx: &mut Transaction<'_, S>, bond: UnpaidBond) -> Result<(), Failure>
     requires { FitsUnpaid bond }
     ensures same_reference { tx.new.conn.ghost_name ≡ tx.old.conn.ghost_name }
@@ -56,7 +56,7 @@ pub fn add_bond<S: Alter>(tx: &mut Transaction<'_, S>, bond: UnpaidBond) -> Resu
     Ok(())
 }
 
-/// Marks a bond as paid on a ticket. Where no such bond is registered, nothing changes.
+/// Marks a bond as paid on a ticket. If the bond isn't registered, nothing changes.
 pub fn mark_bond<S: Alter>(
     tx: &mut Transaction<'_, S>,
     serial: Serial,
@@ -98,7 +98,7 @@ fn bond_rows<S: Alter>(tx: &mut Transaction<'_, S>, serial: Serial) -> Result<Ve
     )
 }
 
-/// The bond that a look-up showed.
+/// The bond that a look-up found.
 fn read_bond(rows: &[Row]) -> Result<Option<BondRow>, Error>
     ensures found { IfOk result
         (λ found. (bond : Option table.BondRow) → rows.now ≡ option_to_list (option_map bond_columns bond) → option_map row_of_bond found ≡ bond) }
@@ -116,7 +116,7 @@ fn read_bond(rows: &[Row]) -> Result<Option<BondRow>, Error>
     }
 }
 
-/// The bond of a serial number.
+/// Finds the bond with this serial number.
 pub fn find_bond<S: Alter>(
     tx: &mut Transaction<'_, S>,
     serial: Serial,
@@ -154,7 +154,7 @@ impl Record for UnpaidBond {
     }
 }
 
-/// The rows of an owner's bonds that no ticket paid.
+/// The rows of an owner's unpaid bonds.
 fn owner_rows<S: Alter>(tx: &mut Transaction<'_, S>, owner: u64) -> Result<Vec<Row>, Error>
     requires { Fits owner }
     ensures same_reference { tx.new.conn.ghost_name ≡ tx.old.conn.ghost_name }
@@ -172,7 +172,7 @@ fn owner_rows<S: Alter>(tx: &mut Transaction<'_, S>, owner: u64) -> Result<Vec<R
     )
 }
 
-/// The bonds of an owner that no ticket paid, in order of their serial numbers.
+/// Finds the unpaid bonds of an owner, by serial number.
 pub fn bonds_of_owner<S: Alter>(
     tx: &mut Transaction<'_, S>,
     alloc: Global,

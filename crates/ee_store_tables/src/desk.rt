@@ -30,7 +30,7 @@ use crate::records::DeskRow;
 use crate::values::{optional, whole};
 use sqlite::{Alter, Error, Row, Transaction};
 
-/// Sets the open day and the day that was closed last.
+/// Sets the open day and the last closed day.
 pub fn set_day<S: Alter>(
     tx: &mut Transaction<'_, S>,
     day: Option<u64>,
@@ -54,7 +54,7 @@ pub fn set_day<S: Alter>(
     Ok(())
 }
 
-/// Sets the version that the desk's row names.
+/// Sets the version in the desk's row.
 pub fn set_version<S: Alter>(tx: &mut Transaction<'_, S>, version: u64) -> Result<(), Failure>
     requires { Fits version }
     ensures same_reference { tx.new.conn.ghost_name ≡ tx.old.conn.ghost_name }
@@ -74,7 +74,7 @@ pub fn set_version<S: Alter>(tx: &mut Transaction<'_, S>, version: u64) -> Resul
     Ok(())
 }
 
-/// The desk's row, if it is there.
+/// The desk's row, if it exists.
 fn desk_rows<S: Alter>(tx: &mut Transaction<'_, S>) -> Result<Vec<Row>, Error>
     ensures same_reference { tx.new.conn.ghost_name ≡ tx.old.conn.ghost_name }
     ensures open { LeavesOpen (state S.Store tx.new.conn.now) result }
@@ -91,7 +91,7 @@ fn desk_rows<S: Alter>(tx: &mut Transaction<'_, S>) -> Result<Vec<Row>, Error>
     )
 }
 
-/// The desk that a look-up showed.
+/// The desk's row that a look-up found.
 fn read_desk(rows: &[Row]) -> Result<Option<DeskRow>, Error>
     ensures found { IfOk result
         (λ found. (desk : Option table.DeskRow) → rows.now ≡ option_to_list (option_map desk_columns desk) → option_map row_of_desk found ≡ desk) }
@@ -107,7 +107,7 @@ fn read_desk(rows: &[Row]) -> Result<Option<DeskRow>, Error>
     }
 }
 
-/// The desk: the version of the tables, the open day, and the day that was closed last.
+/// Finds the desk's row: the version of the tables, the open day, and the last closed day.
 pub fn find_desk<S: Alter>(tx: &mut Transaction<'_, S>) -> Result<Option<DeskRow>, Failure>
     ensures same_reference { tx.new.conn.ghost_name ≡ tx.old.conn.ghost_name }
     ensures open { LeavesOpen (state S.Store tx.new.conn.now) result }

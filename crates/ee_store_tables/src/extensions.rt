@@ -1,4 +1,4 @@
-//! The table `extensions`: the rate of extended maturity of each period where it is another than the fixed one.
+//! The table `extensions`: each period's rate of extended maturity, if it differs from the fixed rate.
 
 ghost use Rattle.std.specs.Prelude.{◌≡◌, option_map, ⊤};
 ghost use Rattle.std.specs.Option.{option_to_list};
@@ -26,7 +26,7 @@ use crate::records::RateRow;
 use crate::values::whole;
 use sqlite::{Alter, Error, Row, Transaction};
 
-/// Adds an extension. Where its period has one, nothing changes.
+/// Adds an extension. If its period has one, nothing changes.
 pub fn add_extension<S: Alter>(
     tx: &mut Transaction<'_, S>,
     extension: RateRow,
@@ -67,7 +67,7 @@ fn extension_rows<S: Alter>(tx: &mut Transaction<'_, S>, period: u64) -> Result<
     )
 }
 
-/// The extension of a period in hundredths of a percent, if it has one.
+/// Finds the extension of a period in hundredths of a percent, if it has one.
 pub fn find_extension<S: Alter>(
     tx: &mut Transaction<'_, S>,
     period: u64,

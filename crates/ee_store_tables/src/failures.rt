@@ -6,9 +6,9 @@ use std::alloc::AllocError;
 /// Why a statement, or a call that makes statements, was not done.
 #[derive(Clone, Copy, Debug, PartialEq, Eq)]
 pub enum Failure {
-    /// There was no memory for it.
+    /// Memory was refused.
     NoMemory,
-    /// The store failed, or held what no row of a counter is.
+    /// The store failed, or has a row that no counter has.
     StoreFailed,
 }
 

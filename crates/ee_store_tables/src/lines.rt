@@ -29,7 +29,7 @@ use crate::values::whole;
 use sqlite::{Alter, Error, Row, Transaction};
 use std::alloc::Global;
 
-/// Adds a line in its place on a ticket.
+/// Adds a line to a ticket, in its place.
 pub fn add_paid<S: Alter>(
     tx: &mut Transaction<'_, S>,
     ticket: u64,
@@ -62,7 +62,7 @@ pub fn add_paid<S: Alter>(
     Ok(())
 }
 
-/// Adds four lines to a ticket, in their places from this one on, by one statement.
+/// Adds four lines to a ticket, in consecutive places from this one, by one statement.
 fn add_four<S: Alter>(
     tx: &mut Transaction<'_, S>,
     ticket: u64,
@@ -128,7 +128,7 @@ struct FirstFour<'a> {
     rest: &'a [PaidRow],
 }
 
-/// The first four lines, where there are so many.
+/// The first four lines; `None` if there are fewer.
 fn first_four(lines: &[PaidRow]) -> Option<FirstFour<'_>>
     ensures { IfSome result (λ it. lines.now ≡ it.first ∷ it.second ∷ it.third ∷ it.fourth ∷ it.rest.now) }
 {
@@ -145,7 +145,7 @@ fn first_four(lines: &[PaidRow]) -> Option<FirstFour<'_>>
     })
 }
 
-/// Adds lines to a ticket, in their places from this one on, one by one.
+/// Adds lines to a ticket, in consecutive places from this one, one by one.
 fn add_each<S: Alter>(
     tx: &mut Transaction<'_, S>,
     ticket: u64,
@@ -175,7 +175,8 @@ fn add_each<S: Alter>(
     }
 }
 
-/// Adds lines to a ticket, in their places from this one on: four by one statement, and what is left over one by one.
+/// Adds lines to a ticket, in consecutive places from this one: groups of four by one statement each, and the
+/// rest one by one.
 fn add_lines<S: Alter>(
     tx: &mut Transaction<'_, S>,
     ticket: u64,
@@ -244,7 +245,7 @@ fn mark_lines<S: Alter>(
     }
 }
 
-/// Adds lines to a ticket, in their places from this one on, and marks their bonds as paid.
+/// Adds lines to a ticket, in consecutive places from this one, and marks their bonds as paid.
 pub fn pay_lines<S: Alter>(
     tx: &mut Transaction<'_, S>,
     ticket: u64,
@@ -303,7 +304,7 @@ fn line_rows<S: Alter>(tx: &mut Transaction<'_, S>, ticket: u64) -> Result<Vec<R
     )
 }
 
-/// The lines of a ticket, in order of their places.
+/// Finds the lines of a ticket, by place.
 pub fn ticket_lines<S: Alter>(
     tx: &mut Transaction<'_, S>,
     alloc: Global,

@@ -26,7 +26,7 @@ use crate::records::RateRow;
 use crate::values::whole;
 use sqlite::{Alter, Error, Row, Transaction};
 
-/// Adds a rate. Where its period has one, nothing changes.
+/// Adds a rate. If its period has one, nothing changes.
 pub fn add_rate<S: Alter>(tx: &mut Transaction<'_, S>, rate: RateRow) -> Result<(), Failure>
     requires { FitsRate rate }
     ensures same_reference { tx.new.conn.ghost_name ≡ tx.old.conn.ghost_name }
@@ -60,7 +60,7 @@ fn rate_rows<S: Alter>(tx: &mut Transaction<'_, S>, period: u64) -> Result<Vec<R
     tx.query_all("SELECT rate FROM rates WHERE period = ?1", &[whole(period)])
 }
 
-/// The rate of a period, in hundredths of a percent.
+/// Finds the rate of a period, in hundredths of a percent.
 pub fn find_rate<S: Alter>(tx: &mut Transaction<'_, S>, period: u64) -> Result<Option<u64>, Failure>
     requires { Fits period }
     ensures same_reference { tx.new.conn.ghost_name ≡ tx.old.conn.ghost_name }

@@ -1,4 +1,4 @@
-//! Rows that a query showed, read one after another.
+//! Reading the rows of a query.
 
 ghost use Rattle.std.specs.Prelude.{◌≡◌, ℕ, List, Option, option_map, IfOk, IfErr, map, [], ◌∷◌};
 ghost use Rattle.std.specs.Option.{option_to_list};
@@ -10,9 +10,9 @@ use crate::failures::Failure;
 use sqlite::{Error, Row};
 use std::alloc::Global;
 
-/// What a row of a query is read as.
+/// The type that a row of a query is read as.
 pub trait Record: Sized {
-    // The columns that the query shows of it.
+    // The columns in which the query shows it.
     ghost shown: { Self → Columns };
 
     /// Reads a row.
@@ -21,7 +21,7 @@ pub trait Record: Sized {
         ensures memory { IfErr result (λ failure. (found : Self) → row.now ≡ shown found → failure ≡ Failure.NoMemory) };
 }
 
-/// Reads the rows that a query showed, in their order.
+/// Reads the rows of a query, in order.
 pub(crate) fn read_each<T: Record + Drop>(alloc: Global, rows: &[Row]) -> Result<Vec<T>, Failure>
     ensures exact { IfOk result (λ found. rows.now ≡ map T.shown found.items) }
     ensures memory { IfErr result (λ failure. (all : List T) → rows.now ≡ map T.shown all → failure ≡ Failure.NoMemory) }
@@ -36,7 +36,7 @@ pub(crate) fn read_each<T: Record + Drop>(alloc: Global, rows: &[Row]) -> Result
     Ok(found)
 }
 
-/// The number that a query of one number showed, if it showed one.
+/// The number that a query of one number found, if it found one.
 pub(crate) fn read_number(rows: &[Row]) -> Result<Option<u64>, Error>
     ensures found { IfOk result (λ found. (number : Option ℕ) → rows.now ≡ option_to_list (option_map (λ n. number_in_store n ∷ []) number) → found ≡ number) }
     ensures memory { IfErr result (λ e. (number : Option ℕ) → rows.now ≡ option_to_list (option_map (λ n. number_in_store n ∷ []) number) → IsMemory e) }

@@ -3,18 +3,18 @@
 //! Months are counted from May 2005, days from 1970-01-01, letters from 1 for A. Rates are in
 //! hundredths of a percent, denominations in dollars, all other money in cents.
 
-/// The desk: the version of its tables, the open day, and the day that was closed last.
+/// The desk's row: the version of the tables, the open day, and the last closed day.
 #[derive(Clone, Copy, Debug)]
 pub struct DeskRow {
     /// The version of the tables.
     pub version: u64,
     /// The open day, if one is open.
     pub day: Option<u64>,
-    /// The day that was closed last, if one was.
+    /// The last closed day, if there is one.
     pub last_day: Option<u64>,
 }
 
-/// A rate of bonds that are issued in a period: the fixed one, or that of extended maturity.
+/// A rate of the bonds issued in a period: the fixed rate, or that of extended maturity.
 #[derive(Clone, Copy)]
 pub struct RateRow {
     /// The first month of the period.
@@ -26,28 +26,28 @@ pub struct RateRow {
 /// A serial number.
 #[derive(Clone, Copy)]
 pub struct Serial {
-    /// Its letter, 1 for A.
+    /// The letter, 1 for A.
     pub letter: u64,
-    /// Its number, up to 9,999,999,999.
+    /// The number, up to 9,999,999,999.
     pub number: u64,
 }
 
-/// A bond of the register, and the ticket that paid it.
+/// A registered bond, and the ticket that paid it.
 #[derive(Clone, Copy, Debug)]
 pub struct BondRow {
     /// The denomination in dollars.
     pub denom: u64,
-    /// The month of issue.
+    /// The issue month.
     pub issued: u64,
-    /// The customer who owns it.
+    /// The customer who is the owner.
     pub owner: u64,
-    /// The customer who owns it too, if there is one.
+    /// The customer who is the coowner, if there is one.
     pub coowner: Option<u64>,
     /// The number of the ticket that paid it, if one did.
     pub ticket: Option<u64>,
 }
 
-/// A bond under its serial number, which no ticket paid.
+/// An unpaid bond, with its serial number.
 #[derive(Clone, Copy, Debug)]
 pub struct UnpaidBond {
     /// The letter of its serial number, 1 for A.
@@ -56,11 +56,11 @@ pub struct UnpaidBond {
     pub number: u64,
     /// The denomination in dollars.
     pub denom: u64,
-    /// The month of issue.
+    /// The issue month.
     pub issued: u64,
-    /// The customer who owns it.
+    /// The customer who is the owner.
     pub owner: u64,
-    /// The customer who owns it too, if there is one.
+    /// The customer who is the coowner, if there is one.
     pub coowner: Option<u64>,
 }
 
@@ -71,59 +71,59 @@ pub struct TicketRow {
     pub day: u64,
     /// The customer who was paid.
     pub payee: u64,
-    /// How many bonds it paid.
+    /// The number of bonds on the ticket.
     pub bonds: u64,
-    /// What it paid, in cents.
+    /// The total, in cents.
     pub total: u64,
 }
 
-/// The sums of a ticket, under its number.
+/// The sums of a ticket, with its number.
 #[derive(Clone, Copy, Debug)]
 pub struct TicketSum {
     /// The number of the ticket.
     pub ticket: u64,
-    /// How many bonds it paid.
+    /// The number of bonds on the ticket.
     pub bonds: u64,
-    /// What it paid, in cents.
+    /// The total, in cents.
     pub total: u64,
 }
 
-/// A line of a ticket: a bond, and what was paid for it.
+/// A line of a ticket: a bond, and what it was paid.
 #[derive(Clone, Copy)]
 pub struct PaidRow {
     /// The letter of the bond's serial number.
     pub letter: u64,
     /// The number of the bond's serial number.
     pub number: u64,
-    /// What was paid for it, in cents.
+    /// The payment, in cents.
     pub cents: u64,
 }
 
-/// A line of a ticket, and its place on the ticket.
+/// A line of a ticket, with its place on the ticket.
 #[derive(Clone, Copy, Debug)]
 pub struct PlacedLine {
-    /// Its place, from 1 on.
+    /// The place, from 1.
     pub place: u64,
     /// The letter of the bond's serial number.
     pub letter: u64,
     /// The number of the bond's serial number.
     pub number: u64,
-    /// What was paid for it, in cents.
+    /// The payment, in cents.
     pub cents: u64,
 }
 
 /// The sums of a closed day.
 #[derive(Clone, Copy, Debug)]
 pub struct BatchRow {
-    /// How many tickets the day had.
+    /// The number of tickets on that day.
     pub tickets: u64,
-    /// How many bonds they paid.
+    /// The number of bonds on them.
     pub bonds: u64,
-    /// What they paid, in cents.
+    /// Their total, in cents.
     pub total: u64,
 }
 
-/// The act and the reply that are kept under a desk and a number, as texts.
+/// The act and the reply under a desk and a number, as texts.
 #[derive(Drop)]
 pub struct ReplyRow {
     /// The canonical text of the act.

@@ -29,7 +29,7 @@ use crate::values::whole;
 use sqlite::{Alter, Error, Row, Transaction};
 use std::alloc::Global;
 
-/// Adds a ticket under its number.
+/// Adds a ticket with its number.
 pub fn add_ticket<S: Alter>(
     tx: &mut Transaction<'_, S>,
     number: u64,
@@ -60,7 +60,7 @@ pub fn add_ticket<S: Alter>(
     Ok(())
 }
 
-/// The row of a ticket, if there is one of that number.
+/// The row of the ticket with this number, if there is one.
 fn ticket_rows<S: Alter>(tx: &mut Transaction<'_, S>, number: u64) -> Result<Vec<Row>, Error>
     requires { Fits number }
     ensures same_reference { tx.new.conn.ghost_name ≡ tx.old.conn.ghost_name }
@@ -78,7 +78,7 @@ fn ticket_rows<S: Alter>(tx: &mut Transaction<'_, S>, number: u64) -> Result<Vec
     )
 }
 
-/// The ticket that a look-up showed.
+/// The ticket that a look-up found.
 fn read_ticket(rows: &[Row]) -> Result<Option<TicketRow>, Error>
     ensures found { IfOk result
         (λ found. (ticket : Option table.TicketRow) → rows.now ≡ option_to_list (option_map ticket_columns ticket) → option_map row_of_ticket found ≡ ticket) }
@@ -95,7 +95,7 @@ fn read_ticket(rows: &[Row]) -> Result<Option<TicketRow>, Error>
     }
 }
 
-/// The ticket of a number, without its lines.
+/// Finds the ticket with this number, without its lines.
 pub fn find_ticket<S: Alter>(
     tx: &mut Transaction<'_, S>,
     number: u64,
@@ -148,7 +148,7 @@ fn day_rows<S: Alter>(tx: &mut Transaction<'_, S>, day: u64) -> Result<Vec<Row>,
     )
 }
 
-/// The sums of a day's tickets, in order of their numbers.
+/// Finds the sums of a day's tickets, by number.
 pub fn day_tickets<S: Alter>(
     tx: &mut Transaction<'_, S>,
     alloc: Global,
@@ -186,7 +186,7 @@ fn first_rows<S: Alter>(tx: &mut Transaction<'_, S>, day: u64) -> Result<Vec<Row
     )
 }
 
-/// The number of a day's first ticket, if the day has one.
+/// Finds the number of a day's first ticket, if the day has one.
 pub fn first_ticket<S: Alter>(tx: &mut Transaction<'_, S>, day: u64) -> Result<Option<u64>, Failure>
     requires { Fits day }
     ensures same_reference { tx.new.conn.ghost_name ≡ tx.old.conn.ghost_name }
@@ -219,7 +219,7 @@ fn last_rows<S: Alter>(tx: &mut Transaction<'_, S>) -> Result<Vec<Row>, Error>
     )
 }
 
-/// The number of the last ticket, if there is a ticket.
+/// Finds the number of the last ticket, if there is one.
 pub fn last_ticket<S: Alter>(tx: &mut Transaction<'_, S>) -> Result<Option<u64>, Failure>
     ensures same_reference { tx.new.conn.ghost_name ≡ tx.old.conn.ghost_name }
     ensures open { LeavesOpen (state S.Store tx.new.conn.now) result }

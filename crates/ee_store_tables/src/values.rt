@@ -16,7 +16,7 @@ pub(crate) fn whole<'a>(number: u64) -> ValueRef<'a>
     ValueRef::Int(number as i64)
 }
 
-/// A number that may be missing as a value of the store: NULL stands for none.
+/// An optional number as a value of the store; NULL means None.
 pub(crate) fn optional<'a>(number: Option<u64>) -> ValueRef<'a>
     requires { IfSome number Fits }
     ensures { owned result ≡ rows.optional number }
