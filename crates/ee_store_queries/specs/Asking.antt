@@ -1,5 +1,5 @@
--- What a query shows of the content that a store has.
--- Of a store that a failing disk has shut nothing is said.
+-- What a query shows of the content of a store.
+-- Nothing is said of a store that a failing disk has shut.
 use Rattle.std.specs.Prelude.{ℕ, Result, IfOk, IfErr}
 use Rattle.sqlite.specs.State.{State, HasCleanDisk}
 use Rattle.ee_units.specs.Denoms.{dollars}
@@ -17,7 +17,7 @@ use Rattle.ee_store_tables.specs.declared.failures.Failure.{Failure}
 abbrev pub ShowsContent : {X E : Type 0} → State → State → Result X E → (Content → X → Type 0) → Type 0
 ShowsContent old new result Is = HasCleanDisk new → IfOk result (λ shown. (content : Content) → HasContent old content → Is content shown)
 
--- whichever content the store has, it keeps
+-- a content that the store has, it keeps
 abbrev pub KeepsContent : State → State → Type 0
 KeepsContent old new = HasCleanDisk new → (content : Content) → HasContent old content → HasContent new content
 
@@ -29,7 +29,7 @@ KeepsRoom old new = HasCleanDisk new → (content : Content) → HasContent old 
 abbrev pub row_of_placed : PlacedLine → PaidRow
 row_of_placed line = record { letter = line.letter; number = line.number; cents = line.cents }
 
--- the row of a bond that no ticket paid
+-- the row of an unpaid bond
 abbrev pub unpaid_row : Bond → UnpaidBond
 unpaid_row bond = record {
   letter = bond.serial.letter;
@@ -40,6 +40,6 @@ unpaid_row bond = record {
   coowner = bond.coowner;
 }
 
--- of a store that is ready and has a content
+-- for a store that is ready and has a content
 abbrev pub AnswersOrFails : {X : Type 0} → State → State → Result X Failure → Type 0
 AnswersOrFails old new result = HasCleanDisk new → IsReady old → (content : Content) → HasContent old content → IfErr result (IsExcused old new)

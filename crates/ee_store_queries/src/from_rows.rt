@@ -1,4 +1,4 @@
-//! Rows of the tables as what they show: batches, tickets and bonds.
+//! The batches, tickets and bonds in the rows of the tables.
 
 ghost use Rattle.std.specs.Prelude.{◌≡◌, List, IfOk, IfErr, IfSome, IsSome, All, map};
 ghost use Rattle.std.specs.List.{AllByRecursion};
@@ -17,7 +17,7 @@ use ee_store_tables::{BatchRow, BondRow, Failure, PlacedLine, TicketRow, UnpaidB
 use ee_units::{Cents, Customer, Day, Serial};
 use std::alloc::Global;
 
-/// The batch that a look-up showed of a day.
+/// The batch of a day that a look-up found.
 pub fn batch_shown(day: Day, found: Option<BatchRow>) -> Option<Batch>
     ensures row { option_map batch_row result ≡ option_map row_of_batch found }
     ensures day { IfSome result (λ batch. batch.day ≡ day) }
@@ -59,7 +59,7 @@ fn lines_shown(alloc: Global, rows: &[PlacedLine]) -> Result<Vec<Line>, Failure>
     Ok(lines)
 }
 
-/// A ticket and its lines, by their rows.
+/// A ticket with its lines, from their rows.
 pub fn ticket_shown(
     alloc: Global,
     number: u64,
@@ -113,7 +113,7 @@ pub fn bonds_shown(alloc: Global, rows: &[UnpaidBond]) -> Result<Vec<Bond>, Fail
         let Some(bond) = bond_shown(row) else {
             return Err(Failure::StoreFailed);
         };
-        // The proof of this loop has to meet the type of a bond's owner.
+        // The proof of this loop needs the type of a bond's owner to occur.
         let _owner: Customer = bond.owner;
         if bonds.push(bond).is_err() {
             return Err(Failure::NoMemory);

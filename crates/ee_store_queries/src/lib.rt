@@ -1,4 +1,4 @@
-//! Queries of a store: each is one transaction, which is read and rolled back.
+//! Queries of a store. Each is one transaction, which is read and rolled back.
 #![tactic(auto)]
 
 mod from_rows;

@@ -10,7 +10,7 @@ use ee_units::IssueMonth;
 use ee_units::calendar::period_of;
 use std::alloc::{AllocError, Global};
 
-/// Notes a period, where it isn't noted yet.
+/// Notes a period, unless it is noted.
 fn note_period(periods: &mut Vec<IssueMonth>, period: IssueMonth) -> Result<(), AllocError>
     ensures noted { OnOk result (list_any (eq_by_cmp nat_cmp period) periods.new.items ≡ true) }
     ensures kept { OnOk result ((other : ℕ) → list_any (eq_by_cmp nat_cmp other) periods.old.items ≡ true

@@ -23,7 +23,7 @@ use ee_units::{Customer, Day, Denom, IssueMonth, Month};
 use sqlite::{Alter, Connection, Transaction};
 use std::alloc::Global;
 
-/// The batch of a day, where that day is closed.
+/// The batch of a day, if that day is closed.
 pub fn batch_in<S: Alter>(tx: &mut Transaction<'_, S>, day: Day) -> Result<Option<Batch>, Failure>
     ensures same_reference { tx.new.conn.ghost_name ≡ tx.old.conn.ghost_name }
     ensures found { FindsIn (state S.Store tx.old.conn.now) (state S.Store tx.new.conn.now) result (λ content batch. batch ≡ batch_on content.books day) }
@@ -35,7 +35,7 @@ pub fn batch_in<S: Alter>(tx: &mut Transaction<'_, S>, day: Day) -> Result<Optio
     Ok(batch_shown(day, found))
 }
 
-/// The ticket of a number that the store can hold, where there is one.
+/// The ticket with a number that fits a column of the store, if there is one.
 fn find_numbered<S: Alter>(
     tx: &mut Transaction<'_, S>,
     alloc: Global,
@@ -58,7 +58,7 @@ fn find_numbered<S: Alter>(
     Ok(Some(ticket))
 }
 
-/// No ticket, where the tickets so far have smaller numbers.
+/// There is no ticket with a number above those so far.
 fn none_beyond<S: Alter>(
     tx: &mut Transaction<'_, S>,
     number: u64,
@@ -78,7 +78,7 @@ fn none_beyond<S: Alter>(
     }
 }
 
-/// The ticket of a number, where there is one.
+/// The ticket with this number, if there is one.
 pub fn ticket_in<S: Alter>(
     tx: &mut Transaction<'_, S>,
     alloc: Global,
@@ -98,7 +98,7 @@ pub fn ticket_in<S: Alter>(
     }
 }
 
-/// The row in a month of a bond that isn't registered, where there are rates for its issue period.
+/// The row, in a month, of an unregistered bond, if its issue period has rates.
 pub fn quote_in<S: Alter>(
     tx: &mut Transaction<'_, S>,
     alloc: Global,
@@ -118,7 +118,7 @@ pub fn quote_in<S: Alter>(
     Ok(quote(terms.as_ref(), denom, issued, month))
 }
 
-/// The unpaid bonds whose owner is this customer, in order of serial.
+/// The unpaid bonds whose owner is this customer, in order of serial number.
 pub fn bonds_in<S: Alter>(
     tx: &mut Transaction<'_, S>,
     alloc: Global,
@@ -138,7 +138,7 @@ pub fn bonds_in<S: Alter>(
     bonds_shown(alloc, own)
 }
 
-/// The rows in a month of bonds, on the rates of their issue periods.
+/// The rows of bonds in a month, at the rates of their issue periods.
 fn rows_in<S: Alter>(
     tx: &mut Transaction<'_, S>,
     alloc: Global,
@@ -160,7 +160,7 @@ fn rows_in<S: Alter>(
     Ok(rows)
 }
 
-/// The sheet in a month of the unpaid bonds whose owner is this customer, in order of serial.
+/// The sheet, in a month, of the unpaid bonds whose owner is this customer, in order of serial number.
 pub fn inventory_in<S: Alter>(
     tx: &mut Transaction<'_, S>,
     alloc: Global,
@@ -181,7 +181,7 @@ pub fn inventory_in<S: Alter>(
     Ok(sheet(rows))
 }
 
-/// The batch of a day, where that day is closed.
+/// The batch of a day, if that day is closed.
 pub fn ask_batch<S: Alter>(conn: &mut Connection<S>, day: Day) -> Result<Option<Batch>, Failure>
     ensures shown { ShowsContent (state S.Store conn.old) (state S.Store conn.new) result (λ content batch. batch ≡ batch_on content.books day) }
     ensures kept { KeepsContent (state S.Store conn.old) (state S.Store conn.new) }
@@ -197,7 +197,7 @@ pub fn ask_batch<S: Alter>(conn: &mut Connection<S>, day: Day) -> Result<Option<
     batch_in(&mut tx, day)
 }
 
-/// The ticket of a number, where there is one.
+/// The ticket with this number, if there is one.
 pub fn ask_ticket<S: Alter>(
     conn: &mut Connection<S>,
     alloc: Global,
@@ -217,7 +217,7 @@ pub fn ask_ticket<S: Alter>(
     ticket_in(&mut tx, alloc, number)
 }
 
-/// The row in a month of a bond that isn't registered, where there are rates for its issue period.
+/// The row, in a month, of an unregistered bond, if its issue period has rates.
 pub fn ask_quote<S: Alter>(
     conn: &mut Connection<S>,
     alloc: Global,
@@ -240,7 +240,7 @@ pub fn ask_quote<S: Alter>(
     quote_in(&mut tx, alloc, tables, denom, issued, month)
 }
 
-/// The unpaid bonds whose owner is this customer, in order of serial.
+/// The unpaid bonds whose owner is this customer, in order of serial number.
 pub fn ask_bonds<S: Alter>(
     conn: &mut Connection<S>,
     alloc: Global,
@@ -260,7 +260,7 @@ pub fn ask_bonds<S: Alter>(
     bonds_in(&mut tx, alloc, customer)
 }
 
-/// The sheet in a month of the unpaid bonds whose owner is this customer, in order of serial.
+/// The sheet, in a month, of the unpaid bonds whose owner is this customer, in order of serial number.
 pub fn ask_inventory<S: Alter>(
     conn: &mut Connection<S>,
     alloc: Global,
