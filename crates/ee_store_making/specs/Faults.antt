@@ -1,4 +1,5 @@
--- What a failure of `sqlite` says of a store that is opened, why a store is told to have failed, and what a call leaves even so.
+-- How a failure of `sqlite` is reported while a store is opened, why a store is reported as failed, and what a call leaves
+-- even then.
 use Rattle.std.specs.Prelude.{◌≡◌, false, None, Result, IfErr}
 use Rattle.sqlite.specs.State.{State, HasCleanDisk}
 use Rattle.ee_store_tables.specs.Statements.{HasCause}
@@ -10,7 +11,7 @@ use Rattle.sqlite.specs.declared.error.ErrorCode.TheVariants.{OutOfMemory, NameT
 use Rattle.ee_store_making.specs.declared.faults.OpenFault.{OpenFault}
 use Rattle.ee_store_making.specs.declared.faults.OpenFault.TheVariants.{NoMemory, StoreFailed, Unusable}
 
--- A statement that the tables refuse and a value that can't be read tell of another store than ours.
+-- A statement that the tables refuse, or a value that can't be read, means that the store isn't ours.
 abbrev pub fault_of : Error → OpenFault
 fault_of (SqliteFailure OutOfMemory) = NoMemory
 fault_of (SqliteFailure NameTaken) = Unusable
@@ -21,21 +22,21 @@ fault_of (IntegralValueOutOfRange at) = Unusable
 fault_of (Utf8Error at) = Unusable
 fault_of _ = StoreFailed
 
--- a failure of a statement on the tables, where a store is opened
+-- the failure of a statement on the tables while a store is opened
 abbrev pub fault_told : Failure → OpenFault
 fault_told failure.NoMemory = NoMemory
 fault_told failure.StoreFailed = StoreFailed
 
--- and the other way round: of tables that were looked at before, no fault is told but that the store failed
+-- conversely, for tables that were checked before, the only fault besides want of memory is a failed store
 abbrev pub failure_told : OpenFault → Failure
 failure_told NoMemory = failure.NoMemory
 failure_told _ = failure.StoreFailed
 
--- a store that failed has such a cause
+-- a failed store has such a cause
 abbrev pub IsExcused : State → State → OpenFault → Type 0
 IsExcused old new fault = fault ≡ StoreFailed → HasCause old new
 
--- it has, from a state like this on and with no limit on steps
+-- the same, from an allowed state and without a limit on steps
 abbrev pub FailsForCause : {X : Type 0} → (State → Type 0) → State → State → Result X OpenFault → Type 0
 FailsForCause Starts old new result = HasCleanDisk new → Starts old → old.step_limit ≡ None → IfErr result (IsExcused old new)
 

@@ -1,5 +1,5 @@
--- The forms that the tables of a store have, and the rows that a store has in each.
--- Of a store that a failing disk has shut nothing is said.
+-- The forms that the tables of a store have, and the rows of a store in each form.
+-- Nothing is said of a store that a failing disk has shut.
 use Rattle.std.specs.Prelude.{◌≡◌, ℕ, [], ◌∷◌, IsTrue, codes, map}
 use Rattle.std.specs.Ordering.{nat_cmp}
 use Rattle.std.specs.FinMap.{FinMap, empty, entries, from_sorted}
@@ -27,7 +27,7 @@ first_tables = record {
   views = [];
 }
 
--- those of a store that was made before extensions could be named: all but theirs
+-- the tables of a store made before extensions existed: all except theirs
 abbrev pub earliest_tables : Schema
 earliest_tables = record first_tables { tables = desk ∷ rates ∷ bonds ∷ tickets ∷ paid ∷ batches ∷ replies ∷ [] }
 
@@ -36,7 +36,7 @@ schema_of Current = counter_schema
 schema_of First = first_tables
 schema_of Earliest = earliest_tables
 
--- the version that the desk's row names in tables of this form
+-- the version in the desk's row of tables in this form
 abbrev pub version_of : Form → ℕ
 version_of Current = 2
 version_of First = 1
@@ -48,7 +48,7 @@ version_of Earliest = 1
 abbrev pub at_first_desk : FinMap nat_cmp ReplyRow → FinMap pair_cmp ReplyRow
 at_first_desk kept = from_sorted (map (λ e. ((0, e.0), e.1)) (entries kept))
 
--- the replies of version 1, and what they are under desk and number
+-- the replies of version 1, and the same under desk and number
 pub record HoldsReplies (db : Trees) (answers : FinMap pair_cmp ReplyRow) : Type 0 where
   pub kept : FinMap nat_cmp ReplyRow
   pub held : HoldsMap reply_columns (db 11) kept
@@ -65,7 +65,7 @@ pub record HoldsFirst (db : Trees) (rows : Rows) : Type 0 where
   pub answers : HoldsReplies db rows.answers
   pub extensions : HoldsMap rate_columns (db 12) rows.extensions
 
--- the seven tables hold these rows, of which none is an extension
+-- the seven tables hold these rows, which contain no extension
 pub record HoldsEarliest (db : Trees) (rows : Rows) : Type 0 where
   pub desk : HoldsMap desk_columns (db 0) rows.desk
   pub rates : HoldsMap rate_columns (db 1) rows.rates
@@ -86,7 +86,7 @@ pub record StoresFirst (db : Trees) (rows : Rows) : Type 0 where
   pub sound : IsSound first_tables db
   pub holds : HoldsFirst db rows
 
--- likewise the seven tables
+-- the same for the seven tables
 pub record StoresEarliest (db : Trees) (rows : Rows) : Type 0 where
   pub sound : IsSound earliest_tables db
   pub holds : HoldsEarliest db rows
@@ -102,15 +102,15 @@ StoresIn Earliest db rows = StoresEarliest db rows
 abbrev pub SeesSchema : Schema → State → Type 0
 SeesSchema schema s = IsTrue s.is_open → s.now.schema ≡ schema
 
--- it sees tables of this form
+-- a transaction sees tables in this form
 abbrev pub SeesForm : Form → State → Type 0
 SeesForm form s = SeesSchema (schema_of form) s
 
--- it sees tables of this program
+-- a transaction sees tables of this program
 abbrev pub HasOurTables : State → Type 0
 HasOurTables s = (form : Form) × SeesForm form s
 
--- the last commit left tables of this form
+-- the last commit left tables in this form
 abbrev pub HasForm : Form → State → Type 0
 HasForm form s = IsTrue s.is_open → s.committed.schema ≡ schema_of form
 
@@ -120,10 +120,10 @@ IsOurs s = (form : Form) × HasForm form s
 
 -- ---- the rows of a store
 
--- a transaction sees tables of this form with these rows
+-- a transaction sees tables in this form with these rows
 abbrev pub SeesIn : Form → State → Rows → Type 0
 SeesIn form s rows = IsTrue s.is_open → (s.now.schema ≡ schema_of form) × HoldsIn form s.now.trees rows
 
--- the last commit left tables of this form with these rows
+-- the last commit left tables in this form with these rows
 abbrev pub HadIn : Form → State → Rows → Type 0
 HadIn form s rows = IsTrue s.is_open → (s.committed.schema ≡ schema_of form) × HoldsIn form s.committed.trees rows

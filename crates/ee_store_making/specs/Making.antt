@@ -1,4 +1,4 @@
--- A store with no tables, and the tables as they are made in it: those of version 1, and then those of version 2.
+-- A store without tables, and the tables created in it: those of version 1, and from them those of version 2.
 use Rattle.std.specs.Prelude.{◌≡◌, IsTrue, List, ℕ, [], ◌∷◌, Some, None, Ok, Err, Result, true, false, not, slice_get, codes}
 use Rattle.std.specs.List.{AllByRecursion, list_all}
 use Rattle.std.specs.FinMap.{empty, insert}
@@ -28,7 +28,7 @@ use Rattle.ee_store_making.specs.Forms.{replies, SeesSchema}
 abbrev pub no_tables : Schema
 no_tables = record { tables = []; indexes = []; views = [] }
 
--- the desk, the rates and the bonds are there
+-- with the desk, the rates and the bonds
 abbrev pub register_tables : Schema
 register_tables = record {
   tables = desk ∷ rates ∷ bonds ∷ [];
@@ -36,7 +36,7 @@ register_tables = record {
   views = [];
 }
 
--- and so are the tickets and their lines
+-- with the tickets and their lines, too
 abbrev pub payment_tables : Schema
 payment_tables = record {
   tables = desk ∷ rates ∷ bonds ∷ tickets ∷ paid ∷ [];
@@ -45,7 +45,7 @@ payment_tables = record {
   views = [];
 }
 
--- the tables of version 1 and the answers beside them
+-- the tables of version 1, and the answers beside them
 abbrev pub both_tables : Schema
 both_tables = record {
   tables = desk ∷ rates ∷ bonds ∷ tickets ∷ paid ∷ batches ∷ replies ∷ extensions ∷ answers ∷ [];
@@ -54,15 +54,15 @@ both_tables = record {
   views = [];
 }
 
--- the last commit left a store with no tables
+-- the last commit left a store without tables
 abbrev pub IsBlank : State → Type 0
 IsBlank s = IsTrue s.is_open → s.committed.schema ≡ no_tables
 
--- a desk on which nothing was done
+-- a desk at which nothing was done yet
 abbrev pub first_desk : DeskRow
 first_desk = record { version = 2; day = None; last_day = None }
 
--- the rows of a store that was just made
+-- the rows of a new store
 abbrev pub first_rows : Rows
 first_rows = record { desk = insert empty 1 first_desk; rates = empty; bonds = empty; tickets = empty; paid = empty; batches = empty; extensions = empty; answers = empty }
 
@@ -70,40 +70,40 @@ first_rows = record { desk = insert empty 1 first_desk; rates = empty; bonds = e
 abbrev pub SeesTables : State → Schema → Type 0
 SeesTables s schema = IsTrue s.is_open → (s.now.schema ≡ schema) × AllByRecursion (λ t. s.now.trees t.tree ≡ []) schema.tables
 
--- a transaction is under way, and sees these tables with no row in them
+-- a transaction has begun, and sees these tables without rows
 abbrev pub IsAmid : Schema → State → Type 0
 IsAmid schema s = IsTrue s.in_transaction × SeesTables s schema
 
--- the text is this one command, which shows nothing and does not read the time
+-- the text is this one command, which shows nothing and doesn't read the time
 abbrev pub IsCommand : List ℕ → Command → Result Compiled CompileError → Type 0
 IsCommand text command (Ok c) = (c.command ≡ command) × (c.returning ≡ None) × (c.formats ≡ []) × (text_of text c ≡ text)
 IsCommand text command (Err e) = ⊥
 
--- a transaction is under way over these tables, whatever their rows are
+-- a transaction has begun over these tables, whatever their rows are
 abbrev pub IsOver : Schema → State → Type 0
 IsOver schema s = IsTrue s.in_transaction × SeesSchema schema s
 
--- a table more is there, which is empty, and the others have the rows that they had
+-- one more table exists, which is empty, and the others have the same rows as before
 pub record GainsTable (before after : Schema) (old new : State) : Type 0 where
   pub schema : new.now.schema ≡ after
   pub empty : new.now.trees (next_tree before) ≡ []
   pub others : KeepsRows before.tables old.now.trees new.now.trees
   pub sound : IsDatabase new.now
 
--- these tables are left, with the rows that they had
+-- these tables are left, with the same rows as before
 pub record LeavesTables (left : Schema) (old new : State) : Type 0 where
   pub schema : new.now.schema ≡ left
   pub others : KeepsRows left.tables old.now.trees new.now.trees
   pub sound : IsDatabase new.now
 
--- the answers, which are none, are in the place of the replies, and the other tables have the rows that they had
+-- the table of answers, which is empty, replaces that of replies, and the other tables have the same rows as before
 pub record ReplacesReplies (old new : State) : Type 0 where
   pub schema : new.now.schema ≡ counter_schema
   pub empty : new.now.trees 13 ≡ []
   pub others : KeepsRows (desk ∷ rates ∷ bonds ∷ tickets ∷ paid ∷ batches ∷ extensions ∷ []) old.now.trees new.now.trees
   pub sound : IsDatabase new.now
 
--- over the first schema the text makes a table, and so the second schema
+-- over the first schema, the text creates a table, which gives the second schema
 pub record AddsTable (before : Schema) (text : List ℕ) (after : Schema) : Type 0 where
   pub command : IsCommand text CreateTable (understood before text)
   pub table : Table
@@ -114,7 +114,7 @@ pub record AddsTable (before : Schema) (text : List ℕ) (after : Schema) : Type
   pub free : is_used before table.name ≡ false
   pub all_free : list_all (λ index. not (is_used before index.name)) (automatics table 0 0 table.uniques) ≡ true
 
--- likewise for an index over the table at a place
+-- the same for an index of the table at a position
 pub record AddsIndex (before : Schema) (text : List ℕ) (after : Schema) : Type 0 where
   pub place : ℕ
   pub command : IsCommand text (CreateIndex place) (understood before text)
@@ -125,13 +125,13 @@ pub record AddsIndex (before : Schema) (text : List ℕ) (after : Schema) : Type
   pub is : indexed before table index ≡ after
   pub free : is_used before index.name ≡ false
 
--- `sqlite` has no reason to refuse the table that the text makes
+-- `sqlite` has no reason to refuse the table that the text creates
 pub record TakesTable (before : Schema) (text : List ℕ) : Type 0 where
   pub statement : IsOneStatement text 0 (understood before text)
   pub taken : (reason : Refusal) → ¬ RefusesTable before text reason
   pub short : ¬ IsLongTable text
 
--- likewise for an index over the table, where the tables have no rows
+-- the same for an index of the table, if the tables have no rows
 pub record TakesIndex (before : Schema) (text : List ℕ) (table : Table) : Type 0 where
   pub statement : IsOneStatement text 0 (understood before text)
   pub taken : (db : Trees) → AllByRecursion (λ t. db t.tree ≡ []) before.tables → (reason : Refusal) → ¬ RefusesIndex before db table text reason

@@ -1,6 +1,6 @@
-//! The act and the reply of a request, as a row that was read shows them.
+//! The act and the reply of a request, as read from a row.
 
-/// The act and the reply that are kept under a desk and a number, as texts.
+/// The act and the reply under a desk and a number, as texts.
 #[derive(Drop)]
 pub struct StoredAnswer {
     /// The desk that numbered the request.

@@ -7,16 +7,16 @@ use thiserror::Error as Fault;
 /// Why a store isn't opened.
 #[derive(Clone, Copy, Debug, PartialEq, Eq, Fault)]
 pub enum OpenFault {
-    /// There was not enough memory.
+    /// Memory was refused.
     #[error("out of memory")]
     NoMemory,
-    /// The store failed, or it isn't one that `sqlite` opens.
+    /// The store failed, or `sqlite` can't open it.
     #[error("the store failed, or it is none that can be opened")]
     StoreFailed,
-    /// The tables are of another version.
+    /// The tables have another version.
     #[error("the tables of the store are of another version")]
     WrongVersion,
-    /// The tables aren't those of this program, or their rows stand for no books.
+    /// The tables aren't those of this program, or their rows represent no books.
     #[error("the store has no tables and rows of books")]
     Unusable,
 }
@@ -30,7 +30,7 @@ impl From<Error> for OpenFault {
     fn from(error: Error) -> OpenFault {
         match error {
             Error::SqliteFailure(ErrorCode::OutOfMemory) => OpenFault::NoMemory,
-            // The tables are others than a statement takes them to be.
+            // The tables differ from what the statement expects.
             Error::SqlInputError(_) | Error::SqliteFailure(ErrorCode::NameTaken) => {
                 OpenFault::Unusable
             }
@@ -58,7 +58,7 @@ impl From<Failure> for OpenFault {
     }
 }
 
-// Of tables that were looked at before, nothing is told but that the store failed.
+// For tables that were checked before, every other fault is a failed store.
 impl From<OpenFault> for Failure {
     ghost use Rattle.std.specs.Prelude.{◌≡◌};
     ghost use Rattle.ee_store_making.specs.Faults.{failure_told};

@@ -6,16 +6,16 @@ ghost use Rattle.ee_store_making.specs.Forms.{version_of};
 /// The form of the tables of a store.
 #[derive(Clone, Copy)]
 pub enum Form {
-    /// The tables of version 2, which this program makes.
+    /// The tables of version 2, which this program creates.
     Current,
-    /// Those of version 1: replies under a number alone.
+    /// The tables of version 1: replies under a number alone.
     First,
-    /// Those of version 1 in a store that was made before extensions could be named: all but theirs.
+    /// The tables of version 1 in a store made before extensions existed: all except theirs.
     Earliest,
 }
 
 impl Form {
-    /// The version that the desk's row names in tables of this form.
+    /// The version in the desk's row of tables in this form.
     pub const fn version(self) -> u64
         ensures { result ≡ version_of self }
     {

@@ -1,4 +1,4 @@
-//! Laws of the definitions: a body does nothing, and the clauses are the laws.
+//! Laws of the definitions. A body here does nothing; the clauses state the laws.
 
 ghost use Rattle.std.specs.Prelude.{◌≡◌, ◌≢◌, ℕ, None};
 ghost use Rattle.std.specs.Ordering.{nat_cmp};
@@ -8,7 +8,7 @@ ghost use Rattle.ee_store_making.specs.Forms.{at_first_desk};
 
 /// Replies of version 1 belong to the first desk.
 ///
-/// - `first`: it has each of them under the number that it had.
+/// - `first`: it has each of them under the same number.
 /// - `others`: no other desk has one.
 pub const fn first_desk_law()
     ensures first { (kept : FinMap nat_cmp ReplyRow) (number : ℕ) → get (at_first_desk kept) (0, number) ≡ get kept number }

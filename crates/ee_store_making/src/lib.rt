@@ -1,4 +1,4 @@
-//! Making the tables of a store: those of a new one, and of a store of version 1 those of version 2.
+//! Creating the tables of a store, and migrating those of a store of version 1 to version 2.
 #![tactic(auto)]
 
 mod answers;

@@ -1,4 +1,4 @@
-//! Making the tables in an empty store: those of version 1, and then what makes of them those of version 2.
+//! Creating the tables in an empty store: those of version 1, and from them those of version 2.
 
 ghost use Rattle.std.specs.Prelude.{◌≡◌, ◌≢◌, false, IsTrue, IfErr, OnOk, OnErr};
 ghost use Rattle.sqlite.specs.State.{HasCleanDisk, KeepsCommit, Survives};
@@ -32,7 +32,7 @@ ghost use Rattle.ee_store_making.specs.Making.{
 use crate::faults::OpenFault;
 use sqlite::{Alter, Connection, Transaction};
 
-/// Makes a table, beside those that are there and their rows.
+/// Creates a table, beside the tables that exist and their rows.
 fn define_table<S: Alter>(tx: &mut Transaction<'_, S>, sql: &str) -> Result<(), OpenFault>
     ensures same_reference { tx.new.conn.ghost_name ≡ tx.old.conn.ghost_name }
     ensures inside { HasCleanDisk (state S.Store tx.new.conn.now) → OnOk result (IsTrue (state S.Store tx.new.conn.now).in_transaction) }
@@ -54,7 +54,7 @@ fn define_table<S: Alter>(tx: &mut Transaction<'_, S>, sql: &str) -> Result<(), 
     Ok(())
 }
 
-/// Makes an index.
+/// Creates an index.
 fn define_index<S: Alter>(tx: &mut Transaction<'_, S>, sql: &str) -> Result<(), OpenFault>
     ensures same_reference { tx.new.conn.ghost_name ≡ tx.old.conn.ghost_name }
     ensures inside { HasCleanDisk (state S.Store tx.new.conn.now) → OnOk result (IsTrue (state S.Store tx.new.conn.now).in_transaction) }
@@ -73,7 +73,7 @@ fn define_index<S: Alter>(tx: &mut Transaction<'_, S>, sql: &str) -> Result<(), 
     Ok(())
 }
 
-/// Makes the tables of the register: the desk, the rates and the bonds.
+/// Creates the tables of the register: the desk, the rates and the bonds.
 fn make_register<S: Alter>(tx: &mut Transaction<'_, S>) -> Result<(), OpenFault>
     ensures same_reference { tx.new.conn.ghost_name ≡ tx.old.conn.ghost_name }
     ensures inside { HasCleanDisk (state S.Store tx.new.conn.now) → OnOk result (IsTrue (state S.Store tx.new.conn.now).in_transaction) }
@@ -105,7 +105,7 @@ fn make_register<S: Alter>(tx: &mut Transaction<'_, S>) -> Result<(), OpenFault>
     )
 }
 
-/// Makes the tables of the payments: the tickets and their lines.
+/// Creates the tables of payments: the tickets and their lines.
 fn make_payments<S: Alter>(tx: &mut Transaction<'_, S>) -> Result<(), OpenFault>
     ensures same_reference { tx.new.conn.ghost_name ≡ tx.old.conn.ghost_name }
     ensures inside { HasCleanDisk (state S.Store tx.new.conn.now) → OnOk result (IsTrue (state S.Store tx.new.conn.now).in_transaction) }
@@ -130,7 +130,7 @@ fn make_payments<S: Alter>(tx: &mut Transaction<'_, S>) -> Result<(), OpenFault>
     )
 }
 
-/// Makes the table of extensions, the last of version 1.
+/// Creates the table of extensions, the last of version 1.
 pub(crate) fn define_extensions<S: Alter>(tx: &mut Transaction<'_, S>) -> Result<(), OpenFault>
     ensures same_reference { tx.new.conn.ghost_name ≡ tx.old.conn.ghost_name }
     ensures inside { HasCleanDisk (state S.Store tx.new.conn.now) → OnOk result (IsTrue (state S.Store tx.new.conn.now).in_transaction) }
@@ -153,7 +153,7 @@ pub(crate) fn define_extensions<S: Alter>(tx: &mut Transaction<'_, S>) -> Result
     )
 }
 
-/// Makes the table of replies under desk and number, the first step to version 2.
+/// Creates the table of replies under desk and number, the first step to version 2.
 fn define_answers<S: Alter>(tx: &mut Transaction<'_, S>) -> Result<(), OpenFault>
     ensures same_reference { tx.new.conn.ghost_name ≡ tx.old.conn.ghost_name }
     ensures inside { HasCleanDisk (state S.Store tx.new.conn.now) → OnOk result (IsTrue (state S.Store tx.new.conn.now).in_transaction) }
@@ -196,7 +196,7 @@ fn drop_replies<S: Alter>(tx: &mut Transaction<'_, S>) -> Result<(), OpenFault>
     Ok(())
 }
 
-/// Makes of the tables of version 1 those of version 2, with no replies.
+/// Makes the tables of version 2 from those of version 1, without replies.
 pub(crate) fn replace_replies<S: Alter>(tx: &mut Transaction<'_, S>) -> Result<(), OpenFault>
     ensures same_reference { tx.new.conn.ghost_name ≡ tx.old.conn.ghost_name }
     ensures inside { HasCleanDisk (state S.Store tx.new.conn.now) → OnOk result (IsTrue (state S.Store tx.new.conn.now).in_transaction) }
@@ -216,7 +216,7 @@ pub(crate) fn replace_replies<S: Alter>(tx: &mut Transaction<'_, S>) -> Result<(
     drop_replies(tx)
 }
 
-/// Writes the one row of the desk, of version 2, on which nothing was done.
+/// Writes the one row of the desk, of version 2, at which nothing was done yet.
 fn add_desk<S: Alter>(tx: &mut Transaction<'_, S>) -> Result<(), OpenFault>
     ensures same_reference { tx.new.conn.ghost_name ≡ tx.old.conn.ghost_name }
     ensures inside { HasCleanDisk (state S.Store tx.new.conn.now) → OnOk result (IsTrue (state S.Store tx.new.conn.now).in_transaction) }
@@ -239,7 +239,7 @@ fn add_desk<S: Alter>(tx: &mut Transaction<'_, S>) -> Result<(), OpenFault>
     Ok(())
 }
 
-/// Makes the tables of what is kept, the batches and the replies, and then that of extensions.
+/// Creates the tables of the batches and the replies, and then that of the extensions.
 fn make_records<S: Alter>(tx: &mut Transaction<'_, S>) -> Result<(), OpenFault>
     ensures same_reference { tx.new.conn.ghost_name ≡ tx.old.conn.ghost_name }
     ensures inside { HasCleanDisk (state S.Store tx.new.conn.now) → OnOk result (IsTrue (state S.Store tx.new.conn.now).in_transaction) }
@@ -264,7 +264,7 @@ fn make_records<S: Alter>(tx: &mut Transaction<'_, S>) -> Result<(), OpenFault>
     define_extensions(tx)
 }
 
-/// Makes of the tables of version 1 those of version 2, and writes the desk's row.
+/// Makes the tables of version 2 from those of version 1, and writes the desk's row.
 fn make_current<S: Alter>(tx: &mut Transaction<'_, S>) -> Result<(), OpenFault>
     ensures same_reference { tx.new.conn.ghost_name ≡ tx.old.conn.ghost_name }
     ensures inside { HasCleanDisk (state S.Store tx.new.conn.now) → OnOk result (IsTrue (state S.Store tx.new.conn.now).in_transaction) }
@@ -284,7 +284,7 @@ fn make_current<S: Alter>(tx: &mut Transaction<'_, S>) -> Result<(), OpenFault>
     add_desk(tx)
 }
 
-/// Makes the tables and writes the desk's row, inside a transaction.
+/// Creates the tables and writes the desk's row, inside a transaction.
 fn make_in<S: Alter>(tx: &mut Transaction<'_, S>) -> Result<(), OpenFault>
     ensures same_reference { tx.new.conn.ghost_name ≡ tx.old.conn.ghost_name }
     ensures inside { HasCleanDisk (state S.Store tx.new.conn.now) → OnOk result (IsTrue (state S.Store tx.new.conn.now).in_transaction) }
@@ -306,18 +306,18 @@ fn make_in<S: Alter>(tx: &mut Transaction<'_, S>) -> Result<(), OpenFault>
     make_current(tx)
 }
 
-/// Makes the tables of version 2 in a store that has none, in one transaction. They are those of version 1,
-/// made in turn, and then what a migration makes of them, so that each table has the same tree whether a
-/// store was made or migrated.
+/// Creates the tables of version 2 in a store that has none, in one transaction. First come those of version 1
+/// in order, and then the changes of a migration, so each table has the same tree whether a store was created
+/// or migrated.
 ///
-/// Afterwards the store has one row, that of the desk: version 2, no open day and no last day.
-/// An error leaves what was committed. A stop leaves what it could leave before, or the tables as
-/// they are made; after `Ok` nothing but these.
+/// Afterwards the store has one row, that of the desk: version 2, no open day and no last day. An error leaves
+/// what was committed. A stop leaves what it could leave before, or the created tables; after `Ok` only
+/// these.
 ///
 /// # Errors
 ///
-/// `NoMemory` where there is not enough memory, `Unusable` where a table of one of these names is
-/// there, and else `StoreFailed`, as where the connection is in a transaction.
+/// `NoMemory` if memory is refused, `Unusable` if a table with one of these names exists, and otherwise
+/// `StoreFailed`, for example if the connection is in a transaction.
 pub fn make_tables<S: Alter>(conn: &mut Connection<S>) -> Result<(), OpenFault>
     ensures made { HasCleanDisk (state S.Store conn.new) → OnOk result (IsBlank (state S.Store conn.old) → Has (state S.Store conn.new) first_rows) }
     ensures stored { HasCleanDisk (state S.Store conn.new) → OnOk result (IsBlank (state S.Store conn.old)

@@ -1,4 +1,4 @@
-//! Making of a store of version 1 one of version 2.
+//! Migrating a store of version 1 to version 2.
 
 ghost use Rattle.std.specs.Prelude.{◌≡◌, ◌≢◌, ◌≤◌, ◌+◌, ◌^◌, ◌⊎◌, ℕ, false, IsTrue, IfErr, OnOk, OnErr, map, length};
 ghost use Rattle.sqlite.specs.State.{HasCleanDisk, KeepsCommit, Survives};
@@ -35,10 +35,10 @@ use crate::making::{define_extensions, replace_replies};
 use ee_store_tables::{Failure, add_answer_texts, set_version};
 use sqlite::{Alter, Connection, Error, Transaction};
 
-/// The last number that a row takes.
+/// The largest number that fits a column.
 const LAST: u64 = 9_223_372_036_854_775_807;
 
-/// Makes of the tables of version 1 those of version 2, with no replies.
+/// Makes the tables of version 2 from those of version 1, without replies.
 fn replace_tables<S: Alter>(tx: &mut Transaction<'_, S>, form: Form) -> Result<(), Failure>
     requires earlier { form ≢ Form.Current }
     ensures same_reference { tx.new.conn.ghost_name ≡ tx.old.conn.ghost_name }
@@ -95,7 +95,7 @@ fn add_answer<S: Alter>(tx: &mut Transaction<'_, S>, answer: &StoredAnswer) -> R
     )
 }
 
-/// Writes replies under their desks and numbers, one after the other.
+/// Writes replies under their desks and numbers, in order.
 fn add_answers<S: Alter>(
     tx: &mut Transaction<'_, S>,
     answers: &[StoredAnswer],
@@ -120,7 +120,7 @@ fn add_answers<S: Alter>(
     Ok(())
 }
 
-/// Makes of the tables of version 1 those of version 2, with these replies, inside a transaction.
+/// Makes the tables of version 2 from those of version 1, with these replies, inside a transaction.
 fn migrate_in<S: Alter>(
     tx: &mut Transaction<'_, S>,
     form: Form,
@@ -145,28 +145,27 @@ fn migrate_in<S: Alter>(
     set_version(tx, 2)
 }
 
-/// What is told of a commit that failed.
+/// The fault of a commit that failed.
 fn commit_fault(error: Error) -> OpenFault
     ensures { result ≡ fault_told (failure_of error) }
 {
     OpenFault::from(Failure::from(error))
 }
 
-/// Makes of a store of version 1 one of version 2, in one transaction, with the same rows. The replies are
-/// all that the store keeps, in order of desk and number, as they were read just before; they belong to
-/// the first desk.
+/// Migrates a store of version 1 to version 2, in one transaction, with the same rows. The replies are all that
+/// the store keeps, by desk and number, as they were read just before; they belong to the first desk.
 ///
-/// The table of extensions is made where it is missing, then that of answers, and the table of replies is
-/// dropped; the replies are written, one a statement, and the version is set last. A store of the present form
-/// isn't changed. An error leaves what was committed. A stop leaves what it could leave before, or
-/// version 2 with the same rows and nothing between; after `Ok` in a store of version 1 nothing but that.
+/// Creates the table of extensions if it is missing, then that of answers, and drops the table of replies.
+/// Writes the replies, one by each statement, and sets the version last. A store in the present form isn't
+/// changed. An error leaves what was committed. A stop leaves what it could leave before, or version 2 with
+/// the same rows and nothing between; after `Ok` in a store of version 1 only that.
 ///
 /// # Errors
 ///
-/// `NoMemory` where there is not enough memory, and else `StoreFailed`, as where the connection is in a
-/// transaction. Outside a transaction and with no limit on steps, a store of the present form, or of this one where these are its
-/// replies and fit their new rows, gives `StoreFailed` only where its device fails during the call or
-/// it was shut before.
+/// `NoMemory` if memory is refused, and otherwise `StoreFailed`, for example if the connection is in a
+/// transaction. Outside a transaction and without a limit on steps, a store in the present form gives
+/// `StoreFailed` only if its device fails during the call or it was shut before. So does a store of version 1
+/// if these are its replies and they fit their new rows.
 pub fn migrate<S: Alter>(
     conn: &mut Connection<S>,
     form: Form,
