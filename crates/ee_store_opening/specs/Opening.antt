@@ -17,11 +17,11 @@ use Rattle.ee_store_making.specs.Forms.{version_of}
 use Rattle.ee_store_making.specs.Making.{no_tables}
 use Rattle.ee_store_opening.specs.Shown.{AreWritten}
 
--- the tables that each form begins with
+-- the tables that every form begins with
 abbrev pub common_tables : List Table
 common_tables = desk ∷ rates ∷ bonds ∷ tickets ∷ paid ∷ batches ∷ []
 
--- the last commit left some table, index or view
+-- the last commit left a table, an index or a view
 abbrev pub HasTables : State → Type 0
 HasTables s = IsTrue s.is_open → s.committed.schema ≢ no_tables
 
@@ -35,22 +35,22 @@ versions_of desk = option_to_list (option_map version_shown (get desk 1))
 abbrev pub versions_in : Rows → List Row
 versions_in rows = versions_of rows.desk
 
--- the desk has its row, and it names this version
+-- the desk's row exists, and has this version
 abbrev pub Names : ℕ → Rows → Type 0
 Names version rows = (desk : DeskRow) × (get rows.desk 1 ≡ Some desk) × (version ≡ desk.version)
 
--- the desk has its row, of the version of this form
+-- the desk's row exists, and has the version of this form
 abbrev pub IsOfForm : Form → Rows → Type 0
 IsOfForm form rows = (desk : DeskRow) × (get rows.desk 1 ≡ Some desk) × (desk.version ≡ version_of form)
 
--- the desk has its row, of neither version that this program knows
+-- the desk's row exists, and has neither version that this program knows
 abbrev pub IsOther : FinMap nat_cmp DeskRow → Type 0
 IsOther rows = (desk : DeskRow) × (get rows 1 ≡ Some desk) × (desk.version ≢ 1) × (desk.version ≢ 2)
 
 abbrev pub IsOtherVersion : Rows → Type 0
 IsOtherVersion rows = IsOther rows.desk
 
--- The desk has its row, of the version of this form, and each text is UTF-8, as this program writes it.
+-- The desk's row exists, has the version of this form, and each text is UTF-8, as this program writes it.
 pub record AreReadable (form : Form) (rows : Rows) : Type 0 where
   pub desk : IsOfForm form rows
   pub texts : AreWritten rows.answers
@@ -63,7 +63,7 @@ version_text = codes "SELECT version FROM desk WHERE id = ?1"
 abbrev pub given_id : Row
 given_id = Int (pos 1) ∷ []
 
--- an answer of `sqlite` to that query, over whatever tables there are, begins with a version that this program doesn't know
+-- an answer of `sqlite` to that query, whatever tables there are, begins with a version that this program doesn't know
 pub record ShowsOther (s : State) : Type 0 where
   pub row : Row
   pub first : Begins version_text given_id s (row ∷ [])
@@ -71,14 +71,14 @@ pub record ShowsOther (s : State) : Type 0 where
   pub named : column row 0 ≡ number version
   pub unknown : (version ≢ 1) × (version ≢ 2)
 
--- The first table is the desk, in the first tree, and holds these rows. Whatever tables, indexes and views there are besides.
+-- The first table is the desk, in the first tree, and holds these rows, whatever other tables, indexes and views there are.
 pub record SeesDesk (s : State) (rows : FinMap nat_cmp DeskRow) : Type 0 where
   pub more : List Table
   pub first : s.now.schema.tables ≡ desk ∷ more
   pub held : HoldsMap desk_columns (s.now.trees 0) rows
 
--- What is told of a store whose tables aren't those of this program. `WrongVersion` is told only where `sqlite` shows another version;
--- where the first table is the desk it is told if its row names another version, and else `Unusable`.
+-- The fault of a store whose tables aren't those of this program. `WrongVersion` only if `sqlite` shows another version. If the
+-- first table is the desk: `WrongVersion` if its row has another version, and `Unusable` otherwise.
 pub record IsTold (s : State) (fault : OpenFault) : Type 0 where
   pub shown : fault ≡ WrongVersion → ShowsOther s
   pub other : fault ≡ WrongVersion → (rows : FinMap nat_cmp DeskRow) → SeesDesk s rows → IsOther rows

@@ -1,4 +1,4 @@
--- What is read of a whole table.
+-- Reading a whole table.
 use Rattle.std.specs.Prelude.{◌≡◌, ◌&&◌, ℕ, Bool, true, false, IsTrue, List, [], ◌∷◌, map, pos, negsuc, None, Ok, Err, Result, All, IsPermutation}
 use Rattle.sqlite.specs.declared.types.Value.TheVariants.{Int}
 use Rattle.sqlite.specs.Order.{Row}
@@ -40,7 +40,7 @@ abbrev pub IsQuery : Query → Result Compiled CompileError → Type 0
 IsQuery query (Ok c) = (names : List (List ℕ)) × (c.command ≡ Select (record { lets = []; body = query }) names) × (c.returning ≡ None) × (c.formats ≡ [])
 IsQuery query (Err e) = ⊥
 
--- over the schema the text asks for the whole table, in this order
+-- over the schema, the text asks for the whole table, in this order
 pub record AsksForAll (schema : Schema) (text : List ℕ) (tree : ℕ) (terms : List Term) (order : List (Term × Key)) : Type 0 where
   pub query : IsQuery (whole_table tree terms order) (understood schema text)
   pub unlisted : reads_listing schema text ≡ false
@@ -65,6 +65,6 @@ OnlyAsks text = (schema : Schema) (c : Compiled) → understood schema text ≡ 
 abbrev pub ShowsUnreadable : (Row → Type 0) → List ℕ → State → Type 0
 ShowsUnreadable IsReadable text s = (rows : List Row) × Begins text [] s rows × ¬ All IsReadable rows
 
--- What the query shows can be read, each row, and their keys rise.
+-- Each row that the query shows can be read, and their keys rise.
 abbrev pub CanBeRead : {A : Type 0} → (Row → Type 0) → (A → Row) → (A → A → Bool) → Trees → Query → Type 0
 CanBeRead {A} IsReadable shown precedes db query = (rows : List Row) → IsAnswer query (overlay db []) [] rows → All IsReadable rows × ((found : List A) → rows ≡ map shown found → rises precedes found ≡ true)

@@ -1,4 +1,4 @@
--- The rows of each table as a query of all their columns shows them, and as entries of maps.
+-- The rows of each table, as a query of all their columns shows them, and as entries of maps.
 use Rattle.std.specs.Prelude.{◌≡◌, ℕ, ℤ, IsUtf8, Bool, ◌&&◌, ◌||◌, ◌==◌, nat_lt, List, [], ◌∷◌, Some, map, string_bytes}
 use Rattle.std.specs.Ordering.{nat_cmp}
 use Rattle.std.specs.FinMap.{FinMap, get, from_sorted}
@@ -16,7 +16,7 @@ use Rattle.ee_store_opening.specs.declared.entries.StoredReply.{StoredReply}
 use Rattle.ee_store_making.specs.declared.answers.StoredAnswer.{StoredAnswer}
 use Rattle.ee_store_making.specs.Migrating.{answer_entry}
 
--- pairs are in order of their first numbers, and then of their second
+-- pairs are ordered by their first numbers, then by their second
 abbrev pub pair_lt : ℕ × ℕ → ℕ × ℕ → Bool
 pair_lt a b = nat_lt a.0 b.0 || ((a.0 == b.0) && nat_lt a.1 b.1)
 
@@ -101,7 +101,7 @@ batch_entry b = (b.day, record { tickets = b.tickets; bonds = b.bonds; total = b
 abbrev pub reply_entry : StoredReply → ℕ × ReplyRow
 reply_entry r = (r.number, record { act = string_bytes r.act; reply = string_bytes r.reply })
 
--- ---- the maps of what was read, in order of their keys
+-- ---- maps of the rows that were read, by key
 
 abbrev pub desk_map : List StoredDesk → FinMap nat_cmp DeskRow
 desk_map all = from_sorted (map desk_entry all)

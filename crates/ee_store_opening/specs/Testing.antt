@@ -1,4 +1,4 @@
--- What is known of rows that are tested one after the other.
+-- What is known about rows that are tested one after another.
 use Rattle.std.specs.Prelude.{◌≡◌, ◌↔◌, Bool, true, List, [], ◌∷◌, Option, Some, None}
 use Rattle.std.specs.List.{AllByRecursion}
 use Rattle.ee_store_opening.specs.Reading.{rises}
@@ -8,7 +8,7 @@ last_of [] = None
 last_of (x ∷ []) = Some x
 last_of (x ∷ y ∷ ys) = last_of (y ∷ ys)
 
--- the last of them, whether the key of each is above that of the one before it, and whether each passed its test
+-- the last row, whether the key of each is above that of the one before it, and whether each passed its test
 pub record Tells {X : Type 0} (precedes : X → X → Bool) (Passes : X → Type 0) (last : Option X) (rise pass : Bool) (rows : List X) : Type 0 where
   pub last_is : last ≡ last_of rows
   pub rise_is : rise ≡ rises precedes rows

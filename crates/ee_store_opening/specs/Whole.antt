@@ -1,4 +1,4 @@
--- What all rows of a store are together, and what is read of them.
+-- All rows of a store, and what is read of them.
 use Rattle.std.specs.Prelude.{◌≡◌, ◌≢◌, ◌↔◌, true, List, [], T, map}
 use Rattle.std.specs.List.{AllByRecursion}
 use Rattle.std.specs.Ordering.{nat_cmp}
@@ -20,7 +20,7 @@ use Rattle.ee_store_opening.specs.declared.whole.Payments.{Payments}
 use Rattle.ee_store_opening.specs.declared.whole.Records.{Records}
 use Rattle.ee_store_opening.specs.Shown.{desk_map, rate_map, bond_map, ticket_map, line_map, batch_map, answer_map, desk_entry, rate_entry, bond_entry, ticket_entry, line_entry, batch_entry}
 
--- all rows that were read, where these are the kept replies
+-- all rows that were read, with these kept replies
 abbrev pub rows_with : FinMap pair_cmp ReplyRow → AllRows → Rows
 rows_with kept all = record {
   desk = desk_map all.desk.items;
@@ -33,7 +33,7 @@ rows_with kept all = record {
   answers = kept;
 }
 
--- Each table's rows that were read are in order of their keys, and no key stands twice.
+-- The rows of each table that were read are ordered by key, and no key occurs twice.
 pub record AreInOrder (all : AllRows) : Type 0 where
   pub desk : T (is_sorted nat_cmp (map desk_entry all.desk.items))
   pub rates : T (is_sorted nat_cmp (map rate_entry all.rates.items))
@@ -44,7 +44,7 @@ pub record AreInOrder (all : AllRows) : Type 0 where
   pub extensions : T (is_sorted nat_cmp (map rate_entry all.extensions.items))
   pub earlier : T (is_sorted pair_cmp (map answer_entry all.replies.earlier.items))
 
--- The entries of each map are the rows that were read, in their order.
+-- The entries of each map are the rows that were read, in order.
 pub record ListsAll (all : AllRows) : Type 0 where
   pub desk : entries (desk_map all.desk.items) ≡ map desk_entry all.desk.items
   pub rates : entries (rate_map all.rates.items) ≡ map rate_entry all.rates.items
@@ -55,7 +55,7 @@ pub record ListsAll (all : AllRows) : Type 0 where
   pub extensions : entries (rate_map all.extensions.items) ≡ map rate_entry all.extensions.items
   pub earlier : entries (answer_map all.replies.earlier.items) ≡ map answer_entry all.replies.earlier.items
 
--- These are the kept replies that were read, in order of their keys. It says whether each passed its test, and has those of version 1.
+-- These are the kept replies that were read, by key. The result says whether each passed its test, and has those of version 1.
 pub record AreTested (Passes : StoredAnswer → Type 0) (form : Form) (read : KeptReplies) (kept : List StoredAnswer) : Type 0 where
   pub in_order : T (is_sorted pair_cmp (map answer_entry kept))
   pub pass : (read.pass ≡ true) ↔ AllByRecursion Passes kept
@@ -101,7 +101,7 @@ HoldsKept Current db answers = HoldsPairs reply_columns (db 13) answers
 HoldsKept First db answers = HoldsReplies db answers
 HoldsKept Earliest db answers = HoldsReplies db answers
 
--- the table of this form holds just these kept replies, and they were tested
+-- the table of this form holds exactly these kept replies, and they were tested
 pub record HoldsTested (Passes : StoredAnswer → Type 0) (form : Form) (db : Trees) (read : KeptReplies) : Type 0 where
   pub kept : List StoredAnswer
   pub tested : AreTested Passes form read kept
@@ -111,7 +111,7 @@ pub record HoldsRecords (Passes : StoredAnswer → Type 0) (form : Form) (db : T
   pub batches : HoldsMap batch_columns (db 10) (batch_map part.batches.items)
   pub replies : HoldsTested Passes form db part.replies
 
--- the rows of the table of extensions, and none where it is lacking
+-- the rows of the table of extensions; none if it is missing
 abbrev pub HoldsExtensions : Form → Trees → List StoredRate → Type 0
 HoldsExtensions Current db all = HoldsMap rate_columns (db 12) (rate_map all)
 HoldsExtensions First db all = HoldsMap rate_columns (db 12) (rate_map all)

@@ -12,20 +12,20 @@ use crate::reading::Record;
 use ee_store_making::{OpenFault, StoredAnswer};
 use sqlite::Row;
 
-/// The row of the desk.
+/// The desk's row.
 #[derive(Clone, Copy)]
 pub struct StoredDesk {
-    /// Its key, which is 1.
+    /// The key, which is 1.
     pub id: u64,
     /// The version of the tables.
     pub version: u64,
     /// The open day, if one is open.
     pub day: Option<u64>,
-    /// The day that was closed last, if one was.
+    /// The last closed day, if there is one.
     pub last_day: Option<u64>,
 }
 
-/// A rate of bonds that are issued in a period: their fixed rate, or that of their extended maturity.
+/// A rate of the bonds issued in a period: the fixed rate, or that of extended maturity.
 #[derive(Clone, Copy)]
 pub struct StoredRate {
     /// The first month of the period.
@@ -34,20 +34,20 @@ pub struct StoredRate {
     pub rate: u64,
 }
 
-/// A bond of the register, and the ticket that paid it.
+/// A registered bond, and the ticket that paid it.
 #[derive(Clone, Copy)]
 pub struct StoredBond {
-    /// The letter of its serial number, 1 for A.
+    /// The letter of the serial number, 1 for A.
     pub letter: u64,
-    /// The number of its serial number.
+    /// The number of the serial number.
     pub number: u64,
     /// The denomination in dollars.
     pub denom: u64,
-    /// The month of issue.
+    /// The issue month.
     pub issued: u64,
-    /// The customer who owns it.
+    /// The customer who is the owner.
     pub owner: u64,
-    /// The customer who owns it too, if there is one.
+    /// The customer who is the coowner, if there is one.
     pub coowner: Option<u64>,
     /// The number of the ticket that paid it, if one did.
     pub ticket: Option<u64>,
@@ -62,24 +62,24 @@ pub struct StoredTicket {
     pub day: u64,
     /// The customer who was paid.
     pub payee: u64,
-    /// How many bonds it paid.
+    /// The number of bonds on the ticket.
     pub bonds: u64,
-    /// What it paid, in cents.
+    /// The total, in cents.
     pub total: u64,
 }
 
-/// A line of a ticket: a bond, and what was paid for it.
+/// A line of a ticket: a bond, and what it was paid.
 #[derive(Clone, Copy)]
 pub struct StoredLine {
     /// The number of the ticket.
     pub ticket: u64,
-    /// The place on the ticket, from 1 on.
+    /// The place on the ticket, from 1.
     pub place: u64,
     /// The letter of the bond's serial number.
     pub letter: u64,
     /// The number of the bond's serial number.
     pub number: u64,
-    /// What was paid for it, in cents.
+    /// The payment, in cents.
     pub cents: u64,
 }
 
@@ -88,11 +88,11 @@ pub struct StoredLine {
 pub struct StoredBatch {
     /// The day.
     pub day: u64,
-    /// How many tickets it had.
+    /// The number of tickets on that day.
     pub tickets: u64,
-    /// How many bonds they paid.
+    /// The number of bonds on them.
     pub bonds: u64,
-    /// What they paid, in cents.
+    /// Their total, in cents.
     pub total: u64,
 }
 
@@ -107,7 +107,7 @@ pub struct StoredReply {
     pub reply: String,
 }
 
-/// The number under which the store keeps a row of a table with another key.
+/// The rowid of a row in a table with another key.
 #[derive(Clone, Copy)]
 pub struct Rowid {
     /// The number.

@@ -1,4 +1,4 @@
-//! Opening a store: whether it is blank, and else all its rows, which are of version 2 or of version 1.
+//! Opening a store: finds out whether it is blank, and otherwise reads all its rows, of version 2 or 1.
 #![tactic(auto)]
 
 mod entries;

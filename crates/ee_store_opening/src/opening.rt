@@ -1,4 +1,4 @@
-//! Opening a store: whether it has any table, and its rows.
+//! Opening a store: finding out whether it has any table, and reading its rows.
 
 ghost use Rattle.std.specs.Prelude.{◌≡◌, ◌⊎◌, false, IsTrue, IfOk, IfErr, OnOk};
 ghost use Rattle.sqlite.specs.State.{HasCleanDisk, KeepsCommit};
@@ -41,30 +41,30 @@ fn refusal<S: Alter>(conn: &mut Connection<S>) -> OpenFault
     }
 }
 
-/// Reads the rows of a store. It writes nothing into it.
+/// Reads the rows of a store. Writes nothing.
 ///
 /// A store is read if its tables are those of version 2, or those of version 1 with or without the table of
-/// extensions, in the order in which they are made, with their indexes, and it has nothing else. Rows of version 1
-/// are read as those of version 2 that they become: their replies belong to the first desk, and without the table
-/// there is no extension; only the desk's row still names version 1 (`migrate` makes version 2 of them). Any other
-/// store is refused, also one with our tables in another order or with fewer of them, or with none (`is_blank`).
-/// The version is tested before all else is read. Each table's rows come in order of their keys. Each kept reply is
-/// tested by `P`; those of version 2 are let go as soon as they are, so that no more than two of them are in memory.
-/// It takes time in proportion to the rows, and memory to those that come.
+/// extensions, in the order in which they are created, with their indexes and nothing else. Rows of version 1
+/// are read as the rows of version 2 that they become: their replies belong to the first desk, and without the
+/// table there are no extensions; only the desk's row still has version 1 (`migrate` makes version 2 of them).
+/// Any other store is refused, including one with our tables in another order, with fewer of them, or with none
+/// (`is_blank`). The version is tested before anything else is read. The rows of each table come by key. Each
+/// kept reply is tested by `P`; those of version 2 are dropped right after, so at most two of them are in
+/// memory. The time is proportional to the rows, and the memory to those that are returned.
 ///
-/// - `found`: a store whose tables are of this form has these rows, and they were read: all but the kept replies come, and of
-///   those it is told whether each passed. What a store has determines its rows.
+/// - `found`: a store with tables in this form has these rows, and they were read. All of them are returned but
+///   the kept replies, for which the result says whether each passed. A store determines its rows.
 /// - `those`: the rows that the store had before were read.
-/// - `others`: of a store with other tables `WrongVersion` is told only if `sqlite` shows another version
-///   for the desk's row. If the desk is the first table, it is told just then.
+/// - `others`: for a store with other tables the fault is `WrongVersion` only if `sqlite` shows another version
+///   for the desk's row. If the desk is the first table, it is `WrongVersion` exactly then.
 ///
 /// # Errors
 ///
-/// `WrongVersion` if the desk's row is of neither version, whatever the tables are besides.
-/// `Unusable` if the tables are others than those of its version, the desk's row is missing, or a row
-/// has a value that no row of this program has. `NoMemory` if there is not enough memory, and else
-/// `StoreFailed`, as in a transaction. Outside a transaction and with no limit on steps, a store with the tables
-/// of either version gives `StoreFailed` only if its device fails during the call or it was shut before.
+/// `WrongVersion` if the desk's row has neither version, whatever the other tables are. `Unusable` if the
+/// tables aren't those of its version, the desk's row is missing, or a row has a value that no row of this
+/// program has. `NoMemory` if memory is refused, and otherwise `StoreFailed`, for example in a transaction.
+/// Outside a transaction and without a limit on steps, a store with the tables of either version gives
+/// `StoreFailed` only if its device fails during the call or it was shut before.
 pub fn open_rows<S: Alter, P: RowTest<StoredAnswer>>(
     conn: &mut Connection<S>,
     alloc: Global,

@@ -1,4 +1,4 @@
-//! In which form the tables of a store are those of this program.
+//! The form in which the tables of a store are those of this program.
 
 ghost use Rattle.std.specs.Prelude.{◌≡◌, ◌↔◌, true, false, [], ◌∷◌, Some};
 ghost use Rattle.sqlite_value.specs.declared.value.Value.TheVariants.{Null};
@@ -39,7 +39,7 @@ fn is_name(name: &Bytes, wanted: &str) -> bool
     name.as_slice() == wanted.as_bytes()
 }
 
-/// Whether it is a column of a STRICT table, without a default.
+/// Whether this is a column of a STRICT table, without a default.
 fn is_column(column: &Column, name: &str, kind: Kind, not_null: bool) -> bool
     ensures { (result ≡ true) ↔ (column.now
         ≡ record { name = name.now; kind = kind; is_strict = true; not_null = not_null; default = Null; collation = Binary }) }
@@ -91,7 +91,7 @@ fn has_no_stamps(stamps: &Stamps) -> bool
     stamps.places.is_empty() && has_no_terms(&stamps.terms) && stamps.formats.is_empty()
 }
 
-/// Whether a table has this name and tree, and no rules but those of its columns and keys.
+/// Whether a table has this name and tree, and no rules except those of its columns and keys.
 fn is_plain_table(table: &Table, name: &str, tree: u32) -> bool
     ensures { (result ≡ true) ↔ (table.now
         ≡ record (keyed_table name.now tree table.now.columns) {
@@ -110,7 +110,7 @@ fn is_plain_table(table: &Table, name: &str, tree: u32) -> bool
         && !table.is_counted
 }
 
-/// Whether the rowid is the first column.
+/// Whether the first column is the rowid.
 fn is_keyed(table: &Table, name: &str, tree: u32) -> bool
     ensures { (result ≡ true) ↔ (table.now ≡ keyed_table name.now tree table.now.columns) }
 {
@@ -121,7 +121,7 @@ fn is_keyed(table: &Table, name: &str, tree: u32) -> bool
         && table.orders.is_empty()
 }
 
-/// Whether the key is the first two columns, whatever else is unique.
+/// Whether the first two columns are the key, whatever else is unique.
 fn is_paired(table: &Table, name: &str, tree: u32) -> bool
     ensures { (result ≡ true) ↔ (table.now ≡ record (pair_table name.now tree table.now.columns) { uniques = table.now.uniques; orders = table.now.orders }) }
 {
@@ -297,7 +297,7 @@ fn is_answers(table: &Table) -> bool
         && has_answer_columns(table.columns.as_slice())
 }
 
-/// Whether an index has this name, tree and table, and each of its columns ascends.
+/// Whether an index has this name, tree and table, with all columns ascending.
 fn is_index(index: &Index, name: &str, tree: u32, table: u32, columns: &[usize]) -> bool
     ensures { (result ≡ true) ↔ (index.now
         ≡ record { name = name.now; tree = tree; table = table; columns = columns.now; order = plain; is_unique = index.now.is_unique }) }
@@ -321,7 +321,7 @@ fn is_key(index: &Index, name: &str, tree: u32, table: u32, columns: &[usize]) -
     is_index(index, name, tree, table, columns) && index.is_unique
 }
 
-/// Whether these are the six tables that each form has.
+/// Whether these are the six tables that every form has.
 fn are_common(tables: &[Table]) -> bool
     ensures { (result ≡ true) ↔ (tables.now ≡ common_tables) }
 {
@@ -336,7 +336,7 @@ fn are_common(tables: &[Table]) -> bool
         && is_batches(batches)
 }
 
-/// Whether these are the five indexes that each form has.
+/// Whether these are the five indexes that every form has.
 fn are_common_indexes(indexes: &[Index]) -> bool
     ensures { (result ≡ true) ↔ (indexes.now ≡ first_tables.indexes) }
 {
@@ -350,7 +350,7 @@ fn are_common_indexes(indexes: &[Index]) -> bool
         & is_key(payment, "sqlite_autoindex_paid_2", 9, 7, &[3, 4])
 }
 
-/// Whether these are the indexes of version 2: those, and that of the answers' key.
+/// Whether these are the indexes of version 2: the five, and that of the answers' key.
 fn are_current_indexes(indexes: &[Index]) -> bool
     ensures { (result ≡ true) ↔ (indexes.now ≡ counter_schema.indexes) }
 {
@@ -367,7 +367,7 @@ pub(crate) fn has_no_tables(schema: &Schema) -> bool
     schema.tables.is_empty() && schema.indexes.is_empty() && schema.views.is_empty()
 }
 
-/// The form of these tables: the six that each form has, and then those of one form.
+/// The form of these tables: the six that every form has, followed by those of one form.
 fn form_of_tables(tables: &[Table]) -> Option<Form>
     ensures { (form : Form) → (result ≡ Some form) ↔ (tables.now ≡ (schema_of form).tables) }
 {
@@ -387,7 +387,7 @@ fn form_of_tables(tables: &[Table]) -> Option<Form>
     }
 }
 
-/// The form of the tables of this program, where they are there, in their order, and nothing else.
+/// The form of the tables, if they are those of this program in order, and there is nothing else.
 pub(crate) fn form_of(schema: &Schema) -> Option<Form>
     ensures { (form : Form) → (result ≡ Some form) ↔ (schema.now ≡ schema_of form) }
 {

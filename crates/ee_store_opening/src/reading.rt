@@ -1,4 +1,4 @@
-//! Reading the rows of a table one after the other, where each key is tested to be above the one before it.
+//! Reading the rows of a table one after another. Each key is tested to be above the one before it.
 
 ghost use Rattle.std.specs.Prelude.{◌≡◌, ◌≢◌, List, Bool, true, IsTrue, IfOk, IfErr, OnOk, map, ℕ, [], ◌∷◌, ◌++◌};
 ghost use Rattle.std.specs.Option.{option_copied, option_map_or};
@@ -24,7 +24,7 @@ pub trait Record: Sized {
     // What the query shows.
     ghost shown: { Self → Columns };
 
-    // It stands before the other, in the order of the keys.
+    // The row comes before the other, by key.
     ghost stands_before: { Self → Self → Bool };
 
     // A row that this program writes, as the query shows it.
@@ -37,17 +37,17 @@ pub trait Record: Sized {
         ensures other { IfErr result (λ e. e ≢ OpenFault.WrongVersion) }
         ensures cause { IfErr result (λ e. e ≢ OpenFault.StoreFailed) };
 
-    /// Whether its key is below the other's.
+    /// Whether the key is below the other's.
     fn precedes(&self, next: &Self) -> bool
         ensures { result ≡ stands_before self.now next.now };
 }
 
-/// What is made of rows as they are read.
+/// A value that is built from rows as they are read.
 pub(crate) trait Gather<T>: Sized {
-    // It is made of these rows.
+    // The value is built from these rows.
     ghost is_of: { Self → List T → Type 0 };
 
-    /// Takes the next row.
+    /// Adds the next row.
     fn take(self, alloc: Global, next: T) -> Result<Self, OpenFault>
         ensures taken { IfOk result (λ more. (rows : List T) → is_of self rows → is_of more (rows ++ next ∷ [])) }
         ensures memory { IfErr result (λ e. e ≡ OpenFault.NoMemory) };
@@ -63,7 +63,7 @@ pub(crate) fn follows<T: Record>(last: Option<&T>, next: &T) -> bool
     }
 }
 
-/// Takes the rows that a query shows, one after the other, so that nobody holds its answer as a whole.
+/// Reads the rows of a query one after another, so that its answer is never held as a whole.
 pub(crate) fn gather_rows<S: Alter, T: Record + Drop, G: Gather<T> + Drop>(
     conn: &mut Connection<S>,
     alloc: Global,
@@ -94,7 +94,7 @@ pub(crate) fn gather_rows<S: Alter, T: Record + Drop, G: Gather<T> + Drop>(
         let next = T::read(row)?;
         gathered = gathered.take(alloc, next)?;
     }
-    // No store has so many rows.
+    // No store has that many rows.
     Err(OpenFault::NoMemory)
 }
 
@@ -118,7 +118,7 @@ impl<T: Record + Drop> Gather<T> for TableRows<T> {
     }
 }
 
-/// The rows of a table, in order of their keys.
+/// Reads the rows of a table, by key.
 pub(crate) fn read_table<S: Alter, T: Record + Drop>(
     conn: &mut Connection<S>,
     alloc: Global,

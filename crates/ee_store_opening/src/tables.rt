@@ -1,4 +1,4 @@
-//! Reading the whole of each table, and testing the kept replies as they are read.
+//! Reading each whole table, and testing the kept replies as they are read.
 
 ghost use Rattle.std.specs.Prelude.{◌≡◌, ◌≢◌, IsTrue, IfOk, IfErr, OnOk, map, ℕ};
 ghost use Rattle.std.specs.FinMap.{FinMap, entries};
@@ -57,7 +57,7 @@ use ee_store_making::{Form, OpenFault, StoredAnswer};
 use sqlite::{Alter, Connection};
 use std::alloc::Global;
 
-/// The row of the desk.
+/// Reads the desk's row.
 pub(crate) fn read_desk<S: Alter>(
     conn: &mut Connection<S>,
     alloc: Global,
@@ -81,7 +81,7 @@ pub(crate) fn read_desk<S: Alter>(
     )
 }
 
-/// The rates, in order of their periods.
+/// Reads the rates, by period.
 pub(crate) fn read_rates<S: Alter>(
     conn: &mut Connection<S>,
     alloc: Global,
@@ -105,7 +105,7 @@ pub(crate) fn read_rates<S: Alter>(
     )
 }
 
-/// The tickets, in order of their numbers.
+/// Reads the tickets, by number.
 pub(crate) fn read_tickets<S: Alter>(
     conn: &mut Connection<S>,
     alloc: Global,
@@ -129,7 +129,7 @@ pub(crate) fn read_tickets<S: Alter>(
     )
 }
 
-/// The batches, in order of their days.
+/// Reads the batches, by day.
 pub(crate) fn read_batches<S: Alter>(
     conn: &mut Connection<S>,
     alloc: Global,
@@ -153,7 +153,7 @@ pub(crate) fn read_batches<S: Alter>(
     )
 }
 
-/// The replies of version 1, in order of their numbers.
+/// Reads the replies of version 1, by number.
 fn read_replies<S: Alter>(
     conn: &mut Connection<S>,
     alloc: Global,
@@ -178,7 +178,7 @@ fn read_replies<S: Alter>(
     )
 }
 
-/// Replies of version 1 under desk and number: they belong to the first desk.
+/// The replies of version 1 under desk and number: they belong to the first desk.
 fn with_first_desk(alloc: Global, replies: Vec<StoredReply>) -> Result<Vec<StoredAnswer>, OpenFault>
     ensures first { IfOk result (λ found. found.items ≡ map first_answer replies.items) }
     ensures memory { IfErr result (λ e. e ≡ OpenFault.NoMemory) }
@@ -198,7 +198,7 @@ fn with_first_desk(alloc: Global, replies: Vec<StoredReply>) -> Result<Vec<Store
     Ok(found)
 }
 
-/// The kept replies of a store of version 1, in order of their numbers.
+/// Reads the kept replies of a store of version 1, by number.
 fn read_first_answers<S: Alter>(
     conn: &mut Connection<S>,
     alloc: Global,
@@ -220,12 +220,12 @@ fn read_first_answers<S: Alter>(
     with_first_desk(alloc, replies)
 }
 
-/// What was read of the kept replies of a store.
+/// What was read of a store's kept replies.
 #[derive(Drop)]
 pub struct KeptReplies {
     /// Whether each passed its test.
     pub pass: bool,
-    /// Those of a store of version 1, which is to be migrated; of version 2 none, since each is let go as soon as it is tested.
+    /// The replies of a store of version 1, which is to be migrated. None for version 2, since each is dropped as soon as it is tested.
     pub earlier: Vec<StoredAnswer>,
 }
 
@@ -286,7 +286,7 @@ fn test_current_answers<S: Alter, P: RowTest<StoredAnswer>>(
     })
 }
 
-/// Tests the kept replies, in order of their desks and numbers.
+/// Tests the kept replies, by desk and number.
 pub(crate) fn test_answers<S: Alter, P: RowTest<StoredAnswer>>(
     conn: &mut Connection<S>,
     alloc: Global,
@@ -311,7 +311,7 @@ pub(crate) fn test_answers<S: Alter, P: RowTest<StoredAnswer>>(
     }
 }
 
-/// The bonds, in order of their serial numbers.
+/// Reads the bonds, by serial number.
 pub(crate) fn read_bonds<S: Alter>(
     conn: &mut Connection<S>,
     alloc: Global,
@@ -341,7 +341,7 @@ pub(crate) fn read_bonds<S: Alter>(
     Ok(found)
 }
 
-/// The lines of the tickets, in order of their tickets and places.
+/// Reads the lines of the tickets, by ticket and place.
 pub(crate) fn read_lines<S: Alter>(
     conn: &mut Connection<S>,
     alloc: Global,
@@ -371,7 +371,7 @@ pub(crate) fn read_lines<S: Alter>(
     Ok(found)
 }
 
-/// The extensions, in order of their periods; none where the store lacks their table.
+/// Reads the extensions, by period; none if the store lacks their table.
 pub(crate) fn read_extensions<S: Alter>(
     conn: &mut Connection<S>,
     alloc: Global,

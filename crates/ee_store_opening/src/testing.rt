@@ -1,4 +1,4 @@
-//! Reading the rows of a table one after the other, where each is tested and let go before the next.
+//! Reading the rows of a table one after another. Each is tested and dropped before the next.
 
 ghost use Rattle.std.specs.Prelude.{◌≡◌, ◌≢◌, ◌↔◌, List, [], true, IsTrue, IfOk, IfErr, OnOk, ⊤, map, ℕ};
 ghost use Rattle.std.specs.List.{AllByRecursion};
@@ -29,7 +29,7 @@ pub trait RowTest<T> {
         ensures { IfOk result (λ right. (right ≡ true) ↔ passes row.now) };
 }
 
-/// The test that each row passes, so that its key alone is tested.
+/// The test that each row passes, so that only its key is tested.
 pub(crate) struct AnyRow;
 
 impl<T> RowTest<T> for AnyRow {
@@ -40,7 +40,7 @@ impl<T> RowTest<T> for AnyRow {
     }
 }
 
-/// What is known of the rows that were read: the last of them, whether their keys rise, and whether each passed its test.
+/// What is known about the rows read so far: the last row, whether their keys rise, and whether each passed its test.
 #[derive(Drop)]
 struct Tested<T, P> {
     last: Option<T>,
@@ -65,7 +65,7 @@ impl<T: Record + Drop, P: RowTest<T>> Gather<T> for Tested<T, P> {
     }
 }
 
-/// Whether each row of a table passes a test. The rows are read in order of their keys, and none is kept.
+/// Whether each row of a table passes a test. Reads the rows by key, and keeps none.
 pub(crate) fn test_table<S: Alter, T: Record + Drop, P: RowTest<T>>(
     conn: &mut Connection<S>,
     alloc: Global,

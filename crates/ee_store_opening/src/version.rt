@@ -1,4 +1,4 @@
-//! The version of the tables, which is tested before all else is read.
+//! The version of the tables, which is tested before anything else is read.
 
 ghost use Rattle.std.specs.Prelude.{◌≡◌, ◌≢◌, ◌⊎◌, [], ◌∷◌, Some, IfOk, IfErr, OnOk, IsTrue, Option, None, option_map, slice_get};
 ghost use Rattle.std.specs.Ordering.{nat_cmp};
@@ -29,13 +29,13 @@ use ee_store_making::OpenFault;
 use sqlite::types::ValueRef;
 use sqlite::{Alter, Connection, Row};
 
-/// The version of the tables that this program makes.
+/// The version of the tables that this program creates.
 pub const STORE_VERSION: u64 = 2;
 
-/// The version before, of stores that this program opens too.
+/// The version before it, of stores that this program opens too.
 const FIRST_VERSION: u64 = 1;
 
-/// The version in the desk's row, if that is there.
+/// The version in the desk's row, if the row exists.
 fn version_rows<S: Alter>(conn: &mut Connection<S>) -> Result<Vec<Row>, OpenFault>
     ensures found { HasCleanDisk (state S.Store conn.new) → IfOk result (λ found. (form : Form) (rows : Rows) → SeesIn form (state S.Store conn.old) rows
         → found.items ≡ versions_in rows) }
@@ -61,7 +61,7 @@ fn version_rows<S: Alter>(conn: &mut Connection<S>) -> Result<Vec<Row>, OpenFaul
     Ok(rows)
 }
 
-/// The version that the query showed.
+/// The version that the query found.
 fn read_version(rows: &[Row]) -> Result<u64, OpenFault>
     ensures found { IfOk result (λ version. (desk : Option DeskRow) → rows.now ≡ option_to_list (option_map version_shown desk)
         → option_map (λ d. d.version) desk ≡ Some version) }
@@ -77,7 +77,7 @@ fn read_version(rows: &[Row]) -> Result<u64, OpenFault>
     }
 }
 
-/// The version that the tables name, which is one of those that this program knows.
+/// The version of the tables, if it is one that this program knows.
 pub(crate) fn known_version<S: Alter>(conn: &mut Connection<S>) -> Result<u64, OpenFault>
     ensures named { HasCleanDisk (state S.Store conn.new) → IfOk result (λ version. (form : Form) (rows : Rows) → SeesIn form (state S.Store conn.old) rows
         → Names version rows) }

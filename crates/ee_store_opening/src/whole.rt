@@ -33,7 +33,7 @@ use ee_store_making::{Form, OpenFault, StoredAnswer};
 use sqlite::{Alter, Connection};
 use std::alloc::Global;
 
-/// What was read of a store: the rows of each table in order of its keys, but the kept replies only where they are to be migrated.
+/// What was read of a store: the rows of each table by key, and the kept replies only if they are to be migrated.
 #[derive(Drop)]
 pub struct AllRows {
     /// The form of the tables that they were read from.
