@@ -241,6 +241,39 @@ def other_moments(place):
             beside(place, case, states, file, log, newest)
 
 
+def older_log(place):
+    """The newest file, written back, beside the log of a moment before: the program opens it, and what came since is gone without a word."""
+    gone = []
+    for later in (1, 2, 4, 8):
+        case = Archived(place, 50)
+        port = free_port()
+        server = serve(place.program, case.store, port)
+        wait_for(port)
+        for turn in range(50, 70 + later):
+            if turn == 70:
+                log = copy_store(case.store, os.path.join(place.new("log"), "day.db"))
+            ask(port, redemption(turn, headers=b"Connection: close\r\n"))
+        server.kill()
+        server.wait()
+        run(place.program, "export", "1", "--db", case.store)
+        place.archived(case.store, case.archive)
+        newest = dumped(place, case.store)
+        mixed = copy_store(case.store, os.path.join(place.new("mixed"), "day.db"), log=log)
+        served = copy_store(mixed, os.path.join(place.new("served"), "day.db"))
+        ran = run(place.program, "export", "1", "--db", served)
+        if ran.returncode != 0:
+            continue
+        gone.append(len(newest["answers"]) - len(held(place, served)))
+        ends = [run(GUARD, mixed, case.archive), place.replay(mixed, case.archive)]
+        if gone[-1] and [end.returncode for end in ends] != [1, 1]:
+            wrong("guard or replay takes a file beside an older log", [end.stdout + end.stderr for end in ends])
+        os.remove(mixed + "-wal")
+        place.restored(mixed, case.archive)
+        if dumped(place, mixed) != newest:
+            wrong("without that log the replay doesn't give the store again")
+    right(any(gone), f"control: beside the log of a moment before the program opened the newest file {len(gone)} times of 4, and {gone} replies were gone without a word; guard and replay refused it, and without that log the replay gives every row")
+
+
 def beside(place, case, states, file, log, newest):
     mixed = copy_store(states[file], os.path.join(place.new("mixed"), "day.db"), log=states[log])
     served = copy_store(mixed, os.path.join(place.new("served"), "day.db"))
