@@ -50,7 +50,7 @@ pub struct AllRows {
     pub lines: Vec<StoredLine>,
     /// The batches.
     pub batches: Vec<StoredBatch>,
-    /// The extensions: the rates of extended maturity that are others than the fixed ones.
+    /// The extensions: the rates of extended maturity that differ from the fixed rates.
     pub extensions: Vec<StoredRate>,
     /// What was read of the kept acts and replies.
     pub replies: KeptReplies,
@@ -177,7 +177,7 @@ fn read_in<S: Alter, P: RowTest<StoredAnswer>>(
     })
 }
 
-/// Tests the version, and then reads all tables.
+/// Tests the version, then reads all tables.
 fn read_of_version<S: Alter, P: RowTest<StoredAnswer>>(
     conn: &mut Connection<S>,
     alloc: Global,
@@ -207,17 +207,16 @@ fn read_of_version<S: Alter, P: RowTest<StoredAnswer>>(
     read_in::<S, P>(conn, alloc, form)
 }
 
-/// Reads all rows of a store that has tables of this form, and tests its kept replies.
+/// Reads all rows of a store with tables in this form, and tests its kept replies.
 ///
-/// The version is tested first. The store keeps what was committed, and a stop leaves what it could
-/// leave before. It takes time in proportion to the rows, and memory to all of them but the kept replies of
-/// version 2.
+/// Tests the version first. The store keeps what was committed, and a stop leaves what it could leave before.
+/// The time is proportional to the rows, and the memory to all of them but the kept replies of version 2.
 ///
 /// # Errors
 ///
-/// `WrongVersion` where the desk's row is of neither version. `Unusable` where it is of the version of another form,
-/// a row has a value that no row of this program has, or a table or the desk's row is missing. `NoMemory` where there is not
-/// enough memory, and else `StoreFailed`, as where the connection is in a transaction.
+/// `WrongVersion` if the desk's row has neither version. `Unusable` if it has the version of another form, a row
+/// has a value that no row of this program has, or a table or the desk's row is missing. `NoMemory` if memory is
+/// refused, and otherwise `StoreFailed`, for example if the connection is in a transaction.
 pub(crate) fn read_all<S: Alter, P: RowTest<StoredAnswer>>(
     conn: &mut Connection<S>,
     alloc: Global,
