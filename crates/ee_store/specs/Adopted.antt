@@ -1,5 +1,5 @@
--- What a store that is opened has, and what it had.
--- Of a store that a failing disk has shut nothing is said.
+-- The state of a store that is opened, and its state before.
+-- Nothing is said of a store that a failing disk has shut.
 use Rattle.std.specs.Prelude.{◌≡◌, ◌≤◌, ◌⊎◌, ◌+◌, ◌^◌, ℕ, None, false, [], ◌∷◌, Contains, Option, IsTrue, ⊤}
 use Rattle.std.specs.Ordering.{nat_cmp}
 use Rattle.std.specs.FinMap.{FinMap}
@@ -33,52 +33,52 @@ use Rattle.ee_store.specs.Served.{FollowsWorld}
 use Rattle.ee_store.specs.Ended.{StandsAlone}
 use Rattle.ee_store_lookups.specs.Causes.{IsReady}
 
--- ---- what a store of version 1 stands for
+-- ---- the content of a store of version 1
 
--- trees with tables of this form stand for the content
+-- trees with tables in this form represent the content
 pub record StoodFor (form : Form) (db : Trees) (content : Content) : Type 0 where
   pub right : IsRight content
   pub stores : StoresIn form db (rows_at (version_of form) content)
 
--- the last commit left tables of this form, whose rows stand for the content
+-- the last commit left tables in this form, whose rows represent the content
 pub record HadContent (form : Form) (s : State) (content : Content) : Type 0 where
   pub right : IsRight content
   pub rows : HadIn form s (rows_at (version_of form) content)
 
--- The store of this form has the world's content, and a crash leaves it what it may leave the world. Where it is still to be
--- migrated, a crash may leave the world its content too.
+-- The store in this form has the world's content, and a crash leaves what it may leave of the world. If it is still to be
+-- migrated, a crash may also leave the world's content.
 abbrev pub FollowedWorld : Form → State → World → Type 0
 FollowedWorld Current s w = FollowsWorld s w
 FollowedWorld First s w = HadContent First s w.now × Contains w.may w.now × Leaves (StoodFor First) s.may_leave w
 FollowedWorld Earliest s w = HadContent Earliest s w.now × Contains w.may w.now × Leaves (StoodFor Earliest) s.may_leave w
 
--- trees stand for the content in the form that they had, or in the present one
+-- trees represent the content, in the form that they had or in the present one
 abbrev pub StandsSince : Form → Trees → Content → Type 0
 StandsSince Current db content = StandsFor db content
 StandsSince First db content = StoodFor First db content ⊎ StandsFor db content
 StandsSince Earliest db content = StoodFor Earliest db content ⊎ StandsFor db content
 
--- the store was of version 1, and the trees, which are of version 2, stand for the content that it had
+-- the store was of version 1, and the trees, of version 2, represent the content that it had
 pub record IsMigrated (old : State) (db : Trees) : Type 0 where
   pub lacked : ¬ HasForm Current old
   pub some : (form : Form) × (content : Content) × HadContent form old content
   pub stands : (form : Form) (content : Content) → HadContent form old content → StandsFor db content
 
--- ---- what a store that is opened has
+-- ---- the content of a store that is opened
 
--- a store without tables has come to have the empty content
+-- a store that had no tables has the empty content
 abbrev pub BeginsEmpty : State → State → Type 0
 BeginsEmpty old new = IsBlank old → HasContent new nothing
 
--- it is open, and a crash leaves the empty content alone: the events begin there
+-- it is open, and a crash leaves only the empty content: the events begin there
 abbrev pub BeginsWorld : State → State → Type 0
 BeginsWorld old new = IsTrue new.is_open × (IsBlank old → FollowsWorld new (begun nothing))
 
--- whichever content the store had, in whichever form, it has
+-- a content that the store had, in any form, it still has
 abbrev pub KeepsContent : State → State → Type 0
 KeepsContent old new = (form : Form) (content : Content) → HadContent form old content → HasContent new content
 
--- the store had a content, in whichever form, and has it, or it had no tables and has the empty content
+-- the store had a content, in some form, and still has it; or it had no tables, and has the empty content
 abbrev pub HasSome : State → State → Type 0
 HasSome old new = ((form : Form) × (content : Content) × HadContent form old content × HasContent new content) ⊎ (IsBlank old × HasContent new nothing)
 
@@ -86,22 +86,22 @@ HasSome old new = ((form : Form) × (content : Content) × HadContent form old c
 abbrev pub KeepsWorld : State → State → Type 0
 KeepsWorld old new = (w : World) → FollowsWorld old w → FollowsWorld new w
 
--- the same of a store in whichever form
+-- the same for a store in any form
 abbrev pub CarriesWorld : State → State → Type 0
 CarriesWorld old new = (form : Form) (w : World) → FollowedWorld form old w → FollowsWorld new w
 
--- The store was opened over trees that stand for a content which a crash may leave of a world: it has just that content, and the
+-- If the store was opened over trees that represent a content which a crash may leave of a world, it has that content, and the
 -- world stops and goes on from there.
 abbrev pub GoesOn : State → State → Type 0
 GoesOn old new = (form : Form) (w : World) (left : Content) → Contains w.may left → StoodFor form old.committed.trees left
     → (v : World) × Happens w (Stop_between ∷ Reopen ∷ []) v × (v.now ≡ left) × FollowsWorld new v
 
--- The store over such trees isn't served from: a crash leaves what stands for the same, so a later open goes on from there.
+-- If the store over such trees isn't served, a crash leaves what represents the same, so a later open goes on from there.
 abbrev pub StaysStopped : State → State → Type 0
 StaysStopped old new = IsTrue old.is_open → (form : Form) (w : World) (left : Content) → Contains w.may left → StoodFor form old.committed.trees left
     → (v : World) × Happens w (Stop_between ∷ []) v × (v.now ≡ left) × Leaves (StandsSince form) new.may_leave v
 
--- a store that was open had no content, in no form, and it had tables
+-- an open store had no content, in any form, and it had tables
 abbrev pub HadNone : State → Type 0
 HadNone old = IsTrue old.is_open → ((form : Form) (content : Content) → HadContent form old content → ⊥) × (IsBlank old → ⊥)
 
@@ -109,43 +109,43 @@ HadNone old = IsTrue old.is_open → ((form : Form) (content : Content) → HadC
 abbrev pub HadOthers : State → Type 0
 HadOthers old = ¬ IsOurs old × ¬ IsBlank old
 
--- The rows of a store that was open are of another version. Over other tables `sqlite` shows another version, and where the first one
--- is the desk its row names it.
+-- The rows of an open store have another version. Over other tables `sqlite` shows another version; if the first table is the desk,
+-- its row has another version.
 abbrev pub HadOtherVersion : State → Type 0
 HadOtherVersion old =
     IsTrue old.is_open → ((form : Form) (rows : Rows) → HadIn form old rows → IsOtherVersion rows)
     × (HadOthers old → ShowsOther old × ((rows : FinMap nat_cmp DeskRow) → SeesDesk old rows → IsOther rows))
 
--- The rows of a store that was open are of no other version, also where the desk is the first of other tables.
+-- The rows of an open store have no other version, nor does the desk if it is the first of other tables.
 abbrev pub HadNoOtherVersion : State → Type 0
 HadNoOtherVersion old =
     IsTrue old.is_open → ((form : Form) (rows : Rows) → HadIn form old rows → ¬ IsOtherVersion rows)
     × (HadOthers old → (rows : FinMap nat_cmp DeskRow) → SeesDesk old rows → ¬ IsOther rows)
 
--- A crash of a store with any table leaves what it could leave before. Where it was of version 1, a crash may also leave version 2
--- with the content that it had, and nothing between.
+-- A crash of a store with any table leaves what it could leave before. If it was of version 1, a crash may also leave version 2
+-- with the same content, and nothing between.
 abbrev pub LeavesAsBefore : State → State → Type 0
 LeavesAsBefore old new = IsTrue old.is_open → HasTables old → (db : Trees) → new.may_leave db → old.may_leave db ⊎ IsMigrated old db
 
--- the kept replies of a store of version 1 fit the rows that they get in version 2
+-- the kept replies of a store of version 1 fit the rows of version 2
 abbrev pub CanMigrate : State → Type 0
 CanMigrate old = (¬ HasForm Current old) → (form : Form) (rows : Rows) → HadIn form old rows → AnswersFit rows
 
--- Of a connection in no transaction, with no limit on steps, over a store without tables or with just those of either version:
--- this fault has a cause.
+-- For a connection in no transaction, without a limit on steps, over a store without tables or with exactly those of either version,
+-- the fault has a cause.
 abbrev pub FailsToAdopt : State → State → OpenFault → Type 0
 FailsToAdopt old new fault = old.in_transaction ≡ false → old.step_limit ≡ None → IsBlank old ⊎ IsOurs old → CanMigrate old → fault ≡ StoreFailed → HasCause old new
 
--- it has room for as many rows as its trees have, and where it was new for all but one of 2^63
+-- it has room for as many rows as its trees have; a store that was new, for 2^63 - 1
 abbrev pub OpensWithRoom : State → State → Type 0
 OpensWithRoom old new = (n : ℕ) → HasRoomIn n new.committed.trees ⊎ (IsBlank old × (1 + n ≤ 2 ^ 63)) → HasRoom n new
 
--- the keeper has what was found in the files, which held this at first
+-- the keeper has what was found in the files, which first held this
 pub record IsOpenedFrom {D : Type 0} {g : Ghosts D} (start : Image) (now : Held (FileStore D g)) : Type 0 where
   pub was : Held (FileStore D g)
   pub opened : IsOpened was
   pub found : Finds start (file_state was)
-  -- a file that stands for a content alone gives the keeper that content
+  -- if the file alone is a store of a content, the keeper has that content
   pub alone : (content : Content) → StandsAlone start content → HasContent (file_state now) content
   pub begins : BeginsEmpty (file_state was) (file_state now)
   pub begun : BeginsWorld (file_state was) (file_state now)
@@ -159,7 +159,7 @@ pub record IsOpenedFrom {D : Type 0} {g : Ghosts D} (start : Image) (now : Held 
   pub ready : IsReady (file_state now)
   pub room : OpensWithRoom (file_state was) (file_state now)
 
--- the connection was refused with this fault, and is left as it was found in the files, which held this at first
+-- the connection was refused with this fault, and is left as it was found in the files, which first held this
 pub record IsRefusedFrom {D : Type 0} {g : Ghosts D} (start : Image) (fault : OpenFault) (now : Held (FileStore D g)) : Type 0 where
   pub was : Held (FileStore D g)
   pub opened : IsOpened was
@@ -176,12 +176,12 @@ pub record IsRefusedFrom {D : Type 0} {g : Ghosts D} (start : Image) (fault : Op
   -- a later call may adopt it
   pub ready : IsReady (file_state now)
 
--- what is told of the connection that is handed back
+-- what holds for the connection that is handed back
 abbrev pub IfConnection : {S L : Type 0} → Rest S L → (Held S → Type 0) → Type 0
 IfConnection (Connection conn) P = P conn
 IfConnection (Files left) P = ⊤
 
--- and of what is left of files that `sqlite` didn't open
+-- what holds for what is left of files that `sqlite` didn't open
 abbrev pub IfFiles : {S L : Type 0} → Rest S L → (Option L → Type 0) → Type 0
 IfFiles (Connection conn) P = ⊤
 IfFiles (Files left) P = P left

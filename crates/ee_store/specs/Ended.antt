@@ -1,4 +1,4 @@
--- What a store in a file is at rest.
+-- A store in a file at rest.
 use Rattle.sqlite_disk.specs.declared.Disk.{Ghosts}
 use Rattle.sqlite_disk.specs.declared.Files.{Files}
 use Rattle.sqlite.specs.Tree.{Trees}
@@ -12,17 +12,17 @@ use Rattle.sqlite.specs.Closing.{HoldsAlone}
 use Rattle.ee_desk_acts.specs.Repeats.{Content}
 use Rattle.ee_store_lookups.specs.Seen.{StandsFor, HasContent}
 
--- the two files are a store of the content, and so is the file without its log
+-- the two files are a store of the content, and so is the database file without its log
 pub record StandsAlone (image : Image) (content : Content) : Type 0 where
   pub db : Trees
   pub holds : HoldsAlone image db
   pub stands : StandsFor db content
 
--- so they are as they read, and whatever a crash leaves of them
+-- the files are such a store, as they read and as a crash may leave them
 pub record IsAtRest {D : Type 0} (g : Ghosts D) (files : Files D) (content : Content) : Type 0 where
   pub seen : StandsAlone (image_of g files) content
   pub left : (image : Image) → outcomes g files.log files.db image → StandsAlone image content
 
--- whichever content the store had, its files are at rest with it, where the disks returned what was written
+-- the files are at rest with each content that the store had, if the disks returned what was written
 abbrev pub RestsIn : {D : Type 0} {g : Ghosts D} → Held (FileStore D g) → Files D → Type 0
 RestsIn {g = g} c files = AreClean g files.log files.db → (content : Content) → HasContent (file_state c) content → IsAtRest g files content

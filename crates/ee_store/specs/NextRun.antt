@@ -20,33 +20,33 @@ use Rattle.ee_store.specs.Adopted.{IsOpenedFrom, IsRefusedFrom}
 abbrev pub MayLeaveFiles : {D : Type 0} {g : Ghosts D} → Held (FileStore D g) → Image → Type 0
 MayLeaveFiles now left = (state now.store).may_leave left
 
--- its trees have the numbers that `sqlite` lists them under, as those of every connection
+-- its trees have the numbers under which `sqlite` lists them, as on every connection
 abbrev pub IsNumbered : {D : Type 0} {g : Ghosts D} → Held (FileStore D g) → Type 0
 IsNumbered now = IsTrue (view now.store).is_numbered
 
--- the next run opens these files, as a keeper or as a connection that is refused, and handed back
+-- the next run opens these files as a keeper, or as a connection that is refused and handed back
 abbrev pub IsNextRun : {E : Type 0} {h : Ghosts E} → Image → Held (FileStore E h) → Type 0
 IsNextRun left now = IsOpenedFrom left now ⊎ ((fault : OpenFault) × IsRefusedFrom left fault now)
 
--- Whatever two files a crash leaves of a keeper that follows a world: the next run on them, refused or not, follows the world
+-- For any two files that a crash leaves of a keeper that follows a world: the next run on them, refused or not, follows the world
 -- after a stop and a reopening. So it has a content that a crash might leave of that world.
 abbrev pub FollowsInNextRun : {D E : Type 0} → Ghosts D → Ghosts E → Type 0
 FollowsInNextRun {D} {E} g h = (old : Held (FileStore D g)) (w : World) (left : Image) (now : Held (FileStore E h))
     → IsNumbered old → FollowsWorld (file_state old) w → MayLeaveFiles old left → IsNextRun left now
     → ∥ ((v : World) × Happens w (Stop_between ∷ Reopen ∷ []) v × FollowsWorld (file_state now) v) ∥₁
 
--- Where the open is refused, as for want of memory, the connection that comes back leaves a content of the stopped world.
+-- If the open is refused, for example for want of memory, the connection that comes back leaves a content of the stopped world.
 abbrev pub WaitsInNextRun : {D E : Type 0} → Ghosts D → Ghosts E → Type 0
 WaitsInNextRun {D} {E} g h = (old : Held (FileStore D g)) (w : World) (left : Image) (fault : OpenFault) (now : Held (FileStore E h))
     → IsNumbered old → FollowsWorld (file_state old) w → MayLeaveFiles old left → IsRefusedFrom left fault now
     → ∥ ((v : World) × Happens w (Stop_between ∷ []) v × Leaves StandsFor (file_state now).may_leave v) ∥₁
 
--- Whatever two files a crash might leave of the keeper hold a database, which stands for a content that it might leave of the world.
+-- Any two files that a crash might leave of the keeper hold a database that represents a content which it might leave of the world.
 abbrev pub LeavesStanding : {D : Type 0} {g : Ghosts D} → Held (FileStore D g) → Type 0
 LeavesStanding old = (w : World) (left : Image) → FollowsWorld (file_state old) w → MayLeaveFiles old left
     → ∥ ((db : Trees) × HoldsDatabase left db × ((content : Content) × Contains w.may content × StandsFor db content)) ∥₁
 
--- The keeper was opened on two files. Where these hold such a database, it follows the world after a stop and a reopening.
+-- The keeper was opened on two files. If these hold such a database, it follows the world after a stop and a reopening.
 abbrev pub FollowsOn : {E : Type 0} {h : Ghosts E} → Image → Held (FileStore E h) → Type 0
 FollowsOn left now = (w : World) (content : Content) (db : Trees) → Contains w.may content → HoldsDatabase left db → StandsFor db content
     → (v : World) × Happens w (Stop_between ∷ Reopen ∷ []) v × (v.now ≡ content) × FollowsWorld (file_state now) v

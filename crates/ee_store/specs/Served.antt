@@ -1,4 +1,4 @@
--- What a keeper's calls leave of the events, and why they fail.
+-- The events of a keeper's calls, and why they fail.
 use Rattle.std.specs.Prelude.{◌≡◌, Result, IfErr}
 use Rattle.sqlite.specs.State.{State, HasCleanDisk}
 use Rattle.ee_desk_acts.specs.Repeats.{Content}
@@ -12,7 +12,7 @@ use Rattle.ee_store_lookups.specs.Seen.{StandsFor, HasContent}
 use Rattle.ee_store_lookups.specs.Causes.{IsReady}
 use Rattle.ee_store_tables.specs.declared.failures.Failure.TheVariants.{NoMemory, StoreFailed}
 
--- the store has the world's content, and a crash leaves it what it may leave the world
+-- the store has the world's content, and a crash leaves what it may leave of the world
 abbrev pub FollowsWorld : State → World → Type 0
 FollowsWorld s w = HasContent s w.now × Leaves StandsFor s.may_leave w
 
@@ -20,6 +20,6 @@ abbrev pub unserved_as : Failure → Unserved
 unserved_as NoMemory = unserved.NoMemory
 unserved_as StoreFailed = unserved.StoreFailed
 
--- the same of what a keeper answers
+-- the same for a keeper's answers
 abbrev pub ServesOrFails : {X : Type 0} → State → State → Result X Unserved → Type 0
 ServesOrFails old new result = HasCleanDisk new → IsReady old → (content : Content) → HasContent old content → IfErr result (λ e. e ≡ unserved.StoreFailed → HasCause old new)

@@ -1,4 +1,4 @@
-//! Taking over a connection, and handing it back.
+//! Adopting a connection, and handing it back.
 
 ghost use Rattle.std.specs.Prelude.{◌≡◌, ◌≢◌, false, IsTrue, IfOk, IfErr, OnOk, OnErr, MatchResult};
 ghost use Rattle.sqlite.specs.Held.{state};
@@ -38,17 +38,17 @@ use ee_store_opening::{AllRows, is_blank, open_rows};
 use sqlite::{Alter, Connection};
 use std::alloc::Global;
 
-/// A connection that was not taken over, and why.
+/// A connection that was not adopted, and why.
 #[derive(Drop)]
 pub struct NotAdopted<S: Alter> {
-    /// Why it was not.
+    /// Why it was refused.
     pub fault: OpenFault,
     /// The connection, handed back.
     pub conn: Connection<S>,
 }
 
-/// The tables of unit values for the rates of rows that stand for books and kept replies, and the replies that are to be
-/// migrated. The rows are let go.
+/// The tables of unit values for the rates of rows that represent books and kept replies, and the replies to be migrated.
+/// Drops the rows.
 fn prepared(alloc: Global, all: AllRows) -> Result<Tested, OpenFault>
     requires { AreInOrder all }
     ensures ok { IfOk result (λ tested. (rows : Rows) → AreRead KeepsAnswer all rows → (content : Content)
@@ -66,7 +66,7 @@ fn prepared(alloc: Global, all: AllRows) -> Result<Tested, OpenFault>
     }
 }
 
-/// A connection sees a database, and outside a transaction its last commit. It does nothing.
+/// A connection sees a database and, outside a transaction, its last commit. It does nothing.
 fn settled<S: Alter>(conn: &Connection<S>)
     ensures live { IsLive (state S.Store conn.now) }
     ensures committed { (state S.Store conn.now).in_transaction ≡ false → IsTrue (state S.Store conn.now).is_open
@@ -76,8 +76,8 @@ fn settled<S: Alter>(conn: &Connection<S>)
     let _autocommit = conn.is_autocommit();
 }
 
-/// Creates the tables of a blank store. Of any other it reads the rows, tests that they stand for books and kept
-/// replies, and then makes of a store of version 1 one of version 2. It returns the tables of unit values for their
+/// Creates the tables of a blank store. For any other store, reads the rows, tests that they represent books and
+/// kept replies, and then migrates a store of version 1 to version 2. Returns the tables of unit values for its
 /// rates. A commit is the last step that can fail.
 fn ready<S: Alter>(conn: &mut Connection<S>, alloc: Global) -> Result<UnitTables, OpenFault>
     ensures begins { HasCleanDisk (state S.Store conn.new) → OnOk result (BeginsEmpty (state S.Store conn.old) (state S.Store conn.new)) }
@@ -114,49 +114,52 @@ fn ready<S: Alter>(conn: &mut Connection<S>, alloc: Global) -> Result<UnitTables
 }
 
 impl<S: Alter> SqlKeeper<S> {
-    /// Takes over a connection that is in no transaction. In a store without tables it makes them, in one
-    /// transaction, and begins with nothing; in one that has just the tables of this program, in the order
-    /// in which it makes them, it reads all rows and tests them. One of version 1, with or without the table of
-    /// extensions, is read and tested alike, and then migrated: in one transaction it becomes one of version 2
-    /// with the same content, its replies under the first desk. Any other store is refused.
+    /// Adopts a connection that is in no transaction. In a store without tables it creates them, in one
+    /// transaction, and starts with the empty content. In a store that has exactly the tables of this program, in
+    /// the order in which it creates them, it reads all rows and tests them. A store of version 1, with or without
+    /// the table of extensions, is read and tested in the same way, and then migrated: in one transaction it
+    /// becomes one of version 2 with the same content, its replies under the first desk. Any other store is
+    /// refused.
     ///
     /// - `begins`: a store without tables gets the empty content.
-    /// - `begun`: the connection is open, and of a store that had no tables a crash leaves the empty content
-    ///   alone, so the events of the law of stops and retries begin there.
-    /// - `found`: a store that has a content keeps it, in whichever form its tables are: one of version 1 has
-    ///   it in version 2, each number as one of the first desk, and every kept reply as it was.
-    /// - `stands`: so the keeper serves from a content, and never from rows that stand for none, nor from
-    ///   other tables.
-    /// - `informed`: what the keeper knows of its books is so: as it is made it knows nothing.
-    /// - `follows`: the store follows the events of the law of stops and retries as it did.
-    /// - `goes_on`: a store over trees that a crash left, which stand for a content, is opened with just that
+    /// - `begun`: the connection is open, and after a crash a store that had no tables has only the empty content.
+    ///   So the events of the law of stops and retries begin there.
+    /// - `found`: a store keeps the content that it has, in whichever form its tables are. One of version 1 has it
+    ///   in version 2, with each number under the first desk, and every kept reply as before.
+    /// - `stands`: so the keeper serves a content that the store had, and never rows that represent none, nor other
+    ///   tables.
+    /// - `informed`: the cache is correct; a new keeper's is empty.
+    /// - `follows`: the store follows the events of the law of stops and retries as before.
+    /// - `goes_on`: a store over trees that a crash left, which represent a content, is opened with exactly that
     ///   content, and the events of the law go on from there.
     /// - `version`, `unusable`: a store that has a content, or no tables, is refused for neither.
-    /// - `other`, `tested`: `WrongVersion` is told only where the rows have another version, and `Unusable`
-    ///   never there. Over other tables `WrongVersion` is told only if `sqlite` shows another version for the
-    ///   desk's row, and if the desk is the first table, just then.
-    /// - `ready`: a connection in no transaction, with no limit on steps, makes a keeper that takes requests. If it is
-    ///   refused, it is handed back so.
-    /// - `room`: it has room for as many rows with hidden numbers as its trees have; a store that was new, for 2^63 - 1.
-    /// - `cause`: of such a connection, over a store without tables or with just those of either version,
-    ///   `StoreFailed` is told only where the device failed once more, or the store was shut before; of a store of
-    ///   version 1 where its kept replies fit the rows of version 2, as all do that are shorter than 900 million bytes.
+    /// - `other`, `tested`: the fault is `WrongVersion` only if the rows have another version, and then never
+    ///   `Unusable`. Over other tables it is `WrongVersion` only if `sqlite` shows another version for the desk's
+    ///   row; if the desk is the first table, exactly then.
+    /// - `ready`: a connection in no transaction, without a limit on steps, makes a keeper that takes requests. If
+    ///   it is refused, it is handed back in the same state.
+    /// - `room`: it has room for as many rows with hidden rowids as its trees have; a store that was new, for
+    ///   2^63 - 1.
+    /// - `cause`: for such a connection, over a store without tables or with exactly those of either version, the
+    ///   fault is `StoreFailed` only if the device failed once more, or the store was shut before. For a store of
+    ///   version 1 this needs kept replies that fit the rows of version 2, as all do that are shorter than 900
+    ///   million bytes.
     /// - `kept`: a refusal commits nothing, whatever the store had. A commit is the last step that can fail.
-    /// - `waits`: of a store over trees that a crash left, which stand for a content, a refusal leaves what
-    ///   stands for the same, so a later call goes on from there.
-    /// - `crash`, `left`: whenever the call stops, a crash leaves what it could leave before. Of a
-    ///   store without tables it may also leave the empty content, and of one of version 1 version 2 with the
-    ///   content that it had, and nothing between.
+    /// - `waits`: if a store over trees that a crash left, which represent a content, is refused, what it leaves
+    ///   represents the same. So a later call goes on from there.
+    /// - `crash`, `left`: whenever the call stops, a crash leaves what it could leave before. In a store without
+    ///   tables it may also leave the empty content; in one of version 1, version 2 with the same content, and
+    ///   nothing between.
     ///
     /// # Errors
     ///
     /// With each the connection is handed back.
     ///
-    /// - `NoMemory` where there is not enough memory.
-    /// - `StoreFailed` where the store fails, or the connection is in a transaction.
-    /// - `WrongVersion` where the tables are of neither version.
-    /// - `Unusable` where the tables are others, or in another order, or the rows stand for no books and
-    ///   kept replies.
+    /// - `NoMemory` if memory is refused.
+    /// - `StoreFailed` if the store fails, or the connection is in a transaction.
+    /// - `WrongVersion` if the tables have neither version.
+    /// - `Unusable` if the tables are others, or in another order, or the rows represent no books and kept
+    ///   replies.
     pub fn adopt(conn: Connection<S>, alloc: Global) -> Result<SqlKeeper<S>, NotAdopted<S>>
         ensures begins { IfOk result (λ keeper. HasCleanDisk (state S.Store keeper.conn) → BeginsEmpty (state S.Store conn) (state S.Store keeper.conn)) }
         ensures begun { IfOk result (λ keeper. HasCleanDisk (state S.Store keeper.conn) → BeginsWorld (state S.Store conn) (state S.Store keeper.conn)) }
@@ -194,7 +197,7 @@ impl<S: Alter> SqlKeeper<S> {
         }
     }
 
-    /// Hands the connection back. What is committed stays. It takes no memory.
+    /// Hands the connection back. What is committed stays. Takes no memory.
     pub fn close(self) -> Connection<S>
         ensures { result ≡ self.conn }
     {

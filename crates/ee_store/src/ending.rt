@@ -1,4 +1,4 @@
-//! Ending with a store in a file: its log is written back, and the files are given back.
+//! Closing a store in a file: checkpoints its log, and hands the files back.
 
 ghost use Rattle.std.specs.Prelude.{◌≡◌, IfOk, IfErr};
 ghost use Rattle.sqlite.specs.Tree.{Trees};
@@ -17,7 +17,7 @@ use sqlite::{Connection, FileStore, Files};
 use sqlite_disk::Disk;
 
 impl<D: Disk + Drop> SqlKeeper<FileStore<D>> {
-    /// Hands the connection back, as `close` does of any store.
+    /// Hands the connection back, as `close` does for any store.
     pub(crate) fn into_connection(self) -> Connection<FileStore<D>>
         ensures { result ≡ self.conn }
     {
@@ -30,19 +30,19 @@ impl<D: Disk + Drop> SqlKeeper<FileStore<D>> {
         conn
     }
 
-    /// Writes the log back into the file, as SQLite does where the last connection closes, and gives the
-    /// files back. What is committed stays; the log stays on the disk, and holds nothing more.
+    /// Checkpoints the log, as SQLite does when the last connection closes, and hands the files back. What is
+    /// committed stays; the log stays on the disk, and is empty of changes.
     ///
-    /// - `at_rest`: the file alone, without its log, then is a store of the content: as the files read, and
-    ///   whatever a crash leaves of them.
-    /// - `history`: whatever has happened since the store was new, that content is the one of requests that
-    ///   were sent, each acting once, and each reply that was given is still the answer (`whole_history`).
-    /// - `left`, `follows`: where it fails, a crash leaves what it could leave before, so what the next
-    ///   command finds still follows the events.
+    /// - `at_rest`: the database file alone, without its log, is then a store of the content: as the files read,
+    ///   and as a crash may leave them.
+    /// - `history`: whatever has happened since the store was new, that content is the one of requests that were
+    ///   sent, each acting once, and each reply that was given is still the answer (`whole_history`).
+    /// - `left`, `follows`: if it fails, a crash leaves what it could leave before, so what the next command finds
+    ///   still follows the events.
     ///
     /// # Errors
     ///
-    /// The store, where it was shut, or where the device fails.
+    /// The store, if it was shut or the device fails.
     pub fn close_files(self) -> Result<Files<D>, FileStore<D>>
         ensures at_rest { IfOk result (λ files. RestsIn self.conn files) }
         ensures history { IfOk result (λ files. RestsAfter self.conn files) }

@@ -1,4 +1,4 @@
-//! What a keeper answers where the store failed, or memory was refused.
+//! The answers of a keeper if the store failed, or memory was refused.
 
 ghost use Rattle.std.specs.Prelude.{◌≡◌};
 ghost use Rattle.ee_store.specs.Served.{unserved_as};
@@ -6,7 +6,7 @@ ghost use Rattle.ee_store.specs.Served.{unserved_as};
 use ee_desk_acts::Unserved;
 use ee_store_tables::Failure;
 
-/// Why a request or a query was not served: want of memory and a store that failed keep their names.
+/// Why a request or a query was not served: want of memory, or a store that failed.
 pub fn unserved(failure: Failure) -> Unserved
     ensures { result ≡ unserved_as failure }
 {

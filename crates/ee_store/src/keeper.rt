@@ -26,9 +26,9 @@ use ee_store_delivery::{Known, deliver_on};
 use sqlite::{Alter, Connection};
 use std::alloc::Global;
 
-/// Keeps books and replies in the tables of a store. Beside them it knows the open day, the last closed one, how many
-/// tickets there are, and the terms of periods, as its redemptions found and left them, so that the next one doesn't read
-/// them again.
+/// Keeps books and replies in the tables of a store. It also caches the open day, the last closed day, the
+/// number of tickets, and the terms of periods, as its redemptions found and left them, so that the next one
+/// doesn't read them again.
 #[derive(Drop)]
 pub struct SqlKeeper<S: Alter> {
     pub(crate) alloc: Global,
@@ -38,21 +38,21 @@ pub struct SqlKeeper<S: Alter> {
 }
 
 impl<S: Alter> SqlKeeper<S> {
-    /// The reply to a request, which acts once: all that it does and its reply are committed together.
-    /// A number that has a kept reply gets that reply where the act is the same, and else
-    /// `NumberReused`. Where it answers `Unserved` nothing has changed.
+    /// Answers a request, which acts once: all its effects and its reply are committed together. A number with a
+    /// kept reply gets that reply if the act is the same, and `NumberReused` otherwise. If the answer is
+    /// `Unserved`, nothing has changed.
     ///
-    /// - `informed`: what the keeper knows of its books is so (`IsInformed`), as it was when the keeper was made
-    ///   (`SqlKeeper::adopt`) and as each call leaves it. Where a request isn't served it forgets what it knew. The clauses
-    ///   that tell what a request does suppose it.
-    /// - `crash`: whenever the keeper stops, a crash leaves what it could leave before, or the rows of
-    ///   the content with this request decided.
-    /// - `durable`: with the reply to a number that wasn't kept it leaves the new rows alone.
-    /// - `again`: with the reply to a kept number it leaves what it could leave before.
+    /// - `informed`: the cache is correct (`IsInformed`), as in a new keeper (`SqlKeeper::adopt`) and after each
+    ///   call. If a request isn't served, the cache is emptied. The clauses about the effects of a request assume
+    ///   a correct cache.
+    /// - `crash`: whenever the keeper stops, a crash leaves what it could leave before, or the rows of the content
+    ///   with this request decided.
+    /// - `durable`: after the reply to a number that wasn't kept, a crash leaves only the new rows.
+    /// - `again`: after the reply to a kept number, a crash leaves what it could leave before.
     /// - `decided`, `unserved`: so the store follows the events of the law of stops and retries.
     /// - `goes`: and they are its events in its whole history (`whole_history`).
-    /// - `ready`, `room`, `cause`: it takes requests as before, with room for 501 rows less at most; and where its
-    ///   store was ready, with such room, and the texts fit a row, it answers `StoreFailed` only where the device failed
+    /// - `ready`, `room`, `cause`: it takes requests as before, with room for at most 501 rows less. If its store
+    ///   was ready, with that room, and the texts fit a row, the answer is `StoreFailed` only if the device failed
     ///   once more, or the store was shut before.
     pub fn deliver(&mut self, request: &Request) -> Result<Reply, Unserved>
         ensures clean { HasCleanDisk (state S.Store self.new.conn) → HasCleanDisk (state S.Store self.old.conn) }

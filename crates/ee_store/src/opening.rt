@@ -19,42 +19,40 @@ use ee_store_making::OpenFault;
 use sqlite::{Alter, Connection, File, FileFrom, FileStore, Leftover, Start, Unknown};
 use sqlite_disk::Disk;
 
-/// What is left where a store in a file isn't opened: a connection, or what `sqlite` leaves of files
-/// that it doesn't open (`L`).
+/// What is left if a store in a file isn't opened: a connection, or what `sqlite` leaves of files that it
+/// doesn't open (`L`).
 #[derive(Drop)]
 pub enum Rest<S: Alter, L> {
-    /// The connection, handed back: what it holds was refused.
+    /// The connection, handed back: its store was refused.
     Connection(Connection<S>),
-    /// What `sqlite` left of the files, where it got as far as opening them.
+    /// What `sqlite` left of the files, if it got as far as opening them.
     Files(Option<L>),
 }
 
 /// A store in a file that wasn't opened, and why.
 #[derive(Drop)]
 pub struct NotOpened<S: Alter, L> {
-    /// Why it was not.
+    /// Why it wasn't opened.
     pub fault: OpenFault,
     /// What is left of it.
     pub rest: Rest<S, L>,
 }
 
-/// Opens the store in the file at a path, or makes it there, where `start` stands for what the file
-/// held.
+/// Opens the store in the file at a path, or creates it there; `start` represents what the file held.
 ///
-/// - `opened`: the keeper has what was found: the empty content where there was no store, and else the
-///   content that the store had, as `SqlKeeper::adopt` tells it.
-/// - `informed`: what the keeper knows of its books is so, as `SqlKeeper::adopt` tells it.
-/// - `follows`: where the file held a database that stands for a content which a crash might leave, by the
-///   law of stops and retries, the keeper has it and goes on from there. The law `next_run` puts both
-///   runs together.
-/// - `refused`: of a connection that is refused it tells the same: why, and what the call left.
-/// - `fault`: a file that `sqlite` doesn't open is told neither as of another version nor as unusable.
-/// - `left`: what is left of that file recovers to what was there, or, where no database was, to none or
-///   an empty one.
+/// - `opened`: the keeper has what was found: the empty content if there was no store, and otherwise the
+///   content that the store had, as `SqlKeeper::adopt` says.
+/// - `informed`: the cache is correct, as `SqlKeeper::adopt` says.
+/// - `follows`: if the file held a database that represents a content which a crash might leave, by the law of
+///   stops and retries, the keeper has it and goes on from there. The law `next_run` joins both runs.
+/// - `refused`: for a connection that is refused the same is said: why, and what the call left.
+/// - `fault`: a file that `sqlite` doesn't open is neither `WrongVersion` nor `Unusable`.
+/// - `left`: what is left of that file recovers to what was there or, if there was no database, to none or an
+///   empty one.
 ///
 /// # Errors
 ///
-/// Those of `SqlKeeper::adopt`; `StoreFailed` also where `sqlite` doesn't open the file.
+/// Those of `SqlKeeper::adopt`; `StoreFailed` also if `sqlite` doesn't open the file.
 pub fn open_as<F: Start>(
     rt: &HostRuntime,
     path: &str,
@@ -90,12 +88,12 @@ pub fn open_as<F: Start>(
 }
 
 impl SqlKeeper<FileStore<File>> {
-    /// Opens the store in the file at a path, or makes it there. It is `open_as`, where nothing is
-    /// told of what the file held: a torn write leaves each byte old or new.
+    /// Opens the store in the file at a path, or creates it there. This is `open_as` without any statement about
+    /// what the file held: a torn write leaves each byte old or new.
     ///
     /// # Errors
     ///
-    /// Those of `SqlKeeper::adopt`; `StoreFailed` also where `sqlite` doesn't open the file.
+    /// Those of `SqlKeeper::adopt`; `StoreFailed` also if `sqlite` doesn't open the file.
     pub fn open(
         rt: &HostRuntime,
         path: &str,
@@ -115,9 +113,9 @@ impl SqlKeeper<FileStore<File>> {
 impl<D: Disk + Drop> SqlKeeper<FileStore<D>> {
     /// Hands the store in two files back, without what isn't committed.
     ///
-    /// - `leaves`: whatever two files a crash might have left of the keeper, they hold a database that stands
-    ///   for a content which the crash might leave by the law of stops and retries.
-    /// - `numbered`: its trees had the numbers that `sqlite` lists them under, as the law `next_run` asks.
+    /// - `leaves`: any two files that a crash might have left of the keeper hold a database which represents a
+    ///   content that the crash might leave, by the law of stops and retries.
+    /// - `numbered`: its trees had the numbers under which `sqlite` lists them, as the law `next_run` needs.
     pub fn stop(self) -> FileStore<D>
         ensures numbered { IsClean (view result) → IsNumbered self.conn }
         ensures leaves { IsClean (view result) → LeavesStanding self.conn }

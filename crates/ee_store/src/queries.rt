@@ -1,4 +1,4 @@
-//! What is asked of a keeper over the tables.
+//! Queries of a keeper over the tables.
 
 ghost use Rattle.std.specs.Prelude.{◌≡◌};
 ghost use Rattle.sqlite.specs.Held.{state};
@@ -25,17 +25,18 @@ use sqlite::Alter;
 
 /// Each query is one transaction that is read and rolled back.
 ///
-/// - `clean`, `shows`: what is shown is right, and the content stays, also where it answers `Unserved`.
-/// - `informed`: what the keeper knows of its books stays so.
+/// - `clean`, `shows`: what is shown is correct, and the content doesn't change, also if the answer is
+///   `Unserved`.
+/// - `informed`: the cache stays correct.
 /// - `crash`: whenever the keeper stops, a crash leaves what it could leave before.
-/// - `ready`, `room`, `cause`: the keeper takes requests as before, with room for as many rows. If its store was ready,
-///   it answers `StoreFailed` only if the device failed once more, or the store was shut before.
+/// - `ready`, `room`, `cause`: the keeper takes requests as before, with room for as many rows. If its store was
+///   ready, it answers `StoreFailed` only if the device failed once more, or the store was shut before.
 /// - `follows`: so a query is no event of the law of stops and retries.
 ///
-/// It answers `NoMemory` where memory was refused, and `StoreFailed` where the store failed, held what no
-/// row of a counter is, or was left within a transaction.
+/// It answers `NoMemory` if memory was refused, and `StoreFailed` if the store failed, has a row that no counter
+/// has, or was left within a transaction.
 impl<S: Alter> SqlKeeper<S> {
-    /// The sheet in a month of the unpaid bonds whose owner is this customer, in order of serial.
+    /// The sheet, in a month, of the unpaid bonds whose owner is this customer, in order of serial number.
     pub fn inventory(&mut self, customer: Customer, month: Month) -> Result<Sheet, Unserved>
         ensures clean { HasCleanDisk (state S.Store self.new.conn) → HasCleanDisk (state S.Store self.old.conn) }
         ensures informed { IsInformed (state S.Store self.old.conn) self.old.known → IsInformed (state S.Store self.new.conn) self.new.known }
@@ -60,7 +61,7 @@ impl<S: Alter> SqlKeeper<S> {
         }
     }
 
-    /// The unpaid bonds whose owner is this customer, in order of serial.
+    /// The unpaid bonds whose owner is this customer, in order of serial number.
     pub fn bonds_of(&mut self, customer: Customer) -> Result<Vec<Bond>, Unserved>
         ensures clean { HasCleanDisk (state S.Store self.new.conn) → HasCleanDisk (state S.Store self.old.conn) }
         ensures informed { IsInformed (state S.Store self.old.conn) self.old.known → IsInformed (state S.Store self.new.conn) self.new.known }
@@ -79,7 +80,7 @@ impl<S: Alter> SqlKeeper<S> {
         }
     }
 
-    /// The ticket of a number, where there is one.
+    /// The ticket with this number, if there is one.
     pub fn ticket(&mut self, number: u64) -> Result<Option<Ticket>, Unserved>
         ensures clean { HasCleanDisk (state S.Store self.new.conn) → HasCleanDisk (state S.Store self.old.conn) }
         ensures informed { IsInformed (state S.Store self.old.conn) self.old.known → IsInformed (state S.Store self.new.conn) self.new.known }
@@ -98,7 +99,7 @@ impl<S: Alter> SqlKeeper<S> {
         }
     }
 
-    /// The batch of a day, where that day is closed.
+    /// The batch of a day, if that day is closed.
     pub fn batch(&mut self, day: Day) -> Result<Option<Batch>, Unserved>
         ensures clean { HasCleanDisk (state S.Store self.new.conn) → HasCleanDisk (state S.Store self.old.conn) }
         ensures informed { IsInformed (state S.Store self.old.conn) self.old.known → IsInformed (state S.Store self.new.conn) self.new.known }
@@ -117,8 +118,8 @@ impl<S: Alter> SqlKeeper<S> {
         }
     }
 
-    /// The row in a month of a bond of that denomination and issue month, whether or not one is
-    /// registered; None without rates for its issue period.
+    /// The row, in a month, of a bond of this denomination and issue month, registered or not; `None`
+    /// without rates for its issue period.
     pub fn quote(
         &mut self,
         denom: Denom,
@@ -156,7 +157,7 @@ impl<S: Alter> Keeper for SqlKeeper<S> {
     ghost use Rattle.ee_store_lookups.specs.Seen.{HasContent};
     ghost use Rattle.ee_store_delivery.specs.Known.{IsInformed};
 
-    // The last commit left the content, and what the keeper knows of its books is so.
+    // The last commit left the content, and the cache is correct for its books.
     ghost has = { λ k content. HasContent (state S.Store k.conn) content × IsInformed (state S.Store k.conn) k.known };
 
     ghost is_clean = { λ k. HasCleanDisk (state S.Store k.conn) };

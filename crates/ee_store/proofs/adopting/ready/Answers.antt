@@ -9,7 +9,7 @@ use Rattle.ee_store_making.specs.declared.forms.Form.{Form}
 use Rattle.ee_store_making.specs.Forms.{version_of, IsOurs, HadIn}
 use Rattle.ee_store_making.specs.Making.{first_rows}
 use Rattle.ee_store_opening.specs.Whole as whole
-use Rattle.ee_store_opening.specs.Opening.{IsOtherVersion, AreReadable}
+use Rattle.ee_store_opening.specs.Opening.{AreReadable}
 use Rattle.ee_desk_acts.specs.Repeats.{Content}
 use Rattle.ee_store_contents.specs.Contents.{KeepsAnswer}
 use Rattle.ee_store_contents.specs.Standing.{rows_at, StandAt}
