@@ -18,7 +18,7 @@ fn table_of(alloc: Global, rates: Rates) -> Option<UnitTable>
     unit_table(alloc, rates, Bits::from_places(62)).ok()
 }
 
-/// A rate, and after a slash the extension where one is named.
+/// A rate and, after a slash, the extension if there is one.
 fn rates_of(text: &str) -> Option<Rates> {
     let Some((fixed, extension)) = text.split_once('/') else {
         return Some(Rates::new(text.parse().ok()?, None));

@@ -32,9 +32,9 @@ impl Cases for CallCases {
     }
 }
 
-/// What bodies ask for, or their first fault: bodies that are read, the last of a repeated key, desks, no JSON,
-/// no object, the desk and then the number before all other fields, then the fields in the order of the table,
-/// and then any other; a row's other field stands before later rows, and before other fields of the body.
+/// What bodies ask for, or their first fault: bodies that are read, the last of a repeated key, desks, no JSON, no
+/// object, the desk and then the number before all other fields, then the fields in the order of the table, and
+/// then any other field. Another field of a row comes before later rows, and before other fields of the body.
 const BODIES: &str =
     r#"POST /rates {"number":1,"rates":[{"from":"2010-11","rate":"3.50"}]} => Request(Request { desk: Desk { number: 0 }, number: Number { value: 1 }, act: AddRates(Rows { items: [RateRow { from: IssueMonth { count: 66 }, rates: Rates { fixed: Rate { hundredths: 350 }, extension: Rate { hundredths: 350 } } }] }) })
 POST /rates {"rates":[{"rate":"2%","from":"05/2010"}],"number":1} => Request(Request { desk: Desk { number: 0 }, number: Number { value: 1 }, act: AddRates(Rows { items: [RateRow { from: IssueMonth { count: 60 }, rates: Rates { fixed: Rate { hundredths: 200 }, extension: Rate { hundredths: 200 } } }] }) })
@@ -166,7 +166,7 @@ fn paths_are_read(rt: HostRuntime) -> Result<(), Fail> {
     Ok(())
 }
 
-/// How many brackets a body opens and closes, and what is told of it.
+/// How many brackets a body opens and closes, and the result.
 const DEPTHS: &str = "\
 127 127 => 65 body
 127 0 => 64 BadJson

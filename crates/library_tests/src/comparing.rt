@@ -7,11 +7,11 @@ use std::test::Fail;
 
 /// Something that answers each case of a table by a text. An impl costs a small part of the proof of a loop of its own.
 pub trait Cases {
-    /// The answer to a case; None where that is no case, or memory was refused.
+    /// The answer to a case; `None` if it is no case, or memory was refused.
     fn told(alloc: Global, case: &str) -> Option<String>;
 }
 
-/// Compares the answers to the cases of a table, rows `CASE => ANSWER`, with those that stand there.
+/// Compares the answers to the cases of a table, rows `CASE => ANSWER`, with those in the table.
 pub fn compare<T: Cases>(rt: &impl Abort, alloc: Global, table: &str) -> Result<(), Fail> {
     for row in table.lines() {
         let (case, wanted) = row.split_once(" => ").ok_or("row")?;
@@ -21,8 +21,7 @@ pub fn compare<T: Cases>(rt: &impl Abort, alloc: Global, table: &str) -> Result<
     Ok(())
 }
 
-/// The same with each allocation refused in turn: `refused` may be told of a case in place of its answer, and then a line is
-/// printed.
+/// The same with each allocation refused in turn: a case may then answer `refused`, and a line is printed.
 pub fn compare_refused<T: Cases>(
     rt: &impl Abort,
     out: &HostRuntime,
@@ -43,11 +42,11 @@ pub fn compare_refused<T: Cases>(
 
 /// Something that is written to a device.
 pub trait Written {
-    /// How writing it to a device of so many bytes ends, and what the device has.
+    /// How writing it to a device with this much room ends, and what the device has.
     fn told_in(&self, alloc: Global, room: usize) -> Option<String>;
 }
 
-/// What is told where a device had so many bytes for a text.
+/// The result if a device had this much room for a text.
 fn front_told(alloc: Global, whole: &str, room: usize) -> Option<String> {
     if room >= whole.len() {
         return format!(in alloc; "Ok(()) {whole}").ok();
@@ -71,7 +70,7 @@ pub fn compare_fronts<T: Written>(
     Ok(())
 }
 
-/// Compares a text with the wanted one; `case` tells which row it is of.
+/// Compares a text with the wanted one; `case` names its row.
 pub fn same(rt: &impl Abort, told: &str, wanted: &str, case: &str) {
     assert!(rt; told == wanted, "{case}: {told} and not {wanted}");
 }
@@ -87,7 +86,7 @@ pub fn shown<T: Debug>(alloc: Global, value: &T) -> Option<String> {
     format!(in alloc; "{value:?}").ok()
 }
 
-/// The text, and the other too where it isn't the same.
+/// The text, followed by the other one if they differ.
 pub fn alike(alloc: Global, text: String, other: &str) -> Option<String> {
     if text.as_str() == other {
         return Some(text);
@@ -95,7 +94,7 @@ pub fn alike(alloc: Global, text: String, other: &str) -> Option<String> {
     format!(in alloc; "{text}, but also {other}").ok()
 }
 
-/// The bytes of a text in which `|` stands for a line feed, `^` for a carriage return and `~` for the byte FF.
+/// The bytes of a text in which `|` means a line feed, `^` a carriage return and `~` the byte FF.
 pub fn bytes_of(alloc: Global, text: &str) -> Option<Vec<u8>> {
     let mut bytes = Vec::new(alloc);
     for byte in text.as_bytes() {
@@ -111,7 +110,7 @@ pub fn bytes_of(alloc: Global, text: &str) -> Option<Vec<u8>> {
     Some(bytes)
 }
 
-/// A text in which `^` stands for a carriage return and `|` for a line feed.
+/// A text in which `^` means a carriage return and `|` a line feed.
 pub fn marked(alloc: Global, text: &str) -> Option<String> {
     let mut marked = String::new(alloc);
     for letter in text.chars() {
@@ -131,7 +130,7 @@ pub fn add<T: Drop>(items: &mut Vec<T>, item: T) -> Option<()> {
     items.push(item).ok()
 }
 
-/// Adds a text so many times.
+/// Appends a text `times` times.
 pub fn add_times(text: &mut String, part: &str, times: usize) -> Option<()> {
     for _ in 0..times {
         text.push_str(part).ok()?;

@@ -26,7 +26,7 @@ pub struct Device {
 }
 
 impl Device {
-    /// Takes a byte at a time, and is in trouble after so many bytes; it takes the memory of 1,000 bytes before.
+    /// Takes one byte at a time, and fails after `limit` bytes; it takes the memory of 1,000 bytes before.
     pub fn of(alloc: Global, room: usize, trouble: Trouble) -> Option<Device> {
         Some(Device {
             bytes: Vec::with_capacity(alloc, 1_000).ok()?,
@@ -67,7 +67,7 @@ impl Sink for Device {
     }
 }
 
-/// The call that is in trouble, and how; none where the text is empty.
+/// The call that fails, and how; none if the text is empty.
 fn trouble_of(text: &str) -> Option<(usize, Trouble)> {
     let (call, kind) = text.split_once(' ')?;
     let trouble = match kind {
@@ -177,7 +177,7 @@ impl ee_device::Source for Source<'_> {
     }
 }
 
-/// The read that is in trouble, and its kind; none where the text is empty.
+/// The read that fails, and its kind; none if the text is empty.
 fn failure_of(text: &str) -> Option<(usize, ErrorKind)> {
     let (call, kind) = text.split_once(' ')?;
     let kind = match kind {

@@ -1,5 +1,5 @@
-//! Files as the rules and the spreadsheets write them, good and broken, over readers and writers that
-//! fail. The expected rows are those of the rules for files, not of this crate.
+//! Files as the rules and spreadsheets write them, good and broken, over readers and writers that fail. The
+//! expected rows come from the rules for files, not from this crate.
 
 mod faulty;
 mod samples;

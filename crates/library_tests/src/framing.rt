@@ -78,7 +78,7 @@ fn add_end(text: &mut String, end: Result<Next, WireEnd>) -> Option<()> {
     }
 }
 
-/// What a stream tells: its messages, then how it ends. Where memory was refused the call is made again.
+/// The result of a stream: its messages, then how it ends. If memory was refused, the call is repeated.
 fn told(alloc: Global, reader: &mut Pieces) -> Option<String> {
     let mut buffer = Buffer::new(alloc);
     let mut text = String::new(alloc);
@@ -95,7 +95,7 @@ fn told(alloc: Global, reader: &mut Pieces) -> Option<String> {
     None
 }
 
-/// Compares what a stream tells that comes in pieces of one size, after a first one of another.
+/// Compares the result of a stream that comes in pieces of one size, after a first piece of another.
 fn pieces_tell(
     rt: &impl Abort,
     alloc: Global,
@@ -151,15 +151,15 @@ fn refused_memory(rt: HostRuntime) -> Result<(), Fail> {
     Ok(())
 }
 
-/// What bytes tell, whole and in pieces of one byte.
+/// The result of bytes, whole and in pieces of one byte.
 fn told_in_pieces(alloc: Global, bytes: &[u8]) -> Option<String> {
     let whole = told(alloc, &mut Pieces::of(bytes, 4_096, 4_096))?;
     let pieces = told(alloc, &mut Pieces::of(bytes, 1, 1))?;
     alike(alloc, whole, pieces.as_str())
 }
 
-/// Streams, and what they tell; `|` stands for a line feed, `^` for a carriage return and `~` for the byte FF. Without
-/// a line feed nothing is decided.
+/// Streams, and their results; `|` means a line feed, `^` a carriage return and `~` the byte FF. Without a line
+/// feed nothing is settled.
 const HEADS: &str = "\
 GET / HTTP/1.1|| => GET /  ; End
  => End
@@ -211,7 +211,7 @@ fn heads_are_judged(rt: HostRuntime) -> Result<(), Fail> {
     compare::<HeadCases>(&rt, rt.alloc(), HEADS)
 }
 
-/// A head of so many lines `a:`, and of so many bytes by one more line, where that is longer.
+/// A head with this number of lines `a:` and, if it is longer, this number of bytes by one more line.
 fn head_of(alloc: Global, lines: usize, len: usize) -> Option<String> {
     let mut head = String::from_str(alloc, "GET / HTTP/1.1\n").ok()?;
     add_times(&mut head, "a:\n", lines)?;
@@ -225,8 +225,8 @@ fn head_of(alloc: Global, lines: usize, len: usize) -> Option<String> {
     Some(head)
 }
 
-/// Header lines and bytes of heads, and what they tell: 32 headers and 33; 32 headers of 16,384 bytes and of a byte
-/// more; a line feed at every third byte, and the same, too long.
+/// The header lines and bytes of heads, and the results: 32 headers and 33; 32 headers of 16,384 bytes and one
+/// byte more; a line feed at every third byte, and the same, too long.
 const LIMITS: &str = "\
 32 0 => GET /  ; End
 33 0 => BadHead

@@ -1,5 +1,6 @@
-//! Tests of the libraries below the desk, and of the counter over a keeper in memory, by their public calls alone. A crate with
-//! tests is proved twice, and each such crate pays for all that it links, so the tests of all of them stand here.
+//! Tests of the libraries below the desk, and of the counter over a keeper in memory, by their public calls alone.
+//! A crate with tests is proved twice, and each such crate pays for all that it links, so the tests of all of them
+//! are here.
 #![tactic(auto)]
 
 #[cfg(test)]

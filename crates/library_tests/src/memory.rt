@@ -1,5 +1,5 @@
-//! Calls over bytes in memory, where no read fails and a slice is full only at its end. Each function has that as a clause,
-//! which follows from the clauses of the call alone.
+//! Calls over bytes in memory, where no read fails and a slice is full only at its end. Each function has that as a
+//! clause, which follows from the clauses of the call alone.
 
 ghost use Rattle.std.specs.Prelude.{◌≢◌, IfErr};
 ghost use Rattle.ee_counter.specs.Filing.{IsFailedRead};

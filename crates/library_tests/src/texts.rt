@@ -18,7 +18,7 @@ const ACTS: &str =
 {"act":"close","day":"2012-02-06"} => CloseDay(Day { count: 15376 })
 "#;
 
-/// A value as `Debug` shows it, and its text where that isn't the one that it was read from.
+/// A value as `Debug` prints it, and its text if that differs from the text that was read.
 fn read_back<T: Debug>(alloc: Global, value: &T, text: &str, from: &str) -> Option<String> {
     if text == from {
         return shown(alloc, value);

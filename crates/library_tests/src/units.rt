@@ -1,5 +1,5 @@
-//! Spellings, good and bad, of every reader, and printed texts. The expected values are those of the
-//! rules for spellings, not of this crate. Values stand as `Debug` shows them.
+//! Spellings, good and bad, for every reader, and printed texts. The expected values come from the rules for
+//! spellings, not from this crate. Values are written as `Debug` prints them.
 
 use crate::comparing::{Cases, alike, compare, shown};
 use ee_desk_acts::read_desk;
@@ -9,7 +9,7 @@ use std::fmt::{Debug, Display};
 use std::str::FromStr;
 use std::test::Fail;
 
-/// What a reader reads of a text, and what parsing gives where that is another.
+/// What a reader reads from a text, and what parsing gives if that differs.
 fn read_alike<T: FromStr<Err = UnitFault> + Debug + Drop>(
     alloc: Global,
     text: &str,
@@ -198,7 +198,7 @@ fn printed<T: Display + Drop>(alloc: Global, value: Option<T>) -> Option<String>
     value?.to_string(alloc).ok()
 }
 
-/// The printed text of a value that is told by a number.
+/// The printed text of a value that is named by a number.
 fn printed_number(alloc: Global, kind: &str, text: &str) -> Option<String> {
     let number = text.parse().ok();
     match kind {
@@ -210,7 +210,7 @@ fn printed_number(alloc: Global, kind: &str, text: &str) -> Option<String> {
     }
 }
 
-/// The printed text of a value `KIND TEXT`, that is told by its spelling or its number.
+/// The printed text of a value `KIND TEXT`, named by its spelling or its number.
 fn printed_value(alloc: Global, value: &str) -> Option<String> {
     let (kind, text) = value.split_once(' ')?;
     match kind {
@@ -320,7 +320,7 @@ fn month_of_day_told(alloc: Global, text: &str) -> Option<String> {
     month.to_string(alloc).ok()
 }
 
-/// What is told of a text by a word for it.
+/// The result for a text that a word names.
 struct UnitCases;
 
 impl Cases for UnitCases {
@@ -336,7 +336,7 @@ impl Cases for UnitCases {
     }
 }
 
-/// Values that are printed, and what is told of months, days and denominations.
+/// Values that are printed, and the results for months, days and denominations.
 const TOLD: [&str; 6] = [
     PRINTED_NUMBERS,
     PRINTED_SPELLINGS,

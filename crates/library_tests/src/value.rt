@@ -10,7 +10,7 @@ fn rate(hundredths: u16) -> Rate {
     Rate::from_hundredths(hundredths.min(2000))
 }
 
-/// Rates in hundredths: the fixed rate, and after a slash the extension where one is named.
+/// Rates in hundredths: the fixed rate and, after a slash, the extension if there is one.
 fn rates(text: &str) -> Option<Rates> {
     let Some((fixed, extension)) = text.split_once('/') else {
         return Some(Rates::new(rate(text.parse().ok()?), None));

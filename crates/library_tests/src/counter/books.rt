@@ -1,6 +1,6 @@
 //! Books as lists, written in words: rows `rate MONTH RATE`, `bond SERIAL DENOM ISSUED OWNER COOWNER`,
 //! `ticket NUMBER DAY PAYEE CENTS SERIAL=CENTS ..`, `batch DAY TICKETS BONDS CENTS`, `day DAY` and
-//! `last DAY`, each ended by a semicolon; `-` stands for what is missing.
+//! `last DAY`, each ended by a semicolon; `-` means a missing value.
 
 use crate::comparing::{Cases, add, compare};
 use ee_calculator::Bond;
@@ -52,7 +52,7 @@ last 2012-02-06 -> last - => Some(Unsound)
 day - -> day 2012-02-06 => Some(Unsound)
 ";
 
-/// The worked books with changes `OLD -> NEW | OLD -> NEW ..`, each made where the old text stands first.
+/// The worked books with changes `OLD -> NEW | OLD -> NEW ..`, each made at the first occurrence of the old text.
 fn changed(alloc: Global, changes: &str) -> Option<String> {
     let mut text = String::from_str(alloc, WORKED).ok()?;
     for change in changes.split('|') {
@@ -191,7 +191,7 @@ impl Worded for Batch {
     }
 }
 
-/// The row of a text between two semicolons, where it is of that kind.
+/// The row of a text between two semicolons, if it is of this kind.
 fn row_of<T: Worded>(alloc: Global, row: &str) -> Option<Option<T>> {
     let (kind, rest) = row.trim().split_once(' ')?;
     if kind != T::kind() {
@@ -211,7 +211,7 @@ fn rows_of<T: Worded>(alloc: Global, text: &str) -> Option<Rows<T>> {
     Some(Rows::new(rows))
 }
 
-/// The day of a kind of row; None where it is missing or `-`.
+/// The day of a kind of row; `None` if it is missing or `-`.
 fn day_of(text: &str, kind: &str) -> Option<Day> {
     for row in text.split_terminator(';') {
         let (name, day) = row.trim().split_once(' ')?;

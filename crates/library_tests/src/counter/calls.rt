@@ -18,10 +18,10 @@ use std::collections::BTreeMap;
 use std::process::Abort;
 use std::test::Fail;
 
-/// Calls in turn over one list of books, and below each what is told of it. A day begins; what the books show; an act is
-/// seen and decided, and the books stay; it is done, and the day is closed; the parts of the books, and those of the
-/// books of these parts. Then calls that need no books: an act that is decided by a view after so many tickets over all
-/// days, a message without a connection, and terms, which are made once for equal rates.
+/// Calls in order over one list of books, each followed by its result. A day begins; what the books show; an act
+/// is seen and decided, and the books don't change; it is done, and the day is closed; the parts of the books,
+/// and the books of these parts. Then calls that need no books: an act that is decided on a view with a number of
+/// tickets across all days, a message without a connection, and terms, which are made once for equal rates.
 const CALLS: &str =
     r#"> do {"act":"rates","rates":[{"from":"2010-05","rate":"2.00%"},{"from":"2010-11","rate":"3.50%"}]}
 {"new":2,"same":0}
@@ -127,7 +127,7 @@ fn step_told(alloc: Global, books: &mut Books, act: &Act) -> Option<String> {
     reply_text(alloc, &reply).ok()
 }
 
-/// What is seen of an open day after so many tickets over all days.
+/// The view of an open day, with a number of tickets across all days.
 fn view_after(alloc: Global, tickets: u64) -> Option<Option<View>> {
     Some(View::from_parts(ViewParts {
         rates: BTreeMap::new(alloc),
@@ -141,7 +141,7 @@ fn view_after(alloc: Global, tickets: u64) -> Option<Option<View>> {
     }))
 }
 
-/// The text of the reply to an act after so many tickets.
+/// The text of the reply to an act, with a number of tickets.
 fn decided_after(alloc: Global, tickets: u64, act: &Act) -> Option<String> {
     match view_after(alloc, tickets)? {
         Some(view) => decided(alloc, &view, act),
@@ -149,7 +149,7 @@ fn decided_after(alloc: Global, tickets: u64, act: &Act) -> Option<String> {
     }
 }
 
-/// What is told of an act of a canonical text.
+/// The result for an act with a canonical text.
 fn act_told(alloc: Global, books: &mut Books, call: &str, text: &str) -> Option<String> {
     let act = read_act(alloc, text).ok()??;
     match call {
@@ -159,7 +159,7 @@ fn act_told(alloc: Global, books: &mut Books, call: &str, text: &str) -> Option<
     }
 }
 
-/// What is told of `TICKETS ACT`.
+/// The result for `TICKETS ACT`.
 fn after_told(alloc: Global, text: &str) -> Option<String> {
     let (tickets, act) = text.split_once(' ')?;
     let act = read_act(alloc, act).ok()??;
@@ -198,7 +198,7 @@ fn ticket_told(alloc: Global, books: &Books, number: &str) -> Option<String> {
     String::from_str(alloc, if is_none { "none" } else { "one" }).ok()
 }
 
-/// What is told of parts: whether they are sound, how many tickets are copied, or all of them in words.
+/// The result for parts: whether they are sound, how many tickets are copied, or all of them in words.
 fn told_of_parts(alloc: Global, parts: &Parts, call: &str) -> Option<String> {
     match call {
         "check" => checked(alloc, parts).is_ok().to_string(alloc).ok(),
@@ -210,7 +210,7 @@ fn told_of_parts(alloc: Global, parts: &Parts, call: &str) -> Option<String> {
     }
 }
 
-/// What is told of the parts of the books.
+/// The result for the parts of the books.
 fn parts_told(alloc: Global, books: &Books, call: &str) -> Option<String> {
     let parts = books.parts().ok()?;
     told_of_parts(alloc, &parts, call)
@@ -252,7 +252,7 @@ fn terms_told(alloc: Global, rate: &str) -> Option<String> {
     format!(in alloc; "{before} {kept} {after}").ok()
 }
 
-/// What is told of a call `WORD REST` other than a quote.
+/// The result of a call `WORD REST` other than a quote.
 fn told(
     alloc: Global,
     books: &mut Books,
@@ -274,7 +274,7 @@ fn told(
     }
 }
 
-/// What is told of a call.
+/// The result of a call.
 fn call_told(
     alloc: Global,
     books: &mut Books,
@@ -288,7 +288,7 @@ fn call_told(
     Ok(told(alloc, books, keeper, word, rest).ok_or("no answer")?)
 }
 
-/// Compares what is told of each call with what stands below it.
+/// Compares the result of each call with the lines below it.
 fn compare_over(
     rt: &impl Abort,
     alloc: Global,

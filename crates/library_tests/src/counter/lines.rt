@@ -68,7 +68,7 @@ fn kind_told(kind: FileKind) -> &'static str {
     }
 }
 
-/// Adds a rate, and the extension where one is named.
+/// Appends a rate, and the extension if there is one.
 fn add_rates(text: &mut String, rate: Rate, extension: Option<Rate>) -> Option<()> {
     match extension {
         Some(extension) => write!(text, " at {rate}, then {extension}").ok(),

@@ -8,13 +8,13 @@ use ee_keeper::ListKeeper;
 use std::alloc::Global;
 use std::test::Fail;
 
-/// Streams and the most bytes that a read has of them; how many answers are written whole, why the connection ends and
-/// how many bytes are left of the stream, and the answers. `|` stands for a line's end, and `*` for 16,168 letters, with which a
-/// head of 32 headers has 16,384 bytes.
+/// Streams, and the maximum number of bytes in a read; how many responses are written whole, why the connection
+/// ends, how many bytes of the stream are left, and the responses. `|` means the end of a line, and `*` 16,168
+/// letters, with which a head of 32 headers has 16,384 bytes.
 ///
-/// A message that is cut before the last byte of its body; headers at fault, after which nothing is answered; heads of
-/// the most headers and bytes, and of one more; a body that nests too deep, after which the connection goes on; and
-/// messages that ask to close, after which nothing is read.
+/// A message that is cut before the last byte of its body; headers at fault, after which nothing is answered;
+/// heads with the most headers and bytes, and with one more; a body that nests too deep, after which the
+/// connection goes on; and messages that ask to close, after which nothing is read.
 const STREAMS: &str =
     r#"1 POST /rates HTTP/1.1|Content-Length: 55||{"number":1,"rates":[{"from":"2010-11","rate":"3.50"}]}GET /value/50/2010-11/2012-02 HTTP/1.1||POST /rates HTTP/1.1|Content-Length: 55||{"number":1,"rates":[{"from":"2010-11","rate":"3.50"}] => 3 Fault(Truncated) 0 HTTP/1.1 200 OK|Content-Type: application/json|Content-Length: 18||{"new":1,"same":0}HTTP/1.1 200 OK|Content-Type: application/json|Content-Length: 143||{"denom":50,"final":"2040-11","interest":"0.88","issued":"2010-11","next":"2012-03","note":"P5","price":"25.00","rate":"3.50%","value":"25.88"}HTTP/1.1 400 Bad Request|Content-Type: application/json|Content-Length: 31|Connection: close||{"code":68,"fault":"Truncated"}
 7 POST /rates HTTP/1.1|Content-Length: 55||{"number":1,"rates":[{"from":"2010-11","rate":"3.50"}]}GET /value/50/2010-11/2012-02 HTTP/1.1||POST /rates HTTP/1.1|Content-Length: 55||{"number":1,"rates":[{"from":"2010-11","rate":"3.50"}] => 3 Fault(Truncated) 0 HTTP/1.1 200 OK|Content-Type: application/json|Content-Length: 18||{"new":1,"same":0}HTTP/1.1 200 OK|Content-Type: application/json|Content-Length: 143||{"denom":50,"final":"2040-11","interest":"0.88","issued":"2010-11","next":"2012-03","note":"P5","price":"25.00","rate":"3.50%","value":"25.88"}HTTP/1.1 400 Bad Request|Content-Type: application/json|Content-Length: 31|Connection: close||{"code":68,"fault":"Truncated"}
@@ -66,7 +66,7 @@ fn marked(alloc: Global, text: &str) -> Option<String> {
     Some(marked)
 }
 
-/// What is told of serving a stream over an empty keeper.
+/// The result of serving a stream over an empty keeper.
 fn served(alloc: Global, stream: &str, step: usize) -> Option<String> {
     let mut reader = Source::of(stream.as_bytes(), step);
     let mut text = Vec::new(alloc);

@@ -1,5 +1,5 @@
-//! Files that are broken, too long, or can't be read. In the tables `|` stands for a line feed, `^` for a carriage
-//! return and `~` for the byte FF.
+//! Files that are broken, too long, or can't be read. In the tables `|` means a line feed, `^` a carriage return
+//! and `~` the byte FF.
 
 use super::samples::{INVENTORY, RATES, THREE_BONDS, TWO_RATES, bonds_told, rates_told, rows_told};
 use crate::comparing::{Cases, bytes_of, compare, same};
@@ -116,7 +116,7 @@ fn first_fault_of_an_inventory(rt: HostRuntime) -> Result<(), Fail> {
     compare::<BondFaultCases>(&rt, rt.alloc(), BOND_FAULTS)
 }
 
-/// How many good rows and which last ones a file has, and what is told of one of rates and of an inventory: what comes
+/// The number of good rows and the last rows of a file, and its result as rates and as an inventory: what comes
 /// after the first 501 rows isn't read.
 const LONG_FILES: &str = "\
 500| => 500 rows, 500 rows
@@ -126,7 +126,7 @@ const LONG_FILES: &str = "\
 500|x| => 502 WrongFieldCount, 502 WrongFieldCount
 ";
 
-/// A header, a row so many times, and the last ones.
+/// A header, a row repeated `count` times, and the last rows.
 fn long_file(alloc: Global, header: &str, row: &str, count: u64, last: &[u8]) -> Option<Vec<u8>> {
     let mut file = Vec::from_slice(alloc, header.as_bytes()).ok()?;
     for _ in 0..count {
@@ -154,8 +154,8 @@ fn rows_beyond_the_first_501_are_not_read(rt: HostRuntime) -> Result<(), Fail> {
     compare::<LongFileCases>(&rt, rt.alloc(), LONG_FILES)
 }
 
-/// First bytes and how many line feeds come after them, and what is told of them as rates and as an inventory: empty
-/// lines make a file long, and are no records.
+/// The first bytes, the number of line feeds after them, and the result as rates and as an inventory: empty lines
+/// make a file long, and are no records.
 const EMPTY_LINES: &str = "\
 1048576 => 0 rows, 0 rows
 1048577 => 1 FileTooLong, 1 FileTooLong
@@ -178,7 +178,7 @@ fn too_long_before_its_records(rt: HostRuntime) -> Result<(), Fail> {
     compare::<EmptyLineCases>(&rt, rt.alloc(), EMPTY_LINES)
 }
 
-/// What is told of a sample that is read a byte at a time, in trouble at one read.
+/// The result of a sample that is read one byte at a time, with one failing read.
 fn told_in_trouble(alloc: Global, file: &str, call: usize, kind: ErrorKind) -> Option<String> {
     let mut source = Source::of(file.as_bytes(), 1, Some((call, kind)));
     if file == RATES {

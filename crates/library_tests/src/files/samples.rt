@@ -1,4 +1,4 @@
-//! Files that are good. In the tables `|` stands for a line feed and `^` for a carriage return.
+//! Good files. In the tables `|` means a line feed and `^` a carriage return.
 
 use crate::comparing::{Cases, bytes_of, compare, shown};
 use ee_files::{FileFault, read_inventory, read_rates};
@@ -30,17 +30,17 @@ pub fn rows_told<T: Debug + Drop>(
     }
 }
 
-/// What is told of a file of rates.
+/// The result of a file of rates.
 pub fn rates_told(alloc: Global, mut file: &[u8]) -> Option<String> {
     rows_told(alloc, read_rates(alloc, &mut file))
 }
 
-/// What is told of an inventory.
+/// The result of an inventory.
 pub fn bonds_told(alloc: Global, mut file: &[u8]) -> Option<String> {
     rows_told(alloc, read_inventory(alloc, &mut file))
 }
 
-/// `what` where the text is the known one, else the text.
+/// `what` if the text is the known one, and otherwise the text.
 pub fn named(alloc: Global, text: String, known: &str, what: &str) -> Option<String> {
     if text.as_str() == known {
         return String::from_str(alloc, what).ok();

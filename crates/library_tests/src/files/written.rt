@@ -22,7 +22,7 @@ fn bonds_in_order(alloc: Global) -> Option<Vec<Bond>> {
     read_inventory(alloc, &mut EXPORT.as_bytes()).ok()
 }
 
-/// Bonds that are written, and the trouble where there is no more room for them.
+/// Bonds that are written, and the failure when there is no more room for them.
 #[derive(Clone, Copy)]
 struct Export<'a> {
     bonds: &'a [Bond],
@@ -42,7 +42,7 @@ fn told_again(alloc: Global) -> Option<String> {
     shown(alloc, &bonds_in_order(alloc)?)
 }
 
-/// How writing bonds where there is room ends, and what is written.
+/// How writing bonds with this much room ends, and what is written.
 fn told(alloc: Global, bonds: &[Bond]) -> Option<String> {
     let trouble = Trouble::Fails;
     Export { bonds, trouble }.told_in(alloc, 1_000)
@@ -163,8 +163,8 @@ bonds => all
 const WRITTEN: &str =
     "export => Ok(()) serial,denom,issued,owner,coowner|K2EE,75,2010-10,7,8|L1EE,50,2010-11,7,|M3EE,10000,2011-02,7,|\n";
 
-/// With each allocation refused in turn: the whole, or want of memory in row 1, and nothing is written. A line is printed
-/// where memory was refused.
+/// With each allocation refused in turn: the whole is written, or want of memory in row 1 and nothing. Prints a
+/// line if memory was refused.
 #[test]
 fn refused_memory(rt: HostRuntime) -> Result<(), Fail> {
     compare_refused::<MemoryCases>(&rt, &rt, READ, "row 1 code 74")?;
