@@ -26,7 +26,7 @@ pub struct Device {
 }
 
 impl Device {
-    /// Takes one byte at a time, and fails after `limit` bytes; it takes the memory of 1,000 bytes before.
+    /// Takes one byte at a time, and fails after `room` bytes; it takes the memory of 1,000 bytes before.
     pub fn of(alloc: Global, room: usize, trouble: Trouble) -> Option<Device> {
         Some(Device {
             bytes: Vec::with_capacity(alloc, 1_000).ok()?,
