@@ -1,4 +1,4 @@
-//! What a store in memory tells, and which rows it has.
+//! The answers of a store in memory, and its rows.
 
 use crate::comparing::{made, same};
 use crate::five::{FIVE, rows_told, served};
@@ -12,7 +12,7 @@ pub fn in_memory(rt: &impl Abort, alloc: Global) -> Connection<MemStore> {
     Connection::open_in_memory(alloc).expect(rt, "a store in memory")
 }
 
-/// What a talk over a store tells is this; the store is handed back.
+/// The talk over a store gives this result; the store is handed back.
 pub fn tells(
     rt: &(impl Abort + Eprint),
     alloc: Global,

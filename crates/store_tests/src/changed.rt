@@ -75,7 +75,7 @@ fn is_refused(
     tells(rt, alloc, conn, FIVE, FIVE, undo)
 }
 
-/// A row of a store is told as this line.
+/// The line for a row of a store.
 fn has_row(rt: &(impl Abort + Eprint), alloc: Global, conn: &mut Connection<MemStore>, row: &str) {
     let told = made(rt, rows_told(alloc, conn));
     let has_it = told.lines().any(|line| line == row);
@@ -112,8 +112,8 @@ fn tables_alone_are_refused(rt: &(impl Abort + Eprint), alloc: Global) {
     }
 }
 
-/// A store that doesn't have just the tables of this program, in their order, is refused, and stays as it is; its
-/// version is told first.
+/// A store that doesn't have exactly the tables of this program, in order, is refused and doesn't change; its
+/// version is tested first.
 #[test]
 fn other_tables_are_refused(rt: HostRuntime) {
     let mut conn = with_five(&rt, rt.alloc());

@@ -101,7 +101,7 @@ fn a_client_that_asks_to_close(rt: HostRuntime) {
     same(&rt, told.as_str(), ASKED, "the line and the answer");
 }
 
-/// A connection had its thousand messages, and what is told has an answer to each.
+/// A connection had its thousand messages, and there is an answer to each.
 fn a_thousand_are_answered(rt: &impl Abort, told: &str) {
     let mut parts = told.split("HTTP/1.1 404 Not Found");
     let line = parts.next().expect(rt, "the line of a connection");

@@ -40,7 +40,7 @@ fn add_path(
     add(abort, text, path.as_str());
 }
 
-/// A line in which `DB` stands for the path of a test's store, and `FILE` for that of its file.
+/// A line in which `DB` means the path of a test's store, and `FILE` that of its file.
 fn with_paths(rt: &HostRuntime, abort: &(impl Abort + Eprint), name: &str, line: &str) -> String {
     let mut text = String::new(rt.alloc());
     for word in line.split_ascii_whitespace() {
@@ -97,7 +97,7 @@ fn prints_over(
     prints(rt, abort, line.as_str(), "", wanted);
 }
 
-/// Such a line prints nothing, and tells this, with this status.
+/// The line prints nothing, reports this fault, and ends with this status.
 pub fn tells_over(
     rt: &HostRuntime,
     abort: &(impl Abort + Eprint),

@@ -1,5 +1,5 @@
-//! Lines that ask for values, for help or for nothing that the program does, and what is printed where the output fails. The
-//! values are worked by hand from the rules of 31 CFR Part 351.
+//! Lines that ask for values, for help or for nothing that the program does, and what is printed if the output
+//! fails. The values were worked out by hand from the rules of 31 CFR Part 351.
 
 ghost use Rattle.std.specs.Prelude.{⊤};
 
@@ -11,8 +11,8 @@ use std::alloc::Global;
 use std::io::{self, ErrorKind, Write};
 use std::process::Abort;
 
-/// Lines that ask for a value, and what they print. Where an extension is named, the fixed rate grows the value
-/// up to the age of 240 months, at which it is at least doubled, and the extension grows it from there on.
+/// Lines that ask for a value, and what they print. With an extension, the fixed rate grows the value up to the
+/// age of 240 months, at which it is at least doubled, and the extension grows it from then on.
 const VALUES: &str = "\
 value 50 05/2010 05/2015 3.5% => 29.74
 value 50 2010-05 2010-04 3.50 => 0.00 NI
@@ -82,7 +82,7 @@ fn bad_arguments(rt: HostRuntime) {
     }
 }
 
-/// The line prints nothing, and tells something, with status 2.
+/// The line prints nothing, reports a fault, and ends with status 2.
 fn is_bad(rt: &HostRuntime, abort: &impl Abort, line: &str) {
     let ran = run(rt, abort, line, "");
     holds(abort, !ran.told.is_empty(), line);
@@ -107,7 +107,7 @@ fn bad_lines(rt: HostRuntime) {
     }
 }
 
-/// What the line prints has that part; nothing is told, and the status is 0.
+/// The output of the line contains that part; no fault is reported, and the status is 0.
 fn prints_part(rt: &HostRuntime, abort: &impl Abort, line: &str, part: &str) {
     let ran = run(rt, abort, line, "");
     holds(abort, ran.printed.contains(part), part);
@@ -136,7 +136,7 @@ fn versions(rt: HostRuntime) {
     }
 }
 
-/// Takes so many bytes, and then fails.
+/// Takes `room` bytes, and then fails.
 #[derive(Drop)]
 struct Failing {
     bytes: Vec<u8>,
@@ -167,12 +167,12 @@ impl Sink for Failing {
     }
 }
 
-/// Compares the bytes of a text with the wanted one; `case` tells whose they are.
+/// Compares the bytes of a text with the wanted ones; `case` names them.
 fn same_bytes(rt: &impl Abort, told: &[u8], wanted: &str, case: &str) {
     same(rt, str::from_utf8(told).expect(rt, case), wanted, case);
 }
 
-/// The output takes so many bytes of what words print, and then fails.
+/// The output takes this number of the bytes that the words print, and then fails.
 fn prints_so_many(rt: &HostRuntime, abort: &impl Abort, words: &[String], room: usize) {
     let bytes = Vec::new(rt.alloc());
     let mut output = Failing { bytes, room };
@@ -203,7 +203,7 @@ fn are_refused(rt: &impl Abort, alloc: Global, kind: ErrorKind, wanted: &str, st
     holds(rt, ended == status, wanted);
 }
 
-/// A word that isn't UTF-8 is a bad line, and want of memory is told as such.
+/// A word that isn't UTF-8 is a bad line, and want of memory is reported as such.
 #[test]
 fn words_that_are_not_read(rt: HostRuntime) {
     let wanted = "bad argument: a word isn't UTF-8\n";

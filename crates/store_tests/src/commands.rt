@@ -1,4 +1,4 @@
-//! Running a command line, over files or over stores in memory, and what it printed and told.
+//! Running a command line, over files or over stores in memory, with its output and its faults.
 
 use crate::comparing::{holds, same};
 use ee_cli_actions::RunFault;
@@ -8,7 +8,7 @@ use ee_keeper::ListKeeper;
 use std::alloc::Global;
 use std::process::Abort;
 
-/// What a line printed, what it told of faults, and its exit status.
+/// The output of a line, the faults that it reported, and its exit status.
 #[derive(Drop)]
 pub struct Ran {
     pub printed: String,
@@ -95,7 +95,7 @@ impl Stores for InMemory {
     }
 }
 
-/// The line printed this, told this, and ended with this status.
+/// The line printed this, reported this, and ended with this status.
 pub fn has_run(abort: &impl Abort, ran: &Ran, line: &str, printed: &str, told: &str, status: u8) {
     same(abort, ran.printed.as_str(), printed, line);
     same(abort, ran.told.as_str(), told, line);
@@ -121,7 +121,7 @@ pub fn prints_in_memory(
     has_run(abort, &ran, line, wanted, "", 0);
 }
 
-/// The line prints nothing, and tells this, with this status.
+/// The line prints nothing, reports this fault, and ends with this status.
 pub fn tells(rt: &HostRuntime, abort: &impl Abort, line: &str, wanted: &str, status: u8) {
     let ran = run(rt, abort, line, "");
     has_run(abort, &ran, line, "", wanted, status);

@@ -1,4 +1,4 @@
-//! Doing what a transcript does, and comparing what is told. A test that finds something else, or whose preparation fails,
+//! Running a transcript, and comparing the results. A test that finds something else, or whose preparation fails,
 //! ends here.
 
 use crate::talk::{By, replay_by, whole};
@@ -19,12 +19,12 @@ pub fn made<T>(rt: &(impl Abort + Eprint), made: Result<T, Fail>) -> T {
     }
 }
 
-/// Compares a text with the wanted one; `case` tells what was done.
+/// Compares a text with the wanted one; `case` says what was done.
 pub fn same(rt: &impl Abort, told: &str, wanted: &str, case: &str) {
     assert!(rt; told == wanted, "{case}: {told} and not {wanted}");
 }
 
-/// Something holds; `case` tells what, or what was told.
+/// Something holds; `case` says what, or what the result was.
 pub fn holds(rt: &impl Abort, is_so: bool, case: &str) {
     assert!(rt; is_so, "{case}");
 }
@@ -39,7 +39,7 @@ pub fn parts<'a>(rt: &impl Abort, row: &'a str) -> (&'a str, &'a str) {
     row.split_once(" => ").expect(rt, row)
 }
 
-/// Does what a transcript does, and compares what is told.
+/// Runs a transcript, and compares the results.
 pub fn compare<K: Keeper>(
     rt: &(impl Abort + Eprint),
     alloc: Global,
@@ -49,7 +49,7 @@ pub fn compare<K: Keeper>(
     compare_by(rt, alloc, keeper, By::Apply, transcript);
 }
 
-/// The same, its messages sent by such calls.
+/// The same, with its messages sent by these calls.
 pub fn compare_by<K: Keeper>(
     rt: &(impl Abort + Eprint),
     alloc: Global,

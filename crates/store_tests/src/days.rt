@@ -305,8 +305,8 @@ Ok(0) serial,denom,issued,owner,coowner
 
 "#;
 
-/// The reply to a ticket is lost after 200 bytes: one ticket stands, its number gives the whole reply, and the day
-/// closes with it.
+/// The reply to a ticket is lost after 200 bytes: there is one ticket, its number gives the whole reply, and the
+/// day closes with it.
 pub const LOST: &str =
     r#"% 200 POST /redeem {"number":4,"day":"2012-02-06","payee":7,"serials":["L1EE","K2EE","M3EE"]}
 0 WriteFailed 200 {"day":"2012-02-06","lines":[{"paid":"25.88","serial":"L1EE"},{"paid":"38.34","serial":"K2EE"},{"paid":"5132.00","serial":"M3EE"

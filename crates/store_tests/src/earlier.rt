@@ -69,7 +69,7 @@ pub const SHOWN: &str =
 200 {"denom":50,"final":"2040-11","interest":"0.88","issued":"2010-11","next":"2012-03","note":"P5","price":"25.00","rate":"3.50%","value":"25.88"}
 "#;
 
-/// A number that is used again at the first desk, and the same number at the second one, where it is new, twice.
+/// A number that is used again at the first desk, and the same number at the second desk, where it is new, twice.
 pub const OTHER: &str =
     r#"> POST /redeem {"number":4,"day":"2012-02-06","payee":7,"serials":["L1EE"]}
 409 {"code":10,"refused":"NumberReused"}
@@ -113,7 +113,7 @@ fn earlier_in_memory(rt: &impl Abort, alloc: Global, earlier: Earlier) -> Connec
     conn
 }
 
-/// The rows of the day's rates, and of all from the bonds to the batches, as they are told.
+/// The lines for the day's rates, and for all rows from the bonds to the batches.
 const RATES: &str = "\
 rates 60 200
 rates 66 350
@@ -173,7 +173,7 @@ fn add_replies(rt: &impl Abort, text: &mut String, is_extended: bool, word: &str
     add_lines(rt, text, word, if is_extended { NEW_REPLY } else { "" });
 }
 
-/// The extensions of an earlier store, as they are told.
+/// The lines for the extensions of an earlier store.
 const fn extensions_before(earlier: Earlier) -> &'static str {
     match earlier {
         Earlier::Seven => "extensions is missing\n",
@@ -182,7 +182,7 @@ const fn extensions_before(earlier: Earlier) -> &'static str {
     }
 }
 
-/// The rows of an earlier store, as they are told before it is opened.
+/// The lines for the rows of an earlier store, before it is opened.
 pub fn rows_before(rt: &impl Abort, alloc: Global, earlier: Earlier) -> String {
     let is_extended = earlier == Earlier::Extended;
     let mut text = String::new(alloc);
@@ -206,7 +206,7 @@ pub fn rows_after(rt: &impl Abort, alloc: Global, is_extended: bool, has_other: 
     text
 }
 
-/// What a talk over a store tells is the talk; its rows then are those of version 2.
+/// The result of a talk over a store is the talk; its rows then are those of version 2.
 fn goes_on(
     rt: &(impl Abort + Eprint),
     alloc: Global,
@@ -245,8 +245,9 @@ fn an_earlier_store_is_opened(rt: HostRuntime) {
     }
 }
 
-/// Changes of an earlier store, and why it is refused then: rows that stand for no books, other versions, the table of
-/// version 2 and other tables beside its own, one less, one made again after the others, and a desk without its row.
+/// Changes to an earlier store, and why it is then refused: rows that represent no books, other versions, the
+/// table of version 2 and other tables beside its own, one table missing, one created again after the others, and
+/// a desk without its row.
 const CHANGES: &str = r#"UPDATE paid SET cents = 2589 WHERE place = 1 => Unusable
 UPDATE replies SET reply = '{"code":10,"refused":"NumberReused"}' WHERE number = 3 => Unusable
 UPDATE replies SET act = '{"act":"open"}' WHERE number = 3 => Unusable

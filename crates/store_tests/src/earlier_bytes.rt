@@ -1,12 +1,13 @@
-//! The bytes of files of stores, and of the logs beside them, that the program made before the store had its present tables.
+//! The bytes of store files, and of the logs beside them, that the program made before the store had its present
+//! tables.
 //!
-//! They were made once, by `rt try -- apply --db day.db` in `crates/ee_cli` of earlier commits, with messages on standard
-//! input; it gave the answers that these requests are told with. `apply` had written the log back as it ended, so the logs
-//! say nothing.
+//! They were made once, by `rt try -- apply --db day.db` in `crates/ee_cli` of earlier commits, with messages on
+//! standard input; it gave the answers that are listed with these requests. `apply` had checkpointed the log on
+//! exit, so the logs hold no changes.
 //!
-//! A text has the length of the file on its first line, and then the bytes in lines, each with the place of its first byte;
-//! bytes of no line are zeros. Behind the place are hexadecimal numbers and characters in turn, each begun by `~`; or
-//! behind `=` a place and a count, of bytes that stand there already.
+//! A text has the length of the file on its first line, and then the bytes in lines, each with the offset of its
+//! first byte; bytes on no line are zeros. The offset is followed by hexadecimal numbers and characters in turn,
+//! each begun by `~`; or, after `=`, by an offset and a count of bytes that are already there.
 
 /// A file of commit 9479c6d, from before extensions, after the five requests of the day.
 pub const SEVEN: &str = r#"53248

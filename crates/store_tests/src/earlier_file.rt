@@ -26,7 +26,7 @@ fn add_characters(rt: &impl Abort, bytes: &mut Vec<u8>, characters: &str) {
         .expect(rt, "memory for a file");
 }
 
-/// The bytes that are told as numbers and characters in turn.
+/// The bytes that numbers and characters in turn describe.
 fn bytes_told(rt: &impl Abort, alloc: Global, parts: &str) -> Vec<u8> {
     let mut bytes = Vec::new(alloc);
     let mut are_numbers = true;
@@ -41,7 +41,7 @@ fn bytes_told(rt: &impl Abort, alloc: Global, parts: &str) -> Vec<u8> {
     bytes
 }
 
-/// So many bytes of a file from a place on.
+/// A number of bytes of a file, from an offset.
 fn bytes_before(rt: &impl Abort, alloc: Global, file: &Memory, places: &str) -> Vec<u8> {
     let (from, count) = places.split_once(' ').expect(rt, "count");
     let from: usize = from.parse().expect(rt, from);
@@ -98,7 +98,7 @@ struct Step {
     after: Form,
 }
 
-/// What a talk over the files tells is the talk, and it brings them from one form to another.
+/// The result of a talk over the files is the talk, and it migrates them from one form to another.
 fn is_shown(rt: &impl Abort, alloc: Global, shown: &Shown, step: Step) {
     same(rt, shown.told.as_str(), step.talk, "a talk");
     let before = Form::of(rt, alloc, step.earlier, step.news, shown.before.as_str());
@@ -130,8 +130,8 @@ fn is_opened(rt: &(impl Abort + Eprint), alloc: Global, texts: (&str, &str), ste
     holds(rt, has_pages_of(&files.db, 4096), "the pages of before");
 }
 
-/// Of a file from before extensions each number has its first reply, and the rows are those of the five requests; an
-/// extension is entered, and is there when the files are opened again.
+/// In a file from before extensions each number has its first reply, and the rows are those of the five requests;
+/// an extension is entered, and is there when the files are opened again.
 #[test]
 fn a_file_from_before_extensions_is_opened(rt: HostRuntime) {
     let first = Step {

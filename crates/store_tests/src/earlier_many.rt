@@ -89,7 +89,7 @@ fn ten_thousand_replies(rt: HostRuntime) {
     let _conn = tells(&rt, alloc, conn, TALK, TALK, "a talk");
 }
 
-/// Opens an earlier store. Where memory is refused to that, the store has its rows as they were.
+/// Opens an earlier store. If memory is refused for that, the store has the same rows as before.
 fn opened(
     rt: &(impl Abort + Eprint),
     alloc: Global,
@@ -124,8 +124,8 @@ fn answers_again(
     conn
 }
 
-/// It is opened, at once or after memory was refused, and gives each number its first reply, where no memory is refused to
-/// that. The script `tests/refused_memory` refuses each request for memory in turn.
+/// The store is opened, at once or after memory was refused, and gives each number its first reply, unless memory
+/// is refused for that. The script `tests/refused_memory` refuses each request for memory in turn.
 #[test]
 fn refused_memory(rt: HostRuntime) {
     let alloc = rt.alloc();

@@ -1,5 +1,5 @@
-//! Stores of version 1 in files of which one stops: what a crash leaves then has their tables as they were, or those of
-//! version 2 with the same rows, and answers as before.
+//! Stores of version 1 in two files of which one stops: what a crash then leaves has the same tables as before, or
+//! those of version 2 with the same rows, and gives the same answers.
 
 use crate::comparing::{add, holds, made, same};
 use crate::earlier::{Earlier, NAMED, OTHER, make_earlier, rows_after, rows_before};
@@ -129,7 +129,7 @@ fn earlier_files(rt: &impl Abort, alloc: Global, earlier: Earlier, left: Left) -
     }
 }
 
-/// What files have, what a talk over them tells, and what they have then.
+/// The rows in files, the result of a talk over them, and the rows afterwards.
 #[derive(Drop)]
 pub struct Shown {
     pub before: String,
@@ -147,7 +147,7 @@ impl Shown {
     }
 }
 
-/// Shows files and what a talk over them tells, and hands them back.
+/// Notes the rows in files and the result of a talk over them, and hands them back.
 pub fn shown_on<D: Disk + Drop>(
     rt: &(impl Abort + Eprint),
     alloc: Global,
@@ -191,7 +191,7 @@ impl Case {
     }
 }
 
-/// What a talk over files that stop tells, whether it went to its end, and what is shown after a crash.
+/// The result of a talk over files that stop, whether it came to its end, and what is found after a crash.
 #[derive(Drop)]
 struct Runs {
     first: String,
@@ -213,7 +213,7 @@ fn fused(
     }
 }
 
-/// The talk over such files; then again over what a crash leaves.
+/// The talk over these files; then again over what a crash leaves.
 fn stopped(rt: &(impl Abort + Eprint), alloc: Global, case: &Case, log: u64, db: u64) -> Runs {
     let talk = case.talk.as_str();
     let files = fused(rt, alloc, &case.files, log, db);
@@ -231,7 +231,7 @@ fn stopped(rt: &(impl Abort + Eprint), alloc: Global, case: &Case, log: u64, db:
     }
 }
 
-/// No other cause is told than that the store failed, and the answers before are right.
+/// The only cause that is reported is a failed store, and the answers before are right.
 fn first_is_right(rt: &impl Abort, case: &Case, first: &str) {
     let is_known = first.starts_with("> ") || first.is_empty() || first == "StoreFailed";
     holds(rt, is_known, first);
@@ -257,8 +257,8 @@ fn form_left(rt: &impl Abort, alloc: Global, case: &Case, runs: &Runs) -> Form {
     form
 }
 
-/// One file stops at each of its calls in turn, until a run comes to its end. Whether a stop left version 2 is told; the
-/// first one leaves the store as it was.
+/// One file stops at each of its calls in turn, until a run comes to its end. Returns whether a stop left version
+/// 2; the first one leaves the store unchanged.
 fn stops_at_each_call(
     rt: &(impl Abort + Eprint),
     alloc: Global,

@@ -56,7 +56,7 @@ fn ended_told(rt: &impl Abort, alloc: Global, ended: Ended, text: &[u8]) -> Stri
     format!(in alloc; "{messages} {why:?}\n{text}").expect(rt, text)
 }
 
-/// What is told of serving a source is this; `case` tells what the source does.
+/// Serving a source gives this result; `case` says what the source does.
 fn tells<K: Keeper>(
     rt: &impl Abort,
     alloc: Global,
@@ -112,7 +112,7 @@ impl Talk {
         }
     }
 
-    /// What is told where reading failed after so many bytes.
+    /// The result if reading failed after `before` bytes.
     fn read(&self, rt: &impl Abort, alloc: Global, before: usize) -> String {
         let (messages, text) = if before < self.first {
             (0, "")
@@ -124,7 +124,7 @@ impl Talk {
         format!(in alloc; "{messages} ReadFailed\n{text}").expect(rt, text)
     }
 
-    /// What is told where so many bytes were written.
+    /// The result if `room` bytes were written.
     fn written(&self, rt: &impl Abort, alloc: Global, room: usize) -> String {
         let messages = usize::from(room >= self.added.len());
         let both = self.both.as_str();
@@ -132,7 +132,7 @@ impl Talk {
         format!(in alloc; "{messages} WriteFailed\n{front}").expect(rt, front)
     }
 
-    /// What is told of the whole.
+    /// The result of the whole.
     fn whole(&self, rt: &impl Abort, alloc: Global) -> String {
         format!(in alloc; "2 Closed\n{}", self.both).expect(rt, "the answers")
     }
@@ -168,7 +168,7 @@ fn reads_are_cut<K: Keeper>(rt: &impl Abort, alloc: Global, keeper: &mut K, talk
     tells(rt, alloc, keeper, &mut reader, wanted, "a byte a read");
 }
 
-/// The writer fails after so many bytes, which it takes one at a time: what it took is a front of the answers.
+/// The writer fails after a number of bytes, which it takes one at a time: it took only the front of the answers.
 fn a_write_fails<K: Keeper>(
     rt: &impl Abort,
     alloc: Global,
@@ -202,7 +202,7 @@ fn writes_fail<K: Keeper>(
     }
 }
 
-/// What is told of a file.
+/// The result of a file.
 fn imported<K: Keeper>(
     rt: &impl Abort,
     alloc: Global,
@@ -276,7 +276,7 @@ fn imports_fail<K: Keeper>(
     a_file_comes_whole(rt, alloc, keeper, is_rates, file, reply);
 }
 
-/// An export to a writer that fails after so many bytes: what it took is a front of the file.
+/// An export to a writer that fails after a number of bytes: it took only the front of the file.
 fn exports_a_front<K: Keeper>(
     rt: &impl Abort,
     alloc: Global,
@@ -333,7 +333,7 @@ fn no_route(rt: &(impl Abort + Eprint), alloc: Global, headers: &str) -> String 
     made(rt, json(alloc, "404 Not Found", headers, NO_ROUTE))
 }
 
-/// So many messages that have no route come on one connection: it ends so, with these answers.
+/// A number of messages without a route come on one connection: it ends so, with these answers.
 fn many_come<K: Keeper>(
     rt: &impl Abort,
     alloc: Global,
@@ -348,7 +348,7 @@ fn many_come<K: Keeper>(
     tells(rt, alloc, keeper, &mut reader, wanted.as_str(), end);
 }
 
-/// A connection has a thousand messages: the thousandth answer says that it ends, also where the input ends there; what
+/// A connection has a thousand messages: the thousandth answer says that it ends, even if the input ends there; what
 /// comes after isn't answered.
 pub fn a_thousand_messages<K: Keeper>(rt: &(impl Abort + Eprint), alloc: Global, keeper: &mut K) {
     let answer = no_route(rt, alloc, "");

@@ -131,7 +131,7 @@ const ROW: &str =
 
 const CUT: &str = r#"{"code":68,"fault":"Truncated"}"#;
 
-/// Adds an answer of JSON; `headers` stand after its length.
+/// Appends an answer of JSON; `headers` come after its length.
 fn add_answer(
     rt: &(impl Abort + Eprint),
     alloc: Global,
@@ -150,7 +150,7 @@ fn add_message(rt: &(impl Abort + Eprint), alloc: Global, text: &mut String, lin
     add(rt, text, message.as_str());
 }
 
-/// What `apply` tells after so many of the two messages, and after a front of another.
+/// The result of `apply` after `messages` of the two messages, and after the front of another.
 fn wanted(rt: &(impl Abort + Eprint), alloc: Global, messages: usize, is_cut: bool) -> String {
     let end = if is_cut { "Refused " } else { "Done " };
     let mut text = String::from_str(alloc, end).expect(rt, end);
@@ -178,7 +178,7 @@ fn status_line(status: &str) -> Option<&'static str> {
     }
 }
 
-/// What `apply` tells of a stream is this.
+/// `apply` gives this result for a stream.
 fn is_told<K: Keeper>(
     rt: &(impl Abort + Eprint),
     alloc: Global,
@@ -209,7 +209,7 @@ fn add_told(rt: &(impl Abort + Eprint), alloc: Global, text: &mut String, line: 
     add_answer(rt, alloc, text, status, "", body);
 }
 
-/// What `apply` tells of the calls at fault, each followed by a message that is answered well.
+/// The result of `apply` for the calls at fault, each followed by a good message.
 fn calls_told(rt: &(impl Abort + Eprint), alloc: Global) -> String {
     let mut wanted = String::from_str(alloc, "Done ").expect(rt, "the end");
     for line in CALLS.lines() {
@@ -228,7 +228,7 @@ pub fn calls_in_one_stream<K: Keeper>(rt: &(impl Abort + Eprint), alloc: Global,
     is_told(rt, alloc, keeper, stream.as_str(), wanted.as_str());
 }
 
-/// Two messages, the first of which has that length, whose stream ends after so many bytes.
+/// Two messages, the first with this length, whose stream ends after a number of bytes.
 fn ends_at<K: Keeper>(
     rt: &(impl Abort + Eprint),
     alloc: Global,

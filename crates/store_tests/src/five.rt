@@ -22,7 +22,7 @@ pub const FIVE: &str =
 200 {"bonds":3,"day":"2012-02-06","tickets":1,"total":"5196.22"}
 "#;
 
-/// What shows all rows of each table, in order of key: those of version 2, and the replies of version 1.
+/// The queries for all rows of each table, by key: those of version 2, and the replies of version 1.
 const QUERIES: &str = "\
 desk: SELECT id, version, day, last_day FROM desk ORDER BY id
 rates: SELECT period, rate FROM rates ORDER BY period
@@ -35,7 +35,7 @@ extensions: SELECT period, rate FROM extensions ORDER BY period
 answers: SELECT desk, number, act, reply FROM answers ORDER BY desk, number
 ";
 
-/// Adds a row of a table as a line: the table's name, and the values; `-` stands for one that is missing.
+/// Appends a row of a table as a line: the table's name, and the values; `-` means a missing value.
 fn add_row(text: &mut String, table: &str, row: &Row) -> Result<(), Fail> {
     write!(text, "{table}")?;
     for at in 0..row.column_count() {

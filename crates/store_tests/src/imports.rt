@@ -1,7 +1,7 @@
 //! Files that go in and out, as transcripts.
 
-/// Rates and inventories, good and broken, and their repeats. What requests find after them: the rates under number 1,
-/// and no new day yet. What the owners' files are, and a front of one where the writer fails.
+/// Rates and inventories, good and broken, and their repeats. What requests find after them: the rates under number
+/// 1, and no new day yet. The owners' files, and the front of one if the writer fails.
 pub const FILES: &str = r#"+ 1 from;rate|2010-05;2.00|
 file: row 1 code 70
 + 1 from,rate|2010-05|

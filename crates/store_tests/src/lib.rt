@@ -1,6 +1,6 @@
-//! Tests over stores, by public calls alone: the same days over tables and over a keeper in memory; devices and files that fail or
-//! stop, and refused memory; tables and stores of version 1; and whole command lines. The texts of the talks are worked by hand from
-//! the rules, and none of them was told by the code.
+//! Tests over stores, by public calls alone: the same days over tables and over a keeper in memory; devices and files
+//! that fail or stop, and refused memory; tables and stores of version 1; and whole command lines. The texts of the
+//! talks were worked out by hand from the rules, and none of them was taken from the output of the code.
 #![tactic(auto)]
 
 #[cfg(test)]

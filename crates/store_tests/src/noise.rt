@@ -64,7 +64,7 @@ fn is_shown(rt: &impl Abort, alloc: Global, body: &str) -> bool {
     body.starts_with("Serial ") || body.starts_with("{\"denom\":") || is_reply(rt, alloc, body)
 }
 
-/// Whether an answer tells the length of its body.
+/// Whether an answer states the length of its body.
 fn tells_length(rt: &impl Abort, alloc: Global, answer: &str, length: usize) -> bool {
     let header = format!(in alloc; "\r\nContent-Length: {length}\r\n").expect(rt, answer);
     answer.contains(header.as_str())

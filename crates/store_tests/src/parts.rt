@@ -31,9 +31,9 @@ use std::test::Fail;
 enum Part {
     /// A transcript, and another after it.
     Talks(&'static str, &'static str),
-    /// The same, its messages sent by such calls.
+    /// The same, with its messages sent by these calls.
     TalksBy(By, &'static str, &'static str),
-    /// A day of a thousand tickets, its messages sent by such calls.
+    /// A day of a thousand tickets, with its messages sent by these calls.
     FullDay(By),
     /// The requests of a day as one list.
     OneList,
@@ -221,7 +221,7 @@ fn part_over<K: Keeper>(rt: &(impl Abort + Eprint), alloc: Global, keeper: &mut 
     }
 }
 
-/// The requests and imports of a transcript again: each has what was told of it.
+/// The requests and imports of a transcript again: each gets the same result.
 fn talk_again<K: Keeper>(rt: &(impl Abort + Eprint), alloc: Global, keeper: &mut K, talk: &str) {
     let requests = made(rt, requests_of(alloc, talk));
     compare(rt, alloc, keeper, requests.as_str());

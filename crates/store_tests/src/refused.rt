@@ -20,8 +20,8 @@ use std::io::Eprint;
 use std::process::Abort;
 use std::test::Fail;
 
-/// How begins what is told where memory was refused: in an answer, as why a connection ended, to the writer of a connection
-/// or of an export, of a file, and of an export.
+/// How results begin if memory was refused: in an answer, as why a connection ended, to the writer of a connection or
+/// of an export, of a file, and of an export.
 const REFUSED: &str = r#"503 {"code":1,"unserved":"NoMemory"}
 NoMemory
 WriteFailed
@@ -40,7 +40,7 @@ fn is_refused(told: &str) -> bool {
     false
 }
 
-/// The transcript that comes of doing the same, where what memory was refused to is done once more.
+/// The transcript of doing the same, with each step repeated for which memory was refused.
 fn replay_patiently<K: Keeper>(
     alloc: Global,
     keeper: &mut K,
@@ -60,7 +60,7 @@ fn replay_patiently<K: Keeper>(
     Ok(text)
 }
 
-/// Does what a transcript does so, and compares what is told.
+/// Runs a transcript in this way, and compares the results.
 fn is_told<K: Keeper>(
     rt: &(impl Abort + Eprint),
     alloc: Global,
@@ -85,7 +85,7 @@ fn is_told_again<K: Keeper>(
     is_told(rt, alloc, keeper, by, again.as_str());
 }
 
-/// A day or files by such calls, what the books show then, and all requests again.
+/// A day or files by these calls, what the books show then, and all requests again.
 #[derive(Clone, Copy)]
 enum Work {
     Day(By),
@@ -110,7 +110,7 @@ fn work_over<K: Keeper>(rt: &(impl Abort + Eprint), alloc: Global, keeper: &mut 
     }
 }
 
-/// The answers to a list, asked for once more where memory was refused to the list as a whole.
+/// The answers to a list, asked for again if memory was refused to the list as a whole.
 fn answers_to<K: Keeper>(
     alloc: Global,
     keeper: &mut K,
@@ -122,7 +122,7 @@ fn answers_to<K: Keeper>(
     Ok(run(alloc, keeper, requests)?)
 }
 
-/// The reply to a request, which is delivered once more where memory was refused to it.
+/// The reply to a request, which is delivered again if memory was refused to it.
 fn delivered<K: Keeper>(keeper: &mut K, request: &Request) -> Result<Reply, Fail> {
     if let Ok(reply) = keeper.deliver(request) {
         return Ok(reply);
@@ -164,8 +164,8 @@ fn are_answers_of(
     }
 }
 
-/// The requests of a day as one list. Each answer is that of another keeper to the requests that were served; then all are
-/// delivered once more to both, which answer alike.
+/// The requests of a day as one list. Each answer is that of another keeper to the requests that were served; then all
+/// are delivered again to both, which give the same answers.
 fn list_over<K: Keeper>(rt: &(impl Abort + Eprint), alloc: Global, keeper: &mut K) {
     let requests = requests(rt, alloc, DAY);
     let mut other = ListKeeper::empty(alloc);
@@ -183,7 +183,7 @@ fn list_over<K: Keeper>(rt: &(impl Abort + Eprint), alloc: Global, keeper: &mut 
     }
 }
 
-/// A keeper over the store of a connection; or its connection again, where memory was refused to that.
+/// A keeper over the store of a connection; or its connection again, if memory was refused.
 fn adopted_once(
     rt: &impl Abort,
     alloc: Global,
@@ -201,7 +201,7 @@ fn adopted_once(
     }
 }
 
-/// A keeper over the store of a connection, which is taken over once more where memory was refused to that.
+/// A keeper over the store of a connection, which is adopted again if memory was refused.
 fn adopted(rt: &impl Abort, alloc: Global, conn: Connection<MemStore>) -> SqlKeeper<MemStore> {
     match adopted_once(rt, alloc, conn) {
         Ok(keeper) => keeper,

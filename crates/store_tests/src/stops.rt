@@ -1,4 +1,4 @@
-//! A talk over files of which one may stop, and what such a talk may tell.
+//! A talk over two files of which one may stop, and the results that such a talk may have.
 
 use crate::five::served;
 use ee_store_files::open_files;
@@ -66,8 +66,8 @@ pub fn ends_by_failures(talk: &str) -> bool {
         == line.ends_with("\"StoreFailed\"}"))
 }
 
-/// Whether what was told is nothing, why the store wasn't opened, or the right answers up to a request at which the store
-/// failed; after it each is a failure, or a reply that was told before.
+/// Whether the result is empty, or why the store wasn't opened, or the right answers up to a request at which the store
+/// failed; after it each is a failure, or a reply that was given before.
 pub fn is_front_of(told: &str, wanted: &str) -> bool {
     if told.is_empty() || told == "StoreFailed" {
         return true;
@@ -85,8 +85,8 @@ pub fn is_front_of(told: &str, wanted: &str) -> bool {
     wanted.starts_with(front)
 }
 
-/// Whether each query of a talk got its right answer, or was told that the store failed, so that a failing device is told as
-/// nothing else. A store that isn't opened is told so, or as nothing.
+/// Whether each query of a talk got its right answer, or was told that the store failed, so that a failing device is
+/// reported as nothing else. A store that isn't opened is reported so, or as nothing.
 pub fn fails_as_store(told: &str, wanted: &str) -> bool {
     if told.is_empty() || told == "StoreFailed" {
         return true;

@@ -20,7 +20,7 @@ use std::io::Eprint;
 use std::process::Abort;
 use std::test::Fail;
 
-/// Days that are told as transcripts.
+/// Days as transcripts.
 const TALKS: [&str; 6] = [DAY, IMPORTS, DAYS, LAST, LISTS, EXTENDED];
 
 /// The answers to a talk over the store in a file, which is opened for it and closed.
@@ -55,7 +55,7 @@ fn desks_in_a_file(rt: HostRuntime) {
     made(&rt, forget(&rt, &path));
 }
 
-/// Such a talk twice.
+/// The same talk twice.
 fn twice(rt: &HostRuntime, test: &(impl Abort + Eprint), path: &str, talk: &str) {
     let mut list = ListKeeper::empty(rt.alloc());
     answer_alike(rt, test, &mut list, path, talk);
@@ -117,7 +117,7 @@ Total                                                       0.00           0.00 
 
 "#;
 
-/// What the queries tell over files of which the database's fails at one call and at each later one.
+/// The result of the queries over files of which the database's fails at one call and at each later one.
 fn asked(rt: &(impl Abort + Eprint), alloc: Global, files: &Files<Memory>, call: u64) -> String {
     let log = Fuse::new(copied(rt, alloc, &files.log), u64::MAX);
     let db = Fuse::new(copied(rt, alloc, &files.db), call);
@@ -142,7 +142,7 @@ fn a_fault_at_each_read(rt: HostRuntime) {
     panic!(rt; "a query failed each time")
 }
 
-/// A fault of a device that is told as want of memory is noticed, of a request and of a query.
+/// A device's fault that is reported as want of memory is noticed, for a request and for a query.
 #[test]
 fn another_cause_is_noticed(rt: HostRuntime) {
     let request = "> POST /rates {}\n503 {\"code\":1,\"unserved\":\"NoMemory\"}\n";
@@ -161,7 +161,8 @@ fn another_cause_is_noticed(rt: HostRuntime) {
     );
 }
 
-/// What two runs tell, the first over files that stop, the second after a crash; and whether the first went to its end.
+/// The results of two runs, the first over files that stop, the second after a crash; and whether the first came to its
+/// end.
 #[derive(Drop)]
 struct Runs {
     first: String,
@@ -196,9 +197,9 @@ fn are_right(rt: &impl Abort, runs: &Runs) {
     same(rt, runs.second.as_str(), FIVE, first);
 }
 
-/// One file stops at each of its calls in turn, until a run comes to its end. The answers before a stop are a front of the
-/// right ones. Where the store fails, `apply` ends by that, also where the store still answers queries. After a crash the
-/// files are opened again and the five requests are sent again: each has its one reply. Whether a request failed is told.
+/// One file stops at each of its calls in turn, until a run comes to its end. The answers before a stop are the front of
+/// the right ones. If the store fails, `apply` ends with that, even if the store still answers queries. After a crash the
+/// files are opened again and the five requests are sent again: each has its one reply. Returns whether a request failed.
 fn stops_at_each_call(rt: &(impl Abort + Eprint), alloc: Global, on_log: bool) -> bool {
     let mut failed = false;
     for k in 0..10_000 {

@@ -1,16 +1,16 @@
-//! A transcript is a talk with a counter: a line for each thing that is done, and below it what is told.
+//! A transcript is a talk with a counter: a line for each thing that is done, and the result below it.
 //!
 //! - `> METHOD PATH BODY` sends a message by the command `apply`: the status and the body of its answer.
-//! - `~ BYTES` sends bytes by `apply`: how it ends, and the whole answer. `|` stands for a line's end, and `~` for the
+//! - `~ BYTES` sends bytes by `apply`: how it ends, and the whole answer. `|` means the end of a line, and `~` the
 //!   byte FF.
-//! - `+ NUMBER FILE` imports a file under a number of the first desk, and `+ DESK/NUMBER FILE` under one of another; it is
-//!   one of rates where it begins with `from`: its reply, or the fault. `|` stands for a line feed.
-//! - `- CUSTOMER ROOM` exports an inventory to a device of so many bytes: how it ends, and what the device has.
-//! - `% ROOM METHOD PATH BODY` serves a message to a device of so many bytes: how many messages were answered, why it
-//!   ended, and the status and the front of the body that the device has.
+//! - `+ NUMBER FILE` imports a file under a number of the first desk, and `+ DESK/NUMBER FILE` under one of another; it
+//!   is a file of rates if it begins with `from`: its reply, or the fault. `|` means a line feed.
+//! - `- CUSTOMER ROOM` exports an inventory to a device with room for ROOM bytes: how it ends, and what the device has.
+//! - `% ROOM METHOD PATH BODY` serves a message to a device with room for ROOM bytes: how many messages were answered, why
+//!   it ended, and the status and the front of the body that the device has.
 //!
-//! `[*COUNT ITEM*]` is a list of so many items, `(*COUNT ITEM*)` so many items in a row, and `#` in the item is its
-//! place, from 1 on.
+//! `[*COUNT ITEM*]` is a list of COUNT items, `(*COUNT ITEM*)` COUNT items in a row, and `#` in the item is its place,
+//! from 1.
 
 use crate::devices::Narrow;
 use ee_cli_actions::{Outcome, RunFault, StoreFault, apply_to};
@@ -23,7 +23,7 @@ use std::alloc::Global;
 use std::fmt::Write;
 use std::test::Fail;
 
-/// So many items, with a text between two.
+/// `count` items, with a text between two.
 fn items(alloc: Global, count: u64, item: &str, between: &str) -> Result<String, Fail> {
     let (front, back) = item.split_once('#').unwrap_or((item, ""));
     let is_placed = item.contains("#");
@@ -74,7 +74,7 @@ pub fn whole(alloc: Global, transcript: &str) -> Result<String, Fail> {
     Ok(text)
 }
 
-/// The bytes of a text in which `|` stands for that end of a line, and `~` for the byte FF.
+/// The bytes of a text in which `|` means this end of a line, and `~` the byte FF.
 pub fn bytes_of(alloc: Global, text: &str, end: &str) -> Result<Vec<u8>, Fail> {
     let mut bytes = Vec::new(alloc);
     for byte in text.as_bytes() {
@@ -113,7 +113,7 @@ fn told(alloc: Global, answer: &str) -> Result<String, Fail> {
     Ok(format!(in alloc; "{status} {body}")?)
 }
 
-/// An answer of JSON; `headers` stand after its length.
+/// An answer of JSON; `headers` come after its length.
 pub fn json(alloc: Global, status: &str, headers: &str, body: &str) -> Result<String, Fail> {
     let length = body.len();
     Ok(format!(in alloc;
@@ -150,7 +150,7 @@ pub enum By {
     Calls,
 }
 
-/// The answer to one message; after how `apply` ends on it, where it isn't done, and that alone where nothing is answered.
+/// The answer to one message, after how `apply` ends if it isn't done; or only that if nothing is answered.
 fn ask_apply<K: Keeper>(alloc: Global, keeper: &mut K, line: &str) -> Result<String, Fail> {
     let message = message(alloc, line)?;
     let text = applied(alloc, keeper, message.as_bytes())?;
@@ -165,7 +165,7 @@ fn ask_apply<K: Keeper>(alloc: Global, keeper: &mut K, line: &str) -> Result<Str
     Ok(format!(in alloc; "{end} {answer}")?)
 }
 
-/// The answer to one message on a connection; or why the connection ended, where none was written.
+/// The answer to one message on a connection; or why the connection ended, if none was written.
 fn ask_serve<K: Keeper>(alloc: Global, keeper: &mut K, line: &str) -> Result<String, Fail> {
     let message = message(alloc, line)?;
     let mut text = Vec::new(alloc);
@@ -221,7 +221,7 @@ fn ask<K: Keeper>(alloc: Global, keeper: &mut K, by: By, line: &str) -> Result<S
     }
 }
 
-/// What is told of bytes, on a line.
+/// The result of bytes, on a line.
 fn send<K: Keeper>(alloc: Global, keeper: &mut K, line: &str) -> Result<String, Fail> {
     let bytes = bytes_of(alloc, line, "\r\n")?;
     let told = applied(alloc, keeper, &bytes)?;
@@ -241,7 +241,7 @@ fn place(text: &str) -> Result<(Desk, Number), Fail> {
     Ok((desk, number))
 }
 
-/// What is told of a file.
+/// The result of a file.
 fn enter<K: Keeper>(alloc: Global, keeper: &mut K, line: &str) -> Result<String, Fail> {
     let (named, file) = line.split_once(' ').ok_or("number")?;
     let (desk, number) = place(named)?;
@@ -258,7 +258,7 @@ fn enter<K: Keeper>(alloc: Global, keeper: &mut K, line: &str) -> Result<String,
     }
 }
 
-/// What is told of an export.
+/// The result of an export.
 fn leave<K: Keeper>(alloc: Global, keeper: &mut K, line: &str) -> Result<String, Fail> {
     let (customer, room) = line.split_once(' ').ok_or("room")?;
     let mut writer = Narrow::new(alloc, room.parse()?);
@@ -266,7 +266,7 @@ fn leave<K: Keeper>(alloc: Global, keeper: &mut K, line: &str) -> Result<String,
     Ok(format!(in alloc; "{rows:?} {}", str::from_utf8(&writer.text)?)?)
 }
 
-/// What is told of a message whose answer is cut.
+/// The result of a message whose answer is cut.
 fn lose<K: Keeper>(alloc: Global, keeper: &mut K, line: &str) -> Result<String, Fail> {
     let (room, line) = line.split_once(' ').ok_or("room")?;
     let message = message(alloc, line)?;
@@ -276,7 +276,7 @@ fn lose<K: Keeper>(alloc: Global, keeper: &mut K, line: &str) -> Result<String, 
     Ok(format!(in alloc; "{} {:?} {front}", ended.messages, ended.why)?)
 }
 
-/// What is told of what a line does, its message sent by such calls; None of a line that tells.
+/// The result of a line, with its message sent by these calls; `None` for a line that is a result.
 pub fn line_told<K: Keeper>(
     alloc: Global,
     keeper: &mut K,
@@ -307,7 +307,7 @@ pub fn answers<K: Keeper>(alloc: Global, keeper: &mut K, transcript: &str) -> Re
     Ok(text)
 }
 
-/// The requests of a transcript and its imports, with what is told of each.
+/// The requests and imports of a transcript, each with its result.
 pub fn requests_of(alloc: Global, transcript: &str) -> Result<String, Fail> {
     let mut text = String::new(alloc);
     let mut lines = transcript.lines();
@@ -320,7 +320,7 @@ pub fn requests_of(alloc: Global, transcript: &str) -> Result<String, Fail> {
     Ok(text)
 }
 
-/// The transcript that comes of doing the same again, its messages sent by such calls.
+/// The transcript of doing the same again, with its messages sent by these calls.
 pub fn replay_by<K: Keeper>(
     alloc: Global,
     keeper: &mut K,
