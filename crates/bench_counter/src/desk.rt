@@ -49,7 +49,7 @@ fn days(alloc: Global) -> Result<Vec<Request>> {
     Ok(requests)
 }
 
-/// Tells what requests paid.
+/// Prints what requests paid.
 fn tell_sums(rt: &HostRuntime, what: &str, answers: &[Result<Reply, Unserved>]) -> Result<()> {
     let tickets = paid(answers);
     let batches = settled(answers);
@@ -64,7 +64,7 @@ fn tell_sums(rt: &HostRuntime, what: &str, answers: &[Result<Reply, Unserved>]) 
     Ok(())
 }
 
-/// Tells how long so many requests took.
+/// Prints how long a number of requests took.
 fn tell_time(rt: &HostRuntime, what: &str, count: usize, nanos: u128) -> Result<()> {
     let one = nanos / (count as u128).max(1);
     eprintln!(rt;
@@ -74,7 +74,7 @@ fn tell_time(rt: &HostRuntime, what: &str, count: usize, nanos: u128) -> Result<
     Ok(())
 }
 
-/// Runs the requests, and tells what they paid and how long they took.
+/// Runs the requests, and prints what they paid and how long they took.
 fn timed(
     rt: &HostRuntime,
     keeper: &mut ListKeeper,

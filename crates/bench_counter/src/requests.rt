@@ -51,12 +51,12 @@ pub fn rates(alloc: Global) -> Result<Request> {
     ask(1, Act::AddRates(Rows::new(vec![in alloc; row]?)))
 }
 
-/// How many imports enter so many bonds.
+/// How many imports enter `bonds` bonds.
 pub fn count_of_imports(bonds: u64) -> u64 {
     bonds.div_ceil(ROWS)
 }
 
-/// The import of that place, from 0 on, of so many bonds in all.
+/// The import at a place, from 0, of `bonds` bonds in all.
 pub fn import(alloc: Global, bonds: u64, place: u64) -> Result<Request> {
     let first = place.saturating_mul(ROWS).saturating_add(1);
     let end = first.saturating_add(ROWS).min(bonds.saturating_add(1));

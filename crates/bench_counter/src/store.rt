@@ -18,9 +18,9 @@ const SMALL: Size = Size {
     each: 1,
 };
 
-/// The arguments are the file, which must not be there, how many bonds it holds, how many tickets are
-/// paid of them, how many a day, and how many bonds a ticket, a divisor of 100 and 1 where it is left out;
-/// without any, a store in memory with 1,000 bonds and 900 tickets of one day.
+/// The arguments are the file, which must not exist, the number of bonds in it, the number of tickets that are paid,
+/// the tickets a day, and the bonds on a ticket, a divisor of 100, which is 1 if it is left out. Without arguments,
+/// a store in memory with 1,000 bonds and 900 tickets of one day.
 pub fn bench(rt: &HostRuntime, arguments: &[String]) -> Result<()> {
     match arguments {
         [] => in_memory(rt, SMALL),
@@ -129,7 +129,7 @@ fn pay<K: Keeper>(rt: &HostRuntime, keeper: &mut K, size: Size) -> Result<Paymen
     Ok(Payments { sum, took })
 }
 
-/// Enters the bonds and pays some of them, and tells it.
+/// Enters the bonds, pays some of them, and prints that.
 fn measure<K: Keeper>(rt: &HostRuntime, keeper: &mut K, size: Size) -> Result<()> {
     let start = Instant::now(rt)?;
     enter(rt.alloc(), keeper, size.bonds)?;
@@ -138,7 +138,7 @@ fn measure<K: Keeper>(rt: &HostRuntime, keeper: &mut K, size: Size) -> Result<()
     tell(rt, size, pay(rt, keeper, size)?)
 }
 
-/// Tells what was paid.
+/// Prints what was paid.
 fn tell(rt: &HostRuntime, size: Size, payments: Payments) -> Result<()> {
     println!(rt;
         "{} bonds, {} tickets of {} cents",
@@ -152,7 +152,7 @@ fn tell(rt: &HostRuntime, size: Size, payments: Payments) -> Result<()> {
     Ok(())
 }
 
-/// Tells how long a store took to open.
+/// Prints how long a store took to open.
 fn opened<S: Alter>(rt: &HostRuntime, start: Instant, keeper: &mut SqlKeeper<S>) -> Result<()> {
     let took = start.elapsed(rt)?.as_millis();
     let found = keeper.ticket(1).ok().context("unserved")?;
@@ -170,7 +170,7 @@ fn opened<S: Alter>(rt: &HostRuntime, start: Instant, keeper: &mut SqlKeeper<S>)
 enum Work {
     /// Bonds are entered, and some of them paid.
     Payments(Size),
-    /// It is told how long the store took to open, from that time on.
+    /// Prints how long the store took to open, from that time on.
     Opening(Instant),
 }
 

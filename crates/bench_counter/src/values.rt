@@ -56,7 +56,7 @@ fn sum(table: &UnitTable) -> u64 {
     sum
 }
 
-/// Makes so many sweeps, and prints what was made, and how long it took.
+/// Makes a number of sweeps, and prints what was made and how long it took.
 fn measure(rt: &HostRuntime, sweep: Sweep, sweeps: u32) -> Result<()> {
     let start = Instant::now(rt)?;
     let mut total: u64 = 0;

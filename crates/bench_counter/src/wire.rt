@@ -98,8 +98,8 @@ fn split(alloc: Global, reader: &mut Rounds) -> Counts {
     counts
 }
 
-/// A head with a line feed at every third byte, and never ended: so many lines, 5,456 at most within
-/// the limit.
+/// A head with a line feed at every third byte, and never ended, with this number of lines: at most 5,456 within the
+/// limit.
 fn worst_head(alloc: Global, lines: usize) -> Result<Vec<u8>, AllocError> {
     let mut head = Vec::new(alloc);
     head.extend_from_slice(b"GET / HTTP/1.1\n")?;
@@ -128,7 +128,7 @@ fn long_body(alloc: Global) -> Result<Vec<u8>, AllocError> {
     Ok(text)
 }
 
-/// Splits the text so often, in pieces of so many bytes, and prints what it had.
+/// Splits the text a number of times, in pieces of one size, and prints what it had.
 fn time(rt: &HostRuntime, name: &str, text: &[u8], rounds: u64, step: usize) -> Result<()> {
     let start = Instant::now(rt)?;
     let counts = split(rt.alloc(), &mut Rounds::of(text, rounds, step));
@@ -196,7 +196,7 @@ impl Long {
         }
     }
 
-    /// Splits it once, in pieces of so many bytes.
+    /// Splits it once, in pieces of one size.
     fn time(self, rt: &HostRuntime, step: usize) -> Result<()> {
         let text = self.text(rt.alloc())?;
         time(rt, self.name(), &text, 1, step)
