@@ -88,7 +88,7 @@ printed_cut old mid new es e n is a w = record {
   written = Appends-trans old mid new _ _ a w.written;
 }
 
--- where a device or memory failed
+-- if a device or memory failed
 pub lines_failed : (most : ℕ) (old new : Option (List ℕ)) (es : List Ended) (r : Result Outcome RunFault) (cause told : RunFault)
     → r ≡ Err cause → cause ≡ told → (told ≡ Device) ⊎ (told ≡ fault.NoMemory)
     → length es ≤ most → WritesSome old new (connection_lines 0 es) → PrintsLines most old new es r

@@ -1,4 +1,4 @@
--- How a command ends where a device failed.
+-- How a command ends if a device failed.
 use Rattle.std.proofs.Common.{◌≡◌, ℕ, Bool, true, false, List, Option, Result, Ok, Err, ◌∙◌, sym, ap, inl, inr}
 use Rattle.std.specs.Prelude.{◌⊎◌, if◌then◌else◌, IfErr}
 use Rattle.ee_desk_acts.specs.declared.replies.Reply.{Reply}

@@ -1,4 +1,4 @@
--- The words determine what they ask for. Of the references that stand for the kinds of files clap looks at the texts alone:
+-- The words determine what they ask for. Of the references that represent the kinds of files clap looks at the texts alone:
 -- so all lists of references to the same words, wherever they are, make the same program.
 use Rattle.std.proofs.Common.{◌≡◌, ◌∙◌, Bool, List, [], ◌∷◌, map, drop, Option, Some, Result, refl, sym, ap, subst, inl, inr, Bor, if◌then◌else◌, option_map}
 use Rattle.std.specs.List.{list_any}

@@ -28,7 +28,7 @@ last_fault : (x y : Kinds) → or_else x y ≡ [] → y ≡ []
 last_fault [] y e = e
 last_fault (k ∷ ks) y e = cc
 
--- where a subcommand is wanted and nothing is wrong, there is one
+-- if a subcommand is wanted and nothing is wrong, there is one
 kinds_want : (help has wanted : Bool) → check_kinds (not has && help) (not has && true) wanted ≡ [] → has ≡ true
 kinds_want help true wanted e = refl
 kinds_want true false wanted e = cc

@@ -23,7 +23,7 @@ use Rattle.clap.specs.declared.error.kind.ErrorKind.TheVariants as kind
 abbrev pub IsRequest : ErrorKind → Type 0
 IsRequest request = (request ≡ kind.DisplayHelp) ⊎ (request ≡ kind.DisplayVersion)
 
--- where such a call is among the kinds, it is the only one
+-- if such a call is among the kinds, it is the only one
 abbrev pub IsAlone : Kinds → Type 0
 IsAlone kinds = (request : ErrorKind) → IsRequest request → IsAmong request kinds → kinds ≡ request ∷ []
 
@@ -250,7 +250,7 @@ entered_alone : (a : App) (stop : Option (Text × List Text)) → IsAlone (enter
 entered_alone a stop = where_some (λ (p : Text × List Text). option_map_or (λ s. level_fault s [] nothing_held p.1 false []) (find (λ s. answers_to p.0 (label_of s)) a.subs) []) stop
     (λ p. where_some (λ (s : Shape). level_fault s [] nothing_held p.1 false []) (find (λ s. answers_to p.0 (label_of s)) a.subs) (λ s. level_alone s [] nothing_held p.1 false [] (inr refl) none))
 
--- where the command has no subcommand that shows help, a call for help or the version is the only fault
+-- if the command has no subcommand that shows help, a call for help or the version is the only fault
 pub requests_alone : (a : App) (h : Held) (words : List Text) → a.top.disable_help_subcommand ≡ true → IsAlone (built_fault a h words)
 requests_alone a h words e =
     let stop = (walk a.top.rules (names_of a) h words).stopped in

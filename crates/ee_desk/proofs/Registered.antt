@@ -99,7 +99,7 @@ bonds_of_held es q = get_held_bond es q ∙ ap (option_map bond_of) (sym (at_is 
 pub new_in_memory : (es : List (SerialNumber × Held)) (cs : List Change) → AreNew bond_row (bonds_held es) cs → AreNew held_row (held_in es) cs
 new_in_memory es cs new = new_held (held_in es) (bonds_held es) cs (bonds_of_held es) new
 
--- the bonds that memory stands for gain what memory gains
+-- the bonds that memory represents gain what memory gains
 pub bonds_gain : (es fs : List (SerialNumber × Held)) (cs : List Change) → held_in fs ≡ with_changes held_row (held_in es) cs → bonds_held fs ≡ with_changes bond_row (bonds_held es) cs
 bonds_gain es fs cs is = same_map serials_total serials_exact _ _ (λ q.
     bonds_of_held fs q ∙ ap (λ m. option_map bond_of (finite.get m q)) is ∙ sym (bonds_after (held_in es) (bonds_held es) cs (bonds_of_held es) q))

@@ -18,7 +18,7 @@ rates_total = then_total (on_total (λ (r : Rates). r.fixed) nat_cmp_total) (on_
 pub exact_rates : CmpEqualImpliesEq rates_cmp
 exact_rates a b h = ap (λ (p : ℕ × ℕ). record { fixed = p.0; extension = p.1 }) (exact_pairs nat_cmp nat_cmp exact_unsigned exact_unsigned (a.fixed, a.extension) (b.fixed, b.extension) h)
 
--- the kept map is as it was where the rates were there
+-- the kept map is as it was if the rates were there
 pub kept_again : (kept : FinMap rates_cmp Rates) (rates : Rates) → finite.get kept rates ≡ Some rates → kept ≡ finite.insert kept rates rates
 kept_again kept rates there = same_map rates_total exact_rates _ _ (λ q. by_case q (eq_by_cmp rates_cmp q rates) refl ∙ sym (get-insert rates_total kept rates rates q))
   where

@@ -30,7 +30,7 @@ serials_total = then_total (on_total (λ s. s.letter) nat_cmp_total) (on_total (
 pub exact_serials : CmpEqualImpliesEq serial_cmp
 exact_serials a b h = ap (λ (p : ℕ × ℕ). record { letter = p.0; number = p.1 }) (exact_pairs nat_cmp nat_cmp exact_unsigned exact_unsigned (a.letter, a.number) (b.letter, b.number) h)
 
--- two comparisons, the second where the first tells nothing, are equal where both are
+-- two comparisons, the second if the first tells nothing, are equal where both are
 pub eq_then : (a b : Ordering) → is_eq (ordering_then a b) ≡ (is_eq a && is_eq b)
 eq_then Less b = refl
 eq_then Equal b = refl

@@ -68,7 +68,7 @@ content_append S (q ∷ L) M =
 books_step : (S : Content) (q : Request) (L : List Request) → books_after S (q ∷ L) ≡ books_after (one S q) L
 books_step S q L = ap (λ T. T.books) (content_step S q L)
 
--- what a number has after a request of another number, or where it was kept
+-- what a number has after a request of another number, or if it was kept
 pub kept_other : (S : Content) (r : Request) (n : Number) → same_number n (number_of r) ≡ false → finite.get (one S r).kept n ≡ finite.get S.kept n
 kept_other S r n apart =
     elim (finite.contains_key S.kept (number_of r)) as (λ b. finite.contains_key S.kept (number_of r) ≡ b → finite.get (one S r).kept n ≡ finite.get S.kept n) [

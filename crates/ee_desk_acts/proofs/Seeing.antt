@@ -139,7 +139,7 @@ seen_enough books (Redeem day payee ss) = redeem_enough books (open_batch books)
 seen_enough books (CloseDay day) = refl
 
 -- ---- what the length of its list refuses
--- the first two of three tests decide where one of them refuses
+-- the first two of three tests decide if one of them refuses
 front_refuses : (empty many rest : Option Refusal) (refusal : Refusal) → option_or empty many ≡ Some refusal → option_or empty (option_or many rest) ≡ Some refusal
 front_refuses (Some x) many rest refusal e = e
 front_refuses None (Some x) rest refusal e = e

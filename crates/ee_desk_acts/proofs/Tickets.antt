@@ -1,4 +1,4 @@
--- The ticket that pays a serial number, where one ticket more was made.
+-- The ticket that pays a serial number, if one ticket more was made.
 use Rattle.std.proofs.Common.{◌≡◌, ◌||◌, Bool, true, false, cond, List, [], ◌∷◌, ◌++◌, Option, Some, None, true≢false, refl, sym, ap, ◌∙◌}
 use Rattle.std.specs.Option.{option_map, option_or}
 use Rattle.std.specs.List.{AllByRecursion, find, list_any}

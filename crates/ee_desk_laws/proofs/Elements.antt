@@ -2,7 +2,7 @@
 use Rattle.std.proofs.Common.{zero, suc, List, [], ◌∷◌, arith, refl, subst}
 use Rattle.std.specs.List.{AllByRecursion, Contains}
 
--- an element of a list where all have a property
+-- an element of a list if all have a property
 pub contained : {A : Type 0} (P : A → Type 0) (xs : List A) (x : A) → AllByRecursion P xs → Contains xs x → P x
 contained P [] x h c = absurd (omega (arith, c.1))
 contained P (y ∷ ys) x h (zero, below, is) = subst P is h.0

@@ -10,25 +10,25 @@ use Rattle.std.specs.FinMap as finite
 use Rattle.ee_desk_laws.proofs.Elements
 use Rattle.ee_desk_laws.proofs.Leaving
 
--- ---- what may be left stands for a content of the world
--- where no disk may be left but those of before
+-- ---- what may be left represents a content of the world
+-- if no disk may be left but those of before
 pub leaves_as_before : {Disk : Type 0} (Stands : Disk → Content → Type 0) (old new : Disk → Type 0) (w : World)
     → ((disk : Disk) → new disk → old disk) → Leaves Stands old w → Leaves Stands new w
 leaves_as_before = Leaving.leaves_as_before
 
--- after a request with a new number, where what may be left stands for the content after it
+-- after a request with a new number, if what may be left represents the content after it
 pub leaves_new : {Disk : Type 0} (Stands : Disk → Content → Type 0) (may_leave : Disk → Type 0) (w : World) (q : Request) (told : List Told)
     → finite.contains_key w.now.kept (number_of q) ≡ false → ((disk : Disk) → may_leave disk → Stands disk (one w.now q))
     → Leaves Stands may_leave (decided w q told)
 leaves_new = Leaving.leaves_new
 
--- after a request whose number is kept, where no disk may be left but those of before
+-- after a request whose number is kept, if no disk may be left but those of before
 pub leaves_kept : {Disk : Type 0} (Stands : Disk → Content → Type 0) (old new : Disk → Type 0) (w : World) (q : Request) (told : List Told)
     → finite.contains_key w.now.kept (number_of q) ≡ true → ((disk : Disk) → new disk → old disk) → Leaves Stands old w
     → Leaves Stands new (decided w q told)
 leaves_kept = Leaving.leaves_kept
 
--- after a request that wasn't served, where what may be left was left before or stands for the content after it
+-- after a request that wasn't served, if what may be left was left before or represents the content after it
 pub leaves_unserved : {Disk : Type 0} (Stands : Disk → Content → Type 0) (old new : Disk → Type 0) (w : World) (q : Request)
     → ((disk : Disk) → new disk → old disk ⊎ Stands disk (one w.now q)) → Leaves Stands old w → Leaves Stands new (unserved w q)
 leaves_unserved = Leaving.leaves_unserved

@@ -475,7 +475,7 @@ module _ (S : Content) (mine : SerialNumber → Bool) (own : Number → Bool) wh
   go_on : (C D E : Content) (q : Request) (qs : List Request) → one C q ≡ D → content_after D qs ≡ E → content_after C (q ∷ qs) ≡ E
   go_on C D E q qs step rest = content_after-first C q qs ∙ ap (λ T. content_after T qs) step ∙ rest
 
-  -- what a turn leaves to be shown, where the test of the teller is known
+  -- what a turn leaves to be shown, if the test of the teller is known
   abbrev own_list : Bool → Asked → ℕ → List Asked → List Request
   own_list b a teller merge = requests (cond b (a ∷ filter (λ x. x.teller == teller) merge) (filter (λ x. x.teller == teller) merge))
 

@@ -30,7 +30,7 @@ use Rattle.ee_desk_parts.proofs.Walks
 pub get_held_bond : (es : List (SerialNumber × Held)) (q : SerialNumber) → finite.get (bonds_held es) q ≡ option_map (λ h. h.bond) (held_at es q)
 get_held_bond = PaidMarks.get_bond
 
--- marks stay right where a ticket of unpaid bonds is appended and marked on them
+-- marks stay right if a ticket of unpaid bonds is appended and marked on them
 pub marked_with_ticket : (bonds new : List (SerialNumber × Held)) (tickets pushed : List Ticket) (t : Ticket)
     → AreMarked bonds tickets → AllByRecursion (λ line. ticket_of tickets line.serial ≡ None) t.lines → pushed ≡ tickets ++ t ∷ []
     → ((q : SerialNumber) → held_at new q ≡ option_map (marked (list_any (λ line. same_serial q line.serial) t.lines) t.ticket) (held_at bonds q))
@@ -38,11 +38,11 @@ pub marked_with_ticket : (bonds new : List (SerialNumber × Held)) (tickets push
 marked_with_ticket = PaidMarks.ticket_kept
 
 -- ---- books and their parts
--- parts whose keys rise are those of the books that they stand for
+-- parts whose keys rise are those of the books that they represent
 pub parts_of-books_of : (parts : Parts) → HaveRisingMonths parts.rates → HaveRisingSerials parts.bonds → parts_of (books_of parts) ≡ parts
 parts_of-books_of = SoundParts.parts_kept
 
--- what is made of parts in memory stands for their books
+-- what is made of parts in memory represents their books
 pub books_of-made : (parts : Parts) (terms : List (ℕ × Rates)) (held : List (SerialNumber × Held)) → terms ≡ map entry_of_row parts.rates
     → bonds_held held ≡ bonds_in parts.bonds
     → ◌≡◌ {A = PlainBooks}
@@ -65,7 +65,7 @@ pub get_all : {K V : Type 0} {R : K → K → Ordering} (o : IsTotalOrder R) (ex
     → AllByRecursion (λ e. P e.0 e.1) es → (q : K) → IfSome (finite.get (finite.from_entries {R = R} es) q) (P q)
 get_all = SortedRows.get_all
 
--- where a key comes before all entries, nothing is found at it
+-- if a key comes before all entries, nothing is found at it
 pub none_below : {K V : Type 0} (R : K → K → Ordering) (q : K) (es : List (K × V)) → T (below_all R q es) → find R q es ≡ None
 none_below = SortedRows.none_below
 

@@ -45,7 +45,7 @@ module _ (es fs : Entries) (line : Line) (n : ℕ) (marks : AreMarkedAt es fs li
   on_free [] h k = tt
   on_free (l ∷ lines) h k = ((still_free l).1 (h.0, k.0), on_free lines h.1 k.1)
 
-  -- with a free line's bond marked, the rest is payable just where all were
+  -- with a free line's bond marked, the rest is payable exactly if all were
   pub payable_on : (lines : List Line) → IsFree (held_at es line.serial) → ArePayable es (line ∷ lines) ↔ ArePayable fs lines
   payable_on lines free = (
     λ p. (on_free lines p.0.1 p.1.0, p.1.1),

@@ -83,7 +83,7 @@ bonds_rise : (bonds : List Bond) → HaveRisingSerials bonds → InOrder IsBefor
 bonds_rise bonds h = subst (InOrder IsBefore) (sym (keys_of_bonds bonds)) h
 
 -- ---- books and their parts
--- parts whose keys rise are those of the books that they stand for
+-- parts whose keys rise are those of the books that they represent
 pub parts_kept : (parts : Parts) → HaveRisingMonths parts.rates → HaveRisingSerials parts.bonds → parts_of (books_of parts) ≡ parts
 parts_kept parts months serials = λ i. record {
   rates = (ap (map row_of_entry) (entries_are nat_cmp nat_cmp_total nat_cmp-IsAntisymmetric (map entry_of_row parts.rates) (rows_rise parts.rates months)) ∙ rows_back parts.rates) i;
@@ -98,7 +98,7 @@ module _ (books : PlainBooks) (sound : IsSound books) where
   keyed : AreKeyedEntries (finite.entries books.bonds)
   keyed = all_entries serials_total serials_exact (λ serial bond. bond.serial ≡ serial) books.bonds (sound_keyed books sound)
 
-  -- sound books are those that their parts stand for
+  -- sound books are those that their parts represent
   pub books_kept : books ≡ books_of (parts_of books)
   books_kept = λ i. record {
     rates = sym (ap finite.from_entries (entries_back (finite.entries books.rates)) ∙ map_of_entries nat_cmp nat_cmp_total nat_cmp-IsAntisymmetric books.rates) i;
@@ -118,7 +118,7 @@ module _ (books : PlainBooks) (sound : IsSound books) where
   pub sound_parts : AreSound (parts_of books)
   sound_parts = record { months = months_of; serials = serials_of; books = subst IsSound books_kept sound }
 
--- where parts aren't sound, no sound books have them
+-- if parts aren't sound, no sound books have them
 pub unsound : (parts : Parts) → (AreSound parts → ⊥) → AreUnsound parts
 unsound parts never books sound is = never (subst AreSound is (sound_parts books sound))
 
@@ -326,7 +326,7 @@ open_is counts batches None tickets are = refl
 open_is counts batches (Some d) tickets are = ap (λ o. unwrap_or o no_counts) (counted_at counts (map day_of_batch batches) [] d tickets are)
 
 -- ---- books in memory
--- what is made of parts in memory stands for their books
+-- what is made of parts in memory represents their books
 pub books_made : (parts : Parts) (terms : List (ℕ × Rates)) (held : List (SerialNumber × Held)) → terms ≡ map entry_of_row parts.rates → bonds_held held ≡ bonds_in parts.bonds
     → ◌≡◌ {A = PlainBooks} (record { rates = finite.from_entries terms; bonds = bonds_held held; day = parts.day; last_day = parts.last_day; tickets = parts.tickets; batches = parts.batches }) (books_of parts)
 books_made parts terms held rates bonds = λ i. record {

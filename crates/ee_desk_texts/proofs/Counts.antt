@@ -20,7 +20,7 @@ count_back n small =
     let some : 1 ≤ length (decimal n) = omega (arith, numeral.0.0) in
     rw (le-leb 1 (length (decimal n)) some, digits, numeral.1, lt-ltb n (2 ^ 64) small) refl
 
--- what `parse` answers of digits is the number, where it is below 2^64
+-- what `parse` answers of digits is the number, if it is below 2^64
 pub count_parsed : {E : Type 0} (text : List ℕ) (r : Result ℕ E) → ParsesUnsigned 64 10 text r → is_whole text ≡ true → result_ok r ≡ count_of text
 unfolding count_of is_whole
 count_parsed {E} text r h whole = by_fit (nat_lt (digits_value 10 text) (2 ^ 64)) refl r (parse_digits digits_are_numerals 64 text r h digits)

@@ -40,7 +40,7 @@ not_empty : (xs ys : List ℕ) → xs ≢ [] → xs ++ ys ≢ []
 not_empty [] ys some e = some refl
 not_empty (x ∷ xs) ys some e = omega (arith, ap length e)
 
--- a text after what was written before; where it was done, it was the last
+-- a text after what was written before; if it was done, it was the last
 continued : (old mid new : Option (List ℕ)) (before t after whole : List ℕ) (done : Bool) → Appends old mid before → WritesFront mid new t done → whole ≡ before ++ (t ++ after) → (done ≡ true → after ≡ []) → WritesFront old new whole done
 continued old mid new before t after whole done h w parts last = record {
   front = before ++ w.front;
@@ -81,7 +81,7 @@ piece_cut old mid new f xs i d x done below is h w cut =
 pub all_done : {X : Type 0} (old new : Option (List ℕ)) (f : X → List ℕ) (xs : List X) (i : ℕ) → length xs ≤ i → Appends old new (flat_map f (take i xs)) → WritesFront old new (flat_map f xs) true
 all_done old new f xs i all h = record { front = flat_map f xs; rest = []; parts = sym (append-nil (flat_map f xs)); written = rw (← take_all i xs all) h; whole = λ _. refl; cut = λ e. absurd (true≢false e) }
 
--- two texts, the second where the first was done
+-- two texts, the second if the first was done
 written_then : (old mid new : Option (List ℕ)) (a b : List ℕ) (done : Bool) → WritesFront old mid a true → WritesFront mid new b done → WritesFront old new (a ++ b) done
 written_then old mid new a b done v w = continued old mid new a b [] (a ++ b) done (subst (Appends old mid) (v.whole refl) v.written) w (ap (λ z. a ++ z) (sym (append-nil b))) (λ _. refl)
 
@@ -89,7 +89,7 @@ written_then old mid new a b done v w = continued old mid new a b [] (a ++ b) do
 cut_before : (old new : Option (List ℕ)) (a b : List ℕ) → WritesFront old new a false → WritesFront old new (a ++ b) false
 cut_before old new a b w = record { front = w.front; rest = w.rest ++ b; parts = ap (λ z. z ++ b) w.parts ∙ append_assoc w.front w.rest b; written = w.written; whole = λ e. absurd (true≢false (sym e)); cut = λ e. not_empty w.rest b (w.cut e) }
 
--- two texts, the second written where the first was done
+-- two texts, the second written if the first was done
 pub then_all : (old mid new : Option (List ℕ)) (a b : List ℕ) (first done : Bool) → WritesFront old mid a first → first ≡ true → WritesFront mid new b done → WritesFront old new (a ++ b) done
 then_all old mid new a b first done v is w = written_then old mid new a b done (subst (WritesFront old mid a) is v) w
 

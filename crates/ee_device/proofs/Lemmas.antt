@@ -28,7 +28,7 @@ pub all_pieces_written : {X : Type 0} (old new : Option (List ℕ)) (f : X → L
     → Appends old new (flat_map f (take i xs)) → WritesFront old new (flat_map f xs) true
 all_pieces_written = Fronts.all_done
 
--- ---- two texts, the second written where the first was whole
+-- ---- two texts, the second written if the first was whole
 -- the first was whole: what was written of both ends as the second did
 pub second_after_whole : (old mid new : Option (List ℕ)) (a b : List ℕ) (first done : Bool) → WritesFront old mid a first → first ≡ true
     → WritesFront mid new b done → WritesFront old new (a ++ b) done

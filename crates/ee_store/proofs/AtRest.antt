@@ -1,4 +1,4 @@
--- Ending: the file alone stands for the content, and opens with it.
+-- Ending: the file alone represents the content, and opens with it.
 use Rattle.std.proofs.Common.{◌≡◌, [], arith, refl, sym, subst}
 use Rattle.std.proofs.Math.Logic.{∥∥₁_elim}
 use Rattle.sqlite_disk.specs.declared.Disk.{Ghosts}

@@ -87,7 +87,7 @@ pub goes_through_crash : {D E : Type 0} (g : Ghosts D) (h : Ghosts E) → Follow
 goes_through_crash g h next old left now numbered may run = goes_from (file_state old) (file_state now) (Stop_between ∷ Reopen ∷ []) (λ w is before.
     ∥∥₁_map (next old w left now numbered before may run) (λ (v, happens, follows). (v, happens, up_again w v happens, follows)))
 
--- files at rest stand for the content however they are found
+-- files at rest represent the content however they are found
 stands_found : {D : Type 0} (g : Ghosts D) (files : Files D) (content : Content) (found : Image) → IsAtRest g files content → AreFoundAs g files found → StandsAlone found content
 stands_found g files content found rest (inl same) = subst (λ image. StandsAlone image content) (sym same) rest.seen
 stands_found g files content found rest (inr may) = rest.left found may

@@ -18,7 +18,7 @@ use Rattle.ee_store_lookups.proofs.Lemmas.{stands_committed}
 use Rattle.ee_store.specs.Adopted.{StoodFor, HadContent, StandsSince, KeepsContent, CarriesWorld, LeavesAsBefore, GoesOn, StaysStopped}
 use Rattle.ee_store.proofs.Opened.{had_now, has_tables, nothing_rows}
 
--- a store whose trees stand for a content had it, in the form of its tables
+-- a store whose trees represent a content had it, in the form of its tables
 pub has_standing : (s : State) (form : Form) (content : Content) → (IsTrue s.is_open → IsDatabase s.committed) → StoodFor form s.committed.trees content
     → HadContent form s content
 has_standing s form content live stood = record { right = stood.right; rows = had_stored form s (rows_at (version_of form) content) live stood.stores }

@@ -85,7 +85,7 @@ module _ (old middle : State) (form : Form) (rows : Rows) (kept : KeepsCommit ol
   pub keeps_content : (new : State) → Has new (become form rows) → KeepsContent old new
   keeps_content new made other content was = record { right = was.right; rows = subst (Has new) (same_content other content was) made }
 
-  -- the content that they stand for is the one that the store had
+  -- the content that they represent is the one that the store had
   stood_for : (content : Content) → StandAt (version_of form) rows content → HadContent form old content
   stood_for content stands = record { right = stands.right; rows = subst (HadIn form old) stands.are had }
 
@@ -94,7 +94,7 @@ module _ (old middle : State) (form : Form) (rows : Rows) (kept : KeepsCommit ol
       let was = stood_for content stands in
       inl (form, content, was, keeps_content new made form content was)
 
-  -- where they stand for none, the store had none
+  -- if they represent none, the store had none
   pub stood_for_none : ((content : Content) → StandAt (version_of form) rows content → ⊥) → HadNone old
   stood_for_none none _ = (
     λ other content was. none content (record {
@@ -104,7 +104,7 @@ module _ (old middle : State) (form : Form) (rows : Rows) (kept : KeepsCommit ol
     not_begun,
   )
 
-  -- the store was of version 1 where it was migrated
+  -- the store was of version 1 if it was migrated
   module _ (all : List StoredAnswer) (lists : form ≢ Current → Lists all rows) (content : Content) (stands : StandAt (version_of form) rows content) where
     pub migrated : (db : Trees) → Migrates form all middle db → IsMigrated old db
     migrated db migrates =

@@ -1,4 +1,4 @@
--- Opening a store: what the rows that were found stand for.
+-- Opening a store: what the rows that were found represent.
 use Rattle.std.proofs.Common.{◌≡◌, inl, inr, ℕ, List, [], map, IsTrue, sym, ap, ◌∙◌, subst}
 use Rattle.std.specs.Prelude.{IfSome, filter_map}
 use Rattle.std.specs.Ordering.{nat_cmp}
@@ -53,7 +53,7 @@ nothing_rows =
 
 -- ---- forms of the tables
 
--- the present form is what a store has, and what trees stand for
+-- the present form is what a store has, and what trees represent
 pub stood_now : (db : Trees) (content : Content) → StandsFor db content → StoodFor Current db content
 stood_now db content stands = record { right = stands.right; stores = stands.stores }
 

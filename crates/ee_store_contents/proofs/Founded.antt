@@ -1,4 +1,4 @@
--- What a store stands for, by what is read of its rows.
+-- What a store represents, by what is read of its rows.
 use Rattle.std.proofs.Common.{◌≡◌, true, false, ℕ, List, map, refl, sym, ap, ◌∙◌, subst}
 use Rattle.std.proofs.lemmas.Bool.{false≢true}
 use Rattle.std.specs.Prelude.{Some, None}
@@ -29,11 +29,11 @@ unfolding parts_in
 same_parts stored rest is = ap parts_in is ∙ refl
 
 module _ (stored : AllRows) (rows : Rows) (order : AreInOrder stored) (read : AreRead KeepsAnswer stored rows) where
-  -- the rows that were read stand for what the rows of the store stand for
+  -- the rows that were read represent what the rows of the store represent
   these_stand : (content : Content) → StandAt (version_of stored.form) rows content → StandAt (version_of stored.form) (rows_with (answer_map read.kept) stored) content
   these_stand content = subst (λ rows. StandAt (version_of stored.form) rows content) read.are
 
-  -- rows that stand for a content are read as its parts
+  -- rows that represent a content are read as its parts
   read_as : (content : Content) → StandAt (version_of stored.form) rows content → parts_in stored ≡ Some (parts_of content.books)
   read_as content stands =
       parts_read (parts_of content.books) stored (rows_of_parts stored (answer_map read.kept) content order (these_stand content stands)) (parts_in_range content stands.right) order.rates

@@ -94,7 +94,7 @@ pub right_bond_is_keyed : (rates : FinMap nat_cmp Rates) (s : SerialNumber) (o :
     → IfSome o (λ bond. bond.serial ≡ s)
 right_bond_is_keyed = OneContent.keyed
 
--- where one step after another gave a value, each step gave one
+-- if one step after another gave a value, each step gave one
 pub some_from_bind : {A B : Type 0} (o : Option A) (f : A → Option B) (y : B) → (o >>= f) ≡ Some y → (x : A) × (o ≡ Some x) × (f x ≡ Some y)
 some_from_bind = ReadBack.bind_is
 
@@ -132,7 +132,7 @@ readable = Readable.readable
 pub kept_texts : (content : Content) → IsRight content → (n : Number) → IfSome (finite.get (rows_of content).answers n) IsText
 kept_texts = Readable.kept_texts
 
--- rows stand for one content at most
+-- rows represent one content at most
 pub one_content : (version : ℕ) (rows : Rows) (one other : Content) → StandAt version rows one → StandAt version rows other → one ≡ other
 one_content = OneContent.one_content
 

@@ -1,4 +1,4 @@
--- Rows stand for one content at most.
+-- Rows represent one content at most.
 use Rattle.std.proofs.Common.{◌≡◌, ℕ, suc, ◌+◌, List, [], ◌∷◌, ◌++◌, map, length, arith, refl, sym, ap, ◌∙◌}
 use Rattle.std.specs.Prelude.{flat_map, Option, Some, None, IfSome, option_and_then}
 use Rattle.std.specs.Option.{option_map, unwrap_or}

@@ -132,7 +132,7 @@ rates_read (row ∷ rates) h rising =
     ∙ bind_some (rate_in (named_extension row.rates) (stored_rate row)) row (λ rate. rates_in rows extensions >>= λ more. Some (rate ∷ more)) (Some (row ∷ rates)) (rate_read row h.0)
     (bind_some (rates_in rows extensions) rates (λ more. Some (row ∷ more)) (Some (row ∷ rates)) (rates_read rates h.1 both.1) refl)
 
--- the rows are the extension of a period, where they begin with it, and those after it
+-- the rows are the extension of a period, if they begin with it, and those after it
 split_again : (period : ℕ) (rows : List StoredRate) → rows ≡ cons_option (option_map (extension_row period) (extension_of period rows)) (after_extension period rows)
 split_again period [] = refl
 split_again period (row ∷ rows) = by_case (row.period == period) refl

@@ -1,4 +1,4 @@
--- The rows that stand for books and kept replies are those of their parts.
+-- The rows that represent books and kept replies are those of their parts.
 use Rattle.std.proofs.Common.{◌≡◌, ℕ, ◌+◌, ◌&&◌, List, [], ◌∷◌, ◌++◌, map, refl, sym, ap, ◌∙◌, subst}
 use Rattle.std.specs.Prelude.{T, flat_map, filter_map, option_map, Option, Some, None, IfSome}
 use Rattle.std.specs.List.{AllByRecursion, cons_option}
@@ -160,7 +160,7 @@ line_back e = record { ticket = e.0.0; place = e.0.1; letter = e.1.letter; numbe
 abbrev batch_back : ℕ × BatchRow → StoredBatch
 batch_back e = record { day = e.0; tickets = e.1.tickets; bonds = e.1.bonds; total = e.1.total }
 
--- ---- rows that stand for a content are those of its parts
+-- ---- rows that represent a content are those of its parts
 module _ {K X : Type 0} {R : K → K → Ordering} where
   entries_of : (es : List (K × X)) (m : FinMap R X) → T (is_sorted R es) → from_sorted es ≡ m → es ≡ entries m
   entries_of es m sorted is = sym (entries-from_sorted R es sorted) ∙ ap entries is
@@ -276,7 +276,7 @@ answers_kept stored kept content sorted stands =
     keeps kept (entries content.kept) (all_entries numbers_total pair_same IsKept content.kept stands.right.kept)
     (entries_of _ _ sorted (ap (λ (r : Rows). r.answers) stands.are) ∙ reply_entries content.kept)
 
--- ---- rows of parts stand for the books of these parts
+-- ---- rows of parts represent the books of these parts
 values_fit : (books : PlainBooks) → AllByRecursion BondFits (finite.values books.bonds) → (s : SerialNumber) → IfSome (finite.get books.bonds s) BondFits
 values_fit books all s =
     subst (λ m. IfSome (finite.get m s) BondFits) (map_of_entries serial_cmp serials_total serials_exact books.bonds)

@@ -46,7 +46,7 @@ with_new_rate rates from r = same_map nat_cmp_total nat_cmp-IsAntisymmetric _ _ 
     ∙ sym (get-insert nat_cmp_total (rate_rows rates) from r.fixed q))
 
 -- ---- extensions
--- where none is named, under a period that had no terms
+-- if none is named, under a period that had no terms
 extension_none : (b : Bool) (r : Rates) (o : Option Rates) → named_extension r ≡ None → (b ≡ true → o ≡ None)
     → option_and_then named_extension (cond b (Some r) o) ≡ option_and_then named_extension o
 extension_none true r o same none = same ∙ ap (option_and_then named_extension) (sym (none refl))
@@ -59,7 +59,7 @@ with_no_extension rates from r none same = same_map nat_cmp_total nat_cmp-IsAnti
     ∙ extension_none (eq_by_cmp nat_cmp q from) r (finite.get rates q) same (λ is. ap (finite.get rates) (tells_apart exact_unsigned q from is) ∙ none)
     ∙ sym (get_extension_row rates q))
 
--- where one is named
+-- if one is named
 extension_some : (b : Bool) (r : Rates) (e : ℕ) (o : Option Rates) → named_extension r ≡ Some e
     → option_and_then named_extension (cond b (Some r) o) ≡ cond b (Some e) (option_and_then named_extension o)
 extension_some true r e o is = is

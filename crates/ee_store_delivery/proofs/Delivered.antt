@@ -1,4 +1,4 @@
--- A delivery leaves rows that stand for the content after it.
+-- A delivery leaves rows that represent the content after it.
 use Rattle.std.proofs.Common.{◌≡◌, ◌≤◌, Bool, true, false, cond, List, [], ◌∷◌, ◌++◌, map, refl, sym, ap, ◌∙◌, subst}
 use Rattle.std.specs.Prelude.{Option, Some, None, IfSome, is_some, is_none, ⊤}
 use Rattle.std.specs.List.{AllByRecursion}

@@ -22,7 +22,7 @@ shut : (old new : State) (e : Failure) → old.is_open ≡ false → IsExcused o
 shut old new NoMemory is = tt
 shut old new StoreFailed is = inr is
 
--- a call fails for a cause where it does so by what is known
+-- a call fails for a cause if it does so by what is known
 pub excused_by_known : (old new : State) (known : Known) (S : Content) (e : Failure) → HasCleanDisk old → IsInformed old known → HasContent old S
     → (AreKnown known S.books → IsExcused old new e) → IsExcused old new e
 excused_by_known old new known S e clean informed has excused = by_case old.is_open refl

@@ -30,7 +30,7 @@ use Rattle.ee_store_delivery.specs.Delivered.{IsDecided, IsToldIn}
 use Rattle.ee_store_delivery.proofs.Again.{IsAgain}
 use Rattle.ee_store_delivery.proofs.Delivered.{rows_after, right_after}
 
--- the day that was closed last matters only where something is changed
+-- the day that was closed last matters only if something is changed
 same_rows : (last day : Option ℕ) (rows : Rows) (changes : List Change) → (changes ≢ [] → last ≡ day) → applied_rows last rows changes ≡ applied_rows day rows changes
 same_rows last day rows [] is = refl
 same_rows last day rows (c ∷ cs) is = ap (λ d. applied_rows d rows (c ∷ cs)) (is (λ none. absurd (cc)))

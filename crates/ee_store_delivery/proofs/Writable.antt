@@ -268,7 +268,7 @@ changes_fit_rows S (change.Batch batch ∷ []) right after fits = (batch_fits S 
 changes_fit_rows S (change.Batch batch ∷ c ∷ cs) right after fits = absurd (cc)
 
 -- ---- an act
--- the day that was closed last matters only where something is changed
+-- the day that was closed last matters only if something is changed
 same_day : (last day : Option ℕ) (rows : Rows) (cs : List Change) → (cs ≢ [] → last ≡ day) → CanWriteAll day rows cs → CanWriteAll last rows cs
 same_day last day rows [] is h = tt
 same_day last day rows (c ∷ cs) is h = subst (λ d. CanWriteAll d rows (c ∷ cs)) (sym (is (λ none. absurd (cc)))) h

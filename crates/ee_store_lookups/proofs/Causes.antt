@@ -52,7 +52,7 @@ pub commit_excused : (old new : State) → IsInside old → (e : Error) → Fail
 commit_excused old new inside e (inl h) = subst (λ e. IsExcused old new (failure_of e)) (sym h.1) (caused_as old new h.0 h.2)
 commit_excused old new inside e (inr h) = not_inside old new inside h.1 (failure_of e)
 
--- where a value was given nothing failed
+-- if a value was given, nothing failed
 pub served : {X E : Type 0} (P : E → Type 0) (r : Result X E) → IsOk r → IfErr r P
 served P (Ok x) is = tt
 served P (Err e) is = absurd (cc)

@@ -23,7 +23,7 @@ nothing_done s = record {
   inside = λ _ h. h;
 }
 
--- what one more leaves, also where it fails
+-- what one more leaves, also if it fails
 pub crash_then : (old middle new : State) → Stays old middle → LeavesNoMore middle new → LeavesNoMore old new
 crash_then old middle new was crash = survives_then old middle new _ _ _ (λ _ db h. h) (λ _ db h. h) was.crash crash
 

@@ -43,11 +43,11 @@ seen_then = Causes.seen_then
 pub leaves_then : (old middle new : State) → LeavesNoMore old middle → LeavesNoMore middle new → LeavesNoMore old new
 leaves_then = Causes.leaves_then
 
--- what a commit makes stands for the content
+-- what a commit makes represents the content
 pub stands_when_open : (s : State) (S : Content) → SeesContent s S → IsTrue s.is_open → IsDatabase s.now → StandsFor s.now.trees S
 stands_when_open = Transactions.stands_when_open
 
--- what the last commit left stands for the content
+-- what the last commit left represents the content
 pub stands_committed : (s : State) (S : Content) → HasContent s S → IsTrue s.is_open → IsDatabase s.committed → (db : Trees) → db ≡ s.committed.trees → StandsFor db S
 stands_committed = Transactions.stands_committed
 
@@ -57,11 +57,11 @@ one_content = Transactions.one_content
 
 -- ---- why a call fails
 
--- where a value was given nothing failed
+-- if a value was given, nothing failed
 pub served : {X E : Type 0} (P : E → Type 0) (r : Result X E) → IsOk r → IfErr r P
 served = Causes.served
 
--- what holds anyway holds where a value was given
+-- what holds anyway holds if a value was given
 pub always : {X E Q : Type 0} (r : Result X E) → Q → OnOk r Q
 always = ByKeys.always
 
@@ -73,7 +73,7 @@ handed_on = HandedOn.handed_on
 pub statement_failed : {X : Type 0} (old new : State) (r : Result X Failure) (f : Failure) → IsErrAnd r (λ told. told ≡ f) → IsExcused old new f → IfErr r (IsExcused old new)
 statement_failed = HandedOn.statement_failed
 
--- nor where it is handed on
+-- nor if it is handed on
 pub memory_handed_on : {X : Type 0} (old new : State) (r : Result X Failure) (e : Failure) → IsErrAnd r (λ told. told ≡ e) → e ≡ failure.NoMemory → IfErr r (IsExcused old new)
 memory_handed_on = HandedOn.memory_handed_on
 

@@ -42,11 +42,11 @@ module _ (old start : State) (is : start ≡ begun old) (middle new : State) whe
       first (inl h) = second (one.crash clean_middle db h)
       first (inr h) = absurd h
 
--- what a commit makes stands for the content
+-- what a commit makes represents the content
 pub stands_when_open : (s : State) (S : Content) → SeesContent s S → IsTrue s.is_open → IsDatabase s.now → StandsFor s.now.trees S
 stands_when_open s S sees is_open sound = record { right = sees.right; stores = stored_sees s (rows_of S) is_open sound sees.rows }
 
--- what the last commit left stands for the content
+-- what the last commit left represents the content
 pub stands_committed : (s : State) (S : Content) → HasContent s S → IsTrue s.is_open → IsDatabase s.committed → (db : Trees) → db ≡ s.committed.trees → StandsFor db S
 stands_committed s S has is_open sound db is = record { right = has.right; stores = subst (λ d. Stores d (rows_of S)) (sym is) (stored_has s (rows_of S) is_open sound has.rows) }
 

@@ -107,7 +107,7 @@ as_many (a ∷ all) = ap suc (as_many all)
 pub all_have_place : (all : List StoredAnswer) (rows : Rows) → Lists all rows → AnswersFit rows → 1 + length all ≤ 2 ^ 63
 all_have_place all rows listed fit = let same : length (entries rows.answers) ≡ length all = ap length listed ∙ as_many all in let few = fit.few in omega (arith, same, few)
 
--- where there is room for more, there is for one
+-- if there is room for more, there is for one
 pub place_for_one : (n : ℕ) (rows : List Row) → 1 ≤ n → Rises 1 n rows → Rises 1 1 rows
 place_for_one n rows some room = (room_in_less (λ _. rows) 1 n some (room, room, room)).2
 

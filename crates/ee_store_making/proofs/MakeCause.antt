@@ -45,7 +45,7 @@ stopped stop (inr rest) = inr rest
 pub never_given : {A : Type 0} (a : A) (stop : Option Error) → ◌≡◌ {A = Result A (Option Error)} (Err stop) (Ok a) → ⊥
 never_given a stop is = let h = is in cc
 
--- ---- a write is run where it stands
+-- ---- a write is run if it stands
 
 misplaced_never : (s : State) (command : Command) (e : Error) → IsWrite command → ¬ IsMisplaced s command e
 misplaced_never s command e writes (inl (told, inl (is, inside))) = subst IsWrite is writes

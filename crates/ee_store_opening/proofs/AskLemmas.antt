@@ -1,4 +1,4 @@
--- Texts that write nothing, whatever tables there are, and what is kept where they are asked.
+-- Texts that write nothing, whatever tables there are, and what is kept if they are asked.
 use Rattle.std.proofs.Common.{◌≡◌, inl, inr, ℕ, List, [], ◌∷◌, ◌++◌, codes, Bool, true, false, None, Option, Ok, Err, Result, refl, sym, ap, subst, ◌∙◌}
 use Rattle.std.specs.Prelude.{IsSome, if◌then◌else◌, All}
 use Rattle.sqlite.specs.Order.{Row}

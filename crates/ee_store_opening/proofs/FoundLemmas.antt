@@ -39,7 +39,7 @@ module _ {A K X : Type 0} (R : K → K → Ordering) (total : IsTotalOrder R) (e
       let two = and_parts _ _ up in
       join _ _ (ap is_lt low) (above k b rest (total.trans k (entry a).0 (entry b).0 low (less _ two.0)) two.1)
 
-  -- where each comes before the next, each comes before all later ones
+  -- if each comes before the next, each comes before all later ones
   pub sorted_if_rises : (list : List A) → rises precedes list ≡ true → T (is_sorted R (map entry list))
   sorted_if_rises [] up = tt
   sorted_if_rises (a ∷ []) up = tt

@@ -40,7 +40,7 @@ module _ (tree : ℕ) (terms : List Term) (order : List (Term × Key)) where
   each [] = refl
   each (r ∷ rows) = ap (λ more. shown_by terms r ∷ more) (each rows)
 
--- a table of the store, where the query has none of its own
+-- a table of the store, if the query has none of its own
 stored_tree : (db : Trees) (t : ℕ) → overlay db [] t ≡ db t
 stored_tree db t = ap (λ o. unwrap_or o (db t)) (none_given (nat_le (2 ^ 31) t))
   where
@@ -71,7 +71,7 @@ still s is_open = (record { was_open = is_open; is_open = is_open; now_is = refl
 ends_alone : (body : Query) (names : List (List ℕ)) (command : Command) (db : Database) (params : Row) → command ≡ Select (record { lets = []; body = body }) names → EndsIn command db params
 ends_alone body names command db params is = subst (λ k. EndsIn k db params) (sym is) tt
 
--- where an answer begins with rows of which some can't be read, no whole answer can be
+-- if an answer begins with rows of which some can't be read, no whole answer can be
 pub unreadable : (IsReadable : Row → Type 0) (s : State) (schema : Schema) (text : List ℕ) (tree : ℕ) (terms : List Term) (order : List (Term × Key)) → AsksForAll schema text tree terms order → s.now.schema ≡ schema
     → IsTrue s.is_open → ShowsUnreadable IsReadable text s → ¬ ((rows : List Row) → IsAnswer (whole_table tree terms order) (overlay s.now.trees []) [] rows → All IsReadable rows)
 unreadable IsReadable s schema text tree terms order asks has is_open begins can =

@@ -52,7 +52,7 @@ shows_version form old new rows found has stands shown =
     found_by_number desk_columns 0 version_query.project 1 [] (λ e. version_shown e.1) (λ r e one. rw (one 2) refl) old.now.trees rows.desk found refl (common form old.now.trees rows stands).desk
     ((reads_as version_text given_id old new (schema_of form) has _ (version_known form) (version_plain form) (unlisted (schema_of form) version_text version_query _ _ (version_is form)) found shown).answer Null)
 
--- ---- where the tables may be others
+-- ---- if the tables may be others
 
 -- the desk is the first table
 version_first : (more : List Table) (indexes : List Index) (views : List View)

@@ -47,7 +47,7 @@ module _ (old new : State) where
   excused none Broken h = inr h
   excused none Unstorable h = absurd (none h)
 
-  -- a failure of the store, where no row is too big
+  -- a failure of the store, if no row is too big
   pub store_fails : {too_big : Type 0} → ¬ too_big → (e : Error) → Fails old new too_big e → IsExcused old new (failure_of e)
   store_fails none e h = subst (λ e. IsExcused old new (failure_of e)) (sym h.1) (excused none h.0 h.2)
 
@@ -117,7 +117,7 @@ module _ (sql : List ℕ) (params : Row) (asked : IsAsked sql params) (old new :
     | inr shut ↦ shut_before old new shut (failure_of e)
   ]
 
-  -- a query of the tables fails where the device does
+  -- a query of the tables fails if the device does
   pub query_excused : {X : Type 0} → IsInside old → old.step_limit ≡ None → (result : Result X Error) → IfErr result (λ e. FailsToQuery sql params old new e ⊎ IsTooLate sql params old new e) → IfErr result (λ e. IsExcused old new (failure_of e))
   query_excused inside endless (Ok x) h = tt
   query_excused inside endless (Err e) h = fails inside endless e h
@@ -218,7 +218,7 @@ unique_in s has sound = subst (λ schema. Keeps Unique schema s.now.trees) has (
 
 module _ (sql : List ℕ) (params : Row) (returning : Option Returning) (command : Command) (written : IsWritten sql params returning command) (old new : State) (inside : IsInside old) (endless : old.step_limit ≡ None)
     (stays : IsTrue old.is_open → NeverStops old.now.trees params returning command) where
-  -- a write that never stops, in a transaction, fails where the device does
+  -- a write that never stops, in a transaction, fails if the device does
   pub stays_excused : returning ≡ None → (e : Error) → (IsTrue old.in_transaction → ExecutesInside 0 sql params old new (Err e)) → IsExcused old new (failure_of e)
   stays_excused quiet e runs = elim (cases_Bool old.is_open) [
     | inl is_open ↦ fails_inside sql params returning command written old new (stays is_open) (inside is_open).1 endless quiet e (runs (inside is_open).0)
@@ -230,7 +230,7 @@ module _ (sql : List ℕ) (params : Row) (returning : Option Returning) (command
   goes_on : IsTrue old.is_open → NeverStops old.now.trees params returning command
   goes_on is_open = let seen = sees is_open in let sound = room is_open in stays seen.1 (unique_in old seen.0 sound.0) sound.1
 
-  -- a write in a transaction fails where the device does
+  -- a write in a transaction fails if the device does
   pub write_excused : returning ≡ None → (e : Error) → (IsTrue old.in_transaction → ExecutesInside 0 sql params old new (Err e)) → IsExcused old new (failure_of e)
   write_excused = stays_excused sql params returning command written old new inside endless goes_on
 
@@ -247,7 +247,7 @@ excused_after old middle new counts is_open NoMemory h = tt
 excused_after old middle new counts is_open StoreFailed (inl more) = inl (omega (arith, counts, more))
 excused_after old middle new counts is_open StoreFailed (inr shut) = absurd (true≢false (sym is_open ∙ shut))
 
--- so it is where the store may have been shut before
+-- the same if the store may have been shut before
 pub excused_from : {X : Type 0} (old middle new : State) (result : Result X Failure) → old.faults ≤ middle.faults → (IsTrue old.is_open → IsTrue middle.is_open) → IfErr result (IsExcused middle new) → IfErr result (IsExcused old new)
 excused_from old middle new (Ok x) counts stays h = tt
 excused_from old middle new (Err e) counts stays h = elim (cases_Bool old.is_open) [

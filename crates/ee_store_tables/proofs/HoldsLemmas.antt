@@ -84,7 +84,7 @@ module _ {K X : Type 0} {R : K → K → Ordering} (total : IsTotalOrder R) (ant
     hits : map (λ (p : Stored). p.1) (filter has_key h.numbered) ≡ option_to_list (option_map (λ x. (k, x)) (get m k))
     hits = sym (filter-map (tied R total k) (λ (p : Stored). p.1) h.numbered) ∙ entries_hit
 
-    -- where a key has no entry, no row has it
+    -- if a key has no entry, no row has it
     pub never_tied : get m k ≡ None → list_any (tied R total k) (map (λ (p : Stored). p.1) h.numbered) ≡ true → ⊥
     never_tied none any = let e = sym (none_pass (tied R total k) _ (entries_hit ∙ ap (λ o. option_to_list (option_map (λ x. (k, x)) o)) none)) ∙ any in cc
 

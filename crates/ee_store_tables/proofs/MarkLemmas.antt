@@ -65,7 +65,7 @@ module _ (k : ℕ × ℕ) (t : ℕ) (db : Trees) (rows : Rows) (stands : Holds d
       ap (λ all. edit_of db bonds (ids_of all) Given 1 all) (answered (Some (i, (k, x))) one)
       ∙ ap (mark_edit (i ∷ [])) (rw (cast_integer i, cast_int k.0, cast_int k.1, cast_int x.denom, cast_int x.issued, cast_int x.owner, cast_optional x.coowner, cast_int t) refl)
 
--- where the bond is
+-- if the bond is registered
 pub bond_there : (k : ℕ × ℕ) (db : Trees) (rows : Rows) (stands : Holds db rows) (x : BondRow) → get rows.bonds k ≡ Some x
     → (i : ℤ) × (filter (has_key pair_total pair_same (stored bond_columns) (λ _. refl) k (db 2) rows.bonds stands.bonds) stands.bonds.numbered ≡ (i, (k, x)) ∷ [])
 bond_there k db rows stands x is = hit_row pair_total pair_same (stored bond_columns) (λ _. refl) k (db 2) rows.bonds stands.bonds x is

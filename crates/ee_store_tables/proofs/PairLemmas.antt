@@ -202,7 +202,7 @@ module _ {E : Type 0} where
           | inr miss ↦ let rest = rw miss at e in later_one id h ps all.1 rest
         ]
 
-    -- where one row passes a test, the rows of other rowids are those that fail it
+    -- if one row passes a test, the rows of other rowids are those that fail it
     pub others_fail : (h : Numbered E) (ps : List (Numbered E)) → AreApart ps → filter test ps ≡ h ∷ [] → filter (λ p. not (int_eq p.0 h.0)) ps ≡ filter (λ p. not (test p)) ps
     others_fail h [] up e = absurd cc
     others_fail h (p ∷ ps) up e =

@@ -36,7 +36,7 @@ use Rattle.ee_store_tables.proofs.HoldsLemmas.{pair_total, pair_same, adds_row}
 use Rattle.ee_store_tables.proofs.RoomLemmas.{rises_less, room_put}
 use Rattle.ee_store_tables.proofs.WriteLemmas.{cast_int, cast_null, went, same_value, not_so, not_foreign, Same, with_paid as with_paid_rows}
 
--- the row of a line, where a table has these rows before it
+-- the row of a line, if a table has these rows before it
 abbrev pub line_row : List Row → ℕ → ℕ → PaidRow → Row
 line_row rows t place x = stored paid_columns (next_rowid rows, ((t, place), x))
 

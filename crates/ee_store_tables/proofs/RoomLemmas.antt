@@ -17,7 +17,7 @@ use Rattle.ee_store_tables.specs.Rows.{Rises, HasRoom}
 use Rattle.ee_store_tables.proofs.SelectLemmas.{cmp_pos}
 use Rattle.ee_store_tables.proofs.WriteLemmas.{Same}
 
--- where less is asked for, there is as much room
+-- if less is asked for, there is as much room
 pub rises_less : (low m n : ℕ) → m ≤ n → (rows : List Row) → Rises low n rows → Rises low m rows
 rises_less low m n less [] h = omega (arith, less, h)
 rises_less low m n less (r ∷ rows) h = (h.0, h.1, h.2, rises_less (h.0 + 1) m n less rows h.3)
@@ -86,7 +86,7 @@ put_first low n i below new is (r ∷ rows) h =
     let greater : value_cmp (rowid r) (rowid new) ≡ Greater = rw (h.1, is) (cmp_pos h.0 i ∙ below_all i h.0 (omega (arith, h.2, below))) in
     ap (λ o. match_ordering o (r ∷ put_row new rows) (new ∷ rows) (new ∷ r ∷ rows)) greater
 
--- where a rowid is, it is a whole number
+-- a rowid is a whole number, if there is one
 pub whole_rowid : (low n : ℕ) (i : ℤ) (rows : List Row) → Rises low n rows → list_any (has_rowid i) rows ≡ true → (j : ℕ) × (i ≡ pos j) × (j < 2 ^ 63)
 whole_rowid low n i [] h hit = absurd cc
 whole_rowid low n i (r ∷ rows) h hit = elim (cases_Bool (has_rowid i r)) [
@@ -97,7 +97,7 @@ whole_rowid low n i (r ∷ rows) h hit = elim (cases_Bool (has_rowid i r)) [
     same : (i : ℤ) (j : ℕ) → is_eq (value_cmp (Int (pos j)) (Int i)) ≡ true → i ≡ pos j
     same i j e = let k = sym (ap is_eq (value_cmp-Int (pos j) i)) ∙ e in grind (arith, ints)
 
--- a row and those after it, where it is kept or dropped
+-- a row and those after it, if it is kept or dropped
 abbrev left : ℤ → Row → List Row → Bool → List Row
 left i r rows b = cond (not b) (r ∷ without_rowid i rows) (without_rowid i rows)
 

@@ -34,7 +34,7 @@ small n v h below =
     let positive : 0 < 10 = omega arith in
     let power : 10 ^ n ≤ 10 ^ 19 = pow-le-pow_right positive few in omega (arith, power, below)
 
--- `parse` fails on such digits only where there are none
+-- `parse` fails on such digits only if there are none
 pub not_parsed : {E : Type 0} (cs : List ℕ) (r : Result ℕ E) (e : E) → list_all is_ascii_digit cs ≡ true → length cs ≤ 19 → ParsesUnsigned 64 10 cs r → r ≡ Err e → number_text cs ≡ None
 not_parsed [] r e all short p is = refl
 not_parsed (c ∷ cs) r e all short p is =

@@ -123,11 +123,11 @@ pub applied_are_books_after : (books : PlainBooks) (asked : Act)
 applied_are_books_after = Seeing.applied_is
 
 -- ---- refusals
--- where the first refusal of tests is none, none of them refuses
+-- if the first refusal of tests is none, none of them refuses
 pub no_test_refuses : (tests : List (Option Refusal)) → first tests ≡ None → AllByRecursion (λ t. t ≡ None) tests
 no_test_refuses = Soundness.no_refusal
 
--- where the first refusal of rows is none, no row is refused
+-- if the first refusal of rows is none, no row is refused
 pub no_row_refused : {A : Type 0} (refusal : A → Option Refusal) (rows : List A) → first_of refusal rows ≡ None
     → AllByRecursion (λ row. refusal row ≡ None) rows
 no_row_refused = Soundness.all_of
@@ -153,7 +153,7 @@ pub redeem_on_open_day : (books : PlainBooks) (day payee : ℕ) (ss : List Seria
 redeem_on_open_day = Soundness.redeem_opened
 
 -- ---- one ticket more
--- a serial number is paid by the ticket that paid it, else by the new one where that names it
+-- a serial number is paid by the ticket that paid it, else by the new one if that names it
 pub ticket_of_push : (tickets : List Ticket) (t : Ticket) (q : SerialNumber)
     → ticket_of (tickets ++ t ∷ []) q ≡ option_or (ticket_of tickets q) (cond (names q t) (Some t.ticket) None)
 ticket_of_push = Tickets.ticket_of_push
@@ -185,7 +185,7 @@ some_from_is_some = Soundness.some_is
 pub none_from_is_none : {A : Type 0} (o : Option A) → is_none o ≡ true → o ≡ None
 none_from_is_none = Soundness.none_is
 
--- where one or the other is none, both are
+-- if one or the other is none, both are
 pub none_from_option_or : {A : Type 0} (x y : Option A) → option_or x y ≡ None → (x ≡ None) × (y ≡ None)
 none_from_option_or = Soundness.or_none
 
@@ -193,6 +193,6 @@ none_from_option_or = Soundness.or_none
 pub none_from_option_map : {A B : Type 0} (f : A → B) (o : Option A) → option_map f o ≡ None → o ≡ None
 none_from_option_map = Soundness.mapped_none
 
--- where a test that would give a value gave none, it failed, and the rest is none
+-- if a test that would give a value gave none, it failed, and the rest is none
 pub none_from_cond : {A : Type 0} (b : Bool) (r : A) (rest : Option A) → cond b (Some r) rest ≡ None → (b ≡ false) × (rest ≡ None)
 none_from_cond = Soundness.test_passed

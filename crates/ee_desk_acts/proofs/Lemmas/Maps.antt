@@ -31,7 +31,7 @@ serials_total = Maps.serials_total
 pub serials_exact : CmpEqualImpliesEq serial_cmp
 serials_exact = Maps.exact_serials
 
--- they compare alike just where they are the same
+-- they compare as equal only if they are the same
 pub serials_tied : (s q : SerialNumber) → is_at (serial_cmp s) q ≡ same_serial s q
 serials_tied = Maps.serials_tied
 
@@ -69,7 +69,7 @@ same_number-self = RequestNumbers.number_self
 pub all_weaker : {A : Type 0} (P Q : A → Type 0) → ((x : A) → P x → Q x) → (xs : List A) → AllByRecursion P xs → AllByRecursion Q xs
 all_weaker = Maps.all_map
 
--- where all elements have one property and another, they have both
+-- if all elements have one property and another, they have both
 pub all_both : {A : Type 0} (P Q : A → Type 0) (xs : List A) → AllByRecursion P xs → AllByRecursion Q xs → AllByRecursion (λ x. P x × Q x) xs
 all_both = Maps.all_both
 

@@ -53,7 +53,7 @@ content_after-kept = KeptReplies.stays
 pub get_kept : (es : List (Number × Kept)) (n : Number) → finite.get (finite.from_entries {R = number_cmp} es) n ≡ lookup (is_at (number_cmp n)) es
 get_kept = KeptReplies.get_kept
 
--- one reply more is found at its number, and the others where they were
+-- one reply more is found at its number, and the others if they were
 pub get_kept-insert : (kept : FinMap number_cmp Kept) (n : Number) (k : Kept) (m : Number)
     → finite.get (finite.insert kept n k) m ≡ cond (same_number m n) (Some k) (finite.get kept m)
 get_kept-insert = Repeats.get_more

@@ -15,7 +15,7 @@ begun_blank old settled blank is_open = (ap (λ (d : Database). d.schema) (settl
 pub sees_none : (old start : State) → start ≡ begun old → (IsTrue old.is_open → old.now ≡ old.committed) → IsBlank old → SeesTables start no_tables
 sees_none old start is settled blank = subst (λ s. SeesTables s no_tables) (sym is) (begun_blank old settled blank)
 
--- a store was open where a transaction on it is open later
+-- a store was open if a transaction on it is open later
 pub was_open : (old start middle : State) → start ≡ begun old → KeepsCommit start middle → IsTrue middle.is_open → IsTrue old.is_open
 was_open old start middle is keeps is_open = subst (λ (s : State). IsTrue s.is_open) is (keeps.was_open is_open)
 

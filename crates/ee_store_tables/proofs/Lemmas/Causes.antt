@@ -36,7 +36,7 @@ no_references = RefusalLemmas.no_references
 pub empty_has_room : (n : ℕ) → 1 + n ≤ 2 ^ 63 → Rises 1 n []
 empty_has_room n few = few
 
--- where less is asked for, there is as much room
+-- if less is asked for, there is as much room
 pub room_less : (s : State) (m n : ℕ) → m ≤ n → HasRoom n s → HasRoom m s
 room_less = RoomLemmas.room_less
 

@@ -65,13 +65,13 @@ found_by_number = ReadLemmas.found_by_number
 pub cmp_pos : (m n : ℕ) → value_cmp (Int (pos m)) (Int (pos n)) ≡ nat_cmp m n
 cmp_pos = SelectLemmas.cmp_pos
 
--- ---- rows that stand for a map
+-- ---- rows that represent a map
 -- a new row at its key is the map with that key put in
 pub adds_keyed : {X : Type 0} (columns : X → Row) (n : ℕ) (rows : List Row) (m : FinMap nat_cmp X) (h : HoldsMap columns rows m) (x : X)
     → is_taken rows (row_of columns (pos n, (n, x))) ≡ false → HoldsMap columns (put_row (row_of columns (pos n, (n, x))) rows) (insert m n x)
 adds_keyed = KeyedLemmas.adds_keyed
 
--- where each identity is the key, rows are those of the keys
+-- if each identity is the key, rows are those of the keys
 pub keyed_same : {X : Type 0} (columns : X → Row) (rows : List Row) (numbered : List (ℤ × (ℕ × X))) → AllByRecursion (λ p. p.0 ≡ pos p.1.0) numbered
     → AreRows (row_of columns) rows numbered
     → AreRows (λ p. row_of columns (pos p.1.0, p.1)) rows numbered

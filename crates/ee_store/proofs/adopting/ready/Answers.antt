@@ -194,7 +194,7 @@ returns-in_err-all-clause-waits g c clean =
 pub returns-in_err-all-clause-ready : goal.returns-in_err-all-clause-ready
 returns-in_err-all-clause-ready g c is = (c.in_err-all.ensures.outside is.0, c.in_err-all.ensures.crash.limit ∙ is.1)
 
--- ---- they stand for no content
+-- ---- they represent no content
 pub returns-in_err-tested-clause-kept : goal.returns-in_err-tested-clause-kept
 returns-in_err-tested-clause-kept g c clean =
     on_err_from c.from_residual-in_err-tested.result (c.in_ok-all.ensures.kept clean)

@@ -83,7 +83,7 @@ returns-in-None-clause-cause g c clean starts limit =
     excused_if_open old new _ (λ is_open.
     absurd (none_found old settled c.schema.result.now c.schema.ensures.value (λ form is. let e = sym c.in-None.is ∙ (c.form_of.ensures form).1 is in cc) starts.1 is_open))
 
--- it is in no transaction where it is read
+-- it is read in no transaction
 pub returns-in-Some-clause-inside : goal.returns-in-Some-clause-inside
 returns-in-Some-clause-inside g c =
     let apart = not-true (state g.S.Store c.args.conn.now).in_transaction (sym c.is_autocommit.ensures.value ∙ c.if-not-is_autocommit.false) in
