@@ -1,4 +1,4 @@
-//! Calls over bytes in memory, where no read fails and a slice is full only at its end. Each function has that as a
+//! Calls over bytes in memory: no read fails, and a slice is full only at its end. Each function has that as a
 //! clause, which follows from the clauses of the call alone.
 
 ghost use Rattle.std.specs.Prelude.{◌≢◌, IfErr};
