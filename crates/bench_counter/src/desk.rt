@@ -5,7 +5,7 @@ use crate::requests::{
 };
 use anyhow::Result;
 use ee_counter::run;
-use ee_desk_acts::{Act, Reply, Request, Unserved};
+use ee_desk_model::{Act, Reply, Request, Unserved};
 use ee_keeper::ListKeeper;
 use std::alloc::Global;
 use std::time::Instant;

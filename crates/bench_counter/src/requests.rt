@@ -2,7 +2,7 @@
 
 use anyhow::{Context, Result};
 use ee_calculator::Bond;
-use ee_desk_acts::{Act, Desk, Number, RateRow, Reply, Request, Rows, Unserved};
+use ee_desk_model::{Act, Desk, Number, RateRow, Reply, Request, Rows, Unserved};
 use ee_units::{Customer, Day, Rate, Serial};
 use ee_value::Rates;
 use std::alloc::Global;

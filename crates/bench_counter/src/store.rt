@@ -3,7 +3,7 @@
 use crate::requests::{Size, Sum, ask, count_of_imports, day, import, paid, rates, redemptions};
 use anyhow::{Context, Result, bail};
 use ee_counter::run;
-use ee_desk_acts::{Act, Reply, Request};
+use ee_desk_model::{Act, Reply, Request};
 use ee_keeper::Keeper;
 use ee_store::SqlKeeper;
 use sqlite::{Alter, Connection, MemStore};

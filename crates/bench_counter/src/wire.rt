@@ -3,7 +3,7 @@
 ghost use Rattle.std.specs.Prelude.{⊤};
 
 use anyhow::Result;
-use ee_device::Source;
+use ee_io::Source;
 use ee_wire_calls::decode;
 use ee_wire_framing::{Buffer, Next, WireEnd, next_message};
 use std::alloc::{AllocError, Global};

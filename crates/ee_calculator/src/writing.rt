@@ -2,7 +2,7 @@
 
 ghost use Rattle.std.specs.Prelude.{◌≡◌, ◌*◌, ◌≤◌, ◌++◌, [], length, false, is_ok, OnErr};
 ghost use Rattle.std.specs.List.{flat_map};
-ghost use Rattle.ee_device.specs.Written.{WritesFront};
+ghost use Rattle.ee_io.specs.Written.{WritesFront};
 ghost use Rattle.ee_calculator.specs.Lines.{cell_of};
 ghost use Rattle.ee_calculator.specs.Sheets.{heading as heading_cell, line as line_text, placed, row_cell, sheet_text};
 
@@ -10,7 +10,7 @@ use crate::cells::{Cell, heading, row_cell, total_cell};
 use crate::columns::{COLUMNS, Column, LineText, push_placed};
 use crate::rows::Row;
 use crate::sheets::Sheet;
-use ee_device::{Sink, write_whole};
+use ee_io::{Sink, write_whole};
 use thiserror::Error;
 
 /// A writer failed. It has taken a front of the text, and not all of it.

@@ -3,7 +3,7 @@ use Rattle.std.proofs.Common.{◌≡◌, ◌⊎◌, ◌||◌, Bool, true, false,
 use Rattle.std.specs.Io.KnownBytes.{Appends}
 use Rattle.std.proofs.KnownBytes.{Appends-trans}
 use Rattle.std.proofs.Math.Bool.{or-false}
-use Rattle.ee_desk_acts.specs.Repeats.{Content}
+use Rattle.ee_desk_model.specs.Repeats.{Content}
 use Rattle.ee_counter.specs.declared.connections.Ended.{Ended}
 use Rattle.ee_counter.specs.declared.connections.Why.{Why}
 use Rattle.ee_counter.specs.declared.connections.Why.TheVariants.{Closed, Asked, Limit, Fault, ReadFailed, WriteFailed, NoMemory}

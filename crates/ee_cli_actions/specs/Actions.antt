@@ -1,13 +1,13 @@
 -- What the commands over a store do, given a content of the store. `Has` is the relation of contents that it then has.
 use Rattle.std.specs.Prelude.{◌≡◌, ℕ, List, Option, Result, Ok, Err, true, false}
-use Rattle.ee_device.specs.Written.{WritesFront}
+use Rattle.ee_io.specs.Written.{WritesFront}
 use Rattle.ee_calculator.specs.Sheets.{sheet_text}
 use Rattle.ee_calculator.specs.declared.sheets.Sheet.{Sheet}
-use Rattle.ee_desk_acts.specs.Numbers.{Number}
-use Rattle.ee_desk_acts.specs.Repeats.{Content}
-use Rattle.ee_desk_acts.specs.declared.acts.Act.TheVariants as act
-use Rattle.ee_desk_acts.specs.declared.replies.Reply.{Reply}
-use Rattle.ee_desk_acts.specs.declared.refusals.Unserved.{Unserved}
+use Rattle.ee_desk_model.specs.Numbers.{Number}
+use Rattle.ee_desk_model.specs.Repeats.{Content}
+use Rattle.ee_desk_model.specs.declared.acts.Act.TheVariants as act
+use Rattle.ee_desk_model.specs.declared.replies.Reply.{Reply}
+use Rattle.ee_desk_model.specs.declared.refusals.Unserved.{Unserved}
 use Rattle.ee_files.specs.RateFile.{rates_of_file}
 use Rattle.ee_files.specs.BondFile.{bonds_of_file}
 use Rattle.ee_keeper.specs.Keeping.{IsInventory, Shows}

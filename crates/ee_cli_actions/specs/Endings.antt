@@ -1,9 +1,9 @@
 -- How a command ends, by what happened.
 use Rattle.std.specs.Prelude.{◌≡◌, Result, Ok, Err, if◌then◌else◌}
-use Rattle.ee_desk_acts.specs.declared.refusals.Unserved.{Unserved}
-use Rattle.ee_desk_acts.specs.declared.refusals.Unserved.TheVariants as unserved
-use Rattle.ee_desk_acts.specs.declared.replies.Reply.{Reply}
-use Rattle.ee_desk_acts.specs.declared.replies.Reply.TheVariants as reply
+use Rattle.ee_desk_model.specs.declared.refusals.Unserved.{Unserved}
+use Rattle.ee_desk_model.specs.declared.refusals.Unserved.TheVariants as unserved
+use Rattle.ee_desk_model.specs.declared.replies.Reply.{Reply}
+use Rattle.ee_desk_model.specs.declared.replies.Reply.TheVariants as reply
 use Rattle.ee_files.specs.declared.faults.FileCode.TheVariants.{ReadFailed}
 use Rattle.ee_files.specs.declared.faults.FileFault.{FileFault}
 use Rattle.ee_counter.specs.declared.connections.Ended.{Ended}

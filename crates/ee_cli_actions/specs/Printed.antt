@@ -1,7 +1,7 @@
 -- What commands print.
 use Rattle.std.specs.Prelude.{ℕ, ◌+◌, List, [], ◌∷◌, ◌++◌, codes}
 use Rattle.std.specs.Fmt.{decimal}
-use Rattle.ee_desk_acts.specs.declared.replies.Reply.{Reply}
+use Rattle.ee_desk_model.specs.declared.replies.Reply.{Reply}
 use Rattle.ee_desk_texts.specs.Texts.{reply_text}
 use Rattle.ee_wire_calls.specs.Faults.{code_of}
 use Rattle.ee_wire_calls.specs.declared.faults.WireFault.TheVariants.{Framing}

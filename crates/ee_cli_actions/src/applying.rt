@@ -1,13 +1,13 @@
 //! The command `apply`.
 
 ghost use Rattle.std.specs.Prelude.{◌≡◌, ◌⊎◌};
-ghost use Rattle.ee_desk_acts.specs.Repeats.{Content};
+ghost use Rattle.ee_desk_model.specs.Repeats.{Content};
 ghost use Rattle.ee_cli_actions.specs.Actions.{Applies};
 ghost use Rattle.ee_cli_actions.specs.Endings.{TellsDeviceOnlyIf, TellsFailureOnlyIf, ending_of};
 
 use crate::faults::{Outcome, RunFault, StoreFault};
 use ee_counter::{Ended, Why, serve};
-use ee_device::{Sink, Source};
+use ee_io::{Sink, Source};
 use ee_keeper::Keeper;
 use std::alloc::Global;
 

@@ -5,7 +5,7 @@ ghost use Rattle.ee_cli_actions.specs.Endings.{fault_of_unserved};
 
 pub use ee_cli_value::Outcome;
 use ee_cli_value::PrintFault;
-use ee_desk_acts::Unserved;
+use ee_desk_model::Unserved;
 use ee_files::FileFault;
 use std::alloc::AllocError;
 use thiserror::Error;

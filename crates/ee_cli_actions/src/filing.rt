@@ -1,8 +1,8 @@
 //! The commands `import` and `export`.
 
 ghost use Rattle.std.specs.Prelude.{◌≡◌, Ok, Err, IfOk, IfErr, string_bytes};
-ghost use Rattle.ee_desk_acts.specs.Repeats.{Content};
-ghost use Rattle.ee_desk_acts.specs.declared.refusals.Unserved.TheVariants.{StoreFailed};
+ghost use Rattle.ee_desk_model.specs.Repeats.{Content};
+ghost use Rattle.ee_desk_model.specs.declared.refusals.Unserved.TheVariants.{StoreFailed};
 ghost use Rattle.ee_counter.specs.Filing.{IsFailedRead};
 ghost use Rattle.ee_cli_actions.specs.Actions.{ExportsFrom, ImportsFile, ImportsInto, TellsReply};
 ghost use Rattle.ee_cli_actions.specs.Endings.{TellsDeviceOnlyIf, TellsFailureOnlyIf, TellsUnreadOnlyIf, outcome_of};
@@ -14,9 +14,9 @@ use crate::faults::{Outcome, RunFault};
 use crate::printing::print;
 use ee_cli_commands::FileKind;
 use ee_counter::{ExportFault, ImportFault, export_inventory, import_inventory, import_rates};
-use ee_desk_acts::{Desk, Number, Reply};
+use ee_desk_model::{Desk, Number, Reply};
 use ee_desk_texts::reply_text;
-use ee_device::{Sink, Source};
+use ee_io::{Sink, Source};
 use ee_keeper::Keeper;
 use ee_units::Customer;
 use std::alloc::{AllocError, Global};

@@ -1,10 +1,10 @@
 //! Printing a text.
 
 ghost use Rattle.std.specs.Prelude.{◌≡◌, IfErr, OnErr, is_ok};
-ghost use Rattle.ee_device.specs.Written.{WritesFront};
+ghost use Rattle.ee_io.specs.Written.{WritesFront};
 
 use crate::faults::RunFault;
-use ee_device::{Sink, write_whole};
+use ee_io::{Sink, write_whole};
 
 /// Prints the text: all of it, or only its front if the output failed, which is `Device`.
 pub fn print<W: Sink>(text: &str, output: &mut W) -> Result<(), RunFault>

@@ -1,7 +1,7 @@
 //! The command `serve`.
 
 ghost use Rattle.std.specs.Prelude.{◌≡◌, ◌⊎◌, true, IfOk, IfErr, string_bytes};
-ghost use Rattle.ee_desk_acts.specs.Repeats.{Content};
+ghost use Rattle.ee_desk_model.specs.Repeats.{Content};
 ghost use Rattle.ee_cli_actions.specs.Connections.{PrintsLine, ServesAll, ServesNext, ServesSocket};
 ghost use Rattle.ee_cli_actions.specs.Endings.{TellsFailureOnlyIf};
 ghost use Rattle.ee_cli_actions.specs.Printed.{connection_line};
@@ -11,7 +11,7 @@ use crate::patience::Patient;
 use crate::printing::print;
 use crate::reasons::Reason;
 use ee_counter::{Ended, Why, serve};
-use ee_device::Sink;
+use ee_io::Sink;
 use ee_keeper::Keeper;
 use std::alloc::{AllocError, Global};
 use std::net::{TcpListener, TcpStream};

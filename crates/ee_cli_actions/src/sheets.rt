@@ -1,8 +1,8 @@
 //! The command `sheet`.
 
 ghost use Rattle.std.specs.Prelude.{◌≡◌, Err, IfOk};
-ghost use Rattle.ee_desk_acts.specs.Repeats.{Content};
-ghost use Rattle.ee_desk_acts.specs.declared.refusals.Unserved.TheVariants.{StoreFailed};
+ghost use Rattle.ee_desk_model.specs.Repeats.{Content};
+ghost use Rattle.ee_desk_model.specs.declared.refusals.Unserved.TheVariants.{StoreFailed};
 ghost use Rattle.ee_cli_actions.specs.Actions.{ShowsSheet, TellsSheet};
 ghost use Rattle.ee_cli_actions.specs.Endings.{TellsDeviceOnlyIf, TellsFailureOnlyIf};
 ghost use Rattle.ee_cli_actions.specs.declared.faults.StoreFault.TheVariants as store;
@@ -10,8 +10,8 @@ ghost use Rattle.ee_cli_actions.specs.declared.faults.RunFault.TheVariants.{Stor
 
 use crate::faults::{Outcome, RunFault};
 use ee_calculator::{Sheet, write_sheet};
-use ee_desk_acts::Unserved;
-use ee_device::Sink;
+use ee_desk_model::Unserved;
+use ee_io::Sink;
 use ee_keeper::Keeper;
 use ee_units::{Customer, Month};
 

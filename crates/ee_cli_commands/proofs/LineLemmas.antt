@@ -14,7 +14,7 @@ use Rattle.ee_cli_commands.specs.Answer.{IsAnswer, Gives, Refuses, view_of}
 use Rattle.ee_cli_commands.specs.declared.commands.Command.{Command}
 use Rattle.ee_cli_commands.specs.declared.commands.CommandFault.{CommandFault}
 use Rattle.ee_cli_commands.specs.declared.commands.CommandFault.TheVariants as fault
-use Rattle.ee_desk_acts.proofs.Lemmas.Books.{some_from_is_some}
+use Rattle.ee_desk_model.proofs.Lemmas.Books.{some_from_is_some}
 
 pub is_plain : (k : Bor (List (Bor Text))) → is_simple (program k) ≡ true
 unfolding clap_on_literals

@@ -10,7 +10,7 @@ use Rattle.clap.specs.declared.builder.ValueParser.TheVariants as parser
 use Rattle.ee_units.specs.Spelling.{rate_of, month_of, issue_of, customer_of}
 use Rattle.ee_units.specs.Denoms.{denom_of}
 use Rattle.ee_units.specs.declared.denoms.Denom.{Denom}
-use Rattle.ee_desk_acts.specs.Desks.{desk_of}
+use Rattle.ee_desk_model.specs.Desks.{desk_of}
 use Rattle.ee_cli_commands.specs.declared.commands.FileKind.{FileKind}
 use Rattle.ee_cli_commands.specs.declared.commands.FileKind.TheVariants as kind
 

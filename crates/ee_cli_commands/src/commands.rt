@@ -10,7 +10,7 @@ use crate::rows::program;
 use crate::words::WordName;
 use clap::error::ErrorKind;
 use clap::{ArgMatches, Error};
-use ee_desk_acts::{Desk, Number};
+use ee_desk_model::{Desk, Number};
 use ee_units::{Customer, Denom, IssueMonth, Month, Rate};
 use std::alloc::{AllocError, Global};
 use std::convert::AsStr;

@@ -4,7 +4,7 @@ ghost use Rattle.std.specs.Prelude.{◌≡◌, ◌≤◌, IfOk, option_and_then,
 ghost use Rattle.clap.specs.Words.{first_of, found_of, one_of, rows_of};
 ghost use Rattle.ee_units.specs.Denoms.{denom_of};
 ghost use Rattle.ee_units.specs.Spelling.{customer_of, in_range, issue_of, month_of, rate_of};
-ghost use Rattle.ee_desk_acts.specs.Desks.{desk_of};
+ghost use Rattle.ee_desk_model.specs.Desks.{desk_of};
 ghost use Rattle.ee_cli_commands.specs.CommandLine.{
   kind_of_file,
   most_number,
@@ -21,7 +21,7 @@ ghost use Rattle.ee_cli_commands.specs.Answer.{Spells};
 
 use crate::commands::FileKind;
 use clap::ArgMatches;
-use ee_desk_acts::{Desk, Number, read_desk};
+use ee_desk_model::{Desk, Number, read_desk};
 use ee_units::{
     Customer, Denom, IssueMonth, Month, Rate, read_customer, read_denom, read_issue, read_month,
     read_rate,

@@ -2,7 +2,7 @@
 
 ghost use Rattle.std.specs.Prelude.{◌≡◌, IfOk, OnOk, None};
 ghost use Rattle.clap.specs.Words.{Text};
-ghost use Rattle.ee_desk_acts.specs.Repeats.{Content};
+ghost use Rattle.ee_desk_model.specs.Repeats.{Content};
 ghost use Rattle.ee_cli_actions.specs.Actions.{Applies, ExportsFrom, ImportsInto, ShowsSheet};
 ghost use Rattle.ee_cli_actions.specs.Connections.{ServesAll};
 ghost use Rattle.ee_cli_commands.specs.Answer.{view_of};
@@ -14,8 +14,8 @@ use crate::stores::Stores;
 use ee_cli_actions::{Outcome, RunFault, apply_to, export_from, sheet_of};
 use ee_cli_commands::{Command, FileKind};
 use ee_cli_value::print_value;
-use ee_desk_acts::{Desk, Number};
-use ee_device::{Sink, Source};
+use ee_desk_model::{Desk, Number};
+use ee_io::{Sink, Source};
 use ee_units::{Customer, Month};
 use ee_value::Rates;
 

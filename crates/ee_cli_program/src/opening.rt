@@ -1,15 +1,15 @@
 //! Opening the file of an import, and the port of a server.
 
 ghost use Rattle.std.specs.Prelude.{◌≡◌, IfOk, None};
-ghost use Rattle.ee_desk_acts.specs.Repeats.{Content};
+ghost use Rattle.ee_desk_model.specs.Repeats.{Content};
 ghost use Rattle.ee_cli_actions.specs.Actions.{ImportsInto};
 ghost use Rattle.ee_cli_actions.specs.Connections.{ServesAll};
 ghost use Rattle.ee_cli_program.specs.Stores.{Tries};
 
 use ee_cli_actions::{Outcome, RunFault, import_into, serve_on};
 use ee_cli_commands::FileKind;
-use ee_desk_acts::{Desk, Number};
-use ee_device::Sink;
+use ee_desk_model::{Desk, Number};
+use ee_io::Sink;
 use ee_keeper::Keeper;
 use std::fs;
 use std::net::TcpListener;

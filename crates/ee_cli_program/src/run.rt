@@ -4,7 +4,7 @@ ghost use Rattle.std.specs.Prelude.{◌≡◌, ◌≢◌, ◌⊎◌, ℕ, Ok, If
 ghost use Rattle.std.specs.Io.KnownBytes.{Appends};
 ghost use Rattle.std.specs.IoError.{error_kind};
 ghost use Rattle.clap.specs.Words.{Text};
-ghost use Rattle.ee_desk_acts.specs.Repeats.{Content};
+ghost use Rattle.ee_desk_model.specs.Repeats.{Content};
 ghost use Rattle.ee_cli_value.specs.Printed.{value_line};
 ghost use Rattle.ee_cli_commands.specs.Answer.{AsksForVersion, IsAsked};
 ghost use Rattle.ee_cli_commands.specs.CommandLine.{value};
@@ -18,8 +18,8 @@ use crate::stores::Stores;
 use ee_cli_actions::{RunFault, print};
 use ee_cli_commands::{CommandFault, VERSION, read_command};
 use ee_cli_value::{BAD_LINE, DONE, FAILED, conclude, report};
-use ee_device::{Sink, Source};
-use ee_store_opening::STORE_VERSION;
+use ee_io::{Sink, Source};
+use ee_store_load::STORE_VERSION;
 use std::alloc::{AllocError, Global};
 use std::io::{self, ErrorKind, Write};
 

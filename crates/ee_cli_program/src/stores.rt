@@ -1,7 +1,7 @@
 //! The stores of the program's commands.
 
 ghost use Rattle.std.specs.Prelude.{◌≡◌, List, IfOk, IfErr, ℕ};
-ghost use Rattle.ee_desk_acts.specs.Repeats.{Content};
+ghost use Rattle.ee_desk_model.specs.Repeats.{Content};
 
 use ee_cli_actions::{RunFault, StoreFault};
 use ee_keeper::Keeper;

@@ -1,6 +1,6 @@
 -- The fault of a store that isn't opened.
-use Rattle.ee_store_making.specs.declared.faults.OpenFault.{OpenFault}
-use Rattle.ee_store_making.specs.declared.faults.OpenFault.TheVariants as opening
+use Rattle.ee_store_schema.specs.declared.faults.OpenFault.{OpenFault}
+use Rattle.ee_store_schema.specs.declared.faults.OpenFault.TheVariants as opening
 use Rattle.ee_cli_actions.specs.declared.faults.StoreFault.TheVariants as store
 use Rattle.ee_cli_actions.specs.declared.faults.RunFault.{RunFault}
 use Rattle.ee_cli_actions.specs.declared.faults.RunFault.TheVariants as fault

@@ -1,6 +1,6 @@
 -- What is printed of a value, and how that ends.
 use Rattle.std.specs.Prelude.{◌≡◌, ℕ, List, Option, Result, Ok, Err, true, false}
-use Rattle.ee_device.specs.Written.{WritesFront}
+use Rattle.ee_io.specs.Written.{WritesFront}
 use Rattle.ee_units.specs.declared.denoms.Denom.{Denom}
 use Rattle.ee_value.specs.Open.{IsFirstOpen}
 use Rattle.ee_value.specs.declared.rates.Rates.{Rates}

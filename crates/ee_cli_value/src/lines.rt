@@ -5,7 +5,7 @@ ghost use Rattle.ee_cli_value.specs.Lines.{RunsLine, asked_by, extension_of, lin
 
 use crate::statuses::{conclude, report};
 use crate::values::print_value;
-use ee_device::Sink;
+use ee_io::Sink;
 use ee_units::{Denom, IssueMonth, Month, Rate, read_denom, read_issue, read_month, read_rate};
 use ee_value::Rates;
 use std::alloc::Global;

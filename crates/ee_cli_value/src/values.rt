@@ -9,7 +9,7 @@ ghost use Rattle.ee_cli_value.specs.Values.{PrintsValue};
 
 use crate::endings::{Outcome, PrintFault};
 use ee_calculator::{Note, plain_row};
-use ee_device::{Sink, write_whole};
+use ee_io::{Sink, write_whole};
 use ee_units::{Bits, Cents, Denom, IssueMonth, Month, calendar};
 use ee_value::{Rates, ValueFault, unit_table};
 use std::alloc::{AllocError, Global};

@@ -1,13 +1,13 @@
 -- Answers to a message.
 use Rattle.std.proofs.Common.{◌≡◌, ◌||◌, Bool, true, false, List, ℕ, refl, subst, Result, Ok, Err}
-use Rattle.ee_desk_acts.specs.Repeats.{Content}
+use Rattle.ee_desk_model.specs.Repeats.{Content}
 use Rattle.ee_wire_framing.specs.Framing.{Message}
 use Rattle.ee_wire_calls.specs.Calls.{decoded}
 use Rattle.ee_wire_calls.specs.declared.calls.Call.{Call}
 use Rattle.ee_wire_calls.specs.declared.calls.Call.TheVariants as call
 use Rattle.ee_wire_calls.specs.declared.calls.Query.TheVariants as ask
 use Rattle.ee_wire_calls.specs.declared.faults.WireFault.{WireFault}
-use Rattle.ee_desk_acts.specs.declared.refusals.Unserved.{Unserved}
+use Rattle.ee_desk_model.specs.declared.refusals.Unserved.{Unserved}
 use Rattle.ee_wire.specs.declared.answers.Answer.{Answer}
 use Rattle.ee_wire.specs.declared.answers.Answer.TheVariants as told
 use Rattle.ee_counter.specs.Answering.{call_of, IsAnswer, after_call, Answers}

@@ -1,7 +1,7 @@
 -- The answers to a stream are settled by its bytes.
 use Rattle.std.proofs.Common.{◌≡◌, ℕ, zero, suc, ◌+◌, List, [], ◌∷◌, ◌++◌, length, refl, sym, ap, subst, ◌∙◌, arith}
 use Rattle.std.specs.Prelude.{⊤}
-use Rattle.ee_desk_acts.specs.Repeats.{Content}
+use Rattle.ee_desk_model.specs.Repeats.{Content}
 use Rattle.ee_wire_framing.specs.Framing.{Message, BeginsMessages}
 use Rattle.ee_wire_framing.proofs.Lemmas.{same_message}
 use Rattle.ee_wire.specs.Answers.{answer_text}

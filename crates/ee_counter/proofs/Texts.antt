@@ -15,10 +15,10 @@ use Rattle.ee_calculator.specs.declared.rows.Row.{Row}
 use Rattle.ee_calculator.specs.declared.columns.Column.{Column}
 use Rattle.ee_calculator.specs.declared.columns.Column.TheVariants as column
 use Rattle.ee_calculator.specs.declared.sheets.Sheet.{Sheet}
-use Rattle.ee_desk_acts.specs.Repeats.{Content}
-use Rattle.ee_desk_acts.specs.Answers as desk
-use Rattle.ee_desk_acts.specs.Queries.{PlainRow, PlainSheet, shown_in_row, shown_in_sheet, ticket_numbered, batch_on}
-use Rattle.ee_desk_acts.specs.declared.acts.Request.{Request}
+use Rattle.ee_desk_model.specs.Repeats.{Content}
+use Rattle.ee_desk_model.specs.Answers as desk
+use Rattle.ee_desk_model.specs.Queries.{PlainRow, PlainSheet, shown_in_row, shown_in_sheet, ticket_numbered, batch_on}
+use Rattle.ee_desk_model.specs.declared.acts.Request.{Request}
 use Rattle.ee_wire_calls.specs.declared.calls.Call.{Call}
 use Rattle.ee_wire_calls.specs.declared.calls.Call.TheVariants as call
 use Rattle.ee_wire_calls.specs.declared.calls.Query.TheVariants as ask

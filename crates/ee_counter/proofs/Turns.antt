@@ -6,8 +6,8 @@ use Rattle.std.specs.ControlFlow.{MatchControlFlow}
 use Rattle.std.specs.List.{AllByRecursion}
 use Rattle.std.specs.Io.KnownBytes.{Appends, Consumes}
 use Rattle.std.proofs.KnownBytes.{Appends-nil, Appends-trans, Consumes-nil, Consumes-trans}
-use Rattle.ee_device.specs.Written.{WritesFront}
-use Rattle.ee_desk_acts.specs.Repeats.{Content}
+use Rattle.ee_io.specs.Written.{WritesFront}
+use Rattle.ee_desk_model.specs.Repeats.{Content}
 use Rattle.ee_wire_framing.specs.Stream.{Stream}
 use Rattle.ee_wire_framing.specs.Framing.{Message, BeginsMessage, BeginsMessages, EndsWith, end}
 use Rattle.ee_wire_framing.specs.Reading.{AreNeeded, message_in, NeedsMore, Settles, ShowsFault, Takes}

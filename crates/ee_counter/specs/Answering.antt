@@ -1,11 +1,11 @@
 -- The answer to a message, given a content of books and kept replies.
 use Rattle.std.specs.Prelude.{◌≡◌, [], ◌∷◌, Result, Ok, Err, ⊤}
-use Rattle.ee_desk_acts.specs.PlainBooks.{PlainBooks}
-use Rattle.ee_desk_acts.specs.Repeats.{Content}
-use Rattle.ee_desk_acts.specs.Contents.{content_after}
-use Rattle.ee_desk_acts.specs.Answers as desk
-use Rattle.ee_desk_acts.specs.Queries.{ticket_numbered, batch_on}
-use Rattle.ee_desk_acts.specs.declared.refusals.Unserved.{Unserved}
+use Rattle.ee_desk_model.specs.PlainBooks.{PlainBooks}
+use Rattle.ee_desk_model.specs.Repeats.{Content}
+use Rattle.ee_desk_model.specs.Contents.{content_after}
+use Rattle.ee_desk_model.specs.Answers as desk
+use Rattle.ee_desk_model.specs.Queries.{ticket_numbered, batch_on}
+use Rattle.ee_desk_model.specs.declared.refusals.Unserved.{Unserved}
 use Rattle.ee_keeper.specs.Keeping.{IsInventory, IsQuote}
 use Rattle.ee_wire_framing.specs.Framing.{Message}
 use Rattle.ee_wire_calls.specs.Calls.{decoded}

@@ -1,11 +1,11 @@
 -- Imports and exports of files.
 use Rattle.std.specs.Prelude.{◌≡◌, ℕ, List, length, Option, Some, Result, Ok, Err, true, false}
-use Rattle.ee_device.specs.Written.{WritesFront}
-use Rattle.ee_desk_acts.specs.declared.acts.Act.{Act}
-use Rattle.ee_desk_acts.specs.declared.replies.Reply.{Reply}
-use Rattle.ee_desk_acts.specs.Numbers.{Number, numbered}
-use Rattle.ee_desk_acts.specs.Repeats.{Content}
-use Rattle.ee_desk_acts.specs.Queries.{bonds_of}
+use Rattle.ee_io.specs.Written.{WritesFront}
+use Rattle.ee_desk_model.specs.declared.acts.Act.{Act}
+use Rattle.ee_desk_model.specs.declared.replies.Reply.{Reply}
+use Rattle.ee_desk_model.specs.Numbers.{Number, numbered}
+use Rattle.ee_desk_model.specs.Repeats.{Content}
+use Rattle.ee_desk_model.specs.Queries.{bonds_of}
 use Rattle.ee_keeper.specs.Keeping.{Delivers}
 use Rattle.ee_files.specs.Answers.{Gives}
 use Rattle.ee_files.specs.BondFile.{inventory_text}

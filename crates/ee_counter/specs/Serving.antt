@@ -5,9 +5,9 @@ use Rattle.std.specs.Option.{option_map_or}
 use Rattle.std.specs.declared.ops.ControlFlow.{ControlFlow}
 use Rattle.std.specs.declared.ops.ControlFlow.TheVariants.{Continue, Break}
 use Rattle.std.specs.Io.KnownBytes.{Appends, Consumes, IsAtEnd}
-use Rattle.ee_desk_acts.specs.declared.acts.Request.{Request}
-use Rattle.ee_desk_acts.specs.declared.refusals.Unserved.TheVariants.{StoreFailed}
-use Rattle.ee_desk_acts.specs.Repeats.{Content}
+use Rattle.ee_desk_model.specs.declared.acts.Request.{Request}
+use Rattle.ee_desk_model.specs.declared.refusals.Unserved.TheVariants.{StoreFailed}
+use Rattle.ee_desk_model.specs.Repeats.{Content}
 use Rattle.ee_wire_framing.specs.declared.FramingFault.{FramingFault}
 use Rattle.ee_wire_framing.specs.Framing.{Message, BeginsMessage, BeginsMessages, EndsWith, end}
 use Rattle.ee_wire_framing.specs.Reading.{AreNeeded, NeedsMore, ShowsFault, most_read}
@@ -15,7 +15,7 @@ use Rattle.ee_wire_calls.specs.declared.calls.Call.{Call}
 use Rattle.ee_wire_calls.specs.declared.calls.Call.TheVariants as call
 use Rattle.ee_wire_calls.specs.declared.faults.WireFault.{WireFault}
 use Rattle.ee_wire_calls.specs.declared.faults.WireFault.TheVariants.{Framing}
-use Rattle.ee_device.specs.Written.{WritesFront}
+use Rattle.ee_io.specs.Written.{WritesFront}
 use Rattle.ee_wire.specs.Answers.{answer_text}
 use Rattle.ee_wire.specs.declared.answers.Answer.{Answer}
 use Rattle.ee_wire.specs.declared.answers.Answer.TheVariants as told

@@ -1,7 +1,7 @@
 //! The answer to a message.
 
 ghost use Rattle.std.specs.Prelude.{◌≡◌, true, false, Ok, IfOk};
-ghost use Rattle.ee_desk_acts.specs.Repeats.{Content};
+ghost use Rattle.ee_desk_model.specs.Repeats.{Content};
 ghost use Rattle.ee_wire_calls.specs.Calls.{decoded};
 ghost use Rattle.ee_wire_calls.specs.declared.calls.Call.TheVariants as call;
 ghost use Rattle.ee_keeper.specs.Keeping.{FailsOnlyIf, Shows};
@@ -9,7 +9,7 @@ ghost use Rattle.ee_counter.specs.Answering.{ShowsQuery, Answers, AnswersUnless}
 ghost use Rattle.ee_counter.specs.Serving.{tells_failure};
 
 use crate::decoding::Decoder;
-use ee_desk_acts::{Request, Unserved};
+use ee_desk_model::{Request, Unserved};
 use ee_keeper::Keeper;
 use ee_wire::{Answer, Call, Query, WireFault};
 use std::alloc::Global;

@@ -2,15 +2,15 @@
 
 ghost use Rattle.std.specs.Prelude.{◌≡◌, ◌<◌, ◌≤◌, ◌+◌, ◌||◌, ◌==◌, true, None, ⊤};
 ghost use Rattle.std.specs.ControlFlow.{MatchControlFlow};
-ghost use Rattle.ee_desk_acts.specs.Repeats.{Content};
+ghost use Rattle.ee_desk_model.specs.Repeats.{Content};
 ghost use Rattle.ee_wire_framing.specs.Reading.{message_in};
 ghost use Rattle.ee_counter.specs.Answering.{Answers, call_of};
 ghost use Rattle.ee_counter.specs.Serving.{Serves, Turns, AnswersOne, DeviceFailsOnlyIf, FlowDeviceFailsOnlyIf, FlowFailsOnlyIf, Refuses, tells_failure};
 
 use crate::answering::answer_decoded;
 use crate::decoding::Decoder;
-use ee_desk_acts::Unserved;
-use ee_device::{Sink, Source};
+use ee_desk_model::Unserved;
+use ee_io::{Sink, Source};
 use ee_keeper::Keeper;
 use ee_wire::{
     Answer, Buffer, FramingFault, Message, Next, WireEnd, WireFault, WriteEnd, next_message,

@@ -1,17 +1,17 @@
 //! Imports and exports of files.
 
 ghost use Rattle.std.specs.Prelude.{◌≡◌, ℕ, List, Some, IfErr};
-ghost use Rattle.ee_desk_acts.specs.declared.acts.Act.TheVariants as act;
-ghost use Rattle.ee_desk_acts.specs.declared.refusals.Unserved.TheVariants.{StoreFailed};
-ghost use Rattle.ee_desk_acts.specs.Repeats.{Content};
-ghost use Rattle.ee_device.specs.ReadWhole.{TakesAtMost};
+ghost use Rattle.ee_desk_model.specs.declared.acts.Act.TheVariants as act;
+ghost use Rattle.ee_desk_model.specs.declared.refusals.Unserved.TheVariants.{StoreFailed};
+ghost use Rattle.ee_desk_model.specs.Repeats.{Content};
+ghost use Rattle.ee_io.specs.ReadWhole.{TakesAtMost};
 ghost use Rattle.ee_files.specs.BondFile.{bonds_of_file};
 ghost use Rattle.ee_files.specs.RateFile.{rates_of_file};
 ghost use Rattle.ee_counter.specs.Filing.{Imports, Exports, IsFailedRead};
 
-use ee_desk_acts::{Act, Desk, Number, Reply, Request, Rows, Unserved};
-use ee_device::{Sink, Source};
+use ee_desk_model::{Act, Desk, Number, Reply, Request, Rows, Unserved};
 use ee_files::{FileFault, WriteFault, read_inventory, read_rates, write_inventory};
+use ee_io::{Sink, Source};
 use ee_keeper::Keeper;
 use ee_units::Customer;
 use std::alloc::Global;

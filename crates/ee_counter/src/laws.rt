@@ -2,12 +2,12 @@
 
 ghost use Rattle.std.specs.Prelude.{◌≡◌, ℕ, [], Bool, List, Result, length};
 ghost use Rattle.std.specs.List.{AllByRecursion};
-ghost use Rattle.ee_desk_acts.specs.declared.acts.Request.{Request};
-ghost use Rattle.ee_desk_acts.specs.declared.replies.Reply.{Reply};
-ghost use Rattle.ee_desk_acts.specs.declared.refusals.Unserved.{Unserved};
-ghost use Rattle.ee_desk_acts.specs.Repeats.{Content};
-ghost use Rattle.ee_desk_acts.specs.Contents.{content_after};
-ghost use Rattle.ee_desk_acts.specs.Answers.{served, AreAnswers};
+ghost use Rattle.ee_desk_model.specs.declared.acts.Request.{Request};
+ghost use Rattle.ee_desk_model.specs.declared.replies.Reply.{Reply};
+ghost use Rattle.ee_desk_model.specs.declared.refusals.Unserved.{Unserved};
+ghost use Rattle.ee_desk_model.specs.Repeats.{Content};
+ghost use Rattle.ee_desk_model.specs.Contents.{content_after};
+ghost use Rattle.ee_desk_model.specs.Answers.{served, AreAnswers};
 ghost use Rattle.ee_wire_framing.specs.Framing.{Message, BeginsMessages};
 ghost use Rattle.ee_wire.specs.Answers.{answer_text};
 ghost use Rattle.ee_wire.specs.declared.answers.Answer.{Answer};

@@ -2,16 +2,16 @@
 
 ghost use Rattle.std.specs.Prelude.{◌≡◌, [], length, IfOk, OnErr};
 ghost use Rattle.std.specs.List.{AllByRecursion};
-ghost use Rattle.ee_desk_acts.specs.Repeats.{Content};
-ghost use Rattle.ee_desk_acts.specs.Paid.{paid_lines, NoneTwice, ArePaidRight};
-ghost use Rattle.ee_desk_acts.specs.Sound.{IsSound};
-ghost use Rattle.ee_desk_acts.specs.Conserved.{IsConserved};
-ghost use Rattle.ee_desk_acts.specs.Contents.{content_after, books_after};
-ghost use Rattle.ee_desk_acts.specs.Answers.{served, AreAnswers};
+ghost use Rattle.ee_desk_model.specs.Repeats.{Content};
+ghost use Rattle.ee_desk_model.specs.Paid.{paid_lines, NoneTwice, ArePaidRight};
+ghost use Rattle.ee_desk_model.specs.Sound.{IsSound};
+ghost use Rattle.ee_desk_model.specs.Conserved.{IsConserved};
+ghost use Rattle.ee_desk_model.specs.Contents.{content_after, books_after};
+ghost use Rattle.ee_desk_model.specs.Answers.{served, AreAnswers};
 ghost use Rattle.ee_keeper.specs.Keeping.{FailsOnlyIf};
 
 use crate::soundness::known;
-use ee_desk_acts::{Reply, Request, Unserved};
+use ee_desk_model::{Reply, Request, Unserved};
 use ee_keeper::Keeper;
 use std::alloc::{AllocError, Global};
 

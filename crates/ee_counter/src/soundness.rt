@@ -1,9 +1,9 @@
 //! What holds for the books of every keeper.
 
-ghost use Rattle.ee_desk_acts.specs.Repeats.{Content};
-ghost use Rattle.ee_desk_acts.specs.Paid.{paid_lines, NoneTwice, ArePaidRight};
-ghost use Rattle.ee_desk_acts.specs.Sound.{IsSound};
-ghost use Rattle.ee_desk_acts.specs.Conserved.{IsConserved};
+ghost use Rattle.ee_desk_model.specs.Repeats.{Content};
+ghost use Rattle.ee_desk_model.specs.Paid.{paid_lines, NoneTwice, ArePaidRight};
+ghost use Rattle.ee_desk_model.specs.Sound.{IsSound};
+ghost use Rattle.ee_desk_model.specs.Conserved.{IsConserved};
 
 use ee_keeper::Keeper;
 

@@ -11,8 +11,8 @@ use Rattle.std.specs.Cmp.{IsTotalOrder, eq_by_cmp_equiv}
 use Rattle.std.proofs.lemmas.Bool.{or_parts}
 use Rattle.std.proofs.lemmas.List.{take_more}
 use Rattle.std.proofs.lemmas.Map.Lookups.{CmpEqualImpliesEq}
-use Rattle.ee_desk_acts.specs.declared.changes.Change.{Change}
-use Rattle.ee_desk_acts.proofs.Lemmas.Maps.{get_lookup}
+use Rattle.ee_desk_model.specs.declared.changes.Change.{Change}
+use Rattle.ee_desk_model.proofs.Lemmas.Maps.{get_lookup}
 use Rattle.std.proofs.lemmas.Map.Views.{tells_apart}
 use Rattle.ee_desk.specs.Added.{with_row, without_row, with_changes, without_changes, AreNew, every_second, is_row, adds_at, AgreeBeside}
 

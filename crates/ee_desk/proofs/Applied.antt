@@ -1,10 +1,10 @@
 -- Changes that the books take.
 use Rattle.std.proofs.Common.{◌≡◌, ◌<◌, List, [], ◌∷◌, length, get_or, arith, refl, sym, ap, subst}
 use Rattle.std.specs.List.{AllByRecursion}
-use Rattle.ee_desk_acts.specs.declared.changes.Change.{Change}
-use Rattle.ee_desk_acts.specs.declared.changes.Change.TheVariants as change
-use Rattle.ee_desk_acts.specs.PlainBooks.{PlainBooks, of_day}
-use Rattle.ee_desk_acts.specs.Acts.{changed, applied}
+use Rattle.ee_desk_model.specs.declared.changes.Change.{Change}
+use Rattle.ee_desk_model.specs.declared.changes.Change.TheVariants as change
+use Rattle.ee_desk_model.specs.PlainBooks.{PlainBooks, of_day}
+use Rattle.ee_desk_model.specs.Acts.{changed, applied}
 use Rattle.ee_desk.specs.Added.{rate_row, bond_row, with_changes, AreNew}
 use Rattle.ee_desk.specs.Applicable.{IsRate, IsBond, IsUnpaid, IsNextTicket, AreApplicable}
 

@@ -3,9 +3,9 @@ use Rattle.std.proofs.Common.{◌≡◌, ℕ, ◌==◌, Bool, true, false, cond,
 use Rattle.std.specs.Option.{IfSome}
 use Rattle.std.specs.List.{find, AllByRecursion}
 use Rattle.std.proofs.lemmas.Bool.{eqb-true}
-use Rattle.ee_desk_acts.specs.declared.replies.Batch.{Batch}
-use Rattle.ee_desk_acts.specs.declared.replies.Ticket.{Ticket}
-use Rattle.ee_desk_acts.specs.PlainBooks.{batch_of}
+use Rattle.ee_desk_model.specs.declared.replies.Batch.{Batch}
+use Rattle.ee_desk_model.specs.declared.replies.Ticket.{Ticket}
+use Rattle.ee_desk_model.specs.PlainBooks.{batch_of}
 
 pub found_is_right : (tickets : List Ticket) (day : ℕ) (batches : List Batch) → AllByRecursion (λ batch. batch ≡ batch_of batch.day tickets) batches
     → IfSome (find (λ batch. batch.day == day) batches) (λ batch. batch ≡ batch_of day tickets)

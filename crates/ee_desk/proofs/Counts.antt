@@ -4,8 +4,8 @@ use Rattle.std.specs.List.{sum_by}
 use Rattle.std.proofs.lemmas.Bool.{eq-eqb}
 use Rattle.std.proofs.lemmas.List.Elements.{filter-append}
 use Rattle.std.proofs.lemmas.List.Sums.{sum_by-append}
-use Rattle.ee_desk_acts.specs.declared.replies.Ticket.{Ticket}
-use Rattle.ee_desk_acts.specs.PlainBooks.{of_day, batch_so_far, bonds_on, total_of}
+use Rattle.ee_desk_model.specs.declared.replies.Ticket.{Ticket}
+use Rattle.ee_desk_model.specs.PlainBooks.{of_day, batch_so_far, bonds_on, total_of}
 use Rattle.ee_desk_decide.specs.declared.views.DayCounts.{DayCounts}
 use Rattle.ee_desk.specs.Kept.{AreCounts}
 

@@ -13,24 +13,24 @@ use Rattle.ee_units.specs.Spelling.{SerialNumber}
 use Rattle.ee_value.specs.declared.rates.Rates.{Rates}
 use Rattle.ee_calculator.specs.declared.bonds.Bond.{Bond}
 use Rattle.ee_value.specs.declared.rates.RateRow.{RateRow}
-use Rattle.ee_desk_acts.specs.declared.acts.Act.{Act}
-use Rattle.ee_desk_acts.specs.declared.acts.Act.TheVariants.{AddRates, AddBonds, OpenDay, Redeem, CloseDay}
-use Rattle.ee_desk_acts.specs.declared.refusals.Refusal.{Refusal}
-use Rattle.ee_desk_acts.specs.declared.refusals.Refusal.TheVariants.{Repeated}
-use Rattle.ee_desk_acts.specs.declared.replies.Ticket.{Ticket}
-use Rattle.ee_desk_acts.specs.declared.changes.Effects.{Effects}
-use Rattle.ee_desk_acts.specs.declared.changes.Change.TheVariants as change
-use Rattle.ee_desk_acts.specs.Serials.{serial_cmp, same_serial}
-use Rattle.ee_desk_acts.specs.PlainBooks.{PlainBooks, ticket_of}
-use Rattle.ee_desk_acts.specs.Seen.{Seen, shown, line_for, held_of, held_as, ticket_for}
-use Rattle.ee_desk_acts.specs.Refusals.{known_rate, tests_of, refusal_of, refusal_of_serial, repeated_bond}
-use Rattle.ee_desk_acts.specs.Effects.{new_rates, new_bonds, rate_change, accepted, unless_refused, effects_of}
-use Rattle.ee_desk_acts.specs.Acts.{done, applied}
-use Rattle.ee_desk_acts.specs.Ranges.{IsInRange}
-use Rattle.ee_desk_acts.specs.Sound.{IsSound}
-use Rattle.ee_desk_acts.specs.Views.{view_of, shown_by}
-use Rattle.ee_desk_acts.proofs.Lemmas.Maps.{serials_total, serials_tied, all_weaker, all_filter, all_passed}
-use Rattle.ee_desk_acts.proofs.Lemmas.Books.{seen_enough, applied_are_books_after, done_keeps_sound, act_keeps_sound, no_test_refuses, no_row_refused, unrefused_is_payable, held_is_registered, none_from_is_none, none_from_option_or, none_from_option_map, none_from_cond, unregistered_unpaid, opened_day_is_empty, redeem_on_open_day, few_tickets_on, few_bonds_on, small_total_on}
+use Rattle.ee_desk_model.specs.declared.acts.Act.{Act}
+use Rattle.ee_desk_model.specs.declared.acts.Act.TheVariants.{AddRates, AddBonds, OpenDay, Redeem, CloseDay}
+use Rattle.ee_desk_model.specs.declared.refusals.Refusal.{Refusal}
+use Rattle.ee_desk_model.specs.declared.refusals.Refusal.TheVariants.{Repeated}
+use Rattle.ee_desk_model.specs.declared.replies.Ticket.{Ticket}
+use Rattle.ee_desk_model.specs.declared.changes.Effects.{Effects}
+use Rattle.ee_desk_model.specs.declared.changes.Change.TheVariants as change
+use Rattle.ee_desk_model.specs.Serials.{serial_cmp, same_serial}
+use Rattle.ee_desk_model.specs.PlainBooks.{PlainBooks, ticket_of}
+use Rattle.ee_desk_model.specs.Seen.{Seen, shown, line_for, held_of, held_as, ticket_for}
+use Rattle.ee_desk_model.specs.Refusals.{known_rate, tests_of, refusal_of, refusal_of_serial, repeated_bond}
+use Rattle.ee_desk_model.specs.Effects.{new_rates, new_bonds, rate_change, accepted, unless_refused, effects_of}
+use Rattle.ee_desk_model.specs.Acts.{done, applied}
+use Rattle.ee_desk_model.specs.Ranges.{IsInRange}
+use Rattle.ee_desk_model.specs.Sound.{IsSound}
+use Rattle.ee_desk_model.specs.Views.{view_of, shown_by}
+use Rattle.ee_desk_model.proofs.Lemmas.Maps.{serials_total, serials_tied, all_weaker, all_filter, all_passed}
+use Rattle.ee_desk_model.proofs.Lemmas.Books.{seen_enough, applied_are_books_after, done_keeps_sound, act_keeps_sound, no_test_refuses, no_row_refused, unrefused_is_payable, held_is_registered, none_from_is_none, none_from_option_or, none_from_option_map, none_from_cond, unregistered_unpaid, opened_day_is_empty, redeem_on_open_day, few_tickets_on, few_bonds_on, small_total_on}
 use Rattle.ee_desk.specs.Added.{rate_row, bond_row, AreNew}
 use Rattle.ee_desk.specs.Applicable.{IsRate, IsBond, IsUnpaid, HasRoom, AreApplicable}
 

@@ -6,12 +6,12 @@ use Rattle.std.specs.List.{AllByRecursion, sum_by}
 use Rattle.std.specs.Map.{lookup}
 use Rattle.std.specs.declared.cmp.Ordering.{Ordering}
 use Rattle.std.proofs.lemmas.Map.Lookups.{CmpEqualImpliesEq}
-use Rattle.ee_desk_acts.specs.PlainBooks.{PlainBooks}
-use Rattle.ee_desk_acts.specs.Queries.{sheet_of, shown_in_row, shown_in_sheet}
-use Rattle.ee_desk_acts.specs.Ranges.{IsInRange}
-use Rattle.ee_desk_acts.specs.Sound.{IsSound}
-use Rattle.ee_desk_acts.specs.Views.{picked}
-use Rattle.ee_desk_acts.specs.declared.changes.Effects.{Effects}
+use Rattle.ee_desk_model.specs.PlainBooks.{PlainBooks}
+use Rattle.ee_desk_model.specs.Queries.{sheet_of, shown_in_row, shown_in_sheet}
+use Rattle.ee_desk_model.specs.Ranges.{IsInRange}
+use Rattle.ee_desk_model.specs.Sound.{IsSound}
+use Rattle.ee_desk_model.specs.Views.{picked}
+use Rattle.ee_desk_model.specs.declared.changes.Effects.{Effects}
 use Rattle.ee_calculator.specs.declared.rows.Row.{Row}
 use Rattle.ee_calculator.specs.declared.sheets.Sheet.{Sheet}
 use Rattle.ee_desk.specs.Applicable.{AreApplicable}

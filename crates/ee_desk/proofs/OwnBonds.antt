@@ -13,14 +13,14 @@ use Rattle.std.proofs.lemmas.Map.Entries.{none_past_head}
 use Rattle.std.proofs.lemmas.Map.Keys.{sorted_tail, IsDistinct-from_sorted}
 use Rattle.ee_units.specs.Spelling.{SerialNumber}
 use Rattle.ee_calculator.specs.declared.bonds.Bond.{Bond}
-use Rattle.ee_desk_acts.specs.declared.changes.Held.{Held}
-use Rattle.ee_desk_acts.specs.declared.replies.Ticket.{Ticket}
-use Rattle.ee_desk_acts.specs.Serials.{serial_cmp}
-use Rattle.ee_desk_acts.specs.PlainBooks.{ticket_of}
-use Rattle.ee_desk_acts.specs.Queries.{is_open_bond}
-use Rattle.ee_desk_acts.proofs.Lemmas.Maps.{serials_total, serials_exact}
-use Rattle.ee_desk_parts.proofs.Lemmas.{get_held_bond}
-use Rattle.ee_desk_parts.specs.Marks.{bonds_held, held_at, AreMarked}
+use Rattle.ee_desk_model.specs.declared.changes.Held.{Held}
+use Rattle.ee_desk_model.specs.declared.replies.Ticket.{Ticket}
+use Rattle.ee_desk_model.specs.Serials.{serial_cmp}
+use Rattle.ee_desk_model.specs.PlainBooks.{ticket_of}
+use Rattle.ee_desk_model.specs.Queries.{is_open_bond}
+use Rattle.ee_desk_model.proofs.Lemmas.Maps.{serials_total, serials_exact}
+use Rattle.ee_desk_soundness.proofs.Lemmas.{get_held_bond}
+use Rattle.ee_desk_soundness.specs.Marks.{bonds_held, held_at, AreMarked}
 use Rattle.ee_desk.specs.Kept.{own_bond}
 use Rattle.ee_desk.proofs.Ordered.{entries_are}
 use Rattle.ee_desk.proofs.AsParts.{bonds_kept, same_keys}

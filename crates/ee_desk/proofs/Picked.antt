@@ -10,15 +10,15 @@ use Rattle.std.specs.Cmp.{IsTotalOrder}
 use Rattle.std.proofs.lemmas.Map.Lookups.{CmpEqualImpliesEq}
 use Rattle.std.proofs.lemmas.List.{take_more, map-append}
 use Rattle.ee_units.specs.Spelling.{SerialNumber}
-use Rattle.ee_desk_acts.specs.declared.changes.Held.{Held}
-use Rattle.ee_desk_acts.specs.declared.replies.Ticket.{Ticket}
-use Rattle.ee_desk_acts.specs.PlainBooks.{ticket_of}
-use Rattle.ee_desk_acts.specs.Seen.{held_as}
-use Rattle.ee_desk_acts.specs.Views.{picked}
-use Rattle.ee_desk_acts.proofs.Lemmas.Maps.{get_picked}
+use Rattle.ee_desk_model.specs.declared.changes.Held.{Held}
+use Rattle.ee_desk_model.specs.declared.replies.Ticket.{Ticket}
+use Rattle.ee_desk_model.specs.PlainBooks.{ticket_of}
+use Rattle.ee_desk_model.specs.Seen.{held_as}
+use Rattle.ee_desk_model.specs.Views.{picked}
+use Rattle.ee_desk_model.proofs.Lemmas.Maps.{get_picked}
 use Rattle.std.proofs.lemmas.Map.Views.{tells_apart}
-use Rattle.ee_desk_parts.proofs.Lemmas.{get_held_bond, list_any_push}
-use Rattle.ee_desk_parts.specs.Marks.{held_at, bonds_held}
+use Rattle.ee_desk_soundness.proofs.Lemmas.{get_held_bond, list_any_push}
+use Rattle.ee_desk_soundness.specs.Marks.{held_at, bonds_held}
 use Rattle.ee_desk.specs.Kept.{noted, noted_at}
 
 module _ {K V : Type 0} {R : K → K → Ordering} (o : IsTotalOrder R) (exact : CmpEqualImpliesEq R) (look : K → Option V) where

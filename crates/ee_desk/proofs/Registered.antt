@@ -7,16 +7,16 @@ use Rattle.std.specs.FinMap.{FinMap, get-insert, same_map}
 use Rattle.std.specs.Ordering.{eq_by_cmp}
 use Rattle.ee_units.specs.Spelling.{SerialNumber}
 use Rattle.ee_calculator.specs.declared.bonds.Bond.{Bond}
-use Rattle.ee_desk_acts.specs.declared.changes.Held.{Held}
-use Rattle.ee_desk_acts.specs.declared.changes.Change.{Change}
-use Rattle.ee_desk_acts.specs.declared.changes.Change.TheVariants as change
-use Rattle.ee_desk_acts.specs.declared.replies.Ticket.{Ticket}
-use Rattle.ee_desk_acts.specs.Serials.{serial_cmp}
-use Rattle.ee_desk_acts.specs.PlainBooks.{PlainBooks, ticket_of}
-use Rattle.ee_desk_acts.proofs.Lemmas.Maps.{serials_total, serials_exact, get_lookup}
+use Rattle.ee_desk_model.specs.declared.changes.Held.{Held}
+use Rattle.ee_desk_model.specs.declared.changes.Change.{Change}
+use Rattle.ee_desk_model.specs.declared.changes.Change.TheVariants as change
+use Rattle.ee_desk_model.specs.declared.replies.Ticket.{Ticket}
+use Rattle.ee_desk_model.specs.Serials.{serial_cmp}
+use Rattle.ee_desk_model.specs.PlainBooks.{PlainBooks, ticket_of}
+use Rattle.ee_desk_model.proofs.Lemmas.Maps.{serials_total, serials_exact, get_lookup}
 use Rattle.std.proofs.lemmas.Map.Views.{tells_apart}
-use Rattle.ee_desk_parts.proofs.Lemmas.{get_held_bond}
-use Rattle.ee_desk_parts.specs.Marks.{bonds_held, held_at, AreMarked}
+use Rattle.ee_desk_soundness.proofs.Lemmas.{get_held_bond}
+use Rattle.ee_desk_soundness.specs.Marks.{bonds_held, held_at, AreMarked}
 use Rattle.ee_desk.specs.Kept.{held_in}
 use Rattle.ee_desk.specs.Added.{held_row, bond_row, with_row, with_changes, AreNew}
 use Rattle.ee_desk.specs.Applicable.{IsUnpaid}

@@ -4,7 +4,7 @@ use Rattle.std.specs.List.{sum_by}
 use Rattle.std.proofs.lemmas.List.Sums.{sum_by-cons}
 use Rattle.ee_calculator.specs.declared.rows.Row.{Row}
 use Rattle.ee_calculator.specs.declared.sheets.Sheet.{Sheet}
-use Rattle.ee_desk_acts.specs.Queries.{PlainRow, shown_in_row, shown_in_sheet, sheet_of}
+use Rattle.ee_desk_model.specs.Queries.{PlainRow, shown_in_row, shown_in_sheet, sheet_of}
 
 sum_shown : (f : Row → ℕ) (g : PlainRow → ℕ) → ((row : Row) → f row ≡ g (shown_in_row row)) → (rows : List Row) → sum_by f rows ≡ sum_by g (map shown_in_row rows)
 sum_shown f g same [] = refl

@@ -1,10 +1,10 @@
 -- Changes that can be applied to the books in memory.
 use Rattle.std.specs.Prelude.{◌≡◌, ◌<◌, List, [], ◌∷◌, ◌++◌, length, sum_by, Some, None, IfSome, ⊤}
 use Rattle.std.specs.List.{AllByRecursion}
-use Rattle.ee_desk_acts.specs.declared.changes.Change.{Change}
-use Rattle.ee_desk_acts.specs.declared.changes.Change.TheVariants as change
-use Rattle.ee_desk_acts.specs.declared.replies.Ticket.{Ticket}
-use Rattle.ee_desk_acts.specs.PlainBooks.{PlainBooks, ticket_of, of_day, bonds_on, total_of}
+use Rattle.ee_desk_model.specs.declared.changes.Change.{Change}
+use Rattle.ee_desk_model.specs.declared.changes.Change.TheVariants as change
+use Rattle.ee_desk_model.specs.declared.replies.Ticket.{Ticket}
+use Rattle.ee_desk_model.specs.PlainBooks.{PlainBooks, ticket_of, of_day, bonds_on, total_of}
 use Rattle.ee_desk.specs.Added.{rate_row, bond_row, AreNew}
 
 abbrev pub IsRate : Change → Type 0

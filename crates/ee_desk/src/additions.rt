@@ -4,7 +4,7 @@ ghost use Rattle.std.specs.Prelude.{◌≡◌, drop, OnOk, OnErr};
 ghost use Rattle.ee_desk.specs.Kept.{rates_in, held_in};
 ghost use Rattle.ee_desk.specs.Added.{rate_row, held_row, with_row, without_row, with_changes, without_changes, every_second, AgreeBeside, AreNew};
 
-use ee_desk_acts::{Change, Held, Terms, UnitTables};
+use ee_desk_model::{Change, Held, Terms, UnitTables};
 use ee_units::{IssueMonth, Serial};
 use std::alloc::AllocError;
 use std::collections::BTreeMap;

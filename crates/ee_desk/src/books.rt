@@ -2,24 +2,24 @@
 
 ghost use Rattle.std.specs.Prelude.{◌≡◌, map, Some, IfOk, IfSome, OnOk, OnErr, IfErr};
 ghost use Rattle.std.specs.Option.{option_map};
-ghost use Rattle.ee_desk_acts.specs.declared.acts.Act.{Act};
-ghost use Rattle.ee_desk_acts.specs.PlainBooks.{no_books, batch_of};
-ghost use Rattle.ee_desk_acts.specs.Sound.{IsSound};
-ghost use Rattle.ee_desk_acts.specs.Paid.{paid_lines, NoneTwice, ArePaidRight};
-ghost use Rattle.ee_desk_acts.specs.Conserved.{IsConserved};
-ghost use Rattle.ee_desk_acts.specs.Effects.{effects_of};
-ghost use Rattle.ee_desk_acts.specs.Acts.{applied, books_after, reply_to};
-ghost use Rattle.ee_desk_acts.specs.Views.{shown_by, view_of};
-ghost use Rattle.ee_desk_acts.specs.Queries.{ticket_numbered, batch_on, bonds_of, inventory, quote_of, shown_in_row, shown_in_sheet};
-ghost use Rattle.ee_desk_parts.specs.Parts.{parts_of, AreUnsound};
+ghost use Rattle.ee_desk_model.specs.declared.acts.Act.{Act};
+ghost use Rattle.ee_desk_model.specs.PlainBooks.{no_books, batch_of};
+ghost use Rattle.ee_desk_model.specs.Sound.{IsSound};
+ghost use Rattle.ee_desk_model.specs.Paid.{paid_lines, NoneTwice, ArePaidRight};
+ghost use Rattle.ee_desk_model.specs.Conserved.{IsConserved};
+ghost use Rattle.ee_desk_model.specs.Effects.{effects_of};
+ghost use Rattle.ee_desk_model.specs.Acts.{applied, books_after, reply_to};
+ghost use Rattle.ee_desk_model.specs.Views.{shown_by, view_of};
+ghost use Rattle.ee_desk_model.specs.Queries.{ticket_numbered, batch_on, bonds_of, inventory, quote_of, shown_in_row, shown_in_sheet};
+ghost use Rattle.ee_desk_soundness.specs.Parts.{parts_of, AreUnsound};
 
 use crate::ledger::Ledger;
 use crate::seeing;
 use crate::sheets::{quote, rows_of};
 use ee_calculator::{Bond, Row, Sheet, sheet};
-use ee_desk_acts::{Act, Batch, Effects, Reply, Ticket, in_range};
 use ee_desk_decide::{View, decide};
-use ee_desk_parts::{Parts, PartsFault, checked};
+use ee_desk_model::{Act, Batch, Effects, Reply, Ticket, in_range};
+use ee_desk_soundness::{Parts, PartsFault, checked};
 use ee_units::calendar::period_of;
 use ee_units::{Customer, Day, Denom, IssueMonth, Month};
 use std::alloc::{AllocError, Global};
@@ -37,8 +37,8 @@ pub struct Books {
 impl Model for Books {
     ghost use Rattle.std.specs.Coded.{codes};
     ghost use Rattle.std.specs.FinMap as finite;
-    ghost use Rattle.ee_desk_acts.specs.PlainBooks.{PlainBooks};
-    ghost use Rattle.ee_desk_acts.specs.Sound.{IsSound};
+    ghost use Rattle.ee_desk_model.specs.PlainBooks.{PlainBooks};
+    ghost use Rattle.ee_desk_model.specs.Sound.{IsSound};
 
     ghost Value = { PlainBooks };
 

@@ -4,13 +4,13 @@ ghost use Rattle.std.specs.Prelude.{◌≡◌, IfOk, OnOk, OnErr, [], Some};
 ghost use Rattle.std.specs.List.{AllByRecursion};
 ghost use Rattle.std.specs.Option.{option_copied};
 ghost use Rattle.std.specs.FinMap as finite;
-ghost use Rattle.ee_desk_acts.specs.PlainBooks.{no_books, of_day, batch_so_far};
-ghost use Rattle.ee_desk_acts.specs.Acts.{changed, applied};
-ghost use Rattle.ee_desk_acts.specs.Seen.{held_of, open_batch};
-ghost use Rattle.ee_desk_acts.specs.Queries.{ticket_numbered, batch_on, bonds_of};
-ghost use Rattle.ee_desk_acts.specs.declared.changes.Change.TheVariants as change;
-ghost use Rattle.ee_desk_parts.specs.Parts.{parts_of};
-ghost use Rattle.ee_desk_parts.specs.Marks.{AreMarked};
+ghost use Rattle.ee_desk_model.specs.PlainBooks.{no_books, of_day, batch_so_far};
+ghost use Rattle.ee_desk_model.specs.Acts.{changed, applied};
+ghost use Rattle.ee_desk_model.specs.Seen.{held_of, open_batch};
+ghost use Rattle.ee_desk_model.specs.Queries.{ticket_numbered, batch_on, bonds_of};
+ghost use Rattle.ee_desk_model.specs.declared.changes.Change.TheVariants as change;
+ghost use Rattle.ee_desk_soundness.specs.Parts.{parts_of};
+ghost use Rattle.ee_desk_soundness.specs.Marks.{AreMarked};
 ghost use Rattle.ee_desk.specs.Kept.{books_of, rates_in, AreCounts, AreKeyed};
 ghost use Rattle.ee_desk.specs.Added.{rate_row, bond_row, with_changes, AreNew};
 ghost use Rattle.ee_desk.specs.Applicable.{IsUnpaid, IsNextTicket, AreApplicable};
@@ -18,9 +18,9 @@ ghost use Rattle.ee_desk.specs.Applicable.{IsUnpaid, IsNextTicket, AreApplicable
 use crate::additions::{add_bonds, add_rates};
 use crate::queries;
 use ee_calculator::Bond;
-use ee_desk_acts::{Batch, Change, Held, Rows, Terms, Ticket, UnitTables};
 use ee_desk_decide::DayCounts;
-use ee_desk_parts::{Indexes, Parts, copy_tickets, held_bonds, mark_all, rate_rows};
+use ee_desk_model::{Batch, Change, Held, Rows, Terms, Ticket, UnitTables};
+use ee_desk_soundness::{Indexes, Parts, copy_tickets, held_bonds, mark_all, rate_rows};
 use ee_units::{Cents, Customer, Day, IssueMonth, Serial};
 use std::alloc::{AllocError, Global};
 use std::collections::BTreeMap;
@@ -43,8 +43,8 @@ pub struct Ledger {
 impl Model for Ledger {
     ghost use Rattle.std.specs.Coded.{codes};
     ghost use Rattle.std.specs.FinMap as finite;
-    ghost use Rattle.ee_desk_acts.specs.PlainBooks.{PlainBooks, batch_so_far};
-    ghost use Rattle.ee_desk_parts.specs.Marks.{AreMarked};
+    ghost use Rattle.ee_desk_model.specs.PlainBooks.{PlainBooks, batch_so_far};
+    ghost use Rattle.ee_desk_soundness.specs.Marks.{AreMarked};
     ghost use Rattle.ee_desk.specs.Kept.{books_of, AreCounts};
 
     ghost Value = { PlainBooks };

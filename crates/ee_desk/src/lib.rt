@@ -11,10 +11,10 @@ mod sheets;
 
 pub use books::Books;
 pub use ee_calculator::{Bond, Row, Sheet};
-pub use ee_desk_acts::{
+pub use ee_desk_decide::{DayCounts, View, ViewParts, decide};
+pub use ee_desk_model::{
     Act, Batch, Change, Effects, Held, Kept, Line, Number, RateRow, Refusal, Reply, Request, Rows,
     Terms, Ticket, UnitTables, Unserved,
 };
-pub use ee_desk_decide::{DayCounts, View, ViewParts, decide};
-pub use ee_desk_parts::{Parts, PartsFault, parts_tell};
+pub use ee_desk_soundness::{Parts, PartsFault, parts_tell};
 pub use sheets::{quote, rows_of};

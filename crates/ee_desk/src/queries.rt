@@ -4,11 +4,11 @@ ghost use Rattle.std.specs.Prelude.{◌≡◌, ◌==◌, IfOk, find};
 ghost use Rattle.std.specs.List.{filter_map};
 ghost use Rattle.std.specs.List.Sorted.{IsStrictlySortedBy};
 ghost use Rattle.std.specs.BTreeMap as tree;
-ghost use Rattle.ee_desk_acts.specs.Serials.{serial_cmp};
+ghost use Rattle.ee_desk_model.specs.Serials.{serial_cmp};
 ghost use Rattle.ee_desk.specs.Kept.{own_bond};
 
 use ee_calculator::Bond;
-use ee_desk_acts::{Batch, Held, Ticket};
+use ee_desk_model::{Batch, Held, Ticket};
 use ee_units::{Customer, Day, Serial};
 use std::alloc::{AllocError, Global};
 use std::collections::BTreeMap;

@@ -4,12 +4,12 @@ ghost use Rattle.std.specs.Prelude.{◌≡◌, ◌++◌, [], map, Some, None, If
 ghost use Rattle.std.specs.Option.{option_map, option_copied};
 ghost use Rattle.std.specs.FinMap as finite;
 ghost use Rattle.std.specs.List.{filter_map, cons_option};
-ghost use Rattle.ee_desk_acts.specs.Queries as is;
-ghost use Rattle.ee_desk_acts.specs.Queries.{shown_in_row};
+ghost use Rattle.ee_desk_model.specs.Queries as is;
+ghost use Rattle.ee_desk_model.specs.Queries.{shown_in_row};
 ghost use Rattle.ee_desk.specs.Kept.{rates_in};
 
 use ee_calculator::{Bond, Row, plain_row, row};
-use ee_desk_acts::Terms;
+use ee_desk_model::Terms;
 use ee_units::calendar::period_of;
 use ee_units::{Denom, IssueMonth, Month, Rate};
 use std::alloc::{AllocError, Global};

@@ -1,6 +1,6 @@
 -- The view that its parts represent.
 use Rattle.std.specs.FinMap as finite
-use Rattle.ee_desk_acts.specs.Views.{PlainView}
+use Rattle.ee_desk_model.specs.Views.{PlainView}
 use Rattle.ee_desk_decide.specs.declared.views.ViewParts.{ViewParts}
 
 abbrev pub plain_parts : ViewParts → PlainView

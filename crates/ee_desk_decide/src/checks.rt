@@ -2,14 +2,14 @@
 ghost use Rattle.std.specs.Prelude.{◌≡◌, None, [], find, ◌==◌, length, IfOk};
 ghost use Rattle.std.specs.Option.{option_map};
 ghost use Rattle.std.specs.List.{list_any};
-ghost use Rattle.ee_desk_acts.specs.Serials.{same_serial};
-ghost use Rattle.ee_desk_acts.specs.Refusals as is;
-ghost use Rattle.ee_desk_acts.specs.Views.{shown_by};
+ghost use Rattle.ee_desk_model.specs.Serials.{same_serial};
+ghost use Rattle.ee_desk_model.specs.Refusals as is;
+ghost use Rattle.ee_desk_model.specs.Views.{shown_by};
 
 use crate::values::unsettled;
 use crate::views::View;
 use ee_calculator::Bond;
-use ee_desk_acts::{
+use ee_desk_model::{
     Act, Held, MOST_DAY_TICKETS, MOST_ROWS, MOST_SERIALS, RateRow, Refusal, UnitTables,
 };
 use ee_units::calendar::{is_announcement, month_of, period_of};

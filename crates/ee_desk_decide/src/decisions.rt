@@ -1,17 +1,17 @@
 //! Deciding an act on what it sees.
 ghost use Rattle.std.specs.Prelude.{◌≡◌, ◌+◌, ◌≤◌, ◌<◌, [], ◌∷◌, ◌-◌, map, length, IfOk, None, Some};
 ghost use Rattle.ee_units.specs.Calendar.{month_of_day};
-ghost use Rattle.ee_desk_acts.specs.Views.{shown_by};
-ghost use Rattle.ee_desk_acts.specs.Seen as seen;
-ghost use Rattle.ee_desk_acts.specs.Refusals.{first_of, near, refusal_of, refusal_of_serial};
-ghost use Rattle.ee_desk_acts.specs.Effects as is;
-ghost use Rattle.ee_desk_acts.specs.declared.changes.Change.TheVariants as change;
+ghost use Rattle.ee_desk_model.specs.Views.{shown_by};
+ghost use Rattle.ee_desk_model.specs.Seen as seen;
+ghost use Rattle.ee_desk_model.specs.Refusals.{first_of, near, refusal_of, refusal_of_serial};
+ghost use Rattle.ee_desk_model.specs.Effects as is;
+ghost use Rattle.ee_desk_model.specs.declared.changes.Change.TheVariants as change;
 
 use crate::checks::{known_rate, refusal};
 use crate::values::{settled_terms, worth};
 use crate::views::View;
 use ee_calculator::Bond;
-use ee_desk_acts::{
+use ee_desk_model::{
     Act, Batch, Change, Effects, Line, RateRow, Refusal, Reply, Rows, Ticket, UnitTables,
 };
 use ee_units::calendar::{month_of, period_of};

@@ -1,11 +1,11 @@
 //! The value of a bond, and rates that leave a value unsettled.
 
 ghost use Rattle.std.specs.Prelude.{◌≡◌, ◌+◌, ◌≤◌, IfOk, IfSome, IsSome, true, None};
-ghost use Rattle.ee_desk_acts.specs.Values.{value_of, unsettled};
+ghost use Rattle.ee_desk_model.specs.Values.{value_of, unsettled};
 
 use crate::views::View;
 use ee_calculator::Bond;
-use ee_desk_acts::{RateRow, Terms, UnitTables};
+use ee_desk_model::{RateRow, Terms, UnitTables};
 use ee_units::{Age, Cents, Month};
 use ee_value::{Quote, Rates, ValueFault, bond_value};
 use std::alloc::{AllocError, Global};

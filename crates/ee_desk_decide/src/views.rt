@@ -3,14 +3,14 @@
 ghost use Rattle.std.specs.Prelude.{◌≡◌, ◌≤◌, IfSome, IsSome, None};
 ghost use Rattle.std.specs.Option.{option_copied};
 ghost use Rattle.std.specs.FinMap as finite;
-ghost use Rattle.ee_desk_acts.specs.declared.acts.Act.{Act};
-ghost use Rattle.ee_desk_acts.specs.PlainBooks.{PlainBooks};
-ghost use Rattle.ee_desk_acts.specs.Sound.{IsSound};
-ghost use Rattle.ee_desk_acts.specs.Values.{unsettled};
-ghost use Rattle.ee_desk_acts.specs.Views.{view_of, needed_of, no_view};
+ghost use Rattle.ee_desk_model.specs.declared.acts.Act.{Act};
+ghost use Rattle.ee_desk_model.specs.PlainBooks.{PlainBooks};
+ghost use Rattle.ee_desk_model.specs.Sound.{IsSound};
+ghost use Rattle.ee_desk_model.specs.Values.{unsettled};
+ghost use Rattle.ee_desk_model.specs.Views.{view_of, needed_of, no_view};
 ghost use Rattle.ee_desk_decide.specs.Parts.{plain_parts};
 
-use ee_desk_acts::{Held, Terms};
+use ee_desk_model::{Held, Terms};
 use ee_units::{Cents, Day, IssueMonth, Serial};
 use ee_value::Rates;
 use std::alloc::Global;
@@ -78,7 +78,7 @@ impl Model for View {
     ghost use Rattle.std.specs.Prelude.{◌≤◌};
     ghost use Rattle.std.specs.Coded.{codes};
     ghost use Rattle.std.specs.FinMap as finite;
-    ghost use Rattle.ee_desk_acts.specs.Views.{PlainView};
+    ghost use Rattle.ee_desk_model.specs.Views.{PlainView};
     ghost use Rattle.ee_desk_decide.specs.Parts.{plain_parts};
 
     ghost Value = { PlainView };

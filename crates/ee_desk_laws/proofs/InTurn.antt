@@ -7,9 +7,9 @@ use Rattle.std.proofs.lemmas.Bool.{eq-eqb, ne_eqb}
 use Rattle.std.proofs.lemmas.List.{length-map, map-append}
 use Rattle.std.proofs.lemmas.List.Sums.{sum_by-cons}
 use Rattle.std.proofs.lemmas.List.Elements.{filter-append}
-use Rattle.ee_desk_acts.specs.declared.acts.Request.{Request}
-use Rattle.ee_desk_acts.specs.Refusals.{most_tickets}
-use Rattle.ee_desk_acts.specs.Repeats.{Content}
+use Rattle.ee_desk_model.specs.declared.acts.Request.{Request}
+use Rattle.ee_desk_model.specs.Refusals.{most_tickets}
+use Rattle.ee_desk_model.specs.Repeats.{Content}
 use Rattle.ee_desk_laws.specs.Tellers.{Asked, requests, asked_by, list_of, IsMerge, AreTellers, open_tickets, new_lines, Interleaved}
 use Rattle.ee_desk_laws.proofs.OneTeller.{blank}
 use Rattle.ee_desk_laws.proofs.Merges.{new, same_merge, same_lines, same_replies}

@@ -1,9 +1,9 @@
 -- Lemmas that the proofs of crates above use: what a disk may leave after each turn, and elements of lists.
 use Rattle.std.proofs.Common.{List, ◌∷◌, false, true, ◌≡◌, ◌⊎◌}
 use Rattle.std.specs.List.{Contains}
-use Rattle.ee_desk_acts.specs.Numbers.{number_of}
-use Rattle.ee_desk_acts.specs.Repeats.{Content}
-use Rattle.ee_desk_acts.specs.declared.acts.Request.{Request}
+use Rattle.ee_desk_model.specs.Numbers.{number_of}
+use Rattle.ee_desk_model.specs.Repeats.{Content}
+use Rattle.ee_desk_model.specs.declared.acts.Request.{Request}
 use Rattle.ee_desk_laws.specs.Events.{Told, World, decided, one, unserved}
 use Rattle.ee_desk_laws.specs.Ties.{Leaves}
 use Rattle.std.specs.FinMap as finite

@@ -5,19 +5,19 @@ use Rattle.std.specs.List.Sorted.{IsPermutation}
 use Rattle.std.proofs.lemmas.List.Sorted.{length_permutation}
 use Rattle.std.proofs.lemmas.Bool.{eqb-true}
 use Rattle.ee_units.specs.Spelling.{SerialNumber}
-use Rattle.ee_desk_acts.specs.declared.replies.Ticket.{Ticket}
-use Rattle.ee_desk_acts.specs.declared.replies.Reply.{Reply}
-use Rattle.ee_desk_acts.specs.declared.acts.Request.{Request}
-use Rattle.ee_desk_acts.specs.Serials.{same_serial}
-use Rattle.ee_desk_acts.specs.Refusals.{most_tickets}
-use Rattle.ee_desk_acts.specs.Numbers.{Number, number_of}
-use Rattle.ee_desk_acts.proofs.Lemmas.Maps.{same_number-self, same_serial-self}
-use Rattle.ee_desk_acts.specs.Repeats.{Content}
-use Rattle.ee_desk_acts.specs.Contents.{books_after}
-use Rattle.ee_desk_acts.specs.Answers.{is_of}
+use Rattle.ee_desk_model.specs.declared.replies.Ticket.{Ticket}
+use Rattle.ee_desk_model.specs.declared.replies.Reply.{Reply}
+use Rattle.ee_desk_model.specs.declared.acts.Request.{Request}
+use Rattle.ee_desk_model.specs.Serials.{same_serial}
+use Rattle.ee_desk_model.specs.Refusals.{most_tickets}
+use Rattle.ee_desk_model.specs.Numbers.{Number, number_of}
+use Rattle.ee_desk_model.proofs.Lemmas.Maps.{same_number-self, same_serial-self}
+use Rattle.ee_desk_model.specs.Repeats.{Content}
+use Rattle.ee_desk_model.specs.Contents.{books_after}
+use Rattle.ee_desk_model.specs.Answers.{is_of}
 use Rattle.ee_desk_laws.specs.Tellers.{Asked, requests, asked_by, list_of, IsMerge, IsRedeem, AreStrange, AreTellers, open_tickets, for_teller, replies_to, unnumbered}
 use Rattle.ee_desk_laws.proofs.Classes.{same_elements, same_flat}
-use Rattle.ee_desk_acts.specs.Views.{serials_of}
+use Rattle.ee_desk_model.specs.Views.{serials_of}
 use Rattle.ee_desk_laws.proofs.Lists.{In, all_in, any_in, eq_self, in_filter, in_left, in_map, in_right, of_all}
 use Rattle.ee_desk_laws.proofs.OneTeller.{Fits, Makes, Ran, begin, blank, made, new_of, pays, pays_own, run, ticket_of_request, told_at, told_is}
 

@@ -10,36 +10,36 @@ use Rattle.std.proofs.lemmas.List.Sums.{length-filter, count_by-le-length, sum_b
 use Rattle.std.proofs.lemmas.List.Elements.{filter-append}
 use Rattle.std.proofs.lemmas.List.Folds.{find-append}
 use Rattle.ee_units.specs.Spelling.{SerialNumber}
-use Rattle.ee_desk_acts.specs.declared.acts.Act.{Act}
-use Rattle.ee_desk_acts.specs.declared.acts.Act.TheVariants.{AddRates, AddBonds, OpenDay, Redeem, CloseDay}
+use Rattle.ee_desk_model.specs.declared.acts.Act.{Act}
+use Rattle.ee_desk_model.specs.declared.acts.Act.TheVariants.{AddRates, AddBonds, OpenDay, Redeem, CloseDay}
 use Rattle.ee_calculator.specs.declared.bonds.Bond.{Bond}
-use Rattle.ee_desk_acts.specs.declared.replies.Line.{Line}
-use Rattle.ee_desk_acts.specs.declared.changes.Kept.{Kept}
-use Rattle.ee_desk_acts.specs.declared.replies.Ticket.{Ticket}
-use Rattle.ee_desk_acts.specs.declared.refusals.Refusal.{Refusal}
-use Rattle.ee_desk_acts.specs.declared.refusals.Refusal.TheVariants.{AlreadyPaid, NumberReused, DayIsOther, DayFull, Empty, TooMany}
-use Rattle.ee_desk_acts.specs.declared.replies.Reply.{Reply}
-use Rattle.ee_desk_acts.specs.declared.replies.Reply.TheVariants.{Refused}
-use Rattle.ee_desk_acts.specs.declared.replies.Reply.TheVariants as reply
-use Rattle.ee_desk_acts.specs.declared.acts.Request.{Request}
-use Rattle.ee_desk_acts.specs.Serials.{same_serial}
+use Rattle.ee_desk_model.specs.declared.replies.Line.{Line}
+use Rattle.ee_desk_model.specs.declared.changes.Kept.{Kept}
+use Rattle.ee_desk_model.specs.declared.replies.Ticket.{Ticket}
+use Rattle.ee_desk_model.specs.declared.refusals.Refusal.{Refusal}
+use Rattle.ee_desk_model.specs.declared.refusals.Refusal.TheVariants.{AlreadyPaid, NumberReused, DayIsOther, DayFull, Empty, TooMany}
+use Rattle.ee_desk_model.specs.declared.replies.Reply.{Reply}
+use Rattle.ee_desk_model.specs.declared.replies.Reply.TheVariants.{Refused}
+use Rattle.ee_desk_model.specs.declared.replies.Reply.TheVariants as reply
+use Rattle.ee_desk_model.specs.declared.acts.Request.{Request}
+use Rattle.ee_desk_model.specs.Serials.{same_serial}
 use Rattle.ee_units.specs.Calendar.{month_of_day}
-use Rattle.ee_desk_acts.specs.PlainBooks.{PlainBooks, names, ticket_of, batch_so_far, cents_of}
-use Rattle.ee_desk_acts.specs.Seen.{shown, held_as, ticket_for, worth, line_for, value_in}
-use Rattle.ee_desk_acts.specs.declared.changes.Held.{Held}
-use Rattle.ee_desk_acts.specs.Refusals.{first, first_of, when, repeated, refusal_of_day, refusal_of_held, refusal_of_serial, refusal_of, most_serials, most_tickets}
-use Rattle.ee_desk_acts.specs.Acts.{same_act, unless_refused}
-use Rattle.ee_desk_acts.specs.Outcomes.{Outcome}
-use Rattle.ee_desk_acts.specs.Effects as effects
-use Rattle.ee_desk_acts.specs.Numbers.{Number, number_cmp, same_number, number_of, numbered}
-use Rattle.ee_desk_acts.proofs.Lemmas.Maps.{same_number-is, same_serial-is, all_append}
+use Rattle.ee_desk_model.specs.PlainBooks.{PlainBooks, names, ticket_of, batch_so_far, cents_of}
+use Rattle.ee_desk_model.specs.Seen.{shown, held_as, ticket_for, worth, line_for, value_in}
+use Rattle.ee_desk_model.specs.declared.changes.Held.{Held}
+use Rattle.ee_desk_model.specs.Refusals.{first, first_of, when, repeated, refusal_of_day, refusal_of_held, refusal_of_serial, refusal_of, most_serials, most_tickets}
+use Rattle.ee_desk_model.specs.Acts.{same_act, unless_refused}
+use Rattle.ee_desk_model.specs.Outcomes.{Outcome}
+use Rattle.ee_desk_model.specs.Effects as effects
+use Rattle.ee_desk_model.specs.Numbers.{Number, number_cmp, same_number, number_of, numbered}
+use Rattle.ee_desk_model.proofs.Lemmas.Maps.{same_number-is, same_serial-is, all_append}
 use Rattle.ee_desk_laws.specs.Events.{one}
-use Rattle.ee_desk_acts.proofs.Lemmas.Requests.{content_after-known, content_after-new, get_kept-insert, content_after-first, content_after-append, answer_after}
-use Rattle.ee_desk_acts.specs.Repeats.{Content}
-use Rattle.ee_desk_acts.specs.Contents.{content_after, books_after}
-use Rattle.ee_desk_acts.specs.Answers.{answer, answer_for, reply_again}
+use Rattle.ee_desk_model.proofs.Lemmas.Requests.{content_after-known, content_after-new, get_kept-insert, content_after-first, content_after-append, answer_after}
+use Rattle.ee_desk_model.specs.Repeats.{Content}
+use Rattle.ee_desk_model.specs.Contents.{content_after, books_after}
+use Rattle.ee_desk_model.specs.Answers.{answer, answer_for, reply_again}
 use Rattle.ee_desk_laws.specs.Tellers.{Asked, requests, asked_by, IsRedeem, open_tickets, told, for_teller, old_number, unnumbered_refusal, unnumbered}
-use Rattle.ee_desk_acts.specs.Views.{serials_of}
+use Rattle.ee_desk_model.specs.Views.{serials_of}
 use Rattle.ee_desk_laws.proofs.Lists.{map_map, or_alike}
 
 -- a ticket without its number

@@ -4,12 +4,12 @@ use Rattle.std.specs.List.{AllByRecursion, Contains, count_by, filter, list_any}
 use Rattle.std.proofs.lemmas.List.Sums.{length-filter}
 use Rattle.std.specs.FinMap as finite
 use Rattle.std.proofs.Math.Bool.{or-true, or-false}
-use Rattle.ee_desk_acts.specs.declared.acts.Request.{Request}
-use Rattle.ee_desk_acts.specs.Numbers.{Number, same_number, number_of}
-use Rattle.ee_desk_acts.proofs.Lemmas.Maps.{same_number-is, same_number-self, all_weaker}
-use Rattle.ee_desk_acts.specs.Repeats.{Content, firsts, once}
-use Rattle.ee_desk_acts.specs.Contents.{content_after}
-use Rattle.ee_desk_acts.specs.Answers.{answer, is_of}
+use Rattle.ee_desk_model.specs.declared.acts.Request.{Request}
+use Rattle.ee_desk_model.specs.Numbers.{Number, same_number, number_of}
+use Rattle.ee_desk_model.proofs.Lemmas.Maps.{same_number-is, same_number-self, all_weaker}
+use Rattle.ee_desk_model.specs.Repeats.{Content, firsts, once}
+use Rattle.ee_desk_model.specs.Contents.{content_after}
+use Rattle.ee_desk_model.specs.Answers.{answer, is_of}
 use Rattle.ee_desk_laws.specs.Events.{Event, World, begun, one, may_after, decided, unserved, stopped, Happens}
 use Rattle.ee_desk_laws.specs.Stops.{CanHappen, LeadsOn, sent, acknowledged, AreDone, StillTold, StandOnce, HoldsAcknowledged, SettlesByRetries}
 use Rattle.ee_desk_laws.specs.Events.Event.{Deliver, Lose, Unserved, Stop_within, Stop_between, Reopen}

@@ -1,8 +1,8 @@
 -- What a run over any keeper says of the laws.
 use Rattle.std.proofs.Common.{[], ◌∷◌, ◌++◌, Ok, Err, refl, sym, ap, ◌∙◌, append-nil, append_assoc}
-use Rattle.ee_desk_acts.specs.Contents.{content_after}
-use Rattle.ee_desk_acts.specs.Answers.{answer, served}
-use Rattle.ee_desk_acts.proofs.Lemmas.Requests.{content_after-append}
+use Rattle.ee_desk_model.specs.Contents.{content_after}
+use Rattle.ee_desk_model.specs.Answers.{answer, served}
+use Rattle.ee_desk_model.proofs.Lemmas.Requests.{content_after-append}
 use Rattle.ee_desk_laws.specs.Events.{one, decided, unserved}
 use Rattle.ee_desk_laws.specs.Runs.{TellsServed, RunsAsEvents}
 

@@ -3,18 +3,18 @@ use Rattle.std.proofs.Common.{◌≡◌, ◌⊎◌, inl, inr, Bool, true, false,
 use Rattle.std.specs.Option.{is_some}
 use Rattle.std.specs.List.{AllByRecursion}
 use Rattle.std.specs.FinMap as finite
-use Rattle.ee_desk_acts.specs.declared.replies.Reply.TheVariants.{Refused}
-use Rattle.ee_desk_acts.specs.declared.refusals.Refusal.TheVariants.{NumberReused}
-use Rattle.ee_desk_acts.specs.declared.acts.Request.{Request}
-use Rattle.ee_desk_acts.specs.declared.changes.Kept.{Kept}
-use Rattle.ee_desk_acts.specs.Outcomes.{act}
-use Rattle.ee_desk_acts.specs.Numbers.{Number, same_number, number_of}
-use Rattle.ee_desk_acts.proofs.Lemmas.Maps.{same_number-is, same_number-self, all_weaker}
-use Rattle.ee_desk_acts.proofs.Lemmas.Requests.{content_after-known, content_after-new, get_kept-own, content_after-first, answer_after, get_kept-insert, same_act-self}
-use Rattle.ee_desk_acts.specs.Repeats.{Content}
-use Rattle.ee_desk_acts.specs.Contents.{content_after}
-use Rattle.ee_desk_acts.specs.Answers.{answer, answer_for, reply_again}
-use Rattle.ee_desk_acts.proofs.Lemmas.Books.{some_from_is_some}
+use Rattle.ee_desk_model.specs.declared.replies.Reply.TheVariants.{Refused}
+use Rattle.ee_desk_model.specs.declared.refusals.Refusal.TheVariants.{NumberReused}
+use Rattle.ee_desk_model.specs.declared.acts.Request.{Request}
+use Rattle.ee_desk_model.specs.declared.changes.Kept.{Kept}
+use Rattle.ee_desk_model.specs.Outcomes.{act}
+use Rattle.ee_desk_model.specs.Numbers.{Number, same_number, number_of}
+use Rattle.ee_desk_model.proofs.Lemmas.Maps.{same_number-is, same_number-self, all_weaker}
+use Rattle.ee_desk_model.proofs.Lemmas.Requests.{content_after-known, content_after-new, get_kept-own, content_after-first, answer_after, get_kept-insert, same_act-self}
+use Rattle.ee_desk_model.specs.Repeats.{Content}
+use Rattle.ee_desk_model.specs.Contents.{content_after}
+use Rattle.ee_desk_model.specs.Answers.{answer, answer_for, reply_again}
+use Rattle.ee_desk_model.proofs.Lemmas.Books.{some_from_is_some}
 use Rattle.ee_desk_laws.specs.Events.{Event, Told, World, begun, one, decided, stopped, Leads, Happens}
 use Rattle.ee_desk_laws.specs.Stops.{BeginsWith, AreDone, StillTold, IsOfEvents, SurvivesStops}
 use Rattle.ee_desk_laws.specs.Events.Event.{Deliver, Lose, Unserved, Stop_within, Stop_between, Reopen}

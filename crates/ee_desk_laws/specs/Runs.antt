@@ -1,11 +1,11 @@
 -- A run over any keeper, in the terms of the laws.
 use Rattle.std.specs.Prelude.{◌≡◌, true, List, [], ◌∷◌, ◌++◌, Result, Ok, Err}
-use Rattle.ee_desk_acts.specs.declared.acts.Request.{Request}
-use Rattle.ee_desk_acts.specs.declared.refusals.Unserved.{Unserved}
-use Rattle.ee_desk_acts.specs.declared.replies.Reply.{Reply}
-use Rattle.ee_desk_acts.specs.Repeats.{Content}
-use Rattle.ee_desk_acts.specs.Contents.{content_after}
-use Rattle.ee_desk_acts.specs.Answers.{served, AreAnswers}
+use Rattle.ee_desk_model.specs.declared.acts.Request.{Request}
+use Rattle.ee_desk_model.specs.declared.refusals.Unserved.{Unserved}
+use Rattle.ee_desk_model.specs.declared.replies.Reply.{Reply}
+use Rattle.ee_desk_model.specs.Repeats.{Content}
+use Rattle.ee_desk_model.specs.Contents.{content_after}
+use Rattle.ee_desk_model.specs.Answers.{served, AreAnswers}
 use Rattle.ee_desk_laws.specs.Events.{Event, World, Happens}
 use Rattle.ee_desk_laws.specs.Events.Event.{Deliver, Unserved as Not_served}
 use Rattle.ee_desk_laws.specs.Tellers.{told}

@@ -2,11 +2,11 @@
 use Rattle.std.specs.Prelude.{◌≡◌, ◌⊎◌, Bool, true, false, List, [], ◌∷◌, ◌++◌, map, count_by, Contains, Option, Some, None, ⊤}
 use Rattle.std.specs.List.{AllByRecursion, filter_map}
 use Rattle.std.specs.FinMap as finite
-use Rattle.ee_desk_acts.specs.declared.acts.Request.{Request}
-use Rattle.ee_desk_acts.specs.Numbers.{number_of}
-use Rattle.ee_desk_acts.specs.Repeats.{Content, once}
-use Rattle.ee_desk_acts.specs.Contents.{content_after}
-use Rattle.ee_desk_acts.specs.Answers.{answer, is_of}
+use Rattle.ee_desk_model.specs.declared.acts.Request.{Request}
+use Rattle.ee_desk_model.specs.Numbers.{number_of}
+use Rattle.ee_desk_model.specs.Repeats.{Content, once}
+use Rattle.ee_desk_model.specs.Contents.{content_after}
+use Rattle.ee_desk_model.specs.Answers.{answer, is_of}
 use Rattle.ee_desk_laws.specs.Events.{Event, Told, World, begun, Happens}
 use Rattle.ee_desk_laws.specs.Events.Event.{Deliver, Lose, Unserved, Stop_within, Stop_between, Reopen}
 

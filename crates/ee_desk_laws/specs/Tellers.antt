@@ -1,25 +1,25 @@
 -- Tellers whose requests are interleaved (this project's rule).
 use Rattle.std.specs.Prelude.{◌≡◌, ℕ, ◌+◌, ◌≤◌, false, ◌==◌, nat_lt, List, [], ◌∷◌, ◌++◌, length, map, filter, sum_by, drop, slice_index_or, IsPermutation, ⊤, if◌then◌else◌}
 use Rattle.std.specs.List.{AllByRecursion, list_any}
-use Rattle.ee_desk_acts.specs.declared.acts.Act.{Act}
-use Rattle.ee_desk_acts.specs.declared.acts.Act.TheVariants.{AddRates, AddBonds, OpenDay, Redeem, CloseDay}
-use Rattle.ee_desk_acts.specs.declared.refusals.Refusal.{Refusal}
-use Rattle.ee_desk_acts.specs.declared.refusals.Refusal.TheVariants.{AlreadyPaid}
-use Rattle.ee_desk_acts.specs.declared.replies.Line.{Line}
-use Rattle.ee_desk_acts.specs.declared.replies.Reply.{Reply}
-use Rattle.ee_desk_acts.specs.declared.replies.Reply.TheVariants.{Refused}
-use Rattle.ee_desk_acts.specs.declared.replies.Reply.TheVariants as reply
-use Rattle.ee_desk_acts.specs.declared.acts.Request.{Request}
-use Rattle.ee_desk_acts.specs.Serials.{same_serial}
-use Rattle.ee_desk_acts.specs.Seen.{open_batch}
-use Rattle.ee_desk_acts.specs.PlainBooks.{PlainBooks}
-use Rattle.ee_desk_acts.specs.Views.{serials_of}
-use Rattle.ee_desk_acts.specs.Paid.{paid_lines}
-use Rattle.ee_desk_acts.specs.Refusals.{most_tickets}
-use Rattle.ee_desk_acts.specs.Numbers.{same_number, number_of}
-use Rattle.ee_desk_acts.specs.Repeats.{Content}
-use Rattle.ee_desk_acts.specs.Contents.{books_after}
-use Rattle.ee_desk_acts.specs.Answers.{answer}
+use Rattle.ee_desk_model.specs.declared.acts.Act.{Act}
+use Rattle.ee_desk_model.specs.declared.acts.Act.TheVariants.{AddRates, AddBonds, OpenDay, Redeem, CloseDay}
+use Rattle.ee_desk_model.specs.declared.refusals.Refusal.{Refusal}
+use Rattle.ee_desk_model.specs.declared.refusals.Refusal.TheVariants.{AlreadyPaid}
+use Rattle.ee_desk_model.specs.declared.replies.Line.{Line}
+use Rattle.ee_desk_model.specs.declared.replies.Reply.{Reply}
+use Rattle.ee_desk_model.specs.declared.replies.Reply.TheVariants.{Refused}
+use Rattle.ee_desk_model.specs.declared.replies.Reply.TheVariants as reply
+use Rattle.ee_desk_model.specs.declared.acts.Request.{Request}
+use Rattle.ee_desk_model.specs.Serials.{same_serial}
+use Rattle.ee_desk_model.specs.Seen.{open_batch}
+use Rattle.ee_desk_model.specs.PlainBooks.{PlainBooks}
+use Rattle.ee_desk_model.specs.Views.{serials_of}
+use Rattle.ee_desk_model.specs.Paid.{paid_lines}
+use Rattle.ee_desk_model.specs.Refusals.{most_tickets}
+use Rattle.ee_desk_model.specs.Numbers.{same_number, number_of}
+use Rattle.ee_desk_model.specs.Repeats.{Content}
+use Rattle.ee_desk_model.specs.Contents.{books_after}
+use Rattle.ee_desk_model.specs.Answers.{answer}
 
 -- a request, and the position of its teller
 pub record Asked : Type 0 where

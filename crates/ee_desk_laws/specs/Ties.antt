@@ -1,9 +1,9 @@
 -- What a keeper's store must satisfy for the events.
 use Rattle.std.specs.Prelude.{◌≡◌, ◌⊎◌, true, false, List, [], ◌∷◌, Contains}
 use Rattle.std.specs.FinMap as finite
-use Rattle.ee_desk_acts.specs.declared.acts.Request.{Request}
-use Rattle.ee_desk_acts.specs.Numbers.{number_of}
-use Rattle.ee_desk_acts.specs.Repeats.{Content}
+use Rattle.ee_desk_model.specs.declared.acts.Request.{Request}
+use Rattle.ee_desk_model.specs.Numbers.{number_of}
+use Rattle.ee_desk_model.specs.Repeats.{Content}
 use Rattle.ee_desk_laws.specs.Events.{World, Told, Happens, one, decided, unserved}
 use Rattle.ee_desk_laws.specs.Events.Event.{Stop_between, Reopen}
 

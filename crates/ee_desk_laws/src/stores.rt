@@ -4,7 +4,7 @@ ghost use Rattle.ee_desk_laws.specs.Ties.{LeavesNew, LeavesKept, LeavesUnserved,
 
 /// A store that a crash may interrupt.
 pub trait StoreOfContents {
-    ghost use Rattle.ee_desk_acts.specs.Repeats.{Content};
+    ghost use Rattle.ee_desk_model.specs.Repeats.{Content};
 
     /// What may be found on the disk.
     ghost Disk: { Type 0 };

@@ -2,8 +2,8 @@
 use Rattle.std.proofs.Common.{IsUtf8, List, Option, Some, ◌++◌, ◌≡◌}
 use Rattle.json.specs.Token as token
 use Rattle.json.specs.Written.{Written}
-use Rattle.ee_desk_acts.specs.declared.acts.Act.{Act}
-use Rattle.ee_desk_acts.specs.declared.replies.Reply.{Reply}
+use Rattle.ee_desk_model.specs.declared.acts.Act.{Act}
+use Rattle.ee_desk_model.specs.declared.replies.Reply.{Reply}
 use Rattle.ee_desk_texts.specs.Ranges.{ActFits, ReplyFits}
 use Rattle.ee_desk_texts.specs.Reading.{ReadsReply}
 use Rattle.ee_desk_texts.specs.Texts.{act_text, reply_text}

@@ -4,15 +4,15 @@ use Rattle.std.specs.List.{AllByRecursion}
 use Rattle.ee_units.specs.Spelling.{SerialNumber}
 use Rattle.ee_value.specs.Chain.{InRange}
 use Rattle.ee_calculator.specs.declared.bonds.Bond.{Bond}
-use Rattle.ee_desk_acts.specs.Sound.{IsDay, IsIssueMonth}
+use Rattle.ee_desk_model.specs.Sound.{IsDay, IsIssueMonth}
 use Rattle.ee_value.specs.declared.rates.RateRow.{RateRow}
-use Rattle.ee_desk_acts.specs.declared.acts.Act.{Act}
-use Rattle.ee_desk_acts.specs.declared.acts.Act.TheVariants as act
-use Rattle.ee_desk_acts.specs.declared.replies.Line.{Line}
-use Rattle.ee_desk_acts.specs.declared.replies.Ticket.{Ticket}
-use Rattle.ee_desk_acts.specs.declared.replies.Batch.{Batch}
-use Rattle.ee_desk_acts.specs.declared.replies.Reply.{Reply}
-use Rattle.ee_desk_acts.specs.declared.replies.Reply.TheVariants as reply
+use Rattle.ee_desk_model.specs.declared.acts.Act.{Act}
+use Rattle.ee_desk_model.specs.declared.acts.Act.TheVariants as act
+use Rattle.ee_desk_model.specs.declared.replies.Line.{Line}
+use Rattle.ee_desk_model.specs.declared.replies.Ticket.{Ticket}
+use Rattle.ee_desk_model.specs.declared.replies.Batch.{Batch}
+use Rattle.ee_desk_model.specs.declared.replies.Reply.{Reply}
+use Rattle.ee_desk_model.specs.declared.replies.Reply.TheVariants as reply
 use Rattle.ee_desk_texts.specs.Data.{names}
 use Rattle.ee_desk_texts.specs.declared.refusals.Named.{Named}
 use Rattle.ee_desk_texts.specs.declared.refusals.Named.TheVariants as named

@@ -12,13 +12,13 @@ use Rattle.ee_units.specs.Denoms.{denom_with}
 use Rattle.ee_calculator.specs.declared.bonds.Bond.{Bond}
 use Rattle.ee_value.specs.Chain.{rates_with}
 use Rattle.ee_value.specs.declared.rates.RateRow.{RateRow}
-use Rattle.ee_desk_acts.specs.declared.acts.Act.{Act}
-use Rattle.ee_desk_acts.specs.declared.acts.Act.TheVariants as act
-use Rattle.ee_desk_acts.specs.declared.replies.Line.{Line}
-use Rattle.ee_desk_acts.specs.declared.replies.Reply.{Reply}
-use Rattle.ee_desk_acts.specs.declared.replies.Reply.TheVariants as reply
-use Rattle.ee_desk_acts.specs.declared.refusals.Refusal.{Refusal}
-use Rattle.ee_desk_acts.specs.declared.refusals.Refusal.TheVariants as refusal
+use Rattle.ee_desk_model.specs.declared.acts.Act.{Act}
+use Rattle.ee_desk_model.specs.declared.acts.Act.TheVariants as act
+use Rattle.ee_desk_model.specs.declared.replies.Line.{Line}
+use Rattle.ee_desk_model.specs.declared.replies.Reply.{Reply}
+use Rattle.ee_desk_model.specs.declared.replies.Reply.TheVariants as reply
+use Rattle.ee_desk_model.specs.declared.refusals.Refusal.{Refusal}
+use Rattle.ee_desk_model.specs.declared.refusals.Refusal.TheVariants as refusal
 use Rattle.ee_desk_texts.specs.declared.refusals.Named.{Named}
 use Rattle.ee_desk_texts.specs.declared.refusals.Named.TheVariants as named
 use Rattle.ee_desk_texts.specs.Texts.{act_text, reply_text}

@@ -22,7 +22,7 @@ use crate::fields::{
     count_at, customer_at, day_at, issue_at, items_at, rate_at, serial_at, text_at,
 };
 use ee_calculator::Bond;
-use ee_desk_acts::{Act, RateRow, Rows};
+use ee_desk_model::{Act, RateRow, Rows};
 use ee_units::{Customer, Denom, Rate, Serial, read_serial};
 use ee_value::Rates;
 use json::{Error, Scratch, Value};

@@ -3,7 +3,7 @@
 ghost use Rattle.std.specs.Prelude.{◌≡◌, IfOk, codes, string_bytes, [], ◌∷◌};
 ghost use Rattle.json.specs.Token as token;
 ghost use Rattle.serde_json.specs.Data.{string, object, member, no_members};
-ghost use Rattle.ee_desk_acts.specs.declared.acts.Act.TheVariants as act;
+ghost use Rattle.ee_desk_model.specs.declared.acts.Act.TheVariants as act;
 ghost use Rattle.ee_desk_texts.specs.Data.{day_data, list_data, act_data};
 ghost use Rattle.ee_desk_texts.specs.Texts.{act_text};
 ghost use Rattle.ee_desk_texts.specs.Ranges.{ActFits};
@@ -14,7 +14,7 @@ use crate::writing::{
     Row, text_of, write_list_member, write_number_member, write_string, write_string_member,
 };
 use ee_calculator::Bond;
-use ee_desk_acts::{Act, RateRow};
+use ee_desk_model::{Act, RateRow};
 use ee_units::{Customer, Day, Serial};
 use json::Writer;
 use std::alloc::{AllocError, Global};

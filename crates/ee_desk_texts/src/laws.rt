@@ -1,8 +1,8 @@
 //! Laws of the definitions. A body here does nothing; the clauses state the laws.
 
 ghost use Rattle.std.specs.Prelude.{◌≡◌, Option, Some};
-ghost use Rattle.ee_desk_acts.specs.declared.acts.Act.{Act};
-ghost use Rattle.ee_desk_acts.specs.declared.replies.Reply.{Reply};
+ghost use Rattle.ee_desk_model.specs.declared.acts.Act.{Act};
+ghost use Rattle.ee_desk_model.specs.declared.replies.Reply.{Reply};
 ghost use Rattle.ee_desk_texts.specs.Texts.{act_text, reply_text};
 ghost use Rattle.ee_desk_texts.specs.Ranges.{ActFits, ReplyFits};
 ghost use Rattle.ee_desk_texts.specs.Reading.{ReadsAct, ReadsReply};

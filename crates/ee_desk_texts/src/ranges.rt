@@ -2,13 +2,13 @@
 
 ghost use Rattle.std.specs.Prelude.{IfSome};
 ghost use Rattle.std.specs.List.{AllByRecursion};
-ghost use Rattle.ee_desk_acts.specs.Sound.{IsDay};
+ghost use Rattle.ee_desk_model.specs.Sound.{IsDay};
 ghost use Rattle.ee_desk_texts.specs.Data.{names};
 ghost use Rattle.ee_desk_texts.specs.Ranges.{IsSerial, IsCustomer, RateRowFits, BondFits, ActFits, LineFits, TicketFits, BatchFits, NamedFits, ReplyFits};
 
 use crate::refusals::{Named, names};
 use ee_calculator::Bond;
-use ee_desk_acts::{Act, Batch, Line, RateRow, Reply, Ticket};
+use ee_desk_model::{Act, Batch, Line, RateRow, Reply, Ticket};
 use ee_units::{Customer, Day, Serial};
 
 fn day_fits(day: Day)

@@ -6,7 +6,7 @@ ghost use Rattle.ee_desk_texts.specs.Reading.{age_at, named_by, named_of, refusa
 
 use crate::fields::{count_at, issue_at, serial_at};
 use crate::refusals::Named;
-use ee_desk_acts::{Refusal, Reply};
+use ee_desk_model::{Refusal, Reply};
 use ee_units::{Age, IssueMonth, Serial};
 use json::Value;
 

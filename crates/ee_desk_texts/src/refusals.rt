@@ -6,7 +6,7 @@ ghost use Rattle.ee_desk_texts.specs.Writing.{AddsData};
 ghost use Rattle.ee_desk_texts.specs.declared.refusals.Named.TheVariants as named;
 
 use crate::writing::{write_number_member, write_string_member, write_text_member};
-use ee_desk_acts::Refusal;
+use ee_desk_model::Refusal;
 use ee_units::{Age, IssueMonth, Serial};
 use json::Writer;
 use std::alloc::{AllocError, Global};

@@ -1,7 +1,7 @@
 //! Replies as JSON, and their texts.
 
 ghost use Rattle.std.specs.Prelude.{◌≡◌, IfOk, string_bytes};
-ghost use Rattle.ee_desk_acts.specs.declared.replies.Reply.TheVariants as reply;
+ghost use Rattle.ee_desk_model.specs.declared.replies.Reply.TheVariants as reply;
 ghost use Rattle.ee_desk_texts.specs.Data.{ticket_data, batch_data, reply_data};
 ghost use Rattle.ee_desk_texts.specs.Texts.{reply_text};
 ghost use Rattle.ee_desk_texts.specs.Ranges.{ReplyFits};
@@ -10,7 +10,7 @@ ghost use Rattle.ee_desk_texts.specs.Writing.{AddsData};
 use crate::ranges::reply_fits;
 use crate::refusals::write_refusal;
 use crate::writing::{Row, text_of, write_list_member, write_number_member, write_string_member};
-use ee_desk_acts::{Batch, Line, Reply, Ticket};
+use ee_desk_model::{Batch, Line, Reply, Ticket};
 use ee_units::Day;
 use json::Writer;
 use std::alloc::{AllocError, Global};

@@ -7,7 +7,7 @@ ghost use Rattle.ee_desk_texts.specs.Reading.{each, added_of, opened_of, batch_o
 use crate::fields::{cents_at, count_at, customer_at, day_at, items_at, serial_at};
 use crate::refusal_reading::refused_of;
 use crate::replies::reply_text;
-use ee_desk_acts::{Batch, Line, Reply, Rows, Ticket};
+use ee_desk_model::{Batch, Line, Reply, Rows, Ticket};
 use json::{Error, Scratch, Value};
 use std::alloc::{AllocError, Global};
 

@@ -5,8 +5,8 @@ use Rattle.std.proofs.lemmas.List.{take_all}
 use Rattle.std.proofs.lemmas.List.Folds.{flat_map-map}
 use Rattle.std.proofs.lemmas.Option.{same_Some}
 use Rattle.std.specs.Io.KnownBytes.{Appends}
-use Rattle.ee_device.specs.Written.{WritesFront}
-use Rattle.ee_device.proofs.Lemmas.{flat_map_more}
+use Rattle.ee_io.specs.Written.{WritesFront}
+use Rattle.ee_io.proofs.Lemmas.{flat_map_more}
 use Rattle.csv.specs.Writing.{row_text, default_writer}
 use Rattle.ee_files.specs.BondFile.{bond_columns, bond_fields, inventory_text}
 use Rattle.ee_files.specs.Rows.{header_of}

@@ -1,6 +1,6 @@
 -- The results of calls on a file.
 use Rattle.std.specs.Prelude.{◌≡◌, ◌≢◌, ℕ, List, Option, Result, Ok, Err, true, false, ⊤}
-use Rattle.ee_device.specs.Written.{WritesFront}
+use Rattle.ee_io.specs.Written.{WritesFront}
 use Rattle.ee_files.specs.declared.faults.FileCode.{FileCode}
 use Rattle.ee_files.specs.declared.faults.FileCode.TheVariants as code
 use Rattle.ee_files.specs.declared.faults.FileFault.{FileFault}

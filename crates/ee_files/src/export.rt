@@ -12,7 +12,7 @@ use crate::faults::WriteFault;
 use crate::ranges::in_range;
 use csv::{Writer, WriterBuilder};
 use ee_calculator::Bond;
-use ee_device::{Sink, write_whole};
+use ee_io::{Sink, write_whole};
 use ee_units::Customer;
 use std::alloc::{AllocError, Global};
 

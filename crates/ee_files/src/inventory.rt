@@ -2,7 +2,7 @@
 
 ghost use Rattle.std.specs.Prelude.{◌≡◌, ℕ, List, [], ◌∷◌, Some, IfErr};
 ghost use Rattle.csv.specs.Records.{fields_of};
-ghost use Rattle.ee_device.specs.ReadWhole.{TakesAtMost};
+ghost use Rattle.ee_io.specs.ReadWhole.{TakesAtMost};
 ghost use Rattle.ee_files.specs.Answers.{Gives, WasRead};
 ghost use Rattle.ee_files.specs.BondFile.{bond_columns, bond_entry, bonds_of_file};
 
@@ -13,7 +13,7 @@ use crate::headers::is_bond_header;
 use crate::records::{FileRow, read_rows};
 use csv::ByteRecord;
 use ee_calculator::Bond;
-use ee_device::Source;
+use ee_io::Source;
 use std::alloc::Global;
 
 /// Reads the first 501 bonds of an inventory file, or its first fault. The file has the header

@@ -2,7 +2,7 @@
 
 ghost use Rattle.std.specs.Prelude.{◌≡◌, ℕ, List, [], ◌∷◌, Some, IfErr};
 ghost use Rattle.csv.specs.Records.{fields_of};
-ghost use Rattle.ee_device.specs.ReadWhole.{TakesAtMost};
+ghost use Rattle.ee_io.specs.ReadWhole.{TakesAtMost};
 ghost use Rattle.ee_files.specs.Answers.{Gives, WasRead};
 ghost use Rattle.ee_files.specs.RateFile.{rate_columns, extended_columns, extension_at, rate_entry, rates_of_file};
 
@@ -12,7 +12,7 @@ use crate::fields::{extension_in, issue_in, rate_in, value_or_fault};
 use crate::headers::is_rate_header;
 use crate::records::{FileRow, read_rows};
 use csv::ByteRecord;
-use ee_device::Source;
+use ee_io::Source;
 use ee_units::Rate;
 use ee_value::{RateRow, Rates};
 use std::alloc::Global;

@@ -3,7 +3,7 @@
 ghost use Rattle.std.specs.Prelude.{◌≡◌, ℕ, List, Some, Result, IfOk, IfErr};
 ghost use Rattle.csv.specs.Reading.{default_config, records, strip_bom};
 ghost use Rattle.csv.specs.Records.{fields_of};
-ghost use Rattle.ee_device.specs.ReadWhole.{TakesAtMost};
+ghost use Rattle.ee_io.specs.ReadWhole.{TakesAtMost};
 ghost use Rattle.ee_files.specs.Answers.{Gives, Unreadable, WasRead};
 ghost use Rattle.ee_files.specs.Left.{HasLeft, TakesNext};
 ghost use Rattle.ee_files.specs.Rows.{is_header, rows_from, rows_of_file, rows_of_records};
@@ -12,7 +12,7 @@ ghost use Rattle.ee_files.specs.declared.faults.FileFault.{FileFault};
 
 use crate::faults::{FileCode, FileFault};
 use csv::{ByteRecord, Reader, ReaderBuilder};
-use ee_device::{ReadFault, Source, read_whole};
+use ee_io::{ReadFault, Source, read_whole};
 use std::alloc::Global;
 
 /// The maximum length of a file in bytes. At most one byte more is taken.

@@ -2,22 +2,22 @@
 
 ghost use Rattle.std.specs.Prelude.{◌≡◌, [], ◌∷◌, None, IfOk, IfErr, OnOk, OnErr};
 ghost use Rattle.std.specs.FinMap as finite;
-ghost use Rattle.ee_desk_acts.specs.Numbers.{number_of};
-ghost use Rattle.ee_desk_acts.specs.Outcomes.{act};
-ghost use Rattle.ee_desk_acts.specs.Paid.{paid_lines, NoneTwice, ArePaidRight};
-ghost use Rattle.ee_desk_acts.specs.Sound.{IsSound};
-ghost use Rattle.ee_desk_acts.specs.Conserved.{IsConserved};
-ghost use Rattle.ee_desk_acts.specs.Repeats.{nothing};
-ghost use Rattle.ee_desk_acts.specs.Contents.{content_after};
-ghost use Rattle.ee_desk_acts.specs.Answers.{answer, reply_again};
-ghost use Rattle.ee_desk_acts.specs.Queries.{ticket_numbered, batch_on, bonds_of};
+ghost use Rattle.ee_desk_model.specs.Numbers.{number_of};
+ghost use Rattle.ee_desk_model.specs.Outcomes.{act};
+ghost use Rattle.ee_desk_model.specs.Paid.{paid_lines, NoneTwice, ArePaidRight};
+ghost use Rattle.ee_desk_model.specs.Sound.{IsSound};
+ghost use Rattle.ee_desk_model.specs.Conserved.{IsConserved};
+ghost use Rattle.ee_desk_model.specs.Repeats.{nothing};
+ghost use Rattle.ee_desk_model.specs.Contents.{content_after};
+ghost use Rattle.ee_desk_model.specs.Answers.{answer, reply_again};
+ghost use Rattle.ee_desk_model.specs.Queries.{ticket_numbered, batch_on, bonds_of};
 ghost use Rattle.ee_keeper.specs.Kept.{kept_in};
 ghost use Rattle.ee_keeper.specs.Keeping.{IsInventory, IsQuote};
 
 use crate::keeper::Keeper;
 use ee_calculator::{Bond, Row, Sheet};
 use ee_desk::Books;
-use ee_desk_acts::{Act, Batch, Kept, Refusal, Reply, Request, RequestNumber, Ticket, Unserved};
+use ee_desk_model::{Act, Batch, Kept, Refusal, Reply, Request, RequestNumber, Ticket, Unserved};
 use ee_units::{Customer, Day, Denom, IssueMonth, Month};
 use std::alloc::{AllocError, Global};
 use std::collections::BTreeMap;
@@ -33,7 +33,7 @@ pub struct ListKeeper {
 impl Model for ListKeeper {
     ghost use Rattle.std.specs.Coded.{codes};
     ghost use Rattle.std.specs.FinMap as finite;
-    ghost use Rattle.ee_desk_acts.specs.Repeats.{Content};
+    ghost use Rattle.ee_desk_model.specs.Repeats.{Content};
 
     ghost Value = { Content };
 
@@ -166,7 +166,7 @@ impl ListKeeper {
 
 impl Keeper for ListKeeper {
     ghost use Rattle.std.specs.Prelude.{◌≡◌};
-    ghost use Rattle.ee_desk_acts.specs.Sound.{IsSound};
+    ghost use Rattle.ee_desk_model.specs.Sound.{IsSound};
 
     ghost has = { λ k c. (k ≡ c) × IsSound c.books };
 

@@ -3,8 +3,8 @@ use Rattle.std.proofs.Common.{◌≡◌, Bool, true, false, List, refl}
 use Rattle.std.specs.FinMap as finite
 use Rattle.sqlite.specs.Tree.{Trees}
 use Rattle.sqlite.specs.State.{State}
-use Rattle.ee_desk_acts.specs.declared.acts.Request.{Request}
-use Rattle.ee_desk_acts.specs.Numbers.{number_of}
+use Rattle.ee_desk_model.specs.declared.acts.Request.{Request}
+use Rattle.ee_desk_model.specs.Numbers.{number_of}
 use Rattle.ee_desk_laws.specs.Events.{World, Told, one, decided}
 use Rattle.ee_desk_laws.specs.Ties.{Leaves}
 use Rattle.ee_desk_laws.proofs.Lemmas.{leaves_new, leaves_kept}

@@ -11,11 +11,11 @@ use Rattle.sqlite.specs.Held.{Held}
 use Rattle.sqlite.specs.declared.FileStore.{FileStore}
 use Rattle.sqlite.specs.Recovery.{Image}
 use Rattle.sqlite.specs.Files.{file_state}
-use Rattle.ee_desk_acts.specs.declared.acts.Request.{Request}
-use Rattle.ee_desk_acts.specs.Answers.{answer}
-use Rattle.ee_desk_acts.specs.Numbers.{number_of}
-use Rattle.ee_desk_acts.specs.Repeats.{Content, nothing}
-use Rattle.ee_desk_acts.proofs.Lemmas.Requests.{content_after-known}
+use Rattle.ee_desk_model.specs.declared.acts.Request.{Request}
+use Rattle.ee_desk_model.specs.Answers.{answer}
+use Rattle.ee_desk_model.specs.Numbers.{number_of}
+use Rattle.ee_desk_model.specs.Repeats.{Content, nothing}
+use Rattle.ee_desk_model.proofs.Lemmas.Requests.{content_after-known}
 use Rattle.ee_desk_laws.specs.Events.{Event, World, Told, begun, decided, unserved, one, Happens}
 use Rattle.ee_desk_laws.specs.Events.Event.{Deliver, Lose, Unserved, Stop_between, Reopen}
 use Rattle.ee_desk_laws.specs.Stops.{SurvivesStops, SettlesByRetries}

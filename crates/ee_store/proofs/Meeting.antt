@@ -3,14 +3,14 @@ use Rattle.std.proofs.Common.{◌≡◌, ◌≢◌, ◌⊎◌, inl, inr, IsTrue,
 use Rattle.sqlite.specs.Effect.{IsDatabase}
 use Rattle.sqlite.specs.Tree.{Trees}
 use Rattle.sqlite.specs.State.{State, IsLive}
-use Rattle.ee_desk_acts.specs.Repeats.{Content, nothing}
+use Rattle.ee_desk_model.specs.Repeats.{Content, nothing}
 use Rattle.ee_desk_laws.specs.Events.{World, begun, stopped}
 use Rattle.ee_store_tables.specs.Rows.{Stores}
-use Rattle.ee_store_making.specs.declared.forms.Form.{Form}
-use Rattle.ee_store_making.specs.declared.forms.Form.TheVariants.{Current, First, Earliest}
-use Rattle.ee_store_making.specs.Forms.{version_of, HasForm}
-use Rattle.ee_store_making.proofs.Lemmas.Forms.{had_stored}
-use Rattle.ee_store_making.specs.Making.{first_rows}
+use Rattle.ee_store_schema.specs.declared.forms.Form.{Form}
+use Rattle.ee_store_schema.specs.declared.forms.Form.TheVariants.{Current, First, Earliest}
+use Rattle.ee_store_schema.specs.Forms.{version_of, HasForm}
+use Rattle.ee_store_schema.proofs.Lemmas.Forms.{had_stored}
+use Rattle.ee_store_schema.specs.Making.{first_rows}
 use Rattle.ee_store_contents.specs.Standing.{rows_at}
 use Rattle.ee_store_lookups.specs.Seen.{StandsFor, HasContent}
 use Rattle.ee_store.specs.Served.{FollowsWorld}

@@ -6,19 +6,19 @@ use Rattle.std.specs.FinMap.{entries, entries-from_sorted}
 use Rattle.sqlite.specs.Tree.{Trees}
 use Rattle.sqlite.specs.State.{State, HasCleanDisk, KeepsCommit, Survives}
 use Rattle.sqlite.proofs.StateLemmas.{survives_then}
-use Rattle.ee_desk_acts.specs.Repeats.{Content, nothing}
+use Rattle.ee_desk_model.specs.Repeats.{Content, nothing}
 use Rattle.ee_store_tables.specs.Keyed.{pair_cmp}
 use Rattle.ee_store_tables.specs.Rows.{Rows, Has, Stores}
-use Rattle.ee_store_making.specs.declared.forms.Form.{Form}
-use Rattle.ee_store_making.specs.declared.forms.Form.TheVariants.{Current, First, Earliest}
-use Rattle.ee_store_making.specs.declared.answers.StoredAnswer.{StoredAnswer}
-use Rattle.ee_store_making.specs.Forms.{version_of, HasForm, IsOurs, HoldsIn, HadIn}
-use Rattle.ee_store_making.specs.Making.{IsBlank}
-use Rattle.ee_store_making.specs.Migrating.{answer_entry, become, Lists, Migrates, AnswersFit, CanBecome}
-use Rattle.ee_store_making.proofs.Lemmas.Forms.{kept_had, one_form, lacks_current}
-use Rattle.ee_store_opening.specs.declared.whole.AllRows.{AllRows}
-use Rattle.ee_store_opening.specs.Whole as whole
-use Rattle.ee_store_opening.proofs.Lemmas.{one_rows}
+use Rattle.ee_store_schema.specs.declared.forms.Form.{Form}
+use Rattle.ee_store_schema.specs.declared.forms.Form.TheVariants.{Current, First, Earliest}
+use Rattle.ee_store_schema.specs.declared.answers.StoredAnswer.{StoredAnswer}
+use Rattle.ee_store_schema.specs.Forms.{version_of, HasForm, IsOurs, HoldsIn, HadIn}
+use Rattle.ee_store_schema.specs.Making.{IsBlank}
+use Rattle.ee_store_schema.specs.Migrating.{answer_entry, become, Lists, Migrates, AnswersFit, CanBecome}
+use Rattle.ee_store_schema.proofs.Lemmas.Forms.{kept_had, one_form, lacks_current}
+use Rattle.ee_store_load.specs.declared.whole.AllRows.{AllRows}
+use Rattle.ee_store_load.specs.Whole as whole
+use Rattle.ee_store_load.proofs.Lemmas.{one_rows}
 use Rattle.ee_store_contents.specs.Standing.{rows_at, rows_of, StandAt}
 use Rattle.ee_store_contents.proofs.Lemmas.{becomes}
 use Rattle.ee_store_lookups.specs.Seen.{StandsFor}

@@ -11,23 +11,23 @@ use Rattle.sqlite.proofs.StateLemmas.{survives_weaker}
 use Rattle.ee_units.specs.Spelling.{SerialNumber}
 use Rattle.ee_calculator.specs.declared.bonds.Bond.{Bond}
 use Rattle.ee_value.specs.declared.rates.Rates.{Rates}
-use Rattle.ee_desk_acts.specs.declared.changes.Kept.{Kept}
-use Rattle.ee_desk_acts.specs.Serials.{serial_cmp}
-use Rattle.ee_desk_acts.specs.Numbers.{number_cmp}
-use Rattle.ee_desk_acts.specs.Seen.{held_as}
-use Rattle.ee_desk_acts.specs.Repeats.{Content, nothing}
-use Rattle.ee_desk_acts.proofs.Lemmas.Books.{empty_is_sound}
+use Rattle.ee_desk_model.specs.declared.changes.Kept.{Kept}
+use Rattle.ee_desk_model.specs.Serials.{serial_cmp}
+use Rattle.ee_desk_model.specs.Numbers.{number_cmp}
+use Rattle.ee_desk_model.specs.Seen.{held_as}
+use Rattle.ee_desk_model.specs.Repeats.{Content, nothing}
+use Rattle.ee_desk_model.proofs.Lemmas.Books.{empty_is_sound}
 use Rattle.ee_store_contents.proofs.Lemmas.{is_at}
 use Rattle.ee_desk_texts.specs.Ranges.{BondFits}
 use Rattle.ee_store_tables.specs.Keyed.{pair_cmp}
 use Rattle.ee_store_tables.specs.Rows.{Rows, Has, Stores}
-use Rattle.ee_store_making.specs.declared.forms.Form.{Form}
-use Rattle.ee_store_making.specs.declared.forms.Form.TheVariants.{Current}
-use Rattle.ee_store_making.specs.Forms.{version_of, HoldsIn, HasForm, HadIn}
-use Rattle.ee_store_making.specs.Making.{IsBlank, first_rows}
-use Rattle.ee_store_opening.specs.Opening.{HasTables, IsOtherVersion}
-use Rattle.ee_store_opening.proofs.Lemmas.{ours_tables, one_version}
-use Rattle.ee_store_making.proofs.Lemmas.Forms.{no_entries, not_blank}
+use Rattle.ee_store_schema.specs.declared.forms.Form.{Form}
+use Rattle.ee_store_schema.specs.declared.forms.Form.TheVariants.{Current}
+use Rattle.ee_store_schema.specs.Forms.{version_of, HoldsIn, HasForm, HadIn}
+use Rattle.ee_store_schema.specs.Making.{IsBlank, first_rows}
+use Rattle.ee_store_load.specs.Opening.{HasTables, IsOtherVersion}
+use Rattle.ee_store_load.proofs.Lemmas.{ours_tables, one_version}
+use Rattle.ee_store_schema.proofs.Lemmas.Forms.{no_entries, not_blank}
 use Rattle.ee_store_contents.specs.Standing.{rows_at, rows_of, extension_entry, bond_row, reply_row, key_of, IsRight, IsKept}
 use Rattle.ee_store_lookups.specs.Seen.{StandsFor, HasContent}
 use Rattle.ee_store.specs.Adopted.{StoodFor, HadContent, HasSome, IfConnection}

@@ -8,9 +8,9 @@ use Rattle.sqlite.specs.Effect.{Database}
 use Rattle.sqlite.specs.State.{State, IsLive}
 use Rattle.ee_store_tables.specs.Keyed.{pair_cmp, stored, AreRows, HoldsPairs}
 use Rattle.ee_store_tables.specs.Rows.{Has, Rises, HasRoomIn, bond_columns, paid_columns, reply_columns}
-use Rattle.ee_store_making.specs.Making.{IsBlank, first_rows}
+use Rattle.ee_store_schema.specs.Making.{IsBlank, first_rows}
 use Rattle.ee_store.specs.Adopted.{OpensWithRoom}
-use Rattle.ee_store_making.proofs.Lemmas.Forms.{no_entries}
+use Rattle.ee_store_schema.proofs.Lemmas.Forms.{no_entries}
 
 no_rows_of : {A : Type 0} (row : A → Row) (rows : List Row) (xs : List A) → AreRows row rows xs → length xs ≡ 0 → rows ≡ []
 no_rows_of row [] xs are none = refl

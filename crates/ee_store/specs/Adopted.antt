@@ -11,20 +11,20 @@ use Rattle.sqlite.specs.Files.{file_state, IsOpened}
 use Rattle.sqlite.specs.Recovery.{Image}
 use Rattle.sqlite.specs.State.{State, KeepsCommit, Survives}
 use Rattle.ee_store_files.specs.Files.{Finds}
-use Rattle.ee_desk_acts.specs.Repeats.{Content, nothing}
+use Rattle.ee_desk_model.specs.Repeats.{Content, nothing}
 use Rattle.ee_desk_laws.specs.Events.{World, Happens, begun}
 use Rattle.ee_desk_laws.specs.Events.Event.{Stop_between, Reopen}
 use Rattle.ee_desk_laws.specs.Ties.{Leaves}
-use Rattle.ee_store_making.specs.declared.forms.Form.{Form}
-use Rattle.ee_store_making.specs.declared.forms.Form.TheVariants.{Current, First, Earliest}
-use Rattle.ee_store_making.specs.Forms.{version_of, StoresIn, HasForm, IsOurs, HadIn}
-use Rattle.ee_store_making.specs.Migrating.{AnswersFit}
-use Rattle.ee_store_making.specs.Making.{IsBlank}
+use Rattle.ee_store_schema.specs.declared.forms.Form.{Form}
+use Rattle.ee_store_schema.specs.declared.forms.Form.TheVariants.{Current, First, Earliest}
+use Rattle.ee_store_schema.specs.Forms.{version_of, StoresIn, HasForm, IsOurs, HadIn}
+use Rattle.ee_store_schema.specs.Migrating.{AnswersFit}
+use Rattle.ee_store_schema.specs.Making.{IsBlank}
 use Rattle.ee_store_tables.specs.Rows.{Rows, DeskRow, HasRoomIn, HasRoom}
 use Rattle.ee_store_tables.specs.Statements.{HasCause}
-use Rattle.ee_store_opening.specs.Opening.{HasTables, IsOther, IsOtherVersion, ShowsOther, SeesDesk}
-use Rattle.ee_store_making.specs.declared.faults.OpenFault.{OpenFault}
-use Rattle.ee_store_making.specs.declared.faults.OpenFault.TheVariants.{StoreFailed, WrongVersion, Unusable}
+use Rattle.ee_store_load.specs.Opening.{HasTables, IsOther, IsOtherVersion, ShowsOther, SeesDesk}
+use Rattle.ee_store_schema.specs.declared.faults.OpenFault.{OpenFault}
+use Rattle.ee_store_schema.specs.declared.faults.OpenFault.TheVariants.{StoreFailed, WrongVersion, Unusable}
 use Rattle.ee_store.specs.declared.opening.Rest.{Rest}
 use Rattle.ee_store.specs.declared.opening.Rest.TheVariants.{Connection, Files}
 use Rattle.ee_store_contents.specs.Standing.{rows_at, IsRight}

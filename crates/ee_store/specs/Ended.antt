@@ -9,7 +9,7 @@ use Rattle.sqlite.specs.declared.FileStore.{FileStore}
 use Rattle.sqlite.specs.Held.{Held}
 use Rattle.sqlite.specs.Files.{image_of, file_state}
 use Rattle.sqlite.specs.Closing.{HoldsAlone}
-use Rattle.ee_desk_acts.specs.Repeats.{Content}
+use Rattle.ee_desk_model.specs.Repeats.{Content}
 use Rattle.ee_store_lookups.specs.Seen.{StandsFor, HasContent}
 
 -- the two files are a store of the content, and so is the database file without its log

@@ -10,8 +10,8 @@ use Rattle.sqlite.specs.declared.FileStore.{FileStore}
 use Rattle.sqlite.specs.Held.{Held}
 use Rattle.sqlite.specs.Files.{image_of, file_state}
 use Rattle.sqlite.specs.Recovery.{Image}
-use Rattle.ee_desk_acts.specs.declared.acts.Request.{Request}
-use Rattle.ee_desk_acts.specs.Repeats.{Content, nothing}
+use Rattle.ee_desk_model.specs.declared.acts.Request.{Request}
+use Rattle.ee_desk_model.specs.Repeats.{Content, nothing}
 use Rattle.ee_desk_laws.specs.Events.{Event, World, begun, Happens}
 use Rattle.ee_desk_laws.specs.Events.Event.{Deliver, Stop_between, Reopen}
 use Rattle.ee_desk_laws.specs.Stops.{Survives, Settles, sent}

@@ -7,11 +7,11 @@ use Rattle.sqlite.specs.Held.{Held}
 use Rattle.sqlite.specs.Tree.{Trees}
 use Rattle.sqlite.specs.Files.{file_state, HoldsDatabase}
 use Rattle.sqlite.specs.Recovery.{Image}
-use Rattle.ee_desk_acts.specs.Repeats.{Content}
+use Rattle.ee_desk_model.specs.Repeats.{Content}
 use Rattle.ee_desk_laws.specs.Events.{World, Happens}
 use Rattle.ee_desk_laws.specs.Events.Event.{Stop_between, Reopen}
 use Rattle.ee_desk_laws.specs.Ties.{Leaves}
-use Rattle.ee_store_making.specs.declared.faults.OpenFault.{OpenFault}
+use Rattle.ee_store_schema.specs.declared.faults.OpenFault.{OpenFault}
 use Rattle.ee_store_lookups.specs.Seen.{StandsFor}
 use Rattle.ee_store.specs.Served.{FollowsWorld}
 use Rattle.ee_store.specs.Adopted.{IsOpenedFrom, IsRefusedFrom}

@@ -1,11 +1,11 @@
 -- The events of a keeper's calls, and why they fail.
 use Rattle.std.specs.Prelude.{◌≡◌, Result, IfErr}
 use Rattle.sqlite.specs.State.{State, HasCleanDisk}
-use Rattle.ee_desk_acts.specs.Repeats.{Content}
+use Rattle.ee_desk_model.specs.Repeats.{Content}
 use Rattle.ee_desk_laws.specs.Events.{World}
 use Rattle.ee_desk_laws.specs.Ties.{Leaves}
-use Rattle.ee_desk_acts.specs.declared.refusals.Unserved.{Unserved}
-use Rattle.ee_desk_acts.specs.declared.refusals.Unserved.TheVariants as unserved
+use Rattle.ee_desk_model.specs.declared.refusals.Unserved.{Unserved}
+use Rattle.ee_desk_model.specs.declared.refusals.Unserved.TheVariants as unserved
 use Rattle.ee_store_tables.specs.Statements.{HasCause}
 use Rattle.ee_store_tables.specs.declared.failures.Failure.{Failure}
 use Rattle.ee_store_lookups.specs.Seen.{StandsFor, HasContent}

@@ -3,12 +3,12 @@
 ghost use Rattle.std.specs.Prelude.{◌≡◌, ◌≢◌, false, IsTrue, IfOk, IfErr, OnOk, OnErr, MatchResult};
 ghost use Rattle.sqlite.specs.Held.{state};
 ghost use Rattle.sqlite.specs.State.{HasCleanDisk, IsLive, KeepsCommit, Survives};
-ghost use Rattle.ee_desk_acts.specs.Repeats.{Content, nothing};
-ghost use Rattle.ee_store_making.specs.Making.{IsBlank};
-ghost use Rattle.ee_store_opening.specs.Whole.{AreInOrder, AreRead};
+ghost use Rattle.ee_desk_model.specs.Repeats.{Content, nothing};
+ghost use Rattle.ee_store_schema.specs.Making.{IsBlank};
+ghost use Rattle.ee_store_load.specs.Whole.{AreInOrder, AreRead};
 ghost use Rattle.ee_store_contents.specs.Contents.{KeepsAnswer, tables_for};
 ghost use Rattle.ee_store_contents.specs.Standing.{StandAt};
-ghost use Rattle.ee_store_making.specs.Forms.{version_of};
+ghost use Rattle.ee_store_schema.specs.Forms.{version_of};
 ghost use Rattle.ee_store_tables.specs.Rows.{Rows};
 ghost use Rattle.ee_store_lookups.specs.Seen.{StandsFor};
 ghost use Rattle.ee_store.specs.Adopted.{
@@ -30,11 +30,11 @@ ghost use Rattle.ee_store_lookups.specs.Causes.{IsReady};
 ghost use Rattle.ee_store_delivery.specs.Known.{IsInformed};
 
 use crate::keeper::SqlKeeper;
-use ee_desk_acts::UnitTables;
+use ee_desk_model::UnitTables;
 use ee_store_contents::{ContentFault, KeptReply, Tested, tables_of};
 use ee_store_delivery::Known;
-use ee_store_making::{OpenFault, make_tables, migrate};
-use ee_store_opening::{AllRows, is_blank, open_rows};
+use ee_store_load::{AllRows, is_blank, open_rows};
+use ee_store_schema::{OpenFault, make_tables, migrate};
 use sqlite::{Alter, Connection};
 use std::alloc::Global;
 

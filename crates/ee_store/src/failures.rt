@@ -3,7 +3,7 @@
 ghost use Rattle.std.specs.Prelude.{◌≡◌};
 ghost use Rattle.ee_store.specs.Served.{unserved_as};
 
-use ee_desk_acts::Unserved;
+use ee_desk_model::Unserved;
 use ee_store_tables::Failure;
 
 /// Why a request or a query was not served: want of memory, or a store that failed.

@@ -15,7 +15,7 @@ ghost use Rattle.ee_store.specs.NextRun.{IsNumbered, LeavesStanding, FollowsOn};
 
 use crate::keeper::SqlKeeper;
 use ee_store_files::open_path;
-use ee_store_making::OpenFault;
+use ee_store_schema::OpenFault;
 use sqlite::{Alter, Connection, File, FileFrom, FileStore, Leftover, Start, Unknown};
 use sqlite_disk::Disk;
 

@@ -3,13 +3,13 @@ use Rattle.std.proofs.Common.{◌≡◌, ℕ, Bool, true, false, cond, Option, S
 use Rattle.std.specs.Cmp.{nat_cmp_total}
 use Rattle.std.specs.Ordering.{nat_cmp, eq_by_cmp}
 use Rattle.std.specs.FinMap.{FinMap, nat_cmp-IsAntisymmetric, empty, get, insert, get-insert, same_map}
-use Rattle.ee_desk_acts.specs.Repeats.{Content}
+use Rattle.ee_desk_model.specs.Repeats.{Content}
 use Rattle.ee_store_tables.specs.Rows.{DeskRow}
-use Rattle.ee_store_making.specs.declared.forms.Form.{Form}
-use Rattle.ee_store_making.specs.declared.forms.Form.TheVariants.{Current, First, Earliest}
-use Rattle.ee_store_making.specs.Forms.{version_of}
-use Rattle.ee_store_making.specs.Migrating.{become, with_version, with_version_of}
-use Rattle.ee_store_opening.specs.Opening.{IsOfForm}
+use Rattle.ee_store_schema.specs.declared.forms.Form.{Form}
+use Rattle.ee_store_schema.specs.declared.forms.Form.TheVariants.{Current, First, Earliest}
+use Rattle.ee_store_schema.specs.Forms.{version_of}
+use Rattle.ee_store_schema.specs.Migrating.{become, with_version, with_version_of}
+use Rattle.ee_store_load.specs.Opening.{IsOfForm}
 use Rattle.ee_store_contents.specs.Standing.{desk_rows, rows_at, rows_of}
 use Rattle.ee_store_contents.proofs.Images.{get_desk}
 

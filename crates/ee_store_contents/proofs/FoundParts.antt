@@ -4,13 +4,13 @@ use Rattle.std.specs.Prelude.{Some}
 use Rattle.ee_units.specs.Spelling.{SerialNumber}
 use Rattle.ee_value.specs.declared.rates.RateRow.{RateRow}
 use Rattle.ee_calculator.specs.declared.bonds.Bond.{Bond}
-use Rattle.ee_desk_acts.specs.declared.replies.Ticket.{Ticket}
-use Rattle.ee_desk_acts.specs.declared.replies.Batch.{Batch}
-use Rattle.ee_desk_acts.specs.PlainBooks.{ticket_of}
+use Rattle.ee_desk_model.specs.declared.replies.Ticket.{Ticket}
+use Rattle.ee_desk_model.specs.declared.replies.Batch.{Batch}
+use Rattle.ee_desk_model.specs.PlainBooks.{ticket_of}
 use Rattle.ee_store_contents.specs.declared.reading.Days.{Days}
-use Rattle.ee_store_opening.specs.declared.whole.AllRows.{AllRows}
+use Rattle.ee_store_load.specs.declared.whole.AllRows.{AllRows}
 use Rattle.ee_store_contents.specs.Reading.{each, days_in, rates_in, bond_in, tickets_in, batch_in, parts_in, mark_at}
-use Rattle.ee_store_making.specs.Forms.{version_of}
+use Rattle.ee_store_schema.specs.Forms.{version_of}
 use Rattle.ee_store_contents.proofs.ReadBack.{bind_some}
 
 pub parts_found : (stored : AllRows) (days : Days) (rates : List RateRow) (tickets : List Ticket) (marks : List (SerialNumber × ℕ)) (bonds : List Bond) (batches : List Batch)

@@ -3,20 +3,20 @@ use Rattle.std.proofs.Common.{◌≡◌, true, false, ℕ, List, map, refl, sym,
 use Rattle.std.proofs.lemmas.Bool.{false≢true}
 use Rattle.std.specs.Prelude.{Some, None}
 use Rattle.ee_value.specs.declared.rates.Rates.{Rates}
-use Rattle.ee_desk_acts.specs.PlainBooks.{PlainBooks}
-use Rattle.ee_desk_acts.specs.Sound.{IsSound}
-use Rattle.ee_desk_acts.specs.Repeats.{Content}
-use Rattle.ee_desk_acts.specs.UnitTables.{tables_in}
-use Rattle.ee_desk_parts.specs.declared.parts.Parts.{Parts}
-use Rattle.ee_desk_parts.specs.Parts.{parts_of, AreUnsound}
-use Rattle.ee_desk_parts.specs.Checks.{books_of, entry_of_row, AreSound}
-use Rattle.ee_desk_parts.proofs.Lemmas.{parts_of-books_of}
+use Rattle.ee_desk_model.specs.PlainBooks.{PlainBooks}
+use Rattle.ee_desk_model.specs.Sound.{IsSound}
+use Rattle.ee_desk_model.specs.Repeats.{Content}
+use Rattle.ee_desk_model.specs.UnitTables.{tables_in}
+use Rattle.ee_desk_soundness.specs.declared.parts.Parts.{Parts}
+use Rattle.ee_desk_soundness.specs.Parts.{parts_of, AreUnsound}
+use Rattle.ee_desk_soundness.specs.Checks.{books_of, entry_of_row, AreSound}
+use Rattle.ee_desk_soundness.proofs.Lemmas.{parts_of-books_of}
 use Rattle.ee_store_tables.specs.Rows.{Rows}
-use Rattle.ee_store_opening.specs.declared.whole.AllRows.{AllRows}
+use Rattle.ee_store_load.specs.declared.whole.AllRows.{AllRows}
 use Rattle.ee_store_contents.specs.Standing.{StandAt}
-use Rattle.ee_store_making.specs.Forms.{version_of}
-use Rattle.ee_store_opening.specs.Shown.{answer_map}
-use Rattle.ee_store_opening.specs.Whole.{AreInOrder, AreRead, rows_with}
+use Rattle.ee_store_schema.specs.Forms.{version_of}
+use Rattle.ee_store_load.specs.Shown.{answer_map}
+use Rattle.ee_store_load.specs.Whole.{AreInOrder, AreRead, rows_with}
 use Rattle.ee_store_contents.specs.Contents.{PartsFit, KeepsAnswer, tables_for}
 use Rattle.ee_store_contents.specs.Reading.{parts_in}
 use Rattle.ee_store_contents.proofs.KeptTables.{own, tables_made}

@@ -16,14 +16,14 @@ use Rattle.ee_value.specs.declared.rates.Rates.{Rates}
 use Rattle.ee_value.specs.Chain.{rates_with, named_extension}
 use Rattle.ee_value.proofs.Lemmas.{rates-back}
 use Rattle.ee_calculator.specs.declared.bonds.Bond.{Bond}
-use Rattle.ee_desk_acts.specs.declared.changes.Kept.{Kept}
-use Rattle.ee_desk_acts.specs.declared.replies.Ticket.{Ticket}
-use Rattle.ee_desk_acts.specs.Serials.{serial_cmp}
-use Rattle.ee_desk_acts.specs.Numbers.{Number, number_cmp}
-use Rattle.ee_desk_acts.specs.Seen.{held_as}
-use Rattle.ee_desk_acts.proofs.Lemmas.Maps.{serials_total, serials_exact, numbers_total, numbers_exact}
+use Rattle.ee_desk_model.specs.declared.changes.Kept.{Kept}
+use Rattle.ee_desk_model.specs.declared.replies.Ticket.{Ticket}
+use Rattle.ee_desk_model.specs.Serials.{serial_cmp}
+use Rattle.ee_desk_model.specs.Numbers.{Number, number_cmp}
+use Rattle.ee_desk_model.specs.Seen.{held_as}
+use Rattle.ee_desk_model.proofs.Lemmas.Maps.{serials_total, serials_exact, numbers_total, numbers_exact}
 use Rattle.std.proofs.lemmas.Map.Views.{tells_apart}
-use Rattle.ee_desk_parts.proofs.Lemmas.{none_below}
+use Rattle.ee_desk_soundness.proofs.Lemmas.{none_below}
 use Rattle.ee_store_tables.specs.Keyed.{pair_cmp}
 use Rattle.ee_store_contents.specs.Standing.{desk_rows, rate_rows, extension_entry, extension_rows, bond_rows, bond_row, key_of, reply_rows, reply_row}
 

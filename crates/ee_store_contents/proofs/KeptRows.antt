@@ -2,13 +2,13 @@
 use Rattle.std.proofs.Common.{◌≡◌, ◌↔◌, ℕ, ◌≤◌, Bool, true, false, not, List, refl, sym, ◌∙◌, subst}
 use Rattle.std.specs.Prelude.{Option, Some, None, string_bytes}
 use Rattle.std.proofs.lemmas.Bool.{false≢true, not-true}
-use Rattle.ee_desk_acts.specs.declared.acts.Act.{Act}
-use Rattle.ee_desk_acts.specs.declared.replies.Reply.{Reply}
-use Rattle.ee_desk_acts.specs.declared.replies.Reply.TheVariants.{Refused}
-use Rattle.ee_desk_acts.specs.declared.refusals.Refusal.TheVariants.{NumberReused}
+use Rattle.ee_desk_model.specs.declared.acts.Act.{Act}
+use Rattle.ee_desk_model.specs.declared.replies.Reply.{Reply}
+use Rattle.ee_desk_model.specs.declared.replies.Reply.TheVariants.{Refused}
+use Rattle.ee_desk_model.specs.declared.refusals.Refusal.TheVariants.{NumberReused}
 use Rattle.ee_desk_texts.specs.Reading.{ReadsAct, ReadsReply}
 use Rattle.ee_desk_texts.proofs.Lemmas.{one_reply}
-use Rattle.ee_store_making.specs.declared.answers.StoredAnswer.{StoredAnswer}
+use Rattle.ee_store_schema.specs.declared.answers.StoredAnswer.{StoredAnswer}
 use Rattle.ee_store_contents.specs.Contents.{KeepsAnswer}
 
 pub no_desk : (row : StoredAnswer) → (row.desk ≤ 999 → ⊥) → KeepsAnswer row → ⊥

@@ -8,11 +8,11 @@ use Rattle.std.specs.Cmp.{IsTotalOrder, nat_cmp_total, then_total, on_total}
 use Rattle.std.proofs.lemmas.Map.Lookups.{exact_pairs, exact_unsigned}
 use Rattle.std.proofs.lemmas.Map.Views.{tells_apart}
 use Rattle.ee_value.specs.declared.rates.Rates.{Rates}
-use Rattle.ee_desk_acts.specs.PlainBooks.{PlainBooks}
-use Rattle.ee_desk_acts.specs.UnitTables.{rates_cmp, tables_in}
-use Rattle.ee_desk_parts.specs.declared.parts.Parts.{Parts}
-use Rattle.ee_desk_parts.specs.Parts.{parts_of, row_of_entry}
-use Rattle.ee_desk_parts.specs.Checks.{entry_of_row}
+use Rattle.ee_desk_model.specs.PlainBooks.{PlainBooks}
+use Rattle.ee_desk_model.specs.UnitTables.{rates_cmp, tables_in}
+use Rattle.ee_desk_soundness.specs.declared.parts.Parts.{Parts}
+use Rattle.ee_desk_soundness.specs.Parts.{parts_of, row_of_entry}
+use Rattle.ee_desk_soundness.specs.Checks.{entry_of_row}
 use Rattle.ee_store_contents.specs.Contents.{tables_for}
 use Rattle.ee_store_contents.proofs.RowsOfBooks.{fuse, undone}
 

@@ -6,20 +6,20 @@ use Rattle.std.specs.Option.{option_and_then, option_map}
 use Rattle.std.specs.Ordering.{nat_cmp}
 use Rattle.std.specs.Prelude.{T, flat_map, IsSome}
 use Rattle.std.specs.declared.cmp.Ordering.{Ordering}
-use Rattle.ee_desk_acts.specs.Numbers.{number_cmp, Number}
-use Rattle.ee_desk_acts.specs.Seen.{held_as}
-use Rattle.ee_desk_acts.specs.Serials.{serial_cmp}
-use Rattle.ee_desk_acts.specs.Sound.{IsRightBond, NumberedFrom}
-use Rattle.ee_desk_acts.specs.declared.changes.Kept.{Kept}
-use Rattle.ee_desk_acts.specs.declared.replies.Ticket.{Ticket}
+use Rattle.ee_desk_model.specs.Numbers.{number_cmp, Number}
+use Rattle.ee_desk_model.specs.Seen.{held_as}
+use Rattle.ee_desk_model.specs.Serials.{serial_cmp}
+use Rattle.ee_desk_model.specs.Sound.{IsRightBond, NumberedFrom}
+use Rattle.ee_desk_model.specs.declared.changes.Kept.{Kept}
+use Rattle.ee_desk_model.specs.declared.replies.Ticket.{Ticket}
 use Rattle.ee_calculator.specs.declared.bonds.Bond.{Bond}
 use Rattle.ee_store_contents.specs.Contents.{PartsFit}
-use Rattle.ee_desk_parts.specs.Parts.{parts_of}
-use Rattle.ee_desk_acts.specs.Repeats.{Content}
+use Rattle.ee_desk_soundness.specs.Parts.{parts_of}
+use Rattle.ee_desk_model.specs.Repeats.{Content}
 use Rattle.ee_store_contents.specs.Standing.{bond_row, bond_rows, desk_rows, extension_rows, key_of, paid_rows, rate_rows, reply_row, reply_rows, ticket_rows, IsRight, StandAt, rows_at, rows_of}
-use Rattle.ee_store_making.specs.declared.forms.Form.{Form}
-use Rattle.ee_store_making.specs.Forms.{version_of}
-use Rattle.ee_store_making.specs.Migrating.{become}
+use Rattle.ee_store_schema.specs.declared.forms.Form.{Form}
+use Rattle.ee_store_schema.specs.Forms.{version_of}
+use Rattle.ee_store_schema.specs.Migrating.{become}
 use Rattle.ee_store_contents.proofs.Becoming
 use Rattle.ee_units.specs.Denoms.{dollars, denom_with}
 use Rattle.ee_units.specs.Spelling.{SerialNumber, ◌>>=◌, in_range, serial_at}
@@ -29,7 +29,7 @@ use Rattle.ee_value.specs.declared.rates.Rates.{Rates}
 use Rattle.std.specs.FinMap as finite
 use Rattle.ee_desk_texts.specs.Ranges.{IsSerial}
 use Rattle.ee_store_tables.specs.Rows.{Rows, IsText}
-use Rattle.ee_store_opening.specs.Opening.{AreReadable, IsOfForm}
+use Rattle.ee_store_load.specs.Opening.{AreReadable, IsOfForm}
 use Rattle.ee_store_contents.proofs.Images
 use Rattle.ee_store_contents.proofs.OneContent
 use Rattle.ee_store_contents.proofs.Orders

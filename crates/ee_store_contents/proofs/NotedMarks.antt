@@ -8,12 +8,12 @@ use Rattle.std.proofs.lemmas.List.{take_more}
 use Rattle.std.proofs.lemmas.List.Folds.{list_any-append}
 use Rattle.std.proofs.Math.Bool.{or-false}
 use Rattle.ee_units.specs.Spelling.{SerialNumber}
-use Rattle.ee_desk_acts.specs.declared.replies.Line.{Line}
-use Rattle.ee_desk_acts.specs.declared.replies.Ticket.{Ticket}
-use Rattle.ee_desk_acts.specs.Serials.{serial_cmp, same_serial}
-use Rattle.ee_desk_acts.specs.PlainBooks.{names, ticket_of}
-use Rattle.ee_desk_acts.proofs.Lemmas.Maps.{serials_tied, same_serial-swap, same_serial-is}
-use Rattle.ee_desk_acts.proofs.Lemmas.Books.{ticket_of_push}
+use Rattle.ee_desk_model.specs.declared.replies.Line.{Line}
+use Rattle.ee_desk_model.specs.declared.replies.Ticket.{Ticket}
+use Rattle.ee_desk_model.specs.Serials.{serial_cmp, same_serial}
+use Rattle.ee_desk_model.specs.PlainBooks.{names, ticket_of}
+use Rattle.ee_desk_model.proofs.Lemmas.Maps.{serials_tied, same_serial-swap, same_serial-is}
+use Rattle.ee_desk_model.proofs.Lemmas.Books.{ticket_of_push}
 use Rattle.ee_store_contents.specs.Reading.{mark_at}
 
 -- ---- one serial

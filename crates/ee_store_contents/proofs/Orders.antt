@@ -7,11 +7,11 @@ use Rattle.std.specs.Cmp.{nat_cmp_total, nat_cmp_is, tied_itself}
 use Rattle.std.specs.FinMap.{nat_cmp-IsAntisymmetric, entries, is_sorted}
 use Rattle.std.specs.FinMap.Entries.{below_all}
 use Rattle.std.proofs.Math.Facts.{yes_and}
-use Rattle.ee_desk_acts.specs.declared.replies.Line.{Line}
-use Rattle.ee_desk_acts.specs.declared.replies.Ticket.{Ticket}
-use Rattle.ee_desk_acts.specs.declared.replies.Batch.{Batch}
-use Rattle.ee_desk_acts.specs.Lists.{Rising}
-use Rattle.ee_desk_acts.specs.Sound.{NumberedFrom, day_of_batch}
+use Rattle.ee_desk_model.specs.declared.replies.Line.{Line}
+use Rattle.ee_desk_model.specs.declared.replies.Ticket.{Ticket}
+use Rattle.ee_desk_model.specs.declared.replies.Batch.{Batch}
+use Rattle.ee_desk_model.specs.Lists.{Rising}
+use Rattle.ee_desk_model.specs.Sound.{NumberedFrom, day_of_batch}
 use Rattle.ee_store_tables.specs.Keyed.{pair_cmp}
 use Rattle.ee_store_tables.specs.Rows.{TicketRow, PaidRow, BatchRow}
 use Rattle.ee_store_contents.specs.Standing.{ticket_rows, ticket_row, paid_rows, placed, batch_rows, batch_row}

@@ -10,20 +10,20 @@ use Rattle.ee_units.specs.declared.denoms.Denom.{Denom}
 use Rattle.ee_units.specs.declared.denoms.Denom.TheVariants as denom
 use Rattle.ee_units.proofs.Lemmas.{in_range-is, in_range_back, denom_with-dollars}
 use Rattle.ee_calculator.specs.declared.bonds.Bond.{Bond}
-use Rattle.ee_desk_acts.specs.declared.replies.Line.{Line}
-use Rattle.ee_desk_acts.specs.declared.replies.Ticket.{Ticket}
-use Rattle.ee_desk_acts.specs.declared.replies.Batch.{Batch}
-use Rattle.ee_desk_acts.specs.Sound.{IsDay}
-use Rattle.ee_desk_acts.specs.PlainBooks.{ticket_of}
-use Rattle.ee_desk_acts.proofs.Lemmas.Books.{option_eq-is}
+use Rattle.ee_desk_model.specs.declared.replies.Line.{Line}
+use Rattle.ee_desk_model.specs.declared.replies.Ticket.{Ticket}
+use Rattle.ee_desk_model.specs.declared.replies.Batch.{Batch}
+use Rattle.ee_desk_model.specs.Sound.{IsDay}
+use Rattle.ee_desk_model.specs.PlainBooks.{ticket_of}
+use Rattle.ee_desk_model.proofs.Lemmas.Books.{option_eq-is}
 use Rattle.ee_units.specs.Denoms.{denom_with, dollars}
 use Rattle.ee_desk_texts.specs.Ranges.{IsSerial, IsCustomer, BondFits, LineFits, TicketFits, BatchFits}
 use Rattle.ee_store_contents.specs.declared.reading.Days.{Days}
-use Rattle.ee_store_opening.specs.declared.entries.StoredDesk.{StoredDesk}
-use Rattle.ee_store_opening.specs.declared.entries.StoredBond.{StoredBond}
-use Rattle.ee_store_opening.specs.declared.entries.StoredTicket.{StoredTicket}
-use Rattle.ee_store_opening.specs.declared.entries.StoredLine.{StoredLine}
-use Rattle.ee_store_opening.specs.declared.entries.StoredBatch.{StoredBatch}
+use Rattle.ee_store_load.specs.declared.entries.StoredDesk.{StoredDesk}
+use Rattle.ee_store_load.specs.declared.entries.StoredBond.{StoredBond}
+use Rattle.ee_store_load.specs.declared.entries.StoredTicket.{StoredTicket}
+use Rattle.ee_store_load.specs.declared.entries.StoredLine.{StoredLine}
+use Rattle.ee_store_load.specs.declared.entries.StoredBatch.{StoredBatch}
 use Rattle.ee_store_contents.specs.Contents.{stored_desk, stored_held, stored_bond, stored_ticket, stored_line, placed_lines, stored_lines, stored_batch}
 use Rattle.ee_store_contents.specs.Reading.{each, optional_in, issue_in, day_in, customer_in, days_of, days_in, plain_bond_in, marked_right, bond_in, line_in, line_at, lines_at, ticket_with, ticket_in, tickets_in, batch_in}
 

@@ -4,15 +4,15 @@ use Rattle.std.specs.Option.{option_map, unwrap_or}
 use Rattle.std.specs.FinMap as finite
 use Rattle.ee_store_contents.proofs.Images.{get_desk, get_reply}
 use Rattle.ee_desk_texts.proofs.Lemmas.{act_text-utf8, reply_text-utf8}
-use Rattle.ee_desk_acts.specs.declared.changes.Kept.{Kept}
-use Rattle.ee_desk_acts.specs.Numbers.{Number}
-use Rattle.ee_desk_acts.specs.Repeats.{Content}
+use Rattle.ee_desk_model.specs.declared.changes.Kept.{Kept}
+use Rattle.ee_desk_model.specs.Numbers.{Number}
+use Rattle.ee_desk_model.specs.Repeats.{Content}
 use Rattle.ee_store_tables.specs.Rows.{ReplyRow, IsText}
-use Rattle.ee_store_opening.specs.Opening.{AreReadable}
+use Rattle.ee_store_load.specs.Opening.{AreReadable}
 use Rattle.ee_store_contents.specs.Standing.{rows_at, rows_of, reply_row, IsRight, IsKept}
-use Rattle.ee_store_making.specs.declared.forms.Form.{Form}
-use Rattle.ee_store_making.specs.declared.forms.Form.TheVariants.{Current}
-use Rattle.ee_store_making.specs.Forms.{version_of}
+use Rattle.ee_store_schema.specs.declared.forms.Form.{Form}
+use Rattle.ee_store_schema.specs.declared.forms.Form.TheVariants.{Current}
+use Rattle.ee_store_schema.specs.Forms.{version_of}
 
 row_readable : (n : Number) (o : Option Kept) (row : ReplyRow) → IfSome o (IsKept n) → Some row ≡ option_map reply_row o → IsUtf8 row.act × IsUtf8 row.reply
 row_readable n None row kept is = absurd (cc)

@@ -13,36 +13,36 @@ use Rattle.ee_units.specs.Spelling.{SerialNumber}
 use Rattle.ee_value.specs.declared.rates.Rates.{Rates}
 use Rattle.ee_value.specs.Chain.{named_extension}
 use Rattle.ee_calculator.specs.declared.bonds.Bond.{Bond}
-use Rattle.ee_desk_acts.specs.declared.changes.Kept.{Kept}
-use Rattle.ee_desk_acts.specs.declared.replies.Line.{Line}
-use Rattle.ee_desk_acts.specs.declared.replies.Ticket.{Ticket}
-use Rattle.ee_desk_acts.specs.declared.replies.Batch.{Batch}
-use Rattle.ee_desk_acts.specs.Serials.{serial_cmp}
-use Rattle.ee_desk_acts.specs.Numbers.{number_cmp}
-use Rattle.ee_desk_acts.specs.PlainBooks.{PlainBooks, ticket_of}
-use Rattle.ee_desk_acts.specs.Seen.{held_as}
-use Rattle.ee_desk_acts.specs.Sound.{IsSound, IsDay, IsRightRate, day_of_batch, open_days, last_of}
-use Rattle.ee_desk_acts.specs.Repeats.{Content}
-use Rattle.ee_desk_acts.proofs.Lemmas.Maps.{serials_total, serials_exact, all_weaker, numbers_total, all_mapped, all_unmapped}
-use Rattle.ee_desk_parts.proofs.Lemmas.{all_entries, get_all, map_of_entries}
-use Rattle.ee_desk_parts.specs.declared.parts.Parts.{Parts}
-use Rattle.ee_desk_parts.specs.Parts.{parts_of, row_of_entry}
+use Rattle.ee_desk_model.specs.declared.changes.Kept.{Kept}
+use Rattle.ee_desk_model.specs.declared.replies.Line.{Line}
+use Rattle.ee_desk_model.specs.declared.replies.Ticket.{Ticket}
+use Rattle.ee_desk_model.specs.declared.replies.Batch.{Batch}
+use Rattle.ee_desk_model.specs.Serials.{serial_cmp}
+use Rattle.ee_desk_model.specs.Numbers.{number_cmp}
+use Rattle.ee_desk_model.specs.PlainBooks.{PlainBooks, ticket_of}
+use Rattle.ee_desk_model.specs.Seen.{held_as}
+use Rattle.ee_desk_model.specs.Sound.{IsSound, IsDay, IsRightRate, day_of_batch, open_days, last_of}
+use Rattle.ee_desk_model.specs.Repeats.{Content}
+use Rattle.ee_desk_model.proofs.Lemmas.Maps.{serials_total, serials_exact, all_weaker, numbers_total, all_mapped, all_unmapped}
+use Rattle.ee_desk_soundness.proofs.Lemmas.{all_entries, get_all, map_of_entries}
+use Rattle.ee_desk_soundness.specs.declared.parts.Parts.{Parts}
+use Rattle.ee_desk_soundness.specs.Parts.{parts_of, row_of_entry}
 use Rattle.ee_desk_texts.specs.Ranges.{RateRowFits, BondFits, BatchFits}
 use Rattle.ee_store_tables.specs.Keyed.{pair_cmp}
 use Rattle.ee_store_tables.specs.Rows.{Rows, DeskRow, BondRow, TicketRow, PaidRow, BatchRow, ReplyRow}
-use Rattle.ee_store_opening.specs.declared.entries.StoredDesk.{StoredDesk}
-use Rattle.ee_store_opening.specs.declared.entries.StoredRate.{StoredRate}
-use Rattle.ee_store_opening.specs.declared.entries.StoredBond.{StoredBond}
-use Rattle.ee_store_opening.specs.declared.entries.StoredTicket.{StoredTicket}
-use Rattle.ee_store_opening.specs.declared.entries.StoredLine.{StoredLine}
-use Rattle.ee_store_opening.specs.declared.entries.StoredBatch.{StoredBatch}
-use Rattle.ee_store_making.specs.declared.answers.StoredAnswer.{StoredAnswer}
-use Rattle.ee_store_making.specs.Forms.{version_of}
-use Rattle.ee_store_making.specs.Migrating.{answer_entry}
-use Rattle.ee_store_opening.specs.declared.whole.AllRows.{AllRows}
+use Rattle.ee_store_load.specs.declared.entries.StoredDesk.{StoredDesk}
+use Rattle.ee_store_load.specs.declared.entries.StoredRate.{StoredRate}
+use Rattle.ee_store_load.specs.declared.entries.StoredBond.{StoredBond}
+use Rattle.ee_store_load.specs.declared.entries.StoredTicket.{StoredTicket}
+use Rattle.ee_store_load.specs.declared.entries.StoredLine.{StoredLine}
+use Rattle.ee_store_load.specs.declared.entries.StoredBatch.{StoredBatch}
+use Rattle.ee_store_schema.specs.declared.answers.StoredAnswer.{StoredAnswer}
+use Rattle.ee_store_schema.specs.Forms.{version_of}
+use Rattle.ee_store_schema.specs.Migrating.{answer_entry}
+use Rattle.ee_store_load.specs.declared.whole.AllRows.{AllRows}
 use Rattle.ee_store_contents.specs.Standing.{rate_rows, extension_entry, extension_rows, bond_rows, bond_row, key_of, ticket_rows, paid_rows, paid_row, placed, batch_rows, reply_rows, reply_row, desk_rows, IsKept, IsRight, StandAt}
-use Rattle.ee_store_opening.specs.Shown.{answer_map, desk_entry, rate_entry, bond_entry, ticket_entry, line_entry, batch_entry}
-use Rattle.ee_store_opening.specs.Whole.{AreInOrder, rows_with}
+use Rattle.ee_store_load.specs.Shown.{answer_map, desk_entry, rate_entry, bond_entry, ticket_entry, line_entry, batch_entry}
+use Rattle.ee_store_load.specs.Whole.{AreInOrder, rows_with}
 use Rattle.ee_store_contents.specs.Contents.{stored_desk, stored_rate, extension_row, stored_extension, stored_bond, stored_ticket, placed_lines, stored_lines, stored_batch, AreRowsOf, PartsFit, KeepsAnswer}
 use Rattle.ee_store_contents.specs.Reading.{each, days_in, rates_in, bond_in, tickets_in, batch_in, parts_in}
 use Rattle.ee_store_contents.proofs.Images.{pair_total, pair_same, sorted_entries, extension_entries}

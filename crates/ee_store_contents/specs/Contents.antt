@@ -8,27 +8,27 @@ use Rattle.ee_value.specs.declared.rates.Rates.{Rates}
 use Rattle.ee_value.specs.declared.rates.RateRow.{RateRow}
 use Rattle.ee_value.specs.Chain.{named_extension}
 use Rattle.ee_calculator.specs.declared.bonds.Bond.{Bond}
-use Rattle.ee_desk_acts.specs.declared.changes.Held.{Held}
-use Rattle.ee_desk_acts.specs.declared.changes.Kept.{Kept}
-use Rattle.ee_desk_acts.specs.declared.replies.Line.{Line}
-use Rattle.ee_desk_acts.specs.declared.replies.Ticket.{Ticket}
-use Rattle.ee_desk_acts.specs.declared.replies.Batch.{Batch}
-use Rattle.ee_desk_acts.specs.Seen.{held_as}
-use Rattle.ee_desk_acts.specs.Sound.{IsDay}
-use Rattle.ee_desk_acts.specs.UnitTables.{rates_cmp}
-use Rattle.ee_desk_parts.specs.declared.parts.Parts.{Parts}
+use Rattle.ee_desk_model.specs.declared.changes.Held.{Held}
+use Rattle.ee_desk_model.specs.declared.changes.Kept.{Kept}
+use Rattle.ee_desk_model.specs.declared.replies.Line.{Line}
+use Rattle.ee_desk_model.specs.declared.replies.Ticket.{Ticket}
+use Rattle.ee_desk_model.specs.declared.replies.Batch.{Batch}
+use Rattle.ee_desk_model.specs.Seen.{held_as}
+use Rattle.ee_desk_model.specs.Sound.{IsDay}
+use Rattle.ee_desk_model.specs.UnitTables.{rates_cmp}
+use Rattle.ee_desk_soundness.specs.declared.parts.Parts.{Parts}
 use Rattle.ee_desk_texts.specs.Texts.{act_text, reply_text}
 use Rattle.ee_desk_texts.specs.Ranges.{RateRowFits, BondFits, TicketFits, BatchFits}
 use Rattle.ee_store_contents.specs.Standing.{IsKept}
-use Rattle.ee_store_opening.specs.declared.entries.StoredDesk.{StoredDesk}
-use Rattle.ee_store_opening.specs.declared.entries.StoredRate.{StoredRate}
-use Rattle.ee_store_opening.specs.declared.entries.StoredBond.{StoredBond}
-use Rattle.ee_store_opening.specs.declared.entries.StoredTicket.{StoredTicket}
-use Rattle.ee_store_opening.specs.declared.entries.StoredLine.{StoredLine}
-use Rattle.ee_store_opening.specs.declared.entries.StoredBatch.{StoredBatch}
-use Rattle.ee_store_making.specs.declared.answers.StoredAnswer.{StoredAnswer}
-use Rattle.ee_store_making.specs.Forms.{version_of}
-use Rattle.ee_store_opening.specs.declared.whole.AllRows.{AllRows}
+use Rattle.ee_store_load.specs.declared.entries.StoredDesk.{StoredDesk}
+use Rattle.ee_store_load.specs.declared.entries.StoredRate.{StoredRate}
+use Rattle.ee_store_load.specs.declared.entries.StoredBond.{StoredBond}
+use Rattle.ee_store_load.specs.declared.entries.StoredTicket.{StoredTicket}
+use Rattle.ee_store_load.specs.declared.entries.StoredLine.{StoredLine}
+use Rattle.ee_store_load.specs.declared.entries.StoredBatch.{StoredBatch}
+use Rattle.ee_store_schema.specs.declared.answers.StoredAnswer.{StoredAnswer}
+use Rattle.ee_store_schema.specs.Forms.{version_of}
+use Rattle.ee_store_load.specs.declared.whole.AllRows.{AllRows}
 
 abbrev pub stored_desk : ℕ → Option ℕ → Option ℕ → StoredDesk
 stored_desk version day last_day = record { id = 1; version = version; day = day; last_day = last_day }

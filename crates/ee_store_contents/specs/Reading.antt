@@ -7,22 +7,22 @@ use Rattle.ee_units.specs.Spelling.{SerialNumber, in_range, serial_at, ◌>>=◌
 use Rattle.ee_value.specs.declared.rates.RateRow.{RateRow}
 use Rattle.ee_value.specs.Chain.{rates_with}
 use Rattle.ee_calculator.specs.declared.bonds.Bond.{Bond}
-use Rattle.ee_desk_acts.specs.declared.replies.Line.{Line}
-use Rattle.ee_desk_acts.specs.declared.replies.Ticket.{Ticket}
-use Rattle.ee_desk_acts.specs.declared.replies.Batch.{Batch}
-use Rattle.ee_desk_acts.specs.PlainBooks.{ticket_of}
-use Rattle.ee_desk_acts.specs.Serials.{serial_cmp}
-use Rattle.ee_desk_parts.specs.declared.parts.Parts.{Parts}
+use Rattle.ee_desk_model.specs.declared.replies.Line.{Line}
+use Rattle.ee_desk_model.specs.declared.replies.Ticket.{Ticket}
+use Rattle.ee_desk_model.specs.declared.replies.Batch.{Batch}
+use Rattle.ee_desk_model.specs.PlainBooks.{ticket_of}
+use Rattle.ee_desk_model.specs.Serials.{serial_cmp}
+use Rattle.ee_desk_soundness.specs.declared.parts.Parts.{Parts}
 use Rattle.ee_units.specs.Denoms.{denom_with}
 use Rattle.ee_store_contents.specs.declared.reading.Days.{Days}
-use Rattle.ee_store_opening.specs.declared.entries.StoredDesk.{StoredDesk}
-use Rattle.ee_store_opening.specs.declared.entries.StoredRate.{StoredRate}
-use Rattle.ee_store_opening.specs.declared.entries.StoredBond.{StoredBond}
-use Rattle.ee_store_opening.specs.declared.entries.StoredTicket.{StoredTicket}
-use Rattle.ee_store_opening.specs.declared.entries.StoredLine.{StoredLine}
-use Rattle.ee_store_opening.specs.declared.entries.StoredBatch.{StoredBatch}
-use Rattle.ee_store_opening.specs.declared.whole.AllRows.{AllRows}
-use Rattle.ee_store_making.specs.Forms.{version_of}
+use Rattle.ee_store_load.specs.declared.entries.StoredDesk.{StoredDesk}
+use Rattle.ee_store_load.specs.declared.entries.StoredRate.{StoredRate}
+use Rattle.ee_store_load.specs.declared.entries.StoredBond.{StoredBond}
+use Rattle.ee_store_load.specs.declared.entries.StoredTicket.{StoredTicket}
+use Rattle.ee_store_load.specs.declared.entries.StoredLine.{StoredLine}
+use Rattle.ee_store_load.specs.declared.entries.StoredBatch.{StoredBatch}
+use Rattle.ee_store_load.specs.declared.whole.AllRows.{AllRows}
+use Rattle.ee_store_schema.specs.Forms.{version_of}
 
 -- the value of each row, if each has one
 abbrev pub each : {A B : Type 0} → (A → Option B) → List A → Option (List B)

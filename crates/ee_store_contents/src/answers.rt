@@ -1,14 +1,14 @@
 //! Kept replies.
 
 ghost use Rattle.std.specs.Prelude.{◌≡◌, ◌↔◌, true, IfOk};
-ghost use Rattle.ee_desk_acts.specs.declared.replies.Reply.TheVariants.{Refused};
-ghost use Rattle.ee_desk_acts.specs.declared.refusals.Refusal.TheVariants.{NumberReused};
+ghost use Rattle.ee_desk_model.specs.declared.replies.Reply.TheVariants.{Refused};
+ghost use Rattle.ee_desk_model.specs.declared.refusals.Refusal.TheVariants.{NumberReused};
 ghost use Rattle.ee_store_contents.specs.Contents.{KeepsAnswer};
 
-use ee_desk_acts::{Refusal, Reply};
+use ee_desk_model::{Refusal, Reply};
 use ee_desk_texts::{read_act, read_reply};
-use ee_store_making::StoredAnswer;
-use ee_store_opening::RowTest;
+use ee_store_load::RowTest;
+use ee_store_schema::StoredAnswer;
 use std::alloc::{AllocError, Global};
 
 /// Whether a reply says that the number was used for another act.

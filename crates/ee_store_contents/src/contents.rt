@@ -1,14 +1,14 @@
 //! The books that the rows of a store represent.
 
 ghost use Rattle.std.specs.Prelude.{◌≡◌, ◌↔◌, Some, None, IfOk, IfErr, IfSome};
-ghost use Rattle.ee_desk_acts.specs.Repeats.{Content};
-ghost use Rattle.ee_desk_parts.specs.Parts.{AreUnsound};
-ghost use Rattle.ee_desk_parts.specs.Made.{IsMadeOf};
+ghost use Rattle.ee_desk_model.specs.Repeats.{Content};
+ghost use Rattle.ee_desk_soundness.specs.Parts.{AreUnsound};
+ghost use Rattle.ee_desk_soundness.specs.Made.{IsMadeOf};
 ghost use Rattle.ee_store_contents.specs.Reading.{parts_in};
 ghost use Rattle.ee_store_tables.specs.Rows.{Rows as TableRows};
-ghost use Rattle.ee_store_opening.specs.Whole.{AreInOrder, AreRead};
+ghost use Rattle.ee_store_load.specs.Whole.{AreInOrder, AreRead};
 ghost use Rattle.ee_store_contents.specs.Standing.{StandAt};
-ghost use Rattle.ee_store_making.specs.Forms.{version_of};
+ghost use Rattle.ee_store_schema.specs.Forms.{version_of};
 ghost use Rattle.ee_store_contents.specs.Contents.{PartsFit, KeepsAnswer, tables_for};
 
 use crate::marks::marks_of;
@@ -17,10 +17,10 @@ use crate::rates::rates_in;
 use crate::reading::{batches_in, bonds_in, days_in};
 use crate::tickets::tickets_in;
 use crate::unit_tables::kept_tables;
-use ee_desk_acts::{Rows, UnitTables};
-use ee_desk_parts::{Indexes, Parts, PartsFault, checked};
-use ee_store_making::StoredAnswer;
-use ee_store_opening::AllRows;
+use ee_desk_model::{Rows, UnitTables};
+use ee_desk_soundness::{Indexes, Parts, PartsFault, checked};
+use ee_store_load::AllRows;
+use ee_store_schema::StoredAnswer;
 use std::alloc::{AllocError, Global};
 use std::mem;
 use thiserror::Error;

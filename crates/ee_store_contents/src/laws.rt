@@ -1,7 +1,7 @@
 //! Laws of the definitions. A body here does nothing; the clauses state the laws.
 
 ghost use Rattle.std.specs.Prelude.{◌≡◌, ℕ};
-ghost use Rattle.ee_desk_acts.specs.Repeats.{Content};
+ghost use Rattle.ee_desk_model.specs.Repeats.{Content};
 ghost use Rattle.ee_store_tables.specs.Rows.{Rows};
 ghost use Rattle.ee_store_contents.specs.Standing.{StandAt};
 

@@ -4,11 +4,11 @@ ghost use Rattle.std.specs.Prelude.{◌≡◌, Some, None, IfOk, OnOk, if◌then
 ghost use Rattle.std.specs.Option.{option_or};
 ghost use Rattle.std.specs.List.{list_any};
 ghost use Rattle.ee_units.specs.Spelling.{SerialNumber};
-ghost use Rattle.ee_desk_acts.specs.Serials.{same_serial};
-ghost use Rattle.ee_desk_acts.specs.PlainBooks.{ticket_of};
+ghost use Rattle.ee_desk_model.specs.Serials.{same_serial};
+ghost use Rattle.ee_desk_model.specs.PlainBooks.{ticket_of};
 ghost use Rattle.ee_store_contents.specs.Reading.{mark_at};
 
-use ee_desk_acts::{Line, Ticket};
+use ee_desk_model::{Line, Ticket};
 use ee_units::Serial;
 use std::alloc::{AllocError, Global};
 use std::collections::BTreeMap;

@@ -2,12 +2,12 @@
 
 ghost use Rattle.std.specs.Prelude.{IfSome};
 ghost use Rattle.std.specs.List.{AllByRecursion};
-ghost use Rattle.ee_desk_acts.specs.Sound.{IsDay};
+ghost use Rattle.ee_desk_model.specs.Sound.{IsDay};
 ghost use Rattle.ee_desk_texts.specs.Ranges.{TicketFits, BatchFits};
 ghost use Rattle.ee_store_contents.specs.Contents.{PartsFit};
 
-use ee_desk_acts::{Batch, RateRow, Ticket};
-use ee_desk_parts::Parts;
+use ee_desk_model::{Batch, RateRow, Ticket};
+use ee_desk_soundness::Parts;
 use ee_desk_texts::{batch_fits, bonds_fit, rate_rows_fit, ticket_fits};
 use ee_units::Day;
 

@@ -3,8 +3,8 @@
 ghost use Rattle.std.specs.Prelude.{◌≡◌, IfOk, option_map};
 ghost use Rattle.ee_store_contents.specs.Reading.{optional_in, other_rate, rate_in, extension_of, after_extension, rates_in};
 
-use ee_desk_acts::RateRow;
-use ee_store_opening::StoredRate;
+use ee_desk_model::RateRow;
+use ee_store_load::StoredRate;
 use ee_units::{IssueMonth, Rate};
 use ee_value::Rates;
 use std::alloc::{AllocError, Global};

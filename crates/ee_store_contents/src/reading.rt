@@ -16,8 +16,8 @@ ghost use Rattle.ee_store_contents.specs.Reading.{
 };
 
 use ee_calculator::Bond;
-use ee_desk_acts::Batch;
-use ee_store_opening::{StoredBatch, StoredBond, StoredDesk};
+use ee_desk_model::Batch;
+use ee_store_load::{StoredBatch, StoredBond, StoredDesk};
 use ee_units::{Cents, Customer, Day, Denom, IssueMonth, Serial};
 use std::alloc::{AllocError, Global};
 use std::collections::BTreeMap;

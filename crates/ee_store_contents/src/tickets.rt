@@ -3,8 +3,8 @@
 ghost use Rattle.std.specs.Prelude.{◌≡◌, ◌+◌, ◌<◌, IfOk, option_map};
 ghost use Rattle.ee_store_contents.specs.Reading.{line_in, line_at, lines_at, ticket_with, ticket_in, tickets_in};
 
-use ee_desk_acts::{Line, Rows, Ticket};
-use ee_store_opening::{StoredLine, StoredTicket};
+use ee_desk_model::{Line, Rows, Ticket};
+use ee_store_load::{StoredLine, StoredTicket};
 use ee_units::{Cents, Customer, Day, Serial};
 use std::alloc::{AllocError, Global};
 

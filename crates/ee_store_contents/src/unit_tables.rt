@@ -2,9 +2,9 @@
 
 ghost use Rattle.std.specs.Prelude.{◌≡◌, map, IfOk};
 ghost use Rattle.std.specs.BTreeMap as tree;
-ghost use Rattle.ee_desk_acts.specs.UnitTables.{tables_in};
+ghost use Rattle.ee_desk_model.specs.UnitTables.{tables_in};
 
-use ee_desk_acts::{Terms, UnitTables};
+use ee_desk_model::{Terms, UnitTables};
 use ee_units::IssueMonth;
 use std::alloc::{AllocError, Global};
 use std::collections::BTreeMap;

@@ -2,15 +2,15 @@
 use Rattle.std.proofs.Common.{◌≡◌, ◌≢◌, ℕ, cond, List, Some, None, sym, ap, ◌∙◌, subst}
 use Rattle.std.specs.Option.{unwrap_or}
 use Rattle.std.proofs.lemmas.Bool.{false_from_ne_true}
-use Rattle.ee_desk_acts.specs.declared.acts.Act.{Act}
-use Rattle.ee_desk_acts.specs.declared.changes.Kept.{Kept}
-use Rattle.ee_desk_acts.specs.declared.replies.Reply.{Reply}
-use Rattle.ee_desk_acts.specs.declared.replies.Reply.TheVariants.{Refused}
-use Rattle.ee_desk_acts.specs.declared.refusals.Refusal.TheVariants.{NumberReused}
-use Rattle.ee_desk_acts.specs.Acts.{same_act}
-use Rattle.ee_desk_acts.specs.Numbers.{Number}
-use Rattle.ee_desk_acts.specs.Answers.{reply_again}
-use Rattle.ee_desk_acts.proofs.Lemmas.Requests.{same_act-is, same_act-self}
+use Rattle.ee_desk_model.specs.declared.acts.Act.{Act}
+use Rattle.ee_desk_model.specs.declared.changes.Kept.{Kept}
+use Rattle.ee_desk_model.specs.declared.replies.Reply.{Reply}
+use Rattle.ee_desk_model.specs.declared.replies.Reply.TheVariants.{Refused}
+use Rattle.ee_desk_model.specs.declared.refusals.Refusal.TheVariants.{NumberReused}
+use Rattle.ee_desk_model.specs.Acts.{same_act}
+use Rattle.ee_desk_model.specs.Numbers.{Number}
+use Rattle.ee_desk_model.specs.Answers.{reply_again}
+use Rattle.ee_desk_model.proofs.Lemmas.Requests.{same_act-is, same_act-self}
 use Rattle.ee_desk_texts.proofs.Lemmas.{one_act, reply_only}
 use Rattle.ee_desk_texts.specs.Ranges.{ActFits}
 use Rattle.ee_desk_texts.specs.Reading.{ReadsReply}

@@ -14,17 +14,17 @@ use Rattle.ee_units.specs.Spelling.{SerialNumber}
 use Rattle.ee_value.specs.declared.rates.Rates.{Rates}
 use Rattle.ee_value.specs.Chain.{named_extension}
 use Rattle.ee_calculator.specs.declared.bonds.Bond.{Bond}
-use Rattle.ee_desk_acts.specs.declared.changes.Kept.{Kept}
-use Rattle.ee_desk_acts.specs.declared.replies.Line.{Line}
-use Rattle.ee_desk_acts.specs.declared.replies.Ticket.{Ticket}
-use Rattle.ee_desk_acts.specs.declared.replies.Batch.{Batch}
-use Rattle.ee_desk_acts.specs.Serials.{serial_cmp, same_serial}
-use Rattle.ee_desk_acts.specs.Numbers.{Number, number_cmp}
-use Rattle.ee_desk_acts.specs.PlainBooks.{ticket_of, names}
-use Rattle.ee_desk_acts.specs.Seen.{held_as}
-use Rattle.ee_desk_acts.specs.Sound.{NumberedFrom, day_of_batch}
-use Rattle.ee_desk_acts.proofs.Lemmas.Maps.{serials_total, serials_exact, serials_tied, numbers_total}
-use Rattle.ee_desk_acts.proofs.Lemmas.Books.{ticket_of_push, named_unpaid}
+use Rattle.ee_desk_model.specs.declared.changes.Kept.{Kept}
+use Rattle.ee_desk_model.specs.declared.replies.Line.{Line}
+use Rattle.ee_desk_model.specs.declared.replies.Ticket.{Ticket}
+use Rattle.ee_desk_model.specs.declared.replies.Batch.{Batch}
+use Rattle.ee_desk_model.specs.Serials.{serial_cmp, same_serial}
+use Rattle.ee_desk_model.specs.Numbers.{Number, number_cmp}
+use Rattle.ee_desk_model.specs.PlainBooks.{ticket_of, names}
+use Rattle.ee_desk_model.specs.Seen.{held_as}
+use Rattle.ee_desk_model.specs.Sound.{NumberedFrom, day_of_batch}
+use Rattle.ee_desk_model.proofs.Lemmas.Maps.{serials_total, serials_exact, serials_tied, numbers_total}
+use Rattle.ee_desk_model.proofs.Lemmas.Books.{ticket_of_push, named_unpaid}
 use Rattle.std.proofs.lemmas.Map.Lookups.{exact_unsigned}
 use Rattle.std.proofs.lemmas.Map.Views.{tells_apart}
 use Rattle.ee_store_tables.proofs.Lemmas.Rows.{pair_total, pair_same}

@@ -6,30 +6,30 @@ use Rattle.std.specs.Ordering.{eq_by_cmp}
 use Rattle.std.specs.FinMap as finite
 use Rattle.std.specs.FinMap.{insert, get-insert}
 use Rattle.ee_value.specs.declared.rates.RateRow.{RateRow}
-use Rattle.ee_desk_acts.specs.declared.acts.Act.{Act}
-use Rattle.ee_desk_acts.specs.declared.acts.Act.TheVariants.{AddRates, AddBonds, OpenDay, Redeem, CloseDay}
-use Rattle.ee_desk_acts.specs.declared.acts.Request.{Request}
-use Rattle.ee_desk_acts.specs.declared.refusals.Refusal.{Refusal}
-use Rattle.ee_desk_acts.specs.declared.changes.Change.{Change}
-use Rattle.ee_desk_acts.specs.declared.changes.Change.TheVariants as change
-use Rattle.ee_desk_acts.specs.declared.changes.Effects.{Effects}
-use Rattle.ee_desk_acts.specs.declared.changes.Kept.{Kept}
-use Rattle.ee_desk_acts.specs.Serials.{serial_cmp}
-use Rattle.ee_desk_acts.specs.Numbers.{Number, number_cmp, number_of}
-use Rattle.ee_desk_acts.specs.PlainBooks.{PlainBooks}
-use Rattle.ee_desk_acts.specs.Seen.{Seen, shown}
-use Rattle.ee_desk_acts.specs.Refusals.{known_rate, refusal_of}
-use Rattle.ee_desk_acts.specs.Effects.{new_rates, new_bonds, rate_change, accepted, unless_refused, effects_of}
-use Rattle.ee_desk_acts.specs.Acts.{changed, applied, books_after}
-use Rattle.ee_desk_acts.specs.Outcomes.{act}
-use Rattle.ee_desk_acts.specs.Ranges.{IsInRange}
-use Rattle.ee_desk_acts.specs.Sound.{IsSound}
-use Rattle.ee_desk_acts.specs.Repeats.{Content}
-use Rattle.ee_desk_acts.specs.Contents.{content_after}
-use Rattle.ee_desk_acts.proofs.Lemmas.Maps.{serials_total, all_weaker, all_append, all_filter, all_mapped, numbers_total, numbers_exact}
+use Rattle.ee_desk_model.specs.declared.acts.Act.{Act}
+use Rattle.ee_desk_model.specs.declared.acts.Act.TheVariants.{AddRates, AddBonds, OpenDay, Redeem, CloseDay}
+use Rattle.ee_desk_model.specs.declared.acts.Request.{Request}
+use Rattle.ee_desk_model.specs.declared.refusals.Refusal.{Refusal}
+use Rattle.ee_desk_model.specs.declared.changes.Change.{Change}
+use Rattle.ee_desk_model.specs.declared.changes.Change.TheVariants as change
+use Rattle.ee_desk_model.specs.declared.changes.Effects.{Effects}
+use Rattle.ee_desk_model.specs.declared.changes.Kept.{Kept}
+use Rattle.ee_desk_model.specs.Serials.{serial_cmp}
+use Rattle.ee_desk_model.specs.Numbers.{Number, number_cmp, number_of}
+use Rattle.ee_desk_model.specs.PlainBooks.{PlainBooks}
+use Rattle.ee_desk_model.specs.Seen.{Seen, shown}
+use Rattle.ee_desk_model.specs.Refusals.{known_rate, refusal_of}
+use Rattle.ee_desk_model.specs.Effects.{new_rates, new_bonds, rate_change, accepted, unless_refused, effects_of}
+use Rattle.ee_desk_model.specs.Acts.{changed, applied, books_after}
+use Rattle.ee_desk_model.specs.Outcomes.{act}
+use Rattle.ee_desk_model.specs.Ranges.{IsInRange}
+use Rattle.ee_desk_model.specs.Sound.{IsSound}
+use Rattle.ee_desk_model.specs.Repeats.{Content}
+use Rattle.ee_desk_model.specs.Contents.{content_after}
+use Rattle.ee_desk_model.proofs.Lemmas.Maps.{serials_total, all_weaker, all_append, all_filter, all_mapped, numbers_total, numbers_exact}
 use Rattle.std.proofs.lemmas.Map.Views.{tells_apart}
-use Rattle.ee_desk_acts.proofs.Lemmas.Requests.{content_after-new}
-use Rattle.ee_desk_acts.proofs.Lemmas.Books.{seen_enough, applied_are_books_after, act_keeps_sound}
+use Rattle.ee_desk_model.proofs.Lemmas.Requests.{content_after-new}
+use Rattle.ee_desk_model.proofs.Lemmas.Books.{seen_enough, applied_are_books_after, act_keeps_sound}
 use Rattle.ee_desk.proofs.Lemmas.{decided_are_applicable}
 use Rattle.ee_desk_texts.specs.Ranges.{ActFits, ReplyFits, RateRowFits, BondFits, TicketFits, BatchFits}
 use Rattle.ee_store_tables.specs.Rows.{with_answer}

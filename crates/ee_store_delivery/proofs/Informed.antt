@@ -1,7 +1,7 @@
 -- What is known as a delivery begins, and as it ends.
 use Rattle.std.proofs.Common.{◌≡◌, Bool, true, false, inr, IsTrue, refl, sym, subst}
 use Rattle.sqlite.specs.State.{State, HasCleanDisk, KeepsCommit}
-use Rattle.ee_desk_acts.specs.Repeats.{Content}
+use Rattle.ee_desk_model.specs.Repeats.{Content}
 use Rattle.ee_store_tables.specs.Rows.{IsInside}
 use Rattle.ee_store_tables.specs.Statements.{LeavesNoMore, IsExcused}
 use Rattle.ee_store_tables.specs.declared.failures.Failure.{Failure}

@@ -7,7 +7,7 @@ use Rattle.std.specs.FinMap as finite
 use Rattle.std.specs.FinMap.{FinMap, nat_cmp-IsAntisymmetric, get-insert, get-empty}
 use Rattle.std.proofs.lemmas.Map.Views.{tells_apart}
 use Rattle.ee_value.specs.declared.rates.Rates.{Rates}
-use Rattle.ee_desk_acts.specs.PlainBooks.{PlainBooks}
+use Rattle.ee_desk_model.specs.PlainBooks.{PlainBooks}
 use Rattle.ee_store_lookups.specs.Found.{with_found}
 use Rattle.ee_store_delivery.specs.Known.{AreTermsOf}
 

@@ -7,13 +7,13 @@ use Rattle.std.specs.FinMap as finite
 use Rattle.std.specs.FinMap.{FinMap}
 use Rattle.std.proofs.lemmas.List.{take_more}
 use Rattle.ee_units.specs.Spelling.{SerialNumber}
-use Rattle.ee_desk_acts.specs.declared.changes.Held.{Held}
-use Rattle.ee_desk_acts.specs.Serials.{serial_cmp}
-use Rattle.ee_desk_acts.specs.PlainBooks.{PlainBooks}
-use Rattle.ee_desk_acts.specs.Seen.{held_of}
-use Rattle.ee_desk_acts.specs.Views.{picked, period_of_held}
+use Rattle.ee_desk_model.specs.declared.changes.Held.{Held}
+use Rattle.ee_desk_model.specs.Serials.{serial_cmp}
+use Rattle.ee_desk_model.specs.PlainBooks.{PlainBooks}
+use Rattle.ee_desk_model.specs.Seen.{held_of}
+use Rattle.ee_desk_model.specs.Views.{picked, period_of_held}
 use Rattle.ee_store_lookups.proofs.Lemmas.{same_found}
-use Rattle.ee_desk_acts.proofs.Lemmas.Maps.{serials_total, serials_exact, get_named, all_named, all_weaker}
+use Rattle.ee_desk_model.proofs.Lemmas.Maps.{serials_total, serials_exact, get_named, all_named, all_weaker}
 
 found_push : {A B : Type 0} (f : A → Option B) (xs : List A) (y : A) → filter_map f (xs ++ y ∷ []) ≡ filter_map f xs ++ cons_option (f y) []
 found_push f [] y = refl

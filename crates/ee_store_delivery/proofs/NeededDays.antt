@@ -1,14 +1,14 @@
 -- The day that was closed last is read for each act that changes something.
 use Rattle.std.proofs.Common.{◌≡◌, ◌≢◌, [], Option, Some, None, refl, ap}
-use Rattle.ee_desk_acts.specs.declared.acts.Act.{Act}
-use Rattle.ee_desk_acts.specs.declared.refusals.Refusal.{Refusal}
-use Rattle.ee_desk_acts.specs.declared.changes.Effects.{Effects}
-use Rattle.ee_desk_acts.specs.PlainBooks.{PlainBooks}
-use Rattle.ee_desk_acts.specs.Seen.{shown}
-use Rattle.ee_desk_acts.specs.Refusals.{length_refusal}
-use Rattle.ee_desk_acts.specs.Effects.{effects_of}
-use Rattle.ee_desk_acts.specs.Views.{needed_of, needed_unless}
-use Rattle.ee_desk_acts.proofs.Lemmas.Books.{refused_by_length}
+use Rattle.ee_desk_model.specs.declared.acts.Act.{Act}
+use Rattle.ee_desk_model.specs.declared.refusals.Refusal.{Refusal}
+use Rattle.ee_desk_model.specs.declared.changes.Effects.{Effects}
+use Rattle.ee_desk_model.specs.PlainBooks.{PlainBooks}
+use Rattle.ee_desk_model.specs.Seen.{shown}
+use Rattle.ee_desk_model.specs.Refusals.{length_refusal}
+use Rattle.ee_desk_model.specs.Effects.{effects_of}
+use Rattle.ee_desk_model.specs.Views.{needed_of, needed_unless}
+use Rattle.ee_desk_model.proofs.Lemmas.Books.{refused_by_length}
 
 unless_changed : (books : PlainBooks) (asked : Act) (o : Option Refusal) → length_refusal asked ≡ o → (effects_of (shown books) asked).changes ≢ []
     → (needed_unless books asked o).last_day ≡ books.last_day

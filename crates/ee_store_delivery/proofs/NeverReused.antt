@@ -7,19 +7,19 @@ use Rattle.ee_units.specs.Spelling.{SerialNumber}
 use Rattle.ee_units.specs.Calendar.{month_of_day}
 use Rattle.ee_value.specs.declared.rates.RateRow.{RateRow}
 use Rattle.ee_calculator.specs.declared.bonds.Bond.{Bond}
-use Rattle.ee_desk_acts.specs.Serials.{same_serial}
-use Rattle.ee_desk_acts.specs.declared.changes.Held.{Held}
-use Rattle.ee_desk_acts.specs.declared.acts.Act.{Act}
-use Rattle.ee_desk_acts.specs.declared.acts.Act.TheVariants.{AddRates, AddBonds, OpenDay, Redeem, CloseDay}
-use Rattle.ee_desk_acts.specs.declared.refusals.Refusal.{Refusal}
-use Rattle.ee_desk_acts.specs.declared.refusals.Refusal.TheVariants.{NumberReused, Empty, TooMany, Repeated, SameCoowner, NotAnnouncementMonth, RateConflict, RateUnsettled, NoRate, SerialConflict, DayOpen, DayNotLater, DayIsOther, DayFull, NotPayee, AlreadyPaid, NotIssued, NotEligible}
-use Rattle.ee_desk_acts.specs.declared.replies.Reply.{Reply}
-use Rattle.ee_desk_acts.specs.declared.replies.Reply.TheVariants.{Refused}
-use Rattle.ee_desk_acts.specs.declared.replies.Reply.TheVariants as reply
-use Rattle.ee_desk_acts.specs.Codes.{code_of}
-use Rattle.ee_desk_acts.specs.Seen.{Seen}
-use Rattle.ee_desk_acts.specs.Refusals.{first, first_of, when, is_other, known_rate, unannounced, near, rate_conflict, repeated, repeated_bond, own_coowner, unrated, bond_conflict, refusal_of_day, refusal_of_held, refusal_of_serial, tests_of, tests_of_held, refusal_of}
-use Rattle.ee_desk_acts.specs.Effects.{unless_refused, effects_of}
+use Rattle.ee_desk_model.specs.Serials.{same_serial}
+use Rattle.ee_desk_model.specs.declared.changes.Held.{Held}
+use Rattle.ee_desk_model.specs.declared.acts.Act.{Act}
+use Rattle.ee_desk_model.specs.declared.acts.Act.TheVariants.{AddRates, AddBonds, OpenDay, Redeem, CloseDay}
+use Rattle.ee_desk_model.specs.declared.refusals.Refusal.{Refusal}
+use Rattle.ee_desk_model.specs.declared.refusals.Refusal.TheVariants.{NumberReused, Empty, TooMany, Repeated, SameCoowner, NotAnnouncementMonth, RateConflict, RateUnsettled, NoRate, SerialConflict, DayOpen, DayNotLater, DayIsOther, DayFull, NotPayee, AlreadyPaid, NotIssued, NotEligible}
+use Rattle.ee_desk_model.specs.declared.replies.Reply.{Reply}
+use Rattle.ee_desk_model.specs.declared.replies.Reply.TheVariants.{Refused}
+use Rattle.ee_desk_model.specs.declared.replies.Reply.TheVariants as reply
+use Rattle.ee_desk_model.specs.Codes.{code_of}
+use Rattle.ee_desk_model.specs.Seen.{Seen}
+use Rattle.ee_desk_model.specs.Refusals.{first, first_of, when, is_other, known_rate, unannounced, near, rate_conflict, repeated, repeated_bond, own_coowner, unrated, bond_conflict, refusal_of_day, refusal_of_held, refusal_of_serial, tests_of, tests_of_held, refusal_of}
+use Rattle.ee_desk_model.specs.Effects.{unless_refused, effects_of}
 
 -- told by its code
 abbrev IsOther : Refusal → Type 0

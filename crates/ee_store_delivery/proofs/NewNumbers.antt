@@ -1,11 +1,11 @@
 -- A number is new, or it comes again.
 use Rattle.std.proofs.Common.{◌≡◌, Bool, true, false, not, true≢false, [], ◌∷◌, refl, sym, ◌∙◌}
 use Rattle.std.specs.FinMap as finite
-use Rattle.ee_desk_acts.specs.declared.acts.Request.{Request}
-use Rattle.ee_desk_acts.specs.Numbers.{number_of}
-use Rattle.ee_desk_acts.specs.Repeats.{Content}
-use Rattle.ee_desk_acts.specs.Contents.{content_after}
-use Rattle.ee_desk_acts.proofs.Lemmas.Requests.{content_after-known}
+use Rattle.ee_desk_model.specs.declared.acts.Request.{Request}
+use Rattle.ee_desk_model.specs.Numbers.{number_of}
+use Rattle.ee_desk_model.specs.Repeats.{Content}
+use Rattle.ee_desk_model.specs.Contents.{content_after}
+use Rattle.ee_desk_model.proofs.Lemmas.Requests.{content_after-known}
 
 -- a number that comes again leaves the content
 pub known_stays : (S : Content) (q : Request) (is_new : Bool) → is_new ≡ false → is_new ≡ not (finite.contains_key S.kept (number_of q)) → S ≡ content_after S (q ∷ [])

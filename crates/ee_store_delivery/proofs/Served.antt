@@ -4,18 +4,18 @@ use Rattle.std.specs.Prelude.{IfSome, is_some}
 use Rattle.std.specs.Option.{option_map, unwrap_or}
 use Rattle.std.specs.FinMap as finite
 use Rattle.sqlite.specs.State.{State, IsUnchanged}
-use Rattle.ee_desk_acts.specs.declared.acts.Request.{Request}
-use Rattle.ee_desk_acts.specs.declared.replies.Reply.{Reply}
-use Rattle.ee_desk_acts.specs.declared.changes.Change.{Change}
-use Rattle.ee_desk_acts.specs.declared.changes.Effects.{Effects}
-use Rattle.ee_desk_acts.specs.declared.changes.Kept.{Kept}
-use Rattle.ee_desk_acts.specs.Numbers.{Number, number_of}
-use Rattle.ee_desk_acts.specs.Seen.{shown}
-use Rattle.ee_desk_acts.specs.Effects.{effects_of}
-use Rattle.ee_desk_acts.specs.Outcomes.{act}
-use Rattle.ee_desk_acts.specs.Repeats.{Content}
-use Rattle.ee_desk_acts.specs.Contents.{content_after}
-use Rattle.ee_desk_acts.proofs.Lemmas.Requests.{answer_again, content_after-kept, content_after-new, answer_new}
+use Rattle.ee_desk_model.specs.declared.acts.Request.{Request}
+use Rattle.ee_desk_model.specs.declared.replies.Reply.{Reply}
+use Rattle.ee_desk_model.specs.declared.changes.Change.{Change}
+use Rattle.ee_desk_model.specs.declared.changes.Effects.{Effects}
+use Rattle.ee_desk_model.specs.declared.changes.Kept.{Kept}
+use Rattle.ee_desk_model.specs.Numbers.{Number, number_of}
+use Rattle.ee_desk_model.specs.Seen.{shown}
+use Rattle.ee_desk_model.specs.Effects.{effects_of}
+use Rattle.ee_desk_model.specs.Outcomes.{act}
+use Rattle.ee_desk_model.specs.Repeats.{Content}
+use Rattle.ee_desk_model.specs.Contents.{content_after}
+use Rattle.ee_desk_model.proofs.Lemmas.Requests.{answer_again, content_after-kept, content_after-new, answer_new}
 use Rattle.ee_store_tables.proofs.Lemmas.Transactions.{unchanged_sees}
 use Rattle.ee_store_contents.proofs.Lemmas.{get_reply_row}
 use Rattle.ee_desk_texts.specs.Ranges.{ActFits, ReplyFits}

@@ -17,30 +17,30 @@ use Rattle.ee_units.specs.Spelling.{SerialNumber}
 use Rattle.ee_units.specs.Calendar.{month_of_day}
 use Rattle.ee_calculator.specs.declared.bonds.Bond.{Bond}
 use Rattle.ee_value.specs.declared.rates.RateRow.{RateRow}
-use Rattle.ee_desk_acts.specs.declared.acts.Act.{Act}
-use Rattle.ee_desk_acts.specs.declared.acts.Act.TheVariants.{AddRates, AddBonds, OpenDay, Redeem, CloseDay}
-use Rattle.ee_desk_acts.specs.declared.refusals.Refusal.{Refusal}
-use Rattle.ee_desk_acts.specs.declared.refusals.Refusal.TheVariants.{Empty, TooMany}
+use Rattle.ee_desk_model.specs.declared.acts.Act.{Act}
+use Rattle.ee_desk_model.specs.declared.acts.Act.TheVariants.{AddRates, AddBonds, OpenDay, Redeem, CloseDay}
+use Rattle.ee_desk_model.specs.declared.refusals.Refusal.{Refusal}
+use Rattle.ee_desk_model.specs.declared.refusals.Refusal.TheVariants.{Empty, TooMany}
 use Rattle.ee_value.specs.Chain.{named_extension}
-use Rattle.ee_desk_acts.specs.declared.changes.Change.{Change}
-use Rattle.ee_desk_acts.specs.declared.changes.Change.TheVariants as change
-use Rattle.ee_desk_acts.specs.declared.changes.Effects.{Effects}
-use Rattle.ee_desk_acts.specs.declared.replies.Line.{Line}
-use Rattle.ee_desk_acts.specs.declared.replies.Ticket.{Ticket}
-use Rattle.ee_desk_acts.specs.declared.replies.Batch.{Batch}
-use Rattle.ee_desk_acts.specs.Serials.{same_serial}
-use Rattle.ee_desk_acts.specs.PlainBooks.{PlainBooks, cents_of, batch_of}
-use Rattle.ee_desk_acts.specs.Seen.{Seen, shown, line_for}
-use Rattle.ee_desk_acts.specs.Refusals.{refusal_of, refusal_of_length, length_refusal, when, most_rows, most_serials}
-use Rattle.ee_desk_acts.specs.Effects.{new_rates, new_bonds, rate_change, unless_refused, effects_of}
-use Rattle.ee_desk_acts.specs.Acts.{changed, applied, books_after}
-use Rattle.ee_desk_acts.specs.Lists.{Rising}
-use Rattle.ee_desk_acts.specs.Paid.{paid_lines, NoneTwice}
-use Rattle.ee_desk_acts.specs.Ranges.{IsInRange}
-use Rattle.ee_desk_acts.specs.Repeats.{Content}
-use Rattle.ee_desk_acts.specs.Sound.{IsSound, IsDay, IsRightTicket, NumberedFrom, day_of_batch, open_days, last_of}
-use Rattle.ee_desk_acts.proofs.Lemmas.Books.{few_tickets, few_tickets_on, few_bonds_on, small_total_on, act_keeps_sound, applied_are_books_after, seen_enough, refused_by_length, none_from_cond, none_from_option_or, line_le, paid_lines_push}
-use Rattle.ee_desk_acts.proofs.Lemmas.Maps.{all_weaker, all_append, all_mapped, rising_below, all_both}
+use Rattle.ee_desk_model.specs.declared.changes.Change.{Change}
+use Rattle.ee_desk_model.specs.declared.changes.Change.TheVariants as change
+use Rattle.ee_desk_model.specs.declared.changes.Effects.{Effects}
+use Rattle.ee_desk_model.specs.declared.replies.Line.{Line}
+use Rattle.ee_desk_model.specs.declared.replies.Ticket.{Ticket}
+use Rattle.ee_desk_model.specs.declared.replies.Batch.{Batch}
+use Rattle.ee_desk_model.specs.Serials.{same_serial}
+use Rattle.ee_desk_model.specs.PlainBooks.{PlainBooks, cents_of, batch_of}
+use Rattle.ee_desk_model.specs.Seen.{Seen, shown, line_for}
+use Rattle.ee_desk_model.specs.Refusals.{refusal_of, refusal_of_length, length_refusal, when, most_rows, most_serials}
+use Rattle.ee_desk_model.specs.Effects.{new_rates, new_bonds, rate_change, unless_refused, effects_of}
+use Rattle.ee_desk_model.specs.Acts.{changed, applied, books_after}
+use Rattle.ee_desk_model.specs.Lists.{Rising}
+use Rattle.ee_desk_model.specs.Paid.{paid_lines, NoneTwice}
+use Rattle.ee_desk_model.specs.Ranges.{IsInRange}
+use Rattle.ee_desk_model.specs.Repeats.{Content}
+use Rattle.ee_desk_model.specs.Sound.{IsSound, IsDay, IsRightTicket, NumberedFrom, day_of_batch, open_days, last_of}
+use Rattle.ee_desk_model.proofs.Lemmas.Books.{few_tickets, few_tickets_on, few_bonds_on, small_total_on, act_keeps_sound, applied_are_books_after, seen_enough, refused_by_length, none_from_cond, none_from_option_or, line_le, paid_lines_push}
+use Rattle.ee_desk_model.proofs.Lemmas.Maps.{all_weaker, all_append, all_mapped, rising_below, all_both}
 use Rattle.ee_desk.specs.Applicable.{IsRate, IsBond, AreApplicable}
 use Rattle.ee_desk.proofs.Lemmas.{decided_are_applicable}
 use Rattle.ee_desk_texts.specs.Ranges.{ActFits}

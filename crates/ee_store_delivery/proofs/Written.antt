@@ -4,27 +4,27 @@ use Rattle.std.specs.Prelude.{Option, Some, None}
 use Rattle.std.specs.Option.{option_map, option_and_then}
 use Rattle.std.specs.Ordering.{nat_cmp}
 use Rattle.ee_units.specs.Spelling.{SerialNumber}
-use Rattle.ee_desk_acts.specs.Serials.{serial_cmp}
+use Rattle.ee_desk_model.specs.Serials.{serial_cmp}
 use Rattle.std.specs.declared.cmp.Ordering.{Ordering}
 use Rattle.std.specs.FinMap as finite
 use Rattle.std.specs.FinMap.{FinMap, insert}
 use Rattle.ee_value.specs.declared.rates.Rates.{Rates}
 use Rattle.ee_value.specs.Chain.{named_extension}
 use Rattle.ee_calculator.specs.declared.bonds.Bond.{Bond}
-use Rattle.ee_desk_acts.specs.Seen.{held_as}
+use Rattle.ee_desk_model.specs.Seen.{held_as}
 use Rattle.std.specs.List.{AllByRecursion}
 use Rattle.std.proofs.lemmas.List.{map-append}
 use Rattle.std.proofs.lemmas.Option.{same_Some}
-use Rattle.ee_desk_acts.specs.declared.changes.Change.{Change}
-use Rattle.ee_desk_acts.specs.declared.changes.Change.TheVariants as change
-use Rattle.ee_desk_acts.specs.declared.replies.Ticket.{Ticket}
-use Rattle.ee_desk_acts.specs.declared.replies.Batch.{Batch}
-use Rattle.ee_desk_acts.specs.PlainBooks.{PlainBooks, ticket_of}
-use Rattle.ee_desk_acts.specs.Acts.{changed, applied}
-use Rattle.ee_desk_acts.specs.Sound.{IsSound, NumberedFrom, day_of_batch}
-use Rattle.ee_desk_acts.specs.Lists.{Rising}
-use Rattle.ee_desk_acts.specs.Repeats.{Content}
-use Rattle.ee_desk_acts.proofs.Lemmas.Maps.{rising_below}
+use Rattle.ee_desk_model.specs.declared.changes.Change.{Change}
+use Rattle.ee_desk_model.specs.declared.changes.Change.TheVariants as change
+use Rattle.ee_desk_model.specs.declared.replies.Ticket.{Ticket}
+use Rattle.ee_desk_model.specs.declared.replies.Batch.{Batch}
+use Rattle.ee_desk_model.specs.PlainBooks.{PlainBooks, ticket_of}
+use Rattle.ee_desk_model.specs.Acts.{changed, applied}
+use Rattle.ee_desk_model.specs.Sound.{IsSound, NumberedFrom, day_of_batch}
+use Rattle.ee_desk_model.specs.Lists.{Rising}
+use Rattle.ee_desk_model.specs.Repeats.{Content}
+use Rattle.ee_desk_model.proofs.Lemmas.Maps.{rising_below}
 use Rattle.ee_store_contents.proofs.Lemmas.{get_rate_row, get_extension_row, get_bond_row, get_desk_row}
 use Rattle.ee_desk.specs.Added as added
 use Rattle.ee_desk.specs.Added.{AreNew}

@@ -1,9 +1,9 @@
 -- Why a delivery fails, and the room that it takes.
 use Rattle.std.specs.Prelude.{ℕ, Result, OnOk, ◌≤◌, ◌+◌, length, IfErr}
 use Rattle.sqlite.specs.State.{State, HasCleanDisk}
-use Rattle.ee_desk_acts.specs.declared.acts.Request.{Request}
-use Rattle.ee_desk_acts.specs.Outcomes.{act}
-use Rattle.ee_desk_acts.specs.Repeats.{Content}
+use Rattle.ee_desk_model.specs.declared.acts.Request.{Request}
+use Rattle.ee_desk_model.specs.Outcomes.{act}
+use Rattle.ee_desk_model.specs.Repeats.{Content}
 use Rattle.ee_store_tables.specs.Rows.{Rows, Sees, HasRoom, IsInside}
 use Rattle.ee_desk_texts.specs.Texts.{act_text, reply_text}
 use Rattle.ee_store_tables.specs.declared.failures.Failure.{Failure}

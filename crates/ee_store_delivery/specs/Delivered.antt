@@ -2,17 +2,17 @@
 use Rattle.std.specs.Prelude.{◌≡◌, ◌≢◌, ℕ, Option, None, Bool, not, [], ◌∷◌, Result, IfOk, OnOk}
 use Rattle.std.specs.FinMap as finite
 use Rattle.sqlite.specs.State.{State, HasCleanDisk}
-use Rattle.ee_desk_acts.specs.declared.acts.Act.{Act}
-use Rattle.ee_desk_acts.specs.declared.acts.Request.{Request}
-use Rattle.ee_desk_acts.specs.declared.changes.Effects.{Effects}
-use Rattle.ee_desk_acts.specs.declared.replies.Reply.{Reply}
-use Rattle.ee_desk_acts.specs.Numbers.{number_of}
-use Rattle.ee_desk_acts.specs.Seen.{shown}
-use Rattle.ee_desk_acts.specs.Effects.{effects_of}
-use Rattle.ee_desk_acts.specs.Outcomes.{act}
-use Rattle.ee_desk_acts.specs.Repeats.{Content}
-use Rattle.ee_desk_acts.specs.Contents.{content_after}
-use Rattle.ee_desk_acts.specs.Answers.{answer}
+use Rattle.ee_desk_model.specs.declared.acts.Act.{Act}
+use Rattle.ee_desk_model.specs.declared.acts.Request.{Request}
+use Rattle.ee_desk_model.specs.declared.changes.Effects.{Effects}
+use Rattle.ee_desk_model.specs.declared.replies.Reply.{Reply}
+use Rattle.ee_desk_model.specs.Numbers.{number_of}
+use Rattle.ee_desk_model.specs.Seen.{shown}
+use Rattle.ee_desk_model.specs.Effects.{effects_of}
+use Rattle.ee_desk_model.specs.Outcomes.{act}
+use Rattle.ee_desk_model.specs.Repeats.{Content}
+use Rattle.ee_desk_model.specs.Contents.{content_after}
+use Rattle.ee_desk_model.specs.Answers.{answer}
 use Rattle.ee_store_tables.specs.Rows.{IsInside}
 use Rattle.ee_store_lookups.specs.Seen.{SeesContent}
 use Rattle.ee_store_delivery.specs.declared.known.Known.{Known}

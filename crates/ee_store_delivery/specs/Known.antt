@@ -5,12 +5,12 @@ use Rattle.std.specs.FinMap.{FinMap}
 use Rattle.std.specs.Ordering.{nat_cmp}
 use Rattle.sqlite.specs.State.{State, HasCleanDisk}
 use Rattle.ee_value.specs.declared.rates.Rates.{Rates}
-use Rattle.ee_desk_acts.specs.declared.acts.Act.{Act}
-use Rattle.ee_desk_acts.specs.declared.replies.Batch.{Batch}
-use Rattle.ee_desk_acts.specs.Acts.{books_after}
-use Rattle.ee_desk_acts.specs.PlainBooks.{PlainBooks, no_batch}
-use Rattle.ee_desk_acts.specs.Seen.{open_batch}
-use Rattle.ee_desk_acts.specs.Repeats.{Content}
+use Rattle.ee_desk_model.specs.declared.acts.Act.{Act}
+use Rattle.ee_desk_model.specs.declared.replies.Batch.{Batch}
+use Rattle.ee_desk_model.specs.Acts.{books_after}
+use Rattle.ee_desk_model.specs.PlainBooks.{PlainBooks, no_batch}
+use Rattle.ee_desk_model.specs.Seen.{open_batch}
+use Rattle.ee_desk_model.specs.Repeats.{Content}
 use Rattle.ee_store_tables.specs.Rows.{IsInside}
 use Rattle.ee_store_tables.specs.declared.failures.Failure.{Failure}
 use Rattle.ee_store_lookups.specs.Found.{terms_found}

@@ -3,10 +3,10 @@ use Rattle.std.specs.Prelude.{◌≡◌, ◌≤◌, ⊤, ℕ, ◌+◌, List, [],
 use Rattle.std.specs.List.{AllByRecursion}
 use Rattle.std.specs.FinMap.{get}
 use Rattle.ee_value.specs.Chain.{named_extension}
-use Rattle.ee_desk_acts.specs.declared.changes.Change.{Change}
-use Rattle.ee_desk_acts.specs.declared.changes.Change.TheVariants as change
-use Rattle.ee_desk_acts.specs.declared.replies.Ticket.{Ticket}
-use Rattle.ee_desk_acts.specs.declared.replies.Batch.{Batch}
+use Rattle.ee_desk_model.specs.declared.changes.Change.{Change}
+use Rattle.ee_desk_model.specs.declared.changes.Change.TheVariants as change
+use Rattle.ee_desk_model.specs.declared.replies.Ticket.{Ticket}
+use Rattle.ee_desk_model.specs.declared.replies.Batch.{Batch}
 use Rattle.ee_store_tables.specs.AsRows.{Fits}
 use Rattle.ee_store_tables.specs.Rows.{Rows, with_rate, with_extension, with_bond, with_day, with_batch, with_ticket, with_lines, CanPayAll}
 use Rattle.ee_store_contents.specs.Standing.{key_of, bond_row, ticket_row, paid_row, batch_row}

@@ -1,10 +1,10 @@
 //! A request in a transaction, and its delivery: all its effects and its reply are committed together.
 
 ghost use Rattle.std.specs.Prelude.{◌≡◌, IfOk, IfErr, None, IsTrue, string_bytes, true, false, [], ◌∷◌, OnOk, OnErr};
-ghost use Rattle.ee_desk_acts.specs.declared.acts.Act.{Act};
-ghost use Rattle.ee_desk_acts.specs.declared.changes.Kept.{Kept};
-ghost use Rattle.ee_desk_acts.specs.Numbers.{Number, number_of};
-ghost use Rattle.ee_desk_acts.specs.Answers.{reply_again, answer};
+ghost use Rattle.ee_desk_model.specs.declared.acts.Act.{Act};
+ghost use Rattle.ee_desk_model.specs.declared.changes.Kept.{Kept};
+ghost use Rattle.ee_desk_model.specs.Numbers.{Number, number_of};
+ghost use Rattle.ee_desk_model.specs.Answers.{reply_again, answer};
 ghost use Rattle.ee_desk_texts.specs.Ranges.{ActFits};
 ghost use Rattle.ee_desk_texts.specs.Texts.{act_text, reply_text};
 ghost use Rattle.ee_store_contents.specs.Standing.{IsKept};
@@ -18,16 +18,16 @@ ghost use Rattle.ee_store_lookups.specs.Causes.{FailsByCause, IsReady};
 ghost use Rattle.ee_store_delivery.specs.Causes.{LeavesRoomAfter, TextsFit, TakesRequestRoom, DeliversOrFails};
 ghost use Rattle.ee_store_delivery.specs.Delivered.{Decides, Serves, Follows};
 ghost use Rattle.ee_store_delivery.specs.Known.{AreKnown, LearnsIn, IsInformed};
-ghost use Rattle.ee_desk_acts.specs.Acts.{books_after};
+ghost use Rattle.ee_desk_model.specs.Acts.{books_after};
 ghost use Rattle.sqlite.specs.Tree.{Trees};
-ghost use Rattle.ee_desk_acts.specs.Repeats.{Content};
-ghost use Rattle.ee_desk_acts.specs.Contents.{content_after};
+ghost use Rattle.ee_desk_model.specs.Repeats.{Content};
+ghost use Rattle.ee_desk_model.specs.Contents.{content_after};
 ghost use Rattle.ee_store_lookups.specs.Seen.{StandsFor, HasContent};
 
 use crate::known::Known;
 use crate::view::effects_in;
 use crate::writing::write_changes;
-use ee_desk_acts::{Effects, Refusal, Reply, Request, UnitTables};
+use ee_desk_model::{Effects, Refusal, Reply, Request, UnitTables};
 use ee_desk_texts::{canonical, read_reply, reply_text};
 use ee_store_tables::{Failure, ReplyRow, add_answer, find_answer};
 use sqlite::{Alter, Connection, Transaction};

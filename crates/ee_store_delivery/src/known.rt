@@ -3,16 +3,16 @@
 ghost use Rattle.std.specs.Prelude.{◌≡◌, ℕ, ◌+◌, List, IfOk, IfSome, OnOk};
 ghost use Rattle.std.specs.FinMap as finite;
 ghost use Rattle.std.specs.Option.{option_copied};
-ghost use Rattle.ee_desk_acts.specs.Acts.{books_after, reply_to};
-ghost use Rattle.ee_desk_acts.specs.PlainBooks.{PlainBooks};
-ghost use Rattle.ee_desk_acts.specs.declared.acts.Act.TheVariants as act;
+ghost use Rattle.ee_desk_model.specs.Acts.{books_after, reply_to};
+ghost use Rattle.ee_desk_model.specs.PlainBooks.{PlainBooks};
+ghost use Rattle.ee_desk_model.specs.declared.acts.Act.TheVariants as act;
 ghost use Rattle.ee_units.specs.Spelling.{SerialNumber};
-ghost use Rattle.ee_desk_acts.specs.Views.{needed_counts};
+ghost use Rattle.ee_desk_model.specs.Views.{needed_counts};
 ghost use Rattle.ee_store_lookups.specs.Found.{terms_found, with_found};
 ghost use Rattle.ee_store_delivery.specs.Known.{IsDesk, IsDeskAfter, AreKnown, redeemed_counts};
 
-use ee_desk_acts::{Act, Reply, Terms};
 use ee_desk_decide::DayCounts;
+use ee_desk_model::{Act, Reply, Terms};
 use ee_store_lookups::{no_terms, note_terms};
 use ee_units::{Day, IssueMonth};
 use std::alloc::{AllocError, Global};

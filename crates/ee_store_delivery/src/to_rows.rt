@@ -18,7 +18,7 @@ ghost use Rattle.ee_store_tables.specs.AsRows.{
 ghost use Rattle.ee_store_contents.specs.Standing as standing;
 
 use ee_calculator::Bond;
-use ee_desk_acts::{Batch, Line, Ticket};
+use ee_desk_model::{Batch, Line, Ticket};
 use ee_store_tables::{BatchRow, Failure, PaidRow, TicketRow, UnpaidBond};
 use ee_units::Customer;
 use std::alloc::Global;

@@ -20,7 +20,7 @@ ghost use Rattle.ee_store_delivery.specs.Written.{
 
 use crate::to_rows::{batch_row, bond_row, line_rows, ticket_row, whole, whole_option};
 use ee_calculator::Bond;
-use ee_desk_acts::{Batch, Change, Terms, Ticket};
+use ee_desk_model::{Batch, Change, Terms, Ticket};
 use ee_store_tables::{
     Failure, RateRow, add_batch, add_bond, add_extension, add_rate, add_ticket, pay_lines, set_day,
 };

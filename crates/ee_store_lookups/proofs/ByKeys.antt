@@ -10,13 +10,13 @@ use Rattle.std.specs.FinMap.{FinMap}
 use Rattle.std.proofs.lemmas.Map.Lookups.{CmpEqualImpliesEq}
 use Rattle.ee_units.specs.Spelling.{SerialNumber}
 use Rattle.ee_calculator.specs.declared.bonds.Bond.{Bond}
-use Rattle.ee_desk_acts.specs.declared.changes.Held.{Held}
-use Rattle.ee_desk_acts.specs.declared.replies.Ticket.{Ticket}
-use Rattle.ee_desk_acts.specs.Seen.{held_as, held_of}
-use Rattle.ee_desk_acts.specs.Views.{picked}
-use Rattle.ee_desk_acts.proofs.Lemmas.Books.{sound_keyed}
+use Rattle.ee_desk_model.specs.declared.changes.Held.{Held}
+use Rattle.ee_desk_model.specs.declared.replies.Ticket.{Ticket}
+use Rattle.ee_desk_model.specs.Seen.{held_as, held_of}
+use Rattle.ee_desk_model.specs.Views.{picked}
+use Rattle.ee_desk_model.proofs.Lemmas.Books.{sound_keyed}
 use Rattle.ee_desk.proofs.Lemmas.{found_for_next}
-use Rattle.ee_desk_acts.specs.Repeats.{Content}
+use Rattle.ee_desk_model.specs.Repeats.{Content}
 use Rattle.ee_desk_texts.specs.Ranges.{BondFits}
 use Rattle.ee_store_contents.specs.Standing.{rows_of, bond_row, key_of, IsRight}
 use Rattle.ee_store_lookups.specs.Found.{with_found}

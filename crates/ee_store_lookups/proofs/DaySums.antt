@@ -4,12 +4,12 @@ use Rattle.std.specs.Option.{option_map_or, unwrap_or}
 use Rattle.std.specs.List.{AllByRecursion, fold, sum_by}
 use Rattle.std.specs.FinMap.{entries}
 use Rattle.std.proofs.lemmas.Bool.{eqb-true, eq-eqb}
-use Rattle.ee_desk_acts.specs.declared.replies.Ticket.{Ticket}
-use Rattle.ee_desk_acts.specs.PlainBooks.{of_day, bonds_on, total_of}
-use Rattle.ee_desk_acts.specs.Lists.{NeverFalling}
-use Rattle.ee_desk_acts.specs.Sound.{NumberedFrom, day_of}
-use Rattle.ee_desk_acts.specs.Repeats.{Content}
-use Rattle.ee_desk_acts.proofs.Lemmas.Books.{none_later}
+use Rattle.ee_desk_model.specs.declared.replies.Ticket.{Ticket}
+use Rattle.ee_desk_model.specs.PlainBooks.{of_day, bonds_on, total_of}
+use Rattle.ee_desk_model.specs.Lists.{NeverFalling}
+use Rattle.ee_desk_model.specs.Sound.{NumberedFrom, day_of}
+use Rattle.ee_desk_model.specs.Repeats.{Content}
+use Rattle.ee_desk_model.proofs.Lemmas.Books.{none_later}
 use Rattle.ee_store_tables.specs.declared.records.TicketSum.{TicketSum}
 use Rattle.ee_store_tables.specs.AsRows.{sum_of}
 use Rattle.ee_store_tables.specs.Rows.{TicketRow, first_number, last_number, tickets_on}

@@ -8,9 +8,9 @@ use Rattle.sqlite.specs.State.{State}
 use Rattle.ee_value.specs.declared.rates.Rates.{Rates}
 use Rattle.ee_value.specs.Chain.{InRange, rates_with, named_extension}
 use Rattle.ee_value.proofs.Lemmas.{rates-back}
-use Rattle.ee_desk_acts.specs.Repeats.{Content}
-use Rattle.ee_desk_acts.specs.Sound.{IsRightRate}
-use Rattle.ee_desk_acts.specs.Values.{unsettled}
+use Rattle.ee_desk_model.specs.Repeats.{Content}
+use Rattle.ee_desk_model.specs.Sound.{IsRightRate}
+use Rattle.ee_desk_model.specs.Values.{unsettled}
 use Rattle.ee_store_contents.specs.Standing.{IsRight}
 use Rattle.ee_store_tables.specs.declared.failures.Failure.{Failure}
 use Rattle.ee_store_tables.specs.declared.failures.Failure.TheVariants as failure

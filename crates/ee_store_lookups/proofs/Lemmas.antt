@@ -12,7 +12,7 @@ use Rattle.ee_store_tables.specs.declared.failures.Failure.TheVariants as failur
 use Rattle.ee_store_tables.specs.Rows.{Rows, IsInside, Sees}
 use Rattle.ee_store_tables.specs.Statements.{LeavesNoMore, IsExcused}
 use Rattle.ee_store_lookups.specs.Seen.{StaysSeen, StandsFor, HasContent, SeesContent}
-use Rattle.ee_desk_acts.specs.Repeats.{Content}
+use Rattle.ee_desk_model.specs.Repeats.{Content}
 use Rattle.ee_store_tables.specs.declared.failures.Failure.TheVariants as failure
 use Rattle.std.specs.List.{filter_map, AllByRecursion}
 use Rattle.sqlite.specs.Effect.{IsDatabase}
@@ -26,7 +26,7 @@ pub use Rattle.ee_store_lookups.proofs.InTurn.{Stays, nothing_done, done_then}
 use Rattle.std.specs.Cmp.{IsTotalOrder}
 use Rattle.std.specs.declared.cmp.Ordering.{Ordering}
 use Rattle.std.proofs.lemmas.Map.Lookups.{CmpEqualImpliesEq}
-use Rattle.ee_desk_acts.specs.Views.{picked}
+use Rattle.ee_desk_model.specs.Views.{picked}
 use Rattle.ee_store_lookups.specs.Found.{with_found}
 
 -- ---- what a call in a transaction leaves

@@ -3,12 +3,12 @@ use Rattle.std.proofs.Common.{◌≡◌, ◌⊎◌, inl, inr, false, IsTrue, ref
 use Rattle.sqlite.specs.Effect.{IsDatabase}
 use Rattle.sqlite.specs.Tree.{Trees}
 use Rattle.sqlite.specs.State.{State, HasCleanDisk, Survives, KeepsCommit, Shows}
-use Rattle.ee_desk_acts.specs.Repeats.{Content}
+use Rattle.ee_desk_model.specs.Repeats.{Content}
 use Rattle.ee_store_tables.proofs.Lemmas.Transactions.{begun, begun_inside, begun_sees, still_has, committed_has}
 use Rattle.ee_store_tables.specs.Rows.{IsInside, Stores}
 use Rattle.ee_store_tables.proofs.Lemmas.Meeting.{stored_has, stored_sees}
-use Rattle.ee_store_making.specs.declared.forms.Form.TheVariants.{Current}
-use Rattle.ee_store_opening.proofs.Lemmas.{one_rows}
+use Rattle.ee_store_schema.specs.declared.forms.Form.TheVariants.{Current}
+use Rattle.ee_store_load.proofs.Lemmas.{one_rows}
 use Rattle.ee_store_contents.specs.Standing.{rows_of}
 use Rattle.ee_store_contents.proofs.Lemmas as contents
 use Rattle.ee_store_lookups.specs.Seen.{StandsFor, HasContent, SeesContent}

@@ -1,7 +1,7 @@
 -- When a store is ready, and why a call in a transaction fails.
 use Rattle.std.specs.Prelude.{◌≡◌, None, Result, false, IfErr}
 use Rattle.sqlite.specs.State.{State, HasCleanDisk}
-use Rattle.ee_desk_acts.specs.Repeats.{Content}
+use Rattle.ee_desk_model.specs.Repeats.{Content}
 use Rattle.ee_store_tables.specs.Rows.{IsInside}
 use Rattle.ee_store_tables.specs.declared.failures.Failure.{Failure}
 use Rattle.ee_store_lookups.specs.Seen.{SeesContent}

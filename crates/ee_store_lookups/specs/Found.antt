@@ -6,8 +6,8 @@ use Rattle.std.specs.FinMap as finite
 use Rattle.std.specs.FinMap.{FinMap}
 use Rattle.ee_units.specs.Spelling.{SerialNumber}
 use Rattle.ee_value.specs.declared.rates.Rates.{Rates}
-use Rattle.ee_desk_acts.specs.declared.changes.Held.{Held}
-use Rattle.ee_desk_acts.specs.Serials.{serial_cmp}
+use Rattle.ee_desk_model.specs.declared.changes.Held.{Held}
+use Rattle.ee_desk_model.specs.Serials.{serial_cmp}
 
 abbrev pub bonds_found : List (SerialNumber × Held) → FinMap serial_cmp Held
 bonds_found found = finite.from_entries found

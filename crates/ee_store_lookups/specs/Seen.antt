@@ -3,7 +3,7 @@
 use Rattle.std.specs.Prelude.{ℕ, Result, IfOk, OnOk}
 use Rattle.sqlite.specs.Tree.{Trees}
 use Rattle.sqlite.specs.State.{State, HasCleanDisk}
-use Rattle.ee_desk_acts.specs.Repeats.{Content}
+use Rattle.ee_desk_model.specs.Repeats.{Content}
 use Rattle.ee_store_tables.specs.Rows.{Rows, Stores, Sees, Has, HasRoom, IsInside}
 use Rattle.ee_store_tables.specs.Statements.{StaysOpen, StaysInside, CommitsNothing, LeavesNoMore}
 use Rattle.ee_store_contents.specs.Standing.{rows_of, IsRight}

@@ -5,13 +5,13 @@ ghost use Rattle.std.specs.Result.{IsOk};
 ghost use Rattle.std.specs.FinMap as finite;
 ghost use Rattle.sqlite.specs.Held.{state};
 ghost use Rattle.ee_value.specs.Chain.{InRange, rates_with, named_extension};
-ghost use Rattle.ee_desk_acts.specs.Values.{unsettled};
-ghost use Rattle.ee_desk_acts.specs.Views.{picked};
+ghost use Rattle.ee_desk_model.specs.Values.{unsettled};
+ghost use Rattle.ee_desk_model.specs.Views.{picked};
 ghost use Rattle.ee_store_lookups.specs.Causes.{FailsByCause};
 ghost use Rattle.ee_store_lookups.specs.Found.{terms_found, with_found};
 ghost use Rattle.ee_store_lookups.specs.Seen.{FindsIn, OnlyReads};
 
-use ee_desk_acts::{Terms, UnitTables};
+use ee_desk_model::{Terms, UnitTables};
 use ee_store_tables::{Failure, find_extension, find_rate};
 use ee_units::{IssueMonth, Rate};
 use ee_value::{Rates, ValueFault};

@@ -4,13 +4,13 @@ ghost use Rattle.std.specs.Prelude.{◌≡◌, ◌-◌, ◌^◌, ◌<◌, IfOk, 
 ghost use Rattle.std.specs.Result.{IsOk};
 ghost use Rattle.std.specs.Option.{option_map_or, unwrap_or};
 ghost use Rattle.sqlite.specs.Held.{state};
-ghost use Rattle.ee_desk_acts.specs.PlainBooks.{batch_of, batch_so_far};
-ghost use Rattle.ee_desk_acts.specs.Views as is;
+ghost use Rattle.ee_desk_model.specs.PlainBooks.{batch_of, batch_so_far};
+ghost use Rattle.ee_desk_model.specs.Views as is;
 ghost use Rattle.ee_store_lookups.specs.Causes.{FailsByCause};
 ghost use Rattle.ee_store_lookups.specs.Seen.{FindsIn, OnlyReads};
 
-use ee_desk_acts::Act;
 use ee_desk_decide::DayCounts;
+use ee_desk_model::Act;
 use ee_store_tables::{Failure, TicketSum, day_tickets, first_ticket, last_ticket};
 use ee_units::{Cents, Day};
 use sqlite::{Alter, Transaction};

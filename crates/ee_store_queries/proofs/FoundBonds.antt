@@ -8,14 +8,14 @@ use Rattle.std.specs.FinMap.Entries.{below_all}
 use Rattle.ee_units.specs.Spelling.{SerialNumber}
 use Rattle.ee_units.proofs.Lemmas.{same_denom}
 use Rattle.ee_calculator.specs.declared.bonds.Bond.{Bond}
-use Rattle.ee_desk_acts.specs.declared.replies.Ticket.{Ticket}
-use Rattle.ee_desk_acts.specs.Serials.{serial_cmp}
-use Rattle.ee_desk_acts.specs.PlainBooks.{ticket_of}
-use Rattle.ee_desk_acts.specs.Seen.{held_as}
-use Rattle.ee_desk_acts.specs.Queries.{is_open_bond, bonds_of}
-use Rattle.ee_desk_acts.specs.Repeats.{Content}
-use Rattle.ee_desk_acts.proofs.Lemmas.Maps.{serials_total, serials_exact}
-use Rattle.ee_desk_parts.proofs.Lemmas.{all_entries}
+use Rattle.ee_desk_model.specs.declared.replies.Ticket.{Ticket}
+use Rattle.ee_desk_model.specs.Serials.{serial_cmp}
+use Rattle.ee_desk_model.specs.PlainBooks.{ticket_of}
+use Rattle.ee_desk_model.specs.Seen.{held_as}
+use Rattle.ee_desk_model.specs.Queries.{is_open_bond, bonds_of}
+use Rattle.ee_desk_model.specs.Repeats.{Content}
+use Rattle.ee_desk_model.proofs.Lemmas.Maps.{serials_total, serials_exact}
+use Rattle.ee_desk_soundness.proofs.Lemmas.{all_entries}
 use Rattle.ee_store_tables.proofs.Lemmas.Rows.{pair_total, pair_same}
 use Rattle.ee_store_contents.proofs.Lemmas.{sorted_entries, right_bond_is_keyed, head_of, tail_of}
 use Rattle.ee_store_tables.specs.declared.records.UnpaidBond.{UnpaidBond}

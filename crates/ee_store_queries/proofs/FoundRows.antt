@@ -9,9 +9,9 @@ use Rattle.std.specs.FinMap.{FinMap, nat_cmp-IsAntisymmetric}
 use Rattle.ee_units.specs.Calendar.{period_start}
 use Rattle.ee_value.specs.declared.rates.Rates.{Rates}
 use Rattle.ee_calculator.specs.declared.bonds.Bond.{Bond}
-use Rattle.ee_desk_acts.specs.Queries.{plain_row, row_of}
-use Rattle.ee_desk_acts.specs.Views.{picked}
-use Rattle.ee_desk_acts.proofs.Lemmas.Maps.{get_named, all_weaker}
+use Rattle.ee_desk_model.specs.Queries.{plain_row, row_of}
+use Rattle.ee_desk_model.specs.Views.{picked}
+use Rattle.ee_desk_model.proofs.Lemmas.Maps.{get_named, all_weaker}
 use Rattle.ee_store_lookups.proofs.Lemmas.{same_found}
 
 pub rows_found : (rates : FinMap nat_cmp Rates) (periods : List ℕ) (month : ℕ) (bonds : List Bond)

@@ -9,12 +9,12 @@ use Rattle.std.specs.FinMap as finite
 use Rattle.std.specs.FinMap.{find, get-from_entries}
 use Rattle.std.proofs.lemmas.Bool.{eqb-true, false_from_ne_true}
 use Rattle.std.proofs.lemmas.List.Elements.{filter-append}
-use Rattle.ee_desk_acts.specs.declared.replies.Line.{Line}
-use Rattle.ee_desk_acts.specs.declared.replies.Ticket.{Ticket}
-use Rattle.ee_desk_acts.specs.declared.replies.Batch.{Batch}
-use Rattle.ee_desk_acts.specs.Queries.{ticket_numbered, batch_on}
-use Rattle.ee_desk_acts.specs.Sound.{NumberedFrom}
-use Rattle.ee_desk_acts.specs.Repeats.{Content}
+use Rattle.ee_desk_model.specs.declared.replies.Line.{Line}
+use Rattle.ee_desk_model.specs.declared.replies.Ticket.{Ticket}
+use Rattle.ee_desk_model.specs.declared.replies.Batch.{Batch}
+use Rattle.ee_desk_model.specs.Queries.{ticket_numbered, batch_on}
+use Rattle.ee_desk_model.specs.Sound.{NumberedFrom}
+use Rattle.ee_desk_model.specs.Repeats.{Content}
 use Rattle.ee_store_tables.specs.declared.records.PlacedLine.{PlacedLine}
 use Rattle.ee_store_tables.specs.AsRows.{placed_of}
 use Rattle.ee_store_tables.specs.Rows.{PaidRow, TicketRow, lines_on}

@@ -9,13 +9,13 @@ use Rattle.sqlite.specs.Effect.{Database, IsDatabase}
 use Rattle.sqlite.specs.State.{State, Survives, HasCleanDisk, IsRolledBack}
 use Rattle.ee_units.specs.Spelling.{SerialNumber}
 use Rattle.ee_calculator.specs.declared.bonds.Bond.{Bond}
-use Rattle.ee_desk_acts.specs.declared.replies.Line.{Line}
-use Rattle.ee_desk_acts.specs.declared.replies.Ticket.{Ticket}
-use Rattle.ee_desk_acts.specs.Queries.{is_open_bond, bonds_of}
-use Rattle.ee_desk_acts.specs.Repeats.{Content}
-use Rattle.ee_desk_acts.specs.Sound.{IsDay}
-use Rattle.ee_desk_acts.proofs.Lemmas.Maps.{serials_total, serials_exact, all_filter, all_mapped}
-use Rattle.ee_desk_parts.proofs.Lemmas.{all_entries}
+use Rattle.ee_desk_model.specs.declared.replies.Line.{Line}
+use Rattle.ee_desk_model.specs.declared.replies.Ticket.{Ticket}
+use Rattle.ee_desk_model.specs.Queries.{is_open_bond, bonds_of}
+use Rattle.ee_desk_model.specs.Repeats.{Content}
+use Rattle.ee_desk_model.specs.Sound.{IsDay}
+use Rattle.ee_desk_model.proofs.Lemmas.Maps.{serials_total, serials_exact, all_filter, all_mapped}
+use Rattle.ee_desk_soundness.proofs.Lemmas.{all_entries}
 use Rattle.ee_desk_texts.specs.Ranges.{IsCustomer, IsSerial, BondFits, LineFits, TicketFits}
 use Rattle.ee_store_tables.specs.declared.records.PlacedLine.{PlacedLine}
 use Rattle.ee_store_tables.specs.declared.records.UnpaidBond.{UnpaidBond}

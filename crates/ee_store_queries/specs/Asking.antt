@@ -4,7 +4,7 @@ use Rattle.std.specs.Prelude.{ℕ, Result, IfOk, IfErr}
 use Rattle.sqlite.specs.State.{State, HasCleanDisk}
 use Rattle.ee_units.specs.Denoms.{dollars}
 use Rattle.ee_calculator.specs.declared.bonds.Bond.{Bond}
-use Rattle.ee_desk_acts.specs.Repeats.{Content}
+use Rattle.ee_desk_model.specs.Repeats.{Content}
 use Rattle.ee_store_tables.specs.declared.records.PlacedLine.{PlacedLine}
 use Rattle.ee_store_tables.specs.declared.records.UnpaidBond.{UnpaidBond}
 use Rattle.ee_store_tables.specs.Rows.{PaidRow, HasRoom}

@@ -4,14 +4,14 @@ ghost use Rattle.std.specs.Prelude.{◌≡◌, List, IfOk, IfErr, IfSome, IsSome
 ghost use Rattle.std.specs.List.{AllByRecursion};
 ghost use Rattle.std.specs.Option.{option_map};
 ghost use Rattle.ee_calculator.specs.declared.bonds.Bond.{Bond};
-ghost use Rattle.ee_desk_acts.specs.Sound.{IsDay};
+ghost use Rattle.ee_desk_model.specs.Sound.{IsDay};
 ghost use Rattle.ee_desk_texts.specs.Ranges.{IsCustomer, IsSerial, BondFits};
 ghost use Rattle.ee_store_tables.specs.AsRows.{row_of_batch};
 ghost use Rattle.ee_store_contents.specs.Standing.{batch_row, paid_row};
 ghost use Rattle.ee_store_queries.specs.Asking.{row_of_placed, unpaid_row};
 
 use ee_calculator::Bond;
-use ee_desk_acts::{Batch, Line, Rows, Ticket};
+use ee_desk_model::{Batch, Line, Rows, Ticket};
 use ee_store_lookups::held_from;
 use ee_store_tables::{BatchRow, BondRow, Failure, PlacedLine, TicketRow, UnpaidBond};
 use ee_units::{Cents, Customer, Day, Serial};

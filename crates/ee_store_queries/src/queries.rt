@@ -3,7 +3,7 @@
 ghost use Rattle.std.specs.Prelude.{◌≡◌, ◌<◌, map, ⊤};
 ghost use Rattle.std.specs.List.{filter_map};
 ghost use Rattle.sqlite.specs.Held.{state};
-ghost use Rattle.ee_desk_acts.specs.Queries.{ticket_numbered, batch_on, bonds_of, row_of, shown_in_row};
+ghost use Rattle.ee_desk_model.specs.Queries.{ticket_numbered, batch_on, bonds_of, row_of, shown_in_row};
 ghost use Rattle.ee_store_tables.specs.AsRows.{Fits};
 ghost use Rattle.ee_store_tables.specs.Statements.{StaysInside, CommitsNothing, LeavesNoMore};
 ghost use Rattle.ee_keeper.specs.Keeping.{IsInventory, IsQuote};
@@ -15,7 +15,7 @@ use crate::from_rows::{batch_shown, bonds_shown, ticket_shown};
 use crate::periods::periods_in;
 use ee_calculator::{Bond, Row, Sheet, sheet};
 use ee_desk::{quote, rows_of};
-use ee_desk_acts::{Batch, Ticket, UnitTables};
+use ee_desk_model::{Batch, Ticket, UnitTables};
 use ee_store_lookups::{find_terms, terms_in, tickets_in};
 use ee_store_tables::{Failure, bonds_of_owner, find_batch, find_ticket, ticket_lines};
 use ee_units::calendar::period_of;

@@ -1,7 +1,7 @@
 -- The texts of answers, put together.
 use Rattle.std.proofs.Common.{◌≡◌, ℕ, Bool, true, List, [], ◌++◌, Some, codes, refl, ap, ◌∙◌}
 use Rattle.std.specs.Prelude.{decimal}
-use Rattle.ee_device.specs.Written.{WritesFront}
+use Rattle.ee_io.specs.Written.{WritesFront}
 use Rattle.ee_wire.specs.Heads.{line, status_line, kind_line, closing_line, head_text}
 use Rattle.ee_wire.specs.declared.answers.Status.{Status}
 use Rattle.ee_wire.specs.declared.answers.Kind.{Kind}

@@ -5,14 +5,14 @@ use Rattle.serde_json.specs.Data.{Data, number, unsigned, string, object, Member
 use Rattle.serde_json.specs.Written.{compact_text}
 use Rattle.ee_units.specs.Texts.{rate_text, month_text, decimal_text}
 use Rattle.ee_units.specs.Denoms.{dollars}
-use Rattle.ee_device.specs.Written.{WritesFront}
+use Rattle.ee_io.specs.Written.{WritesFront}
 use Rattle.ee_calculator.specs.Notes.{note_text}
 use Rattle.ee_calculator.specs.Sheets.{sheet_text}
 use Rattle.ee_calculator.specs.declared.rows.Row.{Row}
 use Rattle.ee_wire_framing.specs.declared.FramingFault.TheVariants.{BadHead, HeadTooLong, BodyTooLong, BadLength, Truncated}
-use Rattle.ee_desk_acts.specs.declared.replies.Reply.TheVariants as reply
-use Rattle.ee_desk_acts.specs.declared.refusals.Unserved.{Unserved}
-use Rattle.ee_desk_acts.specs.declared.refusals.Unserved.TheVariants as unserved
+use Rattle.ee_desk_model.specs.declared.replies.Reply.TheVariants as reply
+use Rattle.ee_desk_model.specs.declared.refusals.Unserved.{Unserved}
+use Rattle.ee_desk_model.specs.declared.refusals.Unserved.TheVariants as unserved
 use Rattle.ee_desk_texts.specs.Texts.{reply_text}
 use Rattle.ee_wire_calls.specs.Faults.{code_of, name_of, field_name}
 use Rattle.ee_wire_calls.specs.declared.faults.Field.{Field}

@@ -4,7 +4,7 @@ ghost use Rattle.std.specs.Prelude.{◌≡◌};
 ghost use Rattle.ee_wire.specs.Answers.{status_of, status_of_fault, kind_of, ends_connection};
 
 use ee_calculator::{Row, Sheet};
-use ee_desk_acts::{Batch, Reply, Ticket, Unserved};
+use ee_desk_model::{Batch, Reply, Ticket, Unserved};
 use ee_wire_calls::WireFault;
 use ee_wire_framing::FramingFault;
 use thiserror::Error;

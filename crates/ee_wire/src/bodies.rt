@@ -9,7 +9,7 @@ ghost use Rattle.ee_wire.specs.Answers.{field_in, fault_data, fault_text, unserv
 use crate::answers::Answer;
 use crate::rows::write_row;
 use ee_calculator::{Row, Sheet, write_sheet};
-use ee_desk_acts::{Reply, Unserved};
+use ee_desk_model::{Reply, Unserved};
 use ee_desk_texts::{reply_text, text_of, write_number_member, write_text_member};
 use ee_wire_calls::{Field, WireFault};
 use json::Writer;

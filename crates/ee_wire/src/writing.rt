@@ -8,8 +8,8 @@ ghost use Rattle.ee_wire.specs.declared.answers.WriteEnd.TheVariants as written;
 use crate::answers::{Answer, WriteEnd};
 use crate::bodies::body_bytes;
 use crate::heads::head_text;
-use ee_desk_acts::Unserved;
-use ee_device::{Sink, write_whole};
+use ee_desk_model::Unserved;
+use ee_io::{Sink, write_whole};
 use ee_wire_calls::WireFault;
 use std::alloc::{AllocError, Global};
 

@@ -10,9 +10,9 @@ use Rattle.ee_wire_calls.specs.declared.faults.Field.TheVariants as at
 use Rattle.ee_value.specs.Chain.{rates_with}
 use Rattle.ee_value.specs.declared.rates.RateRow.{RateRow}
 use Rattle.ee_calculator.specs.declared.bonds.Bond.{Bond}
-use Rattle.ee_desk_acts.specs.declared.acts.Request.{Request}
+use Rattle.ee_desk_model.specs.declared.acts.Request.{Request}
 use Rattle.ee_units.specs.Spelling.{SerialNumber}
-use Rattle.ee_desk_acts.specs.declared.acts.Act.TheVariants as act
+use Rattle.ee_desk_model.specs.declared.acts.Act.TheVariants as act
 use Rattle.ee_wire_calls.specs.declared.faults.BodyFault.{BodyFault}
 use Rattle.ee_wire_calls.specs.declared.faults.BodyFault.TheVariants as fault
 use Rattle.ee_wire_calls.specs.declared.routes.Post.{Post}

@@ -25,7 +25,7 @@ use crate::fields::{
 use crate::kinds::serial_in;
 use crate::routes::Post;
 use ee_calculator::Bond;
-use ee_desk_acts::{Act, RateRow, Request, Rows};
+use ee_desk_model::{Act, RateRow, Request, Rows};
 use ee_units::Serial;
 use ee_value::Rates;
 use serde_json::Value;

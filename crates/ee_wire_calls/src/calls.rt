@@ -1,6 +1,6 @@
 //! What a message can ask for.
 
-use ee_desk_acts::Request;
+use ee_desk_model::Request;
 use ee_units::{Customer, Day, Denom, IssueMonth, Month};
 
 /// A query on the books, sent by GET.

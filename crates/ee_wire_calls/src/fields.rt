@@ -12,7 +12,7 @@ use crate::faults::Field;
 use crate::kinds::{
     customer_in, day_in, denom_in, desk_in, issue_in, number_in, rate_in, serial_in,
 };
-use ee_desk_acts::{Desk, Number};
+use ee_desk_model::{Desk, Number};
 use ee_units::{Customer, Day, Denom, IssueMonth, Rate, Serial};
 use serde_json::{Map, Value};
 

@@ -3,7 +3,7 @@ ghost use Rattle.std.specs.Prelude.{◌≡◌};
 ghost use Rattle.serde_json.specs.View.{view};
 ghost use Rattle.ee_wire_calls.specs.Kinds.{desk_in, number_in, customer_in, denom_in, day_in, issue_in, rate_in, serial_in};
 
-use ee_desk_acts::{Desk, Number};
+use ee_desk_model::{Desk, Number};
 use ee_units::{
     Customer, Day, Denom, IssueMonth, Rate, Serial, read_day, read_issue, read_rate, read_serial,
 };

@@ -6,7 +6,7 @@ ghost use Rattle.ee_wire_framing.specs.Reading.{Answers, Takes, Settles, IsFront
 use crate::front::{Front, Progress, judge_front, learn, read_front};
 use crate::head::Lines;
 use crate::{CHUNK, FEW_HEADERS, FramingFault};
-use ee_device::Source;
+use ee_io::Source;
 use httparse::spans::{EMPTY_HEADER_SPAN, HeaderSpan, Span};
 use std::alloc::Global;
 use std::marker::Model;

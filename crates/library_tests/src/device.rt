@@ -3,7 +3,7 @@
 ghost use Rattle.std.specs.Prelude.{⊤};
 
 use crate::comparing::{Cases, compare, same};
-use ee_device::{ReadFault, Sink, read_whole, write_whole};
+use ee_io::{ReadFault, Sink, read_whole, write_whole};
 use std::alloc::Global;
 use std::io::{self, ErrorKind, Read, Write};
 use std::test::Fail;
@@ -169,7 +169,7 @@ impl Read for Source<'_> {
     }
 }
 
-impl ee_device::Source for Source<'_> {
+impl ee_io::Source for Source<'_> {
     ghost may_have_failed = { λ _. ⊤ };
 
     fn read_once(&mut self, buf: &mut [u8]) -> io::Result<usize> {

@@ -3,7 +3,7 @@
 ghost use Rattle.std.specs.Prelude.{⊤};
 
 use crate::comparing::{Cases, add_times, alike, bytes_of, compare, same};
-use ee_device::Source;
+use ee_io::Source;
 use ee_wire_framing::{Buffer, Message, Next, WireEnd, next_message};
 use std::alloc::Global;
 use std::fmt::Write;

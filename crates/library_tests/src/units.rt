@@ -2,7 +2,7 @@
 //! spellings, not from this crate. Values are written as `Debug` prints them.
 
 use crate::comparing::{Cases, alike, compare, shown};
-use ee_desk_acts::read_desk;
+use ee_desk_model::read_desk;
 use ee_units::*;
 use std::alloc::Global;
 use std::fmt::{Debug, Display};

@@ -6,7 +6,7 @@ ghost use Rattle.std.specs.Prelude.{⊤};
 use crate::commands::{InMemory, prints, run, tells, words};
 use crate::comparing::{holds, parts, same};
 use ee_cli_program::{refuse_words, run_words};
-use ee_device::Sink;
+use ee_io::Sink;
 use std::alloc::Global;
 use std::io::{self, ErrorKind, Write};
 use std::process::Abort;

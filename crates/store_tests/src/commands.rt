@@ -76,7 +76,7 @@ pub struct InMemory {
 
 impl Stores for InMemory {
     ghost use Rattle.std.specs.Prelude.{◌≡◌};
-    ghost use Rattle.ee_desk_acts.specs.Repeats.{nothing};
+    ghost use Rattle.ee_desk_model.specs.Repeats.{nothing};
 
     type Store = ListKeeper;
 

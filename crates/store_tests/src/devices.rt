@@ -2,7 +2,7 @@
 
 ghost use Rattle.std.specs.Prelude.{⊤};
 
-use ee_device::Sink;
+use ee_io::Sink;
 use std::alloc::Global;
 use std::io::{self, ErrorKind, Read, Write};
 
@@ -62,7 +62,7 @@ impl Read for Source<'_> {
     }
 }
 
-impl ee_device::Source for Source<'_> {
+impl ee_io::Source for Source<'_> {
     ghost may_have_failed = { λ _. ⊤ };
 
     fn read_once(&mut self, buf: &mut [u8]) -> io::Result<usize> {

@@ -5,7 +5,7 @@ use crate::comparing::{add, compare, made, parts, same};
 use crate::devices::{Narrow, Source};
 use crate::talk::{bytes_of, json, message};
 use ee_counter::{Ended, export_inventory, import_inventory, import_rates, serve};
-use ee_desk_acts::{Desk, Number};
+use ee_desk_model::{Desk, Number};
 use ee_desk_texts::reply_text;
 use ee_keeper::Keeper;
 use std::alloc::Global;

@@ -14,7 +14,7 @@ use crate::noise::noise;
 use crate::refusals::{DAYS, FULL, IMPORTS, LONG, MOST};
 use crate::talk::{By, replay_by, requests_of};
 use ee_counter::run;
-use ee_desk_acts::{Reply, Request, Unserved};
+use ee_desk_model::{Reply, Request, Unserved};
 use ee_desk_texts::reply_text;
 use ee_keeper::{Keeper, ListKeeper};
 use ee_store::SqlKeeper;

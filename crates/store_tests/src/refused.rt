@@ -9,7 +9,7 @@ use crate::imports::FILES;
 use crate::parts::requests;
 use crate::talk::{By, line_told, requests_of};
 use ee_counter::run;
-use ee_desk_acts::{Reply, Request, Unserved};
+use ee_desk_model::{Reply, Request, Unserved};
 use ee_desk_texts::reply_text;
 use ee_keeper::{Keeper, ListKeeper};
 use ee_store::{NotAdopted, OpenFault, SqlKeeper};

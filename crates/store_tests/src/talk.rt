@@ -15,7 +15,7 @@
 use crate::devices::Narrow;
 use ee_cli_actions::{Outcome, RunFault, StoreFault, apply_to};
 use ee_counter::{export_inventory, import_inventory, import_rates, serve};
-use ee_desk_acts::{Desk, Number, Unserved, read_desk};
+use ee_desk_model::{Desk, Number, Unserved, read_desk};
 use ee_desk_texts::reply_text;
 use ee_keeper::Keeper;
 use ee_wire::{Answer, Call, Query, WireFault, decode, write_reply};

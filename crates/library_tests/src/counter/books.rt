@@ -5,7 +5,7 @@
 use crate::comparing::{Cases, add, compare};
 use ee_calculator::Bond;
 use ee_desk::{Books, Parts};
-use ee_desk_acts::{Batch, Line, RateRow, Rows, Ticket};
+use ee_desk_model::{Batch, Line, RateRow, Rows, Ticket};
 use ee_units::{Cents, Day};
 use ee_value::Rates;
 use std::alloc::Global;

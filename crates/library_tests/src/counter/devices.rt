@@ -26,7 +26,7 @@ impl Read for Source<'_> {
     }
 }
 
-impl ee_device::Source for Source<'_> {
+impl ee_io::Source for Source<'_> {
     ghost may_have_failed = { λ _. ⊤ };
 
     fn read_once(&mut self, buf: &mut [u8]) -> io::Result<usize> {

@@ -2,7 +2,7 @@
 
 use crate::comparing::{Cases, compare};
 use ee_cli_commands::{Command, CommandFault, FileKind, read_command};
-use ee_desk_acts::{Desk, Number};
+use ee_desk_model::{Desk, Number};
 use ee_units::Rate;
 use std::alloc::Global;
 use std::fmt::Write;

@@ -1,6 +1,6 @@
 use Rattle.std.proofs.Common.{◌≡◌, ◌++◌, get_or, length, sym, ap, ◌∙◌, arith}
 use Rattle.std.proofs.lemmas.List.{length-append}
-use Rattle.ee_device.proofs.Lemmas.{flat_map_more}
+use Rattle.ee_io.proofs.Lemmas.{flat_map_more}
 use Rattle.ee_calculator.specs.Sheets.{placed}
 use Rattle.ee_calculator.specs.Lines.{cell_of}
 use Rattle.ee_calculator.specs.declared.columns.Column.TheVariants as column

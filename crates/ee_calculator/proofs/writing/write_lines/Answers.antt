@@ -1,5 +1,5 @@
 use Rattle.ee_calculator.specs.Sheets.{sheet_text}
-use Rattle.ee_device.proofs.Lemmas.{second_after_whole, none_after_cut}
+use Rattle.ee_io.proofs.Lemmas.{second_after_whole, none_after_cut}
 use Rattle.ee_calculator.proofs.writing.write_lines.Goals as goal
 
 pub returns-then-write_rows_below_heading-clause-written : goal.returns-then-write_rows_below_heading-clause-written

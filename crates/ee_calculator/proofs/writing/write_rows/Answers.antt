@@ -1,5 +1,5 @@
 use Rattle.ee_calculator.specs.Sheets.{line, row_cell}
-use Rattle.ee_device.proofs.Lemmas.{next_piece_written, next_piece_cut, all_pieces_written}
+use Rattle.ee_io.proofs.Lemmas.{next_piece_written, next_piece_cut, all_pieces_written}
 use Rattle.ee_calculator.proofs.writing.write_rows.Goals as goal
 
 pub loop-row-preserved : goal.loop-row-preserved

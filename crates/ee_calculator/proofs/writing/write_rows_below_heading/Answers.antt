@@ -1,4 +1,4 @@
-use Rattle.ee_device.proofs.Lemmas.{second_after_whole, none_after_cut}
+use Rattle.ee_io.proofs.Lemmas.{second_after_whole, none_after_cut}
 use Rattle.ee_calculator.proofs.writing.write_rows_below_heading.Goals as goal
 
 pub returns-then-write_line-clause-written : goal.returns-then-write_line-clause-written

@@ -1,6 +1,6 @@
 use Rattle.std.proofs.Common.{◌≡◌, false, List, length}
 use Rattle.std.specs.Io.KnownBytes.{Appends}
-use Rattle.ee_desk_acts.specs.Repeats.{Content}
+use Rattle.ee_desk_model.specs.Repeats.{Content}
 use Rattle.ee_counter.specs.declared.connections.Ended.{Ended}
 use Rattle.ee_cli_actions.specs.Connections.{ServesEach, any_failed}
 use Rattle.ee_cli_actions.specs.Printed.{connection_lines}

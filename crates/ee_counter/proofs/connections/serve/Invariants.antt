@@ -1,5 +1,5 @@
 use Rattle.std.proofs.Common.{◌≡◌, true, None}
-use Rattle.ee_desk_acts.specs.Repeats.{Content}
+use Rattle.ee_desk_model.specs.Repeats.{Content}
 use Rattle.ee_counter.proofs.Turns.{HasTold}
 use Rattle.ee_counter.proofs.connections.serve.Given as goal
 

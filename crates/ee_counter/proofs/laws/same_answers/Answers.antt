@@ -1,5 +1,5 @@
 use Rattle.std.proofs.Common.{[], ap}
-use Rattle.ee_desk_acts.specs.Contents.{content_after}
+use Rattle.ee_desk_model.specs.Contents.{content_after}
 use Rattle.ee_counter.proofs.Same.{same_answers, all_served}
 use Rattle.ee_counter.proofs.laws.same_answers.Goals as goal
 

@@ -1,11 +1,11 @@
 use Rattle.std.proofs.Common.{arith, rules, subst, sym, List, Result, take}
 use Rattle.std.proofs.lemmas.Grind.{common_steps}
 use Rattle.std.specs.List.{AllByRecursion}
-use Rattle.ee_desk_acts.specs.declared.replies.Reply.{Reply}
-use Rattle.ee_desk_acts.specs.declared.refusals.Unserved.{Unserved}
+use Rattle.ee_desk_model.specs.declared.replies.Reply.{Reply}
+use Rattle.ee_desk_model.specs.declared.refusals.Unserved.{Unserved}
 use Rattle.ee_keeper.specs.Keeping.{FailsOnlyIf}
-use Rattle.ee_desk_acts.specs.Contents.{content_after}
-use Rattle.ee_desk_acts.specs.Answers.{served}
+use Rattle.ee_desk_model.specs.Contents.{content_after}
+use Rattle.ee_desk_model.specs.Answers.{served}
 use Rattle.ee_counter.proofs.Runs.{all_more, one_more}
 use Rattle.ee_counter.proofs.requests.run.Goals as goal
 

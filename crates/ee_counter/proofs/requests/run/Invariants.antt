@@ -1,8 +1,8 @@
 use Rattle.std.proofs.Common.{◌≡◌, [], length, take, vec_len, vec_capacity}
 use Rattle.std.specs.List.{AllByRecursion}
-use Rattle.ee_desk_acts.specs.Repeats.{Content}
-use Rattle.ee_desk_acts.specs.Contents.{content_after}
-use Rattle.ee_desk_acts.specs.Answers.{served, AreAnswers}
+use Rattle.ee_desk_model.specs.Repeats.{Content}
+use Rattle.ee_desk_model.specs.Contents.{content_after}
+use Rattle.ee_desk_model.specs.Answers.{served, AreAnswers}
 use Rattle.ee_keeper.specs.Keeping.{FailsOnlyIf}
 use Rattle.ee_counter.proofs.requests.run.Given as goal
 

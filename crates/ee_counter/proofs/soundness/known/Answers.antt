@@ -1,4 +1,4 @@
-use Rattle.ee_desk_acts.proofs.Lemmas.Books.{sound_pays_right, sound_conserves}
+use Rattle.ee_desk_model.proofs.Lemmas.Books.{sound_pays_right, sound_conserves}
 use Rattle.ee_counter.proofs.soundness.known.Goals as goal
 
 pub returns-clause-right : goal.returns-clause-right

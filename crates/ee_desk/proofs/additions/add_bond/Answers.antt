@@ -1,5 +1,5 @@
 use Rattle.std.proofs.Common.{ap, sym, ◌∙◌}
-use Rattle.ee_desk_acts.proofs.Lemmas.Maps.{serials_exact, serials_total, map_with_one_more}
+use Rattle.ee_desk_model.proofs.Lemmas.Maps.{serials_exact, serials_total, map_with_one_more}
 use Rattle.ee_desk.specs.Kept.{held_in}
 use Rattle.ee_desk.specs.Added.{held_row, with_row}
 use Rattle.ee_desk.proofs.additions.add_bond.Goals as goal

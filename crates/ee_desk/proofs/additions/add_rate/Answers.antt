@@ -2,7 +2,7 @@ use Rattle.std.proofs.Common.{ap, sym, ◌∙◌}
 use Rattle.std.specs.FinMap as finite
 use Rattle.std.specs.FinMap.{nat_cmp-IsAntisymmetric}
 use Rattle.std.specs.Cmp.{nat_cmp_total}
-use Rattle.ee_desk_acts.proofs.Lemmas.Maps.{map_with_one_more}
+use Rattle.ee_desk_model.proofs.Lemmas.Maps.{map_with_one_more}
 use Rattle.ee_desk.specs.Kept.{rates_in}
 use Rattle.ee_desk.specs.Added.{rate_row, with_row}
 use Rattle.ee_desk.proofs.additions.add_rate.Goals as goal

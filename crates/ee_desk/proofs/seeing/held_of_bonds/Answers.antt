@@ -1,7 +1,7 @@
 use Rattle.std.proofs.Common.{sym, ◌∙◌}
 use Rattle.ee_calculator.specs.declared.bonds.Bond.{Bond}
-use Rattle.ee_desk_acts.specs.Seen.{held_of}
-use Rattle.ee_desk_acts.proofs.Lemmas.Maps.{serials_total, serials_exact}
+use Rattle.ee_desk_model.specs.Seen.{held_of}
+use Rattle.ee_desk_model.proofs.Lemmas.Maps.{serials_total, serials_exact}
 use Rattle.ee_desk.specs.Kept.{noted}
 use Rattle.ee_desk.proofs.Picked.{picked_more}
 use Rattle.ee_desk.proofs.seeing.held_of_bonds.Goals as goal

@@ -1,6 +1,6 @@
 use Rattle.std.proofs.Common.{sym, ◌∙◌}
-use Rattle.ee_desk_acts.specs.Seen.{held_of}
-use Rattle.ee_desk_acts.proofs.Lemmas.Maps.{serials_total, serials_exact}
+use Rattle.ee_desk_model.specs.Seen.{held_of}
+use Rattle.ee_desk_model.proofs.Lemmas.Maps.{serials_total, serials_exact}
 use Rattle.ee_desk.specs.Kept.{noted}
 use Rattle.ee_desk.proofs.Picked.{picked_next}
 use Rattle.ee_desk.proofs.seeing.held_of_serials.Goals as goal

@@ -4,8 +4,8 @@ use Rattle.std.specs.FinMap as finite
 use Rattle.std.specs.FinMap.{nat_cmp-IsAntisymmetric}
 use Rattle.std.specs.Cmp.{nat_cmp_total}
 use Rattle.ee_units.specs.Spelling.{SerialNumber}
-use Rattle.ee_desk_acts.specs.Seen.{held_of}
-use Rattle.ee_desk_acts.specs.Views.{period_of_held}
+use Rattle.ee_desk_model.specs.Seen.{held_of}
+use Rattle.ee_desk_model.specs.Views.{period_of_held}
 use Rattle.ee_desk.specs.Kept.{noted_at}
 use Rattle.ee_desk.proofs.Picked.{picked_found}
 use Rattle.ee_desk.proofs.seeing.rates_of_serials.Goals as goal

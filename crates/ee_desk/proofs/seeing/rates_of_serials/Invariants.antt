@@ -2,8 +2,8 @@ use Rattle.std.proofs.Common.{◌≡◌, take}
 use Rattle.std.specs.Option.{option_map}
 use Rattle.std.specs.List.{filter_map}
 use Rattle.std.specs.FinMap as finite
-use Rattle.ee_desk_acts.specs.Seen.{held_of}
-use Rattle.ee_desk_acts.specs.Views.{picked, period_of_held}
+use Rattle.ee_desk_model.specs.Seen.{held_of}
+use Rattle.ee_desk_model.specs.Views.{picked, period_of_held}
 use Rattle.ee_desk.specs.Kept.{rates_in}
 use Rattle.ee_desk.proofs.seeing.rates_of_serials.Given as goal
 

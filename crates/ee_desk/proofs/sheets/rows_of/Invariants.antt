@@ -1,6 +1,6 @@
 use Rattle.std.proofs.Common.{◌≡◌, ◌++◌, drop, map}
 use Rattle.std.specs.List.{filter_map}
-use Rattle.ee_desk_acts.specs.Queries.{shown_in_row, row_of}
+use Rattle.ee_desk_model.specs.Queries.{shown_in_row, row_of}
 use Rattle.ee_desk.specs.Kept.{rates_in}
 use Rattle.ee_desk.proofs.sheets.rows_of.Given as goal
 

@@ -1,5 +1,5 @@
 use Rattle.std.proofs.Common.{true, false, sym, ◌∙◌}
-use Rattle.ee_desk_acts.proofs.Lemmas.Maps.{repeated_bond_more}
+use Rattle.ee_desk_model.proofs.Lemmas.Maps.{repeated_bond_more}
 use Rattle.ee_desk_decide.proofs.checks.first_repeated_bond.Goals as goal
 
 pub returns-then-has_bond : goal.returns-then-has_bond

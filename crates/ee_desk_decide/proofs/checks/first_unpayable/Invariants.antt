@@ -1,6 +1,6 @@
 use Rattle.std.proofs.Common.{◌≡◌, drop}
-use Rattle.ee_desk_acts.specs.Refusals as is
-use Rattle.ee_desk_acts.specs.Views.{shown_by}
+use Rattle.ee_desk_model.specs.Refusals as is
+use Rattle.ee_desk_model.specs.Views.{shown_by}
 use Rattle.ee_desk_decide.proofs.checks.first_unpayable.Given as goal
 
 abbrev pub invariant-loop-serial : goal.invariant-loop-serial

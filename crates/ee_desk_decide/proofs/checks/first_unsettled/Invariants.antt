@@ -1,5 +1,5 @@
 use Rattle.std.proofs.Common.{◌≡◌, drop}
-use Rattle.ee_desk_acts.specs.Refusals as is
+use Rattle.ee_desk_model.specs.Refusals as is
 use Rattle.ee_desk_decide.proofs.checks.first_unsettled.Given as goal
 
 abbrev pub invariant-loop-row : goal.invariant-loop-row

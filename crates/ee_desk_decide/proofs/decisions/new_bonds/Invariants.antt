@@ -1,7 +1,7 @@
 use Rattle.std.proofs.Common.{◌≡◌, ◌≤◌, ◌++◌, map, length, drop}
-use Rattle.ee_desk_acts.specs.Effects as is
-use Rattle.ee_desk_acts.specs.declared.changes.Change.TheVariants as change
-use Rattle.ee_desk_acts.specs.Views.{shown_by}
+use Rattle.ee_desk_model.specs.Effects as is
+use Rattle.ee_desk_model.specs.declared.changes.Change.TheVariants as change
+use Rattle.ee_desk_model.specs.Views.{shown_by}
 use Rattle.ee_desk_decide.proofs.decisions.new_bonds.Given as goal
 
 abbrev pub invariant-loop-bond : goal.invariant-loop-bond

@@ -1,9 +1,9 @@
 use Rattle.std.proofs.Common.{rules, arith}
 use Rattle.std.proofs.lemmas.Grind.{common_steps}
-use Rattle.ee_desk_acts.specs.declared.refusals.Refusal.TheVariants.{RateUnsettled}
-use Rattle.ee_desk_acts.specs.Values.{unsettled}
-use Rattle.ee_desk_acts.specs.Refusals.{near}
-use Rattle.ee_desk_acts.proofs.Lemmas.Books.{none_from_option_map}
+use Rattle.ee_desk_model.specs.declared.refusals.Refusal.TheVariants.{RateUnsettled}
+use Rattle.ee_desk_model.specs.Values.{unsettled}
+use Rattle.ee_desk_model.specs.Refusals.{near}
+use Rattle.ee_desk_model.proofs.Lemmas.Books.{none_from_option_map}
 use Rattle.ee_desk_decide.proofs.Payable.{none_at}
 use Rattle.ee_desk_decide.proofs.decisions.new_rates.Goals as goal
 

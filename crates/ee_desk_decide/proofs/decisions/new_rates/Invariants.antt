@@ -1,6 +1,6 @@
 use Rattle.std.proofs.Common.{◌≡◌, ◌≤◌, ◌++◌, [], map, length, take, drop}
-use Rattle.ee_desk_acts.specs.Effects as is
-use Rattle.ee_desk_acts.specs.Views.{shown_by}
+use Rattle.ee_desk_model.specs.Effects as is
+use Rattle.ee_desk_model.specs.Views.{shown_by}
 use Rattle.ee_desk_decide.proofs.decisions.new_rates.Given as goal
 
 abbrev pub invariant-loop-i : goal.invariant-loop-i

@@ -1,7 +1,7 @@
 use Rattle.std.proofs.Common.{ap, ◌∙◌, arith, rules}
 use Rattle.std.proofs.lemmas.Grind.{common_steps}
-use Rattle.ee_desk_acts.specs.Views.{shown_by}
-use Rattle.ee_desk_acts.specs.Refusals.{refusal_of_serial}
+use Rattle.ee_desk_model.specs.Views.{shown_by}
+use Rattle.ee_desk_model.specs.Refusals.{refusal_of_serial}
 use Rattle.ee_desk_decide.proofs.Payable.{none_at}
 use Rattle.ee_desk_decide.proofs.decisions.ticket_for.Goals as goal
 

@@ -1,7 +1,7 @@
 use Rattle.std.proofs.Common.{◌≡◌, ◌≤◌, ◌*◌, ◌^◌, map, take, sum_by}
-use Rattle.ee_desk_acts.specs.Seen.{line_for}
-use Rattle.ee_desk_acts.specs.PlainBooks.{cents_of}
-use Rattle.ee_desk_acts.specs.Views.{shown_by}
+use Rattle.ee_desk_model.specs.Seen.{line_for}
+use Rattle.ee_desk_model.specs.PlainBooks.{cents_of}
+use Rattle.ee_desk_model.specs.Views.{shown_by}
 use Rattle.ee_desk_decide.proofs.decisions.ticket_for.Given as goal
 
 abbrev pub invariant-loop-serial : goal.invariant-loop-serial

@@ -4,19 +4,19 @@ use Rattle.sqlite.proofs.InsideLemmas.{keeps_then}
 use Rattle.sqlite.proofs.StateLemmas.{survives_weaker}
 use Rattle.ee_store_tables.specs.Rows.{Rows, Stores}
 use Rattle.ee_store_tables.proofs.Lemmas.Transactions.{on_err_from, clean_before}
-use Rattle.ee_store_making.specs.declared.faults.OpenFault.TheVariants.{WrongVersion, Unusable, StoreFailed}
-use Rattle.ee_store_making.specs.declared.forms.Form.{Form}
-use Rattle.ee_store_making.specs.Forms.{version_of, IsOurs, HadIn}
-use Rattle.ee_store_making.specs.Making.{first_rows}
-use Rattle.ee_store_opening.specs.Whole as whole
-use Rattle.ee_store_opening.specs.Opening.{AreReadable}
-use Rattle.ee_desk_acts.specs.Repeats.{Content}
+use Rattle.ee_store_schema.specs.declared.faults.OpenFault.TheVariants.{WrongVersion, Unusable, StoreFailed}
+use Rattle.ee_store_schema.specs.declared.forms.Form.{Form}
+use Rattle.ee_store_schema.specs.Forms.{version_of, IsOurs, HadIn}
+use Rattle.ee_store_schema.specs.Making.{first_rows}
+use Rattle.ee_store_load.specs.Whole as whole
+use Rattle.ee_store_load.specs.Opening.{AreReadable}
+use Rattle.ee_desk_model.specs.Repeats.{Content}
 use Rattle.ee_store_contents.specs.Contents.{KeepsAnswer}
 use Rattle.ee_store_contents.specs.Standing.{rows_at, StandAt}
-use Rattle.ee_store_making.proofs.Lemmas.Faults.{each_fault, two_faults, handed_on}
-use Rattle.ee_store_making.proofs.Lemmas.Causes.{cause_then, excused_if_open}
-use Rattle.ee_store_making.proofs.Lemmas.Forms.{not_blank}
-use Rattle.ee_store_opening.proofs.Lemmas.{one_version}
+use Rattle.ee_store_schema.proofs.Lemmas.Faults.{each_fault, two_faults, handed_on}
+use Rattle.ee_store_schema.proofs.Lemmas.Causes.{cause_then, excused_if_open}
+use Rattle.ee_store_schema.proofs.Lemmas.Forms.{not_blank}
+use Rattle.ee_store_load.proofs.Lemmas.{one_version}
 use Rattle.ee_store.specs.Adopted.{HadNone, HadOtherVersion, HadNoOtherVersion, FailsToAdopt}
 use Rattle.ee_store.proofs.Opened.{of_nothing, begun_survives, of_version, blank_had_none}
 use Rattle.ee_store.proofs.Migrated.{lists_all, made_of, fits_rows, keeps_content, has_some, stood_for_none, is_ours, not_begun, leaves_as_before, leaves_present, read_then}

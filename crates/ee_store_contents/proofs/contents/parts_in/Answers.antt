@@ -1,8 +1,8 @@
 use Rattle.std.proofs.Common.{rules, ◌≡◌, Some, ◌∙◌}
 use Rattle.ee_units.specs.Spelling.{SerialNumber}
-use Rattle.ee_desk_acts.specs.PlainBooks.{ticket_of}
+use Rattle.ee_desk_model.specs.PlainBooks.{ticket_of}
 use Rattle.ee_store_contents.specs.Reading.{each, days_in, rates_in, bond_in, tickets_in, batch_in, mark_at}
-use Rattle.ee_store_making.specs.Forms.{version_of}
+use Rattle.ee_store_schema.specs.Forms.{version_of}
 use Rattle.ee_store_contents.proofs.FoundParts.{parts_found}
 use Rattle.ee_store_contents.proofs.contents.parts_in.Goals as goal
 

@@ -1,12 +1,12 @@
 use Rattle.std.proofs.Common.{◌≡◌, sym, ◌∙◌, subst}
 use Rattle.std.specs.Prelude.{Result, Ok, Err, IfErr, IsErrAnd}
 use Rattle.std.proofs.lemmas.Bool.{not-true, not-false}
-use Rattle.ee_desk_acts.specs.Repeats.{Content}
+use Rattle.ee_desk_model.specs.Repeats.{Content}
 use Rattle.ee_store_tables.specs.Rows.{Rows}
-use Rattle.ee_store_opening.specs.Whole.{AreRead}
+use Rattle.ee_store_load.specs.Whole.{AreRead}
 use Rattle.ee_store_contents.specs.Contents.{KeepsAnswer}
 use Rattle.ee_store_contents.specs.Standing.{StandAt}
-use Rattle.ee_store_making.specs.Forms.{version_of}
+use Rattle.ee_store_schema.specs.Forms.{version_of}
 use Rattle.ee_store_contents.specs.declared.contents.ContentFault.{ContentFault}
 use Rattle.ee_store_contents.specs.declared.contents.ContentFault.TheVariants.{Unusable}
 use Rattle.ee_store_contents.proofs.Founded.{same_parts, no_parts, not_kept, not_sound, tables_founded}

@@ -1,7 +1,7 @@
 use Rattle.std.proofs.Common.{Some, None, cond, ◌∙◌}
 use Rattle.std.specs.Option.{option_or}
 use Rattle.std.specs.List.{list_any}
-use Rattle.ee_desk_acts.specs.Serials.{same_serial}
+use Rattle.ee_desk_model.specs.Serials.{same_serial}
 use Rattle.ee_store_contents.proofs.NotedMarks.{tickets_more}
 use Rattle.ee_store_contents.proofs.marks.marks_of.Goals as goal
 

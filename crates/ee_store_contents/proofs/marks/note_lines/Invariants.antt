@@ -2,7 +2,7 @@ use Rattle.std.proofs.Common.{◌≡◌, take, Some, None, cond}
 use Rattle.std.specs.Option.{option_or}
 use Rattle.std.specs.List.{list_any}
 use Rattle.ee_units.specs.Spelling.{SerialNumber}
-use Rattle.ee_desk_acts.specs.Serials.{same_serial}
+use Rattle.ee_desk_model.specs.Serials.{same_serial}
 use Rattle.ee_store_contents.specs.Reading.{mark_at}
 use Rattle.ee_store_contents.proofs.marks.note_lines.Given as goal
 

@@ -1,7 +1,7 @@
 use Rattle.std.proofs.Common.{rules, ◌≡◌, ◌==◌, false, List, [], ◌∷◌, ◌++◌, length, Some, None, refl, sym, ◌∙◌}
 use Rattle.std.proofs.lemmas.List.{drop_all}
 use Rattle.ee_units.specs.Spelling.{◌>>=◌}
-use Rattle.ee_store_opening.specs.declared.entries.StoredRate.{StoredRate}
+use Rattle.ee_store_load.specs.declared.entries.StoredRate.{StoredRate}
 use Rattle.ee_store_contents.specs.Reading.{rates_in}
 use Rattle.ee_store_contents.proofs.rates.rates_in.Goals as goal
 

@@ -1,7 +1,7 @@
 use Rattle.std.proofs.Common.{rules, ◌≡◌, ℕ, List, subst, ◌≤◌, ◌+◌, ◌∙◌, ap, sym, arith, None}
 use Rattle.std.specs.Prelude.{string_bytes}
 use Rattle.sqlite.specs.Held.{state}
-use Rattle.ee_desk_acts.specs.declared.changes.Change.{Change}
+use Rattle.ee_desk_model.specs.declared.changes.Change.{Change}
 use Rattle.ee_desk_texts.specs.Texts.{act_text, reply_text}
 use Rattle.ee_store_tables.specs.Rows.{Sees, ReplyRow, with_answer, FitsRow}
 use Rattle.ee_store_tables.proofs.Lemmas.Transactions.{clean_before}
@@ -12,10 +12,10 @@ use Rattle.ee_store_lookups.proofs.Lemmas.{handed_on, excused_later, leaves_then
 use Rattle.ee_store_delivery.proofs.Writable.{can_write, answers_stay}
 use Rattle.ee_store_tables.proofs.Lemmas.Causes.{room_less}
 use Rattle.ee_store_contents.proofs.Lemmas.{get_reply_row}
-use Rattle.ee_desk_acts.specs.declared.changes.Effects.{Effects}
+use Rattle.ee_desk_model.specs.declared.changes.Effects.{Effects}
 use Rattle.std.specs.FinMap as finite
 use Rattle.std.specs.Option.{option_map}
-use Rattle.ee_desk_acts.specs.Numbers.{number_of}
+use Rattle.ee_desk_model.specs.Numbers.{number_of}
 use Rattle.ee_store_delivery.proofs.delivery.decide_in.Goals as goal
 
 pub returns-clause-decides : goal.returns-clause-decides

@@ -3,7 +3,7 @@ use Rattle.std.specs.Prelude.{string_bytes, IfSome}
 use Rattle.std.specs.Option.{option_map}
 use Rattle.std.specs.FinMap as finite
 use Rattle.sqlite.specs.Held.{state}
-use Rattle.ee_desk_acts.specs.Numbers.{number_of}
+use Rattle.ee_desk_model.specs.Numbers.{number_of}
 use Rattle.ee_desk_texts.specs.Texts.{act_text}
 use Rattle.ee_store_tables.specs.AsRows.{row_of_reply}
 use Rattle.ee_store_tables.proofs.Lemmas.Transactions.{clean_before, unchanged_sees, unchanged_inside}

@@ -1,6 +1,6 @@
 use Rattle.std.proofs.Common.{sym, ◌∙◌}
 use Rattle.std.specs.Cmp.{nat_cmp_total}
-use Rattle.ee_desk_acts.proofs.Lemmas.Maps.{get_lookup}
+use Rattle.ee_desk_model.proofs.Lemmas.Maps.{get_lookup}
 use Rattle.ee_store_delivery.proofs.known.found.Goals as goal
 
 pub returns : goal.returns

@@ -1,6 +1,6 @@
 use Rattle.std.proofs.Common.{sym, subst}
 use Rattle.std.proofs.lemmas.List.Elements.{All-from_recursion}
-use Rattle.ee_desk_acts.specs.declared.replies.Line.{Line}
+use Rattle.ee_desk_model.specs.declared.replies.Line.{Line}
 use Rattle.ee_store_tables.specs.AsRows.{Fits}
 use Rattle.ee_store_delivery.proofs.to_rows.line_rows.Goals as goal
 

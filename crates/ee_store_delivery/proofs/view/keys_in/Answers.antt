@@ -1,8 +1,8 @@
 use Rattle.std.proofs.Common.{rules, ◌≡◌, ap, ◌∙◌}
 use Rattle.std.specs.FinMap as finite
 use Rattle.sqlite.specs.Held.{state}
-use Rattle.ee_desk_acts.specs.Seen.{held_of}
-use Rattle.ee_desk_acts.specs.Views.{picked, serials_of}
+use Rattle.ee_desk_model.specs.Seen.{held_of}
+use Rattle.ee_desk_model.specs.Views.{picked, serials_of}
 use Rattle.ee_store_tables.proofs.Lemmas.Transactions.{clean_before}
 use Rattle.ee_store_contents.specs.Standing.{rows_of}
 use Rattle.ee_store_lookups.specs.Seen.{SeesContent}

@@ -5,7 +5,7 @@ use Rattle.ee_store_tables.proofs.Lemmas.Transactions.{clean_before}
 use Rattle.ee_store_contents.specs.Standing.{rows_of}
 use Rattle.ee_store_lookups.specs.Seen.{SeesContent}
 use Rattle.ee_store_lookups.proofs.Lemmas.{always, seen_then, excused_later, served, handed_on}
-use Rattle.ee_desk_acts.specs.Views.{needed_unless}
+use Rattle.ee_desk_model.specs.Views.{needed_unless}
 use Rattle.ee_store_delivery.proofs.view.view_within.Goals as goal
 
 pub returns-clause-found : goal.returns-clause-found

@@ -5,7 +5,7 @@ use Rattle.std.proofs.lemmas.Result.{IfOk-weaker}
 use Rattle.ee_store_contents.specs.Standing.{rows_of}
 use Rattle.ee_store_lookups.proofs.ByKeys.{held_found, always, held_row, held_fits}
 use Rattle.ee_store_lookups.proofs.HandedOn.{statement_failed}
-use Rattle.ee_desk_acts.specs.Seen.{held_of}
+use Rattle.ee_desk_model.specs.Seen.{held_of}
 use Rattle.ee_store_lookups.proofs.Causes.{served, unchanged_rows}
 use Rattle.ee_store_lookups.proofs.held_bonds.find_held.Goals as goal
 

@@ -1,9 +1,9 @@
 use Rattle.std.proofs.Common.{◌≡◌, take}
 use Rattle.sqlite.specs.Held.{state}
 use Rattle.sqlite.specs.State.{HasCleanDisk}
-use Rattle.ee_desk_acts.specs.Seen.{held_of}
-use Rattle.ee_desk_acts.specs.Views.{picked}
-use Rattle.ee_desk_acts.specs.Repeats.{Content}
+use Rattle.ee_desk_model.specs.Seen.{held_of}
+use Rattle.ee_desk_model.specs.Views.{picked}
+use Rattle.ee_desk_model.specs.Repeats.{Content}
 use Rattle.ee_store_tables.specs.Rows.{Rows, IsInside, Sees}
 use Rattle.ee_store_lookups.specs.Found.{bonds_found}
 use Rattle.ee_store_lookups.specs.Seen.{SeesContent, StaysSeen}

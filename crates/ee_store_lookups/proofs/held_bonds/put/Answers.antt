@@ -1,4 +1,4 @@
-use Rattle.ee_desk_acts.proofs.Lemmas.Maps.{serials_total, serials_exact, map_with_one_more}
+use Rattle.ee_desk_model.proofs.Lemmas.Maps.{serials_total, serials_exact, map_with_one_more}
 use Rattle.ee_store_lookups.proofs.held_bonds.put.Goals as goal
 
 pub returns : goal.returns

@@ -1,6 +1,6 @@
 use Rattle.std.specs.FinMap.{nat_cmp-IsAntisymmetric}
 use Rattle.std.specs.Cmp.{nat_cmp_total}
-use Rattle.ee_desk_acts.proofs.Lemmas.Maps.{map_with_one_more}
+use Rattle.ee_desk_model.proofs.Lemmas.Maps.{map_with_one_more}
 use Rattle.ee_store_lookups.proofs.terms.put.Goals as goal
 
 pub returns : goal.returns

@@ -2,8 +2,8 @@ use Rattle.std.proofs.Common.{◌≡◌, take}
 use Rattle.std.specs.FinMap as finite
 use Rattle.sqlite.specs.Held.{state}
 use Rattle.sqlite.specs.State.{HasCleanDisk}
-use Rattle.ee_desk_acts.specs.Views.{picked}
-use Rattle.ee_desk_acts.specs.Repeats.{Content}
+use Rattle.ee_desk_model.specs.Views.{picked}
+use Rattle.ee_desk_model.specs.Repeats.{Content}
 use Rattle.ee_store_tables.specs.Rows.{Rows, IsInside, Sees}
 use Rattle.ee_store_lookups.specs.Found.{terms_found}
 use Rattle.ee_store_lookups.specs.Seen.{SeesContent, StaysSeen}

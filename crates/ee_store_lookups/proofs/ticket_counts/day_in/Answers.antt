@@ -2,7 +2,7 @@ use Rattle.std.proofs.Common.{rules, ◌≡◌, map, length, ap, ◌∙◌, arit
 use Rattle.std.specs.Prelude.{Ok, Err, Result, IfOk}
 use Rattle.std.specs.List.{sum_by}
 use Rattle.sqlite.specs.Held.{state}
-use Rattle.ee_desk_acts.specs.PlainBooks.{of_day}
+use Rattle.ee_desk_model.specs.PlainBooks.{of_day}
 use Rattle.ee_desk_decide.specs.declared.views.DayCounts.{DayCounts}
 use Rattle.ee_store_tables.specs.declared.records.TicketSum.{TicketSum}
 use Rattle.ee_store_tables.specs.AsRows.{sum_of}
@@ -12,7 +12,7 @@ use Rattle.ee_store_contents.specs.Standing.{rows_of}
 use Rattle.ee_store_lookups.proofs.ByKeys.{always}
 use Rattle.ee_store_lookups.proofs.DaySums.{sums_on, sums_length, sums_bonds, sums_total}
 use Rattle.ee_store_lookups.proofs.HandedOn.{statement_failed}
-use Rattle.ee_desk_acts.proofs.Lemmas.Books.{few_bonds_on, small_total_on}
+use Rattle.ee_desk_model.proofs.Lemmas.Books.{few_bonds_on, small_total_on}
 use Rattle.ee_store_lookups.proofs.Causes.{served, unchanged_rows}
 use Rattle.ee_store_lookups.proofs.ticket_counts.day_in.Goals as goal
 

@@ -1,6 +1,6 @@
 use Rattle.std.proofs.Common.{rules, ◌≡◌, map, ap, ◌∙◌}
 use Rattle.sqlite.specs.Held.{state}
-use Rattle.ee_desk_acts.specs.Queries.{bonds_of}
+use Rattle.ee_desk_model.specs.Queries.{bonds_of}
 use Rattle.ee_store_tables.specs.AsRows.{unpaid_bond_of}
 use Rattle.ee_store_tables.specs.Rows.{unpaid_of}
 use Rattle.std.proofs.lemmas.Result.{IfOk-weaker}

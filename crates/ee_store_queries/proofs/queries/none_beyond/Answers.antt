@@ -1,5 +1,5 @@
 use Rattle.std.proofs.Common.{arith}
-use Rattle.ee_desk_acts.proofs.Lemmas.Books.{few_tickets}
+use Rattle.ee_desk_model.proofs.Lemmas.Books.{few_tickets}
 use Rattle.ee_store_queries.proofs.FoundTickets.{beyond_last}
 use Rattle.ee_store_queries.proofs.queries.none_beyond.Goals as goal
 

@@ -4,8 +4,8 @@ use Rattle.std.specs.FinMap as finite
 use Rattle.std.specs.FinMap.{FinMap}
 use Rattle.std.specs.Ordering.{nat_cmp}
 use Rattle.ee_value.specs.declared.rates.Rates.{Rates}
-use Rattle.ee_desk_acts.specs.Queries.{row_of}
-use Rattle.ee_desk_acts.specs.Views.{picked}
+use Rattle.ee_desk_model.specs.Queries.{row_of}
+use Rattle.ee_desk_model.specs.Views.{picked}
 use Rattle.ee_store_queries.proofs.FoundRows.{rows_found}
 use Rattle.ee_store_queries.proofs.queries.rows_in.Goals as goal
 

@@ -1,5 +1,5 @@
 use Rattle.std.proofs.Common.{subst, true, Some}
-use Rattle.ee_device.specs.Written.{WritesFront}
+use Rattle.ee_io.specs.Written.{WritesFront}
 use Rattle.ee_calculator.specs.Sheets.{sheet_text}
 use Rattle.ee_wire.proofs.Texts.{taken}
 use Rattle.ee_wire.proofs.bodies.sheet_bytes.Goals as goal

@@ -1,10 +1,10 @@
 use Rattle.std.proofs.Common.{subst, sym, ◌≡◌}
 use Rattle.std.specs.Prelude.{List, OnOk}
 use Rattle.std.specs.List.{AllByRecursion}
-use Rattle.ee_desk_acts.specs.declared.changes.Change.{Change}
-use Rattle.ee_desk_acts.specs.PlainBooks.{PlainBooks}
-use Rattle.ee_desk_acts.specs.Acts.{applied}
-use Rattle.ee_desk_acts.specs.Ranges.{IsInRange}
+use Rattle.ee_desk_model.specs.declared.changes.Change.{Change}
+use Rattle.ee_desk_model.specs.PlainBooks.{PlainBooks}
+use Rattle.ee_desk_model.specs.Acts.{applied}
+use Rattle.ee_desk_model.specs.Ranges.{IsInRange}
 use Rattle.ee_desk.specs.Applicable.{AreApplicable}
 use Rattle.ee_desk.proofs.Deciding.{AreDecided, applicable, sound_after}
 use Rattle.ee_desk.proofs.books.Books.apply.Goals as goal

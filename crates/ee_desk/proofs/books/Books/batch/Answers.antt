@@ -1,7 +1,7 @@
 use Rattle.std.proofs.Common.{subst, sym, ◌≡◌, ◌∙◌, ap}
 use Rattle.std.specs.Option.{IfSome}
-use Rattle.ee_desk_acts.specs.PlainBooks.{PlainBooks, batch_of}
-use Rattle.ee_desk_acts.specs.Queries.{batch_on}
+use Rattle.ee_desk_model.specs.PlainBooks.{PlainBooks, batch_of}
+use Rattle.ee_desk_model.specs.Queries.{batch_on}
 use Rattle.ee_desk.proofs.Batches.{found_is_right}
 use Rattle.ee_desk.proofs.books.Books.batch.Goals as goal
 

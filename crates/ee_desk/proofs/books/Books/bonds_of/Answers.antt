@@ -1,4 +1,4 @@
-use Rattle.ee_desk_acts.proofs.Lemmas.Books.{sound_keyed}
+use Rattle.ee_desk_model.proofs.Lemmas.Books.{sound_keyed}
 use Rattle.ee_desk.proofs.books.Books.bonds_of.Goals as goal
 
 pub bonds_of-requires : goal.bonds_of-requires

@@ -1,8 +1,8 @@
 use Rattle.std.proofs.Common.{arith, ap, sym, ◌∙◌}
-use Rattle.ee_desk_acts.specs.PlainBooks.{PlainBooks}
-use Rattle.ee_desk_acts.specs.Views.{PlainView, needed_of, shown_by}
-use Rattle.ee_desk_acts.specs.Effects.{effects_of}
-use Rattle.ee_desk_acts.proofs.Lemmas.Books.{few_tickets, seen_enough, needed_enough}
+use Rattle.ee_desk_model.specs.PlainBooks.{PlainBooks}
+use Rattle.ee_desk_model.specs.Views.{PlainView, needed_of, shown_by}
+use Rattle.ee_desk_model.specs.Effects.{effects_of}
+use Rattle.ee_desk_model.proofs.Lemmas.Books.{few_tickets, seen_enough, needed_enough}
 use Rattle.ee_desk.proofs.books.Books.effects_of.Goals as goal
 
 pub needed_of-requires : goal.needed_of-requires

@@ -1,8 +1,8 @@
 use Rattle.std.proofs.Common.{sym, ap, ◌∙◌, subst}
-use Rattle.ee_desk_acts.specs.Sound.{IsSound}
+use Rattle.ee_desk_model.specs.Sound.{IsSound}
 use Rattle.ee_desk_decide.specs.declared.views.DayCounts.{DayCounts}
-use Rattle.ee_desk_parts.specs.Parts.{parts_of}
-use Rattle.ee_desk_parts.proofs.Lemmas.{parts_of-books_of, books_of-made}
+use Rattle.ee_desk_soundness.specs.Parts.{parts_of}
+use Rattle.ee_desk_soundness.proofs.Lemmas.{parts_of-books_of, books_of-made}
 use Rattle.ee_desk.proofs.books.Books.from_parts.Goals as goal
 
 pub of_parts-ledger-requires-clause-marked : goal.of_parts-ledger-requires-clause-marked

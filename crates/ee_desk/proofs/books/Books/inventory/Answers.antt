@@ -3,7 +3,7 @@ use Rattle.std.specs.List.{filter_map}
 use Rattle.std.specs.FinMap.{FinMap}
 use Rattle.std.specs.Ordering.{nat_cmp}
 use Rattle.ee_value.specs.declared.rates.Rates.{Rates}
-use Rattle.ee_desk_acts.specs.Queries.{row_of, bonds_of, sheet_of, sheet_in}
+use Rattle.ee_desk_model.specs.Queries.{row_of, bonds_of, sheet_of, sheet_in}
 use Rattle.ee_desk.proofs.SheetRows.{sheet_is}
 use Rattle.ee_desk.proofs.EveryRow.{every_row}
 use Rattle.ee_desk.proofs.books.Books.inventory.Goals as goal

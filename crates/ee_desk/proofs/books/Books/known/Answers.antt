@@ -1,7 +1,7 @@
 use Rattle.std.proofs.Common.{subst}
-use Rattle.ee_desk_acts.specs.Paid.{ArePaidRight}
-use Rattle.ee_desk_acts.specs.Conserved.{IsConserved}
-use Rattle.ee_desk_acts.proofs.Lemmas.Books.{sound_pays_right, sound_conserves}
+use Rattle.ee_desk_model.specs.Paid.{ArePaidRight}
+use Rattle.ee_desk_model.specs.Conserved.{IsConserved}
+use Rattle.ee_desk_model.proofs.Lemmas.Books.{sound_pays_right, sound_conserves}
 use Rattle.ee_desk.proofs.books.Books.known.Goals as goal
 
 pub returns-clause-right : goal.returns-clause-right

@@ -1,7 +1,7 @@
 use Rattle.std.proofs.Common.{ap, ◌∙◌}
-use Rattle.ee_desk_acts.specs.declared.changes.Effects.{Effects}
-use Rattle.ee_desk_acts.specs.Acts.{applied}
-use Rattle.ee_desk_acts.proofs.Lemmas.Books.{seen_enough, applied_are_books_after}
+use Rattle.ee_desk_model.specs.declared.changes.Effects.{Effects}
+use Rattle.ee_desk_model.specs.Acts.{applied}
+use Rattle.ee_desk_model.proofs.Lemmas.Books.{seen_enough, applied_are_books_after}
 use Rattle.ee_desk.proofs.books.Books.step.Goals as goal
 
 pub returns-clause-reply : goal.returns-clause-reply

@@ -1,5 +1,5 @@
 use Rattle.std.proofs.Common.{arith}
-use Rattle.ee_desk_acts.proofs.Lemmas.Books.{few_tickets}
+use Rattle.ee_desk_model.proofs.Lemmas.Books.{few_tickets}
 use Rattle.ee_desk.proofs.books.Books.view_of.Goals as goal
 
 pub view_of-requires : goal.view_of-requires

@@ -1,5 +1,5 @@
 use Rattle.std.proofs.Common.{ap, ◌∙◌}
-use Rattle.ee_desk_parts.specs.Parts.{parts_of}
+use Rattle.ee_desk_soundness.specs.Parts.{parts_of}
 use Rattle.ee_desk.proofs.AsParts.{as_parts}
 use Rattle.ee_desk.proofs.ledger.Ledger.parts.Goals as goal
 

@@ -1,6 +1,6 @@
 use Rattle.std.proofs.Common.{◌≡◌, length, arith, ap}
-use Rattle.ee_desk_acts.specs.Views.{PlainView, needed_of}
-use Rattle.ee_desk_acts.proofs.Lemmas.Books.{few_tickets, needed_few}
+use Rattle.ee_desk_model.specs.Views.{PlainView, needed_of}
+use Rattle.ee_desk_model.proofs.Lemmas.Books.{few_tickets, needed_few}
 use Rattle.ee_desk_decide.proofs.views.View.from_parts.Goals as goal
 
 pub returns-else-parts-le-MOST_TICKETS-clause-fits : goal.returns-else-parts-le-MOST_TICKETS-clause-fits

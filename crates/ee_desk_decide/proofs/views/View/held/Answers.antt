@@ -2,8 +2,8 @@ use Rattle.std.proofs.Common.{rules, ◌≡◌, sym, ap, ◌∙◌}
 use Rattle.std.specs.Map.{lookup}
 use Rattle.std.specs.BTreeMap.{is_at}
 use Rattle.std.specs.FinMap as finite
-use Rattle.ee_desk_acts.specs.Serials.{serial_cmp}
-use Rattle.ee_desk_acts.proofs.Lemmas.Maps.{get_lookup, serials_total}
+use Rattle.ee_desk_model.specs.Serials.{serial_cmp}
+use Rattle.ee_desk_model.proofs.Lemmas.Maps.{get_lookup, serials_total}
 use Rattle.ee_desk_decide.proofs.views.View.held.Goals as goal
 
 pub returns : goal.returns

@@ -1,7 +1,7 @@
 use Rattle.std.proofs.Common.{sym, ap, ◌∙◌}
 use Rattle.std.specs.FinMap as finite
 use Rattle.std.specs.Cmp.{nat_cmp_total}
-use Rattle.ee_desk_acts.proofs.Lemmas.Maps.{get_lookup}
+use Rattle.ee_desk_model.proofs.Lemmas.Maps.{get_lookup}
 use Rattle.ee_desk_decide.proofs.views.View.terms.Goals as goal
 
 pub returns : goal.returns

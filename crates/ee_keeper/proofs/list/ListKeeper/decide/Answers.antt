@@ -1,11 +1,11 @@
 use Rattle.std.proofs.Common.{◌≡◌, ap, ◌∙◌}
 use Rattle.std.specs.FinMap as finite
-use Rattle.ee_desk_acts.specs.declared.changes.Effects.{Effects}
-use Rattle.ee_desk_acts.specs.declared.replies.Reply.{Reply}
-use Rattle.ee_desk_acts.specs.Acts.{applied, books_after, reply_to}
-use Rattle.ee_desk_acts.specs.Repeats.{Content}
-use Rattle.ee_desk_acts.proofs.Lemmas.Books.{seen_enough, applied_are_books_after}
-use Rattle.ee_desk_acts.proofs.Lemmas.Requests.{content_after-decided, remove-insert_kept}
+use Rattle.ee_desk_model.specs.declared.changes.Effects.{Effects}
+use Rattle.ee_desk_model.specs.declared.replies.Reply.{Reply}
+use Rattle.ee_desk_model.specs.Acts.{applied, books_after, reply_to}
+use Rattle.ee_desk_model.specs.Repeats.{Content}
+use Rattle.ee_desk_model.proofs.Lemmas.Books.{seen_enough, applied_are_books_after}
+use Rattle.ee_desk_model.proofs.Lemmas.Requests.{content_after-decided, remove-insert_kept}
 use Rattle.ee_keeper.specs.Kept.{kept_in}
 use Rattle.ee_keeper.proofs.list.ListKeeper.decide.Goals as goal
 

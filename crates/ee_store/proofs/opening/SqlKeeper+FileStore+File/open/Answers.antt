@@ -1,5 +1,5 @@
 use Rattle.std.proofs.lemmas.Result.{IfOk-weaker}
-use Rattle.ee_store_making.proofs.Lemmas.Faults.{each_fault}
+use Rattle.ee_store_schema.proofs.Lemmas.Faults.{each_fault}
 use Rattle.ee_store.proofs.Opened.{connection_then}
 use Rattle.ee_store.proofs.opening.SqlKeeper+FileStore+File.open.Goals as goal
 

@@ -1,4 +1,4 @@
-use Rattle.ee_desk_acts.specs.Acts.{books_after}
+use Rattle.ee_desk_model.specs.Acts.{books_after}
 use Rattle.ee_store_delivery.proofs.known.Known.follow.Goals as goal
 
 pub returns-in-AddRates : goal.returns-in-AddRates

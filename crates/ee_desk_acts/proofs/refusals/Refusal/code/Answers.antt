@@ -1,5 +1,0 @@
-use Rattle.std.proofs.Common.{rules}
-use Rattle.ee_desk_acts.proofs.refusals.Refusal.code.Goals as goal
-
-pub returns-in-NotPayee : goal.returns-in-NotPayee
-returns-in-NotPayee c = search rules

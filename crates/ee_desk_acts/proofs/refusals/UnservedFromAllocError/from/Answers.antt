@@ -1,5 +1,0 @@
-use Rattle.std.proofs.Common.{rules}
-use Rattle.ee_desk_acts.proofs.refusals.UnservedFromAllocError.from.Goals as goal
-
-pub returns : goal.returns
-returns c = search rules

@@ -1,7 +1,0 @@
-use Rattle.std.proofs.Common.{sym, subst}
-use Rattle.ee_desk_acts.specs.UnitTables.{AreOwn}
-use Rattle.ee_desk_acts.proofs.KeptTables.{none_own}
-use Rattle.ee_desk_acts.proofs.unit_tables.UnitTables.new.Goals as goal
-
-pub invariant_of-result : goal.invariant_of-result
-invariant_of-result c = subst AreOwn (sym c.nothing.ensures) none_own

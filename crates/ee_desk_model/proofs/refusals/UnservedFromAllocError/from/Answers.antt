@@ -1,0 +1,5 @@
+use Rattle.std.proofs.Common.{rules}
+use Rattle.ee_desk_model.proofs.refusals.UnservedFromAllocError.from.Goals as goal
+
+pub returns : goal.returns
+returns c = search rules

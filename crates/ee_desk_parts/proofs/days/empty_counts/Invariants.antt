@@ -1,7 +1,0 @@
-use Rattle.std.proofs.Common.{map, take}
-use Rattle.ee_desk_acts.specs.Sound.{day_of_batch}
-use Rattle.ee_desk_parts.specs.Days.{AreNothing}
-use Rattle.ee_desk_parts.proofs.days.empty_counts.Given as goal
-
-abbrev pub invariant-loop-batch : goal.invariant-loop-batch
-invariant-loop-batch l = AreNothing l.counts.entries (map day_of_batch (take l.batch-index l.batches))

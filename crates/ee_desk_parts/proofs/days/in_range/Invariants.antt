@@ -1,8 +1,0 @@
-use Rattle.std.proofs.Common.{drop}
-use Rattle.std.specs.List.{AllByRecursion}
-use Rattle.ee_desk_acts.specs.Sound.{IsDay}
-use Rattle.ee_desk_parts.specs.Days.{days_of}
-use Rattle.ee_desk_parts.proofs.days.in_range.Given as goal
-
-abbrev pub invariant-loop-batch : goal.invariant-loop-batch
-invariant-loop-batch l = AllByRecursion IsDay (days_of (drop l.batch-index l.batches) l.fn.day) → AllByRecursion IsDay (days_of l.batches l.fn.day)

@@ -1,5 +1,0 @@
-use Rattle.std.proofs.Common.{rules}
-use Rattle.ee_desk_parts.proofs.lines.is_worth.Goals as goal
-
-pub returns-in-Pays : goal.returns-in-Pays
-returns-in-Pays c = search rules

@@ -1,7 +1,0 @@
-use Rattle.std.proofs.Common.{◌≡◌, ◌↔◌, drop}
-use Rattle.std.specs.List.{sum_by}
-use Rattle.ee_desk_acts.specs.PlainBooks.{cents_of}
-use Rattle.ee_desk_parts.proofs.lines.sums_to.Given as goal
-
-abbrev pub invariant-loop-line : goal.invariant-loop-line
-invariant-loop-line l = (l.left ≡ sum_by cents_of (drop l.line-index l.lines)) ↔ (l.fn.total.0 ≡ sum_by cents_of l.lines)

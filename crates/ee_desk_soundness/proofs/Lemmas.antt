@@ -1,0 +1,80 @@
+-- Lemmas that the proofs of crates above use.
+use Rattle.std.proofs.Common.{Bool, List, None, [], map, ℕ, ◌++◌, ◌||◌, ◌∷◌, ◌≡◌}
+use Rattle.std.specs.Prelude.{T}
+use Rattle.std.specs.Cmp.{IsTotalOrder}
+use Rattle.std.specs.FinMap.{FinMap, find}
+use Rattle.std.specs.FinMap.Entries.{below_all}
+use Rattle.std.specs.List.{AllByRecursion, list_any}
+use Rattle.std.specs.Option.{IfSome, option_map}
+use Rattle.std.specs.declared.cmp.Ordering.{Ordering}
+use Rattle.std.specs.declared.cmp.Ordering.TheVariants.{Less}
+use Rattle.std.proofs.lemmas.Map.Lookups.{CmpEqualImpliesEq}
+use Rattle.ee_desk_model.specs.PlainBooks.{PlainBooks, ticket_of}
+use Rattle.ee_desk_model.specs.Serials.{same_serial}
+use Rattle.ee_desk_model.specs.declared.changes.Held.{Held}
+use Rattle.ee_desk_model.specs.declared.replies.Ticket.{Ticket}
+use Rattle.ee_desk_soundness.specs.Checks.{HaveRisingMonths, HaveRisingSerials, InOrder, bonds_in, books_of, entry_of_row}
+use Rattle.ee_desk_soundness.specs.Marks.{AreMarked, bonds_held, held_at, marked}
+use Rattle.ee_desk_soundness.specs.Parts.{parts_of}
+use Rattle.ee_desk_soundness.specs.declared.parts.Parts.{Parts}
+use Rattle.ee_units.specs.Spelling.{SerialNumber}
+use Rattle.ee_value.specs.declared.rates.Rates.{Rates}
+use Rattle.std.specs.FinMap as finite
+use Rattle.ee_desk_soundness.proofs.PaidMarks
+use Rattle.ee_desk_soundness.proofs.SortedRows
+use Rattle.ee_desk_soundness.proofs.SoundParts
+use Rattle.ee_desk_soundness.proofs.Walks
+
+-- ---- bonds and their tickets
+-- the bond of a serial number is that which is held of it
+pub get_held_bond : (es : List (SerialNumber × Held)) (q : SerialNumber) → finite.get (bonds_held es) q ≡ option_map (λ h. h.bond) (held_at es q)
+get_held_bond = PaidMarks.get_bond
+
+-- marks stay right if a ticket of unpaid bonds is appended and marked on them
+pub marked_with_ticket : (bonds new : List (SerialNumber × Held)) (tickets pushed : List Ticket) (t : Ticket)
+    → AreMarked bonds tickets → AllByRecursion (λ line. ticket_of tickets line.serial ≡ None) t.lines → pushed ≡ tickets ++ t ∷ []
+    → ((q : SerialNumber) → held_at new q ≡ option_map (marked (list_any (λ line. same_serial q line.serial) t.lines) t.ticket) (held_at bonds q))
+    → AreMarked new pushed
+marked_with_ticket = PaidMarks.ticket_kept
+
+-- ---- books and their parts
+-- parts whose keys rise are those of the books that they represent
+pub parts_of-books_of : (parts : Parts) → HaveRisingMonths parts.rates → HaveRisingSerials parts.bonds → parts_of (books_of parts) ≡ parts
+parts_of-books_of = SoundParts.parts_kept
+
+-- what is made of parts in memory represents their books
+pub books_of-made : (parts : Parts) (terms : List (ℕ × Rates)) (held : List (SerialNumber × Held)) → terms ≡ map entry_of_row parts.rates
+    → bonds_held held ≡ bonds_in parts.bonds
+    → ◌≡◌ {A = PlainBooks}
+    (record { rates = finite.from_entries terms; bonds = bonds_held held; day = parts.day; last_day = parts.last_day; tickets = parts.tickets; batches = parts.batches }) (books_of parts)
+books_of-made = SoundParts.books_made
+
+-- ---- lists
+-- one element more: the test finds it, or another
+pub list_any_push : {A : Type 0} (p : A → Bool) (xs : List A) (y : A) → list_any p (xs ++ y ∷ []) ≡ (p y || list_any p xs)
+list_any_push = Walks.any_push
+
+-- ---- finite maps
+-- what each value has that is found, each entry has
+pub all_entries : {K V : Type 0} {R : K → K → Ordering} (o : IsTotalOrder R) (exact : CmpEqualImpliesEq R) (P : K → V → Type 0) (m : FinMap R V)
+    → ((q : K) → IfSome (finite.get m q) (P q)) → AllByRecursion (λ e. P e.0 e.1) (finite.entries m)
+all_entries = SortedRows.all_entries
+
+-- what each entry has, each value has that is found
+pub get_all : {K V : Type 0} {R : K → K → Ordering} (o : IsTotalOrder R) (exact : CmpEqualImpliesEq R) (P : K → V → Type 0) (es : List (K × V))
+    → AllByRecursion (λ e. P e.0 e.1) es → (q : K) → IfSome (finite.get (finite.from_entries {R = R} es) q) (P q)
+get_all = SortedRows.get_all
+
+-- if a key comes before all entries, nothing is found at it
+pub none_below : {K V : Type 0} (R : K → K → Ordering) (q : K) (es : List (K × V)) → T (below_all R q es) → find R q es ≡ None
+none_below = SortedRows.none_below
+
+-- the map of a map's entries is the map
+pub map_of_entries : {K V : Type 0} (R : K → K → Ordering) → IsTotalOrder R → CmpEqualImpliesEq R → (m : FinMap R V)
+    → finite.from_entries (finite.entries m) ≡ m
+map_of_entries = SortedRows.map_of_entries
+
+-- the map of entries whose keys rise has these entries
+pub entries_of_rising : {K V : Type 0} (R : K → K → Ordering) → IsTotalOrder R → CmpEqualImpliesEq R → (es : List (K × V))
+    → InOrder (λ a b. R a b ≡ Less) (map (λ e. e.0) es) → finite.entries (finite.from_entries {R = R} es) ≡ es
+entries_of_rising = SortedRows.entries_are

@@ -1,0 +1,16 @@
+use Rattle.std.proofs.Common.{◌≡◌, subst}
+use Rattle.std.specs.Result.{IfOk, IfErr}
+use Rattle.ee_desk_soundness.specs.declared.parts.Parts.{Parts}
+use Rattle.ee_desk_soundness.specs.declared.parts.PartsFault.TheVariants.{Unsound}
+use Rattle.ee_desk_soundness.specs.Parts.{AreUnsound}
+use Rattle.ee_desk_soundness.specs.Checks.{parts_in}
+use Rattle.ee_desk_soundness.specs.Made.{IsMadeOf}
+use Rattle.ee_desk_soundness.proofs.checks.checked.Goals as goal
+
+pub returns-clause-ok : goal.returns-clause-ok
+returns-clause-ok c =
+    subst (λ (p : Parts). IfOk c.checked_lists.result (IsMadeOf p)) (λ i. parts_in (c.as_slice.ensures i) (c.as_slice-2.ensures i) c.args.parts.now.day c.args.parts.now.last_day (c.as_slice-3.ensures i) (c.as_slice-4.ensures i)) c.checked_lists.ensures.ok
+
+pub returns-clause-unsound : goal.returns-clause-unsound
+returns-clause-unsound c =
+    subst (λ (p : Parts). IfErr c.checked_lists.result (λ fault. fault ≡ Unsound → AreUnsound p)) (λ i. parts_in (c.as_slice.ensures i) (c.as_slice-2.ensures i) c.args.parts.now.day c.args.parts.now.last_day (c.as_slice-3.ensures i) (c.as_slice-4.ensures i)) c.checked_lists.ensures.unsound

@@ -1,0 +1,121 @@
+-- What is checked about parts.
+use Rattle.std.specs.Prelude.{◌≡◌, ℕ, ◌+◌, ◌<◌, ◌≤◌, true, List, [], ◌∷◌, map, Option, Some, IfSome, ⊤}
+use Rattle.std.specs.List.{AllByRecursion}
+use Rattle.std.specs.declared.cmp.Ordering.TheVariants.{Less}
+use Rattle.std.specs.FinMap as finite
+use Rattle.std.specs.FinMap.{FinMap}
+use Rattle.std.specs.Ordering.{nat_cmp}
+use Rattle.ee_units.specs.Spelling.{SerialNumber}
+use Rattle.ee_value.specs.declared.rates.Rates.{Rates}
+use Rattle.ee_value.specs.declared.rates.RateRow.{RateRow}
+use Rattle.ee_calculator.specs.declared.bonds.Bond.{Bond}
+use Rattle.ee_desk_model.specs.Serials.{serial_cmp}
+use Rattle.ee_units.specs.Calendar.{month_of_day, period_start}
+use Rattle.ee_desk_model.specs.declared.changes.Held.{Held}
+use Rattle.ee_desk_model.specs.declared.replies.Batch.{Batch}
+use Rattle.ee_desk_model.specs.declared.replies.Line.{Line}
+use Rattle.ee_desk_model.specs.declared.replies.Ticket.{Ticket}
+use Rattle.ee_desk_model.specs.Values.{value_of}
+use Rattle.ee_calculator.specs.Bonds.{is_payee}
+use Rattle.ee_desk_model.specs.PlainBooks.{PlainBooks, batch_of}
+use Rattle.ee_desk_model.specs.Paid.{paid_lines}
+use Rattle.ee_desk_model.specs.Sound.{IsSound, IsRightRate, IsRightBond, IsRightTicket, NumberedFrom, day_of, last_of}
+use Rattle.ee_desk_soundness.specs.Marks.{bonds_held, ArePayable}
+use Rattle.ee_desk_soundness.specs.Days.{days_of, FitDays}
+use Rattle.ee_desk_soundness.specs.declared.parts.Parts.{Parts}
+
+abbrev pub entry_of_row : RateRow → ℕ × Rates
+entry_of_row row = (row.from, row.rates)
+
+abbrev pub entry_of_bond : Bond → SerialNumber × Bond
+entry_of_bond bond = (bond.serial, bond)
+
+-- the rates of rows, by month
+abbrev pub rates_in : List RateRow → FinMap nat_cmp Rates
+rates_in rows = finite.from_entries (map entry_of_row rows)
+
+-- bonds by their serials
+abbrev pub bonds_in : List Bond → FinMap serial_cmp Bond
+bonds_in bonds = finite.from_entries (map entry_of_bond bonds)
+
+-- each element is related so to all after it
+abbrev pub InOrder : {K : Type 0} → (K → K → Type 0) → List K → Type 0
+InOrder R [] = ⊤
+InOrder R (k ∷ ks) = AllByRecursion (R k) ks × InOrder R ks
+
+-- the last element, if there is one, is related so to the next
+abbrev pub IsAfter : {K : Type 0} → (K → K → Type 0) → Option K → K → Type 0
+IsAfter R last k = IfSome last (λ j. R j k)
+
+abbrev pub IsBefore : SerialNumber → SerialNumber → Type 0
+IsBefore one other = serial_cmp one other ≡ Less
+
+-- each month is before those after it in the list
+abbrev pub HaveRisingMonths : List RateRow → Type 0
+HaveRisingMonths rows = InOrder ◌<◌ (map (λ row. row.from) rows)
+
+-- each serial number is before those after it in the list
+abbrev pub HaveRisingSerials : List Bond → Type 0
+HaveRisingSerials bonds = InOrder IsBefore (map (λ bond. bond.serial) bonds)
+
+-- the books that parts represent
+abbrev pub books_of : Parts → PlainBooks
+books_of parts = record {
+  rates = rates_in parts.rates;
+  bonds = bonds_in parts.bonds;
+  day = parts.day;
+  last_day = parts.last_day;
+  tickets = parts.tickets;
+  batches = parts.batches;
+}
+
+-- the parts of sound books
+pub record AreSound (parts : Parts) : Type 0 where
+  pub months : HaveRisingMonths parts.rates
+  pub serials : HaveRisingSerials parts.bonds
+  pub books : IsSound (books_of parts)
+
+abbrev pub IsRightRow : RateRow → Type 0
+IsRightRow row = IsRightRate row.from row.rates
+
+-- a bond that may be registered under its own serial number
+abbrev pub IsRightOwn : FinMap nat_cmp Rates → Bond → Type 0
+IsRightOwn rates bond = IsRightBond rates bond.serial bond
+
+-- a line pays a bond of the payee, at least 12 months old, its value in the month of the day
+abbrev pub PaysBond : FinMap nat_cmp Rates → Bond → Ticket → Line → Type 0
+PaysBond rates bond ticket line =
+    (terms : Rates)
+    × (finite.get rates (period_start bond.issued) ≡ Some terms)
+    × (is_payee bond ticket.payee ≡ true)
+    × (bond.issued + 12 ≤ month_of_day ticket.day)
+    × (line.cents.0 ≡ value_of terms bond (month_of_day ticket.day))
+
+-- rates and bonds that sound books may have
+pub record IsRegister (rows : List RateRow) (own : List Bond) : Type 0 where
+  pub months : HaveRisingMonths rows
+  pub serials : HaveRisingSerials own
+  pub right : AllByRecursion IsRightRow rows
+  pub owned : AllByRecursion (IsRightOwn (rates_in rows)) own
+
+-- tickets that pay registered bonds, each once, their value at these rates
+pub record CanBePaid (rates : FinMap nat_cmp Rates) (held : List (SerialNumber × Held)) (tickets : List Ticket) : Type 0 where
+  pub numbered : NumberedFrom 1 tickets
+  pub in_order : InOrder ◌≤◌ (map day_of tickets)
+  pub right : AllByRecursion (IsRightTicket rates (bonds_held held)) tickets
+  pub once : ArePayable held (paid_lines tickets)
+
+-- batches that sound books with these tickets may have
+pub record AreRightBatches (tickets : List Ticket) (closed : List Batch) (day : Option ℕ) : Type 0 where
+  pub fit : FitDays (days_of closed day) tickets
+  pub batches : AllByRecursion (λ batch. batch ≡ batch_of batch.day tickets) closed
+
+-- days and batches that sound books with these tickets may have
+pub record AreClosed (tickets : List Ticket) (closed : List Batch) (day : Option ℕ) (last : Option ℕ) : Type 0 where
+  pub rising : InOrder ◌<◌ (days_of closed day)
+  pub latest : last ≡ last_of closed
+  pub right : AreRightBatches tickets closed day
+
+abbrev pub parts_in : List RateRow → List Bond → Option ℕ → Option ℕ → List Ticket → List Batch → Parts
+parts_in rates bonds day last tickets batches =
+    record { rates = rates; bonds = bonds; day = day; last_day = last; tickets = tickets; batches = batches }

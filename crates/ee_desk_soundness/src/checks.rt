@@ -1,0 +1,203 @@
+//! Checking whether parts are those of sound books.
+
+ghost use Rattle.std.specs.Prelude.{◌≡◌, ◌↔◌, true, [], map, IfOk, IfErr};
+ghost use Rattle.std.specs.List.{AllByRecursion};
+ghost use Rattle.std.specs.FinMap as finite;
+ghost use Rattle.ee_desk_model.specs.PlainBooks.{batch_so_far};
+ghost use Rattle.ee_desk_soundness.specs.Parts.{AreUnsound};
+ghost use Rattle.ee_desk_soundness.specs.Checks.{entry_of_row, parts_in, IsRegister, AreClosed, CanBePaid, AreRightBatches};
+ghost use Rattle.ee_desk_soundness.specs.Made.{IsMadeOf};
+ghost use Rattle.ee_desk_soundness.specs.Marks.{bonds_held, unpaid, AreMarked};
+ghost use Rattle.ee_desk_soundness.specs.Days.{counts_in, days_of, AreCounted, FitDays, IsSmall};
+
+use crate::days::{are_counted, counts_of, days_rise, in_range, last_day, open_counts};
+use crate::lines::{are_numbered, are_right_tickets};
+use crate::marks::{held_by_serial, mark_paid};
+use crate::order::{days_never_fall, months_rise, serials_rise};
+use crate::parts::{Parts, PartsFault};
+use crate::register::{are_right_bonds, terms_by_month};
+use ee_calculator::Bond;
+use ee_desk_decide::DayCounts;
+use ee_desk_model::{Batch, Held, RateRow, Terms, Ticket, UnitTables};
+use ee_units::{Day, IssueMonth, Serial};
+use std::alloc::Global;
+use std::collections::BTreeMap;
+
+/// What books in memory keep besides the lists of their parts: the tables of their rates, terms by
+/// month, bonds by serial number, each marked with the ticket that pays it, and the counts of the open
+/// day.
+#[derive(Drop)]
+pub struct Indexes {
+    pub tables: UnitTables,
+    pub terms: BTreeMap<IssueMonth, Terms>,
+    pub bonds: BTreeMap<Serial, Held>,
+    pub counts: DayCounts,
+}
+
+/// Rates and bonds as maps.
+#[derive(Drop)]
+struct Register {
+    tables: UnitTables,
+    terms: BTreeMap<IssueMonth, Terms>,
+    bonds: BTreeMap<Serial, Held>,
+}
+
+/// Makes maps of rates and bonds, if sound books may have them.
+fn registered(alloc: Global, rates: &[RateRow], bonds: &[Bond]) -> Result<Register, PartsFault>
+    ensures terms { IfOk result (λ maps. maps.terms.entries ≡ map entry_of_row rates.now) }
+    ensures bonds { IfOk result (λ maps. maps.bonds.entries ≡ map unpaid bonds.now) }
+    ensures right { IfOk result (λ _. IsRegister rates.now bonds.now) }
+    ensures unsound { IfErr result (λ fault. fault ≡ PartsFault.Unsound → IsRegister rates.now bonds.now → ⊥) }
+{
+    if !months_rise(rates) {
+        return Err(PartsFault::Unsound);
+    }
+    if !serials_rise(bonds) {
+        return Err(PartsFault::Unsound);
+    }
+    let mut tables = UnitTables::new(alloc);
+    let terms = terms_by_month(alloc, &mut tables, rates)?;
+    if !are_right_bonds(&terms, bonds) {
+        return Err(PartsFault::Unsound);
+    }
+    let bonds = held_by_serial(alloc, bonds)?;
+    Ok(Register {
+        tables,
+        terms,
+        bonds,
+    })
+}
+
+/// Marks the bonds that tickets pay, if sound books may have these tickets.
+fn pay(
+    terms: &BTreeMap<IssueMonth, Terms>,
+    bonds: &mut BTreeMap<Serial, Held>,
+    tickets: &[Ticket],
+) -> bool
+    requires { AreMarked bonds.old.entries [] }
+    ensures paid { (result ≡ true) ↔ CanBePaid (finite.from_entries terms.now.entries) bonds.old.entries tickets.now }
+    ensures marked { result ≡ true → AreMarked bonds.new.entries tickets.now }
+    ensures bonds { result ≡ true → bonds_held bonds.new.entries ≡ bonds_held bonds.old.entries }
+{
+    if !are_numbered(tickets) {
+        return false;
+    }
+    if !days_never_fall(tickets) {
+        return false;
+    }
+    if !are_right_tickets(terms, bonds, tickets) {
+        return false;
+    }
+    mark_paid(bonds, tickets)
+}
+
+/// The counts of each day, if each ticket is of one of these days and no day has too many.
+fn known_counts(
+    alloc: Global,
+    tickets: &[Ticket],
+    batches: &[Batch],
+    day: Option<Day>,
+) -> Result<BTreeMap<Day, DayCounts>, PartsFault>
+    requires { AllByRecursion IsSmall tickets.now }
+    ensures counts { IfOk result (λ counts. AreCounted counts.entries (days_of batches.now day) tickets.now) }
+    ensures right { IfOk result (λ _. FitDays (days_of batches.now day) tickets.now) }
+    ensures unsound { IfErr result (λ fault. fault ≡ PartsFault.Unsound → FitDays (days_of batches.now day) tickets.now → ⊥) }
+{
+    match counts_of(alloc, tickets, batches, day)? {
+        Some(counts) => Ok(counts),
+        None => Err(PartsFault::Unsound),
+    }
+}
+
+/// The counts of the open day, if sound books with these tickets may have these batches.
+fn counted(
+    alloc: Global,
+    tickets: &[Ticket],
+    batches: &[Batch],
+    day: Option<Day>,
+) -> Result<DayCounts, PartsFault>
+    requires { AllByRecursion IsSmall tickets.now }
+    ensures counts { IfOk result (λ counts. counts ≡ counts_in (batch_so_far day tickets.now)) }
+    ensures right { IfOk result (λ _. AreRightBatches tickets.now batches.now day) }
+    ensures unsound { IfErr result (λ fault. fault ≡ PartsFault.Unsound → AreRightBatches tickets.now batches.now day → ⊥) }
+{
+    let own = day;
+    let counts = known_counts(alloc, tickets, batches, own)?;
+    if !are_counted(&counts, batches) {
+        return Err(PartsFault::Unsound);
+    }
+    Ok(open_counts(&counts, day))
+}
+
+/// The counts of the open day, if sound books may have these days and batches.
+fn closed(
+    alloc: Global,
+    tickets: &[Ticket],
+    batches: &[Batch],
+    day: Option<Day>,
+    last: Option<Day>,
+) -> Result<DayCounts, PartsFault>
+    requires { AllByRecursion IsSmall tickets.now }
+    ensures counts { IfOk result (λ counts. counts ≡ counts_in (batch_so_far day tickets.now)) }
+    ensures right { IfOk result (λ _. AreClosed tickets.now batches.now day last) }
+    ensures unsound { IfErr result (λ fault. fault ≡ PartsFault.Unsound → AreClosed tickets.now batches.now day last → ⊥) }
+{
+    let own = day;
+    if !days_rise(batches, own) {
+        return Err(PartsFault::Unsound);
+    }
+    if last != last_day(batches) {
+        return Err(PartsFault::Unsound);
+    }
+    counted(alloc, tickets, batches, day)
+}
+
+/// The same, for lists.
+fn checked_lists(
+    alloc: Global,
+    rates: &[RateRow],
+    bonds: &[Bond],
+    day: Option<Day>,
+    last: Option<Day>,
+    tickets: &[Ticket],
+    batches: &[Batch],
+) -> Result<Indexes, PartsFault>
+    ensures ok { IfOk result (IsMadeOf (parts_in rates.now bonds.now day last tickets.now batches.now)) }
+    ensures unsound { IfErr result (λ fault. fault ≡ PartsFault.Unsound → AreUnsound (parts_in rates.now bonds.now day last tickets.now batches.now)) }
+{
+    let maps = registered(alloc, rates, bonds)?;
+    let Register {
+        tables,
+        terms,
+        bonds: mut held,
+    } = maps;
+    if !pay(&terms, &mut held, tickets) {
+        return Err(PartsFault::Unsound);
+    }
+    let own = day;
+    in_range(batches, own);
+    let counts = closed(alloc, tickets, batches, day, last)?;
+    Ok(Indexes {
+        tables,
+        terms,
+        bonds: held,
+        counts,
+    })
+}
+
+/// What books in memory keep besides these parts. Fails if no sound books have these parts, or if memory
+/// is refused.
+pub fn checked(alloc: Global, parts: &Parts) -> Result<Indexes, PartsFault>
+    ensures ok { IfOk result (IsMadeOf parts.now) }
+    ensures unsound { IfErr result (λ fault. fault ≡ PartsFault.Unsound → AreUnsound parts.now) }
+{
+    checked_lists(
+        alloc,
+        parts.rates.as_slice(),
+        parts.bonds.as_slice(),
+        parts.day,
+        parts.last_day,
+        parts.tickets.as_slice(),
+        parts.batches.as_slice(),
+    )
+}

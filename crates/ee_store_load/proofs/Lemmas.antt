@@ -1,0 +1,23 @@
+-- Lemmas that the proofs of crates above use: whether a store has tables, of which version its rows are, and that trees hold one set of rows.
+use Rattle.std.proofs.Common.{◌≡◌}
+use Rattle.sqlite.specs.State.{State}
+use Rattle.sqlite.specs.Tree.{Trees}
+use Rattle.ee_store_schema.specs.Forms.{IsOurs, HoldsIn}
+use Rattle.ee_store_tables.specs.Rows.{Rows}
+use Rattle.ee_store_schema.specs.declared.forms.Form.{Form}
+use Rattle.ee_store_load.specs.Opening.{HasTables, IsOfForm, IsOtherVersion}
+use Rattle.ee_store_load.proofs.OneLemmas
+use Rattle.ee_store_load.proofs.OpenLemmas
+use Rattle.ee_store_load.proofs.VersionLemmas
+
+-- a store with the tables of this program has tables
+pub ours_tables : (s : State) → IsOurs s → HasTables s
+ours_tables = OpenLemmas.ours_tables
+
+-- rows of a form are of no other version
+pub one_version : (form : Form) (rows : Rows) → IsOfForm form rows → ¬ IsOtherVersion rows
+one_version = VersionLemmas.one_version
+
+-- trees hold the rows of one form at most once
+pub one_rows : (form : Form) (db : Trees) (a b : Rows) → HoldsIn form db a → HoldsIn form db b → a ≡ b
+one_rows = OneLemmas.one_rows

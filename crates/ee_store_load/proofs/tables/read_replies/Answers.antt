@@ -1,0 +1,31 @@
+use Rattle.sqlite.specs.Held.{state}
+use Rattle.ee_store_schema.specs.Forms.{schema_of}
+use Rattle.ee_store_load.proofs.AskLemmas.{only_replies}
+use Rattle.ee_store_load.proofs.QuestionLemmas.{by_key, reply_terms, asks_replies}
+use Rattle.ee_store_schema.proofs.Lemmas.Faults.{each_fault}
+use Rattle.ee_store_load.proofs.ReadLemmas.{both_ok, each_ok}
+use Rattle.ee_store_load.proofs.CanRead.{can_read_replies}
+use Rattle.ee_store_load.proofs.EachTable.{holds_replies, listed_replies}
+use Rattle.ee_store_load.proofs.NeverLemmas.{never_replies}
+use Rattle.ee_store_load.proofs.tables.read_replies.Goals as goal
+
+pub read_table-requires : goal.read_table-requires
+read_table-requires g c = only_replies
+
+pub returns-clause-found : goal.returns-clause-found
+returns-clause-found g c clean ours sound =
+    let old = state g.S.Store c.args.conn.now in
+    both_ok c.read_table.result (λ found shows up.
+    let it = shows (schema_of ours.0) 11 reply_terms by_key (asks_replies ours.0 ours.1) ours.2 in
+    holds_replies ours.0 ours.1 old.now (sound it.0) (ours.2 it.0) found.items it.1 up) (c.read_table.ensures.found clean) c.read_table.ensures.rises
+
+pub returns-clause-listed : goal.returns-clause-listed
+returns-clause-listed g c = each_ok c.read_table.result (λ found up. listed_replies found.items up) c.read_table.ensures.rises
+
+pub returns-clause-usable : goal.returns-clause-usable
+returns-clause-usable g c clean =
+    let old = state g.S.Store c.args.conn.now in
+    each_fault c.read_table.result (λ e usable unusable ours is_open m written holds. usable unusable (schema_of ours.0) 11 reply_terms by_key (asks_replies ours.0 ours.1) ours.2 is_open (can_read_replies old.now.trees m written holds)) (c.read_table.ensures.usable clean)
+
+pub returns-clause-cause : goal.returns-clause-cause
+returns-clause-cause g c clean ours = c.read_table.ensures.cause (schema_of ours.0) (never_replies ours.0 ours.1) clean ours.2

@@ -1,0 +1,132 @@
+-- The rows of each table, as a query of all their columns shows them, and as entries of maps.
+use Rattle.std.specs.Prelude.{◌≡◌, ℕ, ℤ, IsUtf8, Bool, ◌&&◌, ◌||◌, ◌==◌, nat_lt, List, [], ◌∷◌, Some, map, string_bytes}
+use Rattle.std.specs.Ordering.{nat_cmp}
+use Rattle.std.specs.FinMap.{FinMap, get, from_sorted}
+use Rattle.ee_store_tables.specs.Keyed.{pair_cmp}
+use Rattle.sqlite.specs.declared.types.Value.TheVariants.{Int, Text}
+use Rattle.sqlite.specs.Order.{Row}
+use Rattle.ee_store_tables.specs.Rows.{DeskRow, BondRow, TicketRow, PaidRow, BatchRow, ReplyRow, number, optional, reply_columns}
+use Rattle.ee_store_load.specs.declared.entries.StoredDesk.{StoredDesk}
+use Rattle.ee_store_load.specs.declared.entries.StoredRate.{StoredRate}
+use Rattle.ee_store_load.specs.declared.entries.StoredBond.{StoredBond}
+use Rattle.ee_store_load.specs.declared.entries.StoredTicket.{StoredTicket}
+use Rattle.ee_store_load.specs.declared.entries.StoredLine.{StoredLine}
+use Rattle.ee_store_load.specs.declared.entries.StoredBatch.{StoredBatch}
+use Rattle.ee_store_load.specs.declared.entries.StoredReply.{StoredReply}
+use Rattle.ee_store_schema.specs.declared.answers.StoredAnswer.{StoredAnswer}
+use Rattle.ee_store_schema.specs.Migrating.{answer_entry}
+
+-- pairs are ordered by their first numbers, then by their second
+abbrev pub pair_lt : ℕ × ℕ → ℕ × ℕ → Bool
+pair_lt a b = nat_lt a.0 b.0 || ((a.0 == b.0) && nat_lt a.1 b.1)
+
+-- ---- what a query shows
+
+abbrev pub desk_shown : StoredDesk → Row
+desk_shown d = number d.id ∷ number d.version ∷ optional d.day ∷ optional d.last_day ∷ []
+
+abbrev pub rate_shown : StoredRate → Row
+rate_shown r = number r.period ∷ number r.rate ∷ []
+
+abbrev pub bond_shown : StoredBond → Row
+bond_shown b = number b.letter ∷ number b.number ∷ number b.denom ∷ number b.issued ∷ number b.owner ∷ optional b.coowner ∷ optional b.ticket ∷ []
+
+abbrev pub ticket_shown : StoredTicket → Row
+ticket_shown t = number t.ticket ∷ number t.day ∷ number t.payee ∷ number t.bonds ∷ number t.total ∷ []
+
+abbrev pub line_shown : StoredLine → Row
+line_shown l = number l.ticket ∷ number l.place ∷ number l.letter ∷ number l.number ∷ number l.cents ∷ []
+
+abbrev pub batch_shown : StoredBatch → Row
+batch_shown b = number b.day ∷ number b.tickets ∷ number b.bonds ∷ number b.total ∷ []
+
+abbrev pub reply_shown : StoredReply → Row
+reply_shown r = number r.number ∷ Text (string_bytes r.act) ∷ Text (string_bytes r.reply) ∷ []
+
+abbrev pub answer_shown : StoredAnswer → Row
+answer_shown a = number a.desk ∷ number a.number ∷ Text (string_bytes a.act) ∷ Text (string_bytes a.reply) ∷ []
+
+-- ---- rows that this program writes
+
+-- under a number
+abbrev pub keyed_shown : {X : Type 0} → (X → Row) → ℕ × X → Row
+keyed_shown columns e = number e.0 ∷ columns e.1
+
+-- under a pair of numbers
+abbrev pub pair_shown : {X : Type 0} → (X → Row) → (ℕ × ℕ) × X → Row
+pair_shown columns e = number e.0.0 ∷ number e.0.1 ∷ columns e.1
+
+abbrev pub IsKeyed : {X : Type 0} → (X → Row) → Row → Type 0
+IsKeyed {X} columns row = (e : ℕ × X) × (row ≡ keyed_shown columns e)
+
+abbrev pub IsPaired : {X : Type 0} → (X → Row) → Row → Type 0
+IsPaired {X} columns row = (e : (ℕ × ℕ) × X) × (row ≡ pair_shown columns e)
+
+-- texts that can be read
+abbrev pub IsWritten : ReplyRow → Type 0
+IsWritten reply = IsUtf8 reply.act × IsUtf8 reply.reply
+
+abbrev pub AreWritten : FinMap pair_cmp ReplyRow → Type 0
+AreWritten answers = (k : ℕ × ℕ) (reply : ReplyRow) → get answers k ≡ Some reply → IsWritten reply
+
+abbrev pub IsReply : Row → Type 0
+IsReply row = (e : ℕ × ReplyRow) × (row ≡ keyed_shown reply_columns e) × IsWritten e.1
+
+abbrev pub IsAnswerRow : Row → Type 0
+IsAnswerRow row = (e : (ℕ × ℕ) × ReplyRow) × (row ≡ pair_shown reply_columns e) × IsWritten e.1
+
+abbrev pub IsRowid : Row → Type 0
+IsRowid row = (i : ℤ) × (row ≡ Int i ∷ [])
+
+-- ---- entries
+
+abbrev pub desk_entry : StoredDesk → ℕ × DeskRow
+desk_entry d = (d.id, record { version = d.version; day = d.day; last_day = d.last_day })
+
+abbrev pub rate_entry : StoredRate → ℕ × ℕ
+rate_entry r = (r.period, r.rate)
+
+abbrev pub bond_entry : StoredBond → (ℕ × ℕ) × BondRow
+bond_entry b = ((b.letter, b.number), record { denom = b.denom; issued = b.issued; owner = b.owner; coowner = b.coowner; ticket = b.ticket })
+
+abbrev pub ticket_entry : StoredTicket → ℕ × TicketRow
+ticket_entry t = (t.ticket, record { day = t.day; payee = t.payee; bonds = t.bonds; total = t.total })
+
+abbrev pub line_entry : StoredLine → (ℕ × ℕ) × PaidRow
+line_entry l = ((l.ticket, l.place), record { letter = l.letter; number = l.number; cents = l.cents })
+
+abbrev pub batch_entry : StoredBatch → ℕ × BatchRow
+batch_entry b = (b.day, record { tickets = b.tickets; bonds = b.bonds; total = b.total })
+
+abbrev pub reply_entry : StoredReply → ℕ × ReplyRow
+reply_entry r = (r.number, record { act = string_bytes r.act; reply = string_bytes r.reply })
+
+-- ---- maps of the rows that were read, by key
+
+abbrev pub desk_map : List StoredDesk → FinMap nat_cmp DeskRow
+desk_map all = from_sorted (map desk_entry all)
+
+abbrev pub rate_map : List StoredRate → FinMap nat_cmp ℕ
+rate_map all = from_sorted (map rate_entry all)
+
+abbrev pub bond_map : List StoredBond → FinMap pair_cmp BondRow
+bond_map all = from_sorted (map bond_entry all)
+
+abbrev pub ticket_map : List StoredTicket → FinMap nat_cmp TicketRow
+ticket_map all = from_sorted (map ticket_entry all)
+
+abbrev pub line_map : List StoredLine → FinMap pair_cmp PaidRow
+line_map all = from_sorted (map line_entry all)
+
+abbrev pub batch_map : List StoredBatch → FinMap nat_cmp BatchRow
+batch_map all = from_sorted (map batch_entry all)
+
+abbrev pub reply_map : List StoredReply → FinMap nat_cmp ReplyRow
+reply_map all = from_sorted (map reply_entry all)
+
+abbrev pub answer_map : List StoredAnswer → FinMap pair_cmp ReplyRow
+answer_map all = from_sorted (map answer_entry all)
+
+-- a reply of version 1 belongs to the first desk
+abbrev pub first_answer : StoredReply → StoredAnswer
+first_answer r = record { desk = 0; number = r.number; act = r.act; reply = r.reply }

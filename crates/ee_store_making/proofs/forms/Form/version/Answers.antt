@@ -1,5 +1,0 @@
-use Rattle.std.proofs.Common.{rules}
-use Rattle.ee_store_making.proofs.forms.Form.version.Goals as goal
-
-pub returns-in-Current : goal.returns-in-Current
-returns-in-Current c = search rules

@@ -1,7 +1,0 @@
-use Rattle.ee_store_opening.proofs.FiveLemmas.{five_decided}
-use Rattle.ee_store_opening.proofs.ours.has_ticket_columns.Goals as goal
-
-pub returns : goal.returns
-returns c =
-    five_decided c.args.columns.now _ _ _ _ _ c.in-len5.len_at_least c.in-len5.len_below c.ticket-item.is c.day-item.is c.payee-item.is c.bonds-item.is c.total-item.is
-    _ _ _ _ _ _ _ _ _ _ c.is_number.ensures c.is_number-2.ensures c.is_number-3.ensures c.is_number-4.ensures c.is_number-5.ensures

@@ -1,0 +1,76 @@
+-- A store of version 1 that becomes one of version 2, with the same rows.
+use Rattle.std.specs.Prelude.{◌≡◌, ◌≢◌, ◌⊎◌, ◌<◌, ◌^◌, ⊤, ℕ, IsTrue, IfErr, List, [], ◌∷◌, None, Result, map, length, string_bytes}
+use Rattle.std.specs.List.{AllByRecursion}
+use Rattle.std.specs.FinMap.{FinMap, get, insert, entries, empty}
+use Rattle.sqlite.specs.Effect.{IsDatabase}
+use Rattle.sqlite.specs.State.{State, HasCleanDisk}
+use Rattle.sqlite.specs.Tree.{Trees}
+use Rattle.ee_store_tables.specs.Rows.{Rows, ReplyRow, FitsRow, Stores, Rises}
+pub use Rattle.ee_store_tables.specs.Rows.{with_version_of, with_version}
+use Rattle.ee_store_tables.specs.Keyed.{pair_cmp}
+use Rattle.ee_store_tables.specs.Statements.{IsExcused}
+use Rattle.ee_store_tables.specs.declared.failures.Failure.{Failure}
+use Rattle.ee_store_schema.specs.declared.forms.Form.{Form}
+use Rattle.ee_store_schema.specs.declared.forms.Form.TheVariants.{Current, First, Earliest}
+use Rattle.ee_store_schema.specs.declared.answers.StoredAnswer.{StoredAnswer}
+use Rattle.ee_store_schema.specs.Forms.{HadIn}
+
+abbrev pub answer_entry : StoredAnswer → (ℕ × ℕ) × ReplyRow
+answer_entry a = ((a.desk, a.number), record { act = string_bytes a.act; reply = string_bytes a.reply })
+
+-- these are all kept replies, by desk and number
+abbrev pub Lists : List StoredAnswer → Rows → Type 0
+Lists all rows = entries rows.answers ≡ map answer_entry all
+
+-- the rows of version 2 for rows of version 1: only the version changes
+abbrev pub migrated : Rows → Rows
+migrated rows = record rows { desk = with_version rows.desk 2 }
+
+-- the rows of version 2 for the rows of a store in this form
+abbrev pub become : Form → Rows → Rows
+become Current rows = rows
+become First rows = migrated rows
+become Earliest rows = migrated rows
+
+-- The store was of version 1, and the trees are of version 2, with its rows.
+pub record Migrates (form : Form) (all : List StoredAnswer) (old : State) (db : Trees) : Type 0 where
+  pub earlier : form ≢ Current
+  pub was_open : IsTrue old.is_open
+  pub stores : (rows : Rows) → HadIn form old rows → Lists all rows → Stores db (become form rows)
+
+-- the kept replies fit rows under desk and number, and are fewer than the rowids
+pub record AnswersFit (rows : Rows) : Type 0 where
+  pub each : AllByRecursion (λ e. (e.0.0 < 2 ^ 63) × (e.0.1 < 2 ^ 63) × FitsRow e.1) (entries rows.answers)
+  pub few : length (entries rows.answers) < 2 ^ 63
+
+-- A store in the present form needs no migration; one of version 1 can be migrated if these are its replies, and they fit.
+abbrev pub CanBecome : Form → List StoredAnswer → State → Type 0
+CanBecome form all s = (form ≡ Current) ⊎ ((rows : Rows) × HadIn form s rows × Lists all rows × AnswersFit rows)
+
+-- ---- the steps
+
+-- without the replies
+abbrev pub unanswered : Rows → Rows
+unanswered rows = record rows { answers = empty }
+
+-- with the replies written in order
+abbrev pub copied : FinMap pair_cmp ReplyRow → List ((ℕ × ℕ) × ReplyRow) → FinMap pair_cmp ReplyRow
+copied answers [] = answers
+copied answers (e ∷ es) = copied (insert answers e.0 e.1) es
+
+-- a reply can be written: its desk and number are new, and it fits a row
+abbrev pub CanAdd : FinMap pair_cmp ReplyRow → (ℕ × ℕ) × ReplyRow → Type 0
+CanAdd answers e = (e.0.0 < 2 ^ 63) × (e.0.1 < 2 ^ 63) × (get answers e.0 ≡ None) × FitsRow e.1
+
+-- the same for each reply in order
+abbrev pub CanAddAll : FinMap pair_cmp ReplyRow → List ((ℕ × ℕ) × ReplyRow) → Type 0
+CanAddAll answers [] = ⊤
+CanAddAll answers (e ∷ es) = CanAdd answers e × CanAddAll (insert answers e.0 e.1) es
+
+-- what a transaction sees obeys the tables, and there are rowids for this many more replies
+abbrev pub HasPlace : ℕ → State → Type 0
+HasPlace n s = IsTrue s.is_open → IsDatabase s.now × Rises 1 n (s.now.trees 13)
+
+-- from an allowed state, without a limit on steps, it fails only for want of memory or a cause
+abbrev pub FailsIn : {X : Type 0} → (State → Type 0) → State → State → Result X Failure → Type 0
+FailsIn Starts old new result = HasCleanDisk new → Starts old → old.step_limit ≡ None → IfErr result (IsExcused old new)
