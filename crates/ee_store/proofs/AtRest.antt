@@ -14,8 +14,8 @@ use Rattle.ee_store_files.specs.Files.{Finds}
 use Rattle.ee_desk_model.specs.Repeats.{Content}
 use Rattle.ee_desk_laws.specs.Events.{begun}
 use Rattle.ee_store_tables.proofs.Lemmas.Meeting.{stored_has}
-use Rattle.ee_store_contents.specs.Standing.{rows_of}
-use Rattle.ee_store_lookups.specs.Seen.{HasContent, StandsFor}
+use Rattle.ee_store_books.specs.Standing.{rows_of}
+use Rattle.ee_store_books.specs.Seen.{HasContent, StandsFor}
 use Rattle.ee_store_schema.specs.declared.forms.Form.TheVariants.{Current}
 use Rattle.ee_store.specs.Adopted.{GoesOn}
 use Rattle.ee_store.proofs.Opened.{stood_now}

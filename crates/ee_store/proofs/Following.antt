@@ -8,7 +8,7 @@ use Rattle.ee_desk_model.specs.Numbers.{number_of}
 use Rattle.ee_desk_laws.specs.Events.{World, Told, one, decided}
 use Rattle.ee_desk_laws.specs.Ties.{Leaves}
 use Rattle.ee_desk_laws.proofs.Lemmas.{leaves_new, leaves_kept}
-use Rattle.ee_store_lookups.specs.Seen.{StandsFor, HasContent}
+use Rattle.ee_store_books.specs.Seen.{StandsFor, HasContent}
 use Rattle.ee_store.specs.Served.{FollowsWorld}
 
 module _ (old new : State) (q : Request) (w : World) (follows : FollowsWorld old w) where

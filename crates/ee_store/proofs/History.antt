@@ -20,7 +20,7 @@ use Rattle.ee_desk_laws.specs.Events.{Event, World, Told, begun, decided, unserv
 use Rattle.ee_desk_laws.specs.Events.Event.{Deliver, Lose, Unserved, Stop_between, Reopen}
 use Rattle.ee_desk_laws.specs.Stops.{SurvivesStops, SettlesByRetries}
 use Rattle.ee_desk_laws.proofs.Lemmas.{in_tail}
-use Rattle.ee_store_lookups.specs.Seen.{StandsFor}
+use Rattle.ee_store_books.specs.Seen.{StandsFor}
 use Rattle.ee_store.proofs.NextRun.{was_found, found_in, next_on}
 use Rattle.ee_store.specs.Served.{FollowsWorld}
 use Rattle.ee_store.specs.Ended.{StandsAlone, IsAtRest, RestsIn}

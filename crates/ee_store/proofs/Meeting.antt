@@ -11,10 +11,10 @@ use Rattle.ee_store_schema.specs.declared.forms.Form.TheVariants.{Current, First
 use Rattle.ee_store_schema.specs.Forms.{version_of, HasForm}
 use Rattle.ee_store_schema.proofs.Lemmas.Forms.{had_stored}
 use Rattle.ee_store_schema.specs.Making.{first_rows}
-use Rattle.ee_store_contents.specs.Standing.{rows_at}
-use Rattle.ee_store_lookups.specs.Seen.{StandsFor, HasContent}
+use Rattle.ee_store_books.specs.Standing.{rows_at}
+use Rattle.ee_store_books.specs.Seen.{StandsFor, HasContent}
 use Rattle.ee_store.specs.Served.{FollowsWorld}
-use Rattle.ee_store_lookups.proofs.Lemmas.{stands_committed}
+use Rattle.ee_store_books.proofs.Lemmas.Lookups.{stands_committed}
 use Rattle.ee_store.specs.Adopted.{StoodFor, HadContent, StandsSince, KeepsContent, CarriesWorld, LeavesAsBefore, GoesOn, StaysStopped}
 use Rattle.ee_store.proofs.Opened.{had_now, has_tables, nothing_rows}
 

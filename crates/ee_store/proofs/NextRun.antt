@@ -15,10 +15,10 @@ use Rattle.ee_desk_model.specs.Repeats.{Content}
 use Rattle.ee_desk_laws.specs.Events.{World, Happens}
 use Rattle.ee_desk_laws.specs.Events.Event.{Stop_between, Reopen}
 use Rattle.ee_store_tables.specs.Tables.{counter_schema}
-use Rattle.ee_store_contents.specs.Standing.{rows_of}
+use Rattle.ee_store_books.specs.Standing.{rows_of}
 use Rattle.ee_store_schema.specs.declared.faults.OpenFault.{OpenFault}
 use Rattle.ee_store_schema.proofs.Lemmas.Forms.{kept_had}
-use Rattle.ee_store_lookups.specs.Seen.{StandsFor, HasContent}
+use Rattle.ee_store_books.specs.Seen.{StandsFor, HasContent}
 use Rattle.ee_store_schema.specs.declared.forms.Form.TheVariants.{Current}
 use Rattle.ee_store.specs.Adopted.{IsOpenedFrom, IsRefusedFrom}
 use Rattle.ee_store.specs.Served.{FollowsWorld}

@@ -17,7 +17,7 @@ use Rattle.ee_desk_model.specs.Numbers.{number_cmp}
 use Rattle.ee_desk_model.specs.Seen.{held_as}
 use Rattle.ee_desk_model.specs.Repeats.{Content, nothing}
 use Rattle.ee_desk_model.proofs.Lemmas.Books.{empty_is_sound}
-use Rattle.ee_store_contents.proofs.Lemmas.{is_at}
+use Rattle.ee_store_books.proofs.Lemmas.Contents.{is_at}
 use Rattle.ee_desk_texts.specs.Ranges.{BondFits}
 use Rattle.ee_store_tables.specs.Keyed.{pair_cmp}
 use Rattle.ee_store_tables.specs.Rows.{Rows, Has, Stores}
@@ -28,8 +28,8 @@ use Rattle.ee_store_schema.specs.Making.{IsBlank, first_rows}
 use Rattle.ee_store_load.specs.Opening.{HasTables, IsOtherVersion}
 use Rattle.ee_store_load.proofs.Lemmas.{ours_tables, one_version}
 use Rattle.ee_store_schema.proofs.Lemmas.Forms.{no_entries, not_blank}
-use Rattle.ee_store_contents.specs.Standing.{rows_at, rows_of, extension_entry, bond_row, reply_row, key_of, IsRight, IsKept}
-use Rattle.ee_store_lookups.specs.Seen.{StandsFor, HasContent}
+use Rattle.ee_store_books.specs.Standing.{rows_at, rows_of, extension_entry, bond_row, reply_row, key_of, IsRight, IsKept}
+use Rattle.ee_store_books.specs.Seen.{StandsFor, HasContent}
 use Rattle.ee_store.specs.Adopted.{StoodFor, HadContent, HasSome, IfConnection}
 use Rattle.ee_store.specs.declared.opening.Rest.{Rest}
 use Rattle.ee_store.specs.declared.opening.Rest.TheVariants.{Connection, Files}

@@ -27,11 +27,11 @@ use Rattle.ee_store_schema.specs.declared.faults.OpenFault.{OpenFault}
 use Rattle.ee_store_schema.specs.declared.faults.OpenFault.TheVariants.{StoreFailed, WrongVersion, Unusable}
 use Rattle.ee_store.specs.declared.opening.Rest.{Rest}
 use Rattle.ee_store.specs.declared.opening.Rest.TheVariants.{Connection, Files}
-use Rattle.ee_store_contents.specs.Standing.{rows_at, IsRight}
-use Rattle.ee_store_lookups.specs.Seen.{StandsFor, HasContent}
+use Rattle.ee_store_books.specs.Standing.{rows_at, IsRight}
+use Rattle.ee_store_books.specs.Seen.{StandsFor, HasContent}
 use Rattle.ee_store.specs.Served.{FollowsWorld}
 use Rattle.ee_store.specs.Ended.{StandsAlone}
-use Rattle.ee_store_lookups.specs.Causes.{IsReady}
+use Rattle.ee_store_books.specs.Causes.{IsReady}
 
 -- ---- the content of a store of version 1
 

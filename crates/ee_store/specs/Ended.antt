@@ -10,7 +10,7 @@ use Rattle.sqlite.specs.Held.{Held}
 use Rattle.sqlite.specs.Files.{image_of, file_state}
 use Rattle.sqlite.specs.Closing.{HoldsAlone}
 use Rattle.ee_desk_model.specs.Repeats.{Content}
-use Rattle.ee_store_lookups.specs.Seen.{StandsFor, HasContent}
+use Rattle.ee_store_books.specs.Seen.{StandsFor, HasContent}
 
 -- the two files are a store of the content, and so is the database file without its log
 pub record StandsAlone (image : Image) (content : Content) : Type 0 where

@@ -15,7 +15,7 @@ use Rattle.ee_desk_model.specs.Repeats.{Content, nothing}
 use Rattle.ee_desk_laws.specs.Events.{Event, World, begun, Happens}
 use Rattle.ee_desk_laws.specs.Events.Event.{Deliver, Stop_between, Reopen}
 use Rattle.ee_desk_laws.specs.Stops.{Survives, Settles, sent}
-use Rattle.ee_store_lookups.specs.Seen.{HasContent}
+use Rattle.ee_store_books.specs.Seen.{HasContent}
 use Rattle.ee_store.specs.Served.{FollowsWorld}
 use Rattle.ee_store.specs.Adopted.{KeepsWorld}
 use Rattle.ee_store.specs.Ended.{IsAtRest, RestsIn}

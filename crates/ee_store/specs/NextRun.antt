@@ -12,7 +12,7 @@ use Rattle.ee_desk_laws.specs.Events.{World, Happens}
 use Rattle.ee_desk_laws.specs.Events.Event.{Stop_between, Reopen}
 use Rattle.ee_desk_laws.specs.Ties.{Leaves}
 use Rattle.ee_store_schema.specs.declared.faults.OpenFault.{OpenFault}
-use Rattle.ee_store_lookups.specs.Seen.{StandsFor}
+use Rattle.ee_store_books.specs.Seen.{StandsFor}
 use Rattle.ee_store.specs.Served.{FollowsWorld}
 use Rattle.ee_store.specs.Adopted.{IsOpenedFrom, IsRefusedFrom}
 

@@ -8,8 +8,8 @@ use Rattle.ee_desk_model.specs.declared.refusals.Unserved.{Unserved}
 use Rattle.ee_desk_model.specs.declared.refusals.Unserved.TheVariants as unserved
 use Rattle.ee_store_tables.specs.Statements.{HasCause}
 use Rattle.ee_store_tables.specs.declared.failures.Failure.{Failure}
-use Rattle.ee_store_lookups.specs.Seen.{StandsFor, HasContent}
-use Rattle.ee_store_lookups.specs.Causes.{IsReady}
+use Rattle.ee_store_books.specs.Seen.{StandsFor, HasContent}
+use Rattle.ee_store_books.specs.Causes.{IsReady}
 use Rattle.ee_store_tables.specs.declared.failures.Failure.TheVariants.{NoMemory, StoreFailed}
 
 -- the store has the world's content, and a crash leaves what it may leave of the world

@@ -6,7 +6,7 @@ ghost use Rattle.sqlite.specs.Files.{file_state};
 ghost use Rattle.sqlite.specs.FileStore.{recovers};
 ghost use Rattle.ee_desk_laws.specs.Events.{World};
 ghost use Rattle.ee_desk_laws.specs.Ties.{Leaves};
-ghost use Rattle.ee_store_lookups.specs.Seen.{StandsFor};
+ghost use Rattle.ee_store_books.specs.Seen.{StandsFor};
 ghost use Rattle.ee_store.specs.Served.{FollowsWorld};
 ghost use Rattle.ee_store.specs.Ended.{RestsIn};
 ghost use Rattle.ee_store.specs.History.{RestsAfter};

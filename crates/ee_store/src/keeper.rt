@@ -12,10 +12,10 @@ ghost use Rattle.ee_desk_laws.specs.Events.{World, Told, decided, unserved};
 ghost use Rattle.ee_desk_laws.specs.Events.Event.{Deliver, Lose, Unserved as NotServed};
 ghost use Rattle.ee_keeper.specs.Keeping.{Delivers};
 ghost use Rattle.ee_store_tables.specs.Statements.{HasCause};
-ghost use Rattle.ee_store_lookups.specs.Causes.{IsReady};
+ghost use Rattle.ee_store_books.specs.Causes.{IsReady};
 ghost use Rattle.ee_store_delivery.specs.Causes.{TakesRequestRoom, CanDeliver};
 ghost use Rattle.ee_store_delivery.specs.Known.{IsInformed};
-ghost use Rattle.ee_store_lookups.specs.Seen.{StandsFor, HasContent};
+ghost use Rattle.ee_store_books.specs.Seen.{StandsFor, HasContent};
 ghost use Rattle.ee_store.specs.Served.{FollowsWorld};
 ghost use Rattle.ee_store.specs.History.{Goes};
 
@@ -103,7 +103,7 @@ impl<S: Alter> SqlKeeper<S> {
 impl<S: Alter> StoreOfContents for SqlKeeper<S> {
     ghost use Rattle.sqlite.specs.Held.{state};
     ghost use Rattle.sqlite.specs.Tree.{Trees};
-    ghost use Rattle.ee_store_lookups.specs.Seen.{StandsFor};
+    ghost use Rattle.ee_store_books.specs.Seen.{StandsFor};
 
     ghost Disk = { Trees };
 

@@ -7,11 +7,11 @@ ghost use Rattle.ee_desk_model.specs.Repeats.{Content};
 ghost use Rattle.ee_desk_model.specs.Queries.{ticket_numbered, batch_on, bonds_of};
 ghost use Rattle.ee_desk_laws.specs.Events.{World};
 ghost use Rattle.ee_keeper.specs.Keeping.{Shows, IsInventory, IsQuote};
-ghost use Rattle.ee_store_lookups.specs.Causes.{IsReady};
+ghost use Rattle.ee_store_books.specs.Causes.{IsReady};
 ghost use Rattle.ee_store_delivery.specs.Known.{IsInformed};
 ghost use Rattle.ee_store_queries.specs.Asking.{KeepsRoom};
 ghost use Rattle.ee_store.specs.Served.{ServesOrFails};
-ghost use Rattle.ee_store_lookups.specs.Seen.{HasContent};
+ghost use Rattle.ee_store_books.specs.Seen.{HasContent};
 ghost use Rattle.ee_store.specs.Served.{FollowsWorld};
 
 use crate::failures::unserved;
@@ -154,7 +154,7 @@ impl<S: Alter> SqlKeeper<S> {
 impl<S: Alter> Keeper for SqlKeeper<S> {
     ghost use Rattle.sqlite.specs.Held.{state};
     ghost use Rattle.sqlite.specs.State.{HasCleanDisk};
-    ghost use Rattle.ee_store_lookups.specs.Seen.{HasContent};
+    ghost use Rattle.ee_store_books.specs.Seen.{HasContent};
     ghost use Rattle.ee_store_delivery.specs.Known.{IsInformed};
 
     // The last commit left the content, and the cache is correct for its books.

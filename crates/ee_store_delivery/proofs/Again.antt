@@ -15,7 +15,7 @@ use Rattle.ee_desk_texts.proofs.Lemmas.{one_act, reply_only}
 use Rattle.ee_desk_texts.specs.Ranges.{ActFits}
 use Rattle.ee_desk_texts.specs.Reading.{ReadsReply}
 use Rattle.ee_desk_texts.specs.Texts.{act_text, reply_text}
-use Rattle.ee_store_contents.specs.Standing.{IsKept}
+use Rattle.ee_store_books.specs.Standing.{IsKept}
 
 abbrev pub IsAgain : List ℕ → List ℕ → List ℕ → Reply → Type 0
 IsAgain act reply asked told = (number : Number) (kept : Kept) (again : Act) → IsKept number kept → ActFits again

@@ -33,7 +33,7 @@ use Rattle.ee_desk_model.proofs.Lemmas.Books.{seen_enough, applied_are_books_aft
 use Rattle.ee_desk.proofs.Lemmas.{decided_are_applicable}
 use Rattle.ee_desk_texts.specs.Ranges.{ActFits, ReplyFits, RateRowFits, BondFits, TicketFits, BatchFits}
 use Rattle.ee_store_tables.specs.Rows.{with_answer}
-use Rattle.ee_store_contents.specs.Standing.{rows_of, reply_row, AreInRange, IsKept, IsRight}
+use Rattle.ee_store_books.specs.Standing.{rows_of, reply_row, AreInRange, IsKept, IsRight}
 use Rattle.ee_store_delivery.specs.Written.{applied_rows}
 use Rattle.ee_store_delivery.proofs.Changes.{with_new_reply}
 use Rattle.ee_store_delivery.proofs.Written.{with_books, written}

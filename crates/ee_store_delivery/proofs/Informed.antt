@@ -7,8 +7,8 @@ use Rattle.ee_store_tables.specs.Statements.{LeavesNoMore, IsExcused}
 use Rattle.ee_store_tables.specs.declared.failures.Failure.{Failure}
 use Rattle.ee_store_tables.specs.declared.failures.Failure.TheVariants.{NoMemory, StoreFailed}
 use Rattle.ee_store_tables.proofs.Lemmas.Transactions.{begun, clean_before}
-use Rattle.ee_store_lookups.specs.Seen.{HasContent}
-use Rattle.ee_store_lookups.proofs.Lemmas.{one_content, inside_content}
+use Rattle.ee_store_books.specs.Seen.{HasContent}
+use Rattle.ee_store_books.proofs.Lemmas.Lookups.{one_content, inside_content}
 use Rattle.ee_store_delivery.specs.declared.known.Known.{Known}
 use Rattle.ee_store_delivery.specs.Known.{AreKnown, IsInformed}
 

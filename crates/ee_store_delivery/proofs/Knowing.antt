@@ -8,7 +8,7 @@ use Rattle.std.specs.FinMap.{FinMap, nat_cmp-IsAntisymmetric, get-insert, get-em
 use Rattle.std.proofs.lemmas.Map.Views.{tells_apart}
 use Rattle.ee_value.specs.declared.rates.Rates.{Rates}
 use Rattle.ee_desk_model.specs.PlainBooks.{PlainBooks}
-use Rattle.ee_store_lookups.specs.Found.{with_found}
+use Rattle.ee_store_books.specs.Found.{with_found}
 use Rattle.ee_store_delivery.specs.Known.{AreTermsOf}
 
 -- no terms are those of any books

@@ -12,7 +12,7 @@ use Rattle.ee_desk_model.specs.Serials.{serial_cmp}
 use Rattle.ee_desk_model.specs.PlainBooks.{PlainBooks}
 use Rattle.ee_desk_model.specs.Seen.{held_of}
 use Rattle.ee_desk_model.specs.Views.{picked, period_of_held}
-use Rattle.ee_store_lookups.proofs.Lemmas.{same_found}
+use Rattle.ee_store_books.proofs.Lemmas.Lookups.{same_found}
 use Rattle.ee_desk_model.proofs.Lemmas.Maps.{serials_total, serials_exact, get_named, all_named, all_weaker}
 
 found_push : {A B : Type 0} (f : A → Option B) (xs : List A) (y : A) → filter_map f (xs ++ y ∷ []) ≡ filter_map f xs ++ cons_option (f y) []

@@ -7,7 +7,7 @@ use Rattle.sqlite.specs.declared.error.Error.{Error}
 use Rattle.ee_store_tables.specs.Rows.{IsInside, HasRoomIn, HasRoom}
 use Rattle.ee_store_tables.proofs.Lemmas.Transactions.{begun}
 use Rattle.ee_store_tables.proofs.Lemmas.Causes.{room_less}
-use Rattle.ee_store_lookups.specs.Causes.{IsReady}
+use Rattle.ee_store_books.specs.Causes.{IsReady}
 
 same_room : (old new : State) (n : ℕ) → (IsTrue new.is_open → IsTrue old.is_open × (new.now ≡ old.now)) → HasRoom n old → HasRoom n new
 same_room old new n same room is_open = let it = same is_open in subst (λ (d : Database). IsDatabase d × HasRoomIn n d.trees) (sym it.1) (room it.0)

@@ -17,13 +17,13 @@ use Rattle.ee_desk_model.specs.Repeats.{Content}
 use Rattle.ee_desk_model.specs.Contents.{content_after}
 use Rattle.ee_desk_model.proofs.Lemmas.Requests.{answer_again, content_after-kept, content_after-new, answer_new}
 use Rattle.ee_store_tables.proofs.Lemmas.Transactions.{unchanged_sees}
-use Rattle.ee_store_contents.proofs.Lemmas.{get_reply_row}
+use Rattle.ee_store_books.proofs.Lemmas.Contents.{get_reply_row}
 use Rattle.ee_desk_texts.specs.Ranges.{ActFits, ReplyFits}
 use Rattle.ee_desk_texts.specs.Texts.{act_text, reply_text}
 use Rattle.ee_store_tables.specs.Rows.{Rows, ReplyRow, Sees, with_answer}
-use Rattle.ee_store_contents.specs.Standing.{rows_of, reply_row, IsRight, IsKept}
+use Rattle.ee_store_books.specs.Standing.{rows_of, reply_row, IsRight, IsKept}
 use Rattle.ee_store_delivery.specs.Written.{applied_rows}
-use Rattle.ee_store_lookups.specs.Seen.{SeesContent}
+use Rattle.ee_store_books.specs.Seen.{SeesContent}
 use Rattle.ee_store_delivery.specs.declared.known.Known.{Known}
 use Rattle.ee_store_delivery.specs.Known.{AreKnown}
 use Rattle.ee_store_delivery.specs.Delivered.{IsDecided, IsToldIn}

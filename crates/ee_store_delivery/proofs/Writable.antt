@@ -48,8 +48,8 @@ use Rattle.ee_store_tables.specs.AsRows.{Fits}
 use Rattle.ee_store_tables.specs.Keyed.{pair_cmp}
 use Rattle.ee_store_tables.specs.Rows.{Rows, DeskRow, BondRow, PaidRow, day_set, marked_as, with_batch, with_ticket, with_paid, with_line, with_lines, IsUnpaid, CanPayAll, with_rate}
 use Rattle.ee_store_tables.proofs.Lemmas.Rows.{pair_total, pair_same}
-use Rattle.ee_store_contents.specs.Standing.{rows_of, key_of, ticket_row, paid_row, placed, batch_row, IsRight}
-use Rattle.ee_store_contents.proofs.Lemmas.{ticket_entry, ticket_lines, batch_entry, paid_entries}
+use Rattle.ee_store_books.specs.Standing.{rows_of, key_of, ticket_row, paid_row, placed, batch_row, IsRight}
+use Rattle.ee_store_books.proofs.Lemmas.Contents.{ticket_entry, ticket_lines, batch_entry, paid_entries}
 use Rattle.ee_store_delivery.specs.Written.{with_named, changed_rows, applied_rows, CanPayTicket, CanClose, CanWriteAll, all_added_rows}
 use Rattle.ee_store_delivery.proofs.Delivered.{changes_fit}
 

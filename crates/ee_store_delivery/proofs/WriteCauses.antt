@@ -4,7 +4,7 @@ use Rattle.std.proofs.lemmas.List.{length-map}
 use Rattle.sqlite.specs.State.{State, HasCleanDisk}
 use Rattle.ee_store_tables.specs.declared.failures.Failure.{Failure}
 use Rattle.ee_store_tables.specs.Statements.{IsExcused, LeavesNoMore}
-use Rattle.ee_store_lookups.proofs.Lemmas.{excused_later, handed_on}
+use Rattle.ee_store_books.proofs.Lemmas.Lookups.{excused_later, handed_on}
 
 -- a statement failed that came after another one
 pub later_failed : {X : Type 0} (old middle new : State) → HasCleanDisk new → LeavesNoMore old middle → LeavesNoMore middle new

@@ -7,8 +7,8 @@ use Rattle.ee_desk_model.specs.Repeats.{Content}
 use Rattle.ee_store_tables.specs.Rows.{Rows, Sees, HasRoom, IsInside}
 use Rattle.ee_desk_texts.specs.Texts.{act_text, reply_text}
 use Rattle.ee_store_tables.specs.declared.failures.Failure.{Failure}
-use Rattle.ee_store_lookups.specs.Seen.{HasContent, SeesContent}
-use Rattle.ee_store_lookups.specs.Causes.{IsReady}
+use Rattle.ee_store_books.specs.Seen.{HasContent, SeesContent}
+use Rattle.ee_store_books.specs.Causes.{IsReady}
 use Rattle.ee_store_tables.specs.Statements.{IsExcused}
 use Rattle.ee_store_delivery.specs.declared.known.Known.{Known}
 use Rattle.ee_store_delivery.specs.Known.{IsInformed}

@@ -14,7 +14,7 @@ use Rattle.ee_desk_model.specs.Repeats.{Content}
 use Rattle.ee_desk_model.specs.Contents.{content_after}
 use Rattle.ee_desk_model.specs.Answers.{answer}
 use Rattle.ee_store_tables.specs.Rows.{IsInside}
-use Rattle.ee_store_lookups.specs.Seen.{SeesContent}
+use Rattle.ee_store_books.specs.Seen.{SeesContent}
 use Rattle.ee_store_delivery.specs.declared.known.Known.{Known}
 use Rattle.ee_store_delivery.specs.Known.{AreKnown}
 

@@ -13,8 +13,8 @@ use Rattle.ee_desk_model.specs.Seen.{open_batch}
 use Rattle.ee_desk_model.specs.Repeats.{Content}
 use Rattle.ee_store_tables.specs.Rows.{IsInside}
 use Rattle.ee_store_tables.specs.declared.failures.Failure.{Failure}
-use Rattle.ee_store_lookups.specs.Found.{terms_found}
-use Rattle.ee_store_lookups.specs.Seen.{HasContent, SeesContent}
+use Rattle.ee_store_books.specs.Found.{terms_found}
+use Rattle.ee_store_books.specs.Seen.{HasContent, SeesContent}
 use Rattle.ee_store_delivery.specs.declared.known.Desk.{Desk}
 use Rattle.ee_store_delivery.specs.declared.known.Known.{Known}
 

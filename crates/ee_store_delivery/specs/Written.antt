@@ -9,7 +9,7 @@ use Rattle.ee_desk_model.specs.declared.replies.Ticket.{Ticket}
 use Rattle.ee_desk_model.specs.declared.replies.Batch.{Batch}
 use Rattle.ee_store_tables.specs.AsRows.{Fits}
 use Rattle.ee_store_tables.specs.Rows.{Rows, with_rate, with_extension, with_bond, with_day, with_batch, with_ticket, with_lines, CanPayAll}
-use Rattle.ee_store_contents.specs.Standing.{key_of, bond_row, ticket_row, paid_row, batch_row}
+use Rattle.ee_store_books.specs.Standing.{key_of, bond_row, ticket_row, paid_row, batch_row}
 
 -- the rows with the extension of a period, if there is one
 abbrev pub with_named : Rows → ℕ → Option ℕ → Rows

@@ -8,12 +8,12 @@ ghost use Rattle.ee_desk_model.specs.PlainBooks.{PlainBooks};
 ghost use Rattle.ee_desk_model.specs.declared.acts.Act.TheVariants as act;
 ghost use Rattle.ee_units.specs.Spelling.{SerialNumber};
 ghost use Rattle.ee_desk_model.specs.Views.{needed_counts};
-ghost use Rattle.ee_store_lookups.specs.Found.{terms_found, with_found};
+ghost use Rattle.ee_store_books.specs.Found.{terms_found, with_found};
 ghost use Rattle.ee_store_delivery.specs.Known.{IsDesk, IsDeskAfter, AreKnown, redeemed_counts};
 
 use ee_desk_decide::DayCounts;
 use ee_desk_model::{Act, Reply, Terms};
-use ee_store_lookups::{no_terms, note_terms};
+use ee_store_books::{no_terms, note_terms};
 use ee_units::{Day, IssueMonth};
 use std::alloc::{AllocError, Global};
 use std::collections::BTreeMap;

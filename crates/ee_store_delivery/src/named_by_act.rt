@@ -9,7 +9,7 @@ ghost use Rattle.ee_desk_model.specs.PlainBooks.{PlainBooks};
 ghost use Rattle.ee_desk_model.specs.Seen.{held_of};
 ghost use Rattle.ee_desk_model.specs.Views as is;
 ghost use Rattle.ee_desk_model.specs.Views.{picked, period_of_held};
-ghost use Rattle.ee_store_lookups.specs.Found.{bonds_found};
+ghost use Rattle.ee_store_books.specs.Found.{bonds_found};
 
 use ee_calculator::Bond;
 use ee_desk_model::{Act, Held, RateRow};

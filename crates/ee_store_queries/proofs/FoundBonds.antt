@@ -17,12 +17,12 @@ use Rattle.ee_desk_model.specs.Repeats.{Content}
 use Rattle.ee_desk_model.proofs.Lemmas.Maps.{serials_total, serials_exact}
 use Rattle.ee_desk_soundness.proofs.Lemmas.{all_entries}
 use Rattle.ee_store_tables.proofs.Lemmas.Rows.{pair_total, pair_same}
-use Rattle.ee_store_contents.proofs.Lemmas.{sorted_entries, right_bond_is_keyed, head_of, tail_of}
+use Rattle.ee_store_books.proofs.Lemmas.Contents.{sorted_entries, right_bond_is_keyed, head_of, tail_of}
 use Rattle.ee_store_tables.specs.declared.records.UnpaidBond.{UnpaidBond}
 use Rattle.ee_store_tables.specs.AsRows.{unpaid_bond_of}
 use Rattle.ee_store_tables.specs.Keyed.{pair_cmp}
 use Rattle.ee_store_tables.specs.Rows.{BondRow, unpaid_of}
-use Rattle.ee_store_contents.specs.Standing.{rows_of, bond_rows, bond_row, key_of, IsRight}
+use Rattle.ee_store_books.specs.Standing.{rows_of, bond_rows, bond_row, key_of, IsRight}
 use Rattle.ee_store_queries.specs.Asking.{unpaid_row}
 
 -- ---- the rows of bonds, in order

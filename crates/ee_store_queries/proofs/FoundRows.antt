@@ -12,7 +12,7 @@ use Rattle.ee_calculator.specs.declared.bonds.Bond.{Bond}
 use Rattle.ee_desk_model.specs.Queries.{plain_row, row_of}
 use Rattle.ee_desk_model.specs.Views.{picked}
 use Rattle.ee_desk_model.proofs.Lemmas.Maps.{get_named, all_weaker}
-use Rattle.ee_store_lookups.proofs.Lemmas.{same_found}
+use Rattle.ee_store_books.proofs.Lemmas.Lookups.{same_found}
 
 pub rows_found : (rates : FinMap nat_cmp Rates) (periods : List ℕ) (month : ℕ) (bonds : List Bond)
     → AllByRecursion (λ (bond : Bond). list_any (eq_by_cmp nat_cmp (period_start bond.issued)) periods ≡ true) bonds

@@ -22,13 +22,13 @@ use Rattle.ee_store_tables.specs.declared.records.UnpaidBond.{UnpaidBond}
 use Rattle.ee_store_tables.specs.AsRows.{placed_of}
 use Rattle.ee_store_tables.specs.Rows.{TicketRow, lines_on, HasRoomIn}
 use Rattle.ee_store_tables.proofs.Lemmas.Transactions.{clean_before, begun, rolled_keeps}
-use Rattle.ee_store_contents.specs.Standing.{rows_of, paid_row, IsRight}
+use Rattle.ee_store_books.specs.Standing.{rows_of, paid_row, IsRight}
 use Rattle.ee_store_tables.specs.declared.failures.Failure.{Failure}
 use Rattle.ee_store_tables.specs.Statements.{LeavesNoMore, IsExcused, CommitsNothing}
-use Rattle.ee_store_lookups.specs.Causes.{FailsByCause, IsReady}
+use Rattle.ee_store_books.specs.Causes.{FailsByCause, IsReady}
 use Rattle.ee_store_queries.specs.Asking.{AnswersOrFails, row_of_placed, unpaid_row, KeepsContent, KeepsRoom}
 use Rattle.ee_store_queries.proofs.FoundTickets.{ticket_found}
-use Rattle.ee_store_lookups.proofs.Lemmas.{excused, inside_content, sees_content, still_content}
+use Rattle.ee_store_books.proofs.Lemmas.Lookups.{excused, inside_content, sees_content, still_content}
 
 -- ---- tickets
 all_found : {A : Type 0} (P : A → Type 0) (p : A → Bool) (xs : List A) → AllByRecursion P xs → IfSome (list.find p xs) P

@@ -8,8 +8,8 @@ use Rattle.ee_desk_model.specs.Repeats.{Content}
 use Rattle.ee_store_tables.specs.declared.records.PlacedLine.{PlacedLine}
 use Rattle.ee_store_tables.specs.declared.records.UnpaidBond.{UnpaidBond}
 use Rattle.ee_store_tables.specs.Rows.{PaidRow, HasRoom}
-use Rattle.ee_store_lookups.specs.Seen.{HasContent}
-use Rattle.ee_store_lookups.specs.Causes.{IsReady}
+use Rattle.ee_store_books.specs.Seen.{HasContent}
+use Rattle.ee_store_books.specs.Causes.{IsReady}
 use Rattle.ee_store_tables.specs.Statements.{IsExcused}
 use Rattle.ee_store_tables.specs.declared.failures.Failure.{Failure}
 

@@ -7,8 +7,8 @@ ghost use Rattle.ee_desk_model.specs.Queries.{ticket_numbered, batch_on, bonds_o
 ghost use Rattle.ee_store_tables.specs.AsRows.{Fits};
 ghost use Rattle.ee_store_tables.specs.Statements.{StaysInside, CommitsNothing, LeavesNoMore};
 ghost use Rattle.ee_keeper.specs.Keeping.{IsInventory, IsQuote};
-ghost use Rattle.ee_store_lookups.specs.Causes.{FailsByCause, IsReady};
-ghost use Rattle.ee_store_lookups.specs.Seen.{FindsIn, LeavesRows};
+ghost use Rattle.ee_store_books.specs.Causes.{FailsByCause, IsReady};
+ghost use Rattle.ee_store_books.specs.Seen.{FindsIn, LeavesRows};
 ghost use Rattle.ee_store_queries.specs.Asking.{AnswersOrFails, ShowsContent, KeepsContent, KeepsRoom};
 
 use crate::from_rows::{batch_shown, bonds_shown, ticket_shown};
@@ -16,7 +16,7 @@ use crate::periods::periods_in;
 use ee_calculator::{Bond, Row, Sheet, sheet};
 use ee_desk::{quote, rows_of};
 use ee_desk_model::{Batch, Ticket, UnitTables};
-use ee_store_lookups::{find_terms, terms_in, tickets_in};
+use ee_store_books::{find_terms, terms_in, tickets_in};
 use ee_store_tables::{Failure, bonds_of_owner, find_batch, find_ticket, ticket_lines};
 use ee_units::calendar::period_of;
 use ee_units::{Customer, Day, Denom, IssueMonth, Month};

@@ -5,13 +5,13 @@ use Rattle.ee_desk_model.specs.declared.changes.Change.{Change}
 use Rattle.ee_desk_texts.specs.Texts.{act_text, reply_text}
 use Rattle.ee_store_tables.specs.Rows.{Sees, ReplyRow, with_answer, FitsRow}
 use Rattle.ee_store_tables.proofs.Lemmas.Transactions.{clean_before}
-use Rattle.ee_store_contents.specs.Standing.{rows_of, reply_row}
+use Rattle.ee_store_books.specs.Standing.{rows_of, reply_row}
 use Rattle.ee_store_delivery.specs.Written.{applied_rows, CanWriteAll, all_added_rows}
 use Rattle.ee_store_delivery.proofs.Served.{is_decided}
-use Rattle.ee_store_lookups.proofs.Lemmas.{handed_on, excused_later, leaves_then}
+use Rattle.ee_store_books.proofs.Lemmas.Lookups.{handed_on, excused_later, leaves_then}
 use Rattle.ee_store_delivery.proofs.Writable.{can_write, answers_stay}
 use Rattle.ee_store_tables.proofs.Lemmas.Causes.{room_less}
-use Rattle.ee_store_contents.proofs.Lemmas.{get_reply_row}
+use Rattle.ee_store_books.proofs.Lemmas.Contents.{get_reply_row}
 use Rattle.ee_desk_model.specs.declared.changes.Effects.{Effects}
 use Rattle.std.specs.FinMap as finite
 use Rattle.std.specs.Option.{option_map}

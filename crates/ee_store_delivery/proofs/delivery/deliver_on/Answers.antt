@@ -5,14 +5,14 @@ use Rattle.ee_desk_model.specs.Repeats.{Content}
 use Rattle.ee_desk_model.specs.Contents.{content_after}
 use Rattle.ee_desk_model.specs.Answers.{answer}
 use Rattle.ee_store_tables.proofs.Lemmas.Transactions.{clean_before, on_err_from, rolled_keeps, failed_keeps, commit_survives}
-use Rattle.ee_store_lookups.specs.Seen.{StandsFor, HasContent}
+use Rattle.ee_store_books.specs.Seen.{StandsFor, HasContent}
 use Rattle.ee_store_delivery.specs.Known.{AreKnown, IsInformed}
 use Rattle.ee_store_delivery.proofs.NewNumbers.{known_stays}
 use Rattle.ee_store_delivery.proofs.Informed.{excused_by_known, began_clean, known_in}
-use Rattle.ee_store_lookups.proofs.Lemmas.{inside_content, sees_content, still_content, committed_content, stands_when_open, excused_later, commit_excused, handed_on, excused}
+use Rattle.ee_store_books.proofs.Lemmas.Lookups.{inside_content, sees_content, still_content, committed_content, stands_when_open, excused_later, commit_excused, handed_on, excused}
 use Rattle.ee_store_tables.specs.Failures.{failure_of}
 use Rattle.ee_store_tables.specs.Statements.{IsExcused}
-use Rattle.ee_store_lookups.specs.Causes.{IsReady}
+use Rattle.ee_store_books.specs.Causes.{IsReady}
 use Rattle.ee_store_delivery.specs.Causes.{TakesRequestRoom, DeliversOrFails}
 use Rattle.ee_store_delivery.proofs.RoomAfter.{begun_with, rolled_room, failed_room, ready_then, committed_with}
 use Rattle.ee_store_delivery.proofs.delivery.deliver_on.Goals as goal

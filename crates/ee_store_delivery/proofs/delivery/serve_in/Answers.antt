@@ -7,12 +7,12 @@ use Rattle.ee_desk_model.specs.Numbers.{number_of}
 use Rattle.ee_desk_texts.specs.Texts.{act_text}
 use Rattle.ee_store_tables.specs.AsRows.{row_of_reply}
 use Rattle.ee_store_tables.proofs.Lemmas.Transactions.{clean_before, unchanged_sees, unchanged_inside}
-use Rattle.ee_store_contents.specs.Standing.{rows_of, IsKept}
-use Rattle.ee_store_lookups.specs.Seen.{SeesContent}
+use Rattle.ee_store_books.specs.Standing.{rows_of, IsKept}
+use Rattle.ee_store_books.specs.Seen.{SeesContent}
 use Rattle.ee_store_delivery.proofs.Served.{is_again, known_again, is_new, is_first, known_first, kept_by}
-use Rattle.ee_store_contents.proofs.Lemmas.{get_reply_row, kept_texts}
+use Rattle.ee_store_books.proofs.Lemmas.Contents.{get_reply_row, kept_texts}
 use Rattle.ee_store_tables.proofs.Lemmas.Causes.{room_less, unchanged_room}
-use Rattle.ee_store_lookups.proofs.Lemmas.{statement_failed, memory_handed_on, handed_on, excused_later}
+use Rattle.ee_store_books.proofs.Lemmas.Lookups.{statement_failed, memory_handed_on, handed_on, excused_later}
 use Rattle.ee_store_delivery.proofs.delivery.serve_in.Goals as goal
 
 pub returns-in-Some-clause-serves : goal.returns-in-Some-clause-serves

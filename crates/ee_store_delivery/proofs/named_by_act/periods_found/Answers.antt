@@ -4,7 +4,7 @@ use Rattle.std.specs.List.{cons_option}
 use Rattle.std.specs.FinMap as finite
 use Rattle.ee_units.specs.Spelling.{SerialNumber}
 use Rattle.ee_desk_model.specs.Views.{period_of_held}
-use Rattle.ee_store_lookups.specs.Found.{bonds_found}
+use Rattle.ee_store_books.specs.Found.{bonds_found}
 use Rattle.ee_store_delivery.proofs.Named.{found_next}
 use Rattle.ee_store_delivery.proofs.named_by_act.periods_found.Goals as goal
 

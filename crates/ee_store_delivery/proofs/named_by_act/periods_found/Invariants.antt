@@ -3,7 +3,7 @@ use Rattle.std.specs.Option.{option_map}
 use Rattle.std.specs.List.{filter_map}
 use Rattle.std.specs.FinMap as finite
 use Rattle.ee_desk_model.specs.Views.{period_of_held}
-use Rattle.ee_store_lookups.specs.Found.{bonds_found}
+use Rattle.ee_store_books.specs.Found.{bonds_found}
 use Rattle.ee_store_delivery.proofs.named_by_act.periods_found.Given as goal
 
 abbrev pub invariant-loop-serial : goal.invariant-loop-serial

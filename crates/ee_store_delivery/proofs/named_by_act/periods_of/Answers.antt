@@ -6,7 +6,7 @@ use Rattle.ee_units.specs.Spelling.{SerialNumber}
 use Rattle.std.proofs.lemmas.Result.{IfOk-weaker}
 use Rattle.ee_desk_model.specs.Seen.{held_of}
 use Rattle.ee_desk_model.specs.Views.{picked, period_of_held, serials_of, periods_of}
-use Rattle.ee_store_lookups.specs.Found.{bonds_found}
+use Rattle.ee_store_books.specs.Found.{bonds_found}
 use Rattle.ee_store_delivery.proofs.Named.{periods_named}
 use Rattle.ee_store_delivery.proofs.named_by_act.periods_of.Goals as goal
 

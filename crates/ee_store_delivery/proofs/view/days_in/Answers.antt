@@ -1,9 +1,9 @@
 use Rattle.std.proofs.Common.{rules, ◌∙◌}
 use Rattle.sqlite.specs.Held.{state}
 use Rattle.std.proofs.lemmas.Result.{IfOk-weaker}
-use Rattle.ee_store_contents.proofs.Lemmas.{get_desk_row, parts_in_range}
-use Rattle.ee_store_contents.specs.Standing.{rows_of}
-use Rattle.ee_store_lookups.proofs.Lemmas.{always, statement_failed, served, unchanged_rows}
+use Rattle.ee_store_books.proofs.Lemmas.Contents.{get_desk_row, parts_in_range}
+use Rattle.ee_store_books.specs.Standing.{rows_of}
+use Rattle.ee_store_books.proofs.Lemmas.Lookups.{always, statement_failed, served, unchanged_rows}
 use Rattle.ee_store_delivery.proofs.view.days_in.Goals as goal
 
 pub returns-clause-found : goal.returns-clause-found

@@ -1,9 +1,9 @@
 use Rattle.std.proofs.Common.{rules, ◌∙◌}
 use Rattle.sqlite.specs.Held.{state}
 use Rattle.ee_store_tables.proofs.Lemmas.Transactions.{clean_before}
-use Rattle.ee_store_contents.specs.Standing.{rows_of}
-use Rattle.ee_store_lookups.specs.Seen.{SeesContent}
-use Rattle.ee_store_lookups.proofs.Lemmas.{seen_then, excused_later, handed_on}
+use Rattle.ee_store_books.specs.Standing.{rows_of}
+use Rattle.ee_store_books.specs.Seen.{SeesContent}
+use Rattle.ee_store_books.proofs.Lemmas.Lookups.{seen_then, excused_later, handed_on}
 use Rattle.ee_store_delivery.proofs.view.desk_in.Goals as goal
 
 pub returns-clause-found : goal.returns-clause-found

@@ -4,9 +4,9 @@ use Rattle.sqlite.specs.Held.{state}
 use Rattle.ee_desk_model.specs.Seen.{held_of}
 use Rattle.ee_desk_model.specs.Views.{picked, serials_of}
 use Rattle.ee_store_tables.proofs.Lemmas.Transactions.{clean_before}
-use Rattle.ee_store_contents.specs.Standing.{rows_of}
-use Rattle.ee_store_lookups.specs.Seen.{SeesContent}
-use Rattle.ee_store_lookups.proofs.Lemmas.{handed_on, excused_later, seen_then}
+use Rattle.ee_store_books.specs.Standing.{rows_of}
+use Rattle.ee_store_books.specs.Seen.{SeesContent}
+use Rattle.ee_store_books.proofs.Lemmas.Lookups.{handed_on, excused_later, seen_then}
 use Rattle.ee_store_delivery.proofs.view.keys_in.Goals as goal
 
 pub returns-clause-found : goal.returns-clause-found

@@ -4,10 +4,10 @@ use Rattle.std.specs.FinMap as finite
 use Rattle.std.specs.FinMap.{nat_cmp-IsAntisymmetric}
 use Rattle.sqlite.specs.Held.{state}
 use Rattle.ee_store_tables.proofs.Lemmas.Transactions.{clean_before}
-use Rattle.ee_store_contents.specs.Standing.{rows_of}
-use Rattle.ee_store_lookups.specs.Seen.{SeesContent}
-use Rattle.ee_store_lookups.specs.Found.{with_found}
-use Rattle.ee_store_lookups.proofs.Lemmas.{found_next, nothing_done, done_then, excused_later, seen_then, handed_on}
+use Rattle.ee_store_books.specs.Standing.{rows_of}
+use Rattle.ee_store_books.specs.Seen.{SeesContent}
+use Rattle.ee_store_books.specs.Found.{with_found}
+use Rattle.ee_store_books.proofs.Lemmas.Lookups.{found_next, nothing_done, done_then, excused_later, seen_then, handed_on}
 use Rattle.ee_store_delivery.proofs.view.terms_for.Goals as goal
 
 pub loop-period-init : goal.loop-period-init

@@ -5,9 +5,9 @@ use Rattle.sqlite.specs.State.{HasCleanDisk}
 use Rattle.ee_desk_model.specs.Views.{picked}
 use Rattle.ee_desk_model.specs.Repeats.{Content}
 use Rattle.ee_store_tables.specs.Rows.{Rows, IsInside, Sees}
-use Rattle.ee_store_lookups.specs.Found.{terms_found}
-use Rattle.ee_store_lookups.specs.Seen.{SeesContent, StaysSeen}
-use Rattle.ee_store_lookups.proofs.Lemmas.{Stays}
+use Rattle.ee_store_books.specs.Found.{terms_found}
+use Rattle.ee_store_books.specs.Seen.{SeesContent, StaysSeen}
+use Rattle.ee_store_books.proofs.Lemmas.Lookups.{Stays}
 use Rattle.ee_store_delivery.specs.Known.{AreTermsOf}
 use Rattle.ee_store_delivery.proofs.view.terms_for.Given as goal
 

@@ -1,5 +1,5 @@
 use Rattle.std.proofs.Common.{sym, subst}
-use Rattle.ee_store_lookups.specs.Found.{terms_found}
+use Rattle.ee_store_books.specs.Found.{terms_found}
 use Rattle.ee_store_delivery.specs.Known.{AreTermsOf}
 use Rattle.ee_store_delivery.proofs.Knowing.{learned}
 use Rattle.ee_store_delivery.proofs.view.terms_of.Goals as goal

@@ -2,9 +2,9 @@ use Rattle.std.proofs.Common.{rules, ◌∙◌, ap, sym}
 use Rattle.sqlite.specs.Held.{state}
 use Rattle.std.proofs.lemmas.Result.{IfOk-weaker}
 use Rattle.ee_store_tables.proofs.Lemmas.Transactions.{clean_before}
-use Rattle.ee_store_contents.specs.Standing.{rows_of}
-use Rattle.ee_store_lookups.specs.Seen.{SeesContent}
-use Rattle.ee_store_lookups.proofs.Lemmas.{always, seen_then, excused_later, served, handed_on}
+use Rattle.ee_store_books.specs.Standing.{rows_of}
+use Rattle.ee_store_books.specs.Seen.{SeesContent}
+use Rattle.ee_store_books.proofs.Lemmas.Lookups.{always, seen_then, excused_later, served, handed_on}
 use Rattle.ee_desk_model.specs.Views.{needed_unless}
 use Rattle.ee_store_delivery.proofs.view.view_within.Goals as goal
 

@@ -5,7 +5,7 @@ use Rattle.ee_store_tables.specs.Rows.{Sees, BatchRow, with_day, with_batch}
 use Rattle.ee_store_tables.specs.AsRows.{row_of_batch}
 use Rattle.ee_store_tables.proofs.Lemmas.Transactions.{clean_before}
 use Rattle.ee_store_tables.proofs.Lemmas.Causes.{room_less}
-use Rattle.ee_store_lookups.proofs.Lemmas.{statement_failed}
+use Rattle.ee_store_books.proofs.Lemmas.Lookups.{statement_failed}
 use Rattle.ee_store_delivery.proofs.WriteCauses.{later_failed}
 use Rattle.ee_store_delivery.proofs.writing.write_batch.Goals as goal
 

@@ -2,7 +2,7 @@ use Rattle.std.proofs.Common.{◌+◌, arith, subst}
 use Rattle.sqlite.specs.Held.{state}
 use Rattle.ee_store_tables.specs.Rows.{Sees, with_bond}
 use Rattle.ee_store_tables.proofs.Lemmas.Causes.{room_less}
-use Rattle.ee_store_lookups.proofs.Lemmas.{statement_failed}
+use Rattle.ee_store_books.proofs.Lemmas.Lookups.{statement_failed}
 use Rattle.ee_store_delivery.proofs.writing.write_bond.Goals as goal
 
 pub returns-clause-written : goal.returns-clause-written

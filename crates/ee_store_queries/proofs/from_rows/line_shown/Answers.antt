@@ -1,5 +1,5 @@
 use Rattle.std.proofs.Common.{Some, None}
-use Rattle.ee_store_contents.proofs.Lemmas.{serial_read, serial_fits}
+use Rattle.ee_store_books.proofs.Lemmas.Contents.{serial_read, serial_fits}
 use Rattle.ee_store_queries.proofs.from_rows.line_shown.Goals as goal
 
 pub returns-in_err-serial-clause-read : goal.returns-in_err-serial-clause-read

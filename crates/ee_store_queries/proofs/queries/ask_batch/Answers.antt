@@ -1,7 +1,7 @@
 use Rattle.std.proofs.Common.{sym, ap, subst, ◌∙◌}
 use Rattle.sqlite.specs.Held.{state}
 use Rattle.ee_store_queries.specs.Asking.{KeepsContent, KeepsRoom, AnswersOrFails}
-use Rattle.ee_store_lookups.specs.Causes.{IsReady}
+use Rattle.ee_store_books.specs.Causes.{IsReady}
 use Rattle.ee_store_queries.proofs.QueryCauses.{read_fails, read_ready, read_keeps, read_room}
 use Rattle.ee_store_queries.proofs.queries.ask_batch.Goals as goal
 

@@ -1,9 +1,9 @@
 use Rattle.std.proofs.Common.{ap, ◌∙◌}
 use Rattle.std.specs.FinMap as finite
 use Rattle.sqlite.specs.Held.{state}
-use Rattle.ee_store_contents.specs.Standing.{rows_of}
+use Rattle.ee_store_books.specs.Standing.{rows_of}
 use Rattle.ee_store_queries.proofs.FoundTickets.{batch_found}
-use Rattle.ee_store_lookups.proofs.Lemmas.{statement_failed}
+use Rattle.ee_store_books.proofs.Lemmas.Lookups.{statement_failed}
 use Rattle.ee_store_queries.proofs.queries.batch_in.Goals as goal
 
 pub returns-clause-found : goal.returns-clause-found

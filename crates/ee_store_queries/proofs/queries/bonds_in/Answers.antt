@@ -4,8 +4,8 @@ use Rattle.ee_desk_model.specs.Queries.{bonds_of}
 use Rattle.ee_store_tables.specs.AsRows.{unpaid_bond_of}
 use Rattle.ee_store_tables.specs.Rows.{unpaid_of}
 use Rattle.std.proofs.lemmas.Result.{IfOk-weaker}
-use Rattle.ee_store_contents.specs.Standing.{rows_of}
-use Rattle.ee_store_lookups.proofs.Lemmas.{always, statement_failed, memory_alone, unchanged_rows}
+use Rattle.ee_store_books.specs.Standing.{rows_of}
+use Rattle.ee_store_books.proofs.Lemmas.Lookups.{always, statement_failed, memory_alone, unchanged_rows}
 use Rattle.ee_store_queries.proofs.FoundBonds.{bonds_found, bonds_rows}
 use Rattle.ee_store_queries.proofs.QueryCauses.{bonds_fit}
 use Rattle.ee_store_queries.proofs.queries.bonds_in.Goals as goal

@@ -3,8 +3,8 @@ use Rattle.std.specs.Option.{option_map}
 use Rattle.sqlite.specs.Held.{state}
 use Rattle.ee_store_tables.specs.AsRows.{row_of_ticket}
 use Rattle.ee_store_tables.proofs.Lemmas.Transactions.{clean_before, unchanged_inside, unchanged_sees}
-use Rattle.ee_store_contents.specs.Standing.{rows_of}
-use Rattle.ee_store_lookups.proofs.Lemmas.{excused_later, statement_failed, handed_on, memory_handed_on}
+use Rattle.ee_store_books.specs.Standing.{rows_of}
+use Rattle.ee_store_books.proofs.Lemmas.Lookups.{excused_later, statement_failed, handed_on, memory_handed_on}
 use Rattle.ee_store_queries.proofs.FoundTickets.{no_ticket, ticket_found}
 use Rattle.ee_store_queries.proofs.QueryCauses.{ticket_fits}
 use Rattle.ee_store_queries.proofs.queries.find_numbered.Goals as goal

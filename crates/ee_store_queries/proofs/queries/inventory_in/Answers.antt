@@ -4,9 +4,9 @@ use Rattle.sqlite.specs.Held.{state}
 use Rattle.ee_desk_model.specs.Queries.{row_of, sheet_of}
 use Rattle.ee_desk.proofs.Lemmas.{sheet_shows_rows}
 use Rattle.ee_store_tables.proofs.Lemmas.Transactions.{clean_before}
-use Rattle.ee_store_contents.specs.Standing.{rows_of}
-use Rattle.ee_store_lookups.specs.Seen.{SeesContent}
-use Rattle.ee_store_lookups.proofs.Lemmas.{excused_later, handed_on}
+use Rattle.ee_store_books.specs.Standing.{rows_of}
+use Rattle.ee_store_books.specs.Seen.{SeesContent}
+use Rattle.ee_store_books.proofs.Lemmas.Lookups.{excused_later, handed_on}
 use Rattle.ee_store_queries.proofs.queries.inventory_in.Goals as goal
 
 pub returns-clause-found : goal.returns-clause-found

@@ -3,7 +3,7 @@ use Rattle.sqlite.specs.Closing.{IsCopied}
 use Rattle.sqlite.specs.Files.{IsClosed, file_state}
 use Rattle.sqlite.specs.FileStore.{recovers}
 use Rattle.ee_desk_laws.proofs.Lemmas.{leaves_as_before}
-use Rattle.ee_store_lookups.specs.Seen.{StandsFor}
+use Rattle.ee_store_books.specs.Seen.{StandsFor}
 use Rattle.ee_store.proofs.AtRest.{at_rest}
 use Rattle.ee_store.proofs.History.{rests_after}
 use Rattle.ee_store.proofs.ending.SqlKeeper+FileStore+D.close_files.Goals as goal

@@ -5,7 +5,7 @@ use Rattle.ee_desk_model.specs.declared.refusals.Unserved.TheVariants as unserve
 use Rattle.ee_store_tables.specs.Statements.{IsExcused}
 use Rattle.ee_store_tables.specs.declared.failures.Failure.{Failure}
 use Rattle.ee_store_tables.specs.declared.failures.Failure.TheVariants.{NoMemory, StoreFailed}
-use Rattle.ee_store_lookups.proofs.Lemmas.{stands_committed}
+use Rattle.ee_store_books.proofs.Lemmas.Lookups.{stands_committed}
 use Rattle.ee_store.specs.Served.{unserved_as}
 use Rattle.ee_store.proofs.Following.{follows_decided}
 use Rattle.ee_store.proofs.History.{goes_decided, goes_lost, goes_unserved}

@@ -1,0 +1,3 @@
+-- Lemmas that the proofs of crates above use.
+pub mod Contents
+pub mod Lookups

@@ -1,0 +1,146 @@
+-- Lemmas that the proofs of crates above use: the rows of contents.
+use Rattle.std.proofs.Common.{List, Option, Some, map, ℕ, ◌≡◌, ◌≤◌, IfSome}
+use Rattle.std.specs.Cmp.{IsTotalOrder}
+use Rattle.std.specs.FinMap.{FinMap, IsAntisymmetric, entries, from_entries, is_sorted}
+use Rattle.std.specs.Option.{option_and_then, option_map}
+use Rattle.std.specs.Ordering.{nat_cmp}
+use Rattle.std.specs.Prelude.{T, flat_map, IsSome}
+use Rattle.std.specs.declared.cmp.Ordering.{Ordering}
+use Rattle.ee_desk_model.specs.Numbers.{number_cmp, Number}
+use Rattle.ee_desk_model.specs.Seen.{held_as}
+use Rattle.ee_desk_model.specs.Serials.{serial_cmp}
+use Rattle.ee_desk_model.specs.Sound.{IsRightBond, NumberedFrom}
+use Rattle.ee_desk_model.specs.declared.changes.Kept.{Kept}
+use Rattle.ee_desk_model.specs.declared.replies.Ticket.{Ticket}
+use Rattle.ee_calculator.specs.declared.bonds.Bond.{Bond}
+use Rattle.ee_store_books.specs.Contents.{PartsFit}
+use Rattle.ee_desk_soundness.specs.Parts.{parts_of}
+use Rattle.ee_desk_model.specs.Repeats.{Content}
+use Rattle.ee_store_books.specs.Standing.{bond_row, bond_rows, desk_rows, extension_rows, key_of, paid_rows, rate_rows, reply_row, reply_rows, ticket_rows, IsRight, StandAt, rows_at, rows_of}
+use Rattle.ee_store_schema.specs.declared.forms.Form.{Form}
+use Rattle.ee_store_schema.specs.Forms.{version_of}
+use Rattle.ee_store_schema.specs.Migrating.{become}
+use Rattle.ee_store_books.proofs.Becoming
+use Rattle.ee_units.specs.Denoms.{dollars, denom_with}
+use Rattle.ee_units.specs.Spelling.{SerialNumber, ◌>>=◌, in_range, serial_at}
+use Rattle.ee_units.specs.declared.denoms.Denom.{Denom}
+use Rattle.ee_value.specs.Chain.{rates_with, named_extension}
+use Rattle.ee_value.specs.declared.rates.Rates.{Rates}
+use Rattle.std.specs.FinMap as finite
+use Rattle.ee_desk_texts.specs.Ranges.{IsSerial}
+use Rattle.ee_store_tables.specs.Rows.{Rows, IsText}
+use Rattle.ee_store_load.specs.Opening.{AreReadable, IsOfForm}
+use Rattle.ee_store_books.proofs.Images
+use Rattle.ee_store_books.proofs.OneContent
+use Rattle.ee_store_books.proofs.Orders
+use Rattle.ee_store_books.proofs.ReadBack
+use Rattle.ee_store_books.proofs.ReadValues
+use Rattle.ee_store_books.proofs.Readable
+use Rattle.ee_store_books.proofs.RowsOfBooks
+pub use Rattle.ee_store_books.proofs.Orders.{ticket_entry, ticket_lines, batch_entry}
+pub use Rattle.ee_store_books.proofs.OneContent.{head_of, tail_of}
+pub use Rattle.ee_units.proofs.Lemmas.{same_denom}
+
+-- ---- rows at their keys
+-- the row of the desk
+pub get_desk_row : (version : ℕ) (day last_day : Option ℕ) → finite.get (desk_rows version day last_day) 1 ≡ Some (record { version = version; day = day; last_day = last_day })
+get_desk_row = Images.get_desk
+
+-- the row of a period is that of its rates
+pub get_rate_row : (rates : FinMap nat_cmp Rates) (period : ℕ) → finite.get (rate_rows rates) period ≡ option_map (λ rates. rates.fixed)
+    (finite.get rates period)
+get_rate_row = Images.get_rate
+
+-- the extension of a period is that which its rates name
+pub get_extension_row : (rates : FinMap nat_cmp Rates) (period : ℕ) → finite.get (extension_rows rates) period ≡ option_and_then named_extension
+    (finite.get rates period)
+get_extension_row = Images.get_extension
+
+-- the terms of a period are those of its fixed rate and its extension
+pub get_terms : (rates : FinMap nat_cmp Rates) (period : ℕ)
+    → finite.get rates period ≡ option_map (λ fixed. rates_with fixed (finite.get (extension_rows rates) period)) (finite.get (rate_rows rates) period)
+get_terms = Images.get_terms
+
+-- the row of a serial number is that of its bond, with its ticket
+pub get_bond_row : (bonds : FinMap serial_cmp Bond) (tickets : List Ticket) (serial : SerialNumber)
+    → finite.get (bond_rows bonds tickets) (key_of serial) ≡ option_map (λ bond. bond_row (held_as tickets serial bond)) (finite.get bonds serial)
+get_bond_row = Images.get_bond
+
+-- the row of a desk's number is that of its reply
+pub get_reply_row : (kept : FinMap number_cmp Kept) (number : Number) → finite.get (reply_rows kept) number ≡ option_map reply_row (finite.get kept number)
+get_reply_row = Images.get_reply
+
+-- ---- rows in order
+-- the rows of numbered tickets are theirs, one after the other
+pub ticket_entries : (tickets : List Ticket) → NumberedFrom 1 tickets → entries (ticket_rows tickets) ≡ map ticket_entry tickets
+ticket_entries = Orders.ticket_entries
+
+-- the rows of their lines are theirs, ticket after ticket
+pub paid_entries : (tickets : List Ticket) → NumberedFrom 1 tickets → entries (paid_rows tickets) ≡ flat_map ticket_lines tickets
+paid_entries = Orders.paid_entries
+
+-- the entries of a map of sorted entries are these
+pub sorted_entries : {K X : Type 0} {R : K → K → Ordering} → IsTotalOrder R → IsAntisymmetric R → (es : List (K × X)) → T (is_sorted R es)
+    → entries (from_entries {R = R} es) ≡ es
+sorted_entries = Images.sorted_entries
+
+-- ---- values
+-- the parts of a right content are in range
+pub parts_in_range : (content : Content) → IsRight content → PartsFit (parts_of content.books)
+parts_in_range = RowsOfBooks.parts_in_range
+
+-- a right bond has the serial number that it stands at
+pub right_bond_is_keyed : (rates : FinMap nat_cmp Rates) (s : SerialNumber) (o : Option Bond) → IfSome o (IsRightBond rates s)
+    → IfSome o (λ bond. bond.serial ≡ s)
+right_bond_is_keyed = OneContent.keyed
+
+-- if one step after another gave a value, each step gave one
+pub some_from_bind : {A B : Type 0} (o : Option A) (f : A → Option B) (y : B) → (o >>= f) ≡ Some y → (x : A) × (o ≡ Some x) × (f x ≡ Some y)
+some_from_bind = ReadBack.bind_is
+
+-- ---- plain numbers of rows are read
+-- a number that is read in a range is that number
+pub number_read : (low high n : ℕ) (o : Option ℕ) → o ≡ in_range low high n → IfSome o (λ m. m ≡ n)
+number_read = ReadValues.number_read
+
+-- a number in the range is read
+pub number_fits : (low high n : ℕ) (o : Option ℕ) → o ≡ in_range low high n → low ≤ n → n ≤ high → IsSome o
+number_fits = ReadValues.number_fits
+
+-- a serial number that is read has that letter and that number
+pub serial_read : (letter number : ℕ) (o : Option SerialNumber) → o ≡ serial_at letter number → IfSome o (λ s. (s.letter ≡ letter) × (s.number ≡ number))
+serial_read = ReadValues.serial_read
+
+-- a serial number in range is read
+pub serial_fits : (letter number : ℕ) (o : Option SerialNumber) → o ≡ serial_at letter number → IsSerial (record { letter = letter; number = number }) → IsSome o
+serial_fits = ReadValues.serial_fits
+
+-- a denomination that is read has those dollars
+pub denom_read : (n : ℕ) → IfSome (denom_with n) (λ d. dollars d ≡ n)
+denom_read = ReadValues.denom_read
+
+-- a denomination's dollars are read
+pub denom_fits : (d : Denom) → IsSome (denom_with (dollars d))
+denom_fits = ReadValues.denom_fits
+
+-- ---- the rows of a content are read
+-- the rows of a content can be read
+pub readable : (form : Form) (content : Content) → IsRight content → AreReadable form (rows_at (version_of form) content)
+readable = Readable.readable
+
+-- the texts that a content keeps are UTF-8
+pub kept_texts : (content : Content) → IsRight content → (n : Number) → IfSome (finite.get (rows_of content).answers n) IsText
+kept_texts = Readable.kept_texts
+
+-- rows represent one content at most
+pub one_content : (version : ℕ) (rows : Rows) (one other : Content) → StandAt version rows one → StandAt version rows other → one ≡ other
+one_content = OneContent.one_content
+
+-- ---- the rows of version 1
+-- the rows of a content in some form become its rows of version 2
+pub becomes : (form : Form) (content : Content) → become form (rows_at (version_of form) content) ≡ rows_of content
+becomes = Becoming.becomes
+
+-- rows of a form that become those of a content are its rows in that form
+pub is_at : (form : Form) (content : Content) → IsOfForm form (rows_at (version_of form) content)
+is_at = Becoming.is_at

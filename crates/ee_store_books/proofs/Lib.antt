@@ -1,0 +1,21 @@
+mod Images
+mod Orders
+mod OneContent
+mod ReadBack
+mod RatesBack
+mod RowsOfBooks
+mod NotedMarks
+mod KeptRows
+mod Founded
+mod KeptTables
+mod FoundParts
+mod ReadValues
+mod Readable
+mod Becoming
+mod ByKeys
+mod Causes
+mod DaySums
+mod HandedOn
+mod InTurn
+mod Transactions
+pub mod Lemmas

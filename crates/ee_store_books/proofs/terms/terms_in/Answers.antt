@@ -1,0 +1,50 @@
+use Rattle.std.proofs.Common.{refl, sym, ap, ◌∙◌}
+use Rattle.std.specs.Cmp.{nat_cmp_total}
+use Rattle.std.specs.FinMap as finite
+use Rattle.std.specs.FinMap.{nat_cmp-IsAntisymmetric}
+use Rattle.sqlite.specs.Held.{state}
+use Rattle.ee_store_tables.proofs.Lemmas.Transactions.{clean_before}
+use Rattle.ee_store_books.specs.Standing.{rows_of}
+use Rattle.ee_store_books.specs.Seen.{SeesContent}
+use Rattle.ee_store_books.specs.Found.{with_found}
+use Rattle.ee_store_books.proofs.ByKeys.{found_next}
+use Rattle.ee_store_books.proofs.InTurn.{nothing_done, done_then}
+use Rattle.ee_store_books.proofs.Causes.{excused_later, seen_then}
+use Rattle.ee_store_books.proofs.HandedOn.{handed_on}
+use Rattle.ee_store_books.proofs.terms.terms_in.Goals as goal
+
+pub loop-period-init : goal.loop-period-init
+loop-period-init g c = record { same_reference = refl; stays = nothing_done (state g.S.Store c.args.tx.now.conn.now); rows = λ _ _ rows sees. (sees, λ n room. room); found = λ _ _ _ _. c.no_terms-found.ensures }
+
+pub loop-period-preserved : goal.loop-period-preserved
+loop-period-preserved g c =
+    let old = state g.S.Store c.args.tx.now.conn.now in
+    let middle = state g.S.Store c.loop-period.tx.conn.now in
+    let new = state g.S.Store c.find_terms.new.tx.conn.now in
+    let was = c.loop-period.invariant in
+    record {
+      same_reference = c.find_terms.ensures.same_reference ∙ was.same_reference;
+      stays = done_then old middle new was.stays c.find_terms.ensures.only_reads.crash c.find_terms.ensures.only_reads.commit c.in_ok-terms.ensures.only_reads.still_open c.in_ok-terms.ensures.only_reads.inside;
+      rows = λ clean inside rows sees.
+          let before = clean_before middle new c.find_terms.ensures.only_reads.crash clean in
+          seen_then old middle new rows (was.rows before inside rows sees) (c.in_ok-terms.ensures.only_reads.rows clean (was.stays.inside before inside) rows);
+      found = λ clean inside S sees.
+          let before = clean_before middle new c.find_terms.ensures.only_reads.crash clean in
+          let still : SeesContent middle S = record { right = sees.right; rows = (was.rows before inside (rows_of S) sees.rows).0 } in
+          let terms = c.in_ok-terms.ensures.found clean (was.stays.inside before inside) S still in
+          c.in_ok-note_terms.ensures
+          ∙ (λ i. with_found (was.found before inside S sees i) (c.period-item.is i) ((terms ∙ ap (finite.get S.books.rates) c.period-item.is) i))
+          ∙ sym (found_next nat_cmp_total nat_cmp-IsAntisymmetric (finite.get S.books.rates) c.args.periods.now c.loop-period.period-index c.period-item.result c.loop-period-test.true);
+    }
+
+pub returns-in_err-terms-clause-cause : goal.returns-in_err-terms-clause-cause
+returns-in_err-terms-clause-cause g c clean inside endless S sees _ =
+    let old = state g.S.Store c.args.tx.now.conn.now in
+    let middle = state g.S.Store c.loop-period.tx.conn.now in
+    let new = state g.S.Store c.find_terms.new.tx.conn.now in
+    let was = c.loop-period.invariant in
+    let before = clean_before middle new c.find_terms.ensures.only_reads.crash clean in
+    let still : SeesContent middle S = record { right = sees.right; rows = (was.rows before inside (rows_of S) sees.rows).0 } in
+    handed_on _ c.from_residual.result c.in_err-terms.field-0.0 c.from_residual.ensures.1
+    (excused_later old middle new clean was.stays.crash c.find_terms.ensures.only_reads.crash _
+    (c.in_err-terms.ensures.cause clean (was.stays.inside before inside) (was.stays.crash.limit ∙ endless) S still tt))
