@@ -18,7 +18,7 @@ ghost use Rattle.ee_counter.specs.Serving.{Told, AreAnswered, left_by_all, messa
 /// Two keepers with the same content give the same answers, such as a keeper in memory and one with tables: two
 /// lists of right answers to the same requests, if each request is served, are equal and leave the same
 /// content.
-pub const fn same_answers()
+pub const fn same_answers_law()
     ensures answers { (c : Content) (requests : List Request) (one other : List (Result Reply Unserved))
         → AreAnswers c [] requests one → AreAnswers c [] requests other
         → AllByRecursion IsServed one → AllByRecursion IsServed other → one ≡ other }
@@ -28,7 +28,7 @@ pub const fn same_answers()
 {}
 
 /// The content determines the bytes of the response to a message: two right answers have the same text.
-pub const fn one_text()
+pub const fn one_text_law()
     ensures { (c : Content) (message : Message) (one other : Answer) (closing : Bool)
         → IsAnswer c (call_of message) one → IsAnswer c (call_of message) other
         → answer_text one closing ≡ answer_text other closing }
@@ -36,7 +36,7 @@ pub const fn one_text()
 
 /// The bytes of a connection and the content before determine what it writes: for the same number of messages,
 /// each answered and none with 503, the responses have the same text.
-pub const fn one_stream()
+pub const fn one_stream_law()
     ensures { (c : Content) (bytes rest other_rest : List ℕ) (one other : List Told)
         → BeginsMessages bytes (messages one) rest → BeginsMessages bytes (messages other) other_rest
         → length one ≡ length other → AreAnswered c one → AreAnswered c other
@@ -45,6 +45,6 @@ pub const fn one_stream()
 
 /// What a connection leaves is what its requests leave, except those answered with 503. Everything that holds
 /// for lists of requests applies to them.
-pub const fn served_requests()
+pub const fn served_requests_law()
     ensures { (c : Content) (told : List Told) → left_by_all c told ≡ content_after c (requests_in told) }
 {}

@@ -12,6 +12,6 @@ mod soundness;
 pub use answering::answer_message;
 pub use connections::{Ended, MOST_MESSAGES, Why, serve};
 pub use files::{ExportFault, ImportFault, export_inventory, import_inventory, import_rates};
-pub use laws::{one_stream, one_text, same_answers, served_requests};
+pub use laws::{one_stream_law, one_text_law, same_answers_law, served_requests_law};
 pub use requests::run;
 pub use soundness::known;

@@ -16,5 +16,5 @@ pub use ee_desk_model::{
     Act, Batch, Change, Effects, Held, Kept, Line, Number, RateRow, Refusal, Reply, Request, Rows,
     Terms, Ticket, UnitTables, Unserved,
 };
-pub use ee_desk_soundness::{Parts, PartsFault, parts_tell};
+pub use ee_desk_soundness::{Parts, PartsFault, parts_law};
 pub use sheets::{quote, rows_of};

@@ -16,7 +16,7 @@ ghost use Rattle.ee_desk_laws.specs.Runs.{TellsServed, RunsAsEvents};
 ///   number that the start didn't keep has taken effect exactly once. Every reply is the answer: that of
 ///   the first request with its number, or `NumberReused` for another act.
 /// - `leads_on`: such events do happen, so no clause holds for want of a case.
-pub const fn stops_and_retries()
+pub const fn stops_and_retries_law()
     ensures survives { SurvivesStops }
     ensures acknowledged { HoldsAcknowledged }
     ensures settles { SettlesByRetries }
@@ -30,7 +30,7 @@ pub const fn stops_and_retries()
 /// - each request gets the same reply, except for the numbers of new tickets;
 /// - the same lines are paid, with the same serial numbers and cents, possibly in another order;
 /// - the same `CloseDay` after them gets the same reply, so the same batch.
-pub const fn tellers_interleaved()
+pub const fn tellers_interleaved_law()
     ensures { Interleaved }
 {}
 
@@ -40,7 +40,7 @@ pub const fn tellers_interleaved()
 ///   be interleaved.
 /// - `events`: a run is a list of events, each request delivered or unserved, and leads to the content
 ///   after the served requests. So stops and retries may come before and after it.
-pub const fn runs_as_events()
+pub const fn runs_as_events_law()
     ensures told { TellsServed }
     ensures events { RunsAsEvents }
 {}

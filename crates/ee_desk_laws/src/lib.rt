@@ -5,5 +5,5 @@
 mod laws;
 mod stores;
 
-pub use laws::{runs_as_events, stops_and_retries, tellers_interleaved};
-pub use stores::{StoreOfContents, ties_to_stores};
+pub use laws::{runs_as_events_law, stops_and_retries_law, tellers_interleaved_law};
+pub use stores::{StoreOfContents, ties_to_stores_law};

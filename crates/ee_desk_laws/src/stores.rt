@@ -26,7 +26,7 @@ pub trait StoreOfContents {
 /// - `as_before`: a query, if a crash leaves what it could leave before.
 /// - `reopened`: a crash, and a store opened on what it left, if that store leaves what represents the
 ///   same. This is a stop and a reopening, with the content that was found.
-pub const fn ties_to_stores<S: StoreOfContents>()
+pub const fn ties_to_stores_law<S: StoreOfContents>()
     ensures new { LeavesNew S.stands S.may_leave }
     ensures kept { LeavesKept S.stands S.may_leave }
     ensures unserved { LeavesUnserved S.stands S.may_leave }

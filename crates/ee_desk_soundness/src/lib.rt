@@ -12,7 +12,7 @@ mod parts;
 mod register;
 
 pub use checks::{Indexes, checked};
-pub use laws::parts_tell;
+pub use laws::parts_law;
 pub use lists::{copy_tickets, held_bonds, rate_rows};
 pub use marks::mark_all;
 pub use parts::{Parts, PartsFault};

@@ -12,7 +12,7 @@ ghost use Rattle.ee_store.specs.Ended.{RestsIn};
 ghost use Rattle.ee_store.specs.History.{RestsAfter};
 
 use crate::keeper::SqlKeeper;
-use crate::laws::whole_history;
+use crate::laws::whole_history_law;
 use sqlite::{Connection, FileStore, Files};
 use sqlite_disk::Disk;
 
@@ -36,7 +36,7 @@ impl<D: Disk + Drop> SqlKeeper<FileStore<D>> {
     /// - `at_rest`: the database file alone, without its log, is then a store of the content: as the files read,
     ///   and as a crash may leave them.
     /// - `history`: whatever has happened since the store was new, that content is the one of requests that were
-    ///   sent, each acting once, and each reply that was given is still the answer (`whole_history`).
+    ///   sent, each acting once, and each reply that was given is still the answer (`whole_history_law`).
     /// - `left`, `follows`: if it fails, a crash leaves what it could leave before, so what the next command finds
     ///   still follows the events.
     ///
@@ -49,7 +49,7 @@ impl<D: Disk + Drop> SqlKeeper<FileStore<D>> {
         ensures left { IfErr result (λ store. (db : Trees) → recovers store db → (file_state self.conn).may_leave db) }
         ensures follows { IfErr result (λ store. (w : World) → FollowsWorld (file_state self.conn) w → Leaves StandsFor (recovers store) w) }
     {
-        whole_history::<D, D>();
+        whole_history_law::<D, D>();
         let _schema = self.conn.schema();
         match self.into_connection().close_files() {
             Ok(files) => Ok(files),

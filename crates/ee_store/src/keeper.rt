@@ -20,7 +20,7 @@ ghost use Rattle.ee_store.specs.Served.{FollowsWorld};
 ghost use Rattle.ee_store.specs.History.{Goes};
 
 use crate::failures::unserved;
-use ee_desk_laws::{StoreOfContents, ties_to_stores};
+use ee_desk_laws::{StoreOfContents, ties_to_stores_law};
 use ee_desk_model::{Reply, Request, UnitTables, Unserved};
 use ee_store_delivery::{Known, deliver_on};
 use sqlite::{Alter, Connection};
@@ -50,7 +50,7 @@ impl<S: Alter> SqlKeeper<S> {
     /// - `durable`: after the reply to a number that wasn't kept, a crash leaves only the new rows.
     /// - `again`: after the reply to a kept number, a crash leaves what it could leave before.
     /// - `decided`, `unserved`: so the store follows the events of the law of stops and retries.
-    /// - `goes`: and they are its events in its whole history (`whole_history`).
+    /// - `goes`: and they are its events in its whole history (`whole_history_law`).
     /// - `ready`, `room`, `cause`: it takes requests as before, with room for at most 501 rows less. If its store
     ///   was ready, with that room, and the texts fit a row, the answer is `StoreFailed` only if the device failed
     ///   once more, or the store was shut before.
@@ -83,7 +83,7 @@ impl<S: Alter> SqlKeeper<S> {
             × Goes (state S.Store self.old.conn) (Lose request.now ∷ []) (state S.Store self.new.conn))
             (λ cause. Goes (state S.Store self.old.conn) (NotServed request.now ∷ []) (state S.Store self.new.conn)) }
     {
-        ties_to_stores::<SqlKeeper<S>>();
+        ties_to_stores_law::<SqlKeeper<S>>();
         match deliver_on(
             &mut self.conn,
             self.alloc,

@@ -10,7 +10,7 @@ mod opening;
 mod queries;
 
 pub use adopting::NotAdopted;
-pub use ee_store_books::one_content;
+pub use ee_store_books::one_content_law;
 pub use ee_store_schema::OpenFault;
 pub use keeper::SqlKeeper;
 pub use opening::{NotOpened, Rest, open_as};

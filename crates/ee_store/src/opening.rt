@@ -44,7 +44,7 @@ pub struct NotOpened<S: Alter, L> {
 ///   content that the store had, as `SqlKeeper::adopt` says.
 /// - `informed`: the cache is correct, as `SqlKeeper::adopt` says.
 /// - `follows`: if the file held a database that represents a content which a crash might leave, by the law of
-///   stops and retries, the keeper has it and goes on from there. The law `next_run` joins both runs.
+///   stops and retries, the keeper has it and goes on from there. The law `next_run_law` joins both runs.
 /// - `refused`: for a connection that is refused the same is said: why, and what the call left.
 /// - `fault`: a file that `sqlite` doesn't open is neither `WrongVersion` nor `Unusable`.
 /// - `left`: what is left of that file recovers to what was there or, if there was no database, to none or an
@@ -115,7 +115,7 @@ impl<D: Disk + Drop> SqlKeeper<FileStore<D>> {
     ///
     /// - `leaves`: any two files that a crash might have left of the keeper hold a database which represents a
     ///   content that the crash might leave, by the law of stops and retries.
-    /// - `numbered`: its trees had the numbers under which `sqlite` lists them, as the law `next_run` needs.
+    /// - `numbered`: its trees had the numbers under which `sqlite` lists them, as the law `next_run_law` needs.
     pub fn stop(self) -> FileStore<D>
         ensures numbered { IsClean (view result) → IsNumbered self.conn }
         ensures leaves { IsClean (view result) → LeavesStanding self.conn }

@@ -7,6 +7,6 @@ ghost use Rattle.ee_store_books.specs.Standing.{StandAt};
 
 /// The rows of a version represent at most one content: the same books, and the same act and reply for each
 /// desk and number.
-pub const fn one_content()
+pub const fn one_content_law()
     ensures { (version : ℕ) (rows : Rows) (one other : Content) → StandAt version rows one → StandAt version rows other → one ≡ other }
 {}

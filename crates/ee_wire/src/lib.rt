@@ -11,6 +11,6 @@ pub use answers::{Answer, WriteEnd};
 pub use ee_wire_calls::{Call, Field, Query, Routes, WireFault, decode, decode_with};
 pub use ee_wire_framing::{
     BODY_LIMIT, BUFFER_LIMIT, Buffer, FramingFault, HEAD_LIMIT, HEADER_LIMIT, Message, Next, Span,
-    WireEnd, next_message, one_split,
+    WireEnd, next_message, one_split_law,
 };
 pub use writing::write_reply;

@@ -9,7 +9,7 @@ use crate::{BODY_LIMIT, BUFFER_LIMIT, FEW_HEADERS, FramingFault, HEAD_LIMIT, HEA
 use httparse::spans::{EMPTY_HEADER_SPAN, HeaderSpan};
 
 /// The limits in the code equal those in the definitions.
-pub const fn limits()
+pub const fn limits_law()
     ensures head { HEAD_LIMIT ≡ most_head }
     ensures fields { HEADER_LIMIT ≡ most_fields }
     ensures body { BODY_LIMIT ≡ most_body }
@@ -17,7 +17,7 @@ pub const fn limits()
 {}
 
 /// A stream can be split in only one way.
-pub const fn one_split()
+pub const fn one_split_law()
     ensures { (bytes : List ℕ) (ms ns : List Message) (d e : Ending) → Splits bytes ms d → Splits bytes ns e → (ms ≡ ns) × (d ≡ e) }
 {}
 
@@ -29,7 +29,7 @@ fn front_of(bytes: &[u8], headers: &mut [HeaderSpan]) -> Front
 }
 
 /// Every slice of bytes splits into messages, followed by nothing or by this fault.
-pub fn every_split(bytes: &[u8]) -> Option<FramingFault>
+pub fn every_split_law(bytes: &[u8]) -> Option<FramingFault>
     ensures { (ms : List Message) × Splits bytes.now ms (ending_of result) }
 {
     let mut headers = [EMPTY_HEADER_SPAN; FEW_HEADERS];

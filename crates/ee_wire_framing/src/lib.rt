@@ -10,7 +10,7 @@ mod laws;
 
 pub use buffer::{Buffer, Message, Next, Stop, WireEnd, next_message};
 pub use httparse::spans::Span;
-pub use laws::{every_split, limits, one_split};
+pub use laws::{every_split_law, limits_law, one_split_law};
 use thiserror::Error;
 
 /// The maximum length of a head in bytes.

@@ -14,7 +14,7 @@ returns-in-Ok-clause-at_rest g c = λ clean content has.
 
 pub returns-in-Ok-clause-history : goal.returns-in-Ok-clause-history
 returns-in-Ok-clause-history g c =
-    rests_after c.args.self.conn c.in-Ok.files c.whole_history.ensures.content
+    rests_after c.args.self.conn c.in-Ok.files c.whole_history_law.ensures.content
     (λ clean content has. at_rest c.args.self.conn c.in-Ok.files content c.schema-schema.ensures.live (subst (λ conn. IsCopied conn c.in-Ok.files) c.into_connection.ensures (c.in-Ok.ensures.copied clean)) has)
 
 pub returns-in-Err-clause-at_rest : goal.returns-in-Err-clause-at_rest

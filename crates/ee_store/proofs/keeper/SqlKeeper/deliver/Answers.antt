@@ -36,7 +36,7 @@ returns-in-Err-clause-unserved g c clean informed w follows =
     let later = record c.args.self.now { conn = c.deliver_on.new.conn } in
     let failed = c.in-Err.ensures.failed clean w.now follows.0 in (
       failed,
-      c.ties_to_stores.ensures.unserved c.args.self.now later w c.args.request.now (λ db may. elim (c.in-Err.ensures.crash.crash clean db may) [
+      c.ties_to_stores_law.ensures.unserved c.args.self.now later w c.args.request.now (λ db may. elim (c.in-Err.ensures.crash.crash clean db may) [
         | inl before ↦ inl before
         | inr after ↦ inr (after informed w.now follows.0)
       ]) follows.1,

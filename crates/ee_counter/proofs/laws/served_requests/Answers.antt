@@ -1,5 +1,0 @@
-use Rattle.ee_counter.proofs.Same.{all_left}
-use Rattle.ee_counter.proofs.laws.served_requests.Goals as goal
-
-pub returns : goal.returns
-returns c = λ d told. all_left d told

@@ -1,5 +1,0 @@
-use Rattle.ee_desk_model.proofs.Inventories.{own_alone}
-use Rattle.ee_desk_model.proofs.laws.shows_own_bonds_alone.Goals as goal
-
-pub returns : goal.returns
-returns c = own_alone

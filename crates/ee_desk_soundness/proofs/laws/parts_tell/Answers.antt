@@ -1,5 +1,0 @@
-use Rattle.ee_desk_soundness.proofs.SoundParts as lemma
-use Rattle.ee_desk_soundness.proofs.laws.parts_tell.Goals as goal
-
-pub returns : goal.returns
-returns c = lemma.parts_tell
