@@ -34,7 +34,7 @@ pub fn write_sheet<W: Sink>(sheet: &Sheet, writer: &mut W) -> Result<(), WriteFa
 
 /// A line of a sheet.
 #[derive(Clone, Copy)]
-enum Line<'a> {
+enum SheetLine<'a> {
     Heading,
     Row(&'a Row),
     Totals(&'a Sheet),
@@ -45,7 +45,7 @@ fn write_lines<W: Sink>(sheet: &Sheet, writer: &mut W) -> bool
     ensures written { WritesFront (W.contents writer.old) (W.contents writer.new) (sheet_text sheet.now) result }
     ensures failed { result ≡ false → W.may_have_failed writer.new }
 {
-    write_rows_below_heading(sheet, writer) && write_line(writer, Line::Totals(sheet))
+    write_rows_below_heading(sheet, writer) && write_line(writer, SheetLine::Totals(sheet))
 }
 
 fn write_rows_below_heading<W: Sink>(sheet: &Sheet, writer: &mut W) -> bool
@@ -53,7 +53,7 @@ fn write_rows_below_heading<W: Sink>(sheet: &Sheet, writer: &mut W) -> bool
         (line_text heading_cell ++ flat_map (λ row. line_text (row_cell row)) sheet.now.rows.items) result }
     ensures failed { result ≡ false → W.may_have_failed writer.new }
 {
-    write_line(writer, Line::Heading) && write_rows(writer, &sheet.rows)
+    write_line(writer, SheetLine::Heading) && write_rows(writer, &sheet.rows)
 }
 
 fn write_rows<W: Sink>(writer: &mut W, rows: &[Row]) -> bool
@@ -62,14 +62,14 @@ fn write_rows<W: Sink>(writer: &mut W, rows: &[Row]) -> bool
     ensures failed { result ≡ false → W.may_have_failed writer.new }
 {
     for row in rows {
-        if !write_line(writer, Line::Row(row)) {
+        if !write_line(writer, SheetLine::Row(row)) {
             return false;
         }
     }
     true
 }
 
-fn write_line<W: Sink>(writer: &mut W, line: Line) -> bool
+fn write_line<W: Sink>(writer: &mut W, line: SheetLine) -> bool
     ensures written { WritesFront (W.contents writer.old) (W.contents writer.new) (line_text (cell_of line.entry)) result }
     ensures failed { result ≡ false → W.may_have_failed writer.new }
 {
@@ -77,7 +77,7 @@ fn write_line<W: Sink>(writer: &mut W, line: Line) -> bool
 }
 
 #[tactic(auto, unfolding(crate::specs::Sheets::line))]
-fn line_text(line: Line) -> LineText
+fn line_text(line: SheetLine) -> LineText
     ensures { result.bytes ≡ line_text (cell_of line.entry) }
 {
     let mut text = LineText::new();
@@ -86,7 +86,7 @@ fn line_text(line: Line) -> LineText
     text
 }
 
-fn push_cells(text: &mut LineText, line: Line, columns: &[Column])
+fn push_cells(text: &mut LineText, line: SheetLine, columns: &[Column])
     requires empty { text.old.bytes ≡ [] }
     requires few { length columns.now ≤ 11 }
     ensures text { text.new.bytes ≡ flat_map (λ column. placed column (cell_of line.entry column)) columns.now }
@@ -97,13 +97,13 @@ fn push_cells(text: &mut LineText, line: Line, columns: &[Column])
     }
 }
 
-fn cell(line: Line, column: Column) -> Cell
+fn cell(line: SheetLine, column: Column) -> Cell
     ensures text { result.bytes ≡ cell_of line.entry column }
     ensures short { length result.bytes ≤ 44 }
 {
     match line {
-        Line::Heading => heading(column),
-        Line::Row(row) => row_cell(row, column),
-        Line::Totals(sheet) => total_cell(sheet, column),
+        SheetLine::Heading => heading(column),
+        SheetLine::Row(row) => row_cell(row, column),
+        SheetLine::Totals(sheet) => total_cell(sheet, column),
     }
 }

@@ -3,7 +3,7 @@ use Rattle.std.specs.Prelude.{◌≡◌, ℕ, List, Option, Result, Ok, Err, tru
 use Rattle.ee_io.specs.Written.{WritesFront}
 use Rattle.ee_calculator.specs.Sheets.{sheet_text}
 use Rattle.ee_calculator.specs.declared.sheets.Sheet.{Sheet}
-use Rattle.ee_desk_model.specs.Numbers.{Number}
+use Rattle.ee_desk_model.specs.Numbers.{RequestKey}
 use Rattle.ee_desk_model.specs.Repeats.{Content}
 use Rattle.ee_desk_model.specs.declared.acts.Act.TheVariants as act
 use Rattle.ee_desk_model.specs.declared.replies.Reply.{Reply}
@@ -32,7 +32,7 @@ abbrev pub Applies : Option (List ℕ) → Option (List ℕ) → Option (List �
 Applies input left old new c result Has = (ended : Ended) × Serves input left old new c ended Has × (result ≡ ending_of ended)
 
 -- the rows of a file of this kind are one request under the number, or nothing is delivered
-abbrev pub ImportsFile : FileKind → Option (List ℕ) → Number → Content → Result Reply ImportFault → (Content → Type 0) → Type 0
+abbrev pub ImportsFile : FileKind → Option (List ℕ) → RequestKey → Content → Result Reply ImportFault → (Content → Type 0) → Type 0
 ImportsFile kind.Rates file number c answer Has = Imports rates_of_file act.AddRates file number c answer Has
 ImportsFile kind.Inventory file number c answer Has = Imports bonds_of_file act.AddBonds file number c answer Has
 
@@ -46,7 +46,7 @@ TellsReply old new (Ok reply) (Err (fault.Store cause)) = ⊥
 TellsReply old new (Err cause) result = (result ≡ Err (fault_of_import cause)) × (new ≡ old)
 
 -- the file is imported, and its reply is printed
-abbrev pub ImportsInto : FileKind → Option (List ℕ) → Option (List ℕ) → Option (List ℕ) → Number → Content → Result Outcome RunFault → (Content → Type 0) → Type 0
+abbrev pub ImportsInto : FileKind → Option (List ℕ) → Option (List ℕ) → Option (List ℕ) → RequestKey → Content → Result Outcome RunFault → (Content → Type 0) → Type 0
 ImportsInto kind file old new number c result Has =
     (answer : Result Reply ImportFault) × ImportsFile kind file number c answer Has × TellsReply old new answer result
 

@@ -3,7 +3,7 @@ use Rattle.std.specs.Prelude.{◌≡◌, ℕ, List, length, Option, Some, Result
 use Rattle.ee_io.specs.Written.{WritesFront}
 use Rattle.ee_desk_model.specs.declared.acts.Act.{Act}
 use Rattle.ee_desk_model.specs.declared.replies.Reply.{Reply}
-use Rattle.ee_desk_model.specs.Numbers.{Number, numbered}
+use Rattle.ee_desk_model.specs.Numbers.{RequestKey, numbered}
 use Rattle.ee_desk_model.specs.Repeats.{Content}
 use Rattle.ee_desk_model.specs.Queries.{bonds_of}
 use Rattle.ee_keeper.specs.Keeping.{Delivers}
@@ -25,7 +25,7 @@ abbrev pub Reads : {A : Type 0} → Reading A → Option (List ℕ) → Result (
 Reads rows_of known read = (source : List ℕ) → known ≡ Some source → Gives (λ rows. rows) read (rows_of source)
 
 -- the file's rows were delivered as one request under the desk and number, or nothing was delivered
-abbrev pub Imports : {A : Type 0} → Reading A → (List A → Act) → Option (List ℕ) → Number → Content → Result Reply ImportFault → (Content → Type 0) → Type 0
+abbrev pub Imports : {A : Type 0} → Reading A → (List A → Act) → Option (List ℕ) → RequestKey → Content → Result Reply ImportFault → (Content → Type 0) → Type 0
 Imports {A} rows_of act_of known number c (Ok reply) Has =
     (rows : List A) × Reads rows_of known (Ok rows) × Delivers c (numbered number (act_of rows)) (Ok reply) Has
 Imports rows_of act_of known number c (Err (import.File fault)) Has = Reads rows_of known (Err fault) × Has c

@@ -23,7 +23,7 @@ use Rattle.ee_desk_model.specs.declared.replies.Batch.{Batch}
 use Rattle.ee_desk_model.specs.Refusals.{refusal_of_day, most_tickets}
 use Rattle.ee_desk_model.specs.Outcomes.{act}
 use Rattle.ee_desk_model.specs.Effects as effects
-use Rattle.ee_desk_model.specs.Numbers.{Number, number_of}
+use Rattle.ee_desk_model.specs.Numbers.{RequestKey, number_of}
 use Rattle.ee_desk_model.specs.Repeats.{Content}
 use Rattle.ee_desk_model.specs.Contents.{content_after, books_after}
 use Rattle.ee_desk_model.specs.Answers.{answer, answer_for, answer_by, reply_again, is_of}
@@ -90,17 +90,17 @@ other_act (OpenDay d) r day is = absurd is
 other_act (CloseDay d) r day is = absurd is
 other_act (Redeem d payee ss) r day is = refl
 
-record FoundRedeem (n : Number) (L : List Request) : Type 0 where
+record FoundRedeem (n : RequestKey) (L : List Request) : Type 0 where
   found : Request
   pub is : find (is_of n) L ≡ Some found
   redeem : IsRedeem found.act
   any : list_any (is_of n) L ≡ true
 
-record FoundNone (n : Number) (L : List Request) : Type 0 where
+record FoundNone (n : RequestKey) (L : List Request) : Type 0 where
   pub is : find (is_of n) L ≡ None
   any : list_any (is_of n) L ≡ false
 
-find_redeem : (n : Number) (L : List Request) → AllByRecursion (λ q. IsRedeem q.act) L → FoundRedeem n L ⊎ FoundNone n L
+find_redeem : (n : RequestKey) (L : List Request) → AllByRecursion (λ q. IsRedeem q.act) L → FoundRedeem n L ⊎ FoundNone n L
 find_redeem n [] h = inr (record { is = refl; any = refl })
 find_redeem n (q ∷ L) h = by_case (is_of n q) refl (find_redeem n L h.1)
   where
@@ -166,7 +166,7 @@ module _ (S : Content) (tellers : List (List Request)) (are : AreTellers tellers
   redeems : (merge : List Asked) → IsMerge tellers merge → AllByRecursion (λ q. IsRedeem q.act) (requests merge)
   redeems merge m = all_requests S tellers are (λ q. IsRedeem q.act) merge (merge_redeems S tellers are merge m)
 
-  same_numbers : (n : Number) → list_any (is_of n) (requests one) ≡ list_any (is_of n) (requests other)
+  same_numbers : (n : RequestKey) → list_any (is_of n) (requests one) ≡ list_any (is_of n) (requests other)
   same_numbers n = list_any-IsPermutation (is_of n) (requests one) (requests other) (IsPermutation-map (λ (a : Asked). a.request) one other (same_merge S tellers are one other is at))
 
   pub closes : (q : Request) (day : ℕ) → q.act ≡ CloseDay day → answer S (requests one) q ≡ answer S (requests other) q

@@ -10,7 +10,7 @@ use Rattle.ee_desk_model.specs.declared.replies.Reply.{Reply}
 use Rattle.ee_desk_model.specs.declared.acts.Request.{Request}
 use Rattle.ee_desk_model.specs.Serials.{same_serial}
 use Rattle.ee_desk_model.specs.Refusals.{most_tickets}
-use Rattle.ee_desk_model.specs.Numbers.{Number, number_of}
+use Rattle.ee_desk_model.specs.Numbers.{RequestKey, number_of}
 use Rattle.ee_desk_model.proofs.Lemmas.Maps.{same_number-self, same_serial-self}
 use Rattle.ee_desk_model.specs.Repeats.{Content}
 use Rattle.ee_desk_model.specs.Contents.{books_after}
@@ -31,7 +31,7 @@ list_redeems (t ∷ tellers) h zero = h.0
 list_redeems (t ∷ tellers) h (suc i) = list_redeems tellers h.1 i
 
 -- ---- one teller's numbers and serials
-abbrev numbers_of : List Request → Number → Bool
+abbrev numbers_of : List Request → RequestKey → Bool
 numbers_of rs n = list_any (is_of n) rs
 
 abbrev has_serial : SerialNumber → Request → Bool
@@ -67,7 +67,7 @@ module _ (S : Content) (tellers : List (List Request)) (are : AreTellers tellers
   abbrev pub mine_of : ℕ → SerialNumber → Bool
   mine_of i = serials_in (list_of tellers i)
 
-  abbrev pub own_of : ℕ → Number → Bool
+  abbrev pub own_of : ℕ → RequestKey → Bool
   own_of i = numbers_of (list_of tellers i)
 
   pub merge_redeems : (merge : List Asked) → IsMerge tellers merge → (a : Asked) → In a merge → IsRedeem a.request.act

@@ -31,7 +31,7 @@ use Rattle.ee_desk_model.specs.Refusals.{first, first_of, when, repeated, refusa
 use Rattle.ee_desk_model.specs.Acts.{same_act, unless_refused}
 use Rattle.ee_desk_model.specs.Outcomes.{Outcome}
 use Rattle.ee_desk_model.specs.Effects as effects
-use Rattle.ee_desk_model.specs.Numbers.{Number, number_cmp, same_number, number_of, numbered}
+use Rattle.ee_desk_model.specs.Numbers.{RequestKey, number_cmp, same_number, number_of, numbered}
 use Rattle.ee_desk_model.proofs.Lemmas.Maps.{same_number-is, same_serial-is, all_append}
 use Rattle.ee_desk_laws.specs.Events.{one}
 use Rattle.ee_desk_model.proofs.Lemmas.Requests.{content_after-known, content_after-new, get_kept-insert, content_after-first, content_after-append, answer_after}
@@ -87,7 +87,7 @@ module _ (old : ℕ) where
           ∙ or_alike (unnumbered_refusal old) m t None None e refl
           ∙ sym (ap (λ f. option_map (unnumbered_refusal old) (option_or (when f DayFull) (option_or t None))) (room_t is))
 
-module _ (S : Content) (mine : SerialNumber → Bool) (own : Number → Bool) where
+module _ (S : Content) (mine : SerialNumber → Bool) (own : RequestKey → Bool) where
   abbrev pub before : ℕ
   before = length S.books.tickets
 
@@ -112,7 +112,7 @@ module _ (S : Content) (mine : SerialNumber → Bool) (own : Number → Bool) wh
     pub same : map blank (filter pays new_m) ≡ map blank new_t
     pub above_m : AllByRecursion Above new_m
     pub above_t : AllByRecursion Above new_t
-    pub kept : (n : Number) → own n ≡ true → option_map hidden (finite.get kept_m n) ≡ option_map hidden (finite.get kept_t n)
+    pub kept : (n : RequestKey) → own n ≡ true → option_map hidden (finite.get kept_m n) ≡ option_map hidden (finite.get kept_t n)
 
   names_mine : (s : SerialNumber) (lines : List Line) → mine s ≡ true → list_any (λ l. same_serial s l.serial) lines ≡ true → list_any (λ l. mine l.serial) lines ≡ true
   names_mine s [] m h = h
@@ -322,25 +322,25 @@ module _ (S : Content) (mine : SerialNumber → Bool) (own : Number → Bool) wh
     grown : length tickets_m ≤ length new_m + 1
 
   -- what a request leaves where its number wasn't kept
-  abbrev asked_new : Number → ℕ → ℕ → List SerialNumber → Request
+  abbrev asked_new : RequestKey → ℕ → ℕ → List SerialNumber → Request
   asked_new n day payee ss = numbered n (Redeem day payee ss)
 
   abbrev entry : List Ticket → ℕ → ℕ → List SerialNumber → Kept
   entry new day payee ss = record { act = Redeem day payee ss; reply = said new day payee ss (refusal new day payee ss) }
 
-  new_step : (new : List Ticket) (kept : FinMap number_cmp Kept) (n : Number) (day payee : ℕ) (ss : List SerialNumber) → finite.get kept n ≡ None
+  new_step : (new : List Ticket) (kept : FinMap number_cmp Kept) (n : RequestKey) (day payee : ℕ) (ss : List SerialNumber) → finite.get kept n ≡ None
       → one (with new kept) (asked_new n day payee ss) ≡ with (added new day payee ss (refusal new day payee ss)) (finite.insert kept n (entry new day payee ss))
   new_step new kept n day payee ss none =
       let e = act_by new day payee ss (refusal new day payee ss) in
       content_after-new (with new kept) (asked_new n day payee ss) (ap is_some none)
       ∙ (λ i. record { books = (e i).books; kept = finite.insert kept n (record { act = Redeem day payee ss; reply = (e i).reply }) })
 
-  new_reply : (new : List Ticket) (kept : FinMap number_cmp Kept) (n : Number) (day payee : ℕ) (ss : List SerialNumber) → finite.get kept n ≡ None
+  new_reply : (new : List Ticket) (kept : FinMap number_cmp Kept) (n : RequestKey) (day payee : ℕ) (ss : List SerialNumber) → finite.get kept n ≡ None
       → answer (with new kept) [] (asked_new n day payee ss) ≡ said new day payee ss (refusal new day payee ss)
   new_reply new kept n day payee ss none =
       ap (answer_for (with new kept) [] (asked_new n day payee ss)) none ∙ ap (λ (o : Outcome). o.reply) (act_by new day payee ss (refusal new day payee ss))
 
-  kept_more : (kept_m kept_t : FinMap number_cmp Kept) (n k : Number) (x y : Kept) → hidden x ≡ hidden y → option_map hidden (finite.get kept_m k) ≡ option_map hidden (finite.get kept_t k)
+  kept_more : (kept_m kept_t : FinMap number_cmp Kept) (n k : RequestKey) (x y : Kept) → hidden x ≡ hidden y → option_map hidden (finite.get kept_m k) ≡ option_map hidden (finite.get kept_t k)
       → option_map hidden (finite.get (finite.insert kept_m n x) k) ≡ option_map hidden (finite.get (finite.insert kept_t n y) k)
   kept_more kept_m kept_t n k x y e h =
       ap (option_map hidden) (get_kept-insert kept_m n x k) ∙ by_case (same_number k n) ∙ sym (ap (option_map hidden) (get_kept-insert kept_t n y k))
@@ -349,7 +349,7 @@ module _ (S : Content) (mine : SerialNumber → Bool) (own : Number → Bool) wh
       by_case true = ap Some e
       by_case false = h
 
-  kept_passed : (kept_m kept_t : FinMap number_cmp Kept) (n k : Number) (x : Kept) → own k ≡ true → own n ≡ false → option_map hidden (finite.get kept_m k) ≡ option_map hidden (finite.get kept_t k)
+  kept_passed : (kept_m kept_t : FinMap number_cmp Kept) (n k : RequestKey) (x : Kept) → own k ≡ true → own n ≡ false → option_map hidden (finite.get kept_m k) ≡ option_map hidden (finite.get kept_t k)
       → option_map hidden (finite.get (finite.insert kept_m n x) k) ≡ option_map hidden (finite.get kept_t k)
   kept_passed kept_m kept_t n k x mine_k not_n h = ap (option_map hidden) (get_kept-insert kept_m n x k) ∙ by_case (same_number k n) refl
     where
@@ -357,7 +357,7 @@ module _ (S : Content) (mine : SerialNumber → Bool) (own : Number → Bool) wh
       by_case true is = absurd (true≢false (sym mine_k ∙ ap own (same_number-is k n is) ∙ not_n))
       by_case false is = h
 
-  own_step : (n : Number) (a : Act) → IsRedeem a → own n ≡ true → AllByRecursion (λ s. mine s ≡ true) (serials_of a)
+  own_step : (n : RequestKey) (a : Act) → IsRedeem a → own n ≡ true → AllByRecursion (λ s. mine s ≡ true) (serials_of a)
       → (new_m new_t : List Ticket) (kept_m kept_t : FinMap number_cmp Kept) → Alike new_m new_t kept_m kept_t
       → ((day : ℕ) → S.books.day ≡ Some day → is_full new_m day ≡ false) → ((day : ℕ) → S.books.day ≡ Some day → is_full new_t day ≡ false)
       → Stepped (numbered n (a)) new_m new_t kept_m kept_t
@@ -406,7 +406,7 @@ module _ (S : Content) (mine : SerialNumber → Bool) (own : Number → Bool) wh
             grown = grows new_m day payee ss (refusal new_m day payee ss);
           }
 
-  other_step : (n : Number) (a : Act) → IsRedeem a → own n ≡ false → AllByRecursion (λ s. mine s ≡ false) (serials_of a)
+  other_step : (n : RequestKey) (a : Act) → IsRedeem a → own n ≡ false → AllByRecursion (λ s. mine s ≡ false) (serials_of a)
       → (new_m new_t : List Ticket) (kept_m kept_t : FinMap number_cmp Kept) → Alike new_m new_t kept_m kept_t → Passed (numbered n (a)) new_m new_t kept_m kept_t
   other_step n (AddRates rows) is o h new_m new_t kept_m kept_t a = absurd is
   other_step n (AddBonds bonds) is o h new_m new_t kept_m kept_t a = absurd is
@@ -560,7 +560,7 @@ module _ (S : Content) (mine : SerialNumber → Bool) (own : Number → Bool) wh
   made_all Q new day payee ss None makes h = all_append Q new (ticket_of_request new day payee ss ∷ []) h (makes refl, tt)
   made_all Q new day payee ss (Some r) makes h = h
 
-  made_one : (Q : Ticket → Type 0) (n : Number) (a : Act) → IsRedeem a → Makes Q a → (new : List Ticket) (kept : FinMap number_cmp Kept) → AllByRecursion Q new → Made Q (numbered n (a) ∷ []) new kept
+  made_one : (Q : Ticket → Type 0) (n : RequestKey) (a : Act) → IsRedeem a → Makes Q a → (new : List Ticket) (kept : FinMap number_cmp Kept) → AllByRecursion Q new → Made Q (numbered n (a) ∷ []) new kept
   made_one Q n (AddRates rows) is makes new kept h = absurd is
   made_one Q n (AddBonds bonds) is makes new kept h = absurd is
   made_one Q n (OpenDay day) is makes new kept h = absurd is

@@ -5,7 +5,7 @@ use Rattle.std.proofs.lemmas.List.Sums.{length-filter}
 use Rattle.std.specs.FinMap as finite
 use Rattle.std.proofs.Math.Bool.{or-true, or-false}
 use Rattle.ee_desk_model.specs.declared.acts.Request.{Request}
-use Rattle.ee_desk_model.specs.Numbers.{Number, same_number, number_of}
+use Rattle.ee_desk_model.specs.Numbers.{RequestKey, same_number, number_of}
 use Rattle.ee_desk_model.proofs.Lemmas.Maps.{same_number-is, same_number-self, all_weaker}
 use Rattle.ee_desk_model.specs.Repeats.{Content, firsts, once}
 use Rattle.ee_desk_model.specs.Contents.{content_after}
@@ -61,14 +61,14 @@ split (Stop_between ∷ events) again all h = split events again all h
 split (Reopen ∷ events) again all h = split events again all h
 
 -- the requests of a number that stand after one
-abbrev later : (Number → Bool) → Number → Request → List Request → List Request
+abbrev later : (RequestKey → Bool) → RequestKey → Request → List Request → List Request
 later known n q all = filter (is_of n) (firsts (λ m. known m || same_number m (number_of q)) all)
 
 abbrev IsOne : List Request → Type 0
 IsOne xs = (x : Request) × (xs ≡ x ∷ [])
 
 -- a known number stands no more
-stands_no_more : (known : Number → Bool) (n : Number) (all : List Request) → known n ≡ true → filter (is_of n) (firsts known all) ≡ []
+stands_no_more : (known : RequestKey → Bool) (n : RequestKey) (all : List Request) → known n ≡ true → filter (is_of n) (firsts known all) ≡ []
 stands_no_more known n [] h = refl
 stands_no_more known n (q ∷ all) h =
     by_case (known (number_of q)) (same_number n (number_of q)) refl refl (stands_no_more known n all h)
@@ -81,7 +81,7 @@ stands_no_more known n (q ∷ all) h =
     by_case false false e apart skip none = ap (λ c. cond c (q ∷ later known n q all) (later known n q all)) apart ∙ none
 
 -- a new number stands once
-stands_once : (known : Number → Bool) (n : Number) (all : List Request) → known n ≡ false → list_any (is_of n) all ≡ true → IsOne (filter (is_of n) (firsts known all))
+stands_once : (known : RequestKey → Bool) (n : RequestKey) (all : List Request) → known n ≡ false → list_any (is_of n) all ≡ true → IsOne (filter (is_of n) (firsts known all))
 stands_once known n [] new h = absurd (true≢false (sym h))
 stands_once known n (q ∷ all) new h =
     by_case (known (number_of q)) (same_number n (number_of q)) refl refl (stands_once known n all new)
@@ -100,10 +100,10 @@ stands_once known n (q ∷ all) new h =
         let m = more (ap (λ c. known n || c) apart ∙ or-false (known n) ∙ new) (sym (ap (λ c. c || list_any (is_of n) all) apart) ∙ h) in
         (m.0, ap (λ c. cond c (q ∷ later known n q all) (later known n q all)) apart ∙ m.1)
 
-counted : (n : Number) (xs : List Request) → IsOne (filter (is_of n) xs) → count_by (is_of n) xs ≡ 1
+counted : (n : RequestKey) (xs : List Request) → IsOne (filter (is_of n) xs) → count_by (is_of n) xs ≡ 1
 counted n xs h = sym (length-filter (is_of n) xs) ∙ ap (λ (l : List Request). length l) h.1
 
-any_append : (n : Number) (xs ys : List Request) → list_any (is_of n) ys ≡ true → list_any (is_of n) (xs ++ ys) ≡ true
+any_append : (n : RequestKey) (xs ys : List Request) → list_any (is_of n) ys ≡ true → list_any (is_of n) (xs ++ ys) ≡ true
 any_append n [] ys h = h
 any_append n (x ∷ xs) ys h = ap (λ b. is_of n x || b) (any_append n xs ys h) ∙ or-true (is_of n x)
 

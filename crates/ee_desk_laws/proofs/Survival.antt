@@ -8,7 +8,7 @@ use Rattle.ee_desk_model.specs.declared.refusals.Refusal.TheVariants.{NumberReus
 use Rattle.ee_desk_model.specs.declared.acts.Request.{Request}
 use Rattle.ee_desk_model.specs.declared.changes.Kept.{Kept}
 use Rattle.ee_desk_model.specs.Outcomes.{act}
-use Rattle.ee_desk_model.specs.Numbers.{Number, same_number, number_of}
+use Rattle.ee_desk_model.specs.Numbers.{RequestKey, same_number, number_of}
 use Rattle.ee_desk_model.proofs.Lemmas.Maps.{same_number-is, same_number-self, all_weaker}
 use Rattle.ee_desk_model.proofs.Lemmas.Requests.{content_after-known, content_after-new, get_kept-own, content_after-first, answer_after, get_kept-insert, same_act-self}
 use Rattle.ee_desk_model.specs.Repeats.{Content}
@@ -21,7 +21,7 @@ use Rattle.ee_desk_laws.specs.Events.Event.{Deliver, Lose, Unserved, Stop_within
 use Rattle.ee_desk_laws.proofs.Elements.{contained}
 
 -- what is kept before is kept after
-stays : (C : Content) (q : Request) (n : Number) (k : Kept) → finite.get C.kept n ≡ Some k → finite.get (one C q).kept n ≡ Some k
+stays : (C : Content) (q : Request) (n : RequestKey) (k : Kept) → finite.get C.kept n ≡ Some k → finite.get (one C q).kept n ≡ Some k
 stays C q n k had = by_case _ refl
   where
     other : (b : Bool) → same_number n (number_of q) ≡ b → finite.contains_key C.kept (number_of q) ≡ false → cond b (Some (record { act = q.act; reply = (act C.books q.act).reply })) (finite.get C.kept n) ≡ Some k
@@ -43,7 +43,7 @@ honours_more C q t h = record { kept = h.kept; is = stays C q (number_of t.reque
 
 -- one content that a crash may leave, with what is left to happen
 record Fine (Goal : Content → Type 0) (Rest : List Request → Type 0) (now : Content) (told : List Told) (C : Content) : Type 0 where
-  keeps : (n : Number) (k : Kept) → finite.get now.kept n ≡ Some k → finite.get C.kept n ≡ Some k
+  keeps : (n : RequestKey) (k : Kept) → finite.get now.kept n ≡ Some k → finite.get C.kept n ≡ Some k
   honours : AllByRecursion (Honours C) told
   ends : (done : List Request) → Rest done → Goal (content_after C done)
 

@@ -9,7 +9,7 @@ use Rattle.std.specs.Ordering.{eq_by_cmp}
 use Rattle.std.proofs.lemmas.Map.Views.{tells_apart}
 use Rattle.ee_desk_model.specs.declared.acts.Request.{Request}
 use Rattle.ee_desk_model.specs.declared.changes.Kept.{Kept}
-use Rattle.ee_desk_model.specs.Numbers.{Number, number_cmp, number_of}
+use Rattle.ee_desk_model.specs.Numbers.{RequestKey, number_cmp, number_of}
 use Rattle.ee_desk_model.specs.Outcomes.{act}
 use Rattle.ee_desk_model.specs.Repeats.{Content}
 use Rattle.ee_desk_model.specs.Contents.{content_after}
@@ -24,11 +24,11 @@ pub decided : (S now : Content) (q : Request) → finite.get S.kept (number_of q
 decided S now q none books kept = (λ i. record { books = books i; kept = kept i }) ∙ sym (one_new S q (ap is_some none))
 
 -- a number that wasn't kept, put in and taken out again
-pub forgotten : (kept : FinMap number_cmp Kept) (n : Number) (k : Kept) → finite.get kept n ≡ None → finite.remove (finite.insert kept n k) n ≡ kept
+pub forgotten : (kept : FinMap number_cmp Kept) (n : RequestKey) (k : Kept) → finite.get kept n ≡ None → finite.remove (finite.insert kept n k) n ≡ kept
 forgotten kept n k none = same_map numbers_total numbers_exact _ _ (λ m.
     get-remove numbers_total (finite.insert kept n k) n m ∙ ap (cond (eq_by_cmp number_cmp m n) None) (get-insert numbers_total kept n k m) ∙ by_case m (eq_by_cmp number_cmp m n) refl)
   where
-    by_case : (m : Number) (b : Bool) → eq_by_cmp number_cmp m n ≡ b → cond b None (cond b (Some k) (finite.get kept m)) ≡ finite.get kept m
+    by_case : (m : RequestKey) (b : Bool) → eq_by_cmp number_cmp m n ≡ b → cond b None (cond b (Some k) (finite.get kept m)) ≡ finite.get kept m
     by_case m true same = sym (ap (finite.get kept) (tells_apart numbers_exact m n same) ∙ none)
     by_case m false apart = refl
 
@@ -42,5 +42,5 @@ stays S q kept is = sym (one_known S q (ap is_some is))
 pub told_new : (S : Content) (q : Request) → finite.get S.kept (number_of q) ≡ None → (act S.books q.act).reply ≡ answer S [] q
 told_new S q none = sym (ap (answer_for S [] q) none)
 
-pub get_kept : (es : List (Number × Kept)) (n : Number) → finite.get (finite.from_entries {R = number_cmp} es) n ≡ lookup (is_at (number_cmp n)) es
+pub get_kept : (es : List (RequestKey × Kept)) (n : RequestKey) → finite.get (finite.from_entries {R = number_cmp} es) n ≡ lookup (is_at (number_cmp n)) es
 get_kept es n = get_lookup numbers_total es n

@@ -3,7 +3,7 @@ use Rattle.std.proofs.Common.{◌≡◌, Bool, true, false, cond, ◌||◌, List
 use Rattle.std.specs.Option.{is_some}
 use Rattle.std.specs.FinMap as finite
 use Rattle.std.specs.FinMap.{FinMap, get-insert}
-use Rattle.ee_desk_model.specs.Numbers.{Number, number_cmp, same_number, number_of}
+use Rattle.ee_desk_model.specs.Numbers.{RequestKey, number_cmp, same_number, number_of}
 use Rattle.ee_desk_model.proofs.RequestNumbers.{numbers_total, numbers_tied, number_is}
 use Rattle.ee_desk_model.specs.declared.acts.Request.{Request}
 use Rattle.ee_desk_model.specs.declared.changes.Kept.{Kept}
@@ -16,7 +16,7 @@ use Rattle.ee_desk_model.specs.Answers.{reply_again, is_of, before, answer_by, a
 abbrev pub one : Content → Request → Content
 one S q = content_after S (q ∷ [])
 
-pub get_more : (kept : FinMap number_cmp Kept) (n : Number) (k : Kept) (m : Number) → finite.get (finite.insert kept n k) m ≡ cond (same_number m n) (Some k) (finite.get kept m)
+pub get_more : (kept : FinMap number_cmp Kept) (n : RequestKey) (k : Kept) (m : RequestKey) → finite.get (finite.insert kept n k) m ≡ cond (same_number m n) (Some k) (finite.get kept m)
 get_more kept n k m = get-insert numbers_total kept n k m ∙ ap (λ b. cond b (Some k) (finite.get kept m)) (numbers_tied m n)
 
 some_or : {A : Type 0} (b : Bool) (k : A) (o : Option A) → is_some (cond b (Some k) o) ≡ (is_some o || b)
@@ -25,7 +25,7 @@ some_or true k (Some x) = refl
 some_or false k None = refl
 some_or false k (Some x) = refl
 
-pub known_more : (kept : FinMap number_cmp Kept) (n : Number) (k : Kept) (m : Number) → finite.contains_key (finite.insert kept n k) m ≡ (finite.contains_key kept m || same_number m n)
+pub known_more : (kept : FinMap number_cmp Kept) (n : RequestKey) (k : Kept) (m : RequestKey) → finite.contains_key (finite.insert kept n k) m ≡ (finite.contains_key kept m || same_number m n)
 known_more kept n k m = ap is_some (get_more kept n k m) ∙ some_or (same_number m n) k (finite.get kept m)
 
 -- the content after requests whose numbers are new and differ
@@ -50,7 +50,7 @@ step_known S q L e =
 step_new : (S : Content) (q : Request) (L : List Request) → finite.contains_key S.kept (number_of q) ≡ false → content_after S (q ∷ L) ≡ content_after (one S q) L
 step_new S q L e =
     ap (λ b. through S (cond b (once S L) (q ∷ firsts (λ n. finite.contains_key S.kept n || same_number n (number_of q)) L))) e
-    ∙ ap (λ (f : Number → Bool). through (noted_one S q) (firsts f L)) (λ i n. sym (known_more S.kept (number_of q) (record { act = q.act; reply = (act S.books q.act).reply }) n) i)
+    ∙ ap (λ (f : RequestKey → Bool). through (noted_one S q) (firsts f L)) (λ i n. sym (known_more S.kept (number_of q) (record { act = q.act; reply = (act S.books q.act).reply }) n) i)
     ∙ ap (λ T. content_after T L) (sym (one_new S q e))
 
 -- after a first request, the others go on from what it left
@@ -69,7 +69,7 @@ books_step : (S : Content) (q : Request) (L : List Request) → books_after S (q
 books_step S q L = ap (λ T. T.books) (content_step S q L)
 
 -- what a number has after a request of another number, or if it was kept
-pub kept_other : (S : Content) (r : Request) (n : Number) → same_number n (number_of r) ≡ false → finite.get (one S r).kept n ≡ finite.get S.kept n
+pub kept_other : (S : Content) (r : Request) (n : RequestKey) → same_number n (number_of r) ≡ false → finite.get (one S r).kept n ≡ finite.get S.kept n
 kept_other S r n apart =
     elim (finite.contains_key S.kept (number_of r)) as (λ b. finite.contains_key S.kept (number_of r) ≡ b → finite.get (one S r).kept n ≡ finite.get S.kept n) [
       | true ↦ λ e. ap (λ T. finite.get T.kept n) (one_known S r e)
@@ -77,7 +77,7 @@ kept_other S r n apart =
     ] refl
 
 -- what a number that wasn't kept has after its request
-pub kept_own : (S : Content) (r : Request) (n : Number) → finite.contains_key S.kept (number_of r) ≡ false → same_number n (number_of r) ≡ true → finite.get (one S r).kept n ≡ Some (record { act = r.act; reply = (act S.books r.act).reply })
+pub kept_own : (S : Content) (r : Request) (n : RequestKey) → finite.contains_key S.kept (number_of r) ≡ false → same_number n (number_of r) ≡ true → finite.get (one S r).kept n ≡ Some (record { act = r.act; reply = (act S.books r.act).reply })
 kept_own S r n new same =
     ap (λ T. finite.get T.kept n) (one_new S r new) ∙ get_more S.kept (number_of r) (record { act = r.act; reply = (act S.books r.act).reply }) n
     ∙ ap (λ b. cond b (Some (record { act = r.act; reply = (act S.books r.act).reply })) (finite.get S.kept n)) same
@@ -115,7 +115,7 @@ answer_known : (S : Content) (r : Request) (L : List Request) (q : Request) → 
 answer_known S r L q known k is = ap (answer_for S (r ∷ L) q) is ∙ sym (ap (answer_for (one S r) L q) (ap (λ T. finite.get T.kept (number_of q)) (one_known S r known) ∙ is))
 
 -- a number that isn't kept is another one than a kept one
-unkept_apart : (kept : FinMap number_cmp Kept) (m n : Number) → finite.contains_key kept n ≡ true → finite.get kept m ≡ None → (b : Bool) → same_number m n ≡ b → same_number m n ≡ false
+unkept_apart : (kept : FinMap number_cmp Kept) (m n : RequestKey) → finite.contains_key kept n ≡ true → finite.get kept m ≡ None → (b : Bool) → same_number m n ≡ b → same_number m n ≡ false
 unkept_apart kept m n known none true same = absurd (true≢false (sym known ∙ ap (λ k. finite.contains_key kept k) (sym (number_is m n same)) ∙ ap is_some none))
 unkept_apart kept m n known none false apart = apart
 

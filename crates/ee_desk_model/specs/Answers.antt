@@ -1,7 +1,7 @@
 -- The one answer to a request, given the requests before it.
 use Rattle.std.specs.Prelude.{◌≡◌, Bool, List, [], ◌∷◌, ◌++◌, find, Option, Some, None, Result, Ok, Err, ⊤, if◌then◌else◌}
 use Rattle.std.specs.FinMap as finite
-use Rattle.ee_desk_model.specs.Numbers.{Number, same_number, number_of}
+use Rattle.ee_desk_model.specs.Numbers.{RequestKey, same_number, number_of}
 use Rattle.ee_desk_model.specs.declared.acts.Act.{Act}
 use Rattle.ee_desk_model.specs.declared.acts.Request.{Request}
 use Rattle.ee_desk_model.specs.declared.replies.Reply.{Reply}
@@ -18,11 +18,11 @@ use Rattle.ee_desk_model.specs.Contents.{books_after}
 abbrev pub reply_again : Act → Reply → Act → Reply
 reply_again first reply again = if same_act first again then reply else Refused NumberReused
 
-abbrev pub is_of : Number → Request → Bool
+abbrev pub is_of : RequestKey → Request → Bool
 is_of number q = same_number number (number_of q)
 
 -- the requests before the first with this number
-abbrev pub before : Number → List Request → List Request
+abbrev pub before : RequestKey → List Request → List Request
 before number [] = []
 before number (q ∷ qs) = if same_number number (number_of q) then [] else q ∷ before number qs
 

@@ -2,7 +2,7 @@
 use Rattle.std.specs.Prelude.{Bool, ◌||◌, List, [], ◌∷◌, if◌then◌else◌}
 use Rattle.std.specs.FinMap as finite
 use Rattle.std.specs.FinMap.{FinMap}
-use Rattle.ee_desk_model.specs.Numbers.{Number, number_cmp, same_number, number_of}
+use Rattle.ee_desk_model.specs.Numbers.{RequestKey, number_cmp, same_number, number_of}
 use Rattle.ee_desk_model.specs.declared.acts.Request.{Request}
 use Rattle.ee_desk_model.specs.declared.changes.Kept.{Kept}
 use Rattle.ee_desk_model.specs.PlainBooks.{PlainBooks, no_books}
@@ -16,7 +16,7 @@ abbrev pub nothing : Content
 nothing = record { books = no_books; kept = finite.empty }
 
 -- the first request of each number that isn't known
-abbrev pub firsts : (Number → Bool) → List Request → List Request
+abbrev pub firsts : (RequestKey → Bool) → List Request → List Request
 firsts known [] = []
 firsts known (q ∷ qs) = if known (number_of q) then firsts known qs else q ∷ firsts (λ n. known n || (same_number n (number_of q))) qs
 

@@ -19,7 +19,9 @@ pub use acts::{Act, Request};
 pub use changes::{Change, Effects, Held, Kept};
 pub use desks::{Desk, read_desk};
 pub use ee_value::RateRow;
-pub use laws::{acts_keep_sound_law, one_view_law, same_acts_law, shows_own_bonds_alone_law, view_decides_law};
+pub use laws::{
+    acts_keep_sound_law, one_view_law, same_acts_law, shows_own_bonds_alone_law, view_decides_law,
+};
 pub use limits::{MOST_DAY_TICKETS, MOST_ROWS, MOST_SERIALS};
 pub use numbers::{Number, RequestNumber};
 pub use ranges::in_range;

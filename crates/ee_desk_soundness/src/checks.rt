@@ -36,14 +36,14 @@ pub struct Indexes {
 
 /// Rates and bonds as maps.
 #[derive(Drop)]
-struct Register {
+struct RegisterMaps {
     tables: UnitTables,
     terms: BTreeMap<IssueMonth, Terms>,
     bonds: BTreeMap<Serial, Held>,
 }
 
 /// Makes maps of rates and bonds, if sound books may have them.
-fn registered(alloc: Global, rates: &[RateRow], bonds: &[Bond]) -> Result<Register, PartsFault>
+fn registered(alloc: Global, rates: &[RateRow], bonds: &[Bond]) -> Result<RegisterMaps, PartsFault>
     ensures terms { IfOk result (λ maps. maps.terms.entries ≡ map entry_of_row rates.now) }
     ensures bonds { IfOk result (λ maps. maps.bonds.entries ≡ map unpaid bonds.now) }
     ensures right { IfOk result (λ _. IsRegister rates.now bonds.now) }
@@ -61,7 +61,7 @@ fn registered(alloc: Global, rates: &[RateRow], bonds: &[Bond]) -> Result<Regist
         return Err(PartsFault::Unsound);
     }
     let bonds = held_by_serial(alloc, bonds)?;
-    Ok(Register {
+    Ok(RegisterMaps {
         tables,
         terms,
         bonds,
@@ -166,7 +166,7 @@ fn checked_lists(
     ensures unsound { IfErr result (λ fault. fault ≡ PartsFault.Unsound → AreUnsound (parts_in rates.now bonds.now day last tickets.now batches.now)) }
 {
     let maps = registered(alloc, rates, bonds)?;
-    let Register {
+    let RegisterMaps {
         tables,
         terms,
         bonds: mut held,

@@ -5,7 +5,7 @@ use Rattle.ee_files.specs.Answers.{Fails, Gives}
 use Rattle.ee_files.specs.Fields.{Bytes, ◌>>=◌}
 use Rattle.ee_files.specs.Left.{HasLeft, TakesNext, TextReader}
 use Rattle.ee_files.specs.Rows.{is_header, rows_from, rows_of_records}
-use Rattle.ee_files.specs.declared.columns.Column.{Column}
+use Rattle.ee_files.specs.declared.columns.FileColumn.{FileColumn}
 use Rattle.ee_files.specs.declared.faults.FileCode.{FileCode}
 use Rattle.ee_files.specs.declared.faults.FileCode.TheVariants as code
 use Rattle.ee_files.specs.declared.faults.FileFault.{FileFault}
@@ -72,16 +72,16 @@ pub gives_as : {X A : Type 0} (view : X → List A) (r : Result X FileFault) (a 
 gives_as view r a b is h = subst (Gives view r) (sym is) h
 
 -- a file with no record
-pub none_read : {A : Type 0} (headers : List (List Column)) (entry : ℕ → Entry A) (all : List (List Bytes)) (items : List A) → all ≡ [] → items ≡ [] → rows_of_records headers entry all ≡ Ok items
+pub none_read : {A : Type 0} (headers : List (List FileColumn)) (entry : ℕ → Entry A) (all : List (List Bytes)) (items : List A) → all ≡ [] → items ≡ [] → rows_of_records headers entry all ≡ Ok items
 unfolding rows_of_records
 none_read headers entry all items none empty = ap (rows_of_records headers entry) none ∙ ap Ok (sym empty)
 
 -- under its header
-pub good_header : {A : Type 0} (headers : List (List Column)) (entry : ℕ → Entry A) (all : List (List Bytes)) (fields : List Bytes) (rest : List (List Bytes)) → all ≡ fields ∷ rest → is_header headers fields ≡ true → rows_of_records headers entry all ≡ rows_from (entry (length fields)) 2 501 rest
+pub good_header : {A : Type 0} (headers : List (List FileColumn)) (entry : ℕ → Entry A) (all : List (List Bytes)) (fields : List Bytes) (rest : List (List Bytes)) → all ≡ fields ∷ rest → is_header headers fields ≡ true → rows_of_records headers entry all ≡ rows_from (entry (length fields)) 2 501 rest
 unfolding rows_of_records
 good_header headers entry all fields rest is e = ap (rows_of_records headers entry) is ∙ rw e refl
 
 -- under another
-pub bad_header : {A : Type 0} (headers : List (List Column)) (entry : ℕ → Entry A) (all : List (List Bytes)) (fields : List Bytes) (rest : List (List Bytes)) → all ≡ fields ∷ rest → is_header headers fields ≡ false → rows_of_records headers entry all ≡ Err (record { row = 1; code = code.BadHeader })
+pub bad_header : {A : Type 0} (headers : List (List FileColumn)) (entry : ℕ → Entry A) (all : List (List Bytes)) (fields : List Bytes) (rest : List (List Bytes)) → all ≡ fields ∷ rest → is_header headers fields ≡ false → rows_of_records headers entry all ≡ Err (record { row = 1; code = code.BadHeader })
 unfolding rows_of_records
 bad_header headers entry all fields rest is e = ap (rows_of_records headers entry) is ∙ rw e refl

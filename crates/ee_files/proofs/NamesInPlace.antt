@@ -9,8 +9,8 @@ use Rattle.ee_files.specs.Columns.{column_name}
 use Rattle.ee_files.specs.Fields.{Bytes}
 use Rattle.ee_files.specs.RateFile.{rate_columns, extended_columns}
 use Rattle.ee_files.specs.Rows.{header_of, name_at, same_fields}
-use Rattle.ee_files.specs.declared.columns.Column.{Column}
-use Rattle.ee_files.specs.declared.columns.Column.TheVariants as column
+use Rattle.ee_files.specs.declared.columns.FileColumn.{FileColumn}
+use Rattle.ee_files.specs.declared.columns.FileColumn.TheVariants as column
 
 none_of_two : (a b : Bool) → false ≡ a && (b && false)
 none_of_two a b = rw (and-false b, and-false a) refl
@@ -28,7 +28,7 @@ all_five : (a b c d e : Bool) → (a && (b && c)) && (d && e) ≡ a && (b && (c 
 all_five a b c d e = rw (and-true e, and_assoc a (b && c) (d && e), and_assoc b c (d && e)) refl
 
 -- whether a field is a column's name
-abbrev is : Bytes → Column → Bool
+abbrev is : Bytes → FileColumn → Bool
 is field column = bytes_eq field (column_name column)
 
 -- more fields than names

@@ -10,12 +10,12 @@ use Rattle.ee_units.specs.Texts.{serial_text, month_text}
 use Rattle.ee_calculator.specs.declared.bonds.Bond.{Bond}
 use Rattle.ee_files.specs.Fields.{Bytes, ◌>>=◌, value_at}
 use Rattle.ee_files.specs.Rows.{header_of, rows_of_file}
-use Rattle.ee_files.specs.declared.columns.Column.{Column}
-use Rattle.ee_files.specs.declared.columns.Column.TheVariants as column
+use Rattle.ee_files.specs.declared.columns.FileColumn.{FileColumn}
+use Rattle.ee_files.specs.declared.columns.FileColumn.TheVariants as column
 use Rattle.ee_files.specs.declared.faults.FileCode.TheVariants.{WrongFieldCount}
 use Rattle.ee_files.specs.declared.faults.FileFault.{FileFault}
 
-abbrev pub bond_columns : List Column
+abbrev pub bond_columns : List FileColumn
 bond_columns = column.Serial ∷ column.Denom ∷ column.Issued ∷ column.Owner ∷ column.Coowner ∷ []
 
 -- an empty field means no coowner

@@ -2,7 +2,7 @@
 use Rattle.std.specs.Prelude.{ℕ, List, Option, Some, None, Result, Ok, Err, option_and_then, if◌then◌else◌}
 use Rattle.std.specs.Option.{ok_or}
 use Rattle.std.specs.Str.{is_utf8}
-use Rattle.ee_files.specs.declared.columns.Column.{Column}
+use Rattle.ee_files.specs.declared.columns.FileColumn.{FileColumn}
 use Rattle.ee_files.specs.declared.faults.FileCode.TheVariants.{BadValue}
 use Rattle.ee_files.specs.declared.faults.FileFault.{FileFault}
 
@@ -24,5 +24,5 @@ abbrev pub field_value : {A : Type 0} → (Bytes → Option A) → Option Bytes 
 field_value read field = option_and_then read (text_of field)
 
 -- the value of a column, or the fault of that column in that row
-abbrev pub value_at : {A : Type 0} → ℕ → Column → (Bytes → Option A) → Option Bytes → Result A FileFault
+abbrev pub value_at : {A : Type 0} → ℕ → FileColumn → (Bytes → Option A) → Option Bytes → Result A FileFault
 value_at row column read field = ok_or (field_value read field) (record { row = row; code = BadValue column })

@@ -6,17 +6,17 @@ use Rattle.ee_value.specs.Chain.{rates_with}
 use Rattle.ee_value.specs.declared.rates.RateRow.{RateRow}
 use Rattle.ee_files.specs.Fields.{Bytes, ◌>>=◌, value_at}
 use Rattle.ee_files.specs.Rows.{rows_of_file}
-use Rattle.ee_files.specs.declared.columns.Column.{Column}
-use Rattle.ee_files.specs.declared.columns.Column.TheVariants as column
+use Rattle.ee_files.specs.declared.columns.FileColumn.{FileColumn}
+use Rattle.ee_files.specs.declared.columns.FileColumn.TheVariants as column
 use Rattle.ee_files.specs.declared.faults.FileCode.TheVariants.{WrongFieldCount}
 use Rattle.ee_files.specs.declared.faults.FileFault.{FileFault}
 
 -- the columns of a file that names no extensions
-abbrev pub rate_columns : List Column
+abbrev pub rate_columns : List FileColumn
 rate_columns = column.From ∷ column.Rate ∷ []
 
 -- the columns of a file that names extensions
-abbrev pub extended_columns : List Column
+abbrev pub extended_columns : List FileColumn
 extended_columns = column.From ∷ column.Rate ∷ column.Extension ∷ []
 
 -- an empty field means no extension

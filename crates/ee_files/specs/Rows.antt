@@ -7,7 +7,7 @@ use Rattle.csv.specs.Records.{field_at}
 use Rattle.csv.specs.Reading.{default_config, records, strip_bom}
 use Rattle.ee_files.specs.Columns.{column_name}
 use Rattle.ee_files.specs.Fields.{Bytes, ◌>>=◌}
-use Rattle.ee_files.specs.declared.columns.Column.{Column}
+use Rattle.ee_files.specs.declared.columns.FileColumn.{FileColumn}
 use Rattle.ee_files.specs.declared.faults.FileCode.TheVariants.{BadHeader, FileTooLong}
 use Rattle.ee_files.specs.declared.faults.FileFault.{FileFault}
 
@@ -25,26 +25,26 @@ abbrev pub same_fields : List Bytes → List Bytes → Bool
 same_fields fields others = pointwise bytes_eq fields others
 
 -- the field at this position is the column's name
-abbrev pub name_at : List Bytes → ℕ → Column → Bool
+abbrev pub name_at : List Bytes → ℕ → FileColumn → Bool
 name_at fields place column = bytes_eq (unwrap_or (field_at fields place) []) (column_name column)
 
-abbrev pub header_of : List Column → List Bytes
+abbrev pub header_of : List FileColumn → List Bytes
 header_of columns = map column_name columns
 
 -- the record is one of the headers
-abbrev pub is_header : List (List Column) → List Bytes → Bool
+abbrev pub is_header : List (List FileColumn) → List Bytes → Bool
 is_header headers fields = list_any (λ columns. same_fields fields (header_of columns)) headers
 
 -- the first 501 rows under one of the headers; the number of fields in the header decides how a record is read; a file
 -- without a record has no rows
-unfoldable pub rows_of_records : {A : Type 0} → List (List Column) → (ℕ → ℕ → List Bytes → Result A FileFault) → List (List Bytes)
+unfoldable pub rows_of_records : {A : Type 0} → List (List FileColumn) → (ℕ → ℕ → List Bytes → Result A FileFault) → List (List Bytes)
     → Result (List A) FileFault
 rows_of_records headers entry [] = Ok []
 rows_of_records headers entry (header ∷ rest) =
     if is_header headers header then rows_from (entry (length header)) 2 501 rest else Err (record { row = 1; code = BadHeader })
 
 -- the rows of a file of at most 1,048,576 bytes; a byte order mark before the first record is dropped
-unfoldable pub rows_of_file : {A : Type 0} → List (List Column) → (ℕ → ℕ → List Bytes → Result A FileFault)
+unfoldable pub rows_of_file : {A : Type 0} → List (List FileColumn) → (ℕ → ℕ → List Bytes → Result A FileFault)
     → Bytes → Result (List A) FileFault
 rows_of_file headers entry bytes = if nat_lt 1048576 (length bytes) then Err (record { row = 1; code = FileTooLong })
     else rows_of_records headers entry (records default_config (strip_bom bytes))

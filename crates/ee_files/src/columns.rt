@@ -4,7 +4,7 @@ use std::fmt;
 
 /// A column of a file.
 #[derive(Clone, Copy, Debug, PartialEq, Eq)]
-pub enum Column {
+pub enum FileColumn {
     /// The month from which rates apply.
     From,
     /// The fixed rate.
@@ -23,7 +23,7 @@ pub enum Column {
     Coowner,
 }
 
-impl Column {
+impl FileColumn {
     ghost use Rattle.std.specs.Prelude.{◌≡◌};
     ghost use Rattle.ee_files.specs.Columns.{column_name};
 
@@ -32,20 +32,20 @@ impl Column {
         ensures { result.now ≡ column_name self }
     {
         match self {
-            Column::From => "from",
-            Column::Rate => "rate",
-            Column::Extension => "extension",
-            Column::Serial => "serial",
-            Column::Denom => "denom",
-            Column::Issued => "issued",
-            Column::Owner => "owner",
-            Column::Coowner => "coowner",
+            FileColumn::From => "from",
+            FileColumn::Rate => "rate",
+            FileColumn::Extension => "extension",
+            FileColumn::Serial => "serial",
+            FileColumn::Denom => "denom",
+            FileColumn::Issued => "issued",
+            FileColumn::Owner => "owner",
+            FileColumn::Coowner => "coowner",
         }
     }
 }
 
 /// Prints the column's name.
-impl fmt::Display for Column {
+impl fmt::Display for FileColumn {
     ghost use Rattle.std.specs.Prelude.{Some};
     ghost use Rattle.ee_files.specs.Columns.{column_name};
 

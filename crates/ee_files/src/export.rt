@@ -7,7 +7,7 @@ ghost use Rattle.ee_files.specs.BondFile.{IsBond, bond_columns, bond_fields, coo
 ghost use Rattle.ee_files.specs.Rows.{header_of};
 ghost use Rattle.ee_files.specs.WriterState.{AppendsRow, IsBetweenRows};
 
-use crate::columns::Column;
+use crate::columns::FileColumn;
 use crate::faults::WriteFault;
 use crate::ranges::in_range;
 use csv::{Writer, WriterBuilder};
@@ -59,11 +59,11 @@ fn writer_with_header(alloc: Global) -> Result<Writer<Vec<u8>>, WriteFault>
 {
     let mut writer = WriterBuilder::new().from_writer(Vec::new(alloc));
     let header = [
-        Column::Serial.name().as_bytes(),
-        Column::Denom.name().as_bytes(),
-        Column::Issued.name().as_bytes(),
-        Column::Owner.name().as_bytes(),
-        Column::Coowner.name().as_bytes(),
+        FileColumn::Serial.name().as_bytes(),
+        FileColumn::Denom.name().as_bytes(),
+        FileColumn::Issued.name().as_bytes(),
+        FileColumn::Owner.name().as_bytes(),
+        FileColumn::Coowner.name().as_bytes(),
     ];
     if writer.write_fields(&header).is_err() {
         return Err(WriteFault::NoMemory);

@@ -1,6 +1,6 @@
 //! Faults of files.
 
-use crate::columns::Column;
+use crate::columns::FileColumn;
 use std::fmt;
 use thiserror::Error;
 
@@ -15,7 +15,7 @@ pub enum FileCode {
     WrongFieldCount,
     /// A field spells no value of its column.
     #[error("bad {0}")]
-    BadValue(Column),
+    BadValue(FileColumn),
     /// A read failed, or was interrupted.
     #[error("the reader failed")]
     ReadFailed,

@@ -9,7 +9,7 @@ ghost use Rattle.ee_files.specs.BondFile.{coowner_of};
 ghost use Rattle.ee_files.specs.RateFile.{extension_of};
 ghost use Rattle.ee_files.specs.Fields.{field_value, text_of};
 
-use crate::columns::Column;
+use crate::columns::FileColumn;
 use crate::faults::{FileCode, FileFault};
 use ee_units::{
     Customer, Denom, IssueMonth, Rate, Serial, read_customer, read_denom, read_issue, read_rate,
@@ -18,7 +18,7 @@ use ee_units::{
 use std::str;
 
 /// The value, or the fault that this column in this row spells none.
-pub fn value_or_fault<T>(value: Option<T>, row: u64, column: Column) -> Result<T, FileFault>
+pub fn value_or_fault<T>(value: Option<T>, row: u64, column: FileColumn) -> Result<T, FileFault>
     ensures gives { result ≡ ok_or value (record { row = row; code = FileCode.BadValue column }) }
     ensures read { IfErr result WasRead }
 {

@@ -6,7 +6,7 @@ ghost use Rattle.ee_io.specs.ReadWhole.{TakesAtMost};
 ghost use Rattle.ee_files.specs.Answers.{Gives, WasRead};
 ghost use Rattle.ee_files.specs.BondFile.{bond_columns, bond_entry, bonds_of_file};
 
-use crate::columns::Column;
+use crate::columns::FileColumn;
 use crate::faults::{FileCode, FileFault};
 use crate::fields::{coowner_in, customer_in, denom_in, issue_in, serial_in, value_or_fault};
 use crate::headers::is_bond_header;
@@ -55,11 +55,11 @@ fn bond_row(fields: &ByteRecord, row: u64) -> Result<Bond, FileFault>
             code: FileCode::WrongFieldCount,
         });
     }
-    let serial = value_or_fault(serial_in(fields.get(0)), row, Column::Serial)?;
-    let denom = value_or_fault(denom_in(fields.get(1)), row, Column::Denom)?;
-    let issued = value_or_fault(issue_in(fields.get(2)), row, Column::Issued)?;
-    let owner = value_or_fault(customer_in(fields.get(3)), row, Column::Owner)?;
-    let coowner = value_or_fault(coowner_in(fields.get(4)), row, Column::Coowner)?;
+    let serial = value_or_fault(serial_in(fields.get(0)), row, FileColumn::Serial)?;
+    let denom = value_or_fault(denom_in(fields.get(1)), row, FileColumn::Denom)?;
+    let issued = value_or_fault(issue_in(fields.get(2)), row, FileColumn::Issued)?;
+    let owner = value_or_fault(customer_in(fields.get(3)), row, FileColumn::Owner)?;
+    let coowner = value_or_fault(coowner_in(fields.get(4)), row, FileColumn::Coowner)?;
     Ok(Bond {
         serial,
         denom,

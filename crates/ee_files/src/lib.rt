@@ -12,7 +12,7 @@ mod ranges;
 mod rates;
 mod records;
 
-pub use columns::Column;
+pub use columns::FileColumn;
 pub use export::write_inventory;
 pub use faults::{FileCode, FileFault, WriteFault};
 pub use inventory::read_inventory;

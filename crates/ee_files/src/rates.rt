@@ -6,7 +6,7 @@ ghost use Rattle.ee_io.specs.ReadWhole.{TakesAtMost};
 ghost use Rattle.ee_files.specs.Answers.{Gives, WasRead};
 ghost use Rattle.ee_files.specs.RateFile.{rate_columns, extended_columns, extension_at, rate_entry, rates_of_file};
 
-use crate::columns::Column;
+use crate::columns::FileColumn;
 use crate::faults::{FileCode, FileFault};
 use crate::fields::{extension_in, issue_in, rate_in, value_or_fault};
 use crate::headers::is_rate_header;
@@ -57,8 +57,8 @@ fn rate_row(fields: &ByteRecord, width: usize, row: u64) -> Result<RateRow, File
             code: FileCode::WrongFieldCount,
         });
     }
-    let from = value_or_fault(issue_in(fields.get(0)), row, Column::From)?;
-    let fixed = value_or_fault(rate_in(fields.get(1)), row, Column::Rate)?;
+    let from = value_or_fault(issue_in(fields.get(0)), row, FileColumn::From)?;
+    let fixed = value_or_fault(rate_in(fields.get(1)), row, FileColumn::Rate)?;
     let extension = extension(fields, width, row)?;
     Ok(RateRow {
         from,
@@ -72,7 +72,7 @@ fn extension(fields: &ByteRecord, width: usize, row: u64) -> Result<Option<Rate>
     ensures read { IfErr result WasRead }
 {
     if width == 3 {
-        value_or_fault(extension_in(fields.get(2)), row, Column::Extension)
+        value_or_fault(extension_in(fields.get(2)), row, FileColumn::Extension)
     } else {
         Ok(None)
     }

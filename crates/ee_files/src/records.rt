@@ -7,7 +7,7 @@ ghost use Rattle.ee_io.specs.ReadWhole.{TakesAtMost};
 ghost use Rattle.ee_files.specs.Answers.{Gives, Unreadable, WasRead};
 ghost use Rattle.ee_files.specs.Left.{HasLeft, TakesNext};
 ghost use Rattle.ee_files.specs.Rows.{is_header, rows_from, rows_of_file, rows_of_records};
-ghost use Rattle.ee_files.specs.declared.columns.Column.{Column};
+ghost use Rattle.ee_files.specs.declared.columns.FileColumn.{FileColumn};
 ghost use Rattle.ee_files.specs.declared.faults.FileFault.{FileFault};
 
 use crate::faults::{FileCode, FileFault};
@@ -20,7 +20,7 @@ pub const MOST_BYTES: usize = 1_048_576;
 
 /// The type of row that a record is read as.
 pub trait FileRow: Copy + Drop {
-    ghost headers: { List (List Column) };
+    ghost headers: { List (List FileColumn) };
 
     ghost entry: { ℕ → ℕ → List (List ℕ) → Result Self FileFault };
 

@@ -31,7 +31,7 @@ ghost use Rattle.ee_store_delivery.specs.Known.{IsInformed};
 
 use crate::keeper::SqlKeeper;
 use ee_desk_model::UnitTables;
-use ee_store_books::{ContentFault, KeptReply, Tested, tables_of};
+use ee_store_books::{ContentFault, KeptReply, TestedContent, tables_of};
 use ee_store_delivery::Known;
 use ee_store_load::{AllRows, is_blank, open_rows};
 use ee_store_schema::{OpenFault, make_tables, migrate};
@@ -49,7 +49,7 @@ pub struct NotAdopted<S: Alter> {
 
 /// The tables of unit values for the rates of rows that represent books and kept replies, and the replies to be migrated.
 /// Drops the rows.
-fn prepared(alloc: Global, all: AllRows) -> Result<Tested, OpenFault>
+fn prepared(alloc: Global, all: AllRows) -> Result<TestedContent, OpenFault>
     requires { AreInOrder all }
     ensures ok { IfOk result (λ tested. (rows : Rows) → AreRead KeepsAnswer all rows → (content : Content)
         × (tested.tables ≡ tables_for content.books.rates) × StandAt (version_of all.form) rows content) }
@@ -107,7 +107,7 @@ fn ready<S: Alter>(conn: &mut Connection<S>, alloc: Global) -> Result<UnitTables
     let all = open_rows::<S, KeptReply>(conn, alloc)?;
     let form = all.form;
     let tested = prepared(alloc, all)?;
-    let Tested { tables, answers } = tested;
+    let TestedContent { tables, answers } = tested;
     migrate(conn, form, &answers)?;
     settled(conn);
     Ok(tables)

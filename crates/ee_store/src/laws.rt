@@ -7,7 +7,9 @@ ghost use Rattle.ee_store_tables.specs.Statements.{HasCause};
 ghost use Rattle.ee_store.specs.NextRun.{FollowsInNextRun, WaitsInNextRun};
 ghost use Rattle.ee_store.specs.History.{BeginsHistory, GoesByQueries, GoesThroughCrash, GoesThroughRest, HasHistory, SettlesHistory};
 
-pub use ee_desk_laws::{runs_as_events_law, stops_and_retries_law, tellers_interleaved_law, ties_to_stores_law};
+pub use ee_desk_laws::{
+    runs_as_events_law, stops_and_retries_law, tellers_interleaved_law, ties_to_stores_law,
+};
 use sqlite_disk::Disk;
 
 /// From one run to the next. A crash may leave two files of a keeper that follows the events of the law of stops

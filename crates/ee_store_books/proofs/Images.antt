@@ -19,7 +19,7 @@ use Rattle.ee_calculator.specs.declared.bonds.Bond.{Bond}
 use Rattle.ee_desk_model.specs.declared.changes.Kept.{Kept}
 use Rattle.ee_desk_model.specs.declared.replies.Ticket.{Ticket}
 use Rattle.ee_desk_model.specs.Serials.{serial_cmp}
-use Rattle.ee_desk_model.specs.Numbers.{Number, number_cmp}
+use Rattle.ee_desk_model.specs.Numbers.{RequestKey, number_cmp}
 use Rattle.ee_desk_model.specs.Seen.{held_as}
 use Rattle.ee_desk_model.proofs.Lemmas.Maps.{serials_total, serials_exact, numbers_total, numbers_exact}
 use Rattle.std.proofs.lemmas.Map.Views.{tells_apart}
@@ -118,7 +118,7 @@ get_terms rates period = terms_again (finite.get rates period) ∙ λ i. option_
 pub extension_entries : (rates : FinMap nat_cmp Rates) → entries (extension_rows rates) ≡ filter_map extension_entry (entries rates)
 extension_entries rates = sorted_entries nat_cmp_total nat_cmp-IsAntisymmetric _ (sorted_picked nat_cmp_total nat_cmp-IsAntisymmetric named_extension (entries rates) (entries_sorted rates))
 
-pub get_reply : (kept : FinMap number_cmp Kept) (number : Number) → finite.get (reply_rows kept) number ≡ option_map reply_row (finite.get kept number)
+pub get_reply : (kept : FinMap number_cmp Kept) (number : RequestKey) → finite.get (reply_rows kept) number ≡ option_map reply_row (finite.get kept number)
 get_reply kept number = get_image numbers_total pair_total numbers_exact (λ k. k) (λ k (kept : Kept). reply_row kept) (λ q k. refl) kept number
 
 pub get_bond : (bonds : FinMap serial_cmp Bond) (tickets : List Ticket) (serial : SerialNumber)

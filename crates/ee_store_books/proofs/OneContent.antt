@@ -17,7 +17,7 @@ use Rattle.ee_desk_model.specs.declared.replies.Line.{Line}
 use Rattle.ee_desk_model.specs.declared.replies.Ticket.{Ticket}
 use Rattle.ee_desk_model.specs.declared.replies.Batch.{Batch}
 use Rattle.ee_desk_model.specs.Serials.{serial_cmp}
-use Rattle.ee_desk_model.specs.Numbers.{Number, number_cmp}
+use Rattle.ee_desk_model.specs.Numbers.{RequestKey, number_cmp}
 use Rattle.ee_desk_model.specs.Seen.{held_as}
 use Rattle.ee_desk_model.specs.Sound.{IsRightBond, day_of_batch, open_days}
 use Rattle.ee_desk_model.specs.Repeats.{Content}
@@ -124,13 +124,13 @@ batches_back [] = refl
 batches_back (b ∷ batches) = ap (λ l. b ∷ l) (batches_back batches)
 
 -- ---- kept replies
-same_kept_at : (n : Number) (x y : Kept) → IsKept n x → IsKept n y → reply_row x ≡ reply_row y → x ≡ y
+same_kept_at : (n : RequestKey) (x y : Kept) → IsKept n x → IsKept n y → reply_row x ≡ reply_row y → x ≡ y
 same_kept_at n x y h k e = λ i. record {
   act = one_act x.act y.act h.act_in_range k.act_in_range (ap (λ r. r.act) e) i;
   reply = one_reply x.reply y.reply h.reply_in_range k.reply_in_range (ap (λ r. r.reply) e) i;
 }
 
-same_kept : (one other : FinMap number_cmp Kept) → ((n : Number) → IfSome (finite.get one n) (IsKept n)) → ((n : Number) → IfSome (finite.get other n) (IsKept n)) → reply_rows one ≡ reply_rows other → one ≡ other
+same_kept : (one other : FinMap number_cmp Kept) → ((n : RequestKey) → IfSome (finite.get one n) (IsKept n)) → ((n : RequestKey) → IfSome (finite.get other n) (IsKept n)) → reply_rows one ≡ reply_rows other → one ≡ other
 same_kept one other a b e = same_map numbers_total numbers_exact one other (λ n.
     same_some reply_row reply_row (IsKept n) (same_kept_at n) (finite.get one n) (finite.get other n) (a n) (b n)
     (sym (get_reply one n) ∙ ap (λ m. finite.get m n) e ∙ get_reply other n))

@@ -5,7 +5,7 @@ use Rattle.std.specs.FinMap as finite
 use Rattle.ee_store_books.proofs.Images.{get_desk, get_reply}
 use Rattle.ee_desk_texts.proofs.Lemmas.{act_text-utf8, reply_text-utf8}
 use Rattle.ee_desk_model.specs.declared.changes.Kept.{Kept}
-use Rattle.ee_desk_model.specs.Numbers.{Number}
+use Rattle.ee_desk_model.specs.Numbers.{RequestKey}
 use Rattle.ee_desk_model.specs.Repeats.{Content}
 use Rattle.ee_store_tables.specs.Rows.{ReplyRow, IsText}
 use Rattle.ee_store_load.specs.Opening.{AreReadable}
@@ -14,7 +14,7 @@ use Rattle.ee_store_schema.specs.declared.forms.Form.{Form}
 use Rattle.ee_store_schema.specs.declared.forms.Form.TheVariants.{Current}
 use Rattle.ee_store_schema.specs.Forms.{version_of}
 
-row_readable : (n : Number) (o : Option Kept) (row : ReplyRow) → IfSome o (IsKept n) → Some row ≡ option_map reply_row o → IsUtf8 row.act × IsUtf8 row.reply
+row_readable : (n : RequestKey) (o : Option Kept) (row : ReplyRow) → IfSome o (IsKept n) → Some row ≡ option_map reply_row o → IsUtf8 row.act × IsUtf8 row.reply
 row_readable n None row kept is = absurd (cc)
 row_readable n (Some k) row kept is =
     let same : row ≡ reply_row k = ap (λ (o : Option ReplyRow). unwrap_or o row) is in (
@@ -34,5 +34,5 @@ texts_of None texts = tt
 texts_of (Some row) texts = texts row refl
 
 -- the texts that a content keeps are UTF-8
-pub kept_texts : (content : Content) → IsRight content → (n : Number) → IfSome (finite.get (rows_of content).answers n) IsText
+pub kept_texts : (content : Content) → IsRight content → (n : RequestKey) → IfSome (finite.get (rows_of content).answers n) IsText
 kept_texts content right n = texts_of (finite.get (rows_of content).answers n) ((readable Current content right).texts n)

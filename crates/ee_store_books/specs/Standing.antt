@@ -17,7 +17,7 @@ use Rattle.ee_desk_model.specs.declared.replies.Batch.{Batch}
 use Rattle.ee_desk_model.specs.declared.replies.Reply.TheVariants.{Refused}
 use Rattle.ee_desk_model.specs.declared.refusals.Refusal.TheVariants.{NumberReused}
 use Rattle.ee_desk_model.specs.Serials.{serial_cmp}
-use Rattle.ee_desk_model.specs.Numbers.{Number, number_cmp}
+use Rattle.ee_desk_model.specs.Numbers.{RequestKey, number_cmp}
 use Rattle.ee_desk_model.specs.PlainBooks.{PlainBooks}
 use Rattle.ee_desk_model.specs.Seen.{held_as}
 use Rattle.ee_desk_model.specs.Sound.{IsSound}
@@ -118,7 +118,7 @@ pub record AreInRange (books : PlainBooks) : Type 0 where
   pub batches : AllByRecursion BatchFits books.batches
 
 -- a reply that may be kept under a desk's number: any except that the number was used for another act
-pub record IsKept (number : Number) (kept : Kept) : Type 0 where
+pub record IsKept (number : RequestKey) (kept : Kept) : Type 0 where
   pub desk_in_range : number.0 ≤ 999
   pub number_in_range : (1 ≤ number.1) × (number.1 ≤ 9223372036854775807)
   pub act_in_range : ActFits kept.act
@@ -129,7 +129,7 @@ pub record IsKept (number : Number) (kept : Kept) : Type 0 where
 pub record IsRight (content : Content) : Type 0 where
   pub sound : IsSound content.books
   pub in_range : AreInRange content.books
-  pub kept : (number : Number) → IfSome (finite.get content.kept number) (IsKept number)
+  pub kept : (number : RequestKey) → IfSome (finite.get content.kept number) (IsKept number)
 
 -- the rows are those of the content; the desk's row names this version
 pub record StandAt (version : ℕ) (rows : Rows) (content : Content) : Type 0 where

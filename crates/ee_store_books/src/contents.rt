@@ -124,7 +124,7 @@ fn indexes_of(alloc: Global, parts: &Parts) -> Result<Indexes, ContentFault>
 
 /// What opening needs of rows that represent books and kept replies.
 #[derive(Drop)]
-pub struct Tested {
+pub struct TestedContent {
     /// The tables of unit values for the rates of the books.
     pub tables: UnitTables,
     /// The kept replies of a store of version 1, which its migration writes again; none for version 2.
@@ -135,7 +135,7 @@ pub struct Tested {
 /// each pair of rates, made while the books were tested. The rows are those that were read; their kept
 /// replies have been tested (`KeptReply`), and all other rows are given. `Unusable` if and only if the rows
 /// represent no books and kept replies. Drops the rows as soon as they are tested.
-pub fn tables_of(alloc: Global, stored: AllRows) -> Result<Tested, ContentFault>
+pub fn tables_of(alloc: Global, stored: AllRows) -> Result<TestedContent, ContentFault>
     requires { AreInOrder stored }
     ensures ok { IfOk result (λ tested. (rows : TableRows) → AreRead KeepsAnswer stored rows → (content : Content)
         × (tested.tables ≡ tables_for content.books.rates) × StandAt (version_of stored.form) rows content) }
@@ -151,5 +151,5 @@ pub fn tables_of(alloc: Global, stored: AllRows) -> Result<Tested, ContentFault>
     let parts = right_parts(alloc, rest)?;
     let indexes = indexes_of(alloc, &parts)?;
     let tables = kept_tables(alloc, &indexes.terms)?;
-    Ok(Tested { tables, answers })
+    Ok(TestedContent { tables, answers })
 }

@@ -77,7 +77,7 @@ fn find_held<S: Alter>(tx: &mut Transaction<'_, S>, serial: Serial) -> Result<Op
     ensures found { FindsIn (state S.Store tx.old.conn.now) (state S.Store tx.new.conn.now) result (λ content held. held ≡ held_of content.books serial) }
     ensures cause { FailsByCause (state S.Store tx.old.conn.now) (state S.Store tx.new.conn.now) result (λ _. ⊤) }
 {
-    let key = tables::Serial {
+    let key = tables::SerialKey {
         letter: serial.letter() as u64,
         number: serial.number(),
     };

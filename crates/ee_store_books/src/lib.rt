@@ -21,7 +21,7 @@ mod tickets;
 mod unit_tables;
 
 pub use answers::KeptReply;
-pub use contents::{ContentFault, Tested, tables_of};
+pub use contents::{ContentFault, TestedContent, tables_of};
 pub use held_bonds::{held_from, held_in};
 pub use laws::one_content_law;
 pub use terms::{find_terms, no_terms, note_terms, terms_in};

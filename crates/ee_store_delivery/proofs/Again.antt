@@ -8,7 +8,7 @@ use Rattle.ee_desk_model.specs.declared.replies.Reply.{Reply}
 use Rattle.ee_desk_model.specs.declared.replies.Reply.TheVariants.{Refused}
 use Rattle.ee_desk_model.specs.declared.refusals.Refusal.TheVariants.{NumberReused}
 use Rattle.ee_desk_model.specs.Acts.{same_act}
-use Rattle.ee_desk_model.specs.Numbers.{Number}
+use Rattle.ee_desk_model.specs.Numbers.{RequestKey}
 use Rattle.ee_desk_model.specs.Answers.{reply_again}
 use Rattle.ee_desk_model.proofs.Lemmas.Requests.{same_act-is, same_act-self}
 use Rattle.ee_desk_texts.proofs.Lemmas.{one_act, reply_only}
@@ -18,7 +18,7 @@ use Rattle.ee_desk_texts.specs.Texts.{act_text, reply_text}
 use Rattle.ee_store_books.specs.Standing.{IsKept}
 
 abbrev pub IsAgain : List ℕ → List ℕ → List ℕ → Reply → Type 0
-IsAgain act reply asked told = (number : Number) (kept : Kept) (again : Act) → IsKept number kept → ActFits again
+IsAgain act reply asked told = (number : RequestKey) (kept : Kept) (again : Act) → IsKept number kept → ActFits again
     → act ≡ act_text kept.act → reply ≡ reply_text kept.reply → asked ≡ act_text again → told ≡ reply_again kept.act kept.reply again
 
 pub of_other : (act reply asked : List ℕ) → act ≢ asked → IsAgain act reply asked (Refused NumberReused)
@@ -37,5 +37,5 @@ of_same act reply asked told same reads number kept again is fits one two three 
     ∙ sym (ap (λ b. cond b kept.reply (Refused NumberReused)) is_same)
 
 -- the text of a kept reply is that of a reply
-pub kept_is_read : (reply : List ℕ) (number : Number) (kept : Kept) → IsKept number kept → reply ≡ reply_text kept.reply → ¬ ReadsReply reply None
+pub kept_is_read : (reply : List ℕ) (number : RequestKey) (kept : Kept) → IsKept number kept → reply ≡ reply_text kept.reply → ¬ ReadsReply reply None
 kept_is_read reply number kept is own reads = absurd (let e = reply_only kept.reply None is.reply_in_range (subst (λ t. ReadsReply t None) own reads) in cc)

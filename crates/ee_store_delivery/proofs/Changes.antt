@@ -19,7 +19,7 @@ use Rattle.ee_desk_model.specs.declared.replies.Line.{Line}
 use Rattle.ee_desk_model.specs.declared.replies.Ticket.{Ticket}
 use Rattle.ee_desk_model.specs.declared.replies.Batch.{Batch}
 use Rattle.ee_desk_model.specs.Serials.{serial_cmp, same_serial}
-use Rattle.ee_desk_model.specs.Numbers.{Number, number_cmp}
+use Rattle.ee_desk_model.specs.Numbers.{RequestKey, number_cmp}
 use Rattle.ee_desk_model.specs.PlainBooks.{ticket_of, names}
 use Rattle.ee_desk_model.specs.Seen.{held_as}
 use Rattle.ee_desk_model.specs.Sound.{NumberedFrom, day_of_batch}
@@ -78,7 +78,7 @@ reply_case : (b : Bool) (k : Kept) (o : Option Kept) → option_map reply_row (c
 reply_case true k o = refl
 reply_case false k o = refl
 
-pub with_new_reply : (kept : FinMap number_cmp Kept) (n : Number) (k : Kept) → reply_rows (insert kept n k) ≡ insert (reply_rows kept) n (reply_row k)
+pub with_new_reply : (kept : FinMap number_cmp Kept) (n : RequestKey) (k : Kept) → reply_rows (insert kept n k) ≡ insert (reply_rows kept) n (reply_row k)
 with_new_reply kept n k = same_map pair_total pair_same _ _ (λ q.
     get_reply_row (insert kept n k) q ∙ ap (option_map reply_row) (get-insert numbers_total kept n k q)
     ∙ reply_case (eq_by_cmp number_cmp q n) k (finite.get kept q)

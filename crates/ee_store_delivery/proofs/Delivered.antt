@@ -15,7 +15,7 @@ use Rattle.ee_desk_model.specs.declared.changes.Change.TheVariants as change
 use Rattle.ee_desk_model.specs.declared.changes.Effects.{Effects}
 use Rattle.ee_desk_model.specs.declared.changes.Kept.{Kept}
 use Rattle.ee_desk_model.specs.Serials.{serial_cmp}
-use Rattle.ee_desk_model.specs.Numbers.{Number, number_cmp, number_of}
+use Rattle.ee_desk_model.specs.Numbers.{RequestKey, number_cmp, number_of}
 use Rattle.ee_desk_model.specs.PlainBooks.{PlainBooks}
 use Rattle.ee_desk_model.specs.Seen.{Seen, shown}
 use Rattle.ee_desk_model.specs.Refusals.{known_rate, refusal_of}
@@ -127,7 +127,7 @@ module _ (S : Content) (q : Request) (right : IsRight S) (new : finite.get S.kep
   own_is_kept : IsKept (number_of q) own
   own_is_kept = record { desk_in_range = here; number_in_range = numbered; act_in_range = asked; reply_in_range = told; first = never_reused (shown S.books) q.act }
 
-  all_kept : (n : Number) → IfSome (finite.get (insert S.kept (number_of q) own) n) (IsKept n)
+  all_kept : (n : RequestKey) → IfSome (finite.get (insert S.kept (number_of q) own) n) (IsKept n)
   all_kept n = subst (λ o. IfSome o (IsKept n)) (sym (get-insert numbers_total S.kept (number_of q) own n)) (by_case (eq_by_cmp number_cmp n (number_of q)) refl)
     where
       by_case : (b : Bool) → eq_by_cmp number_cmp n (number_of q) ≡ b → IfSome (cond b (Some own) (finite.get S.kept n)) (IsKept n)

@@ -9,7 +9,7 @@ use Rattle.ee_desk_model.specs.declared.replies.Reply.{Reply}
 use Rattle.ee_desk_model.specs.declared.changes.Change.{Change}
 use Rattle.ee_desk_model.specs.declared.changes.Effects.{Effects}
 use Rattle.ee_desk_model.specs.declared.changes.Kept.{Kept}
-use Rattle.ee_desk_model.specs.Numbers.{Number, number_of}
+use Rattle.ee_desk_model.specs.Numbers.{RequestKey, number_of}
 use Rattle.ee_desk_model.specs.Seen.{shown}
 use Rattle.ee_desk_model.specs.Effects.{effects_of}
 use Rattle.ee_desk_model.specs.Outcomes.{act}
@@ -88,7 +88,7 @@ not_kept : (o : Option Kept) → None ≡ option_map reply_row o → o ≡ None
 not_kept None is = refl
 not_kept (Some kept) is = absurd (cc)
 
-pub is_new : (S : Content) (n : Number) → None ≡ finite.get (rows_of S).answers n → finite.get S.kept n ≡ None
+pub is_new : (S : Content) (n : RequestKey) → None ≡ finite.get (rows_of S).answers n → finite.get S.kept n ≡ None
 is_new S n is = not_kept (finite.get S.kept n) (is ∙ get_reply_row S.kept n)
 
 pub is_first : (new : State) (known : Known) (q : Request) (S : Content) (reply : Reply) → finite.get S.kept (number_of q) ≡ None

@@ -15,11 +15,11 @@ use Rattle.ee_store_tables.specs.Rows.{IsInside}
 use Rattle.ee_store_tables.specs.declared.failures.Failure.{Failure}
 use Rattle.ee_store_books.specs.Found.{terms_found}
 use Rattle.ee_store_books.specs.Seen.{HasContent, SeesContent}
-use Rattle.ee_store_delivery.specs.declared.known.Desk.{Desk}
+use Rattle.ee_store_delivery.specs.declared.known.DayState.{DayState}
 use Rattle.ee_store_delivery.specs.declared.known.Known.{Known}
 
 -- the days of the books, their number of tickets, and these counts of the open day
-pub record IsDesk (desk : Desk) (books : PlainBooks) (counts : Batch) : Type 0 where
+pub record IsDesk (desk : DayState) (books : PlainBooks) (counts : Batch) : Type 0 where
   pub day : desk.day ≡ books.day
   pub last_day : desk.last_day ≡ books.last_day
   pub tickets : desk.tickets ≡ length books.tickets
@@ -32,7 +32,7 @@ abbrev pub redeemed_counts : PlainBooks → Batch
 redeemed_counts books = record no_batch { tickets = (open_batch books).tickets }
 
 -- the desk that the next redemption is decided on, after an act on the books
-abbrev pub IsDeskAfter : PlainBooks → Act → Desk → Type 0
+abbrev pub IsDeskAfter : PlainBooks → Act → DayState → Type 0
 IsDeskAfter books asked desk = IsDesk desk (books_after books asked) (redeemed_counts (books_after books asked))
 
 -- terms of periods, as the books have them

@@ -3,7 +3,7 @@
 ghost use Rattle.std.specs.Prelude.{◌≡◌, IfOk, IfErr, None, IsTrue, string_bytes, true, false, [], ◌∷◌, OnOk, OnErr};
 ghost use Rattle.ee_desk_model.specs.declared.acts.Act.{Act};
 ghost use Rattle.ee_desk_model.specs.declared.changes.Kept.{Kept};
-ghost use Rattle.ee_desk_model.specs.Numbers.{Number, number_of};
+ghost use Rattle.ee_desk_model.specs.Numbers.{RequestKey, number_of};
 ghost use Rattle.ee_desk_model.specs.Answers.{reply_again, answer};
 ghost use Rattle.ee_desk_texts.specs.Ranges.{ActFits};
 ghost use Rattle.ee_desk_texts.specs.Texts.{act_text, reply_text};
@@ -37,8 +37,8 @@ use std::mem;
 /// The reply to a repeated number, from the kept texts of its act and reply, and the text of the act that is
 /// asked for now: the kept reply if the acts are the same, and `NumberReused` otherwise.
 pub fn reply_again(alloc: Global, act: &str, reply: &str, asked: &str) -> Result<Reply, Failure>
-    ensures read { (number : Number) (kept : Kept) → IsKept number kept → reply.now ≡ reply_text kept.reply → IfErr result (λ e. e ≡ Failure.NoMemory) }
-    ensures told { IfOk result (λ told. (number : Number) (kept : Kept) (again : Act) → IsKept number kept → ActFits again
+    ensures read { (number : RequestKey) (kept : Kept) → IsKept number kept → reply.now ≡ reply_text kept.reply → IfErr result (λ e. e ≡ Failure.NoMemory) }
+    ensures told { IfOk result (λ told. (number : RequestKey) (kept : Kept) (again : Act) → IsKept number kept → ActFits again
         → act.now ≡ act_text kept.act → reply.now ≡ reply_text kept.reply → asked.now ≡ act_text again
         → told ≡ reply_again kept.act kept.reply again) }
 {

@@ -20,7 +20,7 @@ use std::collections::BTreeMap;
 
 /// The days, the number of tickets, and the open day's tickets, for acts that count them.
 #[derive(Clone, Copy)]
-pub struct Desk {
+pub struct DayState {
     pub(crate) day: Option<Day>,
     pub(crate) last_day: Option<Day>,
     pub(crate) tickets: u64,
@@ -34,7 +34,7 @@ pub struct Desk {
 /// leaves nothing known, and the next redemption reads it again.
 #[derive(Drop)]
 pub struct Known {
-    pub(crate) desk: Option<Desk>,
+    pub(crate) desk: Option<DayState>,
     pub(crate) terms: BTreeMap<IssueMonth, Terms>,
 }
 
@@ -77,15 +77,15 @@ pub fn learn_terms(
     note_terms(known, period, shared(terms)?)
 }
 
-impl Desk {
+impl DayState {
     /// The desk with one more ticket of the open day; `None` above 2^64 - 1.
-    fn with_ticket(self) -> Option<Desk>
+    fn with_ticket(self) -> Option<DayState>
         ensures { IfSome result (λ desk. (desk.day ≡ self.day) × (desk.last_day ≡ self.last_day) × (desk.tickets ≡ self.tickets + 1)
             × (desk.counts.tickets ≡ self.counts.tickets + 1) × (desk.counts.bonds ≡ self.counts.bonds) × (desk.counts.total.0 ≡ self.counts.total.0)) }
     {
         let tickets = self.tickets.checked_add(1)?;
         let day_tickets = self.counts.tickets.checked_add(1)?;
-        Some(Desk {
+        Some(DayState {
             day: self.day,
             last_day: self.last_day,
             tickets,
@@ -99,7 +99,7 @@ impl Desk {
 }
 
 /// A known desk, after a redemption with this reply.
-fn after_redemption(desk: Option<Desk>, reply: &Reply) -> Option<Desk>
+fn after_redemption(desk: Option<DayState>, reply: &Reply) -> Option<DayState>
     ensures { (books : PlainBooks) (day payee : ℕ) (serials : List SerialNumber) → IfSome desk (λ desk. IsDesk desk books (redeemed_counts books))
         → reply.now ≡ reply_to books (act.Redeem day payee serials) → IfSome result (IsDeskAfter books (act.Redeem day payee serials)) }
 {
@@ -125,7 +125,7 @@ impl Known {
     }
 
     /// The desk, if it is known as this act counts it.
-    pub fn desk_for(&self, act: &Act) -> Option<Desk>
+    pub fn desk_for(&self, act: &Act) -> Option<DayState>
         ensures { (books : PlainBooks) → AreKnown self.now books → IfSome result (λ desk. IsDesk desk books (needed_counts books act.now)) }
     {
         match act {
@@ -135,7 +135,7 @@ impl Known {
     }
 
     /// Keeps the desk, if it is counted as for a redemption.
-    pub fn note_desk(&mut self, act: &Act, desk: &Desk)
+    pub fn note_desk(&mut self, act: &Act, desk: &DayState)
         ensures { (books : PlainBooks) → AreKnown self.old books → IsDesk desk.now books (needed_counts books act.now) → AreKnown self.new books }
     {
         if matches!(act, Act::Redeem { .. }) {

@@ -21,7 +21,7 @@ ghost use Rattle.ee_store_delivery.specs.Delivered.{AreEffects};
 ghost use Rattle.ee_store_delivery.specs.Written.{all_added_rows};
 ghost use Rattle.ee_store_delivery.specs.Known.{IsDesk, AreTermsOf, AreKnown, LearnsIn};
 
-use crate::known::{Desk, Known, known_terms, learn_terms};
+use crate::known::{DayState, Known, known_terms, learn_terms};
 use crate::named_by_act::{periods_of, serials_of};
 use ee_desk_decide::{DayCounts, View, ViewParts, decide, length_refusal};
 use ee_desk_model::{Act, Effects, Held, Terms, UnitTables};
@@ -45,12 +45,12 @@ fn optional_day(count: Option<u64>) -> Option<Option<Day>>
 
 /// The open day and the last closed day.
 #[derive(Drop)]
-struct Days {
+struct DaysFound {
     day: Option<Day>,
     last_day: Option<Day>,
 }
 
-fn days_of(desk: tables::DeskRow) -> Result<Days, Failure>
+fn days_of(desk: tables::DeskRow) -> Result<DaysFound, Failure>
     ensures value { IfOk result (λ days. (days.day ≡ desk.day) × (days.last_day ≡ desk.last_day)) }
     ensures read { IfSome desk.day IsDay → IfSome desk.last_day IsDay → IsOk result }
 {
@@ -60,11 +60,11 @@ fn days_of(desk: tables::DeskRow) -> Result<Days, Failure>
     let Some(last_day) = optional_day(desk.last_day) else {
         return Err(Failure::StoreFailed);
     };
-    Ok(Days { day, last_day })
+    Ok(DaysFound { day, last_day })
 }
 
 /// The days that a look-up found.
-fn days_shown(found: Option<tables::DeskRow>) -> Result<Days, Failure>
+fn days_shown(found: Option<tables::DeskRow>) -> Result<DaysFound, Failure>
     ensures value { IfOk result
         (λ days. (desk : DeskRow) → option_map row_of_desk found ≡ Some desk → (days.day ≡ desk.day) × (days.last_day ≡ desk.last_day)) }
     ensures read { (desk : DeskRow) → option_map row_of_desk found ≡ Some desk → IfSome desk.day IsDay → IfSome desk.last_day IsDay → IsOk result }
@@ -76,7 +76,7 @@ fn days_shown(found: Option<tables::DeskRow>) -> Result<Days, Failure>
 }
 
 /// The open day and the last closed day.
-fn days_in<S: Alter>(tx: &mut Transaction<'_, S>) -> Result<Days, Failure>
+fn days_in<S: Alter>(tx: &mut Transaction<'_, S>) -> Result<DaysFound, Failure>
     ensures same_reference { tx.new.conn.ghost_name ≡ tx.old.conn.ghost_name }
     ensures only_reads { OnlyReads (state S.Store tx.old.conn.now) (state S.Store tx.new.conn.now) result }
     ensures found { FindsIn (state S.Store tx.old.conn.now) (state S.Store tx.new.conn.now) result
@@ -199,7 +199,11 @@ fn counts_in<S: Alter>(
 }
 
 /// The days, and the counts of tickets for an act.
-fn desk_in<S: Alter>(tx: &mut Transaction<'_, S>, alloc: Global, act: &Act) -> Result<Desk, Failure>
+fn desk_in<S: Alter>(
+    tx: &mut Transaction<'_, S>,
+    alloc: Global,
+    act: &Act,
+) -> Result<DayState, Failure>
     ensures same_reference { tx.new.conn.ghost_name ≡ tx.old.conn.ghost_name }
     ensures only_reads { OnlyReads (state S.Store tx.old.conn.now) (state S.Store tx.new.conn.now) result }
     ensures found { FindsIn (state S.Store tx.old.conn.now) (state S.Store tx.new.conn.now) result
@@ -208,7 +212,7 @@ fn desk_in<S: Alter>(tx: &mut Transaction<'_, S>, alloc: Global, act: &Act) -> R
 {
     let days = days_in(tx)?;
     let counts = counts_in(tx, alloc, act, days.day)?;
-    Ok(Desk {
+    Ok(DayState {
         day: days.day,
         last_day: days.last_day,
         tickets: counts.tickets,
@@ -222,7 +226,7 @@ fn desk_for<S: Alter>(
     alloc: Global,
     known: &Known,
     act: &Act,
-) -> Result<Desk, Failure>
+) -> Result<DayState, Failure>
     ensures same_reference { tx.new.conn.ghost_name ≡ tx.old.conn.ghost_name }
     ensures only_reads { OnlyReads (state S.Store tx.old.conn.now) (state S.Store tx.new.conn.now) result }
     ensures found { FindsIn (state S.Store tx.old.conn.now) (state S.Store tx.new.conn.now) result
@@ -235,7 +239,7 @@ fn desk_for<S: Alter>(
     }
 }
 
-fn view_from(keys: Keys, desk: &Desk) -> Result<View, Failure>
+fn view_from(keys: Keys, desk: &DayState) -> Result<View, Failure>
     ensures fits { (books : PlainBooks) → IsSound books → (asked : Act)
         → record {
           rates = terms_found keys.terms.entries;

@@ -22,7 +22,8 @@ use crate::to_rows::{batch_row, bond_row, line_rows, ticket_row, whole, whole_op
 use ee_calculator::Bond;
 use ee_desk_model::{Batch, Change, Terms, Ticket};
 use ee_store_tables::{
-    Failure, RateRow, add_batch, add_bond, add_extension, add_rate, add_ticket, pay_lines, set_day,
+    Failure, PeriodRate, add_batch, add_bond, add_extension, add_rate, add_ticket, pay_lines,
+    set_day,
 };
 use ee_units::{Day, IssueMonth, Rate};
 use sqlite::{Alter, Transaction};
@@ -48,7 +49,7 @@ fn write_extension<S: Alter>(
         None => Ok(()),
         Some(extension) => {
             let rate = extension.hundredths() as u64;
-            add_extension(tx, RateRow { period, rate })
+            add_extension(tx, PeriodRate { period, rate })
         }
     }
 }
@@ -71,7 +72,7 @@ fn write_terms<S: Alter>(
 {
     let rates = terms.rates();
     let period = from.count() as u64;
-    let row = RateRow {
+    let row = PeriodRate {
         period,
         rate: rates.fixed.hundredths() as u64,
     };

@@ -15,9 +15,9 @@ use Rattle.ee_store_schema.specs.Migrating.{answer_entry}
 use Rattle.ee_store_load.specs.declared.entries.StoredRate.{StoredRate}
 use Rattle.ee_store_load.specs.declared.tables.KeptReplies.{KeptReplies}
 use Rattle.ee_store_load.specs.declared.whole.AllRows.{AllRows}
-use Rattle.ee_store_load.specs.declared.whole.Register.{Register}
-use Rattle.ee_store_load.specs.declared.whole.Payments.{Payments}
-use Rattle.ee_store_load.specs.declared.whole.Records.{Records}
+use Rattle.ee_store_load.specs.declared.whole.RegisterRows.{RegisterRows}
+use Rattle.ee_store_load.specs.declared.whole.PaymentRows.{PaymentRows}
+use Rattle.ee_store_load.specs.declared.whole.KeptRows.{KeptRows}
 use Rattle.ee_store_load.specs.Shown.{desk_map, rate_map, bond_map, ticket_map, line_map, batch_map, answer_map, desk_entry, rate_entry, bond_entry, ticket_entry, line_entry, batch_entry}
 
 -- all rows that were read, with these kept replies
@@ -69,25 +69,25 @@ pub record AreRead (Passes : StoredAnswer → Type 0) (all : AllRows) (rows : Ro
 
 -- ---- parts of the whole
 
-pub record ListsRegister (part : Register) : Type 0 where
+pub record ListsRegister (part : RegisterRows) : Type 0 where
   pub desk : entries (desk_map part.desk.items) ≡ map desk_entry part.desk.items
   pub rates : entries (rate_map part.rates.items) ≡ map rate_entry part.rates.items
   pub bonds : entries (bond_map part.bonds.items) ≡ map bond_entry part.bonds.items
 
-pub record ListsPayments (part : Payments) : Type 0 where
+pub record ListsPayments (part : PaymentRows) : Type 0 where
   pub tickets : entries (ticket_map part.tickets.items) ≡ map ticket_entry part.tickets.items
   pub lines : entries (line_map part.lines.items) ≡ map line_entry part.lines.items
 
-pub record ListsRecords (part : Records) : Type 0 where
+pub record ListsRecords (part : KeptRows) : Type 0 where
   pub batches : entries (batch_map part.batches.items) ≡ map batch_entry part.batches.items
   pub earlier : entries (answer_map part.replies.earlier.items) ≡ map answer_entry part.replies.earlier.items
 
-pub record HoldsRegister (db : Trees) (part : Register) : Type 0 where
+pub record HoldsRegister (db : Trees) (part : RegisterRows) : Type 0 where
   pub desk : HoldsMap desk_columns (db 0) (desk_map part.desk.items)
   pub rates : HoldsMap rate_columns (db 1) (rate_map part.rates.items)
   pub bonds : HoldsPairs bond_columns (db 2) (bond_map part.bonds.items)
 
-pub record HoldsPayments (db : Trees) (part : Payments) : Type 0 where
+pub record HoldsPayments (db : Trees) (part : PaymentRows) : Type 0 where
   pub tickets : HoldsMap ticket_columns (db 5) (ticket_map part.tickets.items)
   pub lines : HoldsPairs paid_columns (db 7) (line_map part.lines.items)
 
@@ -107,7 +107,7 @@ pub record HoldsTested (Passes : StoredAnswer → Type 0) (form : Form) (db : Tr
   pub tested : AreTested Passes form read kept
   pub held : HoldsKept form db (answer_map kept)
 
-pub record HoldsRecords (Passes : StoredAnswer → Type 0) (form : Form) (db : Trees) (part : Records) : Type 0 where
+pub record HoldsRecords (Passes : StoredAnswer → Type 0) (form : Form) (db : Trees) (part : KeptRows) : Type 0 where
   pub batches : HoldsMap batch_columns (db 10) (batch_map part.batches.items)
   pub replies : HoldsTested Passes form db part.replies
 

@@ -8,7 +8,7 @@ ghost use Rattle.sqlite.specs.declared.types.Value.TheVariants.{Int};
 ghost use Rattle.ee_store_tables.specs.Rows.{desk_columns, rate_columns, bond_columns, ticket_columns, paid_columns, batch_columns};
 ghost use Rattle.ee_store_load.specs.Shown as spec;
 
-use crate::reading::Record;
+use crate::reading::StoredRow;
 use ee_store_schema::{OpenFault, StoredAnswer};
 use sqlite::Row;
 
@@ -114,7 +114,7 @@ pub struct Rowid {
     pub rowid: i64,
 }
 
-impl Record for StoredDesk {
+impl StoredRow for StoredDesk {
     ghost shown = { spec.desk_shown };
 
     ghost is_readable = { spec.IsKeyed desk_columns };
@@ -138,7 +138,7 @@ impl Record for StoredDesk {
     }
 }
 
-impl Record for StoredRate {
+impl StoredRow for StoredRate {
     ghost shown = { spec.rate_shown };
 
     ghost is_readable = { spec.IsKeyed rate_columns };
@@ -160,7 +160,7 @@ impl Record for StoredRate {
     }
 }
 
-impl Record for StoredBond {
+impl StoredRow for StoredBond {
     ghost shown = { spec.bond_shown };
 
     ghost is_readable = { spec.IsPaired bond_columns };
@@ -187,7 +187,7 @@ impl Record for StoredBond {
     }
 }
 
-impl Record for StoredTicket {
+impl StoredRow for StoredTicket {
     ghost shown = { spec.ticket_shown };
 
     ghost is_readable = { spec.IsKeyed ticket_columns };
@@ -212,7 +212,7 @@ impl Record for StoredTicket {
     }
 }
 
-impl Record for StoredLine {
+impl StoredRow for StoredLine {
     ghost shown = { spec.line_shown };
 
     ghost is_readable = { spec.IsPaired paid_columns };
@@ -237,7 +237,7 @@ impl Record for StoredLine {
     }
 }
 
-impl Record for StoredBatch {
+impl StoredRow for StoredBatch {
     ghost shown = { spec.batch_shown };
 
     ghost is_readable = { spec.IsKeyed batch_columns };
@@ -261,7 +261,7 @@ impl Record for StoredBatch {
     }
 }
 
-impl Record for StoredReply {
+impl StoredRow for StoredReply {
     ghost shown = { spec.reply_shown };
 
     ghost is_readable = { spec.IsReply };
@@ -284,7 +284,7 @@ impl Record for StoredReply {
     }
 }
 
-impl Record for StoredAnswer {
+impl StoredRow for StoredAnswer {
     ghost shown = { spec.answer_shown };
 
     ghost is_readable = { spec.IsAnswerRow };
@@ -308,7 +308,7 @@ impl Record for StoredAnswer {
     }
 }
 
-impl Record for Rowid {
+impl StoredRow for Rowid {
     ghost shown = { λ it. Int it.rowid ∷ [] };
 
     ghost is_readable = { spec.IsRowid };

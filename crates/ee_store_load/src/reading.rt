@@ -20,7 +20,7 @@ use sqlite::{Alter, Connection, Row};
 use std::alloc::Global;
 
 /// A row of a table, as a query of the whole table shows it.
-pub trait Record: Sized {
+pub trait StoredRow: Sized {
     // What the query shows.
     ghost shown: { Self → Columns };
 
@@ -54,7 +54,7 @@ pub(crate) trait Gather<T>: Sized {
 }
 
 /// Whether the key of a row is above that of the row before it, if there is one.
-pub(crate) fn follows<T: Record>(last: Option<&T>, next: &T) -> bool
+pub(crate) fn follows<T: StoredRow>(last: Option<&T>, next: &T) -> bool
     ensures { result ≡ option_map_or (λ (it : T). T.stands_before it next.now) (option_copied last.entry) true }
 {
     match last {
@@ -64,7 +64,7 @@ pub(crate) fn follows<T: Record>(last: Option<&T>, next: &T) -> bool
 }
 
 /// Reads the rows of a query one after another, so that its answer is never held as a whole.
-pub(crate) fn gather_rows<S: Alter, T: Record + Drop, G: Gather<T> + Drop>(
+pub(crate) fn gather_rows<S: Alter, T: StoredRow + Drop, G: Gather<T> + Drop>(
     conn: &mut Connection<S>,
     alloc: Global,
     sql: &str,
@@ -105,7 +105,7 @@ struct TableRows<T> {
     rise: bool,
 }
 
-impl<T: Record + Drop> Gather<T> for TableRows<T> {
+impl<T: StoredRow + Drop> Gather<T> for TableRows<T> {
     ghost is_of = { λ it rows. (it.all.items ≡ rows) × (it.rise ≡ rises T.stands_before rows) };
 
     fn take(self, _alloc: Global, next: T) -> Result<TableRows<T>, OpenFault> {
@@ -119,7 +119,7 @@ impl<T: Record + Drop> Gather<T> for TableRows<T> {
 }
 
 /// Reads the rows of a table, by key.
-pub(crate) fn read_table<S: Alter, T: Record + Drop>(
+pub(crate) fn read_table<S: Alter, T: StoredRow + Drop>(
     conn: &mut Connection<S>,
     alloc: Global,
     sql: &str,

@@ -13,7 +13,7 @@ ghost use Rattle.ee_store_schema.specs.Asking.{IsNeverRefused};
 ghost use Rattle.ee_store_load.specs.Reading.{rises, whole_table, AsksForAll, ShowsAll, CanBeRead, OnlyAsks};
 ghost use Rattle.ee_store_load.specs.Testing.{Tells};
 
-use crate::reading::{Gather, Record, follows, gather_rows};
+use crate::reading::{Gather, StoredRow, follows, gather_rows};
 use ee_store_schema::OpenFault;
 use sqlite::{Alter, Connection};
 use std::alloc::{AllocError, Global};
@@ -42,21 +42,21 @@ impl<T> RowTest<T> for AnyRow {
 
 /// What is known about the rows read so far: the last row, whether their keys rise, and whether each passed its test.
 #[derive(Drop)]
-struct Tested<T, P> {
+struct TestedRows<T, P> {
     last: Option<T>,
     rise: bool,
     pass: bool,
     test: PhantomData<P>,
 }
 
-impl<T: Record + Drop, P: RowTest<T>> Gather<T> for Tested<T, P> {
+impl<T: StoredRow + Drop, P: RowTest<T>> Gather<T> for TestedRows<T, P> {
     ghost is_of = { λ it rows. Tells T.stands_before P.passes it.last it.rise it.pass rows };
 
-    fn take(self, alloc: Global, next: T) -> Result<Tested<T, P>, OpenFault> {
+    fn take(self, alloc: Global, next: T) -> Result<TestedRows<T, P>, OpenFault> {
         let Ok(right) = P::test(alloc, &next) else {
             return Err(OpenFault::NoMemory);
         };
-        Ok(Tested {
+        Ok(TestedRows {
             rise: self.rise & follows(self.last.as_ref(), &next),
             pass: self.pass & right,
             last: Some(next),
@@ -66,7 +66,7 @@ impl<T: Record + Drop, P: RowTest<T>> Gather<T> for Tested<T, P> {
 }
 
 /// Whether each row of a table passes a test. Reads the rows by key, and keeps none.
-pub(crate) fn test_table<S: Alter, T: Record + Drop, P: RowTest<T>>(
+pub(crate) fn test_table<S: Alter, T: StoredRow + Drop, P: RowTest<T>>(
     conn: &mut Connection<S>,
     alloc: Global,
     sql: &str,
@@ -89,13 +89,13 @@ pub(crate) fn test_table<S: Alter, T: Record + Drop, P: RowTest<T>>(
         → FailsForCause (SeesSchema schema) (state S.Store conn.old) (state S.Store conn.new) result }
     ensures crash { Survives (state S.Store conn.old) (state S.Store conn.new) (λ _. ⊥) }
 {
-    let none = Tested {
+    let none = TestedRows {
         last: None,
         rise: true,
         pass: true,
         test: PhantomData,
     };
-    let found: Tested<T, P> = gather_rows(conn, alloc, sql, none)?;
+    let found: TestedRows<T, P> = gather_rows(conn, alloc, sql, none)?;
     if !found.rise {
         return Err(OpenFault::Unusable);
     }

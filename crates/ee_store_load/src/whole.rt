@@ -58,7 +58,7 @@ pub struct AllRows {
 
 /// The rows of the register.
 #[derive(Drop)]
-pub(crate) struct Register {
+pub(crate) struct RegisterRows {
     desk: Vec<StoredDesk>,
     rates: Vec<StoredRate>,
     bonds: Vec<StoredBond>,
@@ -66,20 +66,23 @@ pub(crate) struct Register {
 
 /// The rows of the payments.
 #[derive(Drop)]
-pub(crate) struct Payments {
+pub(crate) struct PaymentRows {
     tickets: Vec<StoredTicket>,
     lines: Vec<StoredLine>,
 }
 
 /// The rows of what is kept.
 #[derive(Drop)]
-pub(crate) struct Records {
+pub(crate) struct KeptRows {
     batches: Vec<StoredBatch>,
     replies: KeptReplies,
 }
 
 /// Reads the desk, the rates and the bonds.
-fn read_register<S: Alter>(conn: &mut Connection<S>, alloc: Global) -> Result<Register, OpenFault>
+fn read_register<S: Alter>(
+    conn: &mut Connection<S>,
+    alloc: Global,
+) -> Result<RegisterRows, OpenFault>
     ensures found { HasCleanDisk (state S.Store conn.new) → HasOurTables (state S.Store conn.old) → IsSoundNow (state S.Store conn.old)
         → IfOk result (λ found. HoldsRegister (state S.Store conn.old).now.trees found) }
     ensures listed { IfOk result ListsRegister }
@@ -95,11 +98,14 @@ fn read_register<S: Alter>(conn: &mut Connection<S>, alloc: Global) -> Result<Re
     let desk = read_desk(conn, alloc)?;
     let rates = read_rates(conn, alloc)?;
     let bonds = read_bonds(conn, alloc)?;
-    Ok(Register { desk, rates, bonds })
+    Ok(RegisterRows { desk, rates, bonds })
 }
 
 /// Reads the tickets and their lines.
-fn read_payments<S: Alter>(conn: &mut Connection<S>, alloc: Global) -> Result<Payments, OpenFault>
+fn read_payments<S: Alter>(
+    conn: &mut Connection<S>,
+    alloc: Global,
+) -> Result<PaymentRows, OpenFault>
     ensures found { HasCleanDisk (state S.Store conn.new) → HasOurTables (state S.Store conn.old) → IsSoundNow (state S.Store conn.old)
         → IfOk result (λ found. HoldsPayments (state S.Store conn.old).now.trees found) }
     ensures listed { IfOk result ListsPayments }
@@ -114,7 +120,7 @@ fn read_payments<S: Alter>(conn: &mut Connection<S>, alloc: Global) -> Result<Pa
 {
     let tickets = read_tickets(conn, alloc)?;
     let lines = read_lines(conn, alloc)?;
-    Ok(Payments { tickets, lines })
+    Ok(PaymentRows { tickets, lines })
 }
 
 /// Reads the batches, and tests the kept replies.
@@ -122,7 +128,7 @@ fn read_records<S: Alter, P: RowTest<StoredAnswer>>(
     conn: &mut Connection<S>,
     alloc: Global,
     form: Form,
-) -> Result<Records, OpenFault>
+) -> Result<KeptRows, OpenFault>
     ensures found { HasCleanDisk (state S.Store conn.new) → SeesForm form (state S.Store conn.old) → IsSoundNow (state S.Store conn.old)
         → IfOk result (HoldsRecords P.passes form (state S.Store conn.old).now.trees) }
     ensures listed { IfOk result ListsRecords }
@@ -138,7 +144,7 @@ fn read_records<S: Alter, P: RowTest<StoredAnswer>>(
 {
     let batches = read_batches(conn, alloc)?;
     let replies = test_answers::<S, P>(conn, alloc, form)?;
-    Ok(Records { batches, replies })
+    Ok(KeptRows { batches, replies })
 }
 
 /// Reads all tables.

@@ -2,8 +2,8 @@
 use Rattle.std.specs.Prelude.{string_bytes, ℕ, ◌<◌, ◌^◌, None, IfSome, [], ◌∷◌}
 use Rattle.sqlite.specs.Order.{Row}
 use Rattle.ee_store_tables.specs.declared.records.DeskRow as code_desk
-use Rattle.ee_store_tables.specs.declared.records.RateRow.{RateRow}
-use Rattle.ee_store_tables.specs.declared.records.Serial.{Serial}
+use Rattle.ee_store_tables.specs.declared.records.PeriodRate.{PeriodRate}
+use Rattle.ee_store_tables.specs.declared.records.SerialKey.{SerialKey}
 use Rattle.ee_store_tables.specs.declared.records.BondRow as code_bond
 use Rattle.ee_store_tables.specs.declared.records.UnpaidBond.{UnpaidBond}
 use Rattle.ee_store_tables.specs.declared.records.TicketRow as code_ticket
@@ -17,7 +17,7 @@ use Rattle.ee_store_tables.specs.Rows.{number, optional, DeskRow, BondRow, Ticke
 abbrev pub row_of_desk : code_desk.DeskRow → DeskRow
 row_of_desk desk = record { version = desk.version; day = desk.day; last_day = desk.last_day }
 
-abbrev pub key_of : Serial → ℕ × ℕ
+abbrev pub key_of : SerialKey → ℕ × ℕ
 key_of serial = (serial.letter, serial.number)
 
 abbrev pub row_of_bond : code_bond.BondRow → BondRow
@@ -32,7 +32,7 @@ row_of_unpaid bond = record { denom = bond.denom; issued = bond.issued; owner = 
 abbrev pub entry_of_unpaid : UnpaidBond → (ℕ × ℕ) × BondRow
 entry_of_unpaid bond = (key_of_unpaid bond, row_of_unpaid bond)
 
-abbrev pub entry_of_rate : RateRow → ℕ × ℕ
+abbrev pub entry_of_rate : PeriodRate → ℕ × ℕ
 entry_of_rate rate = (rate.period, rate.rate)
 
 abbrev pub row_of_ticket : code_ticket.TicketRow → TicketRow
@@ -72,13 +72,13 @@ unpaid_columns bond = number bond.letter ∷ number bond.number ∷ number bond.
 abbrev pub Fits : ℕ → Type 0
 Fits n = n < 2 ^ 63
 
-abbrev pub FitsSerial : Serial → Type 0
+abbrev pub FitsSerial : SerialKey → Type 0
 FitsSerial serial = Fits serial.letter × Fits serial.number
 
 abbrev pub FitsUnpaid : UnpaidBond → Type 0
 FitsUnpaid bond = Fits bond.letter × Fits bond.number × Fits bond.denom × Fits bond.issued × Fits bond.owner × IfSome bond.coowner Fits
 
-abbrev pub FitsRate : RateRow → Type 0
+abbrev pub FitsRate : PeriodRate → Type 0
 FitsRate rate = Fits rate.period × Fits rate.rate
 
 abbrev pub FitsTicket : code_ticket.TicketRow → Type 0

@@ -24,8 +24,8 @@ ghost use Rattle.ee_store_tables.specs.Statements.{
 };
 
 use crate::failures::Failure;
-use crate::reading::{Record, read_each};
-use crate::records::{BondRow, Serial, UnpaidBond};
+use crate::reading::{QueryRow, read_each};
+use crate::records::{BondRow, SerialKey, UnpaidBond};
 use crate::values::{optional, whole};
 use sqlite::{Alter, Error, Row, Transaction};
 use std::alloc::Global;
@@ -59,7 +59,7 @@ pub fn add_bond<S: Alter>(tx: &mut Transaction<'_, S>, bond: UnpaidBond) -> Resu
 /// Marks a bond as paid on a ticket. If the bond isn't registered, nothing changes.
 pub fn mark_bond<S: Alter>(
     tx: &mut Transaction<'_, S>,
-    serial: Serial,
+    serial: SerialKey,
     ticket: u64,
 ) -> Result<(), Failure>
     requires serial { FitsSerial serial }
@@ -81,7 +81,7 @@ pub fn mark_bond<S: Alter>(
 }
 
 /// The row of a bond, if it is registered.
-fn bond_rows<S: Alter>(tx: &mut Transaction<'_, S>, serial: Serial) -> Result<Vec<Row>, Error>
+fn bond_rows<S: Alter>(tx: &mut Transaction<'_, S>, serial: SerialKey) -> Result<Vec<Row>, Error>
     requires { FitsSerial serial }
     ensures same_reference { tx.new.conn.ghost_name ≡ tx.old.conn.ghost_name }
     ensures open { LeavesOpen (state S.Store tx.new.conn.now) result }
@@ -119,7 +119,7 @@ fn read_bond(rows: &[Row]) -> Result<Option<BondRow>, Error>
 /// Finds the bond with this serial number.
 pub fn find_bond<S: Alter>(
     tx: &mut Transaction<'_, S>,
-    serial: Serial,
+    serial: SerialKey,
 ) -> Result<Option<BondRow>, Failure>
     requires { FitsSerial serial }
     ensures same_reference { tx.new.conn.ghost_name ≡ tx.old.conn.ghost_name }
@@ -136,7 +136,7 @@ pub fn find_bond<S: Alter>(
     Ok(found)
 }
 
-impl Record for UnpaidBond {
+impl QueryRow for UnpaidBond {
     ghost shown = { unpaid_columns };
 
     fn read(row: &Row) -> Result<UnpaidBond, Failure> {

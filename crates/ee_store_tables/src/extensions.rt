@@ -22,14 +22,14 @@ ghost use Rattle.ee_store_tables.specs.Statements.{
 
 use crate::failures::Failure;
 use crate::reading::read_number;
-use crate::records::RateRow;
+use crate::records::PeriodRate;
 use crate::values::whole;
 use sqlite::{Alter, Error, Row, Transaction};
 
 /// Adds an extension. If its period has one, nothing changes.
 pub fn add_extension<S: Alter>(
     tx: &mut Transaction<'_, S>,
-    extension: RateRow,
+    extension: PeriodRate,
 ) -> Result<(), Failure>
     requires { FitsRate extension }
     ensures same_reference { tx.new.conn.ghost_name ≡ tx.old.conn.ghost_name }

@@ -23,7 +23,7 @@ pub use failures::Failure;
 pub use lines::{add_paid, pay_lines, ticket_lines};
 pub use rates::{add_rate, find_rate};
 pub use records::{
-    BatchRow, BondRow, DeskRow, PaidRow, PlacedLine, RateRow, ReplyRow, Serial, TicketRow,
+    BatchRow, BondRow, DeskRow, PaidRow, PeriodRate, PlacedLine, ReplyRow, SerialKey, TicketRow,
     TicketSum, UnpaidBond,
 };
 pub use tickets::{add_ticket, day_tickets, find_ticket, first_ticket, last_ticket};

@@ -23,8 +23,8 @@ ghost use Rattle.ee_store_tables.specs.Statements.{
 
 use crate::bonds::mark_bond;
 use crate::failures::Failure;
-use crate::reading::{Record, read_each};
-use crate::records::{PaidRow, PlacedLine, Serial};
+use crate::reading::{QueryRow, read_each};
+use crate::records::{PaidRow, PlacedLine, SerialKey};
 use crate::values::whole;
 use sqlite::{Alter, Error, Row, Transaction};
 use std::alloc::Global;
@@ -235,7 +235,7 @@ fn mark_lines<S: Alter>(
     match lines.split_first() {
         None => Ok(()),
         Some((line, rest)) => {
-            let serial = Serial {
+            let serial = SerialKey {
                 letter: line.letter,
                 number: line.number,
             };
@@ -270,7 +270,7 @@ pub fn pay_lines<S: Alter>(
     mark_lines(tx, ticket, lines)
 }
 
-impl Record for PlacedLine {
+impl QueryRow for PlacedLine {
     ghost shown = { placed_columns };
 
     fn read(row: &Row) -> Result<PlacedLine, Failure> {

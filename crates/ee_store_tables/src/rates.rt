@@ -22,12 +22,12 @@ ghost use Rattle.ee_store_tables.specs.Statements.{
 
 use crate::failures::Failure;
 use crate::reading::read_number;
-use crate::records::RateRow;
+use crate::records::PeriodRate;
 use crate::values::whole;
 use sqlite::{Alter, Error, Row, Transaction};
 
 /// Adds a rate. If its period has one, nothing changes.
-pub fn add_rate<S: Alter>(tx: &mut Transaction<'_, S>, rate: RateRow) -> Result<(), Failure>
+pub fn add_rate<S: Alter>(tx: &mut Transaction<'_, S>, rate: PeriodRate) -> Result<(), Failure>
     requires { FitsRate rate }
     ensures same_reference { tx.new.conn.ghost_name ≡ tx.old.conn.ghost_name }
     ensures open { LeavesOpen (state S.Store tx.new.conn.now) result }

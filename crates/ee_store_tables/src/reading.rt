@@ -11,7 +11,7 @@ use sqlite::{Error, Row};
 use std::alloc::Global;
 
 /// The type that a row of a query is read as.
-pub trait Record: Sized {
+pub trait QueryRow: Sized {
     // The columns in which the query shows it.
     ghost shown: { Self → Columns };
 
@@ -22,7 +22,7 @@ pub trait Record: Sized {
 }
 
 /// Reads the rows of a query, in order.
-pub(crate) fn read_each<T: Record + Drop>(alloc: Global, rows: &[Row]) -> Result<Vec<T>, Failure>
+pub(crate) fn read_each<T: QueryRow + Drop>(alloc: Global, rows: &[Row]) -> Result<Vec<T>, Failure>
     ensures exact { IfOk result (λ found. rows.now ≡ map T.shown found.items) }
     ensures memory { IfErr result (λ failure. (all : List T) → rows.now ≡ map T.shown all → failure ≡ Failure.NoMemory) }
 {

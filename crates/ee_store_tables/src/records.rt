@@ -16,7 +16,7 @@ pub struct DeskRow {
 
 /// A rate of the bonds issued in a period: the fixed rate, or that of extended maturity.
 #[derive(Clone, Copy)]
-pub struct RateRow {
+pub struct PeriodRate {
     /// The first month of the period.
     pub period: u64,
     /// The rate, in hundredths of a percent.
@@ -25,7 +25,7 @@ pub struct RateRow {
 
 /// A serial number.
 #[derive(Clone, Copy)]
-pub struct Serial {
+pub struct SerialKey {
     /// The letter, 1 for A.
     pub letter: u64,
     /// The number, up to 9,999,999,999.

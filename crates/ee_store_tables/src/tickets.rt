@@ -23,7 +23,7 @@ ghost use Rattle.ee_store_tables.specs.Statements.{
 };
 
 use crate::failures::Failure;
-use crate::reading::{Record, read_each, read_number};
+use crate::reading::{QueryRow, read_each, read_number};
 use crate::records::{TicketRow, TicketSum};
 use crate::values::whole;
 use sqlite::{Alter, Error, Row, Transaction};
@@ -115,7 +115,7 @@ pub fn find_ticket<S: Alter>(
     Ok(found)
 }
 
-impl Record for TicketSum {
+impl QueryRow for TicketSum {
     ghost shown = { sum_columns };
 
     fn read(row: &Row) -> Result<TicketSum, Failure> {

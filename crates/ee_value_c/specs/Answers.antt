@@ -12,8 +12,8 @@ use Rattle.ee_calculator.specs.Rows.{Columns, columns_of}
 use Rattle.ee_value_c.specs.Numbers.{month_number}
 use Rattle.ee_value_c.specs.Statuses.{status_of}
 use Rattle.ee_value_c.specs.Questions.{question_at}
-use Rattle.ee_value_c.specs.declared.refusals.Refusal.{Refusal}
-use Rattle.ee_value_c.specs.declared.refusals.Refusal.TheVariants as refusal
+use Rattle.ee_value_c.specs.declared.refusals.CallRefusal.{CallRefusal}
+use Rattle.ee_value_c.specs.declared.refusals.CallRefusal.TheVariants as refusal
 use Rattle.ee_value_c.specs.declared.answers.ValueRow.{ValueRow}
 use Rattle.ee_value_c.specs.declared.questions.ValueQuestion.{ValueQuestion}
 use Rattle.ee_value_c.specs.declared.questions.Question.{Question}
@@ -66,45 +66,45 @@ is_row_open rates None = false
 is_row_open rates (Some a) = is_payment_open rates a 62
 
 -- the row that is asked for, if its value is settled
-unfoldable pub row_of : Question → Result ValueRow Refusal
+unfoldable pub row_of : Question → Result ValueRow CallRefusal
 row_of q =
     if is_row_open q.rates (age_of q.issued q.month) then Err refusal.Unsettled
     else Ok (row_with (columns_of (units_of q.denom) q.issued q.rates q.month))
 
-abbrev pub row_asked : Result Question Refusal → Result ValueRow Refusal
+abbrev pub row_asked : Result Question CallRefusal → Result ValueRow CallRefusal
 row_asked (Ok q) = row_of q
 row_asked (Err e) = Err e
 
 -- the row that the numbers ask for, or the first refusal
-unfoldable pub row_at : ValueQuestion → Result ValueRow Refusal
+unfoldable pub row_at : ValueQuestion → Result ValueRow CallRefusal
 row_at q = row_asked (question_at q)
 
 -- what a bond of that age pays; without an age it isn't issued yet
-abbrev pub paid_at : Denom → Rates → Option ℕ → Result ℕ Refusal
+abbrev pub paid_at : Denom → Rates → Option ℕ → Result ℕ CallRefusal
 paid_at d rates None = Err refusal.NotIssued
 paid_at d rates (Some a) = if nat_lt a 12 then Err refusal.NotEligible
     else if is_payment_open rates a 62 then Err refusal.Unsettled
     else Ok (units_of d * redemption rates a)
 
 -- the payment that is asked for
-unfoldable pub payment_of : Question → Result ℕ Refusal
+unfoldable pub payment_of : Question → Result ℕ CallRefusal
 payment_of q = paid_at q.denom q.rates (age_of q.issued q.month)
 
-abbrev pub payment_asked : Result Question Refusal → Result ℕ Refusal
+abbrev pub payment_asked : Result Question CallRefusal → Result ℕ CallRefusal
 payment_asked (Ok q) = payment_of q
 payment_asked (Err e) = Err e
 
 -- the payment that the numbers ask for, or the first refusal
-unfoldable pub payment_at : ValueQuestion → Result ℕ Refusal
+unfoldable pub payment_at : ValueQuestion → Result ℕ CallRefusal
 payment_at q = payment_asked (question_at q)
 
 -- the answer as a row; a refusal is its status
-abbrev pub row_or_refused : Result ValueRow Refusal → ValueRow
+abbrev pub row_or_refused : Result ValueRow CallRefusal → ValueRow
 row_or_refused (Ok row) = row
 row_or_refused (Err e) = refused (status_of e)
 
 -- the answer as a number: cents, or the negated status of a refusal
-abbrev pub cents_or_refused : Result ℕ Refusal → ℤ
+abbrev pub cents_or_refused : Result ℕ CallRefusal → ℤ
 cents_or_refused (Ok cents) = pos cents
 cents_or_refused (Err e) = neg_ℤ (pos (status_of e))
 
@@ -113,7 +113,7 @@ abbrev pub answer_to : ValueQuestion → ValueRow
 answer_to q = row_or_refused (row_at q)
 
 -- the bond pays nothing yet, and the note of its row says why
-abbrev pub IsUnpaid : Refusal → ℕ → Type 0
+abbrev pub IsUnpaid : CallRefusal → ℕ → Type 0
 IsUnpaid refusal.NotIssued n = n ≡ note_number note.Ni
 IsUnpaid refusal.NotEligible n = n ≡ note_number note.Ne
 IsUnpaid refusal.BadDenomination n = ⊥
@@ -125,7 +125,7 @@ IsUnpaid refusal.Unsettled n = ⊥
 
 -- a row and a payment for the same numbers agree: the row pays those cents; if nothing is paid yet, it pays 0 and its note
 -- says why; any other refusal is the same for both
-abbrev pub AreSame : Result ValueRow Refusal → Result ℕ Refusal → Type 0
+abbrev pub AreSame : Result ValueRow CallRefusal → Result ℕ CallRefusal → Type 0
 AreSame (Ok row) (Ok cents) = row.payable_cents ≡ cents
 AreSame (Ok row) (Err e) = (row.payable_cents ≡ 0) × IsUnpaid e row.note
 AreSame (Err e) payment = payment ≡ Err e

@@ -4,8 +4,8 @@ use Rattle.ee_units.specs.Denoms.{denom_with}
 use Rattle.ee_units.specs.Spelling.{in_range}
 use Rattle.ee_units.specs.declared.denoms.Denom.{Denom}
 use Rattle.ee_value_c.specs.Numbers.{month_in, issue_in}
-use Rattle.ee_value_c.specs.declared.refusals.Refusal.{Refusal}
-use Rattle.ee_value_c.specs.declared.refusals.Refusal.TheVariants as refusal
+use Rattle.ee_value_c.specs.declared.refusals.CallRefusal.{CallRefusal}
+use Rattle.ee_value_c.specs.declared.refusals.CallRefusal.TheVariants as refusal
 use Rattle.ee_value_c.specs.declared.questions.ValueQuestion.{ValueQuestion}
 use Rattle.ee_value_c.specs.declared.questions.Question.{Question}
 
@@ -15,7 +15,7 @@ numbers dollars issued month rate extension =
     record { dollars = dollars; issued = issued; month = month; rate = rate; extension = extension }
 
 -- the values of the numbers, or the refusal of the first number that has none
-abbrev pub question_read : Option Denom → Option ℕ → Option ℕ → Option ℕ → Option ℕ → Result Question Refusal
+abbrev pub question_read : Option Denom → Option ℕ → Option ℕ → Option ℕ → Option ℕ → Result Question CallRefusal
 question_read None issued month rate extension = Err refusal.BadDenomination
 question_read (Some d) None month rate extension = Err refusal.BadIssueMonth
 question_read (Some d) (Some i) None rate extension = Err refusal.BadMonth
@@ -25,5 +25,5 @@ question_read (Some d) (Some i) (Some m) (Some r) (Some e) =
     Ok (record { denom = d; issued = i; month = m; rates = record { fixed = r; extension = e } })
 
 -- the question; rates are in hundredths of a percent, 0 to 2000
-unfoldable pub question_at : ValueQuestion → Result Question Refusal
+unfoldable pub question_at : ValueQuestion → Result Question CallRefusal
 question_at q = question_read (denom_with q.dollars) (issue_in q.issued) (month_in q.month) (in_range 0 2000 q.rate) (in_range 0 2000 q.extension)

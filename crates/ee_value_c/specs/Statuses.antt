@@ -1,9 +1,9 @@
 -- The statuses of a call: 0 means an answer, and each refusal has a number and a text of its own.
 use Rattle.std.specs.Prelude.{ℕ, ◌-◌, ◌==◌, List, ◌++◌, length, take, drop, min, slice_set, codes, if◌then◌else◌}
-use Rattle.ee_value_c.specs.declared.refusals.Refusal.{Refusal}
-use Rattle.ee_value_c.specs.declared.refusals.Refusal.TheVariants as refusal
+use Rattle.ee_value_c.specs.declared.refusals.CallRefusal.{CallRefusal}
+use Rattle.ee_value_c.specs.declared.refusals.CallRefusal.TheVariants as refusal
 
-abbrev pub status_of : Refusal → ℕ
+abbrev pub status_of : CallRefusal → ℕ
 status_of refusal.BadDenomination = 1
 status_of refusal.BadIssueMonth = 2
 status_of refusal.BadMonth = 3

@@ -6,7 +6,7 @@ ghost use Rattle.ee_value_c.specs.Answers.{note_number, payable, row_with, refus
 ghost use Rattle.ee_value_c.specs.Statuses.{status_of};
 
 use crate::numbers::month_number;
-use crate::refusals::Refusal;
+use crate::refusals::CallRefusal;
 use ee_calculator::{Note, Row};
 
 /// What the calculator shows for a bond in a month, and what the bond pays.
@@ -48,7 +48,7 @@ pub fn shown_row(row: Row) -> ValueRow
 }
 
 /// The answer of a refused call.
-pub fn refused_row(refusal: Refusal) -> ValueRow
+pub fn refused_row(refusal: CallRefusal) -> ValueRow
     ensures { result ≡ refused (status_of refusal) }
 {
     ValueRow {

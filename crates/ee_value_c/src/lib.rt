@@ -20,4 +20,4 @@ pub use exports::{
 };
 pub use laws::answers_law;
 pub use questions::{Question, ValueQuestion};
-pub use refusals::Refusal;
+pub use refusals::CallRefusal;

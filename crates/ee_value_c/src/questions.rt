@@ -4,7 +4,7 @@ ghost use Rattle.std.specs.Prelude.{◌≡◌};
 ghost use Rattle.ee_value_c.specs.Questions.{question_at};
 
 use crate::numbers::{denomination, issue_month, month, rate};
-use crate::refusals::Refusal;
+use crate::refusals::CallRefusal;
 use ee_units::{Denom, IssueMonth, Month};
 use ee_value::Rates;
 
@@ -35,14 +35,14 @@ pub struct Question {
 
 /// The question of these numbers, or the first refusal, in the order of the fields.
 #[tactic(auto, unfolding(crate::specs::Questions::question_at))]
-pub fn question_at(question: ValueQuestion) -> Result<Question, Refusal>
+pub fn question_at(question: ValueQuestion) -> Result<Question, CallRefusal>
     ensures { result ≡ question_at question }
 {
-    let denom = denomination(question.dollars).ok_or(Refusal::BadDenomination)?;
-    let issued = issue_month(question.issued).ok_or(Refusal::BadIssueMonth)?;
-    let month = month(question.month).ok_or(Refusal::BadMonth)?;
-    let fixed = rate(question.rate).ok_or(Refusal::BadRate)?;
-    let extension = rate(question.extension).ok_or(Refusal::BadExtension)?;
+    let denom = denomination(question.dollars).ok_or(CallRefusal::BadDenomination)?;
+    let issued = issue_month(question.issued).ok_or(CallRefusal::BadIssueMonth)?;
+    let month = month(question.month).ok_or(CallRefusal::BadMonth)?;
+    let fixed = rate(question.rate).ok_or(CallRefusal::BadRate)?;
+    let extension = rate(question.extension).ok_or(CallRefusal::BadExtension)?;
     Ok(Question {
         denom,
         issued,

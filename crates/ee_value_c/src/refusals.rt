@@ -5,7 +5,7 @@ ghost use Rattle.ee_value_c.specs.Statuses.{status_of};
 
 /// Why a call is refused.
 #[derive(Clone, Copy)]
-pub enum Refusal {
+pub enum CallRefusal {
     /// No paper bond has this denomination.
     BadDenomination,
     /// The issue month isn't a month from 200505 to 209912.
@@ -24,20 +24,20 @@ pub enum Refusal {
     Unsettled,
 }
 
-impl Refusal {
+impl CallRefusal {
     /// The status that a C caller gets.
     pub const fn status(self) -> u32
         ensures { result ≡ status_of self }
     {
         match self {
-            Refusal::BadDenomination => 1,
-            Refusal::BadIssueMonth => 2,
-            Refusal::BadMonth => 3,
-            Refusal::BadRate => 4,
-            Refusal::BadExtension => 5,
-            Refusal::NotIssued => 6,
-            Refusal::NotEligible => 7,
-            Refusal::Unsettled => 8,
+            CallRefusal::BadDenomination => 1,
+            CallRefusal::BadIssueMonth => 2,
+            CallRefusal::BadMonth => 3,
+            CallRefusal::BadRate => 4,
+            CallRefusal::BadExtension => 5,
+            CallRefusal::NotIssued => 6,
+            CallRefusal::NotEligible => 7,
+            CallRefusal::Unsettled => 8,
         }
     }
 }

@@ -10,7 +10,7 @@ use Rattle.ee_wire_framing.specs.declared.buffer.Next.{Next}
 use Rattle.ee_wire_framing.specs.declared.buffer.Next.TheVariants as next
 use Rattle.ee_wire_framing.specs.declared.buffer.WireEnd.{WireEnd}
 use Rattle.ee_wire_framing.specs.declared.buffer.WireEnd.TheVariants as wire
-use Rattle.ee_wire_framing.specs.declared.buffer.ReadFault.{ReadFault}
+use Rattle.ee_wire_framing.specs.declared.buffer.FillFault.{FillFault}
 use Rattle.ee_wire_framing.specs.declared.front.Front.{Front}
 use Rattle.ee_wire_framing.specs.declared.front.Front.TheVariants as front
 use Rattle.ee_wire_framing.specs.Stream.{Stream}
@@ -113,7 +113,7 @@ EndsAt bytes (Err wire.NoMemory) = ⊥
 -- ---- one read
 
 -- n bytes were read, and none only if there are no more; or the read failed, and nothing changed
-abbrev pub ReadsMore : Stream → Option (List ℕ) → Result ℕ ReadFault → Stream → Option (List ℕ) → Type 0
+abbrev pub ReadsMore : Stream → Option (List ℕ) → Result ℕ FillFault → Stream → Option (List ℕ) → Type 0
 ReadsMore old before (Ok n) new after =
     (got : List ℕ) × (length got ≡ n) × (new ≡ record old { held = old.held ++ got }) × Consumes before after got
     × (n ≡ 0 → IsAtEnd after) × (n ≤ most_read)

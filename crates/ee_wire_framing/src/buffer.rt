@@ -49,7 +49,7 @@ pub enum WireEnd {
 }
 
 /// Why a read gave nothing.
-pub enum ReadFault {
+pub enum FillFault {
     Failed,
     NoMemory,
 }
@@ -165,22 +165,22 @@ impl Buffer {
     }
 
     /// Reads once.
-    fn read_more<R: Source>(&mut self, reader: &mut R) -> Result<usize, ReadFault>
+    fn read_more<R: Source>(&mut self, reader: &mut R) -> Result<usize, FillFault>
         requires none { self.old.shown ≡ [] }
         requires room { length self.old.held < most_head + most_body }
         ensures reads { ReadsMore self.old (R.remaining reader.old) result self.new (R.remaining reader.new) }
-        ensures failed { IfErr result (λ fault. fault ≡ ReadFault.Failed → R.may_have_failed reader.new) }
+        ensures failed { IfErr result (λ fault. fault ≡ FillFault.Failed → R.may_have_failed reader.new) }
     {
         let mut chunk = [0u8; CHUNK];
         if self.bytes.reserve(CHUNK).is_err() {
-            return Err(ReadFault::NoMemory);
+            return Err(FillFault::NoMemory);
         }
         match reader.read_once(&mut chunk) {
             Ok(n) => match self.bytes.extend_from_slice(&chunk[..n]) {
                 Ok(()) => Ok(n),
                 Err(_) => unreachable!(),
             },
-            Err(_) => Err(ReadFault::Failed),
+            Err(_) => Err(FillFault::Failed),
         }
     }
 }
@@ -224,11 +224,11 @@ pub fn next_message<R: Source>(reader: &mut R, buffer: &mut Buffer) -> Result<Ne
         match buffer.read_more(reader) {
             Ok(0) => return buffer.at_end(),
             Ok(_) => {}
-            Err(ReadFault::Failed) => {
+            Err(FillFault::Failed) => {
                 buffer.stop(Stop::ReadFailed);
                 return Err(WireEnd::ReadFailed);
             }
-            Err(ReadFault::NoMemory) => return Err(WireEnd::NoMemory),
+            Err(FillFault::NoMemory) => return Err(WireEnd::NoMemory),
         }
     }
 }

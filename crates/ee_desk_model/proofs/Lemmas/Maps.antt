@@ -8,7 +8,7 @@ use Rattle.std.specs.Ordering.{eq_by_cmp}
 use Rattle.std.specs.declared.cmp.Ordering.{Ordering}
 use Rattle.std.proofs.lemmas.Map.Lookups.{CmpEqualImpliesEq}
 use Rattle.ee_desk_model.specs.Lists.{Rising}
-use Rattle.ee_desk_model.specs.Numbers.{Number, number_cmp, same_number}
+use Rattle.ee_desk_model.specs.Numbers.{RequestKey, number_cmp, same_number}
 use Rattle.ee_desk_model.specs.Refusals.{repeated_bond}
 use Rattle.ee_desk_model.specs.Serials.{same_serial, serial_cmp}
 use Rattle.ee_desk_model.specs.Views.{picked}
@@ -57,11 +57,11 @@ pub numbers_exact : CmpEqualImpliesEq number_cmp
 numbers_exact = RequestNumbers.numbers_exact
 
 -- numbers that are the same are equal
-pub same_number-is : (m n : Number) → same_number m n ≡ true → m ≡ n
+pub same_number-is : (m n : RequestKey) → same_number m n ≡ true → m ≡ n
 same_number-is = RequestNumbers.number_is
 
 -- each number is the same as itself
-pub same_number-self : (n : Number) → same_number n n ≡ true
+pub same_number-self : (n : RequestKey) → same_number n n ≡ true
 same_number-self = RequestNumbers.number_self
 
 -- ---- lists

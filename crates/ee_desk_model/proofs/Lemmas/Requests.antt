@@ -7,7 +7,7 @@ use Rattle.std.specs.Result.{IfOk, OnErr, OnOk}
 use Rattle.ee_desk_model.specs.Acts.{same_act}
 use Rattle.ee_desk_model.specs.Answers.{AreAnswers, answer, reply_again, served}
 use Rattle.ee_desk_model.specs.Contents.{content_after}
-use Rattle.ee_desk_model.specs.Numbers.{Number, number_cmp, number_of, same_number}
+use Rattle.ee_desk_model.specs.Numbers.{RequestKey, number_cmp, number_of, same_number}
 use Rattle.ee_desk_model.specs.Outcomes.{act}
 use Rattle.ee_desk_model.specs.Repeats.{Content}
 use Rattle.ee_desk_model.specs.declared.acts.Act.{Act}
@@ -50,21 +50,21 @@ content_after-kept = KeptReplies.stays
 
 -- ---- kept replies
 -- the reply that a map in memory keeps is what is looked up among its entries
-pub get_kept : (es : List (Number × Kept)) (n : Number) → finite.get (finite.from_entries {R = number_cmp} es) n ≡ lookup (is_at (number_cmp n)) es
+pub get_kept : (es : List (RequestKey × Kept)) (n : RequestKey) → finite.get (finite.from_entries {R = number_cmp} es) n ≡ lookup (is_at (number_cmp n)) es
 get_kept = KeptReplies.get_kept
 
 -- one reply more is found at its number, and the others if they were
-pub get_kept-insert : (kept : FinMap number_cmp Kept) (n : Number) (k : Kept) (m : Number)
+pub get_kept-insert : (kept : FinMap number_cmp Kept) (n : RequestKey) (k : Kept) (m : RequestKey)
     → finite.get (finite.insert kept n k) m ≡ cond (same_number m n) (Some k) (finite.get kept m)
 get_kept-insert = Repeats.get_more
 
 -- what a number that wasn't kept has after its request
-pub get_kept-own : (S : Content) (r : Request) (n : Number) → finite.contains_key S.kept (number_of r) ≡ false → same_number n (number_of r) ≡ true
+pub get_kept-own : (S : Content) (r : Request) (n : RequestKey) → finite.contains_key S.kept (number_of r) ≡ false → same_number n (number_of r) ≡ true
     → finite.get (content_after S (r ∷ [])).kept n ≡ Some (record { act = r.act; reply = (act S.books r.act).reply })
 get_kept-own = Repeats.kept_own
 
 -- a reply at a number that wasn't kept, put in and taken out again, leaves the others
-pub remove-insert_kept : (kept : FinMap number_cmp Kept) (n : Number) (k : Kept) → finite.get kept n ≡ None
+pub remove-insert_kept : (kept : FinMap number_cmp Kept) (n : RequestKey) (k : Kept) → finite.get kept n ≡ None
     → finite.remove (finite.insert kept n k) n ≡ kept
 remove-insert_kept = KeptReplies.forgotten
 

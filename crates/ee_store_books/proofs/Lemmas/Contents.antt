@@ -6,7 +6,7 @@ use Rattle.std.specs.Option.{option_and_then, option_map}
 use Rattle.std.specs.Ordering.{nat_cmp}
 use Rattle.std.specs.Prelude.{T, flat_map, IsSome}
 use Rattle.std.specs.declared.cmp.Ordering.{Ordering}
-use Rattle.ee_desk_model.specs.Numbers.{number_cmp, Number}
+use Rattle.ee_desk_model.specs.Numbers.{number_cmp, RequestKey}
 use Rattle.ee_desk_model.specs.Seen.{held_as}
 use Rattle.ee_desk_model.specs.Serials.{serial_cmp}
 use Rattle.ee_desk_model.specs.Sound.{IsRightBond, NumberedFrom}
@@ -67,7 +67,7 @@ pub get_bond_row : (bonds : FinMap serial_cmp Bond) (tickets : List Ticket) (ser
 get_bond_row = Images.get_bond
 
 -- the row of a desk's number is that of its reply
-pub get_reply_row : (kept : FinMap number_cmp Kept) (number : Number) → finite.get (reply_rows kept) number ≡ option_map reply_row (finite.get kept number)
+pub get_reply_row : (kept : FinMap number_cmp Kept) (number : RequestKey) → finite.get (reply_rows kept) number ≡ option_map reply_row (finite.get kept number)
 get_reply_row = Images.get_reply
 
 -- ---- rows in order
@@ -129,7 +129,7 @@ pub readable : (form : Form) (content : Content) → IsRight content → AreRead
 readable = Readable.readable
 
 -- the texts that a content keeps are UTF-8
-pub kept_texts : (content : Content) → IsRight content → (n : Number) → IfSome (finite.get (rows_of content).answers n) IsText
+pub kept_texts : (content : Content) → IsRight content → (n : RequestKey) → IfSome (finite.get (rows_of content).answers n) IsText
 kept_texts = Readable.kept_texts
 
 -- rows represent one content at most

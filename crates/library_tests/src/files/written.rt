@@ -6,7 +6,7 @@ use crate::comparing::{
 };
 use crate::device::{Device, Trouble};
 use ee_calculator::Bond;
-use ee_files::{Column, FileCode, FileFault, WriteFault, read_inventory, write_inventory};
+use ee_files::{FileCode, FileColumn, FileFault, WriteFault, read_inventory, write_inventory};
 use std::alloc::Global;
 use std::test::Fail;
 
@@ -72,13 +72,13 @@ fn a_written_file_is_read_back(rt: HostRuntime) -> Result<(), Fail> {
 const CODES: [FileCode; 12] = [
     FileCode::BadHeader,
     FileCode::WrongFieldCount,
-    FileCode::BadValue(Column::From),
-    FileCode::BadValue(Column::Rate),
-    FileCode::BadValue(Column::Serial),
-    FileCode::BadValue(Column::Denom),
-    FileCode::BadValue(Column::Issued),
-    FileCode::BadValue(Column::Owner),
-    FileCode::BadValue(Column::Coowner),
+    FileCode::BadValue(FileColumn::From),
+    FileCode::BadValue(FileColumn::Rate),
+    FileCode::BadValue(FileColumn::Serial),
+    FileCode::BadValue(FileColumn::Denom),
+    FileCode::BadValue(FileColumn::Issued),
+    FileCode::BadValue(FileColumn::Owner),
+    FileCode::BadValue(FileColumn::Coowner),
     FileCode::ReadFailed,
     FileCode::NoMemory,
     FileCode::FileTooLong,

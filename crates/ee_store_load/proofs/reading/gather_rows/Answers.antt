@@ -65,7 +65,7 @@ returns-in_default-clause-shown g c clean =
     let found = c.rows.invariant.3.0 in
     let was = c.rows.invariant.3.1 (omega (arith, moved.survives.clean)) in
     let shown = (rw (c.in_ok-row.was, c.in_default.is) at (moved.ok late)) c.args.sql.now [] _ was.0 in
-    let all : Shown c.args.sql.now [] (state g.S.Store c.args.conn.now) (state g.S.Store now) (map g.T.Record.shown found)
+    let all : Shown c.args.sql.now [] (state g.S.Store c.args.conn.now) (state g.S.Store now) (map g.T.StoredRow.shown found)
     = shown_after c.args.sql.now c.requires.asks [] (state g.S.Store c.args.conn.now) (state g.S.Store c.rows.rows.conn.now) (state g.S.Store now) _ was.1 shown in
     (found, search rules, c.rows.invariant.3.2)
 
@@ -77,11 +77,11 @@ returns-in_err-next-clause-usable g c clean =
     let now = c.next.follows.lender-at-none.conn.now in
     let late : HasCleanDisk (state g.S.Store now) = search rules in
     let was = c.rows.invariant.3.1 (omega (arith, moved.survives.clean)) in
-    let given = map g.T.Record.shown c.rows.invariant.3.0 in
+    let given = map g.T.StoredRow.shown c.rows.invariant.3.0 in
     let step = (rw (c.in_ok-row.was, c.in-Some.is) at (moved.ok late)) c.args.sql.now [] given was.0 in
     let same : IsUnchanged middle (state g.S.Store now) = rw c.in_ok-row.was at (moved.same late) in
     let begins = begins_before c.args.sql.now [] old (state g.S.Store now) _ (unchanged_then old middle (state g.S.Store now) was.1 same) (given_begin g.S.Store c.args.sql.now [] now _ step) in
-    handed_on _ c.from_residual-in_err-next.result c.in_err-next.field-0.0 c.from_residual-in_err-next.ensures.1 (λ unusable plain. (given ++ c.in-Some.row.now ∷ [], begins, λ all. c.in_err-next.ensures.usable unusable (last_of g.T.Record.is_readable given c.in-Some.row.now all)))
+    handed_on _ c.from_residual-in_err-next.result c.in_err-next.field-0.0 c.from_residual-in_err-next.ensures.1 (λ unusable plain. (given ++ c.in-Some.row.now ∷ [], begins, λ all. c.in_err-next.ensures.usable unusable (last_of g.T.StoredRow.is_readable given c.in-Some.row.now all)))
 
 pub rows-preserved : goal.rows-preserved
 rows-preserved g c =
@@ -98,9 +98,9 @@ rows-preserved g c =
         before.3.0 ++ next ∷ [],
         λ clean.
             let was = before.3.1 (omega (arith, moved.survives.clean)) in
-            let step = (rw (c.in_ok-row.was, c.in-Some.is) at (moved.ok clean)) c.args.sql.now [] (map g.T.Record.shown before.3.0) was.0 in
+            let step = (rw (c.in_ok-row.was, c.in-Some.is) at (moved.ok clean)) c.args.sql.now [] (map g.T.StoredRow.shown before.3.0) was.0 in
             let same : IsUnchanged middle (state g.S.Store now) = rw c.in_ok-row.was at (moved.same clean) in
-            let more = shown_more g.T.Record.shown before.3.0 next c.in-Some.row.now c.in_ok-next.ensures.exact in
+            let more = shown_more g.T.StoredRow.shown before.3.0 next c.in-Some.row.now c.in_ok-next.ensures.exact in
             (subst (HasGiven g.S.Store c.args.sql.now [] now) more step, unchanged_then old middle (state g.S.Store now) was.1 same),
         c.in_ok-gathered.ensures.taken before.3.0 before.3.2,
       ),

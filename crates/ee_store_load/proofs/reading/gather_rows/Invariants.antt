@@ -10,5 +10,5 @@ invariant-rows g l =
     let old = state g.S.Store l.fn.conn in
     let now = state g.S.Store l.rows.conn.now in
     (l.rows.conn.ghost_name ≡ l.initial.rows.conn.ghost_name) × Survives old now (λ _. ⊥) × StaysOutside old now
-    × ((found : List g.row.T.Denot) × (HasCleanDisk now → HasGiven g.S.Store l.sql [] l.rows.conn.now (map g.T.Record.shown found) × IsUnchanged old now)
+    × ((found : List g.row.T.Denot) × (HasCleanDisk now → HasGiven g.S.Store l.sql [] l.rows.conn.now (map g.T.StoredRow.shown found) × IsUnchanged old now)
     × g.G.Gather.is_of l.gathered found)

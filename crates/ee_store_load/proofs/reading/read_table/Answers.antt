@@ -18,20 +18,20 @@ returns-clause-found g c clean schema tree terms order asks ours =
     let new = state g.S.Store c.gather_rows.new.conn in
     let is_open = (c.in_ok-found.ensures.same clean).0.was_open in
     let read = c.in_ok-found.ensures.shown clean in
-    let shown = subst (λ (rows : List g.row.T.Denot). Shown c.args.sql.now [] old new (map g.T.Record.shown rows)) (sym read.2.0) read.1 in
+    let shown = subst (λ (rows : List g.row.T.Denot). Shown c.args.sql.now [] old new (map g.T.StoredRow.shown rows)) (sym read.2.0) read.1 in
     (is_open, shows_all old new schema c.args.sql.now tree terms order _ asks (ours is_open) shown)
 
 pub returns-clause-rises : goal.returns-clause-rises
 returns-clause-rises g c =
     let made = c.in_ok-found.ensures.made in
-    ap (rises g.T.Record.stands_before) made.1.0 ∙ sym made.1.1 ∙ not-false c.in_ok-found.found.rise c.if-not-found.false
+    ap (rises g.T.StoredRow.stands_before) made.1.0 ∙ sym made.1.1 ∙ not-false c.in_ok-found.found.rise c.if-not-found.false
 
 pub returns-in_err-found-clause-usable : goal.returns-in_err-found-clause-usable
 returns-in_err-found-clause-usable g c clean =
     let old = state g.S.Store c.args.conn.now in
     handed_on _ c.from_residual.result c.in_err-found.field-0.0 c.from_residual.ensures.1 (λ unusable schema tree terms order asks ours is_open can.
     let plain = subst (λ s. IsPlain (understood s c.args.sql.now)) (sym (ours is_open)) (is_plain schema c.args.sql.now tree terms order asks) in
-    unreadable g.T.Record.is_readable old schema c.args.sql.now tree terms order asks (ours is_open) is_open (c.in_err-found.ensures.usable clean unusable plain) (λ rows a. (can rows a).0))
+    unreadable g.T.StoredRow.is_readable old schema c.args.sql.now tree terms order asks (ours is_open) is_open (c.in_err-found.ensures.usable clean unusable plain) (λ rows a. (can rows a).0))
 
 pub returns-then-not-found-clause-usable : goal.returns-then-not-found-clause-usable
 returns-then-not-found-clause-usable g c clean unusable schema tree terms order asks ours is_open can =

@@ -26,7 +26,7 @@ returns-in_err-found-clause-usable g c clean =
     let old = state g.S.Store c.args.conn.now in
     handed_on _ c.from_residual.result c.in_err-found.field-0.0 c.from_residual.ensures.1 (λ unusable schema tree terms order asks ours is_open can.
     let plain = subst (λ s. IsPlain (understood s c.args.sql.now)) (sym (ours is_open)) (is_plain schema c.args.sql.now tree terms order asks) in
-    unreadable g.T.Record.is_readable old schema c.args.sql.now tree terms order asks (ours is_open) is_open (c.in_err-found.ensures.usable clean unusable plain) (λ rows a. (can rows a).0))
+    unreadable g.T.StoredRow.is_readable old schema c.args.sql.now tree terms order asks (ours is_open) is_open (c.in_err-found.ensures.usable clean unusable plain) (λ rows a. (can rows a).0))
 
 pub returns-then-not-found-clause-usable : goal.returns-then-not-found-clause-usable
 returns-then-not-found-clause-usable g c clean unusable schema tree terms order asks ours is_open can =

@@ -12,5 +12,5 @@ pub returns-in_err-next-clause-memory : goal.returns-in_err-next-clause-memory
 returns-in_err-next-clause-memory g c =
     from_err c.from_residual-in_err-next.result c.from_residual-in_err-next.ensures.1 (λ failure same all shown.
     let low = subst (λ xs. c.loop-row.row-index < length xs) shown c.loop-row-test.true in
-    let it = shown_at g.T.Record.shown all c.loop-row.row-index _ low (subst (λ xs. c.row-item.result ≡ get_or xs c.loop-row.row-index c.row-item.result) shown c.row-item.is) in
+    let it = shown_at g.T.QueryRow.shown all c.loop-row.row-index _ low (subst (λ xs. c.row-item.result ≡ get_or xs c.loop-row.row-index c.row-item.result) shown c.row-item.is) in
     same ∙ c.in_err-next.ensures.memory it.0 it.1)

@@ -3,7 +3,7 @@ use Rattle.std.proofs.lemmas.Bool.{cases_Bool}
 use Rattle.ee_calculator.specs.Rows.{columns_of, value_in}
 use Rattle.ee_value.specs.Open.{is_open}
 use Rattle.ee_value.specs.Payment.{counted_age, is_payment_open}
-use Rattle.ee_value_c.specs.declared.refusals.Refusal.{Refusal}
+use Rattle.ee_value_c.specs.declared.refusals.CallRefusal.{CallRefusal}
 use Rattle.ee_value_c.specs.declared.questions.Question.{Question}
 use Rattle.ee_value_c.specs.Questions.{question_at}
 use Rattle.ee_value_c.specs.Answers.{row_of, row_at, payment_of, payment_at, row_asked, payment_asked, AreSame}
@@ -29,7 +29,7 @@ same q = elim (cases_Bool (nat_le q.issued q.month)) [
   ])
 ]
 
-asked : (q : Result Question Refusal) → AreSame (row_asked q) (payment_asked q)
+asked : (q : Result Question CallRefusal) → AreSame (row_asked q) (payment_asked q)
 asked (Ok q) = same q
 asked (Err e) = refl
 

@@ -1,6 +1,6 @@
 use Rattle.std.proofs.Common.{arith}
 use Rattle.ee_store_tables.proofs.ColumnLemmas.{six_columns, reads_optional}
-use Rattle.ee_store_tables.proofs.bonds.UnpaidBondRecord.read.Goals as goal
+use Rattle.ee_store_tables.proofs.bonds.UnpaidBondQueryRow.read.Goals as goal
 
 pub returns-clause-exact : goal.returns-clause-exact
 returns-clause-exact c =
