@@ -50,7 +50,7 @@ fn days(alloc: Global) -> Result<Vec<Request>> {
 }
 
 /// Prints what requests paid.
-fn tell_sums(rt: &HostRuntime, what: &str, answers: &[Result<Reply, Unserved>]) -> Result<()> {
+fn print_sums(rt: &HostRuntime, what: &str, answers: &[Result<Reply, Unserved>]) -> Result<()> {
     let tickets = paid(answers);
     let batches = settled(answers);
     println!(rt;
@@ -65,7 +65,7 @@ fn tell_sums(rt: &HostRuntime, what: &str, answers: &[Result<Reply, Unserved>]) 
 }
 
 /// Prints how long a number of requests took.
-fn tell_time(rt: &HostRuntime, what: &str, count: usize, nanos: u128) -> Result<()> {
+fn print_time(rt: &HostRuntime, what: &str, count: usize, nanos: u128) -> Result<()> {
     let one = nanos / (count as u128).max(1);
     eprintln!(rt;
         "{what}: {one} ns a request, {} a second",
@@ -84,8 +84,8 @@ fn timed(
     let start = Instant::now(rt)?;
     let answers = run(rt.alloc(), keeper, requests)?;
     let nanos = start.elapsed(rt)?.as_nanos();
-    tell_sums(rt, what, &answers)?;
-    tell_time(rt, what, answers.len(), nanos)
+    print_sums(rt, what, &answers)?;
+    print_time(rt, what, answers.len(), nanos)
 }
 
 /// Enters the bonds, and opens the day.

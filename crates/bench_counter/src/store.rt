@@ -135,11 +135,11 @@ fn measure<K: Keeper>(rt: &HostRuntime, keeper: &mut K, size: Size) -> Result<()
     enter(rt.alloc(), keeper, size.bonds)?;
     let entered = start.elapsed(rt)?.as_millis();
     eprintln!(rt; "bonds entered in {entered} ms")?;
-    tell(rt, size, pay(rt, keeper, size)?)
+    print(rt, size, pay(rt, keeper, size)?)
 }
 
 /// Prints what was paid.
-fn tell(rt: &HostRuntime, size: Size, payments: Payments) -> Result<()> {
+fn print(rt: &HostRuntime, size: Size, payments: Payments) -> Result<()> {
     println!(rt;
         "{} bonds, {} tickets of {} cents",
         size.bonds, payments.sum.count, payments.sum.cents

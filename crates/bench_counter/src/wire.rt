@@ -140,11 +140,11 @@ fn time(rt: &HostRuntime, name: &str, text: &[u8], rounds: u64, step: usize) -> 
         nanos / 1000,
         nanos / bytes
     )?;
-    tell(rt, name, step, counts)
+    print(rt, name, step, counts)
 }
 
 /// Prints what a stream had.
-fn tell(rt: &HostRuntime, name: &str, step: usize, counts: Counts) -> Result<()> {
+fn print(rt: &HostRuntime, name: &str, step: usize, counts: Counts) -> Result<()> {
     let Counts {
         messages,
         calls,

@@ -42,7 +42,7 @@ pub fn import_into<K: Keeper, R: Source, W: Sink>(
     ensures failed { TellsFailureOnlyIf K.may_fail result }
 {
     let answer = import_file(alloc, keeper, kind, desk, number, file);
-    tell(alloc, answer, output)
+    print_answer(alloc, answer, output)
 }
 
 fn import_file<K: Keeper, R: Source>(
@@ -66,7 +66,7 @@ fn import_file<K: Keeper, R: Source>(
 }
 
 // Prints the reply, or returns why there is none.
-fn tell<W: Sink>(
+fn print_answer<W: Sink>(
     alloc: Global,
     answer: Result<Reply, ImportFault>,
     output: &mut W,
@@ -76,13 +76,13 @@ fn tell<W: Sink>(
     ensures failed { result ≡ Err (Store store.StoreFailed) → answer ≡ Err (ImportFault.Unserved StoreFailed) }
 {
     match answer {
-        Ok(reply) => tell_reply(alloc, &reply, output),
+        Ok(reply) => print_reply(alloc, &reply, output),
         Err(ImportFault::File(fault)) => Err(RunFault::File(fault)),
         Err(ImportFault::Unserved(cause)) => Err(RunFault::of_unserved(cause)),
     }
 }
 
-fn tell_reply<W: Sink>(alloc: Global, reply: &Reply, output: &mut W) -> Result<Outcome, RunFault>
+fn print_reply<W: Sink>(alloc: Global, reply: &Reply, output: &mut W) -> Result<Outcome, RunFault>
     ensures told { TellsReply (W.contents output.old) (W.contents output.new) (Ok reply.now) result }
     ensures device { TellsDeviceOnlyIf (W.may_have_failed output.new) result }
 {

@@ -41,7 +41,7 @@ pub fn serve_on<C: Clock, K: Keeper, W: Sink>(
 {
     for connection in 0..connections {
         let ended = serve_next(clock, alloc, keeper, listener, patience)?;
-        tell(alloc, connection + 1, ended, output)?;
+        print_line(alloc, connection + 1, ended, output)?;
         if ended.store_failed {
             return Err(RunFault::Store(StoreFault::StoreFailed));
         }
@@ -110,7 +110,12 @@ fn leaves_more(why: Why) -> bool {
 }
 
 // Prints a connection's line.
-fn tell<W: Sink>(alloc: Global, number: u64, ended: Ended, output: &mut W) -> Result<(), RunFault>
+fn print_line<W: Sink>(
+    alloc: Global,
+    number: u64,
+    ended: Ended,
+    output: &mut W,
+) -> Result<(), RunFault>
     ensures printed { PrintsLine (W.contents output.old) (W.contents output.new) (connection_line number ended) result }
     ensures fault { IfErr result (λ fault. (fault ≡ RunFault.Device) ⊎ (fault ≡ RunFault.NoMemory)) }
 {

@@ -31,10 +31,10 @@ pub fn sheet_of<K: Keeper, W: Sink>(
     ensures failed { TellsFailureOnlyIf K.may_fail result }
 {
     let shown = keeper.inventory(customer, month);
-    tell(shown, output)
+    print_sheet(shown, output)
 }
 
-fn tell<W: Sink>(shown: Result<Sheet, Unserved>, output: &mut W) -> Result<Outcome, RunFault>
+fn print_sheet<W: Sink>(shown: Result<Sheet, Unserved>, output: &mut W) -> Result<Outcome, RunFault>
     ensures told { TellsSheet (W.contents output.old) (W.contents output.new) shown result }
     ensures done { IfOk result (λ outcome. outcome ≡ Outcome.Done) }
     ensures device { TellsDeviceOnlyIf (W.may_have_failed output.new) result }

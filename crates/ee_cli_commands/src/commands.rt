@@ -29,19 +29,42 @@ pub enum FileKind {
 pub enum Command<'a> {
     /// The value, in a month, of a bond of this denomination and issue month, at this fixed rate and, if the
     /// line names one, this extension: the rate from original to final maturity.
-    Value(Denom, IssueMonth, Month, Rate, Option<Rate>),
+    Value {
+        denom: Denom,
+        issued: IssueMonth,
+        month: Month,
+        rate: Rate,
+        extension: Option<Rate>,
+    },
     /// Serves the messages of standard input over the store at this path.
     Apply(&'a str),
     /// Imports a file of this kind and path into the store at this path, under this number of this desk. The
     /// desk is 0 if the line doesn't name one.
-    Import(FileKind, &'a str, &'a str, Desk, Number),
+    Import {
+        kind: FileKind,
+        file: &'a str,
+        store: &'a str,
+        desk: Desk,
+        number: Number,
+    },
     /// Exports the inventory of a customer as CSV, from the store at this path.
-    Export(Customer, &'a str),
+    Export {
+        customer: Customer,
+        store: &'a str,
+    },
     /// Prints the sheet of a customer's bonds in a month, from the store at this path.
-    Sheet(Customer, Month, &'a str),
+    Sheet {
+        customer: Customer,
+        month: Month,
+        store: &'a str,
+    },
     /// Serves over the store at this path, on this port, this number of connections: 1 to 1,000, or
     /// `u64::MAX`, which means unlimited, if the line doesn't say.
-    Serve(&'a str, u16, u64),
+    Serve {
+        store: &'a str,
+        port: u16,
+        connections: u64,
+    },
 }
 
 /// Why a command line asks for nothing.

@@ -20,13 +20,13 @@ const UNLIMITED: u64 = u64::MAX;
 pub fn value_line<'a>(matches: &ArgMatches<'a>) -> Result<Command<'a>, WordName>
     ensures { Spells view_of result (value_asked (rows_of (found_of matches.now))) }
 {
-    Ok(Command::Value(
-        denom(matches, "denom")?,
-        issue(matches, "issued")?,
-        month(matches, "month")?,
-        rate(matches, "rate")?,
-        rate_or_none(matches, "extension")?,
-    ))
+    Ok(Command::Value {
+        denom: denom(matches, "denom")?,
+        issued: issue(matches, "issued")?,
+        month: month(matches, "month")?,
+        rate: rate(matches, "rate")?,
+        extension: rate_or_none(matches, "extension")?,
+    })
 }
 
 /// The command of the row `apply`.
@@ -46,7 +46,14 @@ pub fn import_line<'a>(matches: &ArgMatches<'a>) -> Result<Command<'a>, WordName
     let file = text(matches, "file")?;
     let store = text(matches, "db")?;
     let number = request_number(matches, "number")?;
-    Ok(Command::Import(kind, file, store, desk(matches, "desk")?, number))
+    let desk = desk(matches, "desk")?;
+    Ok(Command::Import {
+        kind,
+        file,
+        store,
+        desk,
+        number,
+    })
 }
 
 /// The command of the row `export`.
@@ -54,7 +61,10 @@ pub fn import_line<'a>(matches: &ArgMatches<'a>) -> Result<Command<'a>, WordName
 pub fn export_line<'a>(matches: &ArgMatches<'a>) -> Result<Command<'a>, WordName>
     ensures { Spells view_of result (export_asked (rows_of (found_of matches.now))) }
 {
-    Ok(Command::Export(customer(matches, "customer")?, text(matches, "db")?))
+    Ok(Command::Export {
+        customer: customer(matches, "customer")?,
+        store: text(matches, "db")?,
+    })
 }
 
 /// The command of the row `sheet`.
@@ -62,11 +72,11 @@ pub fn export_line<'a>(matches: &ArgMatches<'a>) -> Result<Command<'a>, WordName
 pub fn sheet_line<'a>(matches: &ArgMatches<'a>) -> Result<Command<'a>, WordName>
     ensures { Spells view_of result (sheet_asked (rows_of (found_of matches.now))) }
 {
-    Ok(Command::Sheet(
-        customer(matches, "customer")?,
-        month(matches, "month")?,
-        text(matches, "db")?,
-    ))
+    Ok(Command::Sheet {
+        customer: customer(matches, "customer")?,
+        month: month(matches, "month")?,
+        store: text(matches, "db")?,
+    })
 }
 
 /// The command of the row `serve`.
@@ -74,9 +84,9 @@ pub fn sheet_line<'a>(matches: &ArgMatches<'a>) -> Result<Command<'a>, WordName>
 pub fn serve_line<'a>(matches: &ArgMatches<'a>) -> Result<Command<'a>, WordName>
     ensures { Spells view_of result (serve_asked (rows_of (found_of matches.now))) }
 {
-    Ok(Command::Serve(
-        text(matches, "db")?,
-        port(matches, "port")?,
-        number_or(matches, "connections", MOST_CONNECTIONS, UNLIMITED)?,
-    ))
+    Ok(Command::Serve {
+        store: text(matches, "db")?,
+        port: port(matches, "port")?,
+        connections: number_or(matches, "connections", MOST_CONNECTIONS, UNLIMITED)?,
+    })
 }

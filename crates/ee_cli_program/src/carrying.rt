@@ -33,17 +33,35 @@ pub fn carry_out<O: Stores, R: Source, W: Sink>(
         (view_of command.now) result }
 {
     match *command {
-        Command::Value(denom, issued, month, rate, extension) => {
+        Command::Value {
+            denom,
+            issued,
+            month,
+            rate,
+            extension,
+        } => {
             let rates = Rates::new(rate, extension);
             Ok(print_value(rt.alloc(), denom, issued, month, rates, output)?)
         }
-        Command::Apply(db) => apply(rt, stores, db, input, output),
-        Command::Import(kind, file, db, desk, number) => {
-            import(rt, stores, kind, file, db, desk, number, output)
-        }
-        Command::Export(customer, db) => export(rt, stores, customer, db, output),
-        Command::Sheet(customer, month, db) => sheet(stores, customer, month, db, output),
-        Command::Serve(db, port, connections) => serve(rt, stores, db, port, connections, output),
+        Command::Apply(store) => apply(rt, stores, store, input, output),
+        Command::Import {
+            kind,
+            file,
+            store,
+            desk,
+            number,
+        } => { import(rt, stores, kind, file, store, desk, number, output) }
+        Command::Export { customer, store } => export(rt, stores, customer, store, output),
+        Command::Sheet {
+            customer,
+            month,
+            store,
+        } => sheet(stores, customer, month, store, output),
+        Command::Serve {
+            store,
+            port,
+            connections,
+        } => serve(rt, stores, store, port, connections, output),
     }
 }
 

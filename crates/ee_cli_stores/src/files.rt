@@ -50,7 +50,7 @@ impl<F: Start + Copy> Stores for StoreFiles<'_, F> {
     fn open(&self, path: &str) -> Result<SqlKeeper<FileStore<FileFrom<F>>>, RunFault> {
         match open_as(self.rt, path, self.start) {
             Ok(keeper) => Ok(keeper),
-            Err(not) => Err(told(not.fault)),
+            Err(not) => Err(fault_of(not.fault)),
         }
     }
 
@@ -66,7 +66,7 @@ impl<F: Start + Copy> Stores for StoreFiles<'_, F> {
 }
 
 // The fault of a store that isn't opened.
-fn told(fault: OpenFault) -> RunFault
+fn fault_of(fault: OpenFault) -> RunFault
     ensures { result ≡ fault_of_opening fault }
 {
     match fault {

@@ -43,7 +43,7 @@ fn without_value(fault: ValueFault) -> Result<Outcome, PrintFault>
     ensures { result ≡ ending_of_value fault }
 {
     match fault {
-        ValueFault::Unsettled { month } => Ok(Outcome::Unsettled(month)),
+        ValueFault::Unsettled { age } => Ok(Outcome::Unsettled(age)),
         ValueFault::NoMemory => Err(PrintFault::NoMemory),
     }
 }

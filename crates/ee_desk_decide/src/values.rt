@@ -42,7 +42,7 @@ fn unsettled_age(fault: ValueFault) -> Result<Option<Age>, AllocError>
     ensures { IfOk result (λ age. IfSome age (λ months. fault ≡ ValueFault.Unsettled months) × IsSome age) }
 {
     match fault {
-        ValueFault::Unsettled { month } => Ok(Some(month)),
+        ValueFault::Unsettled { age } => Ok(Some(age)),
         ValueFault::NoMemory => Err(AllocError),
     }
 }

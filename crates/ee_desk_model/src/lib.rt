@@ -8,7 +8,7 @@ mod desks;
 mod laws;
 mod limits;
 mod numbers;
-mod ranges;
+mod invariants;
 mod refusals;
 mod replies;
 mod rows;
@@ -24,7 +24,7 @@ pub use laws::{
 };
 pub use limits::{MOST_DAY_TICKETS, MOST_ROWS, MOST_SERIALS};
 pub use numbers::{Number, RequestNumber};
-pub use ranges::in_range;
+pub use invariants::in_range;
 pub use refusals::{Refusal, Unserved};
 pub use replies::{Batch, Line, Reply, Ticket};
 pub use rows::Rows;

@@ -9,7 +9,7 @@ ghost use Rattle.ee_desk_texts.specs.Texts.{act_text};
 ghost use Rattle.ee_desk_texts.specs.Ranges.{ActFits};
 ghost use Rattle.ee_desk_texts.specs.Writing.{Adds, AddsData};
 
-use crate::ranges::act_fits;
+use crate::invariants::act_fits;
 use crate::writing::{
     Row, text_of, write_list_member, write_number_member, write_string, write_string_member,
 };

@@ -7,7 +7,7 @@ ghost use Rattle.ee_desk_texts.specs.Texts.{reply_text};
 ghost use Rattle.ee_desk_texts.specs.Ranges.{ReplyFits};
 ghost use Rattle.ee_desk_texts.specs.Writing.{AddsData};
 
-use crate::ranges::reply_fits;
+use crate::invariants::reply_fits;
 use crate::refusals::write_refusal;
 use crate::writing::{Row, text_of, write_list_member, write_number_member, write_string_member};
 use ee_desk_model::{Batch, Line, Reply, Ticket};

@@ -9,7 +9,7 @@ ghost use Rattle.ee_files.specs.WriterState.{AppendsRow, IsBetweenRows};
 
 use crate::columns::FileColumn;
 use crate::faults::WriteFault;
-use crate::ranges::in_range;
+use crate::invariants::in_range;
 use csv::{Writer, WriterBuilder};
 use ee_calculator::Bond;
 use ee_io::{Sink, write_whole};

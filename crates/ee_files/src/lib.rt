@@ -8,7 +8,7 @@ mod fields;
 mod headers;
 mod inventory;
 mod laws;
-mod ranges;
+mod invariants;
 mod rates;
 mod records;
 

@@ -12,7 +12,7 @@ mod contents;
 mod held_bonds;
 mod laws;
 mod marks;
-mod ranges;
+mod invariants;
 mod rates;
 mod reading;
 mod terms;

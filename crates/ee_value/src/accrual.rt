@@ -21,7 +21,7 @@ pub const FINAL_MATURITY: u16 = 360;
 pub fn unit_at(rates: Rates, age: Age, bits: Bits) -> Result<u64, Unsettled>
     ensures value { MatchResult result
         (λ cents. (is_open rates age bits ≡ false) × (cents ≡ accrued rates age))
-        (λ e. (is_open rates age bits ≡ true) × (e.month ≡ age)) }
+        (λ e. (is_open rates age bits ≡ true) × (e.age ≡ age)) }
     ensures rounds { IfOk result (λ cents.
         Rounds (start rates (min age 360 / 6)) (rate_in rates (min age 360 / 6)) (min age 360 % 6) cents) }
     ensures close { IfErr result
@@ -32,5 +32,5 @@ pub fn unit_at(rates: Rates, age: Age, bits: Bits) -> Result<u64, Unsettled>
     let half_year = counted / 6;
     let start = start_unit(&rates, half_year);
     let rate = rates.rate_in(half_year);
-    grown_once(start, rate, (counted % 6) as u8, bits).ok_or(Unsettled { month: age })
+    grown_once(start, rate, (counted % 6) as u8, bits).ok_or(Unsettled { age })
 }

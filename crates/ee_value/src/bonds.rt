@@ -41,7 +41,7 @@ pub fn bond_value(table: &UnitTable, denom: Denom, age: Age) -> Quote
 pub fn bond_value_at(rates: Rates, denom: Denom, age: Age, bits: Bits) -> Result<Quote, Unsettled>
     ensures { MatchResult result
         (λ quote. (is_payment_open rates age bits ≡ false) × IsQuoteOf rates (units_of denom) age quote)
-        (λ e. (is_payment_open rates age bits ≡ true) × (e.month ≡ counted_age age)) }
+        (λ e. (is_payment_open rates age bits ≡ true) × (e.age ≡ counted_age age)) }
 {
     if age.months() < FIRST_REDEMPTION {
         return Ok(Quote::NotEligible);
@@ -58,7 +58,7 @@ fn redeemed_unit(rates: Rates, age: Age, bits: Bits) -> Result<u64, Unsettled>
     requires { 12 ≤ age }
     ensures value { MatchResult result
         (λ unit. (is_payment_open rates age bits ≡ false) × (unit ≡ redemption rates age))
-        (λ e. (is_payment_open rates age bits ≡ true) × (e.month ≡ counted_age age)) }
+        (λ e. (is_payment_open rates age bits ≡ true) × (e.age ≡ counted_age age)) }
     ensures range { IfOk result (λ unit. (1250 ≤ unit) × (unit ≤ 761234)) }
 {
     value_law();

@@ -6,18 +6,18 @@ use thiserror::Error;
 
 /// The precision doesn't settle the value at an age: its bounds round to different cents.
 #[derive(Clone, Copy, Debug, PartialEq, Eq, Error)]
-#[error("unsettled at age {}", month.months())]
+#[error("unsettled at age {}", age.months())]
 pub struct Unsettled {
     /// The age that was asked for, in months.
-    pub month: Age,
+    pub age: Age,
 }
 
 /// Why a table of unit values can't be made.
 #[derive(Clone, Copy, Debug, PartialEq, Eq, Error)]
 pub enum ValueFault {
     /// The precision doesn't settle the value at this age; it is the least such age.
-    #[error("unsettled at age {}", month.months())]
-    Unsettled { month: Age },
+    #[error("unsettled at age {}", age.months())]
+    Unsettled { age: Age },
     /// Memory was refused.
     #[error("out of memory")]
     NoMemory,
@@ -27,10 +27,10 @@ impl From<Unsettled> for ValueFault {
     ghost use Rattle.std.specs.Prelude.{◌≡◌};
     ghost use Rattle.ee_value.specs.declared.faults.ValueFault.TheVariants.{Unsettled};
 
-    ghost from_gives = { λ f e. e ≡ Unsettled f.month };
+    ghost from_gives = { λ f e. e ≡ Unsettled f.age };
 
     fn from(fault: Unsettled) -> ValueFault {
-        ValueFault::Unsettled { month: fault.month }
+        ValueFault::Unsettled { age: fault.age }
     }
 }
 

@@ -93,8 +93,8 @@ fn push_half_year(
         match grown_unit(unit, rate, months, powers) {
             Some(value) => units.push(value)?,
             None => {
-                let month = Age::from_months(6 * half_year + u16::from(months));
-                return Err(ValueFault::Unsettled { month });
+                let age = Age::from_months(6 * half_year + u16::from(months));
+                return Err(ValueFault::Unsettled { age });
             }
         }
     }

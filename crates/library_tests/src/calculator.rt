@@ -2,7 +2,9 @@
 
 ghost use Rattle.std.specs.Prelude.{◌≡◌, IfSome};
 
-use crate::comparing::{Cases, Written, add, add_times, compare, compare_fronts, ended, same};
+use crate::comparing::{
+    Cases, Written, add, add_times, assert_same, compare, compare_fronts, ended,
+};
 use crate::device::{Device, Trouble};
 use ee_calculator::{Bond, Row, Sheet, plain_row, row, sheet, write_sheet};
 use ee_files::read_inventory;
@@ -66,7 +68,7 @@ pub fn row_of(alloc: Global, line: &str) -> Option<Row> {
 struct RowCases;
 
 impl Cases for RowCases {
-    fn told(alloc: Global, case: &str) -> Option<String> {
+    fn answer(alloc: Global, case: &str) -> Option<String> {
         let row = row_of(alloc, case)?;
         format!(in alloc; "{} [{}]", row.value, row.note).ok()
     }
@@ -106,7 +108,7 @@ fn three_bonds(alloc: Global) -> Result<Sheet, Fail> {
 }
 
 impl Written for Sheet {
-    fn told_in(&self, alloc: Global, room: usize) -> Option<String> {
+    fn text_in(&self, alloc: Global, room: usize) -> Option<String> {
         let mut device = Device::of(alloc, room, Trouble::Fails)?;
         let end = write_sheet(self, &mut device);
         ended(alloc, &end, &device.bytes)
@@ -162,7 +164,7 @@ fn sheets_are_written_or_fronts_of_them(rt: HostRuntime) -> Result<(), Fail> {
 }
 
 /// How many rows the sheet of lines has, and its sums.
-fn sums_told(alloc: Global, lines: &str) -> Option<String> {
+fn sums_text(alloc: Global, lines: &str) -> Option<String> {
     let sheet = sheet_of(alloc, lines).ok()?;
     let (price, value, interest) = (sheet.price, sheet.value, sheet.interest);
     format!(in alloc; "{} {price:?} {value:?} {interest:?}", sheet.rows.len()).ok()
@@ -172,8 +174,8 @@ fn sums_told(alloc: Global, lines: &str) -> Option<String> {
 fn sums_the_largest_values(rt: HostRuntime) -> Result<(), Fail> {
     let mut lines = String::new(rt.alloc());
     add_times(&mut lines, "10000 2005-05 20.00 2035-05\n", 500).ok_or("no lines")?;
-    let told = sums_told(rt.alloc(), lines.as_str()).ok_or("no sums")?;
+    let got = sums_text(rt.alloc(), lines.as_str()).ok_or("no sums")?;
     let wanted = "500 Total(250000000) Total(76123400000) Total(75873400000)";
-    same(&rt, told.as_str(), wanted, "the sums");
+    assert_same(&rt, got.as_str(), wanted, "the sums");
     Ok(())
 }

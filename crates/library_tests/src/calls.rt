@@ -6,14 +6,14 @@ use std::alloc::Global;
 use std::test::Fail;
 
 /// What a message asks for, as `Debug` shows it; of a fault its code and its field or name.
-fn told(alloc: Global, path: &str, method: &str, body: &str) -> Option<String> {
+fn call_text(alloc: Global, path: &str, method: &str, body: &str) -> Option<String> {
     match decode(alloc, path.as_bytes(), method.as_bytes(), body.as_bytes()) {
         Ok(call) => shown(alloc, &call),
-        Err(fault) => fault_told(alloc, fault),
+        Err(fault) => fault_text(alloc, fault),
     }
 }
 
-fn fault_told(alloc: Global, fault: WireFault) -> Option<String> {
+fn fault_text(alloc: Global, fault: WireFault) -> Option<String> {
     let name = match fault {
         WireFault::BadField(field) => field.name(),
         _ => fault.name(),
@@ -25,10 +25,10 @@ fn fault_told(alloc: Global, fault: WireFault) -> Option<String> {
 struct CallCases;
 
 impl Cases for CallCases {
-    fn told(alloc: Global, case: &str) -> Option<String> {
+    fn answer(alloc: Global, case: &str) -> Option<String> {
         let (method, rest) = case.split_once(' ')?;
         let (path, body) = rest.split_once(' ')?;
-        told(alloc, path, method, body)
+        call_text(alloc, path, method, body)
     }
 }
 
@@ -176,13 +176,13 @@ const DEPTHS: &str = "\
 struct DepthCases;
 
 impl Cases for DepthCases {
-    fn told(alloc: Global, case: &str) -> Option<String> {
+    fn answer(alloc: Global, case: &str) -> Option<String> {
         let (opened, closed) = case.split_once(' ')?;
         let (opened, closed) = (opened.parse().ok()?, closed.parse().ok()?);
         let mut body = String::new(alloc);
         add_times(&mut body, "[", opened)?;
         add_times(&mut body, "]", closed)?;
-        told(alloc, "/day/open", "POST", body.as_str())
+        call_text(alloc, "/day/open", "POST", body.as_str())
     }
 }
 

@@ -8,15 +8,15 @@ use std::test::Fail;
 /// Something that answers each case of a table by a text. An impl costs a small part of the proof of a loop of its own.
 pub trait Cases {
     /// The answer to a case; `None` if it is no case, or memory was refused.
-    fn told(alloc: Global, case: &str) -> Option<String>;
+    fn answer(alloc: Global, case: &str) -> Option<String>;
 }
 
 /// Compares the answers to the cases of a table, rows `CASE => ANSWER`, with those in the table.
 pub fn compare<T: Cases>(rt: &impl Abort, alloc: Global, table: &str) -> Result<(), Fail> {
     for row in table.lines() {
         let (case, wanted) = row.split_once(" => ").ok_or("row")?;
-        let told = T::told(alloc, case).ok_or("no answer")?;
-        same(rt, told.as_str(), wanted, case);
+        let got = T::answer(alloc, case).ok_or("no answer")?;
+        assert_same(rt, got.as_str(), wanted, case);
     }
     Ok(())
 }
@@ -30,11 +30,11 @@ pub fn compare_refused<T: Cases>(
 ) -> Result<(), Fail> {
     for row in table.lines() {
         let (case, wanted) = row.split_once(" => ").ok_or("row")?;
-        let told = T::told(out.alloc(), case).ok_or("no answer")?;
-        if told.as_str() == refused {
+        let got = T::answer(out.alloc(), case).ok_or("no answer")?;
+        if got.as_str() == refused {
             println!(out; "refused: {case}")?;
         } else {
-            same(rt, told.as_str(), wanted, case);
+            assert_same(rt, got.as_str(), wanted, case);
         }
     }
     Ok(())
@@ -43,11 +43,11 @@ pub fn compare_refused<T: Cases>(
 /// Something that is written to a device.
 pub trait Written {
     /// How writing it to a device with this much room ends, and what the device has.
-    fn told_in(&self, alloc: Global, room: usize) -> Option<String>;
+    fn text_in(&self, alloc: Global, room: usize) -> Option<String>;
 }
 
 /// The result if a device had this much room for a text.
-fn front_told(alloc: Global, whole: &str, room: usize) -> Option<String> {
+fn front_text(alloc: Global, whole: &str, room: usize) -> Option<String> {
     if room >= whole.len() {
         return format!(in alloc; "Ok(()) {whole}").ok();
     }
@@ -63,16 +63,16 @@ pub fn compare_fronts<T: Written>(
     whole: &str,
 ) -> Result<(), Fail> {
     for room in 0..=whole.len() {
-        let told = written.told_in(alloc, room).ok_or("not told")?;
-        let wanted = front_told(alloc, whole, room).ok_or("no front")?;
-        same(rt, told.as_str(), wanted.as_str(), "a front");
+        let got = written.text_in(alloc, room).ok_or("no text")?;
+        let wanted = front_text(alloc, whole, room).ok_or("no front")?;
+        assert_same(rt, got.as_str(), wanted.as_str(), "a front");
     }
     Ok(())
 }
 
 /// Compares a text with the wanted one; `case` names its row.
-pub fn same(rt: &impl Abort, told: &str, wanted: &str, case: &str) {
-    assert!(rt; told == wanted, "{case}: {told} and not {wanted}");
+pub fn assert_same(rt: &impl Abort, got: &str, wanted: &str, case: &str) {
+    assert!(rt; got == wanted, "{case}: {got} and not {wanted}");
 }
 
 /// How a call ended, and the text of what it wrote.

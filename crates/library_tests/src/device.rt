@@ -2,7 +2,7 @@
 
 ghost use Rattle.std.specs.Prelude.{⊤};
 
-use crate::comparing::{Cases, compare, same};
+use crate::comparing::{Cases, assert_same, compare};
 use ee_io::{ReadFault, Sink, read_whole, write_whole};
 use std::alloc::Global;
 use std::io::{self, ErrorKind, Read, Write};
@@ -109,7 +109,7 @@ const WRITES: &str = "\
 struct WriteCases;
 
 impl Cases for WriteCases {
-    fn told(alloc: Global, case: &str) -> Option<String> {
+    fn answer(alloc: Global, case: &str) -> Option<String> {
         let (step, trouble) = case.split_once('|')?;
         written(alloc, step.parse().ok()?, trouble_of(trouble))
     }
@@ -221,7 +221,7 @@ abcdef|6|1|8 other => all abcdef|
 struct ReadCases;
 
 impl Cases for ReadCases {
-    fn told(alloc: Global, case: &str) -> Option<String> {
+    fn answer(alloc: Global, case: &str) -> Option<String> {
         let (text, rest) = case.split_once('|')?;
         let (most, rest) = rest.split_once('|')?;
         let (step, trouble) = rest.split_once('|')?;
@@ -254,6 +254,6 @@ fn reads_more_than_a_chunk(rt: HostRuntime) -> Result<(), Fail> {
 #[test]
 fn text_of_a_fault(rt: HostRuntime) -> Result<(), Fail> {
     let text = ReadFault::NoMemory.to_string(rt.alloc())?;
-    same(&rt, text.as_str(), "out of memory", "fault");
+    assert_same(&rt, text.as_str(), "out of memory", "fault");
     Ok(())
 }

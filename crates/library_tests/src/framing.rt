@@ -2,7 +2,7 @@
 
 ghost use Rattle.std.specs.Prelude.{⊤};
 
-use crate::comparing::{Cases, add_times, alike, bytes_of, compare, same};
+use crate::comparing::{Cases, add_times, alike, assert_same, bytes_of, compare};
 use ee_io::Source;
 use ee_wire_framing::{Buffer, Message, Next, WireEnd, next_message};
 use std::alloc::Global;
@@ -79,7 +79,7 @@ fn add_end(text: &mut String, end: Result<Next, WireEnd>) -> Option<()> {
 }
 
 /// The result of a stream: its messages, then how it ends. If memory was refused, the call is repeated.
-fn told(alloc: Global, reader: &mut Pieces) -> Option<String> {
+fn stream_text(alloc: Global, reader: &mut Pieces) -> Option<String> {
     let mut buffer = Buffer::new(alloc);
     let mut text = String::new(alloc);
     for _ in 0..100 {
@@ -96,30 +96,30 @@ fn told(alloc: Global, reader: &mut Pieces) -> Option<String> {
 }
 
 /// Compares the result of a stream that comes in pieces of one size, after a first piece of another.
-fn pieces_tell(
+fn compare_pieces(
     rt: &impl Abort,
     alloc: Global,
     stream: &str,
     first: usize,
     step: usize,
 ) -> Option<()> {
-    let told = told(alloc, &mut Pieces::of(stream.as_bytes(), first, step))?;
-    same(rt, told.as_str(), TOLD, "in pieces");
+    let got = stream_text(alloc, &mut Pieces::of(stream.as_bytes(), first, step))?;
+    assert_same(rt, got.as_str(), MESSAGES, "in pieces");
     Some(())
 }
 
 /// The same for each size of a piece.
-fn sizes_tell(rt: &impl Abort, alloc: Global, stream: &str, sizes: &[usize]) -> Option<()> {
+fn compare_sizes(rt: &impl Abort, alloc: Global, stream: &str, sizes: &[usize]) -> Option<()> {
     for size in sizes {
-        pieces_tell(rt, alloc, stream, *size, *size)?;
+        compare_pieces(rt, alloc, stream, *size, *size)?;
     }
     Some(())
 }
 
 /// The same for two pieces, cut at each byte.
-fn cuts_tell(rt: &impl Abort, alloc: Global, stream: &str) -> Option<()> {
+fn compare_cuts(rt: &impl Abort, alloc: Global, stream: &str) -> Option<()> {
     for first in 1..=stream.len() {
-        pieces_tell(rt, alloc, stream, first, 4_096)?;
+        compare_pieces(rt, alloc, stream, first, 4_096)?;
     }
     Some(())
 }
@@ -129,7 +129,7 @@ const RATES: &str =
 
 const VALUE: &str = "GET /value/50/2010-11/2012-02 HTTP/1.1\r\n\r\n";
 
-const TOLD: &str =
+const MESSAGES: &str =
     "POST /rates {\"number\":1,\"rates\":[{\"from\":\"2010-11\",\"rate\":\"3.50\"}]} ; GET /value/50/2010-11/2012-02  ; Truncated";
 
 /// Two messages, and the first again without its last byte.
@@ -137,8 +137,8 @@ const TOLD: &str =
 fn cuts_change_nothing(rt: HostRuntime) -> Result<(), Fail> {
     let front = RATES.strip_suffix("}").ok_or("front")?;
     let stream = format!(in rt.alloc(); "{RATES}{VALUE}{front}")?;
-    cuts_tell(&rt, rt.alloc(), &stream).ok_or("a cut")?;
-    sizes_tell(&rt, rt.alloc(), &stream, &[1, 2, 3, 7, 4_096]).ok_or("a size")?;
+    compare_cuts(&rt, rt.alloc(), &stream).ok_or("a cut")?;
+    compare_sizes(&rt, rt.alloc(), &stream, &[1, 2, 3, 7, 4_096]).ok_or("a size")?;
     Ok(())
 }
 
@@ -147,14 +147,14 @@ fn cuts_change_nothing(rt: HostRuntime) -> Result<(), Fail> {
 fn refused_memory(rt: HostRuntime) -> Result<(), Fail> {
     let stream =
         "POST /rates HTTP/1.1\r\nContent-Length: 55\r\n\r\n{\"number\":1,\"rates\":[{\"from\":\"2010-11\",\"rate\":\"3.50\"}]}GET /value/50/2010-11/2012-02 HTTP/1.1\r\n\r\nPOST";
-    sizes_tell(&rt, rt.alloc(), stream, &[1, 64, 4_096]).ok_or("a size")?;
+    compare_sizes(&rt, rt.alloc(), stream, &[1, 64, 4_096]).ok_or("a size")?;
     Ok(())
 }
 
 /// The result of bytes, whole and in pieces of one byte.
-fn told_in_pieces(alloc: Global, bytes: &[u8]) -> Option<String> {
-    let whole = told(alloc, &mut Pieces::of(bytes, 4_096, 4_096))?;
-    let pieces = told(alloc, &mut Pieces::of(bytes, 1, 1))?;
+fn text_in_pieces(alloc: Global, bytes: &[u8]) -> Option<String> {
+    let whole = stream_text(alloc, &mut Pieces::of(bytes, 4_096, 4_096))?;
+    let pieces = stream_text(alloc, &mut Pieces::of(bytes, 1, 1))?;
     alike(alloc, whole, pieces.as_str())
 }
 
@@ -201,8 +201,8 @@ GET /~ HTTP/1.1^| => BadHead
 struct HeadCases;
 
 impl Cases for HeadCases {
-    fn told(alloc: Global, case: &str) -> Option<String> {
-        told_in_pieces(alloc, &bytes_of(alloc, case)?)
+    fn answer(alloc: Global, case: &str) -> Option<String> {
+        text_in_pieces(alloc, &bytes_of(alloc, case)?)
     }
 }
 
@@ -239,10 +239,10 @@ const LIMITS: &str = "\
 struct LimitCases;
 
 impl Cases for LimitCases {
-    fn told(alloc: Global, case: &str) -> Option<String> {
+    fn answer(alloc: Global, case: &str) -> Option<String> {
         let (lines, len) = case.split_once(' ')?;
         let head = head_of(alloc, lines.parse().ok()?, len.parse().ok()?)?;
-        told_in_pieces(alloc, head.as_bytes())
+        text_in_pieces(alloc, head.as_bytes())
     }
 }
 
@@ -265,7 +265,7 @@ fn reads_only_while_undecided(rt: HostRuntime) -> Result<(), Fail> {
 
 /// Three calls over a message that comes a byte at a time, in trouble at one read: whether the first has the message,
 /// what the others answer, and how often was read.
-fn told_in_trouble(alloc: Global, call: usize, kind: ErrorKind) -> Option<String> {
+fn text_in_trouble(alloc: Global, call: usize, kind: ErrorKind) -> Option<String> {
     let mut reader = Pieces::of(RATES.as_bytes(), 1, 1);
     reader.trouble = Some((call, kind));
     let mut buffer = Buffer::new(alloc);
@@ -277,12 +277,12 @@ fn told_in_trouble(alloc: Global, call: usize, kind: ErrorKind) -> Option<String
 
 fn fails_at_each_read(rt: &impl Abort, alloc: Global, kind: ErrorKind) -> Option<()> {
     for call in 1..=RATES.len().saturating_add(1) {
-        let told = told_in_trouble(alloc, call, kind)?;
+        let got = text_in_trouble(alloc, call, kind)?;
         let first = call > RATES.len();
         let wanted = format!(in alloc;
             "{first}, Err(ReadFailed), Err(ReadFailed), {call} reads"
         ).ok()?;
-        same(rt, told.as_str(), wanted.as_str(), "in trouble");
+        assert_same(rt, got.as_str(), wanted.as_str(), "in trouble");
     }
     Some(())
 }
@@ -290,8 +290,8 @@ fn fails_at_each_read(rt: &impl Abort, alloc: Global, kind: ErrorKind) -> Option
 // Only the one call is in trouble: a later read would bring the rest.
 #[test]
 fn a_failed_read_is_final(rt: HostRuntime) -> Result<(), Fail> {
-    fails_at_each_read(&rt, rt.alloc(), ErrorKind::Other).ok_or("not told")?;
-    fails_at_each_read(&rt, rt.alloc(), ErrorKind::Interrupted).ok_or("not told")?;
+    fails_at_each_read(&rt, rt.alloc(), ErrorKind::Other).ok_or("no text")?;
+    fails_at_each_read(&rt, rt.alloc(), ErrorKind::Interrupted).ok_or("no text")?;
     Ok(())
 }
 
@@ -305,7 +305,7 @@ x| => false, true, true
 struct EndCases;
 
 impl Cases for EndCases {
-    fn told(alloc: Global, case: &str) -> Option<String> {
+    fn answer(alloc: Global, case: &str) -> Option<String> {
         let bytes = bytes_of(alloc, case)?;
         let mut reader = Pieces::of(&bytes, 4_096, 4_096);
         let mut buffer = Buffer::new(alloc);

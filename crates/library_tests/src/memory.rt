@@ -4,7 +4,7 @@
 ghost use Rattle.std.specs.Prelude.{◌≢◌, IfErr};
 ghost use Rattle.ee_counter.specs.Filing.{IsFailedRead};
 
-use crate::comparing::same;
+use crate::comparing::assert_same;
 use ee_calculator::Bond;
 use ee_counter::{Ended, ImportFault, Why, import_inventory, import_rates, serve};
 use ee_desk_model::{Desk, Number, Reply};
@@ -71,7 +71,7 @@ fn served(alloc: Global, mut bytes: &[u8]) -> Ended
 #[test]
 fn no_read_of_memory_fails(rt: HostRuntime) -> Result<(), Fail> {
     let alloc = rt.alloc();
-    same(&rt, str::from_utf8(&whole(alloc, b"abc")?)?, "abc", "whole");
+    assert_same(&rt, str::from_utf8(&whole(alloc, b"abc")?)?, "abc", "whole");
     assert!(rt; matches!(first(alloc, b""), Ok(Next::End)));
     assert!(rt; rates(alloc, b"from,rate\n")?.is_empty());
     assert!(rt; bonds(alloc, b"")?.is_empty());

@@ -16,7 +16,7 @@ const ROOTS: &str = "\
 struct RootCases;
 
 impl Cases for RootCases {
-    fn told(alloc: Global, case: &str) -> Option<String> {
+    fn answer(alloc: Global, case: &str) -> Option<String> {
         let rate = Rate::new(case.parse().ok()?)?;
         let root = root_bounds(rate, Bits::from_places(8));
         let (low, high, places) = (root.low(), root.high(), root.bits().places());
@@ -54,7 +54,7 @@ const CENTS: &str = "\
 struct SettledCases;
 
 impl Cases for SettledCases {
-    fn told(alloc: Global, case: &str) -> Option<String> {
+    fn answer(alloc: Global, case: &str) -> Option<String> {
         let (low, high) = case.split_once(' ')?;
         let (low, high): (u64, u64) = (low.parse().ok()?, high.parse().ok()?);
         let cents = settle(u128::from(low), u128::from(high), Bits::from_places(8));

@@ -1,7 +1,7 @@
 //! The text of each act and of each shape of reply, and texts that are none. The expected texts are
 //! written by hand from the rules for texts.
 
-use crate::comparing::{Cases, compare, same, shown};
+use crate::comparing::{Cases, assert_same, compare, shown};
 use ee_desk_texts::{canonical, read_act, read_reply, reply_text};
 use std::alloc::Global;
 use std::fmt::Debug;
@@ -29,7 +29,7 @@ fn read_back<T: Debug>(alloc: Global, value: &T, text: &str, from: &str) -> Opti
 struct ActCases;
 
 impl Cases for ActCases {
-    fn told(alloc: Global, case: &str) -> Option<String> {
+    fn answer(alloc: Global, case: &str) -> Option<String> {
         let Some(act) = read_act(alloc, case).ok()? else {
             return String::from_str(alloc, "none").ok();
         };
@@ -75,7 +75,7 @@ const REPLIES: &str = r#"{"new":2,"same":0} => Added { new: 2, same: 0 }
 struct ReplyCases;
 
 impl Cases for ReplyCases {
-    fn told(alloc: Global, case: &str) -> Option<String> {
+    fn answer(alloc: Global, case: &str) -> Option<String> {
         let Some(reply) = read_reply(alloc, case).ok()? else {
             return String::from_str(alloc, "none").ok();
         };
@@ -122,10 +122,10 @@ null => none
 
 #[test]
 fn other_texts_are_of_no_act(rt: HostRuntime) -> Result<(), Fail> {
-    let ended = ActCases::told(rt.alloc(), "{\"act\":\"open\",\"day\":\"2012-02-06\"}\n").ok_or(
+    let ended = ActCases::answer(rt.alloc(), "{\"act\":\"open\",\"day\":\"2012-02-06\"}\n").ok_or(
         "no answer",
     )?;
-    same(&rt, ended.as_str(), "none", "a line's end");
+    assert_same(&rt, ended.as_str(), "none", "a line's end");
     compare::<ActCases>(&rt, rt.alloc(), NO_ACTS)
 }
 

@@ -261,21 +261,21 @@ units 10000 => 400 500000
 ";
 
 /// What is read as a month, and what as an issue month.
-fn months_told(alloc: Global, text: &str) -> Option<String> {
+fn months_text(alloc: Global, text: &str) -> Option<String> {
     let month = read_alike(alloc, text, read_month(text))?;
     let issue = read_alike(alloc, text, read_issue(text))?;
     format!(in alloc; "{month} and {issue}").ok()
 }
 
 /// The age in a month of what is issued in another.
-fn age_told(alloc: Global, text: &str) -> Option<String> {
+fn age_text(alloc: Global, text: &str) -> Option<String> {
     let (issued, month) = text.split_once(' ')?;
     let age = calendar::age(read_issue(issued).ok()?, read_month(month).ok()?);
     shown(alloc, &age)
 }
 
 /// The units and the price of a denomination.
-fn units_told(alloc: Global, text: &str) -> Option<String> {
+fn units_text(alloc: Global, text: &str) -> Option<String> {
     let denom = read_denom(text).ok()?;
     let (count, price) = (units(denom), price(denom).0);
     format!(in alloc; "{count} {price}").ok()
@@ -285,11 +285,11 @@ fn units_told(alloc: Global, text: &str) -> Option<String> {
 struct SpellingCases;
 
 impl Cases for SpellingCases {
-    fn told(alloc: Global, case: &str) -> Option<String> {
+    fn answer(alloc: Global, case: &str) -> Option<String> {
         let (word, text) = case.split_once(' ')?;
         match word {
             "rate" => read_alike(alloc, text, read_rate(text)),
-            "month" => months_told(alloc, text),
+            "month" => months_text(alloc, text),
             "day" => read_alike(alloc, text, read_day(text)),
             "serial" => read_alike(alloc, text, read_serial(text)),
             "denom" => read_alike(alloc, text, read_denom(text)),
@@ -310,12 +310,12 @@ fn spellings_are_read(rt: HostRuntime) -> Result<(), Fail> {
     Ok(())
 }
 
-fn period_told(alloc: Global, text: &str) -> Option<String> {
+fn period_text(alloc: Global, text: &str) -> Option<String> {
     let month = calendar::period_of(read_issue(text).ok()?);
     month.to_string(alloc).ok()
 }
 
-fn month_of_day_told(alloc: Global, text: &str) -> Option<String> {
+fn month_of_day_text(alloc: Global, text: &str) -> Option<String> {
     let month = calendar::month_of(read_day(text).ok()?);
     month.to_string(alloc).ok()
 }
@@ -324,14 +324,14 @@ fn month_of_day_told(alloc: Global, text: &str) -> Option<String> {
 struct UnitCases;
 
 impl Cases for UnitCases {
-    fn told(alloc: Global, case: &str) -> Option<String> {
+    fn answer(alloc: Global, case: &str) -> Option<String> {
         let (word, text) = case.split_once(' ')?;
         match word {
             "print" => printed_value(alloc, text),
-            "age" => age_told(alloc, text),
-            "period" => period_told(alloc, text),
-            "month_of_day" => month_of_day_told(alloc, text),
-            _ => units_told(alloc, text),
+            "age" => age_text(alloc, text),
+            "period" => period_text(alloc, text),
+            "month_of_day" => month_of_day_text(alloc, text),
+            _ => units_text(alloc, text),
         }
     }
 }
@@ -347,7 +347,7 @@ const TOLD: [&str; 6] = [
 ];
 
 #[test]
-fn values_are_told(rt: HostRuntime) -> Result<(), Fail> {
+fn values_are_text(rt: HostRuntime) -> Result<(), Fail> {
     for table in TOLD {
         compare::<UnitCases>(&rt, rt.alloc(), table)?;
     }

@@ -1,6 +1,6 @@
 //! Worked values. Each was found from the rules of value, and not by this crate.
 
-use crate::comparing::{Cases, compare, same, shown};
+use crate::comparing::{Cases, assert_same, compare, shown};
 use ee_units::{Age, Bits, Rate};
 use ee_value::*;
 use std::alloc::Global;
@@ -44,7 +44,7 @@ const QUARTERS: &str = "\
 ";
 
 /// The unit, and at how many precisions it is found.
-fn quarter_told(alloc: Global, rates: &Rates) -> Option<String> {
+fn quarter_text(alloc: Global, rates: &Rates) -> Option<String> {
     let unit = unit_at(*rates, age(3), bits(8)).ok()?;
     let mut count: u64 = 0;
     for places in 8..=62 {
@@ -58,8 +58,8 @@ fn quarter_told(alloc: Global, rates: &Rates) -> Option<String> {
 struct QuarterCases;
 
 impl Cases for QuarterCases {
-    fn told(alloc: Global, case: &str) -> Option<String> {
-        quarter_told(alloc, &rates(case)?)
+    fn answer(alloc: Global, case: &str) -> Option<String> {
+        quarter_text(alloc, &rates(case)?)
     }
 }
 
@@ -72,20 +72,20 @@ fn exact_quarters(rt: HostRuntime) -> Result<(), Fail> {
 const MONTHS: &str = "\
 350 9 62 => Ok(1283)
 350 1 62 => Ok(1254)
-350 1 8 => Err(Unsettled { month: Age { months: 1 } })
-2000 1 8 => Err(Unsettled { month: Age { months: 1 } })
+350 1 8 => Err(Unsettled { age: Age { months: 1 } })
+2000 1 8 => Err(Unsettled { age: Age { months: 1 } })
 2000 9 62 => Ok(1442)
 2000 6 8 => Ok(1375)
 0/350 240 8 => Ok(2500)
-0/350 241 8 => Err(Unsettled { month: Age { months: 241 } })
-0/402 241 8 => Err(Unsettled { month: Age { months: 241 } })
+0/350 241 8 => Err(Unsettled { age: Age { months: 241 } })
+0/402 241 8 => Err(Unsettled { age: Age { months: 241 } })
 0/402 243 8 => Ok(2525)
 ";
 
 struct MonthCases;
 
 impl Cases for MonthCases {
-    fn told(alloc: Global, case: &str) -> Option<String> {
+    fn answer(alloc: Global, case: &str) -> Option<String> {
         let (rate, case) = case.split_once(' ')?;
         let (months, places) = case.split_once(' ')?;
         let (rates, age) = (rates(rate)?, age(months.parse().ok()?));
@@ -100,13 +100,13 @@ fn months(rt: HostRuntime) -> Result<(), Fail> {
 
 #[test]
 fn texts_of_faults(rt: HostRuntime) -> Result<(), Fail> {
-    let fault = Unsettled { month: age(1) };
+    let fault = Unsettled { age: age(1) };
     let text = fault.to_string(rt.alloc())?;
-    same(&rt, text.as_str(), "unsettled at age 1", "fault");
+    assert_same(&rt, text.as_str(), "unsettled at age 1", "fault");
     let refused = unit_table(rt.alloc(), rates("350").ok_or("rates")?, bits(8)).err();
     assert!(rt; refused == Some(ValueFault::from(fault)));
     let text = ValueFault::from(fault).to_string(rt.alloc())?;
-    same(&rt, text.as_str(), "unsettled at age 1", "fault");
+    assert_same(&rt, text.as_str(), "unsettled at age 1", "fault");
     Ok(())
 }
 
@@ -135,7 +135,7 @@ const CHAINS: &str = "\
 struct ChainCases;
 
 impl Cases for ChainCases {
-    fn told(alloc: Global, case: &str) -> Option<String> {
+    fn answer(alloc: Global, case: &str) -> Option<String> {
         let (rate, first) = case.split_once(' ')?;
         let (rates, first) = (rates(rate)?, first.parse().ok()?);
         let table = unit_table(alloc, rates, bits(62)).ok()?;
@@ -170,7 +170,7 @@ const AGES: &str = "\
 struct AgeCases;
 
 impl Cases for AgeCases {
-    fn told(alloc: Global, case: &str) -> Option<String> {
+    fn answer(alloc: Global, case: &str) -> Option<String> {
         let (rate, months) = case.split_once(' ')?;
         let (rates, age) = (rates(rate)?, age(months.parse().ok()?));
         let unit = unit_table(alloc, rates, bits(62)).ok()?.at(age);
@@ -233,7 +233,7 @@ const QUOTES: &str = "\
 struct QuoteCases;
 
 impl Cases for QuoteCases {
-    fn told(alloc: Global, case: &str) -> Option<String> {
+    fn answer(alloc: Global, case: &str) -> Option<String> {
         let (rate, case) = case.split_once(' ')?;
         let (denom, months) = case.split_once(' ')?;
         let (rates, denom, age) = (rates(rate)?, denom.parse().ok()?, age(months.parse().ok()?));
@@ -250,15 +250,15 @@ fn quotes(rt: HostRuntime) -> Result<(), Fail> {
 /// Rates in hundredths, and at 8 places the fault of their table, which names the least open age.
 const LEAST_OPEN: &str = "\
 0/0 => None
-0/350 => Some(Unsettled { month: Age { months: 241 } })
-0/402 => Some(Unsettled { month: Age { months: 241 } })
-350 => Some(Unsettled { month: Age { months: 1 } })
+0/350 => Some(Unsettled { age: Age { months: 241 } })
+0/402 => Some(Unsettled { age: Age { months: 241 } })
+350 => Some(Unsettled { age: Age { months: 1 } })
 ";
 
 struct LeastOpenCases;
 
 impl Cases for LeastOpenCases {
-    fn told(alloc: Global, case: &str) -> Option<String> {
+    fn answer(alloc: Global, case: &str) -> Option<String> {
         let fault = unit_table(alloc, rates(case)?, bits(8)).err();
         shown(alloc, &fault)
     }

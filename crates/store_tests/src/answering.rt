@@ -1,7 +1,7 @@
 //! The answers of a store in memory, and its rows.
 
-use crate::comparing::{made, same};
-use crate::five::{FIVE, rows_told, served};
+use crate::comparing::{assert_same, prepared};
+use crate::five_requests::{FIVE, rows_text, served};
 use sqlite::{Connection, MemStore};
 use std::alloc::Global;
 use std::io::Eprint;
@@ -13,7 +13,7 @@ pub fn in_memory(rt: &impl Abort, alloc: Global) -> Connection<MemStore> {
 }
 
 /// The talk over a store gives this result; the store is handed back.
-pub fn tells(
+pub fn assert_answers(
     rt: &(impl Abort + Eprint),
     alloc: Global,
     conn: Connection<MemStore>,
@@ -22,7 +22,7 @@ pub fn tells(
     case: &str,
 ) -> Connection<MemStore> {
     let (text, conn) = served(alloc, conn, talk);
-    same(rt, made(rt, text).as_str(), wanted, case);
+    assert_same(rt, prepared(rt, text).as_str(), wanted, case);
     conn
 }
 
@@ -34,7 +34,12 @@ pub fn has_rows(
     rows: &str,
     case: &str,
 ) {
-    same(rt, made(rt, rows_told(alloc, conn)).as_str(), rows, case);
+    assert_same(
+        rt,
+        prepared(rt, rows_text(alloc, conn)).as_str(),
+        rows,
+        case,
+    );
 }
 
 /// A store that is changed by these statements is refused for that cause, and stays as it is.
@@ -46,8 +51,8 @@ pub fn refused(
     fault: &str,
 ) -> Connection<MemStore> {
     conn.execute_batch(statements).expect(rt, statements);
-    let before = made(rt, rows_told(alloc, &mut conn));
-    let mut conn = tells(rt, alloc, conn, FIVE, fault, statements);
+    let before = prepared(rt, rows_text(alloc, &mut conn));
+    let mut conn = assert_answers(rt, alloc, conn, FIVE, fault, statements);
     has_rows(rt, alloc, &mut conn, before.as_str(), statements);
     conn
 }

@@ -1,9 +1,9 @@
 //! Stores that are changed by other statements than this program's.
 
-use crate::answering::{in_memory, refused, tells};
-use crate::comparing::{holds, made, parts};
-use crate::earlier::{ANSWERS, EXTENSIONS};
-use crate::five::{FIVE, rows_told};
+use crate::answering::{assert_answers, in_memory, refused};
+use crate::comparing::{assert_holds, parts, prepared};
+use crate::five_requests::{FIVE, rows_text};
+use crate::version_1::{ANSWERS, EXTENSIONS};
 use sqlite::{Alter, Connection, MemStore};
 use std::alloc::Global;
 use std::io::Eprint;
@@ -72,14 +72,14 @@ fn is_refused(
     let mut conn = refused(rt, alloc, conn, statements, fault);
     has_row(rt, alloc, &mut conn, row);
     conn.execute_batch(undo).expect(rt, undo);
-    tells(rt, alloc, conn, FIVE, FIVE, undo)
+    assert_answers(rt, alloc, conn, FIVE, FIVE, undo)
 }
 
 /// The line for a row of a store.
 fn has_row(rt: &(impl Abort + Eprint), alloc: Global, conn: &mut Connection<MemStore>, row: &str) {
-    let told = made(rt, rows_told(alloc, conn));
-    let has_it = told.lines().any(|line| line == row);
-    holds(rt, has_it, told.as_str());
+    let got = prepared(rt, rows_text(alloc, conn));
+    let has_it = got.lines().any(|line| line == row);
+    assert_holds(rt, has_it, got.as_str());
 }
 
 /// A store that is closed and taken over again gives each number its first reply. A changed one is refused,
@@ -94,7 +94,7 @@ fn changed_stores_are_refused(rt: HostRuntime) {
 
 /// A store that the five requests were sent to.
 fn with_five(rt: &(impl Abort + Eprint), alloc: Global) -> Connection<MemStore> {
-    tells(rt, alloc, in_memory(rt, alloc), FIVE, FIVE, "a new store")
+    assert_answers(rt, alloc, in_memory(rt, alloc), FIVE, FIVE, "a new store")
 }
 
 /// Each change of the tables by itself.

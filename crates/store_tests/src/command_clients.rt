@@ -1,8 +1,8 @@
 //! Clients of `serve`: a port that is taken, and connections that close, ask to close, ask much or ask nothing.
 
-use crate::command_files::{forget_both, tells_over};
+use crate::command_files::{assert_fault_over, forget_both};
 use crate::commands::{ANSWERS, STREAM};
-use crate::comparing::{add, holds, same};
+use crate::comparing::{add, assert_holds, assert_same};
 use ee_cli_actions::{Outcome, serve_on};
 use ee_keeper::ListKeeper;
 use std::io::{self, Write};
@@ -36,7 +36,7 @@ fn a_taken_port(rt: HostRuntime) {
     forget_both(&rt, &rt, "port");
     let line = format!(in rt.alloc(); "serve --db DB --port {port} --connections 1");
     let line = line.expect(&rt, "a line");
-    tells_over(&rt, &rt, "port", &line, "input or output failed\n", 3);
+    assert_fault_over(&rt, &rt, "port", &line, "input or output failed\n", 3);
     forget_both(&rt, &rt, "port");
 }
 
@@ -71,7 +71,7 @@ fn serve_one(rt: &HostRuntime, abort: &impl Abort, listener: &TcpListener) -> St
         &mut lines,
     );
     let is_served = ended == Ok(Outcome::Done);
-    holds(abort, is_served, "the connection is served");
+    assert_holds(abort, is_served, "the connection is served");
     String::from_utf8(lines).expect(abort, "the line of a connection")
 }
 
@@ -80,33 +80,33 @@ fn exchange(rt: &HostRuntime, abort: &impl Abort, sent: &str, closes: bool) -> S
     let listener = listener(rt, abort);
     let port = port_of(abort, &listener);
     let client = client_at(rt, abort, port, sent, closes);
-    let mut told = serve_one(rt, abort, &listener);
+    let mut got = serve_one(rt, abort, &listener);
     let answers = io::read_to_string(rt.alloc(), client).expect(abort, "the answers");
-    add(abort, &mut told, answers.as_str());
-    told
+    add(abort, &mut got, answers.as_str());
+    got
 }
 
 #[test]
 fn a_client_that_closes(rt: HostRuntime) {
-    let told = exchange(&rt, &rt, STREAM, true);
+    let got = exchange(&rt, &rt, STREAM, true);
     let line = "connection 1: 2 messages, Closed\n";
-    let answers = told.strip_prefix(line).expect(&rt, told.as_str());
-    same(&rt, answers, ANSWERS, "the answers");
+    let answers = got.strip_prefix(line).expect(&rt, got.as_str());
+    assert_same(&rt, answers, ANSWERS, "the answers");
 }
 
 #[test]
 fn a_client_that_asks_to_close(rt: HostRuntime) {
     let sent = "GET /ticket/1 HTTP/1.1\r\nConnection: close\r\n\r\n";
-    let told = exchange(&rt, &rt, sent, false);
-    same(&rt, told.as_str(), ASKED, "the line and the answer");
+    let got = exchange(&rt, &rt, sent, false);
+    assert_same(&rt, got.as_str(), ASKED, "the line and the answer");
 }
 
 /// A connection had its thousand messages, and there is an answer to each.
-fn a_thousand_are_answered(rt: &impl Abort, told: &str) {
-    let mut parts = told.split("HTTP/1.1 404 Not Found");
+fn a_thousand_are_answered(rt: &impl Abort, got: &str) {
+    let mut parts = got.split("HTTP/1.1 404 Not Found");
     let line = parts.next().expect(rt, "the line of a connection");
-    same(rt, line, "connection 1: 1000 messages, Limit\n", "the line");
-    holds(rt, parts.count() == 1_000, "a thousand answers");
+    assert_same(rt, line, "connection 1: 1000 messages, Limit\n", "the line");
+    assert_holds(rt, parts.count() == 1_000, "a thousand answers");
 }
 
 /// More messages than a connection has come in one go: each answer of a whole connection arrives.
@@ -114,13 +114,13 @@ fn a_thousand_are_answered(rt: &impl Abort, told: &str) {
 fn answers_arrive(rt: HostRuntime) {
     let message = "GET /ticket/1 HTTP/1.1\r\n\r\n";
     let sent = message.repeat(rt.alloc(), 1_500).expect(&rt, message);
-    let told = exchange(&rt, &rt, sent.as_str(), false);
-    a_thousand_are_answered(&rt, told.as_str());
+    let got = exchange(&rt, &rt, sent.as_str(), false);
+    a_thousand_are_answered(&rt, got.as_str());
 }
 
 #[test]
 fn a_silent_client(rt: HostRuntime) {
-    let told = exchange(&rt, &rt, "", false);
+    let got = exchange(&rt, &rt, "", false);
     let wanted = "connection 1: 0 messages, ReadFailed\n";
-    same(&rt, told.as_str(), wanted, "the line and no answer");
+    assert_same(&rt, got.as_str(), wanted, "the line and no answer");
 }

@@ -1,7 +1,7 @@
 //! Lines over stores in files and in memory: imports, exports, sheets and streams.
 
-use crate::commands::{ANSWERS, STREAM, has_run, prints, prints_in_memory, run, tells};
-use crate::comparing::{add, holds, made, same};
+use crate::commands::{ANSWERS, STREAM, assert_fault, has_run, prints, prints_in_memory, run};
+use crate::comparing::{add, assert_holds, assert_same, prepared};
 use crate::paths::{forget, path_of};
 use std::fs;
 use std::io::Eprint;
@@ -25,7 +25,7 @@ const EXPORTED: &str =
 
 /// The path of a test's file.
 fn path_to(rt: &HostRuntime, abort: &(impl Abort + Eprint), name: &str, ending: &str) -> String {
-    made(abort, path_of(rt, name, ending))
+    prepared(abort, path_of(rt, name, ending))
 }
 
 /// Adds the path of a test's file.
@@ -57,7 +57,7 @@ fn with_paths(rt: &HostRuntime, abort: &(impl Abort + Eprint), name: &str, line:
 /// Removes a file of a test, and the log beside it.
 fn forget_one(rt: &HostRuntime, abort: &(impl Abort + Eprint), name: &str, ending: &str) {
     let path = path_to(rt, abort, name, ending);
-    made(abort, forget(rt, path.as_str()));
+    prepared(abort, forget(rt, path.as_str()));
 }
 
 /// Removes the store of a test, and its file.
@@ -82,7 +82,7 @@ fn holds_text(
 ) {
     let path = path_to(rt, abort, name, ending);
     let found = fs::read_to_string(rt, path.as_str()).expect(abort, "a file of a test");
-    same(abort, found.as_str(), text, "what a file holds");
+    assert_same(abort, found.as_str(), text, "what a file holds");
 }
 
 /// A line over the store and the file of a test prints this, with status 0.
@@ -98,7 +98,7 @@ fn prints_over(
 }
 
 /// The line prints nothing, reports this fault, and ends with this status.
-pub fn tells_over(
+pub fn assert_fault_over(
     rt: &HostRuntime,
     abort: &(impl Abort + Eprint),
     name: &str,
@@ -107,7 +107,7 @@ pub fn tells_over(
     status: u8,
 ) {
     let line = with_paths(rt, abort, name, line);
-    tells(rt, abort, line.as_str(), wanted, status);
+    assert_fault(rt, abort, line.as_str(), wanted, status);
 }
 
 const IMPORT_RATES: &str = "import rates FILE --db DB --number 1";
@@ -135,13 +135,13 @@ fn files_in_and_out(rt: HostRuntime) {
 fn a_broken_file_takes_no_number(rt: HostRuntime) {
     let name = "broken";
     forget_both(&rt, &rt, name);
-    tells_over(&rt, &rt, name, IMPORT_RATES, "input or output failed\n", 3);
+    assert_fault_over(&rt, &rt, name, IMPORT_RATES, "input or output failed\n", 3);
     put(&rt, &rt, name, "csv", "from,rate\n2010-05\n");
-    tells_over(&rt, &rt, name, IMPORT_RATES, "file: row 2 code 71\n", 3);
+    assert_fault_over(&rt, &rt, name, IMPORT_RATES, "file: row 2 code 71\n", 3);
     put(&rt, &rt, name, "csv", RATES);
     prints_over(&rt, &rt, name, IMPORT_RATES, "{\"new\":2,\"same\":0}\n");
     let refused = "import inventory FILE --db DB --number 1";
-    tells_over(&rt, &rt, name, refused, "file: row 1 code 70\n", 3);
+    assert_fault_over(&rt, &rt, name, refused, "file: row 1 code 70\n", 3);
     forget_both(&rt, &rt, name);
 }
 
@@ -161,9 +161,9 @@ fn a_refusal_is_printed(rt: HostRuntime) {
 fn a_cut_stream_is_answered(rt: &HostRuntime, abort: &impl Abort, line: &str) {
     let ran = run(rt, abort, line, "GET /value/50");
     let end = "{\"code\":68,\"fault\":\"Truncated\"}";
-    holds(abort, ran.printed.ends_with(end), ran.printed.as_str());
-    same(abort, ran.told.as_str(), "", line);
-    holds(abort, ran.status == 1, line);
+    assert_holds(abort, ran.printed.ends_with(end), ran.printed.as_str());
+    assert_same(abort, ran.got.as_str(), "", line);
+    assert_holds(abort, ran.status == 1, line);
 }
 
 #[test]
@@ -209,8 +209,8 @@ fn a_file_that_is_no_store(rt: HostRuntime) {
     for text in ["no store", "x", "S", "\0", "7", "\0\0", "SQLite format 3"] {
         forget_both(&rt, &rt, name);
         put(&rt, &rt, name, "db", text);
-        tells_over(&rt, &rt, name, line, "store: StoreFailed\n", 3);
-        tells_over(&rt, &rt, name, line, "store: StoreFailed\n", 3);
+        assert_fault_over(&rt, &rt, name, line, "store: StoreFailed\n", 3);
+        assert_fault_over(&rt, &rt, name, line, "store: StoreFailed\n", 3);
         holds_text(&rt, &rt, name, "db", text);
     }
     forget_both(&rt, &rt, name);

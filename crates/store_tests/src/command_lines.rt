@@ -3,8 +3,8 @@
 
 ghost use Rattle.std.specs.Prelude.{⊤};
 
-use crate::commands::{InMemory, prints, run, tells, words};
-use crate::comparing::{holds, parts, same};
+use crate::commands::{InMemory, assert_fault, prints, run, words};
+use crate::comparing::{assert_holds, assert_same, parts};
 use ee_cli_program::{refuse_words, run_words};
 use ee_io::Sink;
 use std::alloc::Global;
@@ -78,16 +78,16 @@ fn bad_arguments(rt: HostRuntime) {
         ("export 0 --db no/where", "bad argument: customer\n"),
         ("sheet 7 2012-13 --db no/where", "bad argument: month\n"),
     ] {
-        tells(&rt, &rt, line, wanted, 2);
+        assert_fault(&rt, &rt, line, wanted, 2);
     }
 }
 
 /// The line prints nothing, reports a fault, and ends with status 2.
 fn is_bad(rt: &HostRuntime, abort: &impl Abort, line: &str) {
     let ran = run(rt, abort, line, "");
-    holds(abort, !ran.told.is_empty(), line);
-    same(abort, ran.printed.as_str(), "", line);
-    holds(abort, ran.status == 2, line);
+    assert_holds(abort, !ran.got.is_empty(), line);
+    assert_same(abort, ran.printed.as_str(), "", line);
+    assert_holds(abort, ran.status == 2, line);
 }
 
 #[test]
@@ -110,9 +110,9 @@ fn bad_lines(rt: HostRuntime) {
 /// The output of the line contains that part; no fault is reported, and the status is 0.
 fn prints_part(rt: &HostRuntime, abort: &impl Abort, line: &str, part: &str) {
     let ran = run(rt, abort, line, "");
-    holds(abort, ran.printed.contains(part), part);
-    same(abort, ran.told.as_str(), "", line);
-    holds(abort, ran.status == 0, line);
+    assert_holds(abort, ran.printed.contains(part), part);
+    assert_same(abort, ran.got.as_str(), "", line);
+    assert_holds(abort, ran.status == 0, line);
 }
 
 #[test]
@@ -168,22 +168,22 @@ impl Sink for Failing {
 }
 
 /// Compares the bytes of a text with the wanted ones; `case` names them.
-fn same_bytes(rt: &impl Abort, told: &[u8], wanted: &str, case: &str) {
-    same(rt, str::from_utf8(told).expect(rt, case), wanted, case);
+fn same_bytes(rt: &impl Abort, got: &[u8], wanted: &str, case: &str) {
+    assert_same(rt, str::from_utf8(got).expect(rt, case), wanted, case);
 }
 
 /// The output takes this number of the bytes that the words print, and then fails.
 fn prints_so_many(rt: &HostRuntime, abort: &impl Abort, words: &[String], room: usize) {
     let bytes = Vec::new(rt.alloc());
     let mut output = Failing { bytes, room };
-    let mut told = Vec::new(rt.alloc());
+    let mut got = Vec::new(rt.alloc());
     let stores = InMemory { alloc: rt.alloc() };
     let mut input = io::empty();
-    let status = run_words(rt, &stores, words, &mut input, &mut output, &mut told);
+    let status = run_words(rt, &stores, words, &mut input, &mut output, &mut got);
     let front = "29.74\n".get(..room).expect(abort, "a front of the line");
     same_bytes(abort, &output.bytes, front, "what is printed");
-    same_bytes(abort, &told, "input or output failed\n", "what is told");
-    holds(abort, status == 3, "the status is 3");
+    same_bytes(abort, &got, "input or output failed\n", "what is got");
+    assert_holds(abort, status == 3, "the status is 3");
 }
 
 #[test]
@@ -196,11 +196,11 @@ fn failing_output(rt: HostRuntime) {
 
 /// Words that were not read for that cause are refused with this text and this status.
 fn are_refused(rt: &impl Abort, alloc: Global, kind: ErrorKind, wanted: &str, status: u8) {
-    let mut told = Vec::new(alloc);
+    let mut got = Vec::new(alloc);
     let error = io::Error::from(kind);
-    let ended = refuse_words(&error, &mut told);
-    same_bytes(rt, &told, wanted, "what is told");
-    holds(rt, ended == status, wanted);
+    let ended = refuse_words(&error, &mut got);
+    same_bytes(rt, &got, wanted, "what is got");
+    assert_holds(rt, ended == status, wanted);
 }
 
 /// A word that isn't UTF-8 is a bad line, and want of memory is reported as such.

@@ -1,6 +1,6 @@
 //! Running a command line, over files or over stores in memory, with its output and its faults.
 
-use crate::comparing::{holds, same};
+use crate::comparing::{assert_holds, assert_same};
 use ee_cli_actions::RunFault;
 use ee_cli_program::{Stores, run_words};
 use ee_cli_stores::{StoreFiles, Untold};
@@ -12,7 +12,7 @@ use std::process::Abort;
 #[derive(Drop)]
 pub struct Ran {
     pub printed: String,
-    pub told: String,
+    pub got: String,
     pub status: u8,
 }
 
@@ -42,11 +42,11 @@ fn run_given<O: Stores>(
 ) -> Ran {
     let mut bytes = input.as_bytes();
     let mut printed = Vec::new(rt.alloc());
-    let mut told = Vec::new(rt.alloc());
-    let status = run_words(rt, stores, words, &mut bytes, &mut printed, &mut told);
+    let mut got = Vec::new(rt.alloc());
+    let status = run_words(rt, stores, words, &mut bytes, &mut printed, &mut got);
     Ran {
         printed: String::from_utf8(printed).expect(abort, "what is printed"),
-        told: String::from_utf8(told).expect(abort, "what is told"),
+        got: String::from_utf8(got).expect(abort, "what is got"),
         status,
     }
 }
@@ -96,10 +96,10 @@ impl Stores for InMemory {
 }
 
 /// The line printed this, reported this, and ended with this status.
-pub fn has_run(abort: &impl Abort, ran: &Ran, line: &str, printed: &str, told: &str, status: u8) {
-    same(abort, ran.printed.as_str(), printed, line);
-    same(abort, ran.told.as_str(), told, line);
-    holds(abort, ran.status == status, line);
+pub fn has_run(abort: &impl Abort, ran: &Ran, line: &str, printed: &str, got: &str, status: u8) {
+    assert_same(abort, ran.printed.as_str(), printed, line);
+    assert_same(abort, ran.got.as_str(), got, line);
+    assert_holds(abort, ran.status == status, line);
 }
 
 /// The line prints this, with status 0.
@@ -122,7 +122,7 @@ pub fn prints_in_memory(
 }
 
 /// The line prints nothing, reports this fault, and ends with this status.
-pub fn tells(rt: &HostRuntime, abort: &impl Abort, line: &str, wanted: &str, status: u8) {
+pub fn assert_fault(rt: &HostRuntime, abort: &impl Abort, line: &str, wanted: &str, status: u8) {
     let ran = run(rt, abort, line, "");
     has_run(abort, &ran, line, "", wanted, status);
 }

@@ -9,7 +9,7 @@ use std::process::{Abort, Termination};
 use std::test::Fail;
 
 /// What was made without fault. A fault is printed, and ends the test.
-pub fn made<T>(rt: &(impl Abort + Eprint), made: Result<T, Fail>) -> T {
+pub fn prepared<T>(rt: &(impl Abort + Eprint), made: Result<T, Fail>) -> T {
     match made {
         Ok(made) => made,
         Err(fail) => {
@@ -20,12 +20,12 @@ pub fn made<T>(rt: &(impl Abort + Eprint), made: Result<T, Fail>) -> T {
 }
 
 /// Compares a text with the wanted one; `case` says what was done.
-pub fn same(rt: &impl Abort, told: &str, wanted: &str, case: &str) {
-    assert!(rt; told == wanted, "{case}: {told} and not {wanted}");
+pub fn assert_same(rt: &impl Abort, got: &str, wanted: &str, case: &str) {
+    assert!(rt; got == wanted, "{case}: {got} and not {wanted}");
 }
 
 /// Something holds; `case` says what, or what the result was.
-pub fn holds(rt: &impl Abort, is_so: bool, case: &str) {
+pub fn assert_holds(rt: &impl Abort, is_so: bool, case: &str) {
     assert!(rt; is_so, "{case}");
 }
 
@@ -57,15 +57,15 @@ pub fn compare_by<K: Keeper>(
     by: By,
     transcript: &str,
 ) {
-    let wanted = made(rt, whole(alloc, transcript));
-    let told = made(rt, replay_by(alloc, keeper, by, wanted.as_str()));
-    same_lines(rt, told.as_str(), wanted.as_str());
+    let wanted = prepared(rt, whole(alloc, transcript));
+    let got = prepared(rt, replay_by(alloc, keeper, by, wanted.as_str()));
+    same_lines(rt, got.as_str(), wanted.as_str());
 }
 
 /// Compares two transcripts line by line, and then as wholes.
-fn same_lines(rt: &impl Abort, told: &str, wanted: &str) {
-    for (line, right) in told.lines().zip(wanted.lines()) {
-        same(rt, line, right, "a line");
+fn same_lines(rt: &impl Abort, got: &str, wanted: &str) {
+    for (line, right) in got.lines().zip(wanted.lines()) {
+        assert_same(rt, line, right, "a line");
     }
-    same(rt, told, wanted, "the whole");
+    assert_same(rt, got, wanted, "the whole");
 }

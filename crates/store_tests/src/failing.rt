@@ -1,7 +1,7 @@
 //! Devices that fail under a connection, an import and an export, over any keeper: each read and each write fails in turn,
 //! or is interrupted, or moves one byte.
 
-use crate::comparing::{add, compare, made, parts, same};
+use crate::comparing::{add, assert_same, compare, parts, prepared};
 use crate::devices::{Narrow, Source};
 use crate::talk::{bytes_of, json, message};
 use ee_counter::{Ended, export_inventory, import_inventory, import_rates, serve};
@@ -50,14 +50,14 @@ const LOST: &str = "GET /a HTTP/1.1\r\n\r\n";
 const NO_ROUTE: &str = "{\"code\":66,\"fault\":\"NoRoute\"}";
 
 /// How many answers were written whole, why it ended, and what was written.
-fn ended_told(rt: &impl Abort, alloc: Global, ended: Ended, text: &[u8]) -> String {
+fn ended_text(rt: &impl Abort, alloc: Global, ended: Ended, text: &[u8]) -> String {
     let Ended { messages, why, .. } = ended;
     let text = str::from_utf8(text).expect(rt, "what was written");
     format!(in alloc; "{messages} {why:?}\n{text}").expect(rt, text)
 }
 
 /// Serving a source gives this result; `case` says what the source does.
-fn tells<K: Keeper>(
+fn assert_served<K: Keeper>(
     rt: &impl Abort,
     alloc: Global,
     keeper: &mut K,
@@ -67,8 +67,8 @@ fn tells<K: Keeper>(
 ) {
     let mut text = Vec::new(alloc);
     let ended = serve(alloc, keeper, reader, &mut text);
-    let told = ended_told(rt, alloc, ended, &text);
-    same(rt, told.as_str(), wanted, case);
+    let got = ended_text(rt, alloc, ended, &text);
+    assert_same(rt, got.as_str(), wanted, case);
 }
 
 /// Each read up to the last byte of a message fails in turn: nothing is answered, and its number stays free.
@@ -78,11 +78,11 @@ fn no_message_comes_whole<K: Keeper>(
     keeper: &mut K,
     kind: ErrorKind,
 ) {
-    let stream = made(rt, message(alloc, CUT));
+    let stream = prepared(rt, message(alloc, CUT));
     for fails in 1..=stream.len() {
         let mut reader = Source::failing(stream.as_bytes(), fails, kind);
         let case = "a read of a message fails";
-        tells(rt, alloc, keeper, &mut reader, "0 ReadFailed\n", case);
+        assert_served(rt, alloc, keeper, &mut reader, "0 ReadFailed\n", case);
     }
 }
 
@@ -97,12 +97,12 @@ struct Talk {
 
 impl Talk {
     fn new(rt: &(impl Abort + Eprint), alloc: Global) -> Talk {
-        let mut stream = made(rt, message(alloc, FIRST));
+        let mut stream = prepared(rt, message(alloc, FIRST));
         let first = stream.len();
-        let second = made(rt, message(alloc, SECOND));
+        let second = prepared(rt, message(alloc, SECOND));
         add(rt, &mut stream, second.as_str());
-        let added = made(rt, json(alloc, "200 OK", "", ADDED));
-        let row = made(rt, json(alloc, "200 OK", "", ROW));
+        let added = prepared(rt, json(alloc, "200 OK", "", ADDED));
+        let row = prepared(rt, json(alloc, "200 OK", "", ROW));
         let both = format!(in alloc; "{added}{row}").expect(rt, ROW);
         Talk {
             stream,
@@ -151,7 +151,7 @@ fn reads_fail<K: Keeper>(
         let mut reader = Source::failing(talk.stream.as_bytes(), fails, kind);
         let wanted = talk.read(rt, alloc, before);
         let case = "a read of two messages fails";
-        tells(rt, alloc, keeper, &mut reader, wanted.as_str(), case);
+        assert_served(rt, alloc, keeper, &mut reader, wanted.as_str(), case);
     }
 }
 
@@ -162,10 +162,10 @@ fn reads_are_cut<K: Keeper>(rt: &impl Abort, alloc: Global, keeper: &mut K, talk
     let bytes = talk.stream.as_bytes();
     for first in 1..=bytes.len() {
         let mut reader = Source::of(bytes, first, 4_096);
-        tells(rt, alloc, keeper, &mut reader, wanted, "two pieces");
+        assert_served(rt, alloc, keeper, &mut reader, wanted, "two pieces");
     }
     let mut reader = Source::of(bytes, 1, 1);
-    tells(rt, alloc, keeper, &mut reader, wanted, "a byte a read");
+    assert_served(rt, alloc, keeper, &mut reader, wanted, "a byte a read");
 }
 
 /// The writer fails after a number of bytes, which it takes one at a time: it took only the front of the answers.
@@ -179,9 +179,9 @@ fn a_write_fails<K: Keeper>(
 ) {
     let mut writer = Narrow::failing(alloc, 1, room, kind);
     let ended = serve(alloc, keeper, &mut talk.stream.as_bytes(), &mut writer);
-    let told = ended_told(rt, alloc, ended, &writer.text);
+    let got = ended_text(rt, alloc, ended, &writer.text);
     let wanted = talk.written(rt, alloc, room);
-    same(rt, told.as_str(), wanted.as_str(), "a write fails");
+    assert_same(rt, got.as_str(), wanted.as_str(), "a write fails");
 }
 
 /// The writer fails after each byte in turn, which it takes one at a time: what it took is a front of the answers. The
@@ -198,7 +198,7 @@ fn writes_fail<K: Keeper>(
         a_write_fails(rt, alloc, keeper, talk, room, kind);
         let mut reader = Source::of(talk.stream.as_bytes(), 4_096, 4_096);
         let case = "the repeat after a write that failed";
-        tells(rt, alloc, keeper, &mut reader, whole.as_str(), case);
+        assert_served(rt, alloc, keeper, &mut reader, whole.as_str(), case);
     }
 }
 
@@ -233,10 +233,10 @@ fn no_file_comes_whole<K: Keeper>(
 ) {
     for fails in 1..=file.len().saturating_add(1) {
         let mut reader = Source::failing(file, fails, kind);
-        let told = imported(rt, alloc, keeper, is_rates, &mut reader);
-        same(
+        let got = imported(rt, alloc, keeper, is_rates, &mut reader);
+        assert_same(
             rt,
-            told.as_str(),
+            got.as_str(),
             "file: row 1 code 73",
             "a read of a file fails",
         );
@@ -253,8 +253,8 @@ fn a_file_comes_whole<K: Keeper>(
     reply: &str,
 ) {
     let mut reader = Source::of(file, 1, 1);
-    let told = imported(rt, alloc, keeper, is_rates, &mut reader);
-    same(rt, told.as_str(), reply, "a file a byte a read");
+    let got = imported(rt, alloc, keeper, is_rates, &mut reader);
+    assert_same(rt, got.as_str(), reply, "a file a byte a read");
 }
 
 /// Each read of a file fails in turn, the one of its end too, and nothing is entered; then it comes whole, a byte a read,
@@ -269,7 +269,7 @@ fn imports_fail<K: Keeper>(
     let (name, row) = parts(rt, row);
     let (file, reply) = parts(rt, row);
     let is_rates = name == "rates";
-    let bytes = made(rt, bytes_of(alloc, file, "\n"));
+    let bytes = prepared(rt, bytes_of(alloc, file, "\n"));
     let file = bytes.as_slice();
     no_file_comes_whole(rt, alloc, keeper, is_rates, file, kind);
     a_file_comes_whole(rt, alloc, keeper, is_rates, file, reply);
@@ -295,8 +295,8 @@ fn exports_a_front<K: Keeper>(
     };
     let front = EXPORT.get(..room).expect(rt, "a front of the file");
     let text = str::from_utf8(&writer.text).expect(rt, "the text of a file");
-    same(rt, rows.as_str(), end, front);
-    same(rt, text, front, "what the writer of an export took");
+    assert_same(rt, rows.as_str(), end, front);
+    assert_same(rt, text, front, "what the writer of an export took");
 }
 
 /// The writer of an export fails after each byte in turn: what it took is a front of the file.
@@ -330,7 +330,7 @@ pub fn devices_fail<K: Keeper>(rt: &(impl Abort + Eprint), alloc: Global, keeper
 
 /// The answer to a message that has no route.
 fn no_route(rt: &(impl Abort + Eprint), alloc: Global, headers: &str) -> String {
-    made(rt, json(alloc, "404 Not Found", headers, NO_ROUTE))
+    prepared(rt, json(alloc, "404 Not Found", headers, NO_ROUTE))
 }
 
 /// A number of messages without a route come on one connection: it ends so, with these answers.
@@ -345,7 +345,7 @@ fn many_come<K: Keeper>(
     let stream = LOST.repeat(alloc, messages).expect(rt, end);
     let wanted = format!(in alloc; "{end}\n{answers}").expect(rt, end);
     let mut reader = Source::of(stream.as_bytes(), 4_096, 4_096);
-    tells(rt, alloc, keeper, &mut reader, wanted.as_str(), end);
+    assert_served(rt, alloc, keeper, &mut reader, wanted.as_str(), end);
 }
 
 /// A connection has a thousand messages: the thousandth answer says that it ends, even if the input ends there; what

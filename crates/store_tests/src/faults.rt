@@ -1,7 +1,7 @@
 //! Calls at fault, bytes that are no message, and streams that end anywhere, by the command `apply`: each
 //! has its answer and its end.
 
-use crate::comparing::{add, made, same};
+use crate::comparing::{add, assert_same, prepared};
 use crate::talk::{applied, json, message};
 use ee_keeper::Keeper;
 use std::alloc::Global;
@@ -140,13 +140,13 @@ fn add_answer(
     headers: &str,
     body: &str,
 ) {
-    let answer = made(rt, json(alloc, status, headers, body));
+    let answer = prepared(rt, json(alloc, status, headers, body));
     add(rt, text, answer.as_str());
 }
 
 /// Adds a message `METHOD PATH BODY`.
 fn add_message(rt: &(impl Abort + Eprint), alloc: Global, text: &mut String, line: &str) {
-    let message = made(rt, message(alloc, line));
+    let message = prepared(rt, message(alloc, line));
     add(rt, text, message.as_str());
 }
 
@@ -179,15 +179,15 @@ fn status_line(status: &str) -> Option<&'static str> {
 }
 
 /// `apply` gives this result for a stream.
-fn is_told<K: Keeper>(
+fn assert_replies<K: Keeper>(
     rt: &(impl Abort + Eprint),
     alloc: Global,
     keeper: &mut K,
     stream: &str,
     wanted: &str,
 ) {
-    let told = made(rt, applied(alloc, keeper, stream.as_bytes()));
-    same(rt, told.as_str(), wanted, stream);
+    let got = prepared(rt, applied(alloc, keeper, stream.as_bytes()));
+    assert_same(rt, got.as_str(), wanted, stream);
 }
 
 /// The calls at fault, each followed by a message that is answered well.
@@ -203,18 +203,18 @@ fn calls(rt: &(impl Abort + Eprint), alloc: Global) -> String {
 }
 
 /// Adds the answer of a line `STATUS BODY`.
-fn add_told(rt: &(impl Abort + Eprint), alloc: Global, text: &mut String, line: &str) {
+fn add_text(rt: &(impl Abort + Eprint), alloc: Global, text: &mut String, line: &str) {
     let (status, body) = line.split_once(' ').expect(rt, line);
     let status = status_line(status).expect(rt, line);
     add_answer(rt, alloc, text, status, "", body);
 }
 
 /// The result of `apply` for the calls at fault, each followed by a good message.
-fn calls_told(rt: &(impl Abort + Eprint), alloc: Global) -> String {
+fn calls_text(rt: &(impl Abort + Eprint), alloc: Global) -> String {
     let mut wanted = String::from_str(alloc, "Done ").expect(rt, "the end");
     for line in CALLS.lines() {
         if !line.starts_with("> ") {
-            add_told(rt, alloc, &mut wanted, line);
+            add_text(rt, alloc, &mut wanted, line);
             add_answer(rt, alloc, &mut wanted, "200 OK", "", ROW);
         }
     }
@@ -224,8 +224,8 @@ fn calls_told(rt: &(impl Abort + Eprint), alloc: Global) -> String {
 /// The calls at fault on one connection, each followed by a message that is answered well.
 pub fn calls_in_one_stream<K: Keeper>(rt: &(impl Abort + Eprint), alloc: Global, keeper: &mut K) {
     let stream = calls(rt, alloc);
-    let wanted = calls_told(rt, alloc);
-    is_told(rt, alloc, keeper, stream.as_str(), wanted.as_str());
+    let wanted = calls_text(rt, alloc);
+    assert_replies(rt, alloc, keeper, stream.as_str(), wanted.as_str());
 }
 
 /// Two messages, the first with this length, whose stream ends after a number of bytes.
@@ -242,12 +242,12 @@ fn ends_at<K: Keeper>(
     let is_cut = end != 0 && end != first && !is_whole;
     let front = stream.get(..end).expect(rt, "a front of the stream");
     let wanted = wanted(rt, alloc, messages, is_cut);
-    is_told(rt, alloc, keeper, front, wanted.as_str());
+    assert_replies(rt, alloc, keeper, front, wanted.as_str());
 }
 
 /// Two messages whose stream ends after each byte in turn.
 pub fn ends<K: Keeper>(rt: &(impl Abort + Eprint), alloc: Global, keeper: &mut K) {
-    let mut stream = made(rt, message(alloc, FIRST));
+    let mut stream = prepared(rt, message(alloc, FIRST));
     let first = stream.len();
     add_message(rt, alloc, &mut stream, SECOND);
     for end in 0..=stream.len() {
@@ -257,7 +257,7 @@ pub fn ends<K: Keeper>(rt: &(impl Abort + Eprint), alloc: Global, keeper: &mut K
 
 /// The first of the two messages again: its number was taken once, by the whole message.
 pub fn ended<K: Keeper>(rt: &(impl Abort + Eprint), alloc: Global, keeper: &mut K) {
-    let stream = made(rt, message(alloc, FIRST));
+    let stream = prepared(rt, message(alloc, FIRST));
     let wanted = wanted(rt, alloc, 1, false);
-    is_told(rt, alloc, keeper, stream.as_str(), wanted.as_str());
+    assert_replies(rt, alloc, keeper, stream.as_str(), wanted.as_str());
 }

@@ -22,31 +22,21 @@ mod days;
 #[cfg(test)]
 mod devices;
 #[cfg(test)]
-mod earlier;
-#[cfg(test)]
-mod earlier_bytes;
-#[cfg(test)]
-mod earlier_file;
-#[cfg(test)]
-mod earlier_many;
-#[cfg(test)]
-mod earlier_stops;
-#[cfg(test)]
 mod failing;
 #[cfg(test)]
 mod faults;
 #[cfg(test)]
-mod five;
+mod five_requests;
 #[cfg(test)]
 mod imports;
 #[cfg(test)]
 mod lists;
 #[cfg(test)]
-mod noise;
-#[cfg(test)]
-mod parts;
+mod memory_and_tables;
 #[cfg(test)]
 mod paths;
+#[cfg(test)]
+mod random_bytes;
 #[cfg(test)]
 mod refusals;
 #[cfg(test)]
@@ -59,3 +49,13 @@ mod stores;
 mod tables;
 #[cfg(test)]
 mod talk;
+#[cfg(test)]
+mod version_1;
+#[cfg(test)]
+mod version_1_bytes;
+#[cfg(test)]
+mod version_1_files;
+#[cfg(test)]
+mod version_1_many_replies;
+#[cfg(test)]
+mod version_1_stops;

@@ -2,12 +2,12 @@
 //! served when it comes again. The script `tests/refused_memory` refuses each request for memory in turn.
 
 use crate::answering::{has_rows, in_memory};
-use crate::comparing::{made, same};
+use crate::comparing::{assert_same, prepared};
 use crate::days::{DAY, SHOWN};
-use crate::five::rows_told;
+use crate::five_requests::rows_text;
 use crate::imports::FILES;
-use crate::parts::requests;
-use crate::talk::{By, line_told, requests_of};
+use crate::memory_and_tables::requests;
+use crate::talk::{By, line_text, requests_of};
 use ee_counter::run;
 use ee_desk_model::{Reply, Request, Unserved};
 use ee_desk_texts::reply_text;
@@ -31,9 +31,9 @@ no memory
 Err(Unserved(NoMemory))
 "#;
 
-fn is_refused(told: &str) -> bool {
+fn is_refused(got: &str) -> bool {
     for line in REFUSED.lines() {
-        if told.starts_with(line) {
+        if got.starts_with(line) {
             return true;
         }
     }
@@ -49,40 +49,40 @@ fn replay_patiently<K: Keeper>(
 ) -> Result<String, Fail> {
     let mut text = String::new(alloc);
     for line in transcript.lines() {
-        let Some(mut told) = line_told(alloc, keeper, by, line)? else {
+        let Some(mut got) = line_text(alloc, keeper, by, line)? else {
             continue;
         };
-        if is_refused(told.as_str()) {
-            told = line_told(alloc, keeper, by, line)?.ok_or("told")?;
+        if is_refused(got.as_str()) {
+            got = line_text(alloc, keeper, by, line)?.ok_or("no answer")?;
         }
-        write!(text, "{line}\n{told}\n")?;
+        write!(text, "{line}\n{got}\n")?;
     }
     Ok(text)
 }
 
 /// Runs a transcript in this way, and compares the results.
-fn is_told<K: Keeper>(
+fn assert_replies<K: Keeper>(
     rt: &(impl Abort + Eprint),
     alloc: Global,
     keeper: &mut K,
     by: By,
     transcript: &str,
 ) {
-    let told = made(rt, replay_patiently(alloc, keeper, by, transcript));
-    same(rt, told.as_str(), transcript, "with little memory");
+    let got = prepared(rt, replay_patiently(alloc, keeper, by, transcript));
+    assert_same(rt, got.as_str(), transcript, "with little memory");
 }
 
 /// A transcript, and each request of it and each import again.
-fn is_told_again<K: Keeper>(
+fn assert_replies_again<K: Keeper>(
     rt: &(impl Abort + Eprint),
     alloc: Global,
     keeper: &mut K,
     by: By,
     transcript: &str,
 ) {
-    is_told(rt, alloc, keeper, by, transcript);
-    let again = made(rt, requests_of(alloc, transcript));
-    is_told(rt, alloc, keeper, by, again.as_str());
+    assert_replies(rt, alloc, keeper, by, transcript);
+    let again = prepared(rt, requests_of(alloc, transcript));
+    assert_replies(rt, alloc, keeper, by, again.as_str());
 }
 
 /// A day or files by these calls, what the books show then, and all requests again.
@@ -97,14 +97,14 @@ enum Work {
 fn work_over<K: Keeper>(rt: &(impl Abort + Eprint), alloc: Global, keeper: &mut K, work: Work) {
     match work {
         Work::Day(by) => {
-            is_told_again(rt, alloc, keeper, by, DAY);
-            is_told(rt, alloc, keeper, by, SHOWN);
+            assert_replies_again(rt, alloc, keeper, by, DAY);
+            assert_replies(rt, alloc, keeper, by, SHOWN);
         }
         Work::Files => {
             let (files, _) = FILES
                 .split_once("- 7 40\n")
                 .expect(rt, "an export that is cut");
-            is_told_again(rt, alloc, keeper, By::Calls, files);
+            assert_replies_again(rt, alloc, keeper, By::Calls, files);
         }
         Work::List => list_over(rt, alloc, keeper),
     }
@@ -131,7 +131,7 @@ fn delivered<K: Keeper>(keeper: &mut K, request: &Request) -> Result<Reply, Fail
 }
 
 /// The text of a reply.
-fn told(alloc: Global, reply: &Reply) -> Result<String, Fail> {
+fn text_of(alloc: Global, reply: &Reply) -> Result<String, Fail> {
     Ok(reply_text(alloc, reply)?)
 }
 
@@ -143,10 +143,10 @@ fn is_answer_of(
     request: &Request,
     reply: &Reply,
 ) {
-    let wanted = made(rt, delivered(other, request));
-    let wanted = made(rt, told(alloc, &wanted));
-    let told = made(rt, told(alloc, reply));
-    same(rt, told.as_str(), wanted.as_str(), "the other keeper");
+    let wanted = prepared(rt, delivered(other, request));
+    let wanted = prepared(rt, text_of(alloc, &wanted));
+    let got = prepared(rt, text_of(alloc, reply));
+    assert_same(rt, got.as_str(), wanted.as_str(), "the other keeper");
 }
 
 /// Each answer is that of another keeper to the requests that were served.
@@ -169,7 +169,7 @@ fn are_answers_of(
 fn list_over<K: Keeper>(rt: &(impl Abort + Eprint), alloc: Global, keeper: &mut K) {
     let requests = requests(rt, alloc, DAY);
     let mut other = ListKeeper::empty(alloc);
-    let answers = made(rt, answers_to(alloc, keeper, requests.as_slice()));
+    let answers = prepared(rt, answers_to(alloc, keeper, requests.as_slice()));
     are_answers_of(
         rt,
         alloc,
@@ -178,7 +178,7 @@ fn list_over<K: Keeper>(rt: &(impl Abort + Eprint), alloc: Global, keeper: &mut 
         answers.as_slice(),
     );
     for request in requests.iter() {
-        let reply = made(rt, delivered(keeper, request));
+        let reply = prepared(rt, delivered(keeper, request));
         is_answer_of(rt, alloc, &mut other, request, &reply);
     }
 }
@@ -217,7 +217,7 @@ fn work_over_tables(rt: &(impl Abort + Eprint), alloc: Global, work: Work) {
     let mut keeper = adopted(rt, alloc, in_memory(rt, alloc));
     work_over(rt, alloc, &mut keeper, work);
     let mut conn = keeper.close();
-    let before = made(rt, rows_told(alloc, &mut conn));
+    let before = prepared(rt, rows_text(alloc, &mut conn));
     let mut conn = adopted(rt, alloc, conn).close();
     has_rows(rt, alloc, &mut conn, before.as_str(), "again");
 }

@@ -1,6 +1,6 @@
 //! A talk over two files of which one may stop, and the results that such a talk may have.
 
-use crate::five::served;
+use crate::five_requests::served;
 use ee_store_files::open_files;
 use sqlite::{Files, Options};
 use sqlite_disk::{Disk, Memory};
@@ -68,14 +68,14 @@ pub fn ends_by_failures(talk: &str) -> bool {
 
 /// Whether the result is empty, or why the store wasn't opened, or the right answers up to a request at which the store
 /// failed; after it each is a failure, or a reply that was given before.
-pub fn is_front_of(told: &str, wanted: &str) -> bool {
-    if told.is_empty() || told == "StoreFailed" {
+pub fn is_front_of(got: &str, wanted: &str) -> bool {
+    if got.is_empty() || got == "StoreFailed" {
         return true;
     }
-    let Some((front, _)) = told.split_once("StoreFailed 503 ") else {
-        return told == wanted;
+    let Some((front, _)) = got.split_once("StoreFailed 503 ") else {
+        return got == wanted;
     };
-    for (line, right) in told.lines().zip(wanted.lines()) {
+    for (line, right) in got.lines().zip(wanted.lines()) {
         let fails = line.starts_with("StoreFailed 503 ");
         let is_known = line.starts_with("> ") || front.contains(line);
         if !fails && (line != right || !is_known) {
@@ -87,12 +87,12 @@ pub fn is_front_of(told: &str, wanted: &str) -> bool {
 
 /// Whether each query of a talk got its right answer, or was told that the store failed, so that a failing device is
 /// reported as nothing else. A store that isn't opened is reported so, or as nothing.
-pub fn fails_as_store(told: &str, wanted: &str) -> bool {
-    if told.is_empty() || told == "StoreFailed" {
+pub fn fails_as_store(got: &str, wanted: &str) -> bool {
+    if got.is_empty() || got == "StoreFailed" {
         return true;
     }
     let asked = |talk: &str| talk.lines().filter(|line| line.starts_with("> ")).count();
-    asked(told) == asked(wanted)
-        && told.lines().zip(wanted.lines()).all(|(line, right)| line == right
+    asked(got) == asked(wanted)
+        && got.lines().zip(wanted.lines()).all(|(line, right)| line == right
             || line.starts_with("StoreFailed 503 "))
 }

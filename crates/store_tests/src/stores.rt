@@ -1,8 +1,8 @@
 //! Stores in files: days in a file that is closed and opened again, and stops at each call of a file.
 
-use crate::comparing::{holds, made, same};
+use crate::comparing::{assert_holds, assert_same, prepared};
 use crate::days::{DAY, DESKS, EXTENDED, LAST};
-use crate::five::FIVE;
+use crate::five_requests::FIVE;
 use crate::lists::LISTS;
 use crate::paths::{forget, fresh};
 use crate::refusals::{DAYS, IMPORTS};
@@ -39,20 +39,20 @@ fn answer_alike(
     path: &str,
     talk: &str,
 ) {
-    let wanted = made(test, answers(rt.alloc(), list, talk));
-    let told = made(test, in_file(rt, path, talk));
-    same(test, told.as_str(), wanted.as_str(), "over a file");
+    let wanted = prepared(test, answers(rt.alloc(), list, talk));
+    let got = prepared(test, in_file(rt, path, talk));
+    assert_same(test, got.as_str(), wanted.as_str(), "over a file");
 }
 
 /// A day of several desks over a file that is closed and opened again between its parts.
 #[test]
 fn desks_in_a_file(rt: HostRuntime) {
-    let path = made(&rt, fresh(&rt, "desks"));
+    let path = prepared(&rt, fresh(&rt, "desks"));
     let mut list = ListKeeper::empty(rt.alloc());
     for talk in DESKS {
         answer_alike(&rt, &rt, &mut list, &path, talk);
     }
-    made(&rt, forget(&rt, &path));
+    prepared(&rt, forget(&rt, &path));
 }
 
 /// The same talk twice.
@@ -67,39 +67,39 @@ fn twice(rt: &HostRuntime, test: &(impl Abort + Eprint), path: &str, talk: &str)
 #[test]
 fn days_in_a_file(rt: HostRuntime) {
     for talk in TALKS {
-        let path = made(&rt, fresh(&rt, "days"));
+        let path = prepared(&rt, fresh(&rt, "days"));
         twice(&rt, &rt, &path, talk);
-        made(&rt, forget(&rt, &path));
+        prepared(&rt, forget(&rt, &path));
     }
 }
 
 /// A file that is closed and opened again gives each number the bytes of its first answer.
 #[test]
 fn a_file_keeps_its_replies(rt: HostRuntime) {
-    let path = made(&rt, fresh(&rt, "replies"));
+    let path = prepared(&rt, fresh(&rt, "replies"));
     let mut list = ListKeeper::empty(rt.alloc());
-    let wanted = made(&rt, answers(rt.alloc(), &mut list, FIVE));
+    let wanted = prepared(&rt, answers(rt.alloc(), &mut list, FIVE));
     for _ in 0..3 {
-        let told = made(&rt, in_file(&rt, &path, FIVE));
-        same(&rt, told.as_str(), wanted.as_str(), "opened again");
+        let got = prepared(&rt, in_file(&rt, &path, FIVE));
+        assert_same(&rt, got.as_str(), wanted.as_str(), "opened again");
     }
-    made(&rt, forget(&rt, &path));
+    prepared(&rt, forget(&rt, &path));
 }
 
 /// The files of a store that the five requests were sent to, closed.
 fn files_of_day(rt: &(impl Abort + Eprint), alloc: Global) -> Files<Memory> {
     let log = Memory::new(alloc);
     let db = Memory::new(alloc);
-    let (told, is_closed, files) = served_on(alloc, Files { log, db }, FIVE, few_pages(1));
-    same(rt, made(rt, told).as_str(), FIVE, "over new files");
-    holds(rt, is_closed, "the log isn't written back");
+    let (got, is_closed, files) = served_on(alloc, Files { log, db }, FIVE, few_pages(1));
+    assert_same(rt, prepared(rt, got).as_str(), FIVE, "over new files");
+    assert_holds(rt, is_closed, "the log isn't written back");
     files
 }
 
 #[test]
 fn a_new_store_has_small_pages(rt: HostRuntime) {
     let files = files_of_day(&rt, rt.alloc());
-    holds(&rt, has_pages_of(&files.db, 1024), "pages of 1,024 bytes");
+    assert_holds(&rt, has_pages_of(&files.db, 1024), "pages of 1,024 bytes");
 }
 
 /// What is asked after that day.
@@ -121,8 +121,8 @@ Total                                                       0.00           0.00 
 fn asked(rt: &(impl Abort + Eprint), alloc: Global, files: &Files<Memory>, call: u64) -> String {
     let log = Fuse::new(copied(rt, alloc, &files.log), u64::MAX);
     let db = Fuse::new(copied(rt, alloc, &files.db), call);
-    let (told, _, _left) = served_on(alloc, Files { log, db }, QUERIES, one_page(1));
-    made(rt, told)
+    let (got, _, _left) = served_on(alloc, Files { log, db }, QUERIES, one_page(1));
+    prepared(rt, got)
 }
 
 /// The database file fails at each of its calls in turn, until all queries are answered: each is answered right, or by
@@ -132,11 +132,11 @@ fn a_fault_at_each_read(rt: HostRuntime) {
     let files = files_of_day(&rt, rt.alloc());
     let mut failed = false;
     for call in 0..10_000 {
-        let told = asked(&rt, rt.alloc(), &files, call);
-        holds(&rt, fails_as_store(told.as_str(), QUERIES), told.as_str());
-        failed |= told.contains("StoreFailed 503 ");
-        if told.as_str() == QUERIES {
-            return holds(&rt, failed, "no query failed");
+        let got = asked(&rt, rt.alloc(), &files, call);
+        assert_holds(&rt, fails_as_store(got.as_str(), QUERIES), got.as_str());
+        failed |= got.contains("StoreFailed 503 ");
+        if got.as_str() == QUERIES {
+            return assert_holds(&rt, failed, "no query failed");
         }
     }
     panic!(rt; "a query failed each time")
@@ -146,15 +146,15 @@ fn a_fault_at_each_read(rt: HostRuntime) {
 #[test]
 fn another_cause_is_noticed(rt: HostRuntime) {
     let request = "> POST /rates {}\n503 {\"code\":1,\"unserved\":\"NoMemory\"}\n";
-    holds(&rt, !is_front_of(request, FIVE), request);
+    assert_holds(&rt, !is_front_of(request, FIVE), request);
     let query = "> GET /ticket/1\n503 {\"code\":1,\"unserved\":\"NoMemory\"}\n";
-    holds(
+    assert_holds(
         &rt,
         !fails_as_store(query, "> GET /ticket/1\n404 {}\n"),
         query,
     );
     let query = "> GET /ticket/1\nStoreFailed 503 {\"code\":2,\"unserved\":\"StoreFailed\"}\n";
-    holds(
+    assert_holds(
         &rt,
         fails_as_store(query, "> GET /ticket/1\n404 {}\n"),
         query,
@@ -179,8 +179,8 @@ fn stopped(rt: &(impl Abort + Eprint), alloc: Global, log: u64, db: u64) -> Runs
     files.log.crash();
     files.db.crash();
     let (second, _, _left) = served_on(alloc, files, FIVE, few_pages(1));
-    let first = made(rt, first);
-    let second = made(rt, second);
+    let first = prepared(rt, first);
+    let second = prepared(rt, second);
     let is_whole = closed && first.as_str() == FIVE;
     Runs {
         first,
@@ -192,9 +192,9 @@ fn stopped(rt: &(impl Abort + Eprint), alloc: Global, log: u64, db: u64) -> Runs
 /// The answers before a stop are a front of the right ones, and after it each request has its one reply.
 fn are_right(rt: &impl Abort, runs: &Runs) {
     let first = runs.first.as_str();
-    holds(rt, is_front_of(first, FIVE), first);
-    holds(rt, ends_by_failures(first), first);
-    same(rt, runs.second.as_str(), FIVE, first);
+    assert_holds(rt, is_front_of(first, FIVE), first);
+    assert_holds(rt, ends_by_failures(first), first);
+    assert_same(rt, runs.second.as_str(), FIVE, first);
 }
 
 /// One file stops at each of its calls in turn, until a run comes to its end. The answers before a stop are the front of
@@ -218,5 +218,5 @@ fn stops_at_each_call(rt: &(impl Abort + Eprint), alloc: Global, on_log: bool) -
 fn a_stop_at_each_call(rt: HostRuntime) {
     let on_log = stops_at_each_call(&rt, rt.alloc(), true);
     let on_file = stops_at_each_call(&rt, rt.alloc(), false);
-    holds(&rt, on_log || on_file, "no request failed");
+    assert_holds(&rt, on_log || on_file, "no request failed");
 }

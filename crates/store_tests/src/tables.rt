@@ -1,8 +1,8 @@
 //! The statements on the tables of a store, each found by what was written.
 
 use crate::answering::in_memory;
-use crate::comparing::same;
-use crate::earlier::{ANSWERS, EXTENSIONS, SEVEN_TABLES};
+use crate::comparing::assert_same;
+use crate::version_1::{ANSWERS, EXTENSIONS, SEVEN_TABLES};
 use ee_store_tables::{
     BatchRow, Failure, PaidRow, RateRow, ReplyRow, Serial, TicketRow, UnpaidBond, add_answer,
     add_batch, add_bond, add_extension, add_rate, add_ticket, bonds_of_owner, day_tickets,
@@ -209,7 +209,7 @@ fn found<S: Alter>(rt: &impl Abort, alloc: Global, tx: &mut Transaction<'_, S>) 
 fn finds_no_ticket<S: Alter>(rt: &impl Abort, alloc: Global, tx: &mut Transaction<'_, S>) {
     let mut text = String::new(alloc);
     add(rt, &mut text, "last", &last_ticket(tx));
-    same(rt, text.as_str(), "last: Ok(None)\n", "before a ticket");
+    assert_same(rt, text.as_str(), "last: Ok(None)\n", "before a ticket");
 }
 
 #[test]
@@ -223,5 +223,5 @@ fn a_ticket_is_written_and_looked_up(rt: HostRuntime) {
     finds_no_ticket(&rt, rt.alloc(), &mut tx);
     register(&mut tx).expect(&rt, "rates and bonds");
     let text = found(&rt, rt.alloc(), &mut tx);
-    same(&rt, text.as_str(), FOUND, "what is found");
+    assert_same(&rt, text.as_str(), FOUND, "what is found");
 }

@@ -107,7 +107,7 @@ pub fn stream(alloc: Global, transcript: &str) -> Result<String, Fail> {
 }
 
 /// Status and body of an answer.
-fn told(alloc: Global, answer: &str) -> Result<String, Fail> {
+fn text_of(alloc: Global, answer: &str) -> Result<String, Fail> {
     let (head, body) = answer.split_once("\r\n\r\n").ok_or("head")?;
     let status = head.split_ascii_whitespace().nth(1).ok_or("status")?;
     Ok(format!(in alloc; "{status} {body}")?)
@@ -121,7 +121,7 @@ pub fn json(alloc: Global, status: &str, headers: &str, body: &str) -> Result<St
     )?)
 }
 
-fn end_told(end: Result<Outcome, RunFault>) -> &'static str {
+fn end_text(end: Result<Outcome, RunFault>) -> &'static str {
     match end {
         Ok(Outcome::Done) => "Done",
         Ok(Outcome::Refused) => "Refused",
@@ -135,7 +135,7 @@ fn end_told(end: Result<Outcome, RunFault>) -> &'static str {
 pub fn applied<K: Keeper>(alloc: Global, keeper: &mut K, stream: &[u8]) -> Result<String, Fail> {
     let mut reader = stream;
     let mut text = Vec::with_capacity(alloc, 4_096)?;
-    let end = end_told(apply_to(alloc, keeper, &mut reader, &mut text));
+    let end = end_text(apply_to(alloc, keeper, &mut reader, &mut text));
     Ok(format!(in alloc; "{end} {}", str::from_utf8(&text)?)?)
 }
 
@@ -158,7 +158,7 @@ fn ask_apply<K: Keeper>(alloc: Global, keeper: &mut K, line: &str) -> Result<Str
     if answer.is_empty() {
         return Ok(String::from_str(alloc, end)?);
     }
-    let answer = told(alloc, answer)?;
+    let answer = text_of(alloc, answer)?;
     if end == "Done" {
         return Ok(answer);
     }
@@ -173,7 +173,7 @@ fn ask_serve<K: Keeper>(alloc: Global, keeper: &mut K, line: &str) -> Result<Str
     if ended.messages == 0 {
         return Ok(format!(in alloc; "{:?}", ended.why)?);
     }
-    told(alloc, str::from_utf8(&text)?)
+    text_of(alloc, str::from_utf8(&text)?)
 }
 
 /// What a query finds by the keeper's own call.
@@ -210,7 +210,7 @@ fn ask_calls<K: Keeper>(alloc: Global, keeper: &mut K, line: &str) -> Result<Str
     let mut text = Vec::new(alloc);
     let written = write_reply(alloc, &mut text, &answer, false);
     written.ok().ok_or("NoMemory of the text")?;
-    told(alloc, str::from_utf8(&text)?)
+    text_of(alloc, str::from_utf8(&text)?)
 }
 
 fn ask<K: Keeper>(alloc: Global, keeper: &mut K, by: By, line: &str) -> Result<String, Fail> {
@@ -224,9 +224,9 @@ fn ask<K: Keeper>(alloc: Global, keeper: &mut K, by: By, line: &str) -> Result<S
 /// The result of bytes, on a line.
 fn send<K: Keeper>(alloc: Global, keeper: &mut K, line: &str) -> Result<String, Fail> {
     let bytes = bytes_of(alloc, line, "\r\n")?;
-    let told = applied(alloc, keeper, &bytes)?;
+    let got = applied(alloc, keeper, &bytes)?;
     let mut text = String::new(alloc);
-    for part in told.as_str().split("\r\n") {
+    for part in got.as_str().split("\r\n") {
         text.push_str(part)?;
         text.push_str("|")?;
     }
@@ -272,12 +272,12 @@ fn lose<K: Keeper>(alloc: Global, keeper: &mut K, line: &str) -> Result<String, 
     let message = message(alloc, line)?;
     let mut writer = Narrow::new(alloc, room.parse()?);
     let ended = serve(alloc, keeper, &mut message.as_bytes(), &mut writer);
-    let front = told(alloc, str::from_utf8(&writer.text)?)?;
+    let front = text_of(alloc, str::from_utf8(&writer.text)?)?;
     Ok(format!(in alloc; "{} {:?} {front}", ended.messages, ended.why)?)
 }
 
 /// The result of a line, with its message sent by these calls; `None` for a line that is a result.
-pub fn line_told<K: Keeper>(
+pub fn line_text<K: Keeper>(
     alloc: Global,
     keeper: &mut K,
     by: By,
@@ -313,8 +313,8 @@ pub fn requests_of(alloc: Global, transcript: &str) -> Result<String, Fail> {
     let mut lines = transcript.lines();
     while let Some(line) = lines.next() {
         if line.starts_with("> POST ") || line.starts_with("+ ") {
-            let told = lines.next().ok_or("what is told")?;
-            write!(text, "{line}\n{told}\n")?;
+            let got = lines.next().ok_or("what is got")?;
+            write!(text, "{line}\n{got}\n")?;
         }
     }
     Ok(text)
@@ -329,8 +329,8 @@ pub fn replay_by<K: Keeper>(
 ) -> Result<String, Fail> {
     let mut text = String::new(alloc);
     for line in transcript.lines() {
-        if let Some(told) = line_told(alloc, keeper, by, line)? {
-            write!(text, "{line}\n{told}\n")?;
+        if let Some(got) = line_text(alloc, keeper, by, line)? {
+            write!(text, "{line}\n{got}\n")?;
         }
     }
     Ok(text)

@@ -266,7 +266,7 @@ pub fn written(alloc: Global, parts: &Parts) -> Option<String> {
 struct ChangeCases;
 
 impl Cases for ChangeCases {
-    fn told(alloc: Global, case: &str) -> Option<String> {
+    fn answer(alloc: Global, case: &str) -> Option<String> {
         let text = changed(alloc, case)?;
         let fault = Books::from_parts(alloc, read(alloc, text.as_str())?).err();
         format!(in alloc; "{fault:?}").ok()
@@ -274,6 +274,6 @@ impl Cases for ChangeCases {
 }
 
 #[test]
-fn parts_are_told_sound_or_not(rt: HostRuntime) -> Result<(), Fail> {
+fn parts_are_sound_or_not(rt: HostRuntime) -> Result<(), Fail> {
     compare::<ChangeCases>(&rt, rt.alloc(), CHANGES)
 }

@@ -1,7 +1,7 @@
 //! Calls of books that take memory, and that the other tests reach only through others, with ample memory.
 
 use super::books::written;
-use crate::comparing::same;
+use crate::comparing::assert_same;
 use ee_calculator::{Sheet, write_sheet};
 use ee_counter::answer_message;
 use ee_desk::{Books, Parts};
@@ -117,12 +117,12 @@ fn seen(alloc: Global, books: &Books, act: &Act) -> Option<String> {
 }
 
 /// The text of the reply of the effects of an act.
-fn effects_told(alloc: Global, books: &Books, act: &Act) -> Option<String> {
+fn effects_text(alloc: Global, books: &Books, act: &Act) -> Option<String> {
     let effects = books.effects_of(act).ok()?;
     reply_text(alloc, &effects.reply).ok()
 }
 
-fn step_told(alloc: Global, books: &mut Books, act: &Act) -> Option<String> {
+fn step_text(alloc: Global, books: &mut Books, act: &Act) -> Option<String> {
     let reply = books.step(act).ok()?;
     reply_text(alloc, &reply).ok()
 }
@@ -150,17 +150,17 @@ fn decided_after(alloc: Global, tickets: u64, act: &Act) -> Option<String> {
 }
 
 /// The result for an act with a canonical text.
-fn act_told(alloc: Global, books: &mut Books, call: &str, text: &str) -> Option<String> {
+fn act_text(alloc: Global, books: &mut Books, call: &str, text: &str) -> Option<String> {
     let act = read_act(alloc, text).ok()??;
     match call {
-        "do" => step_told(alloc, books, &act),
+        "do" => step_text(alloc, books, &act),
         "decide" => seen(alloc, books, &act),
-        _ => effects_told(alloc, books, &act),
+        _ => effects_text(alloc, books, &act),
     }
 }
 
 /// The result for `TICKETS ACT`.
-fn after_told(alloc: Global, text: &str) -> Option<String> {
+fn after_text(alloc: Global, text: &str) -> Option<String> {
     let (tickets, act) = text.split_once(' ')?;
     let act = read_act(alloc, act).ok()??;
     decided_after(alloc, tickets.parse().ok()?, &act)
@@ -172,7 +172,7 @@ fn sheet_text(alloc: Global, sheet: &Sheet) -> Option<String> {
     String::from_str(alloc, str::from_utf8(&text).ok()?).ok()
 }
 
-fn inventory_told(alloc: Global, books: &Books, place: &str) -> Option<String> {
+fn inventory_text(alloc: Global, books: &Books, place: &str) -> Option<String> {
     let (customer, month) = place.split_once(' ')?;
     let (customer, month) = (customer.parse().ok()?, month.parse().ok()?);
     let sheet = books.inventory(customer, month).ok()?;
@@ -180,26 +180,26 @@ fn inventory_told(alloc: Global, books: &Books, place: &str) -> Option<String> {
 }
 
 /// How many bonds a customer has.
-fn bonds_told(alloc: Global, books: &Books, customer: &str) -> Option<String> {
+fn bonds_text(alloc: Global, books: &Books, customer: &str) -> Option<String> {
     let count = books.bonds_of(customer.parse().ok()?).ok()?.len();
     count.to_string(alloc).ok()
 }
 
 /// The value in cents of `DENOM ISSUED MONTH`.
-fn quote_told(alloc: Global, books: &Books, bond: &str) -> Result<String, Fail> {
+fn quote_text(alloc: Global, books: &Books, bond: &str) -> Result<String, Fail> {
     let (denom, rest) = bond.split_once(' ').ok_or("issued")?;
     let (issued, month) = rest.split_once(' ').ok_or("month")?;
     let row = books.quote(denom.parse()?, issued.parse()?, month.parse()?)?;
     Ok(row.ok_or("row")?.value.0.to_string(alloc)?)
 }
 
-fn ticket_told(alloc: Global, books: &Books, number: &str) -> Option<String> {
+fn ticket_text(alloc: Global, books: &Books, number: &str) -> Option<String> {
     let is_none = books.ticket(number.parse().ok()?).ok()?.is_none();
     String::from_str(alloc, if is_none { "none" } else { "one" }).ok()
 }
 
 /// The result for parts: whether they are sound, how many tickets are copied, or all of them in words.
-fn told_of_parts(alloc: Global, parts: &Parts, call: &str) -> Option<String> {
+fn text_of_parts(alloc: Global, parts: &Parts, call: &str) -> Option<String> {
     match call {
         "check" => checked(alloc, parts).is_ok().to_string(alloc).ok(),
         "copy" => {
@@ -211,19 +211,19 @@ fn told_of_parts(alloc: Global, parts: &Parts, call: &str) -> Option<String> {
 }
 
 /// The result for the parts of the books.
-fn parts_told(alloc: Global, books: &Books, call: &str) -> Option<String> {
+fn parts_text(alloc: Global, books: &Books, call: &str) -> Option<String> {
     let parts = books.parts().ok()?;
-    told_of_parts(alloc, &parts, call)
+    text_of_parts(alloc, &parts, call)
 }
 
 /// The parts of the books of the books' parts.
 fn parts_again(alloc: Global, books: &Books) -> Option<String> {
     let books = Books::from_parts(alloc, books.parts().ok()?).ok()?;
-    parts_told(alloc, &books, "parts")
+    parts_text(alloc, &books, "parts")
 }
 
 /// The text of the reply to a message without a connection.
-fn post_told(alloc: Global, keeper: &mut ListKeeper, message: &str) -> Option<String> {
+fn post_text(alloc: Global, keeper: &mut ListKeeper, message: &str) -> Option<String> {
     let (path, body) = message.split_once(' ')?;
     match answer_message(alloc, keeper, path.as_bytes(), b"POST", body.as_bytes()) {
         Answer::Reply(reply) => reply_text(alloc, &reply).ok(),
@@ -243,7 +243,7 @@ fn kept_rate(alloc: Global, tables: &mut UnitTables, rates: Rates) -> Option<Rat
 }
 
 /// Whether there are terms of a rate before they are made, the rate of those that are kept, and whether there are then.
-fn terms_told(alloc: Global, rate: &str) -> Option<String> {
+fn terms_text(alloc: Global, rate: &str) -> Option<String> {
     let rates = Rates::new(rate.parse().ok()?, None);
     let mut tables = UnitTables::new(alloc);
     let before = has_terms(&tables, rates)?;
@@ -253,7 +253,7 @@ fn terms_told(alloc: Global, rate: &str) -> Option<String> {
 }
 
 /// The result of a call `WORD REST` other than a quote.
-fn told(
+fn result_of(
     alloc: Global,
     books: &mut Books,
     keeper: &mut ListKeeper,
@@ -261,21 +261,21 @@ fn told(
     rest: &str,
 ) -> Option<String> {
     match word {
-        "do" | "decide" | "effects" => act_told(alloc, books, word, rest),
-        "after" => after_told(alloc, rest),
-        "inventory" => inventory_told(alloc, books, rest),
-        "bonds" => bonds_told(alloc, books, rest),
-        "ticket" => ticket_told(alloc, books, rest),
-        "parts" | "check" | "copy" => parts_told(alloc, books, word),
+        "do" | "decide" | "effects" => act_text(alloc, books, word, rest),
+        "after" => after_text(alloc, rest),
+        "inventory" => inventory_text(alloc, books, rest),
+        "bonds" => bonds_text(alloc, books, rest),
+        "ticket" => ticket_text(alloc, books, rest),
+        "parts" | "check" | "copy" => parts_text(alloc, books, word),
         "again" => parts_again(alloc, books),
-        "post" => post_told(alloc, keeper, rest),
-        "terms" => terms_told(alloc, rest),
+        "post" => post_text(alloc, keeper, rest),
+        "terms" => terms_text(alloc, rest),
         _ => None,
     }
 }
 
 /// The result of a call.
-fn call_told(
+fn call_text(
     alloc: Global,
     books: &mut Books,
     keeper: &mut ListKeeper,
@@ -283,9 +283,9 @@ fn call_told(
 ) -> Result<String, Fail> {
     let (word, rest) = call.split_once(' ').unwrap_or((call, ""));
     if word == "quote" {
-        return quote_told(alloc, books, rest);
+        return quote_text(alloc, books, rest);
     }
-    Ok(told(alloc, books, keeper, word, rest).ok_or("no answer")?)
+    Ok(result_of(alloc, books, keeper, word, rest).ok_or("no answer")?)
 }
 
 /// Compares the result of each call with the lines below it.
@@ -298,8 +298,8 @@ fn compare_over(
 ) -> Result<(), Fail> {
     for row in calls.trim_start_matches("> ").split("\n> ") {
         let (call, wanted) = row.split_once('\n').ok_or("row")?;
-        let told = call_told(alloc, books, keeper, call)?;
-        same(rt, told.as_str(), wanted, call);
+        let got = call_text(alloc, books, keeper, call)?;
+        assert_same(rt, got.as_str(), wanted, call);
     }
     Ok(())
 }
@@ -311,7 +311,7 @@ fn compare(rt: &impl Abort, alloc: Global, calls: &str) -> Result<(), Fail> {
 }
 
 #[test]
-fn calls_tell(rt: HostRuntime) -> Result<(), Fail> {
+fn calls_answer(rt: HostRuntime) -> Result<(), Fail> {
     compare(&rt, rt.alloc(), CALLS)?;
     compare(&rt, rt.alloc(), DESKS)
 }

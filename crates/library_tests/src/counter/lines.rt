@@ -61,7 +61,7 @@ serve --db a.db --port 1 --connections 0 => a bad line
 serve --db a.db --port 1 --connections 1001 => a bad line
 ";
 
-fn kind_told(kind: FileKind) -> &'static str {
+fn kind_text(kind: FileKind) -> &'static str {
     match kind {
         FileKind::Rates => "rates",
         FileKind::Inventory => "inventory",
@@ -85,7 +85,7 @@ fn add_import(
     desk: Desk,
     number: Number,
 ) -> Option<()> {
-    let (kind, desk, number) = (kind_told(kind), desk.number(), number.value());
+    let (kind, desk, number) = (kind_text(kind), desk.number(), number.value());
     write!(
         text,
         "import of {kind} {file} to {store} under {number} of desk {desk}"
@@ -96,21 +96,38 @@ fn add_import(
 /// Adds a command in plain words.
 fn add_command(text: &mut String, command: &Command) -> Option<()> {
     match *command {
-        Command::Value(denom, issued, month, rate, extension) => {
+        Command::Value {
+            denom,
+            issued,
+            month,
+            rate,
+            extension,
+        } => {
             write!(text, "value of {denom} issued {issued} in {month}").ok()?;
             add_rates(text, rate, extension)
         }
         Command::Apply(store) => write!(text, "apply to {store}").ok(),
-        Command::Import(kind, file, store, desk, number) => {
-            add_import(text, kind, file, store, desk, number)
-        }
-        Command::Export(customer, store) => write!(text, "export of {customer} from {store}").ok(),
-        Command::Sheet(customer, month, store) => {
-            write!(text, "sheet of {customer} in {month} from {store}").ok()
-        }
-        Command::Serve(store, port, connections) => {
-            write!(text, "serve {store} on {port}, {connections} times").ok()
-        }
+        Command::Import {
+            kind,
+            file,
+            store,
+            desk,
+            number,
+        } => { add_import(text, kind, file, store, desk, number) }
+        Command::Export { customer, store } => write!(
+            text,
+            "export of {customer} from {store}"
+        ).ok(),
+        Command::Sheet {
+            customer,
+            month,
+            store,
+        } => { write!(text, "sheet of {customer} in {month} from {store}").ok() }
+        Command::Serve {
+            store,
+            port,
+            connections,
+        } => { write!(text, "serve {store} on {port}, {connections} times").ok() }
     }
 }
 
@@ -126,7 +143,7 @@ fn add_fault(text: &mut String, fault: &CommandFault) -> Option<()> {
 }
 
 /// Adds what words ask for, or what is wrong with them.
-fn add_told(alloc: Global, text: &mut String, words: &[&str]) -> Option<()> {
+fn add_text(alloc: Global, text: &mut String, words: &[&str]) -> Option<()> {
     match read_command(alloc, words) {
         Ok(command) => add_command(text, &command),
         Err(fault) => add_fault(text, &fault),
@@ -147,10 +164,10 @@ fn words_of<'a>(alloc: Global, line: &'a str) -> Option<Vec<&'a str>> {
 struct LineCases;
 
 impl Cases for LineCases {
-    fn told(alloc: Global, case: &str) -> Option<String> {
+    fn answer(alloc: Global, case: &str) -> Option<String> {
         let words = words_of(alloc, case)?;
         let mut text = String::new(alloc);
-        add_told(alloc, &mut text, words.as_slice())?;
+        add_text(alloc, &mut text, words.as_slice())?;
         Some(text)
     }
 }

@@ -80,11 +80,11 @@ fn served(alloc: Global, stream: &str, step: usize) -> Option<String> {
 struct StreamCases;
 
 impl Cases for StreamCases {
-    fn told(alloc: Global, case: &str) -> Option<String> {
+    fn answer(alloc: Global, case: &str) -> Option<String> {
         let (step, stream) = case.split_once(' ')?;
         let (step, stream) = (step.parse().ok()?, written_out(alloc, stream)?);
-        let told = served(alloc, stream.as_str(), step)?;
-        marked(alloc, told.as_str())
+        let got = served(alloc, stream.as_str(), step)?;
+        marked(alloc, got.as_str())
     }
 }
 

@@ -1,8 +1,8 @@
 //! Files that are broken, too long, or can't be read. In the tables `|` means a line feed, `^` a carriage return
 //! and `~` the byte FF.
 
-use super::samples::{INVENTORY, RATES, THREE_BONDS, TWO_RATES, bonds_told, rates_told, rows_told};
-use crate::comparing::{Cases, bytes_of, compare, same};
+use super::samples::{INVENTORY, RATES, THREE_BONDS, TWO_RATES, bonds_text, rates_text, rows_text};
+use crate::comparing::{Cases, assert_same, bytes_of, compare};
 use crate::device::Source;
 use ee_files::{FileFault, MOST_BYTES, read_inventory, read_rates};
 use std::alloc::Global;
@@ -11,7 +11,7 @@ use std::process::Abort;
 use std::test::Fail;
 
 /// Row and code of the fault, or how many rows were read.
-fn fault_told<T: Drop>(alloc: Global, rows: Result<Vec<T>, FileFault>) -> Option<String> {
+fn fault_text<T: Drop>(alloc: Global, rows: Result<Vec<T>, FileFault>) -> Option<String> {
     match rows {
         Ok(rows) => format!(in alloc; "{} rows", rows.len()).ok(),
         Err(fault) => format!(in alloc; "{} {:?}", fault.row, fault.code).ok(),
@@ -19,15 +19,15 @@ fn fault_told<T: Drop>(alloc: Global, rows: Result<Vec<T>, FileFault>) -> Option
 }
 
 fn rate_fault(alloc: Global, mut file: &[u8]) -> Option<String> {
-    fault_told(alloc, read_rates(alloc, &mut file))
+    fault_text(alloc, read_rates(alloc, &mut file))
 }
 
 fn bond_fault(alloc: Global, mut file: &[u8]) -> Option<String> {
-    fault_told(alloc, read_inventory(alloc, &mut file))
+    fault_text(alloc, read_inventory(alloc, &mut file))
 }
 
 /// The faults of a file of rates and of an inventory.
-fn both_told(alloc: Global, rates: &[u8], bonds: &[u8]) -> Option<String> {
+fn both_text(alloc: Global, rates: &[u8], bonds: &[u8]) -> Option<String> {
     let (rates, bonds) = (rate_fault(alloc, rates)?, bond_fault(alloc, bonds)?);
     format!(in alloc; "{rates}, {bonds}").ok()
 }
@@ -71,7 +71,7 @@ from,rate,extension|x,y,z| => 2 BadValue(From)
 struct RateFaultCases;
 
 impl Cases for RateFaultCases {
-    fn told(alloc: Global, case: &str) -> Option<String> {
+    fn answer(alloc: Global, case: &str) -> Option<String> {
         rate_fault(alloc, &bytes_of(alloc, case)?)
     }
 }
@@ -101,7 +101,7 @@ L1EE,50,2010-11,x,y| => 5 BadValue(Owner)
 struct BondFaultCases;
 
 impl Cases for BondFaultCases {
-    fn told(alloc: Global, case: &str) -> Option<String> {
+    fn answer(alloc: Global, case: &str) -> Option<String> {
         let mut file = Vec::from_slice(alloc, INVENTORY.as_bytes()).ok()?;
         file.extend_from_slice(&bytes_of(alloc, case)?).ok()?;
         bond_fault(alloc, &file)
@@ -111,8 +111,8 @@ impl Cases for BondFaultCases {
 #[test]
 fn first_fault_of_an_inventory(rt: HostRuntime) -> Result<(), Fail> {
     let cut = INVENTORY.strip_suffix(",7,\n").ok_or("no end")?;
-    let told = bond_fault(rt.alloc(), cut.as_bytes()).ok_or("not told")?;
-    same(&rt, told.as_str(), "4 WrongFieldCount", "cut");
+    let got = bond_fault(rt.alloc(), cut.as_bytes()).ok_or("no text")?;
+    assert_same(&rt, got.as_str(), "4 WrongFieldCount", "cut");
     compare::<BondFaultCases>(&rt, rt.alloc(), BOND_FAULTS)
 }
 
@@ -139,13 +139,13 @@ fn long_file(alloc: Global, header: &str, row: &str, count: u64, last: &[u8]) ->
 struct LongFileCases;
 
 impl Cases for LongFileCases {
-    fn told(alloc: Global, case: &str) -> Option<String> {
+    fn answer(alloc: Global, case: &str) -> Option<String> {
         let (count, last) = case.split_once('|')?;
         let (count, last) = (count.parse().ok()?, bytes_of(alloc, last)?);
         let rates = long_file(alloc, "from,rate\n", "2010-05,2.00\n", count, &last)?;
         let header = "serial,denom,issued,owner,coowner\n";
         let bonds = long_file(alloc, header, "L1EE,50,2010-11,7,\n", count, &last)?;
-        both_told(alloc, &rates, &bonds)
+        both_text(alloc, &rates, &bonds)
     }
 }
 
@@ -165,10 +165,10 @@ x 1048576 => 1 FileTooLong, 1 FileTooLong
 struct EmptyLineCases;
 
 impl Cases for EmptyLineCases {
-    fn told(alloc: Global, case: &str) -> Option<String> {
+    fn answer(alloc: Global, case: &str) -> Option<String> {
         let (first, count) = case.split_once(' ').unwrap_or(("", case));
         let file = long_file(alloc, first, "\n", count.parse().ok()?, b"")?;
-        both_told(alloc, &file, &file)
+        both_text(alloc, &file, &file)
     }
 }
 
@@ -179,12 +179,12 @@ fn too_long_before_its_records(rt: HostRuntime) -> Result<(), Fail> {
 }
 
 /// The result of a sample that is read one byte at a time, with one failing read.
-fn told_in_trouble(alloc: Global, file: &str, call: usize, kind: ErrorKind) -> Option<String> {
+fn text_in_trouble(alloc: Global, file: &str, call: usize, kind: ErrorKind) -> Option<String> {
     let mut source = Source::of(file.as_bytes(), 1, Some((call, kind)));
     if file == RATES {
-        return rows_told(alloc, read_rates(alloc, &mut source));
+        return rows_text(alloc, read_rates(alloc, &mut source));
     }
-    rows_told(alloc, read_inventory(alloc, &mut source))
+    rows_text(alloc, read_inventory(alloc, &mut source))
 }
 
 /// A sample in trouble at each read in turn; the last read finds the end.
@@ -197,11 +197,11 @@ fn fails_at_each_read(
 ) -> Option<()> {
     let last = file.len().saturating_add(1);
     for call in 1..=last {
-        let told = told_in_trouble(alloc, file, call, kind)?;
-        same(rt, told.as_str(), "row 1 code 73", "in trouble");
+        let got = text_in_trouble(alloc, file, call, kind)?;
+        assert_same(rt, got.as_str(), "row 1 code 73", "in trouble");
     }
-    let told = told_in_trouble(alloc, file, last.saturating_add(1), kind)?;
-    same(rt, told.as_str(), rows, "after the end");
+    let got = text_in_trouble(alloc, file, last.saturating_add(1), kind)?;
+    assert_same(rt, got.as_str(), rows, "after the end");
     Some(())
 }
 

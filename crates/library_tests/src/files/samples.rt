@@ -20,7 +20,7 @@ pub const THREE_BONDS: &str =
     "[Bond { serial: Serial { letter: 12, number: 1 }, denom: Fifty, issued: IssueMonth { count: 66 }, owner: Customer { number: 7 }, coowner: None }, Bond { serial: Serial { letter: 11, number: 2 }, denom: SeventyFive, issued: IssueMonth { count: 65 }, owner: Customer { number: 7 }, coowner: Some(Customer { number: 8 }) }, Bond { serial: Serial { letter: 13, number: 3 }, denom: TenThousand, issued: IssueMonth { count: 69 }, owner: Customer { number: 7 }, coowner: None }]";
 
 /// The rows that were read as `Debug` shows them, or the text of the fault.
-pub fn rows_told<T: Debug + Drop>(
+pub fn rows_text<T: Debug + Drop>(
     alloc: Global,
     rows: Result<Vec<T>, FileFault>,
 ) -> Option<String> {
@@ -31,13 +31,13 @@ pub fn rows_told<T: Debug + Drop>(
 }
 
 /// The result of a file of rates.
-pub fn rates_told(alloc: Global, mut file: &[u8]) -> Option<String> {
-    rows_told(alloc, read_rates(alloc, &mut file))
+pub fn rates_text(alloc: Global, mut file: &[u8]) -> Option<String> {
+    rows_text(alloc, read_rates(alloc, &mut file))
 }
 
 /// The result of an inventory.
-pub fn bonds_told(alloc: Global, mut file: &[u8]) -> Option<String> {
-    rows_told(alloc, read_inventory(alloc, &mut file))
+pub fn bonds_text(alloc: Global, mut file: &[u8]) -> Option<String> {
+    rows_text(alloc, read_inventory(alloc, &mut file))
 }
 
 /// `what` if the text is the known one, and otherwise the text.
@@ -73,8 +73,8 @@ from,rate,extension| => []
 struct RateFileCases;
 
 impl Cases for RateFileCases {
-    fn told(alloc: Global, case: &str) -> Option<String> {
-        let text = rates_told(alloc, &bytes_of(alloc, case)?)?;
+    fn answer(alloc: Global, case: &str) -> Option<String> {
+        let text = rates_text(alloc, &bytes_of(alloc, case)?)?;
         named(alloc, text, TWO_RATES, "the sample")
     }
 }
@@ -90,8 +90,8 @@ serial,denom,issued,owner,coowner^|\"C-0012-EE\",\"100\",\"05/2010\",\"007\",\"9
 struct BondFileCases;
 
 impl Cases for BondFileCases {
-    fn told(alloc: Global, case: &str) -> Option<String> {
-        let text = bonds_told(alloc, &bytes_of(alloc, case)?)?;
+    fn answer(alloc: Global, case: &str) -> Option<String> {
+        let text = bonds_text(alloc, &bytes_of(alloc, case)?)?;
         named(alloc, text, THREE_BONDS, "the sample")
     }
 }

@@ -1,8 +1,8 @@
 //! Inventories that are written, the texts of faults, and want of memory.
 
-use super::samples::{INVENTORY, RATES, THREE_BONDS, TWO_RATES, bonds_told, named, rates_told};
+use super::samples::{INVENTORY, RATES, THREE_BONDS, TWO_RATES, bonds_text, named, rates_text};
 use crate::comparing::{
-    Cases, Written, compare_fronts, compare_refused, ended, marked, same, shown,
+    Cases, Written, assert_same, compare_fronts, compare_refused, ended, marked, shown,
 };
 use crate::device::{Device, Trouble};
 use ee_calculator::Bond;
@@ -30,7 +30,7 @@ struct Export<'a> {
 }
 
 impl Written for Export<'_> {
-    fn told_in(&self, alloc: Global, room: usize) -> Option<String> {
+    fn text_in(&self, alloc: Global, room: usize) -> Option<String> {
         let mut device = Device::of(alloc, room, self.trouble)?;
         let end = write_inventory(alloc, &mut device, self.bonds);
         ended(alloc, &end, &device.bytes)
@@ -38,14 +38,14 @@ impl Written for Export<'_> {
 }
 
 /// These bonds, as `Debug` shows them.
-fn told_again(alloc: Global) -> Option<String> {
+fn text_again(alloc: Global) -> Option<String> {
     shown(alloc, &bonds_in_order(alloc)?)
 }
 
 /// How writing bonds with this much room ends, and what is written.
-fn told(alloc: Global, bonds: &[Bond]) -> Option<String> {
+fn written_text(alloc: Global, bonds: &[Bond]) -> Option<String> {
     let trouble = Trouble::Fails;
-    Export { bonds, trouble }.told_in(alloc, 1_000)
+    Export { bonds, trouble }.text_in(alloc, 1_000)
 }
 
 #[test]
@@ -60,11 +60,11 @@ fn bonds_are_written_in_order_or_a_front_of_them(rt: HostRuntime) -> Result<(), 
 
 #[test]
 fn a_written_file_is_read_back(rt: HostRuntime) -> Result<(), Fail> {
-    let read = told_again(rt.alloc()).ok_or("no bonds")?;
-    same(&rt, read.as_str(), EXPORTED, "bonds");
-    let told = told(rt.alloc(), &[]).ok_or("not told")?;
+    let read = text_again(rt.alloc()).ok_or("no bonds")?;
+    assert_same(&rt, read.as_str(), EXPORTED, "bonds");
+    let got = written_text(rt.alloc(), &[]).ok_or("no text")?;
     let wanted = "Ok(()) serial,denom,issued,owner,coowner\n";
-    same(&rt, told.as_str(), wanted, "no bonds");
+    assert_same(&rt, got.as_str(), wanted, "no bonds");
     Ok(())
 }
 
@@ -100,7 +100,7 @@ const CODE_TEXTS: &str = "\
 75 the file is too long: row 4 code 75
 ";
 
-fn code_told(alloc: Global, code: FileCode) -> Option<String> {
+fn code_text(alloc: Global, code: FileCode) -> Option<String> {
     let (number, fault) = (code.code(), FileFault { row: 4, code });
     format!(in alloc; "{number} {code}: {fault}").ok()
 }
@@ -108,8 +108,8 @@ fn code_told(alloc: Global, code: FileCode) -> Option<String> {
 #[test]
 fn texts_of_codes(rt: HostRuntime) -> Result<(), Fail> {
     for (code, wanted) in CODES.iter().zip(CODE_TEXTS.lines()) {
-        let told = code_told(rt.alloc(), *code).ok_or("not told")?;
-        same(&rt, told.as_str(), wanted, "code");
+        let got = code_text(rt.alloc(), *code).ok_or("no text")?;
+        assert_same(&rt, got.as_str(), wanted, "code");
     }
     Ok(())
 }
@@ -117,10 +117,10 @@ fn texts_of_codes(rt: HostRuntime) -> Result<(), Fail> {
 #[test]
 fn texts_of_write_faults(rt: HostRuntime) -> Result<(), Fail> {
     let (failed, memory) = (WriteFault::WriteFailed, WriteFault::NoMemory);
-    let told = format!(in rt.alloc(); "{failed}, {memory}")?;
-    same(
+    let got = format!(in rt.alloc(); "{failed}, {memory}")?;
+    assert_same(
         &rt,
-        told.as_str(),
+        got.as_str(),
         "the writer failed, out of memory",
         "texts",
     );
@@ -128,29 +128,29 @@ fn texts_of_write_faults(rt: HostRuntime) -> Result<(), Fail> {
 }
 
 fn rates_named(alloc: Global) -> Option<String> {
-    let text = rates_told(alloc, RATES.as_bytes())?;
+    let text = rates_text(alloc, RATES.as_bytes())?;
     named(alloc, text, TWO_RATES, "all")
 }
 
 fn bonds_named(alloc: Global) -> Option<String> {
-    let text = bonds_told(alloc, INVENTORY.as_bytes())?;
+    let text = bonds_text(alloc, INVENTORY.as_bytes())?;
     named(alloc, text, THREE_BONDS, "all")
 }
 
-fn export_told(alloc: Global) -> Option<String> {
-    let told = told(alloc, &bonds_in_order(alloc)?)?;
-    marked(alloc, told.as_str())
+fn export_text(alloc: Global) -> Option<String> {
+    let got = written_text(alloc, &bonds_in_order(alloc)?)?;
+    marked(alloc, got.as_str())
 }
 
 /// What the three calls answer, by a name.
 struct MemoryCases;
 
 impl Cases for MemoryCases {
-    fn told(alloc: Global, case: &str) -> Option<String> {
+    fn answer(alloc: Global, case: &str) -> Option<String> {
         match case {
             "rates" => rates_named(alloc),
             "bonds" => bonds_named(alloc),
-            _ => export_told(alloc),
+            _ => export_text(alloc),
         }
     }
 }

@@ -16,20 +16,20 @@ returns-in_err-ended-clause-serves g c =
       printed = lines_failed c.args.connections _ _ s.0 c.from_residual.result p.0 c.in_err-ended.field-0.0 p.1 p.2 (inl c.in_err-ended.ensures.device) few (some_of _ _ _ s.3);
     }
 
-pub returns-in_err-tell-clause-serves : goal.returns-in_err-tell-clause-serves
-returns-in_err-tell-clause-serves g c =
+pub returns-in_err-print_line-clause-serves : goal.returns-in_err-print_line-clause-serves
+returns-in_err-print_line-clause-serves g c =
     let s = c.loop-connection.invariant.so_far in
     let e = c.in_ok-ended.ended in
     let count = count_more s.0 e c.loop-connection.connection s.1 in
     let few : length (s.0 ++ e ∷ []) ≤ c.args.connections = omega (arith, count, c.loop-connection-test.true) in
-    let p = err_from_is_err_and c.from_residual-in_err-tell.result c.from_residual-in_err-tell.ensures.1 in
+    let p = err_from_is_err_and c.from_residual-in_err-print_line.result c.from_residual-in_err-print_line.ensures.1 in
     λ clean d has. record {
       ended = s.0 ++ e ∷ [];
       each = each_more d s.0 e (g.K.Keeper.has c.loop-connection.keeper) (g.K.Keeper.has c.serve_next.new.keeper)
           (s.4 (c.serve_next.ensures.clean clean) d has) (c.in_ok-ended.ensures.serves clean);
       until = until_more s.0 e s.2;
-      printed = lines_failed c.args.connections _ _ (s.0 ++ e ∷ []) c.from_residual-in_err-tell.result p.0 c.in_err-tell.field-0.0 p.1 p.2 c.in_err-tell.ensures.fault few
-          (printed_cut _ _ _ s.0 e c.loop-connection.connection s.1 s.3 c.in_err-tell.ensures.printed);
+      printed = lines_failed c.args.connections _ _ (s.0 ++ e ∷ []) c.from_residual-in_err-print_line.result p.0 c.in_err-print_line.field-0.0 p.1 p.2 c.in_err-print_line.ensures.fault few
+          (printed_cut _ _ _ s.0 e c.loop-connection.connection s.1 s.3 c.in_err-print_line.ensures.printed);
     }
 
 pub returns-then-ended-clause-serves : goal.returns-then-ended-clause-serves
@@ -43,7 +43,7 @@ returns-then-ended-clause-serves g c =
       each = each_more d s.0 e (g.K.Keeper.has c.loop-connection.keeper) (g.K.Keeper.has c.serve_next.new.keeper)
           (s.4 (c.serve_next.ensures.clean clean) d has) (c.in_ok-ended.ensures.serves clean);
       until = until_more s.0 e s.2;
-      printed = (refl, few, failed_more s.0 e s.2 ∙ c.if-ended.true, printed_more _ _ _ s.0 e c.loop-connection.connection s.1 s.3 c.in_ok-tell.ensures.printed);
+      printed = (refl, few, failed_more s.0 e s.2 ∙ c.if-ended.true, printed_more _ _ _ s.0 e c.loop-connection.connection s.1 s.3 c.in_ok-print_line.ensures.printed);
     }
 
 pub loop-connection-preserved : goal.loop-connection-preserved
@@ -57,7 +57,7 @@ loop-connection-preserved g c =
         s.0 ++ e ∷ [],
         count_more s.0 e c.loop-connection.connection s.1,
         failed_more s.0 e s.2 ∙ c.if-ended.false,
-        printed_more _ _ _ s.0 e c.loop-connection.connection s.1 s.3 c.in_ok-tell.ensures.printed,
+        printed_more _ _ _ s.0 e c.loop-connection.connection s.1 s.3 c.in_ok-print_line.ensures.printed,
         λ clean d has. each_more d s.0 e (g.K.Keeper.has c.loop-connection.keeper) (g.K.Keeper.has c.serve_next.new.keeper)
             (s.4 (c.serve_next.ensures.clean clean) d has) (c.in_ok-ended.ensures.serves clean),
       );

@@ -20,15 +20,15 @@ grown_once-requires-clause-small c =
 pub returns-clause-value : goal.returns-clause-value
 returns-clause-value c =
     let rates = c.args.rates in let a = c.args.age in let b = c.args.bits in
-    let e : Unsettled = record { month = c.args.age } in
+    let e : Unsettled = record { age = c.args.age } in
     rw c.ok_or.ensures.value (unit_answer rates a b c.start_unit-start.result c.rate_in-rate.result c.min-counted.result c.grown_once.result e
-    (λ x. (is_open rates a b ≡ true) × (x.month ≡ c.args.age))
+    (λ x. (is_open rates a b ≡ true) × (x.age ≡ c.args.age))
     (c.min-counted.ensures ∙ ap (λ n. min n 360) c.months-months.ensures.value) c.start_unit-start.ensures c.rate_in-rate.ensures.value c.grown_once.ensures (λ p. (p.0, refl)))
 
 pub returns-clause-close : goal.returns-clause-close
 returns-clause-close c =
     let rates = c.args.rates in let a = c.args.age in let b = c.args.bits in
-    let e : Unsettled = record { month = c.args.age } in
+    let e : Unsettled = record { age = c.args.age } in
     let both = unit_answer rates a b c.start_unit-start.result c.rate_in-rate.result c.min-counted.result c.grown_once.result e
     (λ x. Close (start rates (a / 6)) (rate_in rates (a / 6)) (a % 6) b)
     (c.min-counted.ensures ∙ ap (λ n. min n 360) c.months-months.ensures.value) c.start_unit-start.ensures c.rate_in-rate.ensures.value c.grown_once.ensures (λ p. p.1) in
@@ -38,9 +38,9 @@ returns-clause-close c =
 pub returns-clause-rounds : goal.returns-clause-rounds
 returns-clause-rounds c =
     let rates = c.args.rates in let a = c.args.age in let b = c.args.bits in
-    let e : Unsettled = record { month = c.args.age } in
+    let e : Unsettled = record { age = c.args.age } in
     rw c.ok_or.ensures.value (rounds_part (ok_or c.grown_once.result e) rates a (λ _. is_open rates a b ≡ false)
-    (λ x. (is_open rates a b ≡ true) × (x.month ≡ c.args.age)) c.rate_in-rate.ensures.range
+    (λ x. (is_open rates a b ≡ true) × (x.age ≡ c.args.age)) c.rate_in-rate.ensures.range
     (unit_answer rates a b c.start_unit-start.result c.rate_in-rate.result c.min-counted.result c.grown_once.result e
-    (λ x. (is_open rates a b ≡ true) × (x.month ≡ c.args.age))
+    (λ x. (is_open rates a b ≡ true) × (x.age ≡ c.args.age))
     (c.min-counted.ensures ∙ ap (λ n. min n 360) c.months-months.ensures.value) c.start_unit-start.ensures c.rate_in-rate.ensures.value c.grown_once.ensures (λ p. (p.0, refl))))

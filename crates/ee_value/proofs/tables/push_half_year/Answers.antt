@@ -19,7 +19,7 @@ pub returns-in-None : goal.returns-in-None
 returns-in-None c =
     let m = c.loop-months.months in let rates = c.args.rates.now in let b = c.args.powers.now.bits in let k = c.args.half_year in
     let opened = walk_none rates b k c.loop-months.months c.args.unit c.rate_in-rate.result c.requires.early (omega arith) c.requires.begun c.rate_in-rate.ensures.value c.in-None.ensures.0 in
-    let at : c.from_months-month.result ≡ 6 * k + m = omega arith in
+    let at : c.from_months-age.result ≡ 6 * k + m = omega arith in
     rw at (opened, c.loop-months.invariant.settled)
 
 pub loop-months-preserved : goal.loop-months-preserved

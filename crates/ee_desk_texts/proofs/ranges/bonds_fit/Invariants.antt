@@ -1,7 +1,0 @@
-use Rattle.std.proofs.Common.{drop}
-use Rattle.std.specs.List.{AllByRecursion}
-use Rattle.ee_desk_texts.specs.Ranges.{BondFits}
-use Rattle.ee_desk_texts.proofs.ranges.bonds_fit.Given as goal
-
-abbrev pub invariant-loop-bond : goal.invariant-loop-bond
-invariant-loop-bond l = AllByRecursion BondFits (drop l.bond-index l.bonds) → AllByRecursion BondFits l.bonds

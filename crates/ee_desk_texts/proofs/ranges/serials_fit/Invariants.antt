@@ -1,7 +1,0 @@
-use Rattle.std.proofs.Common.{drop}
-use Rattle.std.specs.List.{AllByRecursion}
-use Rattle.ee_desk_texts.specs.Ranges.{IsSerial}
-use Rattle.ee_desk_texts.proofs.ranges.serials_fit.Given as goal
-
-abbrev pub invariant-loop-serial : goal.invariant-loop-serial
-invariant-loop-serial l = AllByRecursion IsSerial (drop l.serial-index l.serials) → AllByRecursion IsSerial l.serials
