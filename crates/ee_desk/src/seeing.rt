@@ -49,8 +49,12 @@ fn note_rate_of(
     }
 }
 
-/// Notes a registered bond.
-fn put(found: &mut BTreeMap<Serial, Held>, serial: Serial, held: &Held) -> Result<(), AllocError>
+/// Notes a registered bond, and the ticket that paid it. Fails only if memory is refused.
+pub fn note_bond(
+    found: &mut BTreeMap<Serial, Held>,
+    serial: Serial,
+    held: &Held,
+) -> Result<(), AllocError>
     ensures { OnOk result (held_in found.new.entries ≡ finite.insert (held_in found.old.entries) serial held.now) }
 {
     let bond = held.bond;
@@ -68,7 +72,7 @@ fn note_held(
     ensures { OnOk result (held_in found.new.entries ≡ noted (held_of ledger.now) (held_in found.old.entries) serial) }
 {
     match ledger.held(serial) {
-        Some(held) => put(found, serial, &held),
+        Some(held) => note_bond(found, serial, &held),
         None => Ok(()),
     }
 }

@@ -111,11 +111,8 @@ fn refusal_of_rates(
 ) -> Result<Option<Refusal>, AllocError>
     ensures { IfOk result (λ refusal. refusal ≡ is.first (is.tests_of_rates (shown_by view.now) rows.now)) }
 {
-    if rows.is_empty() {
-        return Ok(Some(Refusal::Empty));
-    }
-    if rows.len() > MOST_ROWS {
-        return Ok(Some(Refusal::TooMany));
+    if let Some(refusal) = refusal_of_length(MOST_ROWS, rows.len()) {
+        return Ok(Some(refusal));
     }
     if let Some(refusal) = first_unannounced(rows) {
         return Ok(Some(refusal));
@@ -216,11 +213,8 @@ fn first_bond_conflict(view: &View, bonds: &[Bond]) -> Option<Refusal>
 fn refusal_of_bonds(view: &View, bonds: &[Bond]) -> Option<Refusal>
     ensures { result ≡ is.first (is.tests_of_bonds (shown_by view.now) bonds.now) }
 {
-    if bonds.is_empty() {
-        return Some(Refusal::Empty);
-    }
-    if bonds.len() > MOST_ROWS {
-        return Some(Refusal::TooMany);
+    if let Some(refusal) = refusal_of_length(MOST_ROWS, bonds.len()) {
+        return Some(refusal);
     }
     if let Some(refusal) = first_repeated_bond(bonds) {
         return Some(refusal);
@@ -298,11 +292,8 @@ fn first_unpayable(
 fn refusal_of_redeem(view: &View, day: Day, payee: Customer, serials: &[Serial]) -> Option<Refusal>
     ensures { result ≡ is.first (is.tests_of_redeem (shown_by view.now) day payee serials.now) }
 {
-    if serials.is_empty() {
-        return Some(Refusal::Empty);
-    }
-    if serials.len() > MOST_SERIALS {
-        return Some(Refusal::TooMany);
+    if let Some(refusal) = refusal_of_length(MOST_SERIALS, serials.len()) {
+        return Some(refusal);
     }
     if let Some(refusal) = first_repeated(serials) {
         return Some(refusal);

@@ -17,7 +17,7 @@ use Rattle.ee_desk_model.specs.declared.replies.Line.{Line}
 use Rattle.ee_desk_model.specs.declared.changes.Kept.{Kept}
 use Rattle.ee_desk_model.specs.declared.replies.Ticket.{Ticket}
 use Rattle.ee_desk_model.specs.declared.refusals.Refusal.{Refusal}
-use Rattle.ee_desk_model.specs.declared.refusals.Refusal.TheVariants.{AlreadyPaid, NumberReused, DayIsOther, DayFull, Empty, TooMany}
+use Rattle.ee_desk_model.specs.declared.refusals.Refusal.TheVariants.{AlreadyPaid, NumberReused, DayIsOther, DayFull}
 use Rattle.ee_desk_model.specs.declared.replies.Reply.{Reply}
 use Rattle.ee_desk_model.specs.declared.replies.Reply.TheVariants.{Refused}
 use Rattle.ee_desk_model.specs.declared.replies.Reply.TheVariants as reply
@@ -27,7 +27,7 @@ use Rattle.ee_units.specs.Calendar.{month_of_day}
 use Rattle.ee_desk_model.specs.PlainBooks.{PlainBooks, names, ticket_of, batch_so_far, cents_of}
 use Rattle.ee_desk_model.specs.Seen.{shown, held_as, ticket_for, worth, line_for, value_in}
 use Rattle.ee_desk_model.specs.declared.changes.Held.{Held}
-use Rattle.ee_desk_model.specs.Refusals.{first, first_of, when, repeated, refusal_of_day, refusal_of_held, refusal_of_serial, refusal_of, most_serials, most_tickets}
+use Rattle.ee_desk_model.specs.Refusals.{first, first_of, when, repeated, refusal_of_day, refusal_of_held, refusal_of_serial, refusal_of, refusal_of_length, most_serials, most_tickets}
 use Rattle.ee_desk_model.specs.Acts.{same_act, unless_refused}
 use Rattle.ee_desk_model.specs.Outcomes.{Outcome}
 use Rattle.ee_desk_model.specs.Effects as effects
@@ -190,11 +190,10 @@ module _ (S : Content) (mine : SerialNumber → Bool) (own : RequestKey → Bool
       → option_map (unnumbered_refusal before) (refusal new_m day payee ss) ≡ option_map (unnumbered_refusal before) (refusal new_t day payee ss)
   refusals_alike new_m new_t kept_m kept_t a day payee ss h room_m room_t =
       let u = unnumbered_refusal before in
-      or_alike u (when (length ss == 0) Empty) _ _ _ refl
-      (or_alike u (when (nat_lt most_serials (length ss)) TooMany) _ _ _ refl
+      or_alike u (refusal_of_length most_serials (length ss)) _ _ _ refl
       (or_alike u (repeated [] ss) _ _ _ refl
       (days_alike before S.books.day day (is_full new_m day) (is_full new_t day) _ _ room_m room_t
-      (first_alike before _ _ ss (serials_alike new_m new_t kept_m kept_t a (month_of_day day) payee ss h)))))
+      (first_alike before _ _ ss (serials_alike new_m new_t kept_m kept_t a (month_of_day day) payee ss h))))
 
   abbrev pub ticket_of_request : List Ticket → ℕ → ℕ → List SerialNumber → Ticket
   ticket_of_request new day payee ss = ticket_for (shown (books_with new)) day payee ss

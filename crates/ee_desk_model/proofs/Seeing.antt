@@ -13,7 +13,7 @@ use Rattle.ee_desk_model.specs.declared.changes.Held.{Held}
 use Rattle.ee_desk_model.specs.declared.acts.Act.{Act}
 use Rattle.ee_desk_model.specs.declared.acts.Act.TheVariants.{AddRates, AddBonds, OpenDay, Redeem, CloseDay}
 use Rattle.ee_desk_model.specs.declared.refusals.Refusal.{Refusal}
-use Rattle.ee_desk_model.specs.declared.refusals.Refusal.TheVariants.{Empty, TooMany, DayFull, RateConflict, NoRate, SerialConflict}
+use Rattle.ee_desk_model.specs.declared.refusals.Refusal.TheVariants.{DayFull, RateConflict, NoRate, SerialConflict}
 use Rattle.ee_desk_model.specs.declared.changes.Effects.{Effects}
 use Rattle.ee_desk_model.specs.declared.replies.Ticket.{Ticket}
 use Rattle.ee_desk_model.specs.declared.changes.Change.TheVariants as change
@@ -24,7 +24,7 @@ use Rattle.ee_units.specs.Calendar.{month_of_day, period_start}
 use Rattle.ee_desk_model.specs.Values.{value_of}
 use Rattle.ee_desk_model.specs.PlainBooks.{PlainBooks, cents_of}
 use Rattle.ee_desk_model.specs.Seen.{Seen, shown, rate_of, held_of, value_in, worth, line_for, open_batch}
-use Rattle.ee_desk_model.specs.Refusals.{first, first_of, when, is_other, known_rate, rate_conflict, near, unannounced, repeated, repeated_bond, own_coowner, unrated, bond_conflict, is_other_bond, refusal_of_day, refusal_of_held, refusal_of_serial, refusal_of, length_refusal, most_rows, most_serials, most_tickets}
+use Rattle.ee_desk_model.specs.Refusals.{first, first_of, when, is_other, known_rate, rate_conflict, near, unannounced, repeated, repeated_bond, own_coowner, unrated, bond_conflict, is_other_bond, refusal_of_day, refusal_of_held, refusal_of_serial, refusal_of, refusal_of_length, length_refusal, most_rows, most_serials, most_tickets}
 use Rattle.ee_desk_model.specs.Effects.{new_rates, new_bonds, accepted, unless_refused, effects_of, rate_change, added}
 use Rattle.ee_desk_model.specs.Acts as acts
 use Rattle.ee_desk_model.specs.Acts.{done, applied, with_rates, with_bonds, books_after}
@@ -58,7 +58,7 @@ module _ (v b : Seen) where
 
   same_of_rates : (rows : List RateRow) → AllByRecursion IsSeenRate rows → effects_of v (AddRates rows) ≡ effects_of b (AddRates rows)
   same_of_rates rows h = same_effects v b (AddRates rows)
-      (λ i. first (when (length rows == 0) Empty ∷ when (nat_lt most_rows (length rows)) TooMany ∷ first_of unannounced rows ∷ same_conflict [] rows h i ∷ first_of near rows ∷ []))
+      (λ i. first (refusal_of_length most_rows (length rows) ∷ first_of unannounced rows ∷ same_conflict [] rows h i ∷ first_of near rows ∷ []))
       (ap (λ (new : List RateRow). record { changes = map rate_change new; reply = added new rows }) (same_new_rates [] rows h))
 
   -- ---- bonds
@@ -79,7 +79,7 @@ module _ (v b : Seen) where
 
   same_of_bonds : (bonds : List Bond) → AllByRecursion IsSeenBond bonds → effects_of v (AddBonds bonds) ≡ effects_of b (AddBonds bonds)
   same_of_bonds bonds h = same_effects v b (AddBonds bonds)
-      (λ i. first (when (length bonds == 0) Empty ∷ when (nat_lt most_rows (length bonds)) TooMany ∷ repeated_bond [] bonds ∷ first_of own_coowner bonds ∷ same_unrated bonds h i ∷ same_bond_conflict bonds h i ∷ []))
+      (λ i. first (refusal_of_length most_rows (length bonds) ∷ repeated_bond [] bonds ∷ first_of own_coowner bonds ∷ same_unrated bonds h i ∷ same_bond_conflict bonds h i ∷ []))
       (ap (λ (new : List Bond). record { changes = map change.Bond new; reply = added new bonds }) (same_new_bonds bonds h))
 
   -- ---- tickets
@@ -107,7 +107,7 @@ module _ (v b : Seen) where
   same_of_redeem : (day payee : ℕ) (ss : List SerialNumber) → v.day ≡ b.day → v.day_tickets ≡ b.day_tickets → v.tickets ≡ b.tickets → AllByRecursion IsSeenSerial ss
       → effects_of v (Redeem day payee ss) ≡ effects_of b (Redeem day payee ss)
   same_of_redeem day payee ss opened count number h = same_effects v b (Redeem day payee ss)
-      (λ i. first (when (length ss == 0) Empty ∷ when (nat_lt most_serials (length ss)) TooMany ∷ repeated [] ss ∷ refusal_of_day (opened i) day ∷ when (nat_le most_tickets (count i)) DayFull ∷ same_refused (month_of_day day) payee ss h i ∷ []))
+      (λ i. first (refusal_of_length most_serials (length ss) ∷ repeated [] ss ∷ refusal_of_day (opened i) day ∷ when (nat_le most_tickets (count i)) DayFull ∷ same_refused (month_of_day day) payee ss h i ∷ []))
       (λ i.
       let lines = same_lines (month_of_day day) ss h i in
       let ticket : Ticket = record { ticket = suc (number i); day = day; payee = payee; lines = lines; total = record { 0 = sum_by cents_of lines } } in
@@ -139,17 +139,16 @@ seen_enough books (Redeem day payee ss) = redeem_enough books (open_batch books)
 seen_enough books (CloseDay day) = refl
 
 -- ---- what the length of its list refuses
--- the first two of three tests decide if one of them refuses
-front_refuses : (empty many rest : Option Refusal) (refusal : Refusal) → option_or empty many ≡ Some refusal → option_or empty (option_or many rest) ≡ Some refusal
-front_refuses (Some x) many rest refusal e = e
-front_refuses None (Some x) rest refusal e = e
-front_refuses None None rest refusal e = absurd (cc)
+-- the first of two tests decides if it refuses
+first_refuses : (one rest : Option Refusal) (refusal : Refusal) → one ≡ Some refusal → option_or one rest ≡ Some refusal
+first_refuses (Some x) rest refusal e = e
+first_refuses None rest refusal e = absurd (cc)
 
 length_refuses : (seen : Seen) (asked : Act) (refusal : Refusal) → length_refusal asked ≡ Some refusal → refusal_of seen asked ≡ Some refusal
-length_refuses seen (AddRates rows) refusal e = front_refuses (when (length rows == 0) Empty) (when (nat_lt most_rows (length rows)) TooMany) _ refusal e
-length_refuses seen (AddBonds bonds) refusal e = front_refuses (when (length bonds == 0) Empty) (when (nat_lt most_rows (length bonds)) TooMany) _ refusal e
+length_refuses seen (AddRates rows) refusal e = first_refuses (refusal_of_length most_rows (length rows)) _ refusal e
+length_refuses seen (AddBonds bonds) refusal e = first_refuses (refusal_of_length most_rows (length bonds)) _ refusal e
 length_refuses seen (OpenDay day) refusal e = absurd (cc)
-length_refuses seen (Redeem day payee ss) refusal e = front_refuses (when (length ss == 0) Empty) (when (nat_lt most_serials (length ss)) TooMany) _ refusal e
+length_refuses seen (Redeem day payee ss) refusal e = first_refuses (refusal_of_length most_serials (length ss)) _ refusal e
 length_refuses seen (CloseDay day) refusal e = absurd (cc)
 
 -- an act that the length of its list refuses is refused, whatever is seen

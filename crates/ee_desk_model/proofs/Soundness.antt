@@ -30,7 +30,7 @@ use Rattle.ee_calculator.specs.Bonds.{has_coowner, is_payee}
 use Rattle.ee_desk_model.specs.PlainBooks.{PlainBooks, no_books, ticket_of, names, of_day, batch_of, batch_so_far, bonds_on, total_of}
 use Rattle.ee_desk_model.specs.Paid.{paid_lines, NoneTwice}
 use Rattle.ee_desk_model.specs.Seen.{Seen, shown, held_as, held_of, rate_of, value_in, line_for, ticket_for, closing_batch}
-use Rattle.ee_desk_model.specs.Refusals.{first, first_of, known_rate, tests_of, tests_of_held, refusal_of, refusal_of_day, refusal_of_held, refusal_of_serial, unannounced, near, own_coowner, unrated, repeated}
+use Rattle.ee_desk_model.specs.Refusals.{first, first_of, when, known_rate, tests_of, tests_of_held, refusal_of, refusal_of_day, refusal_of_held, refusal_of_serial, unannounced, near, own_coowner, unrated, repeated}
 use Rattle.ee_desk_model.specs.declared.changes.Change.TheVariants as change
 use Rattle.ee_desk_model.specs.Effects as effects
 use Rattle.ee_desk_model.specs.Effects.{new_rates, new_bonds, rate_change, accepted, effects_of}
@@ -195,7 +195,7 @@ rates_sound books rows sound none ranges =
     let new = new_rates (shown books) [] rows in
     let after : PlainBooks = record books { rates = with_rates books.rates new } in
     let gains : Gains books after = record { rates = λ q v had. rate_stays books.rates books.rates new q v (new_absent (shown books) [] rows) had had; bonds = λ s b h. h } in
-    let good = all_new IsGoodRow (shown books) [] rows (right_rows rows (all_of unannounced rows tests.1.1.0) (all_of near rows tests.1.1.1.1.0)) in
+    let good = all_new IsGoodRow (shown books) [] rows (right_rows rows (all_of unannounced rows tests.1.0) (all_of near rows tests.1.1.1.0)) in
     let right = all_map (λ row. IsGoodRow row × IsInRange (rate_change row)) (λ row. IsRightRate row.from row.rates) (λ row h. record { announced = h.0.0; settled = h.0.1; in_range = h.1 }) new
     (all_both IsGoodRow (λ row. IsInRange (rate_change row)) new good (all_unmapped IsInRange rate_change new ranges)) in
     record {
@@ -246,7 +246,7 @@ bonds_sound books bonds sound none ranges =
     (λ b e. mapped_none (held_as books.tickets b.serial) (finite.get books.bonds b.serial) (none_is (held_of books b.serial) e)) new (all_passed (λ b. is_none (held_of books b.serial)) bonds) in
     let gains : Gains books after = record { rates = λ q v h. h; bonds = λ s b had. bond_stays books.bonds books.bonds new s b absent had had } in
     let good = all_filter (IsGoodBond books) (λ b. is_none (held_of books b.serial)) bonds
-    (right_bonds books bonds (all_of own_coowner bonds tests.1.1.1.0) (all_of (unrated (shown books)) bonds tests.1.1.1.1.0)) in
+    (right_bonds books bonds (all_of own_coowner bonds tests.1.1.0) (all_of (unrated (shown books)) bonds tests.1.1.1.0)) in
     let right = all_map (λ b. IsGoodBond books b × IsInRange (change.Bond b)) (λ b. IsRightBond books.rates b.serial b)
     (λ b h. record { keyed = refl; rated = h.0.0; owned = h.0.1; in_range = h.1 }) new
     (all_both (IsGoodBond books) (λ b. IsInRange (change.Bond b)) new good (all_unmapped IsInRange change.Bond new ranges)) in
@@ -502,16 +502,17 @@ redeem_sound : (books : PlainBooks) (day payee : ℕ) (ss : List SerialNumber) �
 redeem_sound books day payee ss sound none =
     let tests = no_refusal (tests_of (shown books) (Redeem day payee ss)) none in
     let ticket = ticket_for (shown books) day payee ss in
-    let opened = open_is books.day day tests.1.1.1.0 in
+    let opened = open_is books.day day tests.1.1.0 in
     let closed = map day_of_batch books.batches in
     let are : days books ≡ closed ++ day ∷ [] = ap (λ o. closed ++ open_days o) opened in
     let rising = subst Rising are sound.rising in
-    let lines = new_lines books sound day payee ticket refl refl ss (all_of (refusal_of_serial (shown books) (month_of_day day) payee) ss tests.1.1.1.1.1.0) in
-    let distinct = lines_apart (line_of books sound day payee) (λ s. refl) [] ss tests.1.1.0 in
+    let lines = new_lines books sound day payee ticket refl refl ss (all_of (refusal_of_serial (shown books) (month_of_day day) payee) ss tests.1.1.1.1.0) in
+    let distinct = lines_apart (line_of books sound day payee) (λ s. refl) [] ss tests.1.0 in
     let long = length-map (line_of books sound day payee) ss in
-    let some = some_serials ss (test_passed (length ss == 0) Empty None tests.0).0 in
-    let few = ltb-false 100 (length ss) (test_passed (nat_lt 100 (length ss)) TooMany None tests.1.0).0 in
-    let full = leb-false 1000 (shown books).day_tickets (test_passed (nat_le 1000 (shown books).day_tickets) DayFull None tests.1.1.1.1.0).0 in
+    let short = or_none (when (length ss == 0) Empty) (when (nat_lt 100 (length ss)) TooMany) tests.0 in
+    let some = some_serials ss (test_passed (length ss == 0) Empty None short.0).0 in
+    let few = ltb-false 100 (length ss) (test_passed (nat_lt 100 (length ss)) TooMany None short.1).0 in
+    let full = leb-false 1000 (shown books).day_tickets (test_passed (nat_le 1000 (shown books).day_tickets) DayFull None tests.1.1.1.0).0 in
     let count : (shown books).day_tickets ≡ count_by (λ u. eqb u.day day) books.tickets = ap (λ o. (batch_so_far o books.tickets).tickets) opened ∙ length-filter (λ u. eqb u.day day) books.tickets in
     let top = none_later books sound day opened in
     record {

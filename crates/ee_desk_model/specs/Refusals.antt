@@ -77,8 +77,7 @@ rate_conflict seen earlier (row ∷ rows) =
 
 abbrev pub tests_of_rates : Seen → List RateRow → List (Option Refusal)
 tests_of_rates seen rows =
-    when (length rows == 0) Empty
-    ∷ when (nat_lt most_rows (length rows)) TooMany
+    refusal_of_length most_rows (length rows)
     ∷ first_of unannounced rows
     ∷ rate_conflict seen [] rows
     ∷ first_of near rows
@@ -111,8 +110,7 @@ bond_conflict seen bond = when (is_other_bond (seen.held bond.serial) bond) (Ser
 
 abbrev pub tests_of_bonds : Seen → List Bond → List (Option Refusal)
 tests_of_bonds seen bonds =
-    when (length bonds == 0) Empty
-    ∷ when (nat_lt most_rows (length bonds)) TooMany
+    refusal_of_length most_rows (length bonds)
     ∷ repeated_bond [] bonds
     ∷ first_of own_coowner bonds
     ∷ first_of (unrated seen) bonds
@@ -149,8 +147,7 @@ refusal_of_serial seen month payee serial = refusal_of_held month payee serial (
 
 abbrev pub tests_of_redeem : Seen → ℕ → ℕ → List SerialNumber → List (Option Refusal)
 tests_of_redeem seen day payee serials =
-    when (length serials == 0) Empty
-    ∷ when (nat_lt most_serials (length serials)) TooMany
+    refusal_of_length most_serials (length serials)
     ∷ repeated [] serials
     ∷ refusal_of_day seen.day day
     ∷ when (nat_le most_tickets seen.day_tickets) DayFull

@@ -114,7 +114,7 @@ impl Refusal {
 /// Why a request got no reply. It changed nothing, and its number is as free as before.
 #[derive(Clone, Copy, Debug, PartialEq, Eq, Error)]
 pub enum Unserved {
-    #[error("no memory")]
+    #[error("out of memory")]
     NoMemory = 1,
     #[error("the store failed")]
     StoreFailed = 2,

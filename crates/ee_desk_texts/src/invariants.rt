@@ -12,7 +12,8 @@ use ee_calculator::Bond;
 use ee_desk_model::{Act, Batch, Line, RateRow, Reply, Ticket};
 use ee_units::{Customer, Day, Serial};
 
-fn day_fits(day: Day)
+/// A day is in range, by its type.
+pub fn day_fits(day: Day)
     ensures { IsDay day }
 {
     let _count = day.count();

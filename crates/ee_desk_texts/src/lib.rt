@@ -5,9 +5,9 @@
 mod act_reading;
 mod acts;
 mod fields;
+mod invariants;
 mod laws;
 mod money;
-mod invariants;
 mod refusal_reading;
 mod refusals;
 mod replies;
@@ -16,8 +16,8 @@ mod writing;
 
 pub use act_reading::read_act;
 pub use acts::canonical;
+pub use invariants::{batch_fits, bonds_fit, day_fits, rate_rows_fit, ticket_fits};
 pub use laws::texts_law;
-pub use invariants::{batch_fits, bonds_fit, rate_rows_fit, ticket_fits};
 pub use replies::reply_text;
 pub use reply_reading::read_reply;
 pub use writing::{text_of, write_number_member, write_string_member, write_text_member};

@@ -11,8 +11,8 @@ ghost use Rattle.ee_store_books.specs.Standing.{StandAt};
 ghost use Rattle.ee_store_schema.specs.Forms.{version_of};
 ghost use Rattle.ee_store_books.specs.Contents.{PartsFit, KeepsAnswer, tables_for};
 
-use crate::marks::marks_of;
 use crate::invariants::parts_fit;
+use crate::marks::marks_of;
 use crate::rates::rates_in;
 use crate::reading::{batches_in, bonds_in, days_in};
 use crate::tickets::tickets_in;

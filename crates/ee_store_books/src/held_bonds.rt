@@ -16,6 +16,7 @@ ghost use Rattle.ee_store_books.specs.Found.{bonds_found, with_found};
 ghost use Rattle.ee_store_books.specs.Seen.{FindsIn, OnlyReads};
 
 use ee_calculator::Bond;
+use ee_desk::note_bond;
 use ee_desk_model::Held;
 use ee_store_tables as tables;
 use ee_store_tables::{BondRow, Failure, find_bond};
@@ -85,16 +86,6 @@ fn find_held<S: Alter>(tx: &mut Transaction<'_, S>, serial: Serial) -> Result<Op
     held_shown(serial, found)
 }
 
-/// Notes a registered bond.
-fn put(found: &mut BTreeMap<Serial, Held>, serial: Serial, held: &Held) -> Result<(), AllocError>
-    ensures { OnOk result (bonds_found found.new.entries ≡ finite.insert (bonds_found found.old.entries) serial held.now) }
-{
-    let bond = held.bond;
-    let ticket = held.ticket;
-    found.insert(serial, Held { bond, ticket })?;
-    Ok(())
-}
-
 /// Notes a bond, if it is registered.
 fn note_held(
     found: &mut BTreeMap<Serial, Held>,
@@ -104,7 +95,7 @@ fn note_held(
     ensures { OnOk result (bonds_found found.new.entries ≡ with_found (bonds_found found.old.entries) serial held) }
 {
     match held {
-        Some(held) => put(found, serial, &held),
+        Some(held) => note_bond(found, serial, &held),
         None => Ok(()),
     }
 }

@@ -9,14 +9,14 @@ ghost use Rattle.ee_store_books.specs.Contents.{PartsFit};
 
 use ee_desk_model::{Batch, RateRow, Ticket};
 use ee_desk_soundness::Parts;
-use ee_desk_texts::{batch_fits, bonds_fit, rate_rows_fit, ticket_fits};
+use ee_desk_texts::{batch_fits, bonds_fit, day_fits, rate_rows_fit, ticket_fits};
 use ee_units::Day;
 
-fn day_fits(day: Option<Day>)
+fn optional_day_fits(day: Option<Day>)
     ensures { IfSome day IsDay }
 {
     if let Some(day) = day {
-        let _count = day.count();
+        day_fits(day);
     }
 }
 
@@ -40,8 +40,8 @@ fn batches_fit(batches: &[Batch])
 pub fn parts_fit(parts: &Parts)
     ensures { PartsFit parts.now }
 {
-    day_fits(parts.day);
-    day_fits(parts.last_day);
+    optional_day_fits(parts.day);
+    optional_day_fits(parts.last_day);
     rate_rows_fit(parts.rates.as_slice());
     bonds_fit(parts.bonds.as_slice());
     tickets_fit(parts.tickets.as_slice());

@@ -10,9 +10,9 @@
 mod answers;
 mod contents;
 mod held_bonds;
+mod invariants;
 mod laws;
 mod marks;
-mod invariants;
 mod rates;
 mod reading;
 mod terms;

@@ -1,6 +1,6 @@
 -- No act is refused because its number was used: that is told of kept numbers alone.
-use Rattle.std.proofs.Common.{◌≡◌, ◌≢◌, ℕ, ◌==◌, Bool, true, false, cond, not, List, [], ◌∷◌, ◌++◌, refl, ap, subst}
-use Rattle.std.specs.Prelude.{Option, Some, None, IfSome}
+use Rattle.std.proofs.Common.{◌≡◌, ◌≢◌, ℕ, ◌==◌, Bool, true, false, cond, not, List, [], ◌∷◌, ◌++◌, length, refl, ap, subst}
+use Rattle.std.specs.Prelude.{Option, Some, None, IfSome, nat_lt}
 use Rattle.std.specs.Option.{option_map, option_or}
 use Rattle.std.specs.List.{AllByRecursion, list_any}
 use Rattle.ee_units.specs.Spelling.{SerialNumber}
@@ -18,7 +18,7 @@ use Rattle.ee_desk_model.specs.declared.replies.Reply.TheVariants.{Refused}
 use Rattle.ee_desk_model.specs.declared.replies.Reply.TheVariants as reply
 use Rattle.ee_desk_model.specs.Codes.{code_of}
 use Rattle.ee_desk_model.specs.Seen.{Seen}
-use Rattle.ee_desk_model.specs.Refusals.{first, first_of, when, is_other, known_rate, unannounced, near, rate_conflict, repeated, repeated_bond, own_coowner, unrated, bond_conflict, refusal_of_day, refusal_of_held, refusal_of_serial, tests_of, tests_of_held, refusal_of}
+use Rattle.ee_desk_model.specs.Refusals.{first, first_of, when, is_other, known_rate, unannounced, near, rate_conflict, repeated, repeated_bond, own_coowner, unrated, bond_conflict, refusal_of_day, refusal_of_held, refusal_of_serial, refusal_of_length, most_rows, most_serials, tests_of, tests_of_held, refusal_of}
 use Rattle.ee_desk_model.specs.Effects.{unless_refused, effects_of}
 
 -- told by its code
@@ -33,17 +33,20 @@ first_other [] h = tt
 first_other (None ∷ tests) h = first_other tests h.1
 first_other (Some refusal ∷ tests) h = h.0
 
+or_other : (o p : Option Refusal) → NoneReused o → NoneReused p → NoneReused (option_or o p)
+or_other None p a b = b
+or_other (Some r) p a b = a
+
 rows_other : {A : Type 0} (f : A → Option Refusal) → ((x : A) → NoneReused (f x)) → (xs : List A) → NoneReused (first_of f xs)
 rows_other f h [] = tt
-rows_other f h (x ∷ xs) = either (f x) (first_of f xs) (h x) (rows_other f h xs)
-  where
-    either : (o p : Option Refusal) → NoneReused o → NoneReused p → NoneReused (option_or o p)
-    either None p a b = b
-    either (Some r) p a b = a
+rows_other f h (x ∷ xs) = or_other (f x) (first_of f xs) (h x) (rows_other f h xs)
 
 when_other : (b : Bool) (refusal : Refusal) → IsOther refusal → NoneReused (when b refusal)
 when_other true refusal h = h
 when_other false refusal h = tt
+
+length_other : (most count : ℕ) → NoneReused (refusal_of_length most count)
+length_other most count = or_other (when (count == 0) Empty) (when (nat_lt most count) TooMany) (when_other _ Empty refl) (when_other _ TooMany refl)
 
 if_other : (b : Bool) (refusal : Refusal) (o : Option Refusal) → IsOther refusal → NoneReused o → NoneReused (cond b (Some refusal) o)
 if_other true refusal o h k = h
@@ -85,10 +88,10 @@ held_other month payee s (Some held) =
     first_other (tests_of_held month payee s held) (when_other _ (NotPayee s) refl, (paid_other s held.ticket, (when_other _ (NotIssued s) refl, (when_other _ (NotEligible s) refl, tt))))
 
 tests_other : (seen : Seen) (asked : Act) → AllByRecursion NoneReused (tests_of seen asked)
-tests_other seen (AddRates rows) = (when_other _ Empty refl, (when_other _ TooMany refl, (rows_other unannounced (λ row. when_other _ (NotAnnouncementMonth row.from) refl) rows, (conflict_other seen [] rows, (rows_other near near_other rows, tt)))))
-tests_other seen (AddBonds bonds) = (when_other _ Empty refl, (when_other _ TooMany refl, (repeated_bond_other [] bonds, (rows_other own_coowner (λ b. when_other _ (SameCoowner b.serial) refl) bonds, (rows_other (unrated seen) (λ b. when_other _ (NoRate b.serial) refl) bonds, (rows_other (bond_conflict seen) (λ b. when_other _ (SerialConflict b.serial) refl) bonds, tt))))))
+tests_other seen (AddRates rows) = (length_other most_rows (length rows), (rows_other unannounced (λ row. when_other _ (NotAnnouncementMonth row.from) refl) rows, (conflict_other seen [] rows, (rows_other near near_other rows, tt))))
+tests_other seen (AddBonds bonds) = (length_other most_rows (length bonds), (repeated_bond_other [] bonds, (rows_other own_coowner (λ b. when_other _ (SameCoowner b.serial) refl) bonds, (rows_other (unrated seen) (λ b. when_other _ (NoRate b.serial) refl) bonds, (rows_other (bond_conflict seen) (λ b. when_other _ (SerialConflict b.serial) refl) bonds, tt)))))
 tests_other seen (OpenDay day) = (when_other _ DayOpen refl, (when_other _ DayNotLater refl, tt))
-tests_other seen (Redeem day payee serials) = (when_other _ Empty refl, (when_other _ TooMany refl, (repeated_other [] serials, (day_other seen.day day, (when_other _ DayFull refl, (rows_other (refusal_of_serial seen (month_of_day day) payee) (λ s. held_other (month_of_day day) payee s (seen.held s)) serials, tt))))))
+tests_other seen (Redeem day payee serials) = (length_other most_serials (length serials), (repeated_other [] serials, (day_other seen.day day, (when_other _ DayFull refl, (rows_other (refusal_of_serial seen (month_of_day day) payee) (λ s. held_other (month_of_day day) payee s (seen.held s)) serials, tt)))))
 tests_other seen (CloseDay day) = (day_other seen.day day, tt)
 
 -- whether a reply says that the number was used

@@ -11,13 +11,13 @@ pub enum OpenFault {
     #[error("out of memory")]
     NoMemory,
     /// The store failed, or `sqlite` can't open it.
-    #[error("the store failed, or it is none that can be opened")]
+    #[error("the store failed, or SQLite can't open it")]
     StoreFailed,
     /// The tables have another version.
-    #[error("the tables of the store are of another version")]
+    #[error("the tables have another version")]
     WrongVersion,
     /// The tables aren't those of this program, or their rows represent no books.
-    #[error("the store has no tables and rows of books")]
+    #[error("the tables or rows aren't those of this program")]
     Unusable,
 }
 

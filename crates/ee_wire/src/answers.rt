@@ -35,7 +35,7 @@ pub enum WriteEnd {
     #[error("the writer failed")]
     WriteFailed,
     /// Memory was refused, before the first byte was written.
-    #[error("no memory")]
+    #[error("out of memory")]
     NoMemory,
 }
 

@@ -87,7 +87,7 @@ pub enum WireFault {
     #[error("the route has another method")]
     BadMethod,
     /// Memory was refused.
-    #[error("no memory")]
+    #[error("out of memory")]
     NoMemory,
 }
 

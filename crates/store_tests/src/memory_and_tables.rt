@@ -164,7 +164,7 @@ fn replies(rt: &impl Abort, alloc: Global, transcript: &str) -> String {
     text
 }
 
-fn reply_text(alloc: Global, answer: &Result<Reply, Unserved>) -> Result<String, Fail> {
+fn answer_text(alloc: Global, answer: &Result<Reply, Unserved>) -> Result<String, Fail> {
     match answer {
         Ok(reply) => Ok(reply_text(alloc, reply)?),
         Err(cause) => Ok(cause.to_string(alloc)?),
@@ -179,7 +179,7 @@ fn answers_text(
 ) -> String {
     let mut text = String::new(alloc);
     for answer in answers {
-        let reply = prepared(rt, reply_text(alloc, answer));
+        let reply = prepared(rt, answer_text(alloc, answer));
         writeln!(text, "{reply}").expect(rt, "memory for an answer");
     }
     text

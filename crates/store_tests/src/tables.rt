@@ -4,7 +4,7 @@ use crate::answering::in_memory;
 use crate::comparing::assert_same;
 use crate::version_1::{ANSWERS, EXTENSIONS, SEVEN_TABLES};
 use ee_store_tables::{
-    BatchRow, Failure, PaidRow, RateRow, ReplyRow, Serial, TicketRow, UnpaidBond, add_answer,
+    BatchRow, Failure, PaidRow, PeriodRate, ReplyRow, SerialKey, TicketRow, UnpaidBond, add_answer,
     add_batch, add_bond, add_extension, add_rate, add_ticket, bonds_of_owner, day_tickets,
     find_answer, find_batch, find_bond, find_desk, find_extension, find_rate, find_ticket,
     first_ticket, last_ticket, pay_lines, set_day, set_version, ticket_lines,
@@ -20,7 +20,7 @@ const DAY: u64 = 16_559;
 /// The last number of a request.
 const LAST: u64 = 9_223_372_036_854_775_807;
 
-const A1: Serial = Serial {
+const A1: SerialKey = SerialKey {
     letter: 1,
     number: 1,
 };
@@ -35,10 +35,10 @@ fn make_tables<S: Alter>(conn: &mut Connection<S>) -> Result<(), Error> {
 /// Rates and bonds; a second rate or extension for a period and a second bond of a serial number change nothing.
 fn register<S: Alter>(tx: &mut Transaction<'_, S>) -> Result<(), Failure> {
     let period = 60;
-    add_rate(tx, RateRow { period, rate: 350 })?;
-    add_rate(tx, RateRow { period, rate: 200 })?;
-    add_extension(tx, RateRow { period, rate: 400 })?;
-    add_extension(tx, RateRow { period, rate: 300 })?;
+    add_rate(tx, PeriodRate { period, rate: 350 })?;
+    add_rate(tx, PeriodRate { period, rate: 200 })?;
+    add_extension(tx, PeriodRate { period, rate: 400 })?;
+    add_extension(tx, PeriodRate { period, rate: 300 })?;
     let first = UnpaidBond {
         letter: 1,
         number: 1,

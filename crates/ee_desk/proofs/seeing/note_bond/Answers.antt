@@ -1,5 +1,5 @@
 use Rattle.ee_desk_model.proofs.Lemmas.Maps.{serials_total, serials_exact, map_with_one_more}
-use Rattle.ee_desk.proofs.seeing.put.Goals as goal
+use Rattle.ee_desk.proofs.seeing.note_bond.Goals as goal
 
 pub returns : goal.returns
 returns c =
