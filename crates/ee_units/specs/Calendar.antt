@@ -3,6 +3,7 @@
 use Rattle.std.specs.Prelude.{◌≡◌, ℕ, ◌+◌, ◌-◌, ◌/◌, ◌%◌, ◌≤◌, ◌==◌, ◌&&◌, ◌||◌, Bool, true, Option, Some, None, nat_le, nat_lt, if◌then◌else◌, ℤ, pos, negsuc, unsigned_abs}
 use Rattle.std.specs.List.{position_or_len, range_with_len}
 use Rattle.jiff_core.specs.Calendar.{days_from_civil, days_in_month}
+use Rattle.ee_units.specs.Limits.{earliest_day, latest_day}
 
 -- the year and the month, 1 to 12, of a count of months
 abbrev pub year_of : ℕ → ℕ
@@ -35,7 +36,7 @@ is_date year month day = (nat_le 1 month && nat_le month 12) && (nat_le 1 day &&
 
 -- a day from 2005-05-01 to 2199-12-31
 abbrev pub day_in_range : ℤ → Option ℕ
-day_in_range (pos n) = if nat_le 12904 n && nat_le n 84005 then Some n else None
+day_in_range (pos n) = if nat_le earliest_day n && nat_le n latest_day then Some n else None
 day_in_range (negsuc n) = None
 
 -- the first day of a month

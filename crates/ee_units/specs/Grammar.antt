@@ -6,6 +6,7 @@ use Rattle.std.specs.Str.Parse.{digits_value}
 use Rattle.jiff_core.specs.Calendar.{days_from_civil}
 use Rattle.ee_units.specs.Calendar.{is_date}
 use Rattle.ee_units.specs.Spelling.{SerialNumber}
+use Rattle.ee_units.specs.Limits.{earliest_day, highest_rate, highest_serial, latest_day}
 
 -- 1 to `most` digits that write n
 pub record WritesNumber (most : ℕ) (ds : List ℕ) (n : ℕ) : Type 0 where
@@ -37,7 +38,7 @@ pub record IsRateText (text : List ℕ) (r : ℕ) : Type 0 where
   pub fraction_is : Fraction fraction part
   pub sign_is : Sign sign
   pub value : r ≡ 100 * percents + part
-  pub range : r ≤ 2000
+  pub range : r ≤ highest_rate
 
 -- exactly `count` digits that write n
 pub record WritesDigits (count : ℕ) (ds : List ℕ) (n : ℕ) : Type 0 where
@@ -73,8 +74,8 @@ pub record IsDayText (text : List ℕ) (n : ℕ) : Type 0 where
   pub day_is : WritesDigits 2 ds day
   pub date : is_date year month day ≡ true
   pub value : days_from_civil (pos year) month day ≡ pos n
-  pub low : 12904 ≤ n
-  pub high : n ≤ 84005
+  pub low : earliest_day ≤ n
+  pub high : n ≤ latest_day
 
 -- nothing, or a hyphen
 pub data Hyphen : List ℕ → Type 0 where
@@ -93,4 +94,4 @@ pub record IsSerialText (text : List ℕ) (s : SerialNumber) : Type 0 where
   pub letter_low : 1 ≤ s.letter
   pub letter_high : s.letter ≤ 26
   pub number_low : 1 ≤ s.number
-  pub number_high : s.number ≤ 9999999999
+  pub number_high : s.number ≤ highest_serial

@@ -6,6 +6,7 @@ use Rattle.std.specs.List.{before_first, after_first, list_all, position_or_len,
 use Rattle.std.specs.Io.BufRead.{strip_last}
 use Rattle.jiff_core.specs.Calendar.{days_from_civil}
 use Rattle.ee_units.specs.Calendar.{is_date, day_in_range}
+use Rattle.ee_units.specs.Limits.{highest_customer, highest_rate, highest_serial, latest_issue_month}
 
 infixl 10 ◌>>=◌
 abbrev pub ◌>>=◌ : {A B : Type 0} → Option A → (A → Option B) → Option B
@@ -45,7 +46,7 @@ decimal_of ds = decimal_from ds (parts_at 46 ds)
 
 -- a rate is a decimal number, optionally followed by a percent sign
 unfoldable pub rate_of : List ℕ → Option ℕ
-rate_of text = decimal_of (strip_last 37 text) >>= in_range 0 2000
+rate_of text = decimal_of (strip_last 37 text) >>= in_range 0 highest_rate
 
 -- a month as its count from 2005-05
 unfoldable pub month_at : ℕ → ℕ → Option ℕ
@@ -91,7 +92,7 @@ pub record SerialNumber : Type 0 where
 unfoldable pub serial_at : ℕ → ℕ → Option SerialNumber
 serial_at letter number = do
   l ← in_range 1 26 letter
-  n ← in_range 1 9999999999 number
+  n ← in_range 1 highest_serial number
   Some (record { letter = l; number = n })
 
 unfoldable pub serial_from : ℕ → List ℕ → Option SerialNumber
@@ -99,7 +100,7 @@ serial_from letter rest = do
   l ← in_range 65 90 letter
   body ← before_end (codes "EE") rest
   n ← number_of 10 (strip_first 45 (strip_last 45 body))
-  m ← in_range 1 9999999999 n
+  m ← in_range 1 highest_serial n
   Some (record { letter = l - 64; number = m })
 
 -- a serial is a letter, optionally a hyphen, digits, optionally a hyphen, and EE
@@ -109,11 +110,11 @@ serial_of (letter ∷ rest) = serial_from letter rest
 
 -- a customer is a number of at most nine digits
 unfoldable pub customer_of : List ℕ → Option ℕ
-customer_of text = number_of 9 text >>= in_range 1 999999999
+customer_of text = number_of 9 text >>= in_range 1 highest_customer
 
 -- an issue month is at most 2099-12
 unfoldable pub issue_of : List ℕ → Option ℕ
-issue_of text = month_of text >>= in_range 0 1135
+issue_of text = month_of text >>= in_range 0 latest_issue_month
 
 -- a date as its count of days from 1970-01-01
 unfoldable pub day_at : ℕ → ℕ → ℕ → Option ℕ

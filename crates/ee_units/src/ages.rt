@@ -2,6 +2,7 @@
 
 ghost use Rattle.std.specs.Prelude.{◌≡◌, ◌≤◌};
 ghost use Rattle.ee_units.specs.Spelling.{in_range};
+ghost use Rattle.ee_units.specs.Limits.{latest_month};
 
 use std::marker::Model;
 
@@ -13,12 +14,13 @@ pub struct Age {
 
 impl Model for Age {
     ghost use Rattle.std.specs.Prelude.{ℕ, ◌≤◌};
+    ghost use Rattle.ee_units.specs.Limits.{latest_month};
 
     ghost Value = { ℕ };
 
     ghost view = { λ a. a.months };
 
-    ghost invariant = { λ a. a.months ≤ 2335 };
+    ghost invariant = { λ a. a.months ≤ latest_month };
 
     ghost inverse = { λ n. record { months = n } };
 }
@@ -26,7 +28,7 @@ impl Model for Age {
 impl Age {
     /// The age of `months` months; `None` above 2335.
     pub const fn new(months: u16) -> Option<Age>
-        ensures { result ≡ in_range 0 2335 months }
+        ensures { result ≡ in_range 0 latest_month months }
     {
         if months <= 2335 {
             Some(Age { months })
@@ -37,7 +39,7 @@ impl Age {
 
     /// The age of `months` months.
     pub const fn from_months(months: u16) -> Age
-        requires { months ≤ 2335 }
+        requires { months ≤ latest_month }
         ensures { result ≡ months }
     {
         Age { months }
@@ -46,7 +48,7 @@ impl Age {
     /// The number of months.
     pub const fn months(self) -> u16
         ensures value { result ≡ self }
-        ensures range { self ≤ 2335 }
+        ensures range { self ≤ latest_month }
     {
         self.months
     }

@@ -3,6 +3,7 @@
 ghost use Rattle.std.specs.Prelude.{◌≡◌, ◌≤◌};
 ghost use Rattle.std.specs.Option.{ok_or};
 ghost use Rattle.ee_units.specs.Spelling.{in_range, customer_of};
+ghost use Rattle.ee_units.specs.Limits.{highest_customer};
 
 use crate::faults::UnitFault;
 use crate::pieces::number;
@@ -18,12 +19,13 @@ pub struct Customer {
 
 impl Model for Customer {
     ghost use Rattle.std.specs.Prelude.{ℕ, ◌≤◌};
+    ghost use Rattle.ee_units.specs.Limits.{highest_customer};
 
     ghost Value = { ℕ };
 
     ghost view = { λ c. c.number };
 
-    ghost invariant = { λ c. (1 ≤ c.number) × (c.number ≤ 999999999) };
+    ghost invariant = { λ c. (1 ≤ c.number) × (c.number ≤ highest_customer) };
 
     ghost inverse = { λ n. record { number = n } };
 }
@@ -31,7 +33,7 @@ impl Model for Customer {
 impl Customer {
     /// The customer with this number; `None` unless it is 1 to 999,999,999.
     pub const fn new(number: u64) -> Option<Customer>
-        ensures { result ≡ in_range 1 999999999 number }
+        ensures { result ≡ in_range 1 highest_customer number }
     {
         if 1 <= number && number <= 999_999_999 {
             Some(Customer {
@@ -46,7 +48,7 @@ impl Customer {
     pub const fn number(self) -> u32
         ensures value { result ≡ self }
         ensures low { 1 ≤ self }
-        ensures high { self ≤ 999999999 }
+        ensures high { self ≤ highest_customer }
     {
         self.number
     }

@@ -6,6 +6,7 @@ ghost use Rattle.jiff_core.specs.Calendar.{days_from_civil};
 ghost use Rattle.jiff_core.specs.Date.{epoch_day};
 ghost use Rattle.ee_units.specs.Calendar.{is_date, day_in_range, year_of, month_of_year, month_of_day, day_of_month};
 ghost use Rattle.ee_units.specs.Spelling.{in_range, day_at, day_of};
+ghost use Rattle.ee_units.specs.Limits.{earliest_day, latest_day, latest_month};
 
 use crate::faults::UnitFault;
 use crate::pieces::{digits, parts_at_hyphen};
@@ -22,12 +23,13 @@ pub struct Day {
 
 impl Model for Day {
     ghost use Rattle.std.specs.Prelude.{ℕ, ◌≤◌};
+    ghost use Rattle.ee_units.specs.Limits.{earliest_day, latest_day};
 
     ghost Value = { ℕ };
 
     ghost view = { λ d. d.count };
 
-    ghost invariant = { λ d. (12904 ≤ d.count) × (d.count ≤ 84005) };
+    ghost invariant = { λ d. (earliest_day ≤ d.count) × (d.count ≤ latest_day) };
 
     ghost inverse = { λ n. record { count = n } };
 }
@@ -35,7 +37,7 @@ impl Model for Day {
 impl Day {
     /// The day `count` days after 1970-01-01; `None` if it is out of range.
     pub const fn new(count: u64) -> Option<Day>
-        ensures { result ≡ in_range 12904 84005 count }
+        ensures { result ≡ in_range earliest_day latest_day count }
     {
         if 12_904 <= count && count <= 84_005 {
             Some(Day {
@@ -49,8 +51,8 @@ impl Day {
     /// The count of days from 1970-01-01.
     pub const fn count(self) -> u32
         ensures value { result ≡ self }
-        ensures low { 12904 ≤ self }
-        ensures high { self ≤ 84005 }
+        ensures low { earliest_day ≤ self }
+        ensures high { self ≤ latest_day }
     {
         self.count
     }
@@ -74,7 +76,7 @@ pub fn parts_of(day: Day) -> (u64, u64, u64)
     ensures year { result.0 ≡ year_of (month_of_day day) }
     ensures month { result.1 ≡ month_of_year (month_of_day day) }
     ensures day { result.2 ≡ day_of_month day }
-    ensures bound { month_of_day day ≤ 2335 }
+    ensures bound { month_of_day day ≤ latest_month }
     ensures small { result.2 < 100 }
 {
     let date = date_of(day);
@@ -83,8 +85,8 @@ pub fn parts_of(day: Day) -> (u64, u64, u64)
 
 fn date_of(day: Day) -> jiff_core::civil::Date
     ensures number { epoch_day result ≡ pos day }
-    ensures low { 12904 ≤ day }
-    ensures high { day ≤ 84005 }
+    ensures low { earliest_day ≤ day }
+    ensures high { day ≤ latest_day }
 {
     jiff_core::civil::Date::from_unix_epoch_day(day.count as i64).unwrap()
 }

@@ -7,6 +7,7 @@ ghost use Rattle.ee_units.specs.Denoms.{dollars, units_of, price_of, denom_of};
 ghost use Rattle.ee_units.specs.Grammar.{IsRateText, IsMonthText, IsDayText, IsSerialText};
 ghost use Rattle.ee_units.specs.Spelling.{rate_of, month_of, issue_of, day_of, customer_of, serial_of, SerialNumber};
 ghost use Rattle.ee_units.specs.Texts.{rate_text, month_text, day_text, serial_text};
+ghost use Rattle.ee_units.specs.Limits.{earliest_day, highest_customer, highest_rate, highest_serial, latest_day, latest_issue_month, latest_month};
 
 use crate::denoms::Denom;
 
@@ -36,12 +37,12 @@ pub const fn serial_law()
 
 /// Each printed text reads back as the value that was printed.
 pub const fn texts_law()
-    ensures rate { (r : ℕ) → r ≤ 2000 → rate_of (rate_text r) ≡ Some r }
-    ensures month { (m : ℕ) → m ≤ 2335 → month_of (month_text m) ≡ Some m }
-    ensures issue { (m : ℕ) → m ≤ 1135 → issue_of (month_text m) ≡ Some m }
-    ensures day { (n : ℕ) → 12904 ≤ n → n ≤ 84005 → day_of (day_text n) ≡ Some n }
-    ensures customer { (n : ℕ) → 1 ≤ n → n ≤ 999999999 → customer_of (decimal n) ≡ Some n }
-    ensures serial { (s : SerialNumber) → 1 ≤ s.letter → s.letter ≤ 26 → 1 ≤ s.number → s.number ≤ 9999999999
+    ensures rate { (r : ℕ) → r ≤ highest_rate → rate_of (rate_text r) ≡ Some r }
+    ensures month { (m : ℕ) → m ≤ latest_month → month_of (month_text m) ≡ Some m }
+    ensures issue { (m : ℕ) → m ≤ latest_issue_month → issue_of (month_text m) ≡ Some m }
+    ensures day { (n : ℕ) → earliest_day ≤ n → n ≤ latest_day → day_of (day_text n) ≡ Some n }
+    ensures customer { (n : ℕ) → 1 ≤ n → n ≤ highest_customer → customer_of (decimal n) ≡ Some n }
+    ensures serial { (s : SerialNumber) → 1 ≤ s.letter → s.letter ≤ 26 → 1 ≤ s.number → s.number ≤ highest_serial
         → serial_of (serial_text s) ≡ Some s }
     ensures denom { (d : Denom) → denom_of (decimal (dollars d)) ≡ Some d }
 {}

@@ -3,6 +3,7 @@
 ghost use Rattle.std.specs.Prelude.{◌≡◌, ◌≤◌};
 ghost use Rattle.std.specs.Option.{ok_or};
 ghost use Rattle.ee_units.specs.Spelling.{in_range, month_at, month_of, issue_of};
+ghost use Rattle.ee_units.specs.Limits.{latest_issue_month, latest_month};
 
 use crate::faults::UnitFault;
 use crate::pieces::{digits, parts_at_hyphen, parts_at_slash};
@@ -18,12 +19,13 @@ pub struct Month {
 
 impl Model for Month {
     ghost use Rattle.std.specs.Prelude.{ℕ, ◌≤◌};
+    ghost use Rattle.ee_units.specs.Limits.{latest_month};
 
     ghost Value = { ℕ };
 
     ghost view = { λ m. m.count };
 
-    ghost invariant = { λ m. m.count ≤ 2335 };
+    ghost invariant = { λ m. m.count ≤ latest_month };
 
     ghost inverse = { λ n. record { count = n } };
 }
@@ -31,7 +33,7 @@ impl Model for Month {
 impl Month {
     /// The month `count` months after 2005-05; `None` after 2199-12.
     pub const fn new(count: u64) -> Option<Month>
-        ensures { result ≡ in_range 0 2335 count }
+        ensures { result ≡ in_range 0 latest_month count }
     {
         if count <= 2335 {
             Some(Month {
@@ -44,7 +46,7 @@ impl Month {
 
     /// The month `count` months after 2005-05.
     pub const fn from_count(count: u16) -> Month
-        requires { count ≤ 2335 }
+        requires { count ≤ latest_month }
         ensures { result ≡ count }
     {
         Month { count }
@@ -53,7 +55,7 @@ impl Month {
     /// The count of months from 2005-05.
     pub const fn count(self) -> u16
         ensures value { result ≡ self }
-        ensures range { self ≤ 2335 }
+        ensures range { self ≤ latest_month }
     {
         self.count
     }
@@ -128,12 +130,13 @@ pub struct IssueMonth {
 
 impl Model for IssueMonth {
     ghost use Rattle.std.specs.Prelude.{ℕ, ◌≤◌};
+    ghost use Rattle.ee_units.specs.Limits.{latest_issue_month};
 
     ghost Value = { ℕ };
 
     ghost view = { λ m. m.count };
 
-    ghost invariant = { λ m. m.count ≤ 1135 };
+    ghost invariant = { λ m. m.count ≤ latest_issue_month };
 
     ghost inverse = { λ n. record { count = n } };
 }
@@ -141,7 +144,7 @@ impl Model for IssueMonth {
 impl IssueMonth {
     /// The issue month `count` months after 2005-05; `None` after 2099-12.
     pub const fn new(count: u64) -> Option<IssueMonth>
-        ensures { result ≡ in_range 0 1135 count }
+        ensures { result ≡ in_range 0 latest_issue_month count }
     {
         if count <= 1135 {
             Some(IssueMonth {
@@ -154,7 +157,7 @@ impl IssueMonth {
 
     /// The issue month `count` months after 2005-05.
     pub const fn from_count(count: u16) -> IssueMonth
-        requires { count ≤ 1135 }
+        requires { count ≤ latest_issue_month }
         ensures { result ≡ count }
     {
         IssueMonth { count }
@@ -163,7 +166,7 @@ impl IssueMonth {
     /// The count of months from 2005-05.
     pub const fn count(self) -> u16
         ensures value { result ≡ self }
-        ensures range { self ≤ 1135 }
+        ensures range { self ≤ latest_issue_month }
     {
         self.count
     }

@@ -4,6 +4,7 @@ ghost use Rattle.std.specs.Prelude.{◌≡◌, ◌<◌, ◌≤◌, IfSome};
 ghost use Rattle.std.specs.Option.{ok_or};
 ghost use Rattle.std.specs.Io.BufRead.{strip_last};
 ghost use Rattle.ee_units.specs.Spelling.{in_range, hundredths_of, decimal_of, rate_of};
+ghost use Rattle.ee_units.specs.Limits.{highest_rate};
 
 use crate::faults::UnitFault;
 use crate::pieces::{number, parts_at_point};
@@ -19,12 +20,13 @@ pub struct Rate {
 
 impl Model for Rate {
     ghost use Rattle.std.specs.Prelude.{ℕ, ◌≤◌};
+    ghost use Rattle.ee_units.specs.Limits.{highest_rate};
 
     ghost Value = { ℕ };
 
     ghost view = { λ r. r.hundredths };
 
-    ghost invariant = { λ r. r.hundredths ≤ 2000 };
+    ghost invariant = { λ r. r.hundredths ≤ highest_rate };
 
     ghost inverse = { λ n. record { hundredths = n } };
 }
@@ -32,7 +34,7 @@ impl Model for Rate {
 impl Rate {
     /// A rate of `hundredths` hundredths of a percent; `None` above 2000 (20.00 %).
     pub const fn new(hundredths: u64) -> Option<Rate>
-        ensures { result ≡ in_range 0 2000 hundredths }
+        ensures { result ≡ in_range 0 highest_rate hundredths }
     {
         if hundredths <= 2000 {
             Some(Rate {
@@ -45,7 +47,7 @@ impl Rate {
 
     /// A rate of `hundredths` hundredths of a percent.
     pub const fn from_hundredths(hundredths: u16) -> Rate
-        requires { hundredths ≤ 2000 }
+        requires { hundredths ≤ highest_rate }
         ensures { result ≡ hundredths }
     {
         Rate { hundredths }
@@ -54,7 +56,7 @@ impl Rate {
     /// The rate in hundredths of a percent.
     pub const fn hundredths(self) -> u16
         ensures value { result ≡ self }
-        ensures range { self ≤ 2000 }
+        ensures range { self ≤ highest_rate }
     {
         self.hundredths
     }

@@ -8,6 +8,7 @@ ghost use Rattle.std.specs.Ordering.{nat_cmp, ordering_then, partial_ordering_th
 ghost use Rattle.std.specs.Option.{ok_or};
 ghost use Rattle.std.specs.Io.BufRead.{strip_last};
 ghost use Rattle.ee_units.specs.Spelling.{strip_first, before_end, serial_at, serial_from, serial_of};
+ghost use Rattle.ee_units.specs.Limits.{highest_serial};
 
 use crate::faults::UnitFault;
 use crate::pieces::number;
@@ -32,13 +33,14 @@ pub struct Serial {
 impl Model for Serial {
     ghost use Rattle.std.specs.Prelude.{◌+◌, ◌*◌, ◌/◌, ◌%◌, ◌^◌, ◌≤◌};
     ghost use Rattle.ee_units.specs.Spelling.{SerialNumber};
+    ghost use Rattle.ee_units.specs.Limits.{highest_serial};
 
     ghost Value = { SerialNumber };
 
     ghost view = { λ s. record { letter = s.packed / 2 ^ 34; number = s.packed % 2 ^ 34 } };
 
     ghost invariant = { λ s. (1 ≤ s.packed / 2 ^ 34) × (s.packed / 2 ^ 34 ≤ 26)
-        × (1 ≤ s.packed % 2 ^ 34) × (s.packed % 2 ^ 34 ≤ 9999999999) };
+        × (1 ≤ s.packed % 2 ^ 34) × (s.packed % 2 ^ 34 ≤ highest_serial) };
 
     ghost inverse = { λ v. record { packed = v.letter * 2 ^ 34 + v.number } };
 }
@@ -69,7 +71,7 @@ impl Serial {
     pub const fn number(self) -> u64
         ensures value { result ≡ self.number }
         ensures low { 1 ≤ self.number }
-        ensures high { self.number ≤ 9999999999 }
+        ensures high { self.number ≤ highest_serial }
     {
         self.packed % ONE_LETTER
     }
@@ -79,7 +81,7 @@ impl Serial {
         requires first_letter { 1 ≤ letter }
         requires last_letter { letter ≤ 26 }
         requires first_number { 1 ≤ number }
-        requires last_number { number ≤ 9999999999 }
+        requires last_number { number ≤ highest_serial }
         ensures letter { result.letter ≡ letter }
         ensures number { result.number ≡ number }
     {
