@@ -9,6 +9,7 @@ use Rattle.ee_calculator.specs.Notes.{note_at}
 use Rattle.ee_calculator.specs.declared.notes.Note.{Note}
 use Rattle.ee_calculator.specs.declared.notes.Note.TheVariants as note
 use Rattle.ee_calculator.specs.declared.rows.Row.{Row}
+use Rattle.ee_units.specs.Limits.{unit_price}
 
 -- the columns that depend on the note: months as counts, money in cents
 pub record Columns : Type 0 where
@@ -49,7 +50,7 @@ shown note.Ma price value rate next last = columns_with note.Ma price (value - p
 -- month, and 30 years of interest
 unfoldable pub columns_of : ℕ → ℕ → Rates → ℕ → Columns
 columns_of units issued rates month =
-    shown (note_at (age_of issued month)) (1250 * units) (value_in units issued rates month)
+    shown (note_at (age_of issued month)) (unit_price * units) (value_in units issued rates month)
     (rate_in rates ((month - issued) / 6)) (month + 1) (issued + 360)
 
 -- the same columns of a row

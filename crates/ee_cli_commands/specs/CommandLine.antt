@@ -13,6 +13,7 @@ use Rattle.ee_units.specs.declared.denoms.Denom.{Denom}
 use Rattle.ee_desk_model.specs.Desks.{desk_of}
 use Rattle.ee_cli_commands.specs.declared.commands.FileKind.{FileKind}
 use Rattle.ee_cli_commands.specs.declared.commands.FileKind.TheVariants as kind
+use Rattle.ee_desk_model.specs.Numbers.{highest_number}
 
 -- a required positional word
 abbrev pub positional : Text → Rule
@@ -42,9 +43,6 @@ optional_number id most = record (number_option id most) { required = false }
 abbrev pub kind_words : List Text
 kind_words = codes "rates" ∷ codes "inventory" ∷ []
 
-abbrev pub most_number : ℕ
-most_number = 9223372036854775807
-
 abbrev pub most_port : ℕ
 most_port = 65535
 
@@ -68,7 +66,7 @@ apply_row = with_rule (new_app (codes "apply")) (option (codes "db"))
 abbrev pub import_row : Bor (List (Bor Text)) → App
 import_row kinds = with_rule (with_rule (with_rule (with_rule (with_rule (new_app (codes "import"))
     (record (positional (codes "kind")) { parser = Some (parser.Names kinds) }))
-    (positional (codes "file"))) (option (codes "db"))) (number_option (codes "number") most_number)) (optional_option (codes "desk"))
+    (positional (codes "file"))) (option (codes "db"))) (number_option (codes "number") highest_number)) (optional_option (codes "desk"))
 
 -- export CUSTOMER --db DB
 abbrev pub export_row : App
@@ -158,7 +156,7 @@ import_asked rows = do
   kind ← spelled (codes "kind") kind_of_file rows
   file ← spelled (codes "file") text_of rows
   db ← spelled (codes "db") text_of rows
-  number ← numbered (codes "number") most_number rows
+  number ← numbered (codes "number") highest_number rows
   desk ← spelled_or 0 (codes "desk") desk_of rows
   Ok (imports kind file db desk number)
 

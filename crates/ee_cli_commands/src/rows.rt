@@ -6,6 +6,7 @@ ghost use Rattle.clap.specs.Words.{App, Rule, Text, app_of, new_app, rule_of, wi
 ghost use Rattle.clap.specs.declared.builder.command.Command.TheViews.{out-Command as fields_of};
 ghost use Rattle.clap.specs.declared.builder.ValueParser.TheVariants.{Names};
 ghost use Rattle.ee_cli_commands.specs.CommandLine as is;
+ghost use Rattle.ee_desk_model.specs.Numbers.{highest_number};
 
 use clap::{Arg, Command, value_parser};
 use std::alloc::{AllocError, Global};
@@ -253,7 +254,7 @@ fn kind<'a>(alloc: Global) -> Arg<'a>
 }
 
 fn request_number<'a>(alloc: Global) -> Arg<'a>
-    ensures rule { rule_of result ≡ is.number_option (codes "number") is.most_number }
+    ensures rule { rule_of result ≡ is.number_option (codes "number") highest_number }
     ensures local { result.global ≡ false }
 {
     option(

@@ -7,7 +7,6 @@ ghost use Rattle.ee_units.specs.Spelling.{customer_of, in_range, issue_of, month
 ghost use Rattle.ee_desk_model.specs.Desks.{desk_of};
 ghost use Rattle.ee_cli_commands.specs.CommandLine.{
   kind_of_file,
-  most_number,
   most_port,
   number_word,
   numbered,
@@ -18,6 +17,7 @@ ghost use Rattle.ee_cli_commands.specs.CommandLine.{
   text_of,
 };
 ghost use Rattle.ee_cli_commands.specs.Answer.{Spells};
+ghost use Rattle.ee_desk_model.specs.Numbers.{highest_number};
 
 use crate::commands::FileKind;
 use clap::ArgMatches;
@@ -154,7 +154,7 @@ pub fn number_or(
 
 /// A request number.
 pub fn request_number(matches: &ArgMatches, name: WordName) -> Result<Number, WordName>
-    ensures { Spells (λ v. v) result (numbered name.now most_number (rows_of (found_of matches.now))) }
+    ensures { Spells (λ v. v) result (numbered name.now highest_number (rows_of (found_of matches.now))) }
 {
     match Number::new(number(matches, name, MOST_NUMBER)?) {
         Some(number) => Ok(number),

@@ -31,9 +31,13 @@ pub record Told : Type 0 where
   pub message : Message
   pub answer : Answer
 
+-- a connection ends after this many messages
+abbrev pub most_messages : ℕ
+most_messages = 1000
+
 -- the connection ends with the answer to this message, after n others: the message asks for that, or is the 1,000th
 abbrev pub is_last : ℕ → Message → Bool
-is_last n m = m.closes || (n + 1 == 1000)
+is_last n m = m.closes || (n + 1 == most_messages)
 
 abbrev pub text_of : ℕ → Told → List ℕ
 text_of n t = answer_text t.answer (is_last n t.message)
@@ -110,7 +114,7 @@ abbrev pub EndsBy : Why → Option Told → List ℕ → Option (List ℕ) → O
 EndsBy Closed None bytes remaining old new c n count Has = EndsWith bytes end × IsAtEnd remaining × Appends old new [] × (count ≡ n) × Has c
 EndsBy Asked (Some t) bytes remaining old new c n count Has =
     Tells t bytes c Has × (t.message.closes ≡ true) × Appends old new (text_of n t) × (count ≡ n + 1)
-EndsBy Limit None bytes remaining old new c n count Has = (n ≡ 1000) × Appends old new [] × (count ≡ n) × Has c
+EndsBy Limit None bytes remaining old new c n count Has = (n ≡ most_messages) × Appends old new [] × (count ≡ n) × Has c
 EndsBy (Fault f) None bytes remaining old new c n count Has =
     ShowsFault bytes remaining f × Appends old new (fault_text f) × (count ≡ n + 1) × Has c
 -- the bytes that were read contain no whole message and no fault
@@ -205,7 +209,7 @@ WereNeeded Few bytes =
 
 -- after the 1,000th message none is read and none answered
 abbrev pub AreFew : Why → ℕ → Type 0
-AreFew why n = (n < 1000) ⊎ ((why ≡ Limit) × (n ≡ 1000))
+AreFew why n = (n < most_messages) ⊎ ((why ≡ Limit) × (n ≡ most_messages))
 
 -- the connection gave bytes that begin with these messages, which were answered, and then it ended: what the reader has
 -- left before and after, what was written before and after, the content before, how it ended, and the relation of contents
@@ -215,7 +219,7 @@ pub record Serves (before : Option (List ℕ)) (remaining : Option (List ℕ)) (
   pub read : Consumes before remaining bytes
   pub told : List Told
   -- nothing was read after the read that settled the end: before it, only these messages were whole, fewer than 1,000
-  pub needed : WereNeeded (λ n. (n ≤ length told) × (n < 1000)) bytes
+  pub needed : WereNeeded (λ n. (n ≤ length told) × (n < most_messages)) bytes
   pub few : AreFew e.why (length told)
   pub rest : List ℕ
   pub wrote : Option (List ℕ)

@@ -5,7 +5,7 @@ ghost use Rattle.std.specs.ControlFlow.{MatchControlFlow};
 ghost use Rattle.ee_desk_model.specs.Repeats.{Content};
 ghost use Rattle.ee_wire_framing.specs.Reading.{message_in};
 ghost use Rattle.ee_counter.specs.Answering.{Answers, call_of};
-ghost use Rattle.ee_counter.specs.Serving.{Serves, Turns, AnswersOne, DeviceFailsOnlyIf, FlowDeviceFailsOnlyIf, FlowFailsOnlyIf, Refuses, tells_failure};
+ghost use Rattle.ee_counter.specs.Serving.{Serves, Turns, AnswersOne, DeviceFailsOnlyIf, FlowDeviceFailsOnlyIf, FlowFailsOnlyIf, Refuses, tells_failure, most_messages};
 
 use crate::answering::answer_decoded;
 use crate::decoding::Decoder;
@@ -54,8 +54,8 @@ pub struct Ended {
 
 /// Whether the connection ends with this message.
 fn is_last(closes: bool, messages: usize) -> bool
-    requires { messages < 1000 }
-    ensures { result ≡ (closes || (messages + 1 == 1000)) }
+    requires { messages < most_messages }
+    ensures { result ≡ (closes || (messages + 1 == most_messages)) }
 {
     closes || messages + 1 == MOST_MESSAGES
 }
@@ -99,12 +99,12 @@ fn answer_one<K: Keeper, W: Sink>(
     messages: usize,
     store_failed: bool,
 ) -> ControlFlow<Ended, bool>
-    requires few { messages < 1000 }
+    requires few { messages < most_messages }
     requires failed { store_failed ≡ true → K.may_fail }
     ensures clean { K.is_clean keeper.new → K.is_clean keeper.old }
     ensures answers { K.is_clean keeper.new → (c : Content) → K.has keeper.old c
         → AnswersOne (message_in buffer.now.shown message) (W.contents writer.old) (W.contents writer.new) c messages store_failed result (K.has keeper.new) }
-    ensures few { MatchControlFlow result (λ failed. ⊤) (λ ended. ended.messages ≤ 1000) }
+    ensures few { MatchControlFlow result (λ failed. ⊤) (λ ended. ended.messages ≤ most_messages) }
     ensures device { FlowDeviceFailsOnlyIf ⊥ (W.may_have_failed writer.new) result }
     ensures failed { FlowFailsOnlyIf K.may_fail result }
 {
@@ -139,9 +139,9 @@ fn refuse<W: Sink>(
     messages: usize,
     store_failed: bool,
 ) -> Ended
-    requires { messages < 1000 }
+    requires { messages < most_messages }
     ensures refuses { Refuses fault (W.contents writer.old) (W.contents writer.new) messages result }
-    ensures few { result.messages ≤ 1000 }
+    ensures few { result.messages ≤ most_messages }
     ensures device { DeviceFailsOnlyIf ⊥ (W.may_have_failed writer.new) result.why }
     ensures failed { result.store_failed ≡ store_failed }
 {
@@ -176,7 +176,7 @@ fn turn<K: Keeper, R: Source, W: Sink>(
     messages: usize,
     store_failed: bool,
 ) -> ControlFlow<Ended, bool>
-    requires few { messages < 1000 }
+    requires few { messages < most_messages }
     requires open { buffer.old.ended ≡ None }
     requires failed { store_failed ≡ true → K.may_fail }
     ensures clean { K.is_clean keeper.new → K.is_clean keeper.old }
@@ -184,7 +184,7 @@ fn turn<K: Keeper, R: Source, W: Sink>(
         → Turns buffer.old.held buffer.new.held (R.remaining reader.old) (R.remaining reader.new)
         (W.contents writer.old) (W.contents writer.new) c messages store_failed result (K.has keeper.new) }
     ensures open { MatchControlFlow result (λ failed. buffer.new.ended ≡ None) (λ ended. ⊤) }
-    ensures few { MatchControlFlow result (λ failed. ⊤) (λ ended. ended.messages ≤ 1000) }
+    ensures few { MatchControlFlow result (λ failed. ⊤) (λ ended. ended.messages ≤ most_messages) }
     ensures device { FlowDeviceFailsOnlyIf (R.may_have_failed reader.new) (W.may_have_failed writer.new) result }
     ensures failed { FlowFailsOnlyIf K.may_fail result }
 {
@@ -238,7 +238,7 @@ pub fn serve<K: Keeper, R: Source, W: Sink>(
     ensures clean { K.is_clean keeper.new → K.is_clean keeper.old }
     ensures serves { K.is_clean keeper.new → (c : Content) → K.has keeper.old c
         → Serves (R.remaining reader.old) (R.remaining reader.new) (W.contents writer.old) (W.contents writer.new) c result (K.has keeper.new) }
-    ensures few { result.messages ≤ 1000 }
+    ensures few { result.messages ≤ most_messages }
     ensures device { DeviceFailsOnlyIf (R.may_have_failed reader.new) (W.may_have_failed writer.new) result.why }
     ensures failed { result.store_failed ≡ true → K.may_fail }
 {

@@ -8,6 +8,7 @@ ghost use Rattle.ee_io.specs.ReadWhole.{TakesAtMost};
 ghost use Rattle.ee_files.specs.BondFile.{bonds_of_file};
 ghost use Rattle.ee_files.specs.RateFile.{rates_of_file};
 ghost use Rattle.ee_counter.specs.Filing.{Imports, Exports, IsFailedRead};
+ghost use Rattle.ee_files.specs.Rows.{most_bytes};
 
 use ee_desk_model::{Act, Desk, Number, Reply, Request, Rows, Unserved};
 use ee_files::{FileFault, WriteFault, read_inventory, read_rates, write_inventory};
@@ -52,7 +53,7 @@ pub fn import_rates<K: Keeper, R: Source>(
     ensures clean { K.is_clean keeper.new → K.is_clean keeper.old }
     ensures imports { K.is_clean keeper.new → (c : Content) → K.has keeper.old c
         → Imports rates_of_file act.AddRates (R.remaining reader.old) (desk, number) c result (K.has keeper.new) }
-    ensures takes { (source : List ℕ) → R.remaining reader.old ≡ Some source → TakesAtMost 1048577 source (R.remaining reader.new) }
+    ensures takes { (source : List ℕ) → R.remaining reader.old ≡ Some source → TakesAtMost (most_bytes + 1) source (R.remaining reader.new) }
     ensures device { IfErr result (λ fault. IsFailedRead fault → R.may_have_failed reader.new) }
     ensures failed { IfErr result (λ fault. fault ≡ ImportFault.Unserved StoreFailed → K.may_fail) }
 {
@@ -84,7 +85,7 @@ pub fn import_inventory<K: Keeper, R: Source>(
     ensures clean { K.is_clean keeper.new → K.is_clean keeper.old }
     ensures imports { K.is_clean keeper.new → (c : Content) → K.has keeper.old c
         → Imports bonds_of_file act.AddBonds (R.remaining reader.old) (desk, number) c result (K.has keeper.new) }
-    ensures takes { (source : List ℕ) → R.remaining reader.old ≡ Some source → TakesAtMost 1048577 source (R.remaining reader.new) }
+    ensures takes { (source : List ℕ) → R.remaining reader.old ≡ Some source → TakesAtMost (most_bytes + 1) source (R.remaining reader.new) }
     ensures device { IfErr result (λ fault. IsFailedRead fault → R.may_have_failed reader.new) }
     ensures failed { IfErr result (λ fault. fault ≡ ImportFault.Unserved StoreFailed → K.may_fail) }
 {

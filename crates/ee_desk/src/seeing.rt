@@ -9,6 +9,7 @@ ghost use Rattle.ee_desk_model.specs.Seen.{held_of};
 ghost use Rattle.ee_desk_model.specs.Views as is;
 ghost use Rattle.ee_desk_model.specs.Views.{picked, period_of_held};
 ghost use Rattle.ee_desk.specs.Kept.{rates_in, held_in, noted, noted_at, AreCounts};
+ghost use Rattle.ee_desk_model.specs.Sound.{highest_ticket};
 
 use crate::ledger::Ledger;
 use ee_calculator::Bond;
@@ -220,7 +221,7 @@ fn view_with(
     act: &Act,
     counts: DayCounts,
 ) -> Result<View, AllocError>
-    requires { length ledger.now.tickets ≤ 71200000 }
+    requires { length ledger.now.tickets ≤ highest_ticket }
     ensures { IfOk result (λ v. v
         ≡ record (is.view_of ledger.now act.now) { day_tickets = counts.tickets; day_bonds = counts.bonds; day_total = counts.total.0 }) }
 {
@@ -241,7 +242,7 @@ fn view_with(
 
 /// What an act names in a ledger.
 pub fn view_of(alloc: Global, ledger: &Ledger, act: &Act) -> Result<View, AllocError>
-    requires { length ledger.now.tickets ≤ 71200000 }
+    requires { length ledger.now.tickets ≤ highest_ticket }
     ensures { IfOk result (λ v. v ≡ is.view_of ledger.now act.now) }
 {
     let counts = counted(ledger, act);
@@ -250,7 +251,7 @@ pub fn view_of(alloc: Global, ledger: &Ledger, act: &Act) -> Result<View, AllocE
 
 /// What an act depends on, if the length of its list doesn't refuse it.
 fn needed_within(alloc: Global, ledger: &Ledger, act: &Act) -> Result<View, AllocError>
-    requires { length ledger.now.tickets ≤ 71200000 }
+    requires { length ledger.now.tickets ≤ highest_ticket }
     ensures { IfOk result (λ v. v ≡ is.needed_within ledger.now act.now) }
 {
     let counts = needed_counts(ledger, act);
@@ -259,7 +260,7 @@ fn needed_within(alloc: Global, ledger: &Ledger, act: &Act) -> Result<View, Allo
 
 /// What an act depends on: nothing of the ledger if the length of its list refuses it.
 pub fn needed_of(alloc: Global, ledger: &Ledger, act: &Act) -> Result<View, AllocError>
-    requires { length ledger.now.tickets ≤ 71200000 }
+    requires { length ledger.now.tickets ≤ highest_ticket }
     ensures { IfOk result (λ v. v ≡ is.needed_of ledger.now act.now) }
 {
     match length_refusal(act) {

@@ -6,6 +6,7 @@ ghost use Rattle.ee_desk_model.specs.Seen as seen;
 ghost use Rattle.ee_desk_model.specs.Refusals.{first_of, near, refusal_of, refusal_of_serial};
 ghost use Rattle.ee_desk_model.specs.Effects as is;
 ghost use Rattle.ee_desk_model.specs.declared.changes.Change.TheVariants as change;
+ghost use Rattle.ee_value.specs.Payment.{highest_value};
 
 use crate::checks::{known_rate, refusal};
 use crate::values::{settled_terms, worth};
@@ -22,7 +23,7 @@ use std::alloc::{AllocError, Global};
 fn worth_by(view: &View, bond: &Bond, month: Month) -> Cents
     requires { bond.now.issued + 12 ≤ month }
     ensures value { result.0 ≡ seen.value_in (shown_by view.now) month bond.now }
-    ensures small { result.0 ≤ 304493600 }
+    ensures small { result.0 ≤ highest_value }
 {
     match view.terms(period_of(bond.issued)) {
         Some(terms) => worth(terms, bond, month),
@@ -34,7 +35,7 @@ fn worth_by(view: &View, bond: &Bond, month: Month) -> Cents
 fn line_for(view: &View, month: Month, payee: Customer, serial: Serial) -> Line
     requires { refusal_of_serial (shown_by view.now) month payee serial ≡ None }
     ensures line { result ≡ seen.line_for (shown_by view.now) month serial }
-    ensures small { result.cents.0 ≤ 304493600 }
+    ensures small { result.cents.0 ≤ highest_value }
 {
     let cents = match view.held(serial) {
         Some(held) => worth_by(view, &held.bond, month),

@@ -2,6 +2,7 @@
 
 ghost use Rattle.std.specs.Prelude.{◌≡◌, ◌+◌, ◌≤◌, IfOk, IfSome, IsSome, true, None};
 ghost use Rattle.ee_desk_model.specs.Values.{value_of, unsettled};
+ghost use Rattle.ee_value.specs.Payment.{highest_value};
 
 use crate::views::View;
 use ee_calculator::Bond;
@@ -67,7 +68,7 @@ pub fn settled_terms(
 pub fn worth(terms: &Terms, bond: &Bond, month: Month) -> Cents
     requires { bond.now.issued + 12 ≤ month }
     ensures value { result.0 ≡ value_of terms.now bond.now month }
-    ensures small { result.0 ≤ 304493600 }
+    ensures small { result.0 ≤ highest_value }
 {
     let age = Age::from_months(month.count() - bond.issued.count());
     match bond_value(terms.table(), bond.denom, age) {

@@ -5,7 +5,7 @@ ghost use Rattle.std.specs.Option.{option_copied};
 ghost use Rattle.std.specs.FinMap as finite;
 ghost use Rattle.ee_desk_model.specs.declared.acts.Act.{Act};
 ghost use Rattle.ee_desk_model.specs.PlainBooks.{PlainBooks};
-ghost use Rattle.ee_desk_model.specs.Sound.{IsSound};
+ghost use Rattle.ee_desk_model.specs.Sound.{IsSound, highest_ticket};
 ghost use Rattle.ee_desk_model.specs.Values.{unsettled};
 ghost use Rattle.ee_desk_model.specs.Views.{view_of, needed_of, no_view};
 ghost use Rattle.ee_desk_decide.specs.Parts.{plain_parts};
@@ -80,6 +80,7 @@ impl Model for View {
     ghost use Rattle.std.specs.FinMap as finite;
     ghost use Rattle.ee_desk_model.specs.Views.{PlainView};
     ghost use Rattle.ee_desk_decide.specs.Parts.{plain_parts};
+    ghost use Rattle.ee_desk_model.specs.Sound.{highest_ticket};
 
     ghost Value = { PlainView };
 
@@ -87,13 +88,13 @@ impl Model for View {
 
     ghost view = { λ v. plain_parts v.parts };
 
-    ghost invariant = { λ v. v.parts.tickets ≤ 71200000 };
+    ghost invariant = { λ v. v.parts.tickets ≤ highest_ticket };
 }
 
 impl View {
     /// The view with these parts.
     pub fn new(parts: ViewParts) -> View
-        requires { parts.tickets ≤ 71200000 }
+        requires { parts.tickets ≤ highest_ticket }
         ensures { result ≡ plain_parts parts }
     {
         View { parts }
@@ -173,7 +174,7 @@ impl View {
     /// The number of tickets across all days.
     pub fn tickets(&self) -> u64
         ensures value { result ≡ self.now.tickets }
-        ensures few { self.now.tickets ≤ 71200000 }
+        ensures few { self.now.tickets ≤ highest_ticket }
     {
         self.parts.tickets
     }

@@ -19,14 +19,15 @@ use Rattle.ee_desk_model.specs.Refusals.{most_tickets}
 use Rattle.ee_desk_model.specs.Lists.{Rising, NeverFalling}
 use Rattle.ee_calculator.specs.Bonds.{has_coowner, is_payee}
 use Rattle.ee_desk_model.specs.PlainBooks.{PlainBooks, cents_of, batch_of}
+use Rattle.ee_units.specs.Limits.{earliest_day, latest_day, latest_issue_month}
 
 -- a day from 2005-05-01 to 2199-12-31, as a count from 1970-01-01
 abbrev pub IsDay : ℕ → Type 0
-IsDay day = (12904 ≤ day) × (day ≤ 84005)
+IsDay day = (earliest_day ≤ day) × (day ≤ latest_day)
 
 -- an issue month up to 2099-12, as a count from 2005-05
 abbrev pub IsIssueMonth : ℕ → Type 0
-IsIssueMonth month = month ≤ 1135
+IsIssueMonth month = month ≤ latest_issue_month
 
 -- rates are those of an announcement month, and leave no value unsettled
 pub record IsRightRate (month : ℕ) (rates : Rates) : Type 0 where
@@ -96,3 +97,7 @@ pub record IsSound (books : PlainBooks) : Type 0 where
   pub in_range : AllByRecursion IsDay (days books)
   pub last : books.last_day ≡ last_of books.batches
   pub batches : AllByRecursion (λ batch. batch ≡ batch_of batch.day books.tickets) books.batches
+
+-- sound books have no more tickets: at most 1,000 on each of the days from 2005 to 2199
+abbrev pub highest_ticket : ℕ
+highest_ticket = 71200000

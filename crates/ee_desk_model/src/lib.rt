@@ -5,10 +5,10 @@
 mod acts;
 mod changes;
 mod desks;
+mod invariants;
 mod laws;
 mod limits;
 mod numbers;
-mod invariants;
 mod refusals;
 mod replies;
 mod rows;
@@ -19,12 +19,12 @@ pub use acts::{Act, Request};
 pub use changes::{Change, Effects, Held, Kept};
 pub use desks::{Desk, read_desk};
 pub use ee_value::RateRow;
+pub use invariants::in_range;
 pub use laws::{
     acts_keep_sound_law, one_view_law, same_acts_law, shows_own_bonds_alone_law, view_decides_law,
 };
 pub use limits::{MOST_DAY_TICKETS, MOST_ROWS, MOST_SERIALS};
 pub use numbers::{Number, RequestNumber};
-pub use invariants::in_range;
 pub use refusals::{Refusal, Unserved};
 pub use replies::{Batch, Line, Reply, Ticket};
 pub use rows::Rows;

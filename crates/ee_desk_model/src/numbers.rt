@@ -2,6 +2,7 @@
 
 ghost use Rattle.std.specs.Prelude.{◌≡◌, ◌≤◌};
 ghost use Rattle.ee_units.specs.Spelling.{in_range};
+ghost use Rattle.ee_desk_model.specs.Numbers.{highest_number};
 
 use crate::desks::Desk;
 use std::marker::Model;
@@ -14,12 +15,13 @@ pub struct Number {
 
 impl Model for Number {
     ghost use Rattle.std.specs.Prelude.{ℕ, ◌≤◌};
+    ghost use Rattle.ee_desk_model.specs.Numbers.{highest_number};
 
     ghost Value = { ℕ };
 
     ghost view = { λ n. n.value };
 
-    ghost invariant = { λ n. (1 ≤ n.value) × (n.value ≤ 9223372036854775807) };
+    ghost invariant = { λ n. (1 ≤ n.value) × (n.value ≤ highest_number) };
 
     ghost inverse = { λ n. record { value = n } };
 }
@@ -27,7 +29,7 @@ impl Model for Number {
 impl Number {
     /// The number; `None` if it is out of range.
     pub const fn new(value: u64) -> Option<Number>
-        ensures { result ≡ in_range 1 9223372036854775807 value }
+        ensures { result ≡ in_range 1 highest_number value }
     {
         if 1 <= value && value <= 9_223_372_036_854_775_807 {
             Some(Number { value })
@@ -40,7 +42,7 @@ impl Number {
     pub const fn value(self) -> u64
         ensures value { result ≡ self }
         ensures low { 1 ≤ self }
-        ensures high { self ≤ 9223372036854775807 }
+        ensures high { self ≤ highest_number }
     {
         self.value
     }

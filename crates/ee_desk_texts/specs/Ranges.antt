@@ -16,16 +16,17 @@ use Rattle.ee_desk_model.specs.declared.replies.Reply.TheVariants as reply
 use Rattle.ee_desk_texts.specs.Data.{names}
 use Rattle.ee_desk_texts.specs.declared.refusals.Named.{Named}
 use Rattle.ee_desk_texts.specs.declared.refusals.Named.TheVariants as named
+use Rattle.ee_units.specs.Limits.{highest_customer, highest_serial, latest_month}
 
 -- a count, or an amount of cents
 abbrev pub IsCount : ℕ → Type 0
 IsCount n = n < 2 ^ 64
 
 abbrev pub IsCustomer : ℕ → Type 0
-IsCustomer customer = (1 ≤ customer) × (customer ≤ 999999999)
+IsCustomer customer = (1 ≤ customer) × (customer ≤ highest_customer)
 
 abbrev pub IsSerial : SerialNumber → Type 0
-IsSerial serial = (1 ≤ serial.letter) × (serial.letter ≤ 26) × (1 ≤ serial.number) × (serial.number ≤ 9999999999)
+IsSerial serial = (1 ≤ serial.letter) × (serial.letter ≤ 26) × (1 ≤ serial.number) × (serial.number ≤ highest_serial)
 
 abbrev pub RateRowFits : RateRow → Type 0
 RateRowFits row = IsIssueMonth row.from × InRange row.rates
@@ -62,7 +63,7 @@ pub record BatchFits (batch : Batch) : Type 0 where
 abbrev pub NamedFits : Named → Type 0
 NamedFits named.Nothing = ⊤
 NamedFits (named.Period month) = IsIssueMonth month
-NamedFits (named.Months age) = age ≤ 2335
+NamedFits (named.Months age) = age ≤ latest_month
 NamedFits (named.Bond serial) = IsSerial serial
 NamedFits (named.Paid serial ticket) = IsSerial serial × IsCount ticket
 

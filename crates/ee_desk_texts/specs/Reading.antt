@@ -23,6 +23,7 @@ use Rattle.ee_desk_texts.specs.declared.refusals.Named.{Named}
 use Rattle.ee_desk_texts.specs.declared.refusals.Named.TheVariants as named
 use Rattle.ee_desk_texts.specs.Texts.{act_text, reply_text}
 use Rattle.ee_desk_texts.specs.Ranges.{ActFits, ReplyFits}
+use Rattle.ee_units.specs.Limits.{highest_customer, latest_month}
 
 -- ---- single values
 
@@ -51,7 +52,7 @@ abbrev pub count_at : List ℕ → Json → Option ℕ
 count_at key d = option_and_then as_number (get key d) >>= count_of
 
 abbrev pub customer_at : List ℕ → Json → Option ℕ
-customer_at key d = count_at key d >>= in_range 1 999999999
+customer_at key d = count_at key d >>= in_range 1 highest_customer
 
 abbrev pub day_at : List ℕ → Json → Option ℕ
 day_at key d = text_at key d >>= day_of
@@ -66,7 +67,7 @@ abbrev pub serial_at : List ℕ → Json → Option SerialNumber
 serial_at key d = text_at key d >>= serial_of
 
 abbrev pub age_at : List ℕ → Json → Option ℕ
-age_at key d = count_at key d >>= in_range 0 2335
+age_at key d = count_at key d >>= in_range 0 latest_month
 
 abbrev pub cents_at : List ℕ → Json → Option ℕ
 cents_at key d = text_at key d >>= cents_of

@@ -14,6 +14,7 @@ use Rattle.ee_files.specs.declared.columns.FileColumn.{FileColumn}
 use Rattle.ee_files.specs.declared.columns.FileColumn.TheVariants as column
 use Rattle.ee_files.specs.declared.faults.FileCode.TheVariants.{WrongFieldCount}
 use Rattle.ee_files.specs.declared.faults.FileFault.{FileFault}
+use Rattle.ee_units.specs.Limits.{highest_customer, highest_serial, latest_issue_month}
 
 abbrev pub bond_columns : List FileColumn
 bond_columns = column.Serial ∷ column.Denom ∷ column.Issued ∷ column.Owner ∷ column.Coowner ∷ []
@@ -53,6 +54,6 @@ inventory_text bonds = flat_map (row_text default_writer) (header_of bond_column
 
 -- the ranges of a bond's values
 abbrev pub IsBond : Bond → Type 0
-IsBond b = ((1 ≤ b.serial.letter) × (b.serial.letter ≤ 26) × (1 ≤ b.serial.number) × (b.serial.number ≤ 9999999999))
-    × (b.issued ≤ 1135) × ((1 ≤ b.owner) × (b.owner ≤ 999999999))
-    × IfSome b.coowner (λ c. (1 ≤ c) × (c ≤ 999999999))
+IsBond b = ((1 ≤ b.serial.letter) × (b.serial.letter ≤ 26) × (1 ≤ b.serial.number) × (b.serial.number ≤ highest_serial))
+    × (b.issued ≤ latest_issue_month) × ((1 ≤ b.owner) × (b.owner ≤ highest_customer))
+    × IfSome b.coowner (λ c. (1 ≤ c) × (c ≤ highest_customer))

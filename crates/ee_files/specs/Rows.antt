@@ -43,8 +43,12 @@ rows_of_records headers entry [] = Ok []
 rows_of_records headers entry (header ∷ rest) =
     if is_header headers header then rows_from (entry (length header)) 2 501 rest else Err (record { row = 1; code = BadHeader })
 
+-- the most bytes of a file, 1 MiB
+abbrev pub most_bytes : ℕ
+most_bytes = 1048576
+
 -- the rows of a file of at most 1,048,576 bytes; a byte order mark before the first record is dropped
 unfoldable pub rows_of_file : {A : Type 0} → List (List FileColumn) → (ℕ → ℕ → List Bytes → Result A FileFault)
     → Bytes → Result (List A) FileFault
-rows_of_file headers entry bytes = if nat_lt 1048576 (length bytes) then Err (record { row = 1; code = FileTooLong })
+rows_of_file headers entry bytes = if nat_lt most_bytes (length bytes) then Err (record { row = 1; code = FileTooLong })
     else rows_of_records headers entry (records default_config (strip_bom bytes))

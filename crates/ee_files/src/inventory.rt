@@ -5,6 +5,7 @@ ghost use Rattle.csv.specs.Records.{fields_of};
 ghost use Rattle.ee_io.specs.ReadWhole.{TakesAtMost};
 ghost use Rattle.ee_files.specs.Answers.{Gives, WasRead};
 ghost use Rattle.ee_files.specs.BondFile.{bond_columns, bond_entry, bonds_of_file};
+ghost use Rattle.ee_files.specs.Rows.{most_bytes};
 
 use crate::columns::FileColumn;
 use crate::faults::{FileCode, FileFault};
@@ -24,7 +25,7 @@ pub fn read_inventory<R: Source>(alloc: Global, reader: &mut R) -> Result<Vec<Bo
     ensures gives { (source : List ℕ) → R.remaining reader.old ≡ Some source
         → Gives (λ v. v.items) result (bonds_of_file source) }
     ensures takes { (source : List ℕ) → R.remaining reader.old ≡ Some source
-        → TakesAtMost 1048577 source (R.remaining reader.new) }
+        → TakesAtMost (most_bytes + 1) source (R.remaining reader.new) }
     ensures failed { IfErr result (λ fault. fault.code ≡ FileCode.ReadFailed → R.may_have_failed reader.new) }
 {
     read_rows(alloc, reader)

@@ -6,9 +6,9 @@ mod export;
 mod faults;
 mod fields;
 mod headers;
+mod invariants;
 mod inventory;
 mod laws;
-mod invariants;
 mod rates;
 mod records;
 

@@ -6,7 +6,7 @@ ghost use Rattle.csv.specs.Records.{fields_of};
 ghost use Rattle.ee_io.specs.ReadWhole.{TakesAtMost};
 ghost use Rattle.ee_files.specs.Answers.{Gives, Unreadable, WasRead};
 ghost use Rattle.ee_files.specs.Left.{HasLeft, TakesNext};
-ghost use Rattle.ee_files.specs.Rows.{is_header, rows_from, rows_of_file, rows_of_records};
+ghost use Rattle.ee_files.specs.Rows.{is_header, rows_from, rows_of_file, rows_of_records, most_bytes};
 ghost use Rattle.ee_files.specs.declared.columns.FileColumn.{FileColumn};
 ghost use Rattle.ee_files.specs.declared.faults.FileFault.{FileFault};
 
@@ -112,7 +112,7 @@ pub fn read_rows<T: FileRow, R: Source>(alloc: Global, reader: &mut R) -> Result
     ensures gives { (source : List ℕ) → R.remaining reader.old ≡ Some source
         → Gives (λ v. v.items) result (rows_of_file T.headers T.entry source) }
     ensures takes { (source : List ℕ) → R.remaining reader.old ≡ Some source
-        → TakesAtMost 1048577 source (R.remaining reader.new) }
+        → TakesAtMost (most_bytes + 1) source (R.remaining reader.new) }
     ensures failed { IfErr result (λ fault. fault.code ≡ FileCode.ReadFailed → R.may_have_failed reader.new) }
 {
     match read_whole(alloc, reader, MOST_BYTES) {

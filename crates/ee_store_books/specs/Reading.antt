@@ -23,6 +23,7 @@ use Rattle.ee_store_load.specs.declared.entries.StoredLine.{StoredLine}
 use Rattle.ee_store_load.specs.declared.entries.StoredBatch.{StoredBatch}
 use Rattle.ee_store_load.specs.declared.whole.AllRows.{AllRows}
 use Rattle.ee_store_schema.specs.Forms.{version_of}
+use Rattle.ee_units.specs.Limits.{earliest_day, highest_customer, highest_rate, latest_day, latest_issue_month}
 
 -- the value of each row, if each has one
 abbrev pub each : {A B : Type 0} → (A → Option B) → List A → Option (List B)
@@ -35,16 +36,16 @@ optional_in read None = Some None
 optional_in read (Some n) = option_map Some (read n)
 
 abbrev pub issue_in : ℕ → Option ℕ
-issue_in count = in_range 0 1135 count
+issue_in count = in_range 0 latest_issue_month count
 
 abbrev pub day_in : ℕ → Option ℕ
-day_in count = in_range 12904 84005 count
+day_in count = in_range earliest_day latest_day count
 
 abbrev pub rate_of : ℕ → Option ℕ
-rate_of hundredths = in_range 0 2000 hundredths
+rate_of hundredths = in_range 0 highest_rate hundredths
 
 abbrev pub customer_in : ℕ → Option ℕ
-customer_in number = in_range 1 999999999 number
+customer_in number = in_range 1 highest_customer number
 
 unfoldable pub days_of : StoredDesk → Option Days
 days_of row = do

@@ -17,7 +17,7 @@ use Rattle.ee_desk_model.specs.declared.replies.Batch.{Batch}
 use Rattle.ee_desk_model.specs.declared.replies.Reply.TheVariants.{Refused}
 use Rattle.ee_desk_model.specs.declared.refusals.Refusal.TheVariants.{NumberReused}
 use Rattle.ee_desk_model.specs.Serials.{serial_cmp}
-use Rattle.ee_desk_model.specs.Numbers.{RequestKey, number_cmp}
+use Rattle.ee_desk_model.specs.Numbers.{RequestKey, number_cmp, highest_number}
 use Rattle.ee_desk_model.specs.PlainBooks.{PlainBooks}
 use Rattle.ee_desk_model.specs.Seen.{held_as}
 use Rattle.ee_desk_model.specs.Sound.{IsSound}
@@ -120,7 +120,7 @@ pub record AreInRange (books : PlainBooks) : Type 0 where
 -- a reply that may be kept under a desk's number: any except that the number was used for another act
 pub record IsKept (number : RequestKey) (kept : Kept) : Type 0 where
   pub desk_in_range : number.0 ≤ 999
-  pub number_in_range : (1 ≤ number.1) × (number.1 ≤ 9223372036854775807)
+  pub number_in_range : (1 ≤ number.1) × (number.1 ≤ highest_number)
   pub act_in_range : ActFits kept.act
   pub reply_in_range : ReplyFits kept.reply
   pub first : kept.reply ≢ Refused NumberReused

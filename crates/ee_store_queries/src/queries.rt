@@ -10,6 +10,7 @@ ghost use Rattle.ee_keeper.specs.Keeping.{IsInventory, IsQuote};
 ghost use Rattle.ee_store_books.specs.Causes.{FailsByCause, IsReady};
 ghost use Rattle.ee_store_books.specs.Seen.{FindsIn, LeavesRows};
 ghost use Rattle.ee_store_queries.specs.Asking.{AnswersOrFails, ShowsContent, KeepsContent, KeepsRoom};
+ghost use Rattle.ee_desk_model.specs.Numbers.{highest_number};
 
 use crate::from_rows::{batch_shown, bonds_shown, ticket_shown};
 use crate::periods::periods_in;
@@ -68,7 +69,7 @@ fn none_beyond<S: Alter>(
         (λ content ticket. ticket ≡ ticket_numbered content.books number) }
     ensures commit { CommitsNothing (state S.Store tx.old.conn.now) (state S.Store tx.new.conn.now) }
     ensures crash { LeavesNoMore (state S.Store tx.old.conn.now) (state S.Store tx.new.conn.now) }
-    ensures cause { FailsByCause (state S.Store tx.old.conn.now) (state S.Store tx.new.conn.now) result (λ _. 9223372036854775807 < number) }
+    ensures cause { FailsByCause (state S.Store tx.old.conn.now) (state S.Store tx.new.conn.now) result (λ _. highest_number < number) }
 {
     let count = tickets_in(tx)?;
     if count < number {

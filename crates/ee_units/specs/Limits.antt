@@ -1,4 +1,4 @@
--- The ranges of plain numbers, each limit once.
+-- The ranges of plain numbers, and what one unit costs and doubles to: each numeral once.
 use Rattle.std.specs.Prelude.{ℕ}
 
 -- 20.00 percent, in hundredths of a percent
@@ -26,3 +26,10 @@ highest_customer = 999999999
 -- ten digits
 abbrev pub highest_serial : ℕ
 highest_serial = 9999999999
+
+-- one unit, in cents: its issue price, and its face value
+abbrev pub unit_price : ℕ
+unit_price = 1250
+
+abbrev pub unit_face : ℕ
+unit_face = 2500

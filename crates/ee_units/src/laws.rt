@@ -7,7 +7,7 @@ ghost use Rattle.ee_units.specs.Denoms.{dollars, units_of, price_of, denom_of};
 ghost use Rattle.ee_units.specs.Grammar.{IsRateText, IsMonthText, IsDayText, IsSerialText};
 ghost use Rattle.ee_units.specs.Spelling.{rate_of, month_of, issue_of, day_of, customer_of, serial_of, SerialNumber};
 ghost use Rattle.ee_units.specs.Texts.{rate_text, month_text, day_text, serial_text};
-ghost use Rattle.ee_units.specs.Limits.{earliest_day, highest_customer, highest_rate, highest_serial, latest_day, latest_issue_month, latest_month};
+ghost use Rattle.ee_units.specs.Limits.{earliest_day, highest_customer, highest_rate, highest_serial, latest_day, latest_issue_month, latest_month, unit_price};
 
 use crate::denoms::Denom;
 
@@ -50,7 +50,7 @@ pub const fn texts_law()
 /// Units and price: a unit is 25 dollars of denomination and 12.50 dollars of issue price.
 pub const fn denom_law()
     ensures dollars { (d : Denom) → dollars d ≡ 25 * units_of d }
-    ensures price { (d : Denom) → price_of d ≡ 1250 * units_of d }
+    ensures price { (d : Denom) → price_of d ≡ unit_price * units_of d }
 {}
 
 /// Periods: a month is its own period if and only if rates are announced in it, and each month has

@@ -3,6 +3,7 @@
 use Rattle.std.specs.Prelude.{ℕ, zero, suc, ◌≤◌, ◌==◌, nat_lt, max, Option, Some, None, if◌then◌else◌}
 use Rattle.ee_value.specs.declared.rates.Rates.{Rates}
 use Rattle.ee_value.specs.Rounding.{grown}
+use Rattle.ee_units.specs.Limits.{highest_rate, unit_price, unit_face}
 
 -- the rate in force in half-year k, from 0: the extension applies from 20 years on, which is half-year 40
 unfoldable pub rate_in : Rates → ℕ → ℕ
@@ -10,7 +11,7 @@ rate_in rates k = if nat_lt k 40 then rates.fixed else rates.extension
 
 -- each rate is at most 20 %
 abbrev pub InRange : Rates → Type 0
-InRange rates = (rates.fixed ≤ 2000) × (rates.extension ≤ 2000)
+InRange rates = (rates.fixed ≤ highest_rate) × (rates.extension ≤ highest_rate)
 
 -- the terms of a fixed rate and an extension; without an extension the rate doesn't change
 abbrev pub rates_with : ℕ → Option ℕ → Rates
@@ -27,6 +28,14 @@ one_rate r = record { fixed = r; extension = r }
 
 -- the unit's value at the start of half-year k; at 20 years, half-year 40, it is at least twice the price
 unfoldable pub start : Rates → ℕ → ℕ
-start rates zero = 1250
+start rates zero = unit_price
 start rates (suc k) =
-    if suc k == 40 then max (grown (start rates k) (rate_in rates k) 6) 2500 else grown (start rates k) (rate_in rates k) 6
+    if suc k == 40 then max (grown (start rates k) (rate_in rates k) 6) unit_face else grown (start rates k) (rate_in rates k) 6
+
+-- no unit starts a half-year at more cents than at the end of 30 years at 20 percent, and none is ever worth more than
+-- twice that
+abbrev pub highest_start : ℕ
+highest_start = 380617
+
+abbrev pub highest_unit : ℕ
+highest_unit = 761234

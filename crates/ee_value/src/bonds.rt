@@ -5,6 +5,8 @@ ghost use Rattle.ee_units.specs.Denoms.{units_of};
 ghost use Rattle.ee_value.specs.declared.rates.Rates.{Rates};
 ghost use Rattle.ee_value.specs.Value.{redemption};
 ghost use Rattle.ee_value.specs.Payment.{counted_age, is_payment_open, IsQuoteOf};
+ghost use Rattle.ee_units.specs.Limits.{unit_price};
+ghost use Rattle.ee_value.specs.Chain.{highest_unit};
 
 use crate::accrual::{FINAL_MATURITY, unit_at};
 use crate::faults::Unsettled;
@@ -59,7 +61,7 @@ fn redeemed_unit(rates: Rates, age: Age, bits: Bits) -> Result<u64, Unsettled>
     ensures value { MatchResult result
         (λ unit. (is_payment_open rates age bits ≡ false) × (unit ≡ redemption rates age))
         (λ e. (is_payment_open rates age bits ≡ true) × (e.age ≡ counted_age age)) }
-    ensures range { IfOk result (λ unit. (1250 ≤ unit) × (unit ≤ 761234)) }
+    ensures range { IfOk result (λ unit. (unit_price ≤ unit) × (unit ≤ highest_unit)) }
 {
     value_law();
     unit_at(rates, counted_age(age), bits)
@@ -81,8 +83,8 @@ fn counted_age(age: Age) -> Age
 /// The quote of a bond if one unit pays `unit` cents.
 fn paid(denom: Denom, age: Age, unit: u64) -> Quote
     requires grown { 12 ≤ age }
-    requires at_least_price { 1250 ≤ unit }
-    requires small { unit ≤ 761234 }
+    requires at_least_price { unit_price ≤ unit }
+    requires small { unit ≤ highest_unit }
     ensures { (rates : Rates) → unit ≡ redemption rates age → IsQuoteOf rates (units_of denom) age result }
 {
     let months = age.months();

@@ -5,6 +5,8 @@ ghost use Rattle.ee_roots.specs.Products.{power_down, power_up};
 ghost use Rattle.ee_roots.specs.Roots.{IsLow, IsHigh};
 ghost use Rattle.ee_value.specs.Rounding.{grown};
 ghost use Rattle.ee_value.specs.Open.{is_exact, IsLeftToBounds, is_unsettled, bounds_differ, AreNear, Close};
+ghost use Rattle.ee_value.specs.Chain.{highest_start};
+ghost use Rattle.ee_units.specs.Limits.{highest_rate};
 
 use crate::powers::Powers;
 use ee_roots::{Root, power_bounds, root_bounds, settle};
@@ -37,12 +39,12 @@ fn exact_root(rate: Rate) -> Option<u64>
 /// zero, and after three months if their growth is a fraction.
 fn exact_unit(unit: u64, rate: Rate, months: u8) -> Option<u64>
     requires some { 1 ≤ unit }
-    requires small { unit ≤ 380617 }
+    requires small { unit ≤ highest_start }
     requires few { months ≤ 5 }
     ensures value { MatchOption result
         (IsLeftToBounds rate months)
         (λ cents. ((b : ℕ) → is_unsettled unit rate months b ≡ false) × (cents ≡ grown unit rate months)) }
-    ensures range { rate ≤ 2000 }
+    ensures range { rate ≤ highest_rate }
 {
     let hundredths = rate.hundredths();
     if months == 0 || hundredths == 0 {
@@ -59,7 +61,7 @@ fn exact_unit(unit: u64, rate: Rate, months: u8) -> Option<u64>
 /// The unit after `months` months of a half-year; `None` if the bounds don't settle it.
 pub fn grown_unit(unit: u64, rate: Rate, months: u8, powers: &Powers) -> Option<u64>
     requires some { 1 ≤ unit }
-    requires small { unit ≤ 380617 }
+    requires small { unit ≤ highest_start }
     requires few { months ≤ 5 }
     requires of_low { IsLow powers.now.bits rate powers.now.low }
     requires of_high { IsHigh powers.now.bits rate powers.now.high }
@@ -77,7 +79,7 @@ pub fn grown_unit(unit: u64, rate: Rate, months: u8, powers: &Powers) -> Option<
 /// bounds of a root only if they are needed.
 pub fn grown_once(unit: u64, rate: Rate, months: u8, bits: Bits) -> Option<u64>
     requires some { 1 ≤ unit }
-    requires small { unit ≤ 380617 }
+    requires small { unit ≤ highest_start }
     requires few { months ≤ 5 }
     ensures { MatchOption result
         ((is_unsettled unit rate months bits ≡ true) × Close unit rate months bits)
@@ -94,10 +96,10 @@ pub fn grown_once(unit: u64, rate: Rate, months: u8, bits: Bits) -> Option<u64>
 /// The unit after these months, if the bounds of their growth settle it.
 fn bounded_unit(unit: u64, rate: Rate, months: u8, root: &Root, bounds: (u128, u128)) -> Option<u64>
     requires some { 1 ≤ unit }
-    requires small { unit ≤ 380617 }
+    requires small { unit ≤ highest_start }
     requires inside { 1 ≤ months }
     requires few { months ≤ 5 }
-    requires at_most_20_percent { rate ≤ 2000 }
+    requires at_most_20_percent { rate ≤ highest_rate }
     requires of_low { IsLow root.now.bits rate root.now.low }
     requires of_high { IsHigh root.now.bits rate root.now.high }
     requires low { bounds.0 ≡ power_down root.now.bits root.now.low (months - 1) }

@@ -5,9 +5,10 @@ ghost use Rattle.std.specs.List.{range_with_len};
 ghost use Rattle.ee_roots.specs.Roots.{IsLow, IsHigh};
 ghost use Rattle.ee_value.specs.declared.rates.Rates.{Rates};
 ghost use Rattle.ee_value.specs.Rounding.{Rounds, grown};
-ghost use Rattle.ee_value.specs.Chain.{InRange, one_rate, rates_with, named_extension, rate_in, start};
+ghost use Rattle.ee_value.specs.Chain.{InRange, one_rate, rates_with, named_extension, rate_in, start, highest_start, highest_unit};
 ghost use Rattle.ee_value.specs.Value.{accrued, redemption};
 ghost use Rattle.ee_value.specs.Open.{low_root, high_root, is_exact, is_open, first_open, NeverOpen, IsFirstOpen};
+ghost use Rattle.ee_units.specs.Limits.{unit_price, unit_face};
 
 /// Rounding: exactly one number of cents satisfies `Rounds`, `grown` returns it, and an exact half cent
 /// rounds up.
@@ -34,13 +35,13 @@ pub const fn rates_law()
 pub const fn chain_law()
     ensures original { (rates : Rates) (k : ℕ) → k < 40 → rate_in rates k ≡ rates.fixed }
     ensures extended { (rates : Rates) (k : ℕ) → 40 ≤ k → rate_in rates k ≡ rates.extension }
-    ensures first { (rates : Rates) → start rates 0 ≡ 1250 }
+    ensures first { (rates : Rates) → start rates 0 ≡ unit_price }
     ensures next { (rates : Rates) (k : ℕ) → InRange rates → k + 1 ≢ 40
         → Rounds (start rates k) (rate_in rates k) 6 (start rates (k + 1)) }
     ensures doubled { (rates : Rates) (c : ℕ) → InRange rates → Rounds (start rates 39) (rate_in rates 39) 6 c
-        → start rates 40 ≡ max c 2500 }
+        → start rates 40 ≡ max c unit_face }
     ensures range { (rates : Rates) (k : ℕ) → InRange rates → k ≤ 60
-        → (1250 ≤ start rates k) × (start rates k ≤ 380617) }
+        → (unit_price ≤ start rates k) × (start rates k ≤ highest_start) }
 {}
 
 /// Accrued values: the value at an age is the start of its half-year, grown for the months since and
@@ -53,7 +54,7 @@ pub const fn value_law()
     ensures half_years { (rates : Rates) (k : ℕ) → InRange rates → k ≤ 60 → accrued rates (6 * k) ≡ start rates k }
     ensures never_falls { (rates : Rates) (a j : ℕ) → accrued rates a ≤ accrued rates (a + j) }
     ensures range { (rates : Rates) (a : ℕ) → InRange rates
-        → (1250 ≤ accrued rates a) × (accrued rates a ≤ 761234) }
+        → (unit_price ≤ accrued rates a) × (accrued rates a ≤ highest_unit) }
     ensures penalty { (rates : Rates) (a : ℕ) → 12 ≤ a → a < 60 → redemption rates a ≡ accrued rates (a - 3) }
     ensures no_penalty { (rates : Rates) (a : ℕ) → 60 ≤ a → redemption rates a ≡ accrued rates a }
 {}

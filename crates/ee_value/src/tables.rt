@@ -3,10 +3,11 @@
 ghost use Rattle.std.specs.Prelude.{◌≡◌, ℕ, ◌+◌, ◌*◌, ◌<◌, ◌≤◌, map, false, MatchResult, None};
 ghost use Rattle.std.specs.List.{range_with_len};
 ghost use Rattle.ee_roots.specs.Roots.{IsLow, IsHigh};
-ghost use Rattle.ee_value.specs.Chain.{rate_in, start};
+ghost use Rattle.ee_value.specs.Chain.{rate_in, start, highest_unit};
 ghost use Rattle.ee_value.specs.Value.{accrued};
 ghost use Rattle.ee_value.specs.Open.{is_open, NeverOpen, first_open};
 ghost use Rattle.ee_value.specs.Fault.{IsFaultOf, IsFaultAt};
+ghost use Rattle.ee_units.specs.Limits.{unit_price};
 
 use crate::accrual::FINAL_MATURITY;
 use crate::faults::ValueFault;
@@ -47,8 +48,8 @@ impl UnitTable {
     /// The accrued value of one unit at an age, in cents. Above an age of 360 months it is the value at 360.
     pub fn at(&self, age: Age) -> u64
         ensures value { result ≡ accrued self.now age }
-        ensures at_least_price { 1250 ≤ result }
-        ensures small { result ≤ 761234 }
+        ensures at_least_price { unit_price ≤ result }
+        ensures small { result ≤ highest_unit }
     {
         self.units[usize::from(age.months().min(FINAL_MATURITY))]
     }

@@ -2,7 +2,7 @@
 
 ghost use Rattle.std.specs.Prelude.{◌≡◌, ◌≤◌, true, false, MatchResult, IfOk};
 ghost use Rattle.ee_units.specs.Denoms.{units_of};
-ghost use Rattle.ee_value.specs.Payment.{is_payment_open, IsQuoteOf};
+ghost use Rattle.ee_value.specs.Payment.{is_payment_open, IsQuoteOf, highest_value};
 ghost use Rattle.ee_value_c.specs.Answers.{row_of, row_at, payment_of, payment_at};
 ghost use Rattle.ee_value_c.specs.declared.refusals.CallRefusal.TheVariants as refusal;
 
@@ -28,7 +28,7 @@ pub fn row_at(question: ValueQuestion) -> Result<ValueRow, CallRefusal>
 #[tactic(auto, unfolding(crate::specs::Answers::payment_at))]
 pub fn payment_at(question: ValueQuestion) -> Result<u64, CallRefusal>
     ensures value { result ≡ payment_at question }
-    ensures range { IfOk result (λ cents. cents ≤ 304493600) }
+    ensures range { IfOk result (λ cents. cents ≤ highest_value) }
 {
     payment_of(question_at(question)?)
 }
@@ -55,7 +55,7 @@ fn row_of(question: Question) -> Result<ValueRow, CallRefusal>
 #[tactic(auto, unfolding(crate::specs::Answers::payment_of, ee_value::specs::Payment::is_payment_open))]
 fn payment_of(question: Question) -> Result<u64, CallRefusal>
     ensures value { result ≡ payment_of question }
-    ensures range { IfOk result (λ cents. cents ≤ 304493600) }
+    ensures range { IfOk result (λ cents. cents ≤ highest_value) }
 {
     let Some(age) = calendar::age(question.issued, question.month) else {
         return Err(CallRefusal::NotIssued);
