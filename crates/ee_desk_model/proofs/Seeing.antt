@@ -1,5 +1,5 @@
 -- What an act names is all that it is decided by.
-use Rattle.std.proofs.Common.{◌≡◌, ◌==◌, ℕ, suc, ◌++◌, length, ◌≤◌, true, cond, List, [], ◌∷◌, Option, Some, None, map, map-id, nat_lt, nat_le, arith, refl, sym, ap, ◌∙◌, subst}
+use Rattle.std.proofs.Common.{◌≡◌, ◌==◌, ℕ, suc, ◌++◌, length, ◌≤◌, true, cond, List, [], ◌∷◌, Option, Some, None, map, map-id, nat_le, arith, refl, sym, ap, ◌∙◌, subst}
 use Rattle.std.specs.Option.{option_map, option_or, option_map_or, IfSome, is_none}
 use Rattle.std.specs.List.{list_any, find, AllByRecursion, sum_by}
 use Rattle.std.specs.FinMap as finite

@@ -72,6 +72,7 @@ fn settled<S: Alter>(conn: &Connection<S>)
     ensures committed { (state S.Store conn.now).in_transaction ≡ false → IsTrue (state S.Store conn.now).is_open
         → (state S.Store conn.now).now ≡ (state S.Store conn.now).committed }
 {
+    // For the proof alone: what these calls promise of the connection are the clauses above.
     let _schema = conn.schema();
     let _autocommit = conn.is_autocommit();
 }
@@ -98,6 +99,7 @@ fn ready<S: Alter>(conn: &mut Connection<S>, alloc: Global) -> Result<UnitTables
     ensures left { HasCleanDisk (state S.Store conn.new) → LeavesAsBefore (state S.Store conn.old) (state S.Store conn.new) }
     ensures waits { HasCleanDisk (state S.Store conn.new) → StaysStopped (state S.Store conn.old) (state S.Store conn.new) }
 {
+    // For the proof alone: a connection that has a schema sees a database, which `found` and `follows` need.
     let _schema = conn.schema();
     if is_blank(conn) {
         make_tables(conn)?;

@@ -50,6 +50,7 @@ impl<D: Disk + Drop> SqlKeeper<FileStore<D>> {
         ensures follows { IfErr result (λ store. (w : World) → FollowsWorld (file_state self.conn) w → Leaves StandsFor (recovers store) w) }
     {
         whole_history_law::<D, D>();
+        // For the proof alone: a connection that has a schema sees a database, which `at_rest` needs.
         let _schema = self.conn.schema();
         match self.into_connection().close_files() {
             Ok(files) => Ok(files),

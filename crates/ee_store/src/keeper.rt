@@ -92,6 +92,7 @@ impl<S: Alter> SqlKeeper<S> {
             request,
         ) {
             Ok(reply) => {
+                // For the proof alone: a connection that has a schema sees a database, which `goes` needs.
                 let _schema = self.conn.schema();
                 Ok(reply)
             }

@@ -55,8 +55,13 @@ fn refusal<S: Alter>(conn: &mut Connection<S>) -> OpenFault
 /// - `found`: a store with tables in this form has these rows, and they were read. All of them are returned but
 ///   the kept replies, for which the result says whether each passed. A store determines its rows.
 /// - `those`: the rows that the store had before were read.
+/// - `order`, `first`: the rows of each table come in order, and are those of the form that is returned.
+/// - `version`, `tested`, `unusable`: what each refusal says of the rows that the store had.
 /// - `others`: for a store with other tables the fault is `WrongVersion` only if `sqlite` shows another version
 ///   for the desk's row. If the desk is the first table, it is `WrongVersion` exactly then.
+/// - `inside`, `cause`: when the store fails: in a transaction, or for want of memory or by its device.
+/// - `kept`, `outside`, `ended`, `open`, `crash`: what the call leaves: the last commit as it was, no transaction,
+///   a store that is still open, and after a crash nothing that could not be left before.
 ///
 /// # Errors
 ///

@@ -251,6 +251,7 @@ pub(crate) fn read_all<S: Alter, P: RowTest<StoredAnswer>>(
     if !conn.is_autocommit() {
         return Err(OpenFault::StoreFailed);
     }
+    // For the proof alone: a connection that has a schema sees a database, which `open` needs.
     let _schema = conn.schema();
     read_of_version::<S, P>(conn, alloc, form)
 }
