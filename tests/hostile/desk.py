@@ -1,4 +1,4 @@
-"""The desk by its rules (docs/MODEL.md, docs/OPERATING.md): books, acts, replies, queries, and the rows that a store then has. Values are those of
+"""The desk by its rules (docs/MODEL.md, docs/STATUSES.md): books, acts, replies, queries, and the rows that a store then has. Values are those of
 tests/value/exact.py. It shares nothing with the program."""
 
 import copy, importlib.util, json, os

@@ -367,8 +367,8 @@ WORDS = """
 
 
 def codes_in_documents():
-    """Every code that docs/OPERATING.md and docs/FORMATS.md name, with its name."""
-    text = (TOP / "docs" / "OPERATING.md").read_text() + (TOP / "docs" / "FORMATS.md").read_text()
+    """Every code that docs/STATUSES.md and docs/FORMATS.md name, with its name."""
+    text = (TOP / "docs" / "STATUSES.md").read_text() + (TOP / "docs" / "FORMATS.md").read_text()
     found = {}
     for codes, names in re.findall(r"^\| ((?:\d\d)(?:, \d\d)*) \| (\w+(?:, \w+)*) \|", text, re.M):
         found.update(zip(map(int, codes.split(", ")), names.split(", ")))

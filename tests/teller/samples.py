@@ -1,4 +1,4 @@
-"""Rates and bonds for the tests, and what they are worth by the samples of docs/OPERATING.md: 25.16, 38.07 and 5024.00 in February 2012."""
+"""Rates and bonds for the tests, and what they are worth by the samples of docs/FIRST_DAY.md: 25.16, 38.07 and 5024.00 in February 2012."""
 import csv
 
 from bank import TOP

@@ -1,4 +1,4 @@
-"""The desk by its rules, as docs/MODEL.md and docs/OPERATING.md tell them: what an act is answered at
+"""The desk by its rules, as docs/MODEL.md and docs/STATUSES.md tell them: what an act is answered at
 given books, and what an accepted act does to them.
 
 `decide` changes nothing. `take` does what an accepted reply says. Both are apart, so that a replay can go

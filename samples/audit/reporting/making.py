@@ -12,7 +12,7 @@ KEPT_TESTS = (
     ("texts", "Each kept text is the one text of its act or reply, and no kept request is missing between two others", "FORMATS, JSON texts", replay.texts_are_canonical),
     ("told", "Each ticket and batch is just what one kept reply tells, and the other way round", "MODEL, Act", replay.replies_are_told_by_the_tables),
 )
-REPLIES = ("replies", "Each kept reply is what the rules answer to its act, from nothing on", "MODEL, Refusals, Act; OPERATING, What a refusal tells the teller")
+REPLIES = ("replies", "Each kept reply is what the rules answer to its act, from nothing on", "MODEL, Refusals, Act; STATUSES, Refusals")
 BOOKS = ("books", "The tables are what the kept requests make of nothing", "MODEL, Books and content of a list")
 ROWS = {"bonds": "bonds", "tickets": "tickets", "paid": "payments", "batches": "batches", "kept": "kept requests"}
 
