@@ -1,4 +1,4 @@
-// Puts each code of the counter into a sentence, with what to do. `tests/teller_page` tests that no code lacks one.
+// Puts each code of the counter into a sentence, with what to do. `tests/clients/teller_page` tests that no code lacks one.
 
 import { monthInWords } from "./spelling.js";
 

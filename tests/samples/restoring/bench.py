@@ -1,0 +1,201 @@
+"""What the cases of tests/samples/restore share: a bench on disks of its own, on which a counter is served, archived, lost and restored."""
+import os
+import random
+import shutil
+import signal
+import socket
+import subprocess
+import sys
+import tempfile
+import threading
+import time
+
+from counter_calls import apply, beginning, free_port, rows, serve, wait_for
+from nginx_sample import Nginx
+
+TOP = os.path.dirname(os.path.dirname(os.path.dirname(os.path.dirname(os.path.abspath(__file__)))))
+SAMPLE = os.path.join(TOP, "samples", "restore")
+ARCHIVE, REPLAY, GUARD = (os.path.join(SAMPLE, name) for name in ("archive", "replay", "guard"))
+TABLES = ("desk", "rates", "extensions", "bonds", "tickets", "paid", "batches", "answers")
+
+
+def wrong(what, found=""):
+    sys.exit(f"WRONG: {what}\n{found}")
+
+
+def run(*words, **more):
+    return subprocess.run([str(word) for word in words], stdout=subprocess.PIPE, stderr=subprocess.PIPE, text=True, **more)
+
+
+def done(*words):
+    ran = run(*words)
+    if ran.returncode != 0:
+        wrong(f"{' '.join(map(str, words))} ended with status {ran.returncode}", ran.stdout + ran.stderr)
+    return ran.stdout
+
+
+class Place:
+    """A folder of the test, with the program, and dice of a seed."""
+
+    def __init__(self, program, seed, moments):
+        self.program, self.moments = os.path.abspath(program), moments
+        self.dice = random.Random(seed)
+        self.folder = tempfile.mkdtemp(prefix="restore-")
+        os.chmod(self.folder, 0o755)
+        self.memory = tempfile.mkdtemp(prefix="restore-", dir="/dev/shm")
+        self.ends, self.count = [], 0
+
+    def path(self, *names):
+        return os.path.join(self.folder, *names)
+
+    def new(self, name, is_made=True, in_memory=False):
+        """The path of a new folder. What is only compared may lie in memory, where no request waits for the disk."""
+        self.count += 1
+        path = os.path.join(self.memory if in_memory else self.folder, f"{name}-{self.count}")
+        if is_made:
+            os.mkdir(path)
+        return path
+
+    def at_end(self, what):
+        self.ends.append(what)
+
+    def remove(self):
+        for what in reversed(self.ends):
+            what()
+        shutil.rmtree(self.folder, ignore_errors=True)
+        shutil.rmtree(self.memory, ignore_errors=True)
+
+    def disk(self, name):
+        """A file system of btrfs, mounted in this script's own mount namespace."""
+        path = self.path(name)
+        with open(path + ".disk", "w") as disk:
+            disk.truncate(2 << 30)
+        done("mkfs.btrfs", "-q", path + ".disk")
+        os.mkdir(path)
+        done("mount", "-o", "loop", path + ".disk", path)
+        self.at_end(lambda: run("umount", "-l", path))
+        return path
+
+    def replay(self, store, *sources, way="apply"):
+        return run(REPLAY, store, *sources, "--program", self.program, "--by", way)
+
+    def restored(self, store, *sources, way="apply"):
+        ran = self.replay(store, *sources, way=way)
+        if ran.returncode != 0:
+            wrong(f"the replay into {store} ended with status {ran.returncode}", ran.stdout + ran.stderr)
+        return ran.stdout
+
+    def archived(self, store, archive, *more):
+        return done(ARCHIVE, store, archive, *more)
+
+
+def copy_store(source, target, log=None):
+    """File and log of a store; or its file beside the log of another."""
+    shutil.copy(source, target)
+    log = source if log is None else log
+    if os.path.exists(target + "-wal"):
+        os.remove(target + "-wal")
+    if os.path.exists(log + "-wal"):
+        shutil.copy(log + "-wal", target + "-wal")
+    return target
+
+
+def held(place, store):
+    """The kept replies by desk and number, read from a copy."""
+    copy = copy_store(store, os.path.join(place.new("held", in_memory=True), "day.db"))
+    found = {(desk, number): reply for desk, number, reply in rows(copy, "SELECT desk, number, reply FROM answers")}
+    shutil.rmtree(os.path.dirname(copy))
+    return found
+
+
+def dumped(place, store):
+    """Every row of every table, read from a copy."""
+    copy = copy_store(store, os.path.join(place.new("dumped", in_memory=True), "day.db"))
+    found = {table: rows(copy, f"SELECT * FROM {table} ORDER BY 1, 2") for table in TABLES}
+    shutil.rmtree(os.path.dirname(copy))
+    return found
+
+
+class Syslog:
+    """What listens at the port of syslog, and writes each message as a line of a file."""
+
+    def __init__(self, path):
+        self.socket = socket.socket(socket.AF_INET, socket.SOCK_DGRAM)
+        self.socket.bind(("127.0.0.1", 0))
+        self.port = self.socket.getsockname()[1]
+        self.path, self.file = path, open(path, "ab", buffering=0)
+        threading.Thread(target=self.listen, daemon=True).start()
+
+    def listen(self):
+        while True:
+            self.file.write(self.socket.recv(70000) + b"\n")
+
+
+class Counter:
+    """`serve` over a store, behind nginx with the log of requests, and an archiver."""
+
+    USERS = {"anna": ("a password", "teller supervisor office")}
+
+    def __init__(self, place, bonds, every):
+        self.place, self.every = place, every
+        self.disk, self.port = place.disk("books"), free_port()
+        self.snapshots = os.path.join(self.disk, "snapshots")
+        os.mkdir(self.snapshots)
+        self.archive, self.second = place.new("archive"), place.new("second")
+        self.log = place.path("requests.log")
+        self.syslog = Syslog(place.path("syslog"))
+        self.nginx = Nginx(place.path("nginx"), self.port, self.USERS, rate=100000, requests=(self.log, self.syslog.port))
+        place.at_end(self.nginx.end)
+        self.store = self.new_subvolume()
+        self.process = self.archiver = None
+        apply(place.program, self.store, beginning(bonds))
+        place.at_end(self.lose)
+        self.start()
+
+    def new_subvolume(self):
+        """The path of a store in a subvolume of its own."""
+        self.place.count += 1
+        folder = os.path.join(self.disk, f"store-{self.place.count}")
+        done("btrfs", "-q", "subvolume", "create", folder)
+        return os.path.join(folder, "day.db")
+
+    def start(self):
+        self.process = serve(self.place.program, self.store, self.port)
+        self.archiver = subprocess.Popen([ARCHIVE, self.store, self.archive, "--snapshots", self.snapshots, "--every", str(self.every), "--to", self.second], stderr=open(self.place.path("archiver"), "a"))
+        wait_for(self.port)
+        self.wait_for_archiver()
+
+    def wait_for_archiver(self):
+        """Waits until the archiver has had a turn since now: a busy machine starts it late."""
+        path, begun = os.path.join(self.second, "end.json"), time.time()
+        while not os.path.exists(path) or os.stat(path).st_mtime < begun:
+            if time.time() - begun > 60 or self.archiver.poll() is not None:
+                wrong("the archiver doesn't archive", open(self.place.path("archiver")).read())
+            time.sleep(0.05)
+
+    def lose(self):
+        """The machine is lost: counter and archiver end at once."""
+        for process in (self.process, self.archiver):
+            if process is not None:
+                process.send_signal(signal.SIGKILL)
+        for process in (self.process, self.archiver):
+            if process is not None:
+                process.wait()
+        self.process = self.archiver = None
+
+    def ask(self, message):
+        """What nginx answers to a message: status and body, None where nothing came."""
+        head, _, body = message.partition(b"\r\n\r\n")
+        method, path, _ = head.split(b"\r\n")[0].decode().split(" ")
+        try:
+            status, _, text = self.nginx.ask(method, path, body, user="anna")
+        except OSError:
+            return None
+        return (status, text) if status in (200, 409) else None
+
+
+def undisturbed(place, new, messages):
+    """A copy of a new store that is given these requests once, in the order of days and tickets, and is never stopped."""
+    store = copy_store(new, os.path.join(place.new("undisturbed", in_memory=True), "day.db"))
+    apply(place.program, store, messages)
+    return store

@@ -1,0 +1,298 @@
+"""The desk by its rules (docs/MODEL.md, docs/STATUSES.md): books, acts, replies, queries, and the rows that a store then has. Values are those of
+tests/shared/exact.py. It shares nothing with the program."""
+
+import copy, importlib.util, json, os
+
+from . import spelling
+
+exact_path = os.path.join(os.path.dirname(os.path.abspath(__file__)), "..", "exact.py")
+exact_spec = importlib.util.spec_from_file_location("exact", exact_path)
+exact = importlib.util.module_from_spec(exact_spec)
+exact_spec.loader.exec_module(exact)
+
+MOST_ROWS, MOST_SERIALS, MOST_TICKETS = 500, 100, 1_000
+NAMES = {
+    10: "NumberReused", 11: "Empty", 12: "TooMany", 13: "Repeated", 14: "SameCoowner", 20: "NotAnnouncementMonth", 21: "RateConflict", 30: "NoRate",
+    31: "SerialConflict", 40: "DayOpen", 41: "DayNotLater", 42: "NoOpenDay", 43: "DayIsOther", 44: "DayFull", 50: "UnknownSerial", 51: "NotPayee",
+    52: "AlreadyPaid", 53: "NotIssued", 54: "NotEligible",
+}
+NOTES = {exact.PLAIN: "", exact.NI: "NI", exact.NE: "NE", exact.P5: "P5", exact.MA: "MA"}
+COLUMNS = ((13, "<"), (6, "<"), (6, ">"), (7, "<"), (7, "<"), (7, "<"), (12, ">"), (14, ">"), (6, ">"), (14, ">"))
+HEADINGS = ("Serial", "Series", "Denom", "Issued", "Next", "Final", "Price", "Interest", "Rate", "Value")
+
+
+class Refused(Exception):
+    """The code of a refusal, and what it names."""
+
+    def __init__(self, code, **named):
+        super().__init__(code)
+        self.code, self.named = code, named
+
+
+def compact(value):
+    return json.dumps(value, separators=(",", ":"), sort_keys=True)
+
+
+def period(issued):
+    """The latest May or November not after a month."""
+    return issued - (issued % 12 - 4) % 6
+
+
+def is_announced(month):
+    return month % 12 in (4, 10)
+
+
+def exact_row(dollars, issued, month, terms):
+    return exact.row(dollars, exact.number_of(issued), exact.number_of(month), *terms)
+
+
+def first_twice(keys):
+    """The first key that stands earlier in the list, or None."""
+    seen = set()
+    for key in keys:
+        if key in seen:
+            return key
+        seen.add(key)
+    return None
+
+
+def count_is_right(count, most):
+    if count == 0:
+        raise Refused(11)
+    if count > most:
+        raise Refused(12)
+
+
+class Books:
+    def __init__(self):
+        self.rates = {}
+        self.bonds = {}
+        self.paid_on = {}
+        self.day = self.last_day = None
+        self.tickets, self.batches = [], {}
+        self.kept = {}
+
+    def copy(self):
+        return copy.deepcopy(self)
+
+    # ---- acts
+
+    def deliver(self, key, act):
+        """The reply to a request: the kept one, or that of its act, which is kept."""
+        if key in self.kept:
+            first, reply = self.kept[key]
+            return reply if first == act else refusal(Refused(10))
+        try:
+            reply = getattr(self, "do_" + act[0])(*act[1:])
+        except Refused as refused:
+            reply = refusal(refused)
+        self.kept[key] = (act, reply)
+        return reply
+
+    def do_rates(self, rows):
+        count_is_right(len(rows), MOST_ROWS)
+        for begins, *_ in rows:
+            if not is_announced(begins):
+                raise Refused(20, month=spelling.month_text(begins))
+        known = dict(self.rates)
+        for begins, *terms in rows:
+            if known.setdefault(begins, tuple(terms)) != tuple(terms):
+                raise Refused(21, month=spelling.month_text(begins))
+        return self.added(known, "rates", len(rows))
+
+    def added(self, known, name, count):
+        new = len(known) - len(getattr(self, name))
+        setattr(self, name, known)
+        return {"new": new, "same": count - new}
+
+    def do_bonds(self, rows):
+        count_is_right(len(rows), MOST_ROWS)
+        twice = first_twice(row[0] for row in rows)
+        if twice:
+            raise Refused(13, serial=spelling.serial_text(twice))
+        for serial, _, _, owner, coowner in rows:
+            if owner == coowner:
+                raise Refused(14, serial=spelling.serial_text(serial))
+        for serial, _, issued, *_ in rows:
+            if period(issued) not in self.rates:
+                raise Refused(30, serial=spelling.serial_text(serial))
+        known = dict(self.bonds)
+        for serial, *bond in rows:
+            if known.setdefault(serial, tuple(bond)) != tuple(bond):
+                raise Refused(31, serial=spelling.serial_text(serial))
+        return self.added(known, "bonds", len(rows))
+
+    def do_open(self, day):
+        if self.day is not None:
+            raise Refused(40)
+        if self.last_day is not None and day <= self.last_day:
+            raise Refused(41)
+        self.day = day
+        return {"opened": spelling.day_text(day)}
+
+    def day_is(self, day):
+        if self.day is None:
+            raise Refused(42)
+        if self.day != day:
+            raise Refused(43)
+
+    def todays(self):
+        return [ticket for ticket in self.tickets if ticket["day"] == self.day]
+
+    def payment(self, serial, payee):
+        """What a bond pays on the open day."""
+        named = {"serial": spelling.serial_text(serial)}
+        if serial not in self.bonds:
+            raise Refused(50, **named)
+        dollars, issued, owner, coowner = self.bonds[serial]
+        if payee not in (owner, coowner):
+            raise Refused(51, **named)
+        if serial in self.paid_on:
+            raise Refused(52, ticket=self.paid_on[serial], **named)
+        month = spelling.month_of_day(self.day)
+        if month < issued:
+            raise Refused(53, **named)
+        if month - issued < 12:
+            raise Refused(54, **named)
+        return exact_row(dollars, issued, month, self.rates[period(issued)])[0]
+
+    def do_redeem(self, day, payee, serials):
+        count_is_right(len(serials), MOST_SERIALS)
+        twice = first_twice(serials)
+        if twice:
+            raise Refused(13, serial=spelling.serial_text(twice))
+        self.day_is(day)
+        if len(self.todays()) >= MOST_TICKETS:
+            raise Refused(44)
+        lines = [(serial, self.payment(serial, payee)) for serial in serials]
+        number = len(self.tickets) + 1
+        ticket = {"ticket": number, "day": day, "payee": payee, "lines": lines}
+        self.tickets.append(ticket)
+        self.paid_on.update((serial, number) for serial in serials)
+        return ticket_told(ticket)
+
+    def do_close(self, day):
+        self.day_is(day)
+        today = self.todays()
+        lines = [cents for ticket in today for _, cents in ticket["lines"]]
+        self.batches[day] = (len(today), len(lines), sum(lines))
+        self.day, self.last_day = None, day
+        return batch_told(day, self.batches[day])
+
+    # ---- queries
+
+    def ask_ticket(self, number):
+        return ticket_told(self.tickets[number - 1]) if number <= len(self.tickets) else None
+
+    def ask_batch(self, day):
+        return batch_told(day, self.batches[day]) if day in self.batches else None
+
+    def ask_value(self, dollars, issued, month):
+        terms = self.rates.get(period(issued))
+        return None if terms is None else row_told(columns(dollars, issued, month, terms))
+
+    def unpaid(self, owner):
+        return sorted((serial, *bond) for serial, bond in self.bonds.items() if bond[2] == owner and serial not in self.paid_on)
+
+    def ask_inventory(self, owner, month):
+        rows = [(serial, columns(dollars, issued, month, self.rates[period(issued)])) for serial, dollars, issued, *_ in self.unpaid(owner)]
+        return sheet(rows)
+
+    def export(self, owner):
+        text = "serial,denom,issued,owner,coowner\n"
+        for serial, dollars, issued, _, coowner in self.unpaid(owner):
+            text += f"{spelling.serial_text(serial)},{dollars},{spelling.month_text(issued)},{owner},{coowner or ''}\n"
+        return text
+
+
+def refusal(refused):
+    return {"code": refused.code, "refused": NAMES[refused.code], **refused.named}
+
+
+def ticket_told(ticket):
+    lines = [{"serial": spelling.serial_text(serial), "paid": spelling.money(cents)} for serial, cents in ticket["lines"]]
+    total = spelling.money(sum(cents for _, cents in ticket["lines"]))
+    return {"ticket": ticket["ticket"], "day": spelling.day_text(ticket["day"]), "payee": ticket["payee"], "lines": lines, "total": total}
+
+
+def batch_told(day, batch):
+    return {"day": spelling.day_text(day), "tickets": batch[0], "bonds": batch[1], "total": spelling.money(batch[2])}
+
+
+def columns(dollars, issued, month, terms):
+    """The row of the calculator: what a month shows of a bond."""
+    _, price, interest, value, _, note, *_ = exact_row(dollars, issued, month, terms)
+    age = month - issued
+    is_earning, is_issued = 0 <= age < 360, age >= 0
+    return {
+        "denom": dollars, "issued": issued, "next": month + 1 if is_earning else None, "final": issued + 360 if is_issued else None, "price": price,
+        "interest": interest, "rate": terms[0 if age < 240 else 1] if is_earning else None, "value": value, "note": NOTES[note],
+    }
+
+
+def row_told(row):
+    months = {name: "" if row[name] is None else spelling.month_text(row[name]) for name in ("issued", "next", "final")}
+    sums = {name: spelling.money(row[name]) for name in ("price", "interest", "value")}
+    return {"denom": row["denom"], "note": row["note"], "rate": "" if row["rate"] is None else spelling.rate_text(row["rate"]), **months, **sums}
+
+
+def sheet_line(cells, note):
+    text = " ".join(format(cell, f"{side}{width}") for cell, (width, side) in zip(cells, COLUMNS))
+    return text + (" " + note if note else "") + "\n"
+
+
+def sheet(rows):
+    text, totals = sheet_line(HEADINGS, "Note"), {"price": 0, "interest": 0, "value": 0}
+    for serial, row in rows:
+        months = ["" if row[name] is None else spelling.sheet_month_text(row[name]) for name in ("issued", "next", "final")]
+        rate = "" if row["rate"] is None else spelling.rate_text(row["rate"])
+        sums = [spelling.money(row[name]) for name in ("price", "interest", "value")]
+        text += sheet_line([spelling.serial_text(serial), "EE", str(row["denom"]), *months, *sums[:2], rate, sums[2]], row["note"])
+        for name in totals:
+            totals[name] += row[name]
+    sums = [spelling.money(totals[name]) for name in ("price", "interest", "value")]
+    return text + sheet_line(["Total", "", "", "", "", "", *sums[:2], "", sums[2]], "")
+
+
+# ---- the rows of a store
+
+
+def rate_named(row):
+    begins, rate, extension = row
+    named = {} if rate == extension else {"extension": spelling.rate_text(extension)}
+    return {"from": spelling.month_text(begins), "rate": spelling.rate_text(rate), **named}
+
+
+def bond_named(row):
+    serial, dollars, issued, owner, coowner = row
+    named = {} if coowner is None else {"coowner": coowner}
+    return {"serial": spelling.serial_text(serial), "denom": dollars, "issued": spelling.month_text(issued), "owner": owner, **named}
+
+
+def act_named(act):
+    """The value whose compact text is the canonical text of an act."""
+    name, *parts = act
+    if name == "rates":
+        return {"act": name, "rates": [rate_named(row) for row in parts[0]]}
+    if name == "bonds":
+        return {"act": name, "bonds": [bond_named(row) for row in parts[0]]}
+    if name != "redeem":
+        return {"act": name, "day": spelling.day_text(parts[0])}
+    day, payee, serials = parts
+    return {"act": name, "day": spelling.day_text(day), "payee": payee, "serials": [spelling.serial_text(serial) for serial in serials]}
+
+
+def rows_of(books):
+    """The rows of each table of version 2, in order of key."""
+    first = spelling.FIRST_MONTH
+    total = {ticket["ticket"]: sum(cents for _, cents in ticket["lines"]) for ticket in books.tickets}
+    return {
+        "desk": [(1, 2, books.day, books.last_day)],
+        "rates": [(begins - first, terms[0]) for begins, terms in sorted(books.rates.items())],
+        "extensions": [(begins - first, terms[1]) for begins, terms in sorted(books.rates.items()) if terms[0] != terms[1]],
+        "bonds": [(*serial, bond[0], bond[1] - first, *bond[2:], books.paid_on.get(serial)) for serial, bond in sorted(books.bonds.items())],
+        "tickets": [(t["ticket"], t["day"], t["payee"], len(t["lines"]), total[t["ticket"]]) for t in books.tickets],
+        "paid": [(t["ticket"], place, *serial, cents) for t in books.tickets for place, (serial, cents) in enumerate(t["lines"], 1)],
+        "batches": [(day, *batch) for day, batch in sorted(books.batches.items())],
+        "answers": [(*key, compact(act_named(act)), compact(reply)) for key, (act, reply) in sorted(books.kept.items())],
+    }

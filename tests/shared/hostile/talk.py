@@ -1,0 +1,104 @@
+"""Days at the counter that stand as transcripts in crates/store_tests, and those of earlier stores, with the answers that were
+worked by hand. Their little language is told in its talk.rt."""
+
+import os, re
+
+SOURCES = os.path.join(os.path.dirname(os.path.abspath(__file__)), "..", "..", "..", "crates", "store_tests", "src")
+REASONS = {200: "OK", 400: "Bad Request", 404: "Not Found", 405: "Method Not Allowed", 409: "Conflict", 413: "Content Too Large", 503: "Service Unavailable"}
+
+
+def texts(file):
+    """The constant texts of a source file, by name: a text, or a list of texts."""
+    with open(os.path.join(SOURCES, file + ".rt"), encoding="utf-8") as source:
+        text = source.read()
+    found = {}
+    for name, listed, value in re.findall(r'const (\w+): (\[&str; \d+\]|&str) =\s*(.*?);\n(?=\n|\Z|/)', text, re.S):
+        raw = re.findall(r'r#"(.*?)"#', value, re.S)
+        plain = re.findall(r'^"\\\n(.*?)"$|^"(.*)"$', value, re.S)
+        if listed.startswith("["):
+            found[name] = raw
+        elif raw:
+            found[name] = raw[0]
+        elif plain:
+            found[name] = plain[0][0] or plain[0][1]
+    return found
+
+
+def items(count, item, between):
+    """So many items, in which the first `#` is the place, from 1 on."""
+    return between.join(item.replace("#", str(place), 1) for place in range(1, count + 1))
+
+
+def written_out(line):
+    """The line with its list or its items written out."""
+    listed = re.search(r"\[\*(\d+) (.*?)\*\]", line)
+    if listed:
+        return line[: listed.start()] + "[" + items(int(listed[1]), listed[2], ",") + "]" + line[listed.end() :]
+    placed = re.search(r"\(\*(\d+) (.*?)\*\)", line)
+    if placed:
+        return line[: placed.start()] + items(int(placed[1]), placed[2], "") + line[placed.end() :]
+    return line
+
+
+def message(line):
+    """The HTTP text of a message `METHOD PATH BODY`."""
+    method, path, *body = line.split(" ", 2)
+    text = body[0].encode() if body else b""
+    return f"{method} {path} HTTP/1.1\r\nContent-Length: {len(text)}\r\n\r\n".encode() + text
+
+
+def answer(status, body, closes=False, kind="application/json"):
+    """The bytes of an answer."""
+    end = "Connection: close\r\n" if closes else ""
+    return f"HTTP/1.1 {status} {REASONS[status]}\r\nContent-Type: {kind}\r\nContent-Length: {len(body)}\r\n{end}\r\n".encode() + body
+
+
+def answer_told(text):
+    """The bytes of an answer that stands as `STATUS BODY` in a transcript."""
+    status, body = text.split(" ", 1)
+    kind = "text/plain" if body.startswith("Serial ") else "application/json"
+    return answer(int(status), body.encode(), kind=kind)
+
+
+def blocks(transcript):
+    """Each line that does something, with what is told below it."""
+    does, told = None, []
+    for line in map(written_out, transcript.split("\n")):
+        if re.match(r"[>~+%-] ", line):
+            if does is not None:
+                yield does, told
+            does, told = line, []
+        else:
+            told.append(line)
+    if does is not None:
+        yield does, told
+
+
+def exchanges(transcript):
+    """Of a transcript of messages alone, each message and its answer, as bytes."""
+    found = []
+    for does, told in blocks(transcript):
+        if not does.startswith("> "):
+            raise ValueError(does)
+        while len(told) > 1 and told[-1] == "":
+            told.pop()
+        body = "\n".join(told)
+        found.append((message(does[2:]), answer_told(body + "\n" if body.startswith("200 Serial") else body)))
+    return found
+
+
+def stream(transcript):
+    return b"".join(sent for sent, _ in exchanges(transcript))
+
+
+def imports(transcript):
+    """Of a transcript of imports, the kind, desk, number and bytes of each file, and what is told."""
+    found = []
+    for does, told in blocks(transcript):
+        if not does.startswith("+ "):
+            continue
+        named, file = does[2:].split(" ", 1)
+        desk, number = named.split("/") if "/" in named else ("0", named)
+        kind = "rates" if file.startswith("from") else "inventory"
+        found.append((kind, int(desk), int(number), file.replace("|", "\n").encode(), told[0]))
+    return found

@@ -1,0 +1,155 @@
+"""Debian's nginx over the files of samples/nginx, on a port of its own, in a folder of the test: for the scripts that run the counter behind it."""
+import base64
+import http.client
+import json
+import os
+import socket
+import ssl
+import subprocess
+import sys
+import time
+from pathlib import Path
+
+TOP = Path(__file__).resolve().parents[2]
+SAMPLE = TOP / "samples" / "nginx"
+PAGE = TOP / "clients" / "teller"
+CLIENT = {"X-Counter-Client": "test", "Content-Type": "application/json"}
+
+#: What stands for Debian's own nginx.conf. The media types are those that the page needs.
+PLAIN = """
+{modules}
+worker_processes 2;
+user {user};
+pid {folder}/nginx.pid;
+error_log {folder}/nginx.log;
+events {{ worker_connections 4096; }}
+http {{
+    types {{ text/html html; text/css css; application/javascript js; image/svg+xml svg; }}
+    default_type application/octet-stream;
+    client_body_temp_path {folder}/bodies;
+    proxy_temp_path {folder}/proxied;
+    fastcgi_temp_path {folder}/fastcgi;
+    uwsgi_temp_path {folder}/uwsgi;
+    scgi_temp_path {folder}/scgi;
+    include {folder}/conf.d/*.conf;
+}}
+"""
+#: Debian's module for scripts, which the log with replies needs.
+SCRIPTS = "load_module /usr/lib/nginx/modules/ngx_http_js_module.so;"
+
+
+def free_port():
+    with socket.socket() as free:
+        free.bind(("127.0.0.1", 0))
+        return free.getsockname()[1]
+
+
+def run(*words):
+    ran = subprocess.run(words, stdout=subprocess.PIPE, stderr=subprocess.STDOUT, text=True)
+    if ran.returncode != 0:
+        sys.exit(f"WRONG: {words[0]} ended with status {ran.returncode}\n{ran.stdout}")
+    return ran.stdout
+
+
+def replaced(text, changes):
+    """The text with each old part replaced, which has to be there."""
+    for old, new in changes:
+        if old not in text:
+            sys.exit(f"WRONG: the sample has no {old}")
+        text = text.replace(old, new)
+    return text
+
+
+def basic(user, password):
+    """The header of a user with this password."""
+    return {"Authorization": "Basic " + base64.b64encode(f"{user}:{password}".encode()).decode()}
+
+
+class Nginx:
+    """nginx over the sample, or over another configuration. `users` has a password and groups for each user. `rate` replaces the sample's limit of requests a second.
+    `requests` turns on the log of requests with their replies: the file, and the port of syslog on the machine."""
+
+    def __init__(self, folder, counter_port, users, *, conf=SAMPLE / "counter.conf", rate=None, user=None, hashed=None, requests=None):
+        self.folder, self.users, self.port = Path(folder), users, free_port()
+        for name in ("conf.d", "log"):
+            (self.folder / name).mkdir(parents=True)
+        self.make_certificate()
+        self.make_users(hashed or self.hashed)
+        self.make_settings(conf, counter_port, rate)
+        user = user or ("root" if os.getuid() == 0 else "nobody")
+        modules = SCRIPTS if requests else ""
+        if requests:
+            self.make_requests(*requests)
+        (self.folder / "nginx.conf").write_text(PLAIN.format(folder=self.folder, user=user, modules=modules))
+        self.process = self.started()
+
+    def make_certificate(self):
+        names = ("-subj", "/CN=localhost", "-addext", "subjectAltName=DNS:localhost,IP:127.0.0.1")
+        files = ("-keyout", f"{self.folder}/key.pem", "-out", f"{self.folder}/certificate.pem")
+        run("openssl", "req", "-x509", "-newkey", "rsa:2048", "-nodes", "-days", "2", *names, *files)
+
+    @staticmethod
+    def hashed(password):
+        return run("openssl", "passwd", "-6", password).strip()
+
+    def make_users(self, hashed):
+        lines = [f"{name}:{hashed(password)}\n" for name, (password, _) in self.users.items()]
+        (self.folder / "passwords").write_text("".join(lines))
+        (self.folder / "groups").write_text("".join(f'{name} "{groups}";\n' for name, (_, groups) in self.users.items() if groups))
+
+    def make_settings(self, conf, counter_port, rate):
+        own = [("listen 443 ssl", f"listen 127.0.0.1:{self.port} ssl"), ("server_name counter.bank.example", "server_name 127.0.0.1"), ("/etc/counter/", f"{self.folder}/"), ("/opt/counter/teller/", f"{PAGE}/")]
+        text = replaced(Path(conf).read_text(), own)
+        passing = (SAMPLE / "pass_to_counter.conf").read_text()
+        if "pass_to_counter.conf" in text:
+            text = text.replace("/var/log/nginx/", f"{self.folder}/log/")
+        else:
+            text, passing = replaced(text, [("127.0.0.1:8377", f"127.0.0.1:{counter_port}")]), ""
+        if rate is not None:
+            text = replaced(text, [("rate=10r/s", f"rate={rate}r/s")])
+        (self.folder / "conf.d" / "counter.conf").write_text(text)
+        (self.folder / "pass_to_counter.conf").write_text(passing.replace("127.0.0.1:8377", f"127.0.0.1:{counter_port}").replace("/etc/counter/", f"{self.folder}/"))
+
+    def make_requests(self, file, syslog_port):
+        where = replaced((SAMPLE / "server_requests.conf").read_text(), [("/srv/requests/requests.log", str(file)), ("127.0.0.1:514", f"127.0.0.1:{syslog_port}")])
+        (self.folder / "server_requests.conf").write_text(where)
+        for name, place in (("requests.conf", "conf.d/0-counter-requests.conf"), ("each_reply.conf", "each_reply.conf"), ("counter_replies.js", "counter_replies.js")):
+            (self.folder / place).write_text((SAMPLE / name).read_text())
+
+    def started(self):
+        process = subprocess.Popen(["nginx", "-c", f"{self.folder}/nginx.conf", "-e", f"{self.folder}/nginx.log", "-g", "daemon off;"])
+        for _ in range(200):
+            try:
+                socket.create_connection(("127.0.0.1", self.port)).close()
+                return process
+            except ConnectionRefusedError:
+                if process.poll() is not None:
+                    break
+                time.sleep(0.05)
+        sys.exit(f"WRONG: nginx doesn't listen\n{(self.folder / 'nginx.log').read_text()}")
+
+    def end(self):
+        self.process.terminate()
+        self.process.wait()
+
+    def trust(self):
+        """For clients in Python: they trust just this proxy's certificate."""
+        return ssl.create_default_context(cafile=f"{self.folder}/certificate.pem")
+
+    def authorization(self, user):
+        return basic(user, self.users[user][0])
+
+    def ask(self, method, path, value=None, *, user=None, headers=None):
+        """Status, headers and body of the response to one request, as a client of the bank sends it if no `headers` are given."""
+        connection = http.client.HTTPSConnection("127.0.0.1", self.port, context=self.trust(), timeout=120)
+        body = value if value is None or isinstance(value, (bytes, str)) else json.dumps(value)
+        sent = {**(self.authorization(user) if user else {}), **(CLIENT if headers is None else headers)}
+        connection.request(method, path, body, sent)
+        response = connection.getresponse()
+        text = response.read().decode()
+        connection.close()
+        return response.status, response.headers, text
+
+    def log(self):
+        """The entries of the log of requests that were posted."""
+        return [json.loads(line) for line in (self.folder / "log" / "counter.log").read_text().splitlines()]
