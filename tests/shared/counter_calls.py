@@ -1,20 +1,90 @@
-"""What the scripts of this folder share that run the program behind or over something else: messages, answers, servers, and a load whose answers the rules give."""
-import contextlib, json, re, signal, socket, sqlite3, subprocess, sys, threading, time
+"""What the scripts of tests/ share: verdicts, other programs, messages and answers, servers, and a load whose answers the rules give."""
+import contextlib, json, os, re, signal, socket, sqlite3, subprocess, sys, threading, time
 
-# A script that is stopped cleans up as one that ends.
-signal.signal(signal.SIGTERM, lambda *_: sys.exit("stopped"))
 
+def stop(*_):
+    """A script that is stopped cleans up as one that ends."""
+    sys.exit("stopped")
+
+
+def forget_stop():
+    """A process that a script forks ends at once when it is stopped, as the workers of a pool have to."""
+    if signal.getsignal(signal.SIGTERM) is stop:
+        signal.signal(signal.SIGTERM, signal.SIG_DFL)
+
+
+signal.signal(signal.SIGTERM, stop)
+os.register_at_fork(after_in_child=forget_stop)
+
+TOP = os.path.dirname(os.path.dirname(os.path.dirname(os.path.abspath(__file__))))
+TABLES = ("desk", "rates", "extensions", "bonds", "tickets", "paid", "batches", "answers")
 DAY_TICKETS = 800
 FIRST_DAY = (2012, 2, 6)
 RATES = [{"from": "2010-05", "rate": "2.00"}, {"from": "2010-11", "rate": "3.50"}]
 # Denomination, issue month, and what such a bond pays in February 2012 at these rates.
 KINDS = [(50, "2010-11", "25.88"), (75, "2010-10", "38.34"), (10000, "2011-02", "5132.00")]
+# The bonds of a known day, of customers 7 and 9.
+BONDS = [
+    {"serial": "L1EE", "denom": 50, "issued": "2010-11", "owner": 7},
+    {"serial": "K2EE", "denom": 75, "issued": "2010-10", "owner": 7, "coowner": 8},
+    {"serial": "M3EE", "denom": 10000, "issued": "2011-02", "owner": 7},
+    {"serial": "N4EE", "denom": 50, "issued": "2010-11", "owner": 9},
+    {"serial": "N5EE", "denom": 50, "issued": "2010-11", "owner": 9},
+]
+
+
+def wrong(what, found=""):
+    sys.exit(f"WRONG: {what}\n{found}")
+
+
+def right_or_end(is_right, what, found=""):
+    """The same as `right`, for what is tested many times: only what is wrong is printed."""
+    if not is_right:
+        wrong(what, found)
 
 
 def right(is_right, what, found=""):
-    if not is_right:
-        sys.exit(f"WRONG: {what}\n{found}")
+    right_or_end(is_right, what, found)
     print(f"right: {what}", flush=True)
+
+
+def in_own(kind, *options):
+    """Run this script again in a namespace of its own of a kind that `unshare` knows: mount, net."""
+    if os.environ.get("TEST_NAMESPACE") != kind:
+        os.environ["TEST_NAMESPACE"] = kind
+        os.execvp("unshare", ["unshare", f"--{kind}", *options, sys.executable, os.path.abspath(sys.argv[0]), *sys.argv[1:]])
+
+
+def run(*words, **more):
+    """How a command ended, with both of its outputs in one text."""
+    return subprocess.run(words, stdout=subprocess.PIPE, stderr=subprocess.STDOUT, text=True, **more)
+
+
+def done(*words):
+    """What a command printed, which has to end with status 0."""
+    ran = run(*words)
+    if ran.returncode != 0:
+        wrong(f"{' '.join(map(str, words))} ended with status {ran.returncode}", ran.stdout)
+    return ran.stdout
+
+
+def replaced(text, changes):
+    """The text of a sample with each old part replaced, which has to be there."""
+    for old, new in changes:
+        if old not in text:
+            wrong(f"the sample has no {old}")
+        text = text.replace(old, new)
+    return text
+
+
+def sql(store, text):
+    """What the command `sqlite3` prints."""
+    return subprocess.run(["sqlite3", store, text], stdout=subprocess.PIPE, stderr=subprocess.PIPE, text=True, check=True).stdout
+
+
+def make_version_one(store, bonds, tickets, *words):
+    """A store of version 1, as an earlier program would have made it."""
+    subprocess.run([os.path.join(TOP, "benchmarks/make_version_one.py"), store, str(bonds), str(tickets), *words], stdout=subprocess.DEVNULL, check=True)
 
 
 def free_port():
@@ -26,6 +96,10 @@ def free_port():
 def post(path, value, headers=b"Connection: close\r\n"):
     body = json.dumps(value, separators=(",", ":")).encode()
     return b"POST %s HTTP/1.1\r\n%sContent-Length: %d\r\n\r\n%s" % (path.encode(), headers, len(body), body)
+
+
+def redeem(desk, number, day, payee, *serials):
+    return post("/redeem", {"desk": desk, "number": number, "day": day, "payee": payee, "serials": serials}, b"")
 
 
 def get(path, headers=b"Connection: close\r\n"):
@@ -70,6 +144,19 @@ def wait_for(port, seconds=60):
             return
         time.sleep(0.05)
     sys.exit("the server doesn't listen")
+
+
+@contextlib.contextmanager
+def served(program, store):
+    """The port on which `serve` answers over a store, until it is killed at the end."""
+    port = free_port()
+    server = serve(program, store, port)
+    try:
+        wait_for(port)
+        yield port
+    finally:
+        server.kill()
+        server.wait()
 
 
 def apply(program, store, messages, most=900):

@@ -10,6 +10,8 @@ import sys
 import time
 from pathlib import Path
 
+from counter_calls import done, free_port, replaced
+
 TOP = Path(__file__).resolve().parents[2]
 SAMPLE = TOP / "samples" / "nginx"
 PAGE = TOP / "clients" / "teller"
@@ -38,28 +40,6 @@ http {{
 SCRIPTS = "load_module /usr/lib/nginx/modules/ngx_http_js_module.so;"
 
 
-def free_port():
-    with socket.socket() as free:
-        free.bind(("127.0.0.1", 0))
-        return free.getsockname()[1]
-
-
-def run(*words):
-    ran = subprocess.run(words, stdout=subprocess.PIPE, stderr=subprocess.STDOUT, text=True)
-    if ran.returncode != 0:
-        sys.exit(f"WRONG: {words[0]} ended with status {ran.returncode}\n{ran.stdout}")
-    return ran.stdout
-
-
-def replaced(text, changes):
-    """The text with each old part replaced, which has to be there."""
-    for old, new in changes:
-        if old not in text:
-            sys.exit(f"WRONG: the sample has no {old}")
-        text = text.replace(old, new)
-    return text
-
-
 def basic(user, password):
     """The header of a user with this password."""
     return {"Authorization": "Basic " + base64.b64encode(f"{user}:{password}".encode()).decode()}
@@ -86,11 +66,11 @@ class Nginx:
     def make_certificate(self):
         names = ("-subj", "/CN=localhost", "-addext", "subjectAltName=DNS:localhost,IP:127.0.0.1")
         files = ("-keyout", f"{self.folder}/key.pem", "-out", f"{self.folder}/certificate.pem")
-        run("openssl", "req", "-x509", "-newkey", "rsa:2048", "-nodes", "-days", "2", *names, *files)
+        done("openssl", "req", "-x509", "-newkey", "rsa:2048", "-nodes", "-days", "2", *names, *files)
 
     @staticmethod
     def hashed(password):
-        return run("openssl", "passwd", "-6", password).strip()
+        return done("openssl", "passwd", "-6", password).strip()
 
     def make_users(self, hashed):
         lines = [f"{name}:{hashed(password)}\n" for name, (password, _) in self.users.items()]

@@ -2,10 +2,9 @@
 
 import os, sqlite3, subprocess, sys
 
-from counter_calls import post
+from counter_calls import TOP, post
 from hostile import counter, desk, making
 
-TOP = os.path.join(os.path.dirname(os.path.abspath(__file__)), "..", "..", "..")
 sys.path.insert(0, os.path.join(TOP, "samples", "audit"))
 from reporting import making as reports, page, store as reading
 

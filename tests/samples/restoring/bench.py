@@ -5,22 +5,15 @@ import shutil
 import signal
 import socket
 import subprocess
-import sys
 import tempfile
 import threading
 import time
 
-from counter_calls import apply, beginning, free_port, rows, serve, wait_for
+from counter_calls import TABLES, TOP, apply, beginning, free_port, rows, serve, wait_for, wrong
 from nginx_sample import Nginx
 
-TOP = os.path.dirname(os.path.dirname(os.path.dirname(os.path.dirname(os.path.abspath(__file__)))))
 SAMPLE = os.path.join(TOP, "samples", "restore")
 ARCHIVE, REPLAY, GUARD = (os.path.join(SAMPLE, name) for name in ("archive", "replay", "guard"))
-TABLES = ("desk", "rates", "extensions", "bonds", "tickets", "paid", "batches", "answers")
-
-
-def wrong(what, found=""):
-    sys.exit(f"WRONG: {what}\n{found}")
 
 
 def run(*words, **more):

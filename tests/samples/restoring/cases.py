@@ -7,8 +7,8 @@ import subprocess
 import sys
 import time
 
-from bench import ARCHIVE, GUARD, TOP, Syslog, copy_store, dumped, held, run, wrong
-from counter_calls import apply, ask, beginning, bond, day_text, free_port, post, right, rows, serve, wait_for
+from bench import ARCHIVE, GUARD, Syslog, copy_store, dumped, held, run
+from counter_calls import TOP, apply, ask, beginning, bond, day_text, free_port, make_version_one, post, right, rows, serve, served, wait_for, wrong
 from nginx_sample import Nginx
 
 BONDS = 600
@@ -69,7 +69,7 @@ def from_nothing(place):
 def versions(place):
     """A store of version 1 is archived only once it is migrated, and then with a copy."""
     store, archive = os.path.join(place.new("old"), "day.db"), place.new("archive")
-    subprocess.run([os.path.join(TOP, "benchmarks/make_version_one.py"), store, "500", "60"], stdout=subprocess.DEVNULL, check=True)
+    make_version_one(store, 500, 60)
     ran = run(ARCHIVE, store, archive)
     right(ran.returncode == 1 and "version 1" in ran.stderr and os.listdir(archive) == [], "a store of version 1 isn't archived", ran.stderr)
     subprocess.run([place.program, "export", "1", "--db", store], stdout=subprocess.DEVNULL, check=True)
@@ -187,14 +187,10 @@ def other_copies(place, case):
 def turned_bits(place):
     """One bit is turned in a killed server's log. The program opens the store, and what the log had behind it is gone without a word; guard and replay have all of it."""
     case = Archived(place, 50)
-    port = free_port()
-    server = serve(place.program, case.store, port)
-    wait_for(port)
-    for turn in range(50, 250):
-        if ask(port, redemption(turn, headers=b"Connection: close\r\n"))[0] != 200:
-            wrong("a redemption is refused")
-    server.kill()
-    server.wait()
+    with served(place.program, case.store) as port:
+        for turn in range(50, 250):
+            if ask(port, redemption(turn, headers=b"Connection: close\r\n"))[0] != 200:
+                wrong("a redemption is refused")
     place.archived(case.store, case.archive)
     wanted, gone, refused = dumped(place, case.store), [], 0
     with open(case.store + "-wal", "rb") as file:
@@ -205,9 +201,9 @@ def turned_bits(place):
         store = copy_store(case.store, os.path.join(place.new("harmed"), "day.db"))
         with open(store + "-wal", "wb") as file:
             file.write(harmed)
-        served = copy_store(store, os.path.join(place.new("served"), "day.db"))
-        ran = run(place.program, "export", "1", "--db", served)
-        lost = len(wanted["answers"]) - len(held(place, served)) if ran.returncode == 0 else None
+        opened = copy_store(store, os.path.join(place.new("opened"), "day.db"))
+        ran = run(place.program, "export", "1", "--db", opened)
+        lost = len(wanted["answers"]) - len(held(place, opened)) if ran.returncode == 0 else None
         status = run(GUARD, store, case.archive).returncode
         if status != (1 if lost else 0) and lost is not None:
             wrong(f"byte {at}: {lost} replies are gone, and the guard ends with status {status}")
@@ -223,15 +219,12 @@ def turned_bits(place):
 def other_moments(place):
     """Files and logs of different moments beside each other."""
     case = Archived(place, 50)
-    states, port = {}, free_port()
+    states = {}
     states["rest"] = copy_store(case.store, os.path.join(place.new("rest"), "day.db"))
     for name, first in (("g1", 50), ("g2", 100), ("g3", 150)):
-        server = serve(place.program, case.store, port)
-        wait_for(port)
-        for turn in range(first, first + 50):
-            ask(port, redemption(turn, headers=b"Connection: close\r\n"))
-        server.kill()
-        server.wait()
+        with served(place.program, case.store) as port:
+            for turn in range(first, first + 50):
+                ask(port, redemption(turn, headers=b"Connection: close\r\n"))
         place.archived(case.store, case.archive)
         states[name] = copy_store(case.store, os.path.join(place.new(name), "day.db"))
         run(place.program, "export", "1", "--db", case.store)
@@ -246,15 +239,11 @@ def older_log(place):
     gone = []
     for later in (1, 2, 4, 8):
         case = Archived(place, 50)
-        port = free_port()
-        server = serve(place.program, case.store, port)
-        wait_for(port)
-        for turn in range(50, 70 + later):
-            if turn == 70:
-                log = copy_store(case.store, os.path.join(place.new("log"), "day.db"))
-            ask(port, redemption(turn, headers=b"Connection: close\r\n"))
-        server.kill()
-        server.wait()
+        with served(place.program, case.store) as port:
+            for turn in range(50, 70 + later):
+                if turn == 70:
+                    log = copy_store(case.store, os.path.join(place.new("log"), "day.db"))
+                ask(port, redemption(turn, headers=b"Connection: close\r\n"))
         run(place.program, "export", "1", "--db", case.store)
         place.archived(case.store, case.archive)
         newest = dumped(place, case.store)

@@ -9,8 +9,8 @@ import sys
 import threading
 import time
 
-from bench import ARCHIVE, GUARD, REPLAY, SAMPLE, TABLES, done, run, wrong
-from counter_calls import apply, ask, beginning, bond, day_text, free_port, milliseconds, post, right, serve, wait_for
+from bench import ARCHIVE, GUARD, REPLAY, SAMPLE, done, run
+from counter_calls import TABLES, apply, ask, beginning, bond, day_text, free_port, milliseconds, post, right, serve, wait_for, wrong
 
 DAY_TICKETS = 999
 

@@ -5,8 +5,8 @@ import os
 import shutil
 import time
 
-from bench import GUARD, Counter, copy_store, done, dumped, held, run, undisturbed, wrong
-from counter_calls import Load, day_text, fault_of_books, milliseconds, right, rows
+from bench import GUARD, Counter, copy_store, done, dumped, held, run, undisturbed
+from counter_calls import Load, day_text, fault_of_books, milliseconds, right, rows, wrong
 
 BONDS, CLIENTS, EVERY = 19_000, 3, 1.0
 #: An archive lacks what came since its last turn began: one interval, and what a turn takes on a busy machine.

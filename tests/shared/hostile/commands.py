@@ -3,9 +3,11 @@
 import subprocess, time
 import socket as sockets
 
+from counter_calls import free_port
+
 from . import desk, judging, spelling
 from .judging import Wrong
-from .program import SECONDS, Ran, free_port, read_counts
+from .program import SECONDS, Ran, read_counts
 
 
 def rates_rows(file):

@@ -1,14 +1,11 @@
 """The desk by its rules (docs/MODEL.md, docs/STATUSES.md): books, acts, replies, queries, and the rows that a store then has. Values are those of
 tests/shared/exact.py. It shares nothing with the program."""
 
-import copy, importlib.util, json, os
+import copy, json
+
+import exact
 
 from . import spelling
-
-exact_path = os.path.join(os.path.dirname(os.path.abspath(__file__)), "..", "exact.py")
-exact_spec = importlib.util.spec_from_file_location("exact", exact_path)
-exact = importlib.util.module_from_spec(exact_spec)
-exact_spec.loader.exec_module(exact)
 
 MOST_ROWS, MOST_SERIALS, MOST_TICKETS = 500, 100, 1_000
 NAMES = {

@@ -1,6 +1,6 @@
 """The built program under test, run with what shim.c does to it: faults of files, refused memory, a record of its writes."""
 
-import dataclasses, os, shutil, socket, struct, subprocess, sys, tempfile
+import dataclasses, multiprocessing, os, shutil, struct, subprocess, sys, tempfile
 
 HERE = os.path.dirname(os.path.abspath(__file__))
 KINDS = ("open", "read", "write", "truncate", "sync", "stat", "lock", "advise", "own", "hear", "tell")
@@ -110,7 +110,29 @@ def read_counts(path):
     return dict(zip(COUNTS, struct.unpack(f"{len(COUNTS)}Q", text[: 8 * len(COUNTS)])))
 
 
-def free_port():
-    with socket.socket() as free:
-        free.bind(("127.0.0.1", 0))
-        return free.getsockname()[1]
+def end_with(program, main):
+    """Ends the script with the status of `main`, and removes the program's folder."""
+    try:
+        status = main()
+    finally:
+        program.close()
+    sys.exit(status)
+
+
+def results(work, tasks, plant):
+    """Yields what `work` returns for each task, in two processes. The last part of it lists what was wrong, of which three are
+    printed. With a planted fault, the first wrong result is the last."""
+    with multiprocessing.Pool(2) as pool:
+        for result in pool.imap_unordered(work, tasks):
+            wrongs = result[-1]
+            for wrong in wrongs[:3]:
+                print(("found: " if plant else "WRONG: ") + wrong, flush=True)
+            yield result
+            if plant and wrongs:
+                return
+
+
+def planted(plant, wrongs):
+    """The status of a run with a planted fault: 0 if it was found."""
+    print(f"the planted fault {plant} was {'found' if wrongs else 'NOT found'}")
+    return 0 if wrongs else 1

@@ -3,7 +3,9 @@ worked by hand. Their little language is told in its talk.rt."""
 
 import os, re
 
-SOURCES = os.path.join(os.path.dirname(os.path.abspath(__file__)), "..", "..", "..", "crates", "store_tests", "src")
+from counter_calls import TOP
+
+SOURCES = os.path.join(TOP, "crates", "store_tests", "src")
 REASONS = {200: "OK", 400: "Bad Request", 404: "Not Found", 405: "Method Not Allowed", 409: "Conflict", 413: "Content Too Large", 503: "Service Unavailable"}
 
 
