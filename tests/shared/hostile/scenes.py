@@ -32,7 +32,7 @@ def first_version(program, name, with_extensions):
     """A store of version 1, and its books."""
     path = program.place(name)
     store.make_version_one(path, with_extensions)
-    books = judging.start([talk.texts("five")["FIVE"]] + ([talk.texts("earlier")["NAMED"]] if with_extensions else []))
+    books = judging.start([talk.texts("FIVE")["FIVE"]] + ([talk.texts("NAMED")["NAMED"]] if with_extensions else []))
     return path, books
 
 
@@ -46,7 +46,7 @@ def written(program, name, file):
 
 def connections(program):
     """A connection over a new store, a store at rest, one with its log not written back, one of each kind of version 1, and one that is served."""
-    days, earlier = talk.texts("days"), talk.texts("earlier")
+    days, earlier = talk.texts("BEGUN"), talk.texts("NAMED")
     day = talk.stream(days["DAY"])
     begun, start = talk.stream(days["BEGUN"]), judging.start([days["BEGUN"]])
     scenes = [Scene("new", None, desk.Books(), commands.Connection(day))]
@@ -55,7 +55,7 @@ def connections(program):
     scenes.append(Scene("with a log", made(program, "logged", begun, "truncate log 1 1 e 5"), start, commands.Connection(day)))
     for name, with_extensions in (("version 1", True), ("version 1 without extensions", False)):
         path, books = first_version(program, name.replace(" ", "_"), with_extensions)
-        talked = talk.stream(talk.texts("five")["FIVE"] + earlier["NAMED"] + earlier["OTHER"])
+        talked = talk.stream(talk.texts("FIVE")["FIVE"] + earlier["NAMED"] + earlier["OTHER"])
         scenes.append(Scene(name, path, books, commands.Connection(talked)))
     scenes.append(Scene("served", at_rest, start, commands.Served(day)))
     return scenes
@@ -63,7 +63,7 @@ def connections(program):
 
 def files(program):
     """Imports into a new store and into one with rates, an export and a sheet."""
-    days = talk.texts("days")
+    days = talk.texts("BEGUN")
     rates, bonds = written(program, "rates.csv", RATES_FILE), written(program, "bonds.csv", BONDS_FILE)
     with_rates = made(program, "rated", talk.exchanges(days["BEGUN"])[0][0])
     begun, start = made(program, "shown", talk.stream(days["BEGUN"])), judging.start([days["BEGUN"]])

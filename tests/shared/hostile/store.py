@@ -77,7 +77,7 @@ def difference(found, wanted):
 
 def make_version_one(store, with_extensions):
     """The store of five requests (and of a sixth, which enters an extension), as a program from before desks made it."""
-    earlier = talk.texts("earlier")
+    earlier = talk.texts("NAMED")
     remove(store)
     base = sqlite3.connect(store, isolation_level=None)
     base.execute("PRAGMA journal_mode = WAL")

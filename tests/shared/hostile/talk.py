@@ -9,10 +9,19 @@ SOURCES = os.path.join(TOP, "crates", "store_tests", "src")
 REASONS = {200: "OK", 400: "Bad Request", 404: "Not Found", 405: "Method Not Allowed", 409: "Conflict", 413: "Content Too Large", 503: "Service Unavailable"}
 
 
-def texts(file):
-    """The constant texts of a source file, by name: a text, or a list of texts."""
-    with open(os.path.join(SOURCES, file + ".rt"), encoding="utf-8") as source:
-        text = source.read()
+def source_of(name):
+    """The text of the one source file that has a constant of this name."""
+    texts = []
+    for path in sorted(os.listdir(SOURCES)):
+        with open(os.path.join(SOURCES, path), encoding="utf-8") as source:
+            texts.append(source.read())
+    (text,) = [text for text in texts if re.search(rf"\bconst {name}:", text)]
+    return text
+
+
+def texts(constant):
+    """The constant texts of the source file that has this one, by name: a text, or a list of texts."""
+    text = source_of(constant)
     found = {}
     for name, listed, value in re.findall(r'const (\w+): (\[&str; \d+\]|&str) =\s*(.*?);\n(?=\n|\Z|/)', text, re.S):
         raw = re.findall(r'r#"(.*?)"#', value, re.S)
