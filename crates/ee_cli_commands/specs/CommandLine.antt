@@ -13,7 +13,7 @@ use Rattle.ee_units.specs.declared.denoms.Denom.{Denom}
 use Rattle.ee_desk_model.specs.Desks.{desk_of}
 use Rattle.ee_cli_commands.specs.declared.commands.FileKind.{FileKind}
 use Rattle.ee_cli_commands.specs.declared.commands.FileKind.TheVariants as kind
-use Rattle.ee_desk_model.specs.Numbers.{highest_number}
+use Rattle.ee_desk_model.specs.Limits.{highest_number}
 
 -- a required positional word
 abbrev pub positional : Text → Rule

@@ -6,7 +6,7 @@ ghost use Rattle.clap.specs.Words.{App, Rule, Text, app_of, new_app, rule_of, wi
 ghost use Rattle.clap.specs.declared.builder.command.Command.TheViews.{out-Command as fields_of};
 ghost use Rattle.clap.specs.declared.builder.ValueParser.TheVariants.{Names};
 ghost use Rattle.ee_cli_commands.specs.CommandLine as is;
-ghost use Rattle.ee_desk_model.specs.Numbers.{highest_number};
+ghost use Rattle.ee_desk_model.specs.Limits.{highest_number};
 
 use clap::{Arg, Command, value_parser};
 use std::alloc::{AllocError, Global};

@@ -17,7 +17,7 @@ ghost use Rattle.ee_cli_commands.specs.CommandLine.{
   text_of,
 };
 ghost use Rattle.ee_cli_commands.specs.Answer.{Spells};
-ghost use Rattle.ee_desk_model.specs.Numbers.{highest_number};
+ghost use Rattle.ee_desk_model.specs.Limits.{highest_number};
 
 use crate::commands::FileKind;
 use clap::ArgMatches;

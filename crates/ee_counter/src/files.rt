@@ -1,6 +1,6 @@
 //! Imports and exports of files.
 
-ghost use Rattle.std.specs.Prelude.{◌≡◌, ℕ, List, Some, IfErr};
+ghost use Rattle.std.specs.Prelude.{◌+◌, ◌≡◌, ℕ, List, Some, IfErr};
 ghost use Rattle.ee_desk_model.specs.declared.acts.Act.TheVariants as act;
 ghost use Rattle.ee_desk_model.specs.declared.refusals.Unserved.TheVariants.{StoreFailed};
 ghost use Rattle.ee_desk_model.specs.Repeats.{Content};

@@ -9,7 +9,7 @@ ghost use Rattle.ee_desk_model.specs.Seen.{held_of};
 ghost use Rattle.ee_desk_model.specs.Views as is;
 ghost use Rattle.ee_desk_model.specs.Views.{picked, period_of_held};
 ghost use Rattle.ee_desk.specs.Kept.{rates_in, held_in, noted, noted_at, AreCounts};
-ghost use Rattle.ee_desk_model.specs.Sound.{highest_ticket};
+ghost use Rattle.ee_desk_model.specs.Limits.{highest_ticket};
 
 use crate::ledger::Ledger;
 use ee_calculator::Bond;

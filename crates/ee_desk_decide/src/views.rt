@@ -5,7 +5,8 @@ ghost use Rattle.std.specs.Option.{option_copied};
 ghost use Rattle.std.specs.FinMap as finite;
 ghost use Rattle.ee_desk_model.specs.declared.acts.Act.{Act};
 ghost use Rattle.ee_desk_model.specs.PlainBooks.{PlainBooks};
-ghost use Rattle.ee_desk_model.specs.Sound.{IsSound, highest_ticket};
+ghost use Rattle.ee_desk_model.specs.Sound.{IsSound};
+ghost use Rattle.ee_desk_model.specs.Limits.{highest_ticket};
 ghost use Rattle.ee_desk_model.specs.Values.{unsettled};
 ghost use Rattle.ee_desk_model.specs.Views.{view_of, needed_of, no_view};
 ghost use Rattle.ee_desk_decide.specs.Parts.{plain_parts};
@@ -80,7 +81,7 @@ impl Model for View {
     ghost use Rattle.std.specs.FinMap as finite;
     ghost use Rattle.ee_desk_model.specs.Views.{PlainView};
     ghost use Rattle.ee_desk_decide.specs.Parts.{plain_parts};
-    ghost use Rattle.ee_desk_model.specs.Sound.{highest_ticket};
+    ghost use Rattle.ee_desk_model.specs.Limits.{highest_ticket};
 
     ghost Value = { PlainView };
 

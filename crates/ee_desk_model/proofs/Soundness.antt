@@ -586,4 +586,4 @@ opens_empty books day sound none =
 
 -- a ticket is made on the open day
 pub redeem_opened : (books : PlainBooks) (day payee : ℕ) (ss : List SerialNumber) → refusal_of (shown books) (Redeem day payee ss) ≡ None → books.day ≡ Some day
-redeem_opened books day payee ss none = open_is books.day day (no_refusal (tests_of (shown books) (Redeem day payee ss)) none).1.1.1.0
+redeem_opened books day payee ss none = open_is books.day day (no_refusal (tests_of (shown books) (Redeem day payee ss)) none).1.1.0

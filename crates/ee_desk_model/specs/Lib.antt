@@ -1,3 +1,4 @@
+pub mod Limits
 pub mod Serials
 pub mod Values
 pub mod UnitTables

@@ -5,10 +5,6 @@ use Rattle.std.specs.Ordering.{nat_cmp, then_cmp, on}
 use Rattle.ee_desk_model.specs.declared.acts.Act.{Act}
 use Rattle.ee_desk_model.specs.declared.acts.Request.{Request}
 
--- the highest request number of a desk, 2^63 - 1
-abbrev pub highest_number : ℕ
-highest_number = 9223372036854775807
-
 -- what identifies a request: a desk, and the number that it gave
 abbrev pub RequestKey : Type 0
 RequestKey = ℕ × ℕ

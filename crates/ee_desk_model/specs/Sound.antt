@@ -97,7 +97,3 @@ pub record IsSound (books : PlainBooks) : Type 0 where
   pub in_range : AllByRecursion IsDay (days books)
   pub last : books.last_day ≡ last_of books.batches
   pub batches : AllByRecursion (λ batch. batch ≡ batch_of batch.day books.tickets) books.batches
-
--- sound books have no more tickets: at most 1,000 on each of the days from 2005 to 2199
-abbrev pub highest_ticket : ℕ
-highest_ticket = 71200000

@@ -2,7 +2,7 @@
 
 ghost use Rattle.std.specs.Prelude.{◌≡◌, ◌≤◌};
 ghost use Rattle.ee_units.specs.Spelling.{in_range};
-ghost use Rattle.ee_desk_model.specs.Numbers.{highest_number};
+ghost use Rattle.ee_desk_model.specs.Limits.{highest_number};
 
 use crate::desks::Desk;
 use std::marker::Model;
@@ -15,7 +15,7 @@ pub struct Number {
 
 impl Model for Number {
     ghost use Rattle.std.specs.Prelude.{ℕ, ◌≤◌};
-    ghost use Rattle.ee_desk_model.specs.Numbers.{highest_number};
+    ghost use Rattle.ee_desk_model.specs.Limits.{highest_number};
 
     ghost Value = { ℕ };
 

@@ -1,6 +1,6 @@
 //! Reading rate files.
 
-ghost use Rattle.std.specs.Prelude.{◌≡◌, ℕ, List, [], ◌∷◌, Some, IfErr};
+ghost use Rattle.std.specs.Prelude.{◌+◌, ◌≡◌, ℕ, List, [], ◌∷◌, Some, IfErr};
 ghost use Rattle.csv.specs.Records.{fields_of};
 ghost use Rattle.ee_io.specs.ReadWhole.{TakesAtMost};
 ghost use Rattle.ee_files.specs.Answers.{Gives, WasRead};

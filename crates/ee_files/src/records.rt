@@ -1,6 +1,6 @@
 //! Records of a file, and their rows under a header.
 
-ghost use Rattle.std.specs.Prelude.{◌≡◌, ℕ, List, Some, Result, IfOk, IfErr};
+ghost use Rattle.std.specs.Prelude.{◌+◌, ◌≡◌, ℕ, List, Some, Result, IfOk, IfErr};
 ghost use Rattle.csv.specs.Reading.{default_config, records, strip_bom};
 ghost use Rattle.csv.specs.Records.{fields_of};
 ghost use Rattle.ee_io.specs.ReadWhole.{TakesAtMost};

@@ -17,7 +17,8 @@ use Rattle.ee_desk_model.specs.declared.replies.Batch.{Batch}
 use Rattle.ee_desk_model.specs.declared.replies.Reply.TheVariants.{Refused}
 use Rattle.ee_desk_model.specs.declared.refusals.Refusal.TheVariants.{NumberReused}
 use Rattle.ee_desk_model.specs.Serials.{serial_cmp}
-use Rattle.ee_desk_model.specs.Numbers.{RequestKey, number_cmp, highest_number}
+use Rattle.ee_desk_model.specs.Numbers.{RequestKey, number_cmp}
+use Rattle.ee_desk_model.specs.Limits.{highest_number}
 use Rattle.ee_desk_model.specs.PlainBooks.{PlainBooks}
 use Rattle.ee_desk_model.specs.Seen.{held_as}
 use Rattle.ee_desk_model.specs.Sound.{IsSound}

@@ -10,7 +10,7 @@ ghost use Rattle.ee_keeper.specs.Keeping.{IsInventory, IsQuote};
 ghost use Rattle.ee_store_books.specs.Causes.{FailsByCause, IsReady};
 ghost use Rattle.ee_store_books.specs.Seen.{FindsIn, LeavesRows};
 ghost use Rattle.ee_store_queries.specs.Asking.{AnswersOrFails, ShowsContent, KeepsContent, KeepsRoom};
-ghost use Rattle.ee_desk_model.specs.Numbers.{highest_number};
+ghost use Rattle.ee_desk_model.specs.Limits.{highest_number};
 
 use crate::from_rows::{batch_shown, bonds_shown, ticket_shown};
 use crate::periods::periods_in;

@@ -8,7 +8,7 @@ use Rattle.serde_json.specs.Find.{as_number, as_str, as_u64}
 use Rattle.ee_units.specs.Spelling.{SerialNumber, in_range, rate_of, issue_of, day_of, serial_of}
 use Rattle.ee_units.specs.declared.denoms.Denom.{Denom}
 use Rattle.ee_units.specs.Denoms.{denom_with}
-use Rattle.ee_desk_model.specs.Numbers.{highest_number}
+use Rattle.ee_desk_model.specs.Limits.{highest_number}
 use Rattle.ee_units.specs.Limits.{highest_customer}
 
 -- ---- a part of a path
