@@ -154,7 +154,7 @@ add_bonds_applicable : (books : PlainBooks) (bonds : List Bond) → IsSound book
 add_bonds_applicable books bonds sound none =
     let tests = no_test_refuses (tests_of (shown books) (AddBonds bonds)) none in
     let new = new_bonds (shown books) bonds in
-    let distinct = distinct_filter (λ b. is_none (held_of books b.serial)) bonds (unrepeated [] bonds tests.1.1.0).1 in
+    let distinct = distinct_filter (λ b. is_none (held_of books b.serial)) bonds (unrepeated [] bonds tests.1.0).1 in
     let absent = all_weaker (λ b. is_none (held_of books b.serial) ≡ true) (λ b. finite.get books.bonds b.serial ≡ None)
     (λ b e. none_from_option_map (held_as books.tickets b.serial) (finite.get books.bonds b.serial) (none_from_is_none (held_of books b.serial) e)) new (all_passed (λ b. is_none (held_of books b.serial)) bonds) in
     bonds_applicable books new (new_registered books.bonds new distinct absent) (all_unpaid books sound new absent)
@@ -186,7 +186,7 @@ accepted_applicable books (Redeem day payee ss) sound ranges none =
     let tests = no_test_refuses (tests_of (shown books) (Redeem day payee ss)) none in (
       refl,
       (
-        unpaid_lines books (month_of_day day) payee ss (no_row_refused (refusal_of_serial (shown books) (month_of_day day) payee) ss tests.1.1.1.1.1.0),
+        unpaid_lines books (month_of_day day) payee ss (no_row_refused (refusal_of_serial (shown books) (month_of_day day) payee) ss tests.1.1.1.1.0),
         redeem_on_open_day books day payee ss none,
         room books (ticket_for (shown books) day payee ss) (done_keeps_sound books (Redeem day payee ss) sound none ranges),
       ),
