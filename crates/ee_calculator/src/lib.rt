@@ -1,4 +1,7 @@
 //! The rows, notes and sheets of a savings bond calculator.
+//!
+//! It promises the columns of each row under each note, sums that are those of the rows, and a text that is
+//! written whole or as a front. Begin with `specs/Rows.antt`, then `specs/Sheets.antt` and `writing.rt`.
 #![tactic(auto)]
 
 mod bonds;

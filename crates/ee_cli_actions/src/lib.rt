@@ -1,4 +1,7 @@
 //! What each command of the program does, over any keeper: what it answers, prints and leaves.
+//!
+//! It promises what each command prints, with which status it ends, and what the keeper has afterwards. Begin
+//! with `specs/Actions.antt`; each command has a file.
 #![tactic(auto)]
 
 mod applying;

@@ -1,4 +1,7 @@
 //! The command line of the counter: its rows, and what the words of a line ask for.
+//!
+//! It promises that words ask for at most one thing, and that a word at fault is named, the first in the row's
+//! order. Begin with `specs/CommandLine.antt`, then `commands.rt`.
 #![tactic(auto)]
 
 mod commands;

@@ -1,4 +1,7 @@
 //! The stores in files, as the program's commands open and close them.
+//!
+//! It promises the fault of an opening under its printed name, and that a store is written back as it is
+//! closed. Begin with `files.rt`.
 #![tactic(auto)]
 
 mod files;

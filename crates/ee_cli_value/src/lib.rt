@@ -1,4 +1,7 @@
 //! The command `value`: the words of its line, what it prints, and its exit status.
+//!
+//! It promises the printed value, or a fault and its exit status, and that a line that isn't read is left to
+//! the whole program. Begin with `lines.rt` and `values.rt`.
 #![tactic(auto)]
 
 mod endings;

@@ -1,4 +1,8 @@
 //! The counter of a paying agent, over any keeper: lists of requests, connections, and files.
+//!
+//! It promises the headline, as the contract of `run`: the books and the answers are those of the list with its
+//! repeats taken out. Begin with `requests.rt`, then `connections.rt` for streams and `files.rt` for imports
+//! and exports.
 #![tactic(auto)]
 
 mod answering;

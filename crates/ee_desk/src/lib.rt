@@ -1,5 +1,8 @@
 //! The desk of a paying agent: books of rates, bonds, tickets and batches, the effects of acts on them,
 //! and queries.
+//!
+//! It promises that an act changes the books as the model says, or not at all, and that queries show what the
+//! books have. Begin with `books.rt`; what the maps in memory stand for is in `specs/Kept.antt`.
 #![tactic(auto)]
 
 mod additions;

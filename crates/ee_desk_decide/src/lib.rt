@@ -1,4 +1,7 @@
 //! What an act sees of the books, and its effects, which depend on nothing else.
+//!
+//! It promises the effects of an act on any books that the view shows, whatever else these have. Begin with
+//! `views.rt`, then `decisions.rt` and, for the tests in their order, `checks.rt`.
 #![tactic(auto)]
 
 mod checks;

@@ -1,5 +1,7 @@
 //! Laws that follow from the definitions of requests alone: what stops and retries leave, what the order
 //! of tellers changes, and what a keeper over a store must satisfy for the first of them.
+//!
+//! It promises theorems, and runs nothing. Begin with `specs/Events.antt` and `laws.rt`.
 #![tactic(auto)]
 
 mod laws;

@@ -1,5 +1,9 @@
 //! What the desk of a paying agent is asked and what it answers: acts and replies as types. The
 //! definitions describe the books, the order of refusals, and requests that may be repeated.
+//!
+//! It promises what later crates prove against: what an act changes and replies, which refusal comes first, and
+//! that acts keep books sound. Begin with `specs/PlainBooks.antt`, `specs/Refusals.antt` and `specs/Acts.antt`;
+//! `specs/Repeats.antt` has requests that are sent again.
 #![tactic(auto)]
 
 mod acts;

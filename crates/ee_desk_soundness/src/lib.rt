@@ -1,4 +1,7 @@
 //! The parts of a desk's books as lists, and the check whether they are those of sound books.
+//!
+//! It promises that parts pass exactly if they are those of sound books, and that sound books have one list of
+//! parts. Begin with `specs/Checks.antt` and `checks.rt`.
 #![tactic(auto)]
 
 mod checks;

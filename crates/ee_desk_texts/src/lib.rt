@@ -1,5 +1,8 @@
 //! The JSON texts of acts and replies: canonical texts, by which acts are kept and compared, and texts of
 //! replies. Both can be read back. Also writes JSON one value at a time.
+//!
+//! It promises one text for each act and reply, and that each text is read back as what it was written for, and
+//! as nothing else. Begin with `specs/Data.antt` for the texts, and `specs/Reading.antt` for reading them.
 #![tactic(auto)]
 
 mod act_reading;

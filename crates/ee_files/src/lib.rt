@@ -1,4 +1,7 @@
 //! Files of comma-separated values: reads rates and inventories of bonds, and writes inventories.
+//!
+//! It promises the rows of a file, or its first fault by row and code, and an export that is read back. Begin
+//! with `specs/Rows.antt`, then `specs/RateFile.antt` and `specs/BondFile.antt`.
 #![tactic(auto)]
 
 mod columns;

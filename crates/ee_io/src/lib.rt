@@ -1,4 +1,7 @@
 //! Devices: reading a source whole, and writing a text whole, or only its front if the device failed.
+//!
+//! It promises the whole source or a cause, and a text of which the device has a front; over bytes in memory a
+//! call never fails by the device. Begin with the traits `Source` and `Sink`.
 #![tactic(auto)]
 
 ghost use Rattle.std.specs.Prelude.{◌≡◌, false};

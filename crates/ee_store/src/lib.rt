@@ -1,4 +1,8 @@
 //! The store of a paying agent's counter: a keeper that keeps books and replies in the rows of its tables.
+//!
+//! It promises what every keeper promises, and that stops, lost replies and crashes leave books of requests
+//! that were sent, each acting once. Begin with `keeper.rt` and `opening.rt`; `specs/History.antt` has what
+//! holds from run to run.
 #![tactic(auto)]
 
 mod adopting;

@@ -1,5 +1,8 @@
 //! The delivery of a request to a store: looks up its number, decides its act on what it sees, and writes all
 //! its effects with its reply.
+//!
+//! It promises that a request takes effect with its reply in one transaction, or not at all, and that what is
+//! known of the books without reading them is right. Begin with `delivery.rt`; `known.rt` is the cache.
 #![tactic(auto)]
 
 mod delivery;

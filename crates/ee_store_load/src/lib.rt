@@ -1,4 +1,7 @@
 //! Opening a store: finds out whether it is blank, and otherwise reads all its rows, of version 2 or 1.
+//!
+//! It promises all rows of a store with the program's tables, or says why the store is refused, and changes
+//! nothing. Begin with `opening.rt`; `specs/Opening.antt` says which store is blank, ours or another's.
 #![tactic(auto)]
 
 mod entries;

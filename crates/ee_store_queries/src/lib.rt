@@ -1,4 +1,7 @@
 //! Queries of a store. Each is one transaction, which is read and rolled back.
+//!
+//! It promises what the books have that the store stands for, and leaves the store as it was. Begin with
+//! `queries.rt`; `specs/Asking.antt` has what all queries promise.
 #![tactic(auto)]
 
 mod from_rows;

@@ -1,4 +1,7 @@
 //! Creating the tables of a store, and migrating those of a store of version 1 to version 2.
+//!
+//! It promises the tables with no rows, or for a migration the same content in the tables of version 2, in one
+//! transaction. Begin with `specs/Forms.antt`, then `making.rt` and `migrating.rt`.
 #![tactic(auto)]
 
 mod answers;

@@ -24,6 +24,7 @@ ghost use Rattle.ee_store_tables.specs.Statements.{
   IsMemory,
   TakesRoom,
 };
+ghost use Rattle.ee_store_tables.specs.Tables.{answers_tree};
 
 use crate::failures::Failure;
 use crate::records::ReplyRow;
@@ -49,12 +50,12 @@ pub fn add_answer_texts<S: Alter>(
     ensures sound { LeavesSound (state S.Store tx.old.conn.now) (state S.Store tx.new.conn.now) result }
     ensures room { TakesRoom (state S.Store tx.old.conn.now) (state S.Store tx.new.conn.now) result 1 }
     ensures rises { HasCleanDisk (state S.Store tx.new.conn.now) → IsInside (state S.Store tx.old.conn.now) → OnOk result ((n : ℕ)
-        → Rises 1 (n + 1) ((state S.Store tx.old.conn.now).now.trees 13) → IsTrue (state S.Store tx.new.conn.now).is_open
-        → Rises 1 n ((state S.Store tx.new.conn.now).now.trees 13)) }
+        → Rises 1 (n + 1) ((state S.Store tx.old.conn.now).now.trees answers_tree) → IsTrue (state S.Store tx.new.conn.now).is_open
+        → Rises 1 n ((state S.Store tx.new.conn.now).now.trees answers_tree)) }
     ensures commit { HasCleanDisk (state S.Store tx.new.conn.now) → KeepsCommit (state S.Store tx.old.conn.now) (state S.Store tx.new.conn.now) }
     ensures cause { FailsByCause (state S.Store tx.old.conn.now) (state S.Store tx.new.conn.now) result
         (λ rows. (IsTrue (state S.Store tx.old.conn.now).is_open
-        → IsDatabase (state S.Store tx.old.conn.now).now × Rises 1 1 ((state S.Store tx.old.conn.now).now.trees 13)) × (get rows.answers (desk, number) ≡ None)
+        → IsDatabase (state S.Store tx.old.conn.now).now × Rises 1 1 ((state S.Store tx.old.conn.now).now.trees answers_tree)) × (get rows.answers (desk, number) ≡ None)
         × FitsRow (record { act = act.now; reply = reply.now })) }
     ensures crash { LeavesNoMore (state S.Store tx.old.conn.now) (state S.Store tx.new.conn.now) }
 {

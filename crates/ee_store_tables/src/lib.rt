@@ -1,4 +1,7 @@
 //! The eight tables of a counter's store: their rows, and the statements that read and write them.
+//!
+//! It promises what each statement finds, changes and leaves of the rows, why it fails, and what a crash may
+//! then leave. Begin with `specs/Rows.antt` and `specs/Tables.antt`; `bonds.rt` is typical of the statements.
 #![tactic(auto)]
 
 mod answers;

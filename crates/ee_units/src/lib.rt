@@ -1,5 +1,9 @@
 //! The units of the counter: money, rates, months, days, ages, denominations, serial numbers and
 //! customers. Each value has one printed spelling, and a grammar of spellings that are read.
+//!
+//! It promises that each reader takes the texts of a grammar and no others, and that each printed text is read
+//! back (`laws.rt`). Begin with `specs/Spelling.antt`, and for months and days with `specs/Calendar.antt`; the
+//! ranges are in `specs/Limits.antt`.
 #![tactic(auto)]
 
 mod ages;

@@ -1,6 +1,10 @@
 //! The value of Series EE savings bonds that earn a fixed rate and, after original maturity, possibly
 //! another one (31 CFR Part 351): the accrued value at an age of one unit, 12.50 dollars of issue price,
 //! and what a bond pays.
+//!
+//! It promises the value that the rounding rule gives, to the cent, or names the least age at which the
+//! precision doesn't settle it. Begin with `specs/Rounding.antt` and `specs/Chain.antt`, then `tables.rt`;
+//! `laws.rt` has worked examples.
 #![tactic(auto)]
 
 mod accrual;

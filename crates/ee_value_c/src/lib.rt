@@ -1,5 +1,8 @@
 //! The value of a Series EE bond for programs in C; `include/ee_value.h` declares the functions. No call
 //! allocates, keeps anything or fails: each answers every combination of numbers.
+//!
+//! It promises the same values as the counter's, and a status for each number that is out of range. Begin with
+//! `exports.rt` and `specs/Answers.antt`.
 #![tactic(auto)]
 
 mod answers;

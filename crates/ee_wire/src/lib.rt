@@ -1,4 +1,7 @@
 //! HTTP messages: requests from a stream, what they ask for, and the bytes of the responses.
+//!
+//! It promises the bytes of each response: its status, headers and body. Begin with `specs/Answers.antt`, then
+//! `answers.rt`.
 #![tactic(auto)]
 
 mod answers;

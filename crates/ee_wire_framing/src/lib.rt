@@ -1,5 +1,8 @@
 //! Requests of HTTP/1.x from a stream of bytes, however a reader cuts them: heads by `httparse`'s grammar,
 //! and bodies whose length the head states.
+//!
+//! It promises the split of a stream into messages by its bytes alone, however they come in pieces, within
+//! fixed limits of memory. Begin with `specs/Framing.antt`, then `buffer.rt`.
 #![tactic(auto)]
 
 mod buffer;
