@@ -7,10 +7,9 @@ use Rattle.std.specs.Ordering.{nat_cmp}
 use Rattle.ee_desk_model.specs.declared.replies.Ticket.{Ticket}
 use Rattle.ee_desk_model.specs.declared.replies.Batch.{Batch}
 use Rattle.ee_desk_model.specs.PlainBooks.{of_day, bonds_on, total_of}
-use Rattle.ee_desk_model.specs.Refusals.{most_tickets, most_serials}
+use Rattle.ee_desk_model.specs.Refusals.{most_tickets}
 use Rattle.ee_desk_model.specs.Sound.{day_of_batch, open_days}
 use Rattle.ee_desk_decide.specs.declared.views.DayCounts.{DayCounts}
-use Rattle.ee_value.specs.Payment.{highest_value}
 
 -- the counts of a day
 abbrev pub counts_at : List (ℕ × DayCounts) → ℕ → Option DayCounts
@@ -45,7 +44,7 @@ HasMore old new days = (day : ℕ) → counts_at new day ≡ (if list_any (λ d.
 
 -- at most 100 lines, for bonds that are each worth at most 3,044,936.00 dollars
 abbrev pub IsSmall : Ticket → Type 0
-IsSmall ticket = (length ticket.lines ≤ most_serials) × (ticket.total.0 ≤ most_serials * highest_value)
+IsSmall ticket = (length ticket.lines ≤ 100) × (ticket.total.0 ≤ 30449360000)
 
 -- the counts after one more ticket, if it is of their day
 abbrev pub counted : Bool → Ticket → DayCounts → DayCounts
@@ -53,7 +52,7 @@ counted own ticket counts = if own then record { tickets = counts.tickets + 1; b
 
 -- counts to which a small ticket can be added
 abbrev pub HasSpace : Ticket → DayCounts → Type 0
-HasSpace ticket counts = (counts.tickets < most_tickets) × (counts.bonds + length ticket.lines ≤ 100000) × (counts.total.0 + ticket.total.0 ≤ most_serials * highest_value000)
+HasSpace ticket counts = (counts.tickets < most_tickets) × (counts.bonds + length ticket.lines ≤ 100000) × (counts.total.0 + ticket.total.0 ≤ 30449360000000)
 
 -- the day has counts, with room for one more ticket
 abbrev pub HasRoom : Option DayCounts → Type 0
