@@ -1,0 +1,151 @@
+"""The check over a real counter, and over servers that are silent, drip, or aren't the counter: for tests/samples/watching."""
+import contextlib
+import hashlib
+import os
+import socket
+import subprocess
+import sys
+import threading
+import time
+
+from counter_calls import RATES, apply, free_port, post, right
+
+NOT_FOUND = b'HTTP/1.1 404 Not Found\r\nContent-Type: application/json\r\nContent-Length: 30\r\n\r\n{"code":69,"fault":"NotFound"}'
+LIMIT = 2.0
+
+
+def checked(check, *words):
+    """Status, line and seconds of a check."""
+    begun = time.monotonic()
+    ran = subprocess.run([sys.executable, check, *words], stdout=subprocess.PIPE, stderr=subprocess.STDOUT, text=True, timeout=90)
+    return ran.returncode, ran.stdout.strip(), time.monotonic() - begun
+
+
+def sum_of(path):
+    with open(path, "rb") as file:
+        return hashlib.sha256(file.read()).hexdigest()
+
+
+def over_the_counter(check, program, folder):
+    """`serve --connections 1` ends after its one connection, so a second one of the check would be refused."""
+    store, port = f"{folder}/probed.db", free_port()
+    apply(program, store, [post("/rates", {"number": 1, "rates": RATES}, b"")])
+    before = sum_of(store)
+    served = subprocess.Popen([program, "serve", "--db", store, "--port", str(port), "--connections", "1"], stdout=subprocess.PIPE, text=True)
+    listens(port)
+    status, line, _ = checked(check, f"http://127.0.0.1:{port}")
+    said = served.communicate(timeout=60)[0]
+    right(status == 0 and line.startswith("COUNTER OK - ") and " | time=0." in line, f"a counter that is well: {line}", (status, line))
+    right(said == "connection 1: 1 messages, Asked\n", "it was one connection with one message, which asked to close", said)
+    right(sum_of(store) == before, "and the store is the same, byte for byte")
+    status, line, _ = checked(check, f"http://127.0.0.1:{port}")
+    right(status == 2 and "refused" in line, f"a counter that has ended: {line}", (status, line))
+
+
+def listens(port):
+    """Waits until something listens, without a connection."""
+    for _ in range(600):
+        with open("/proc/net/tcp", encoding="ascii") as file:
+            if f"0100007F:{port:04X} 00000000:0000 0A" in file.read():
+                return
+        time.sleep(0.05)
+    sys.exit("WRONG: the counter doesn't listen")
+
+
+@contextlib.contextmanager
+def server(answer):
+    """A server that does with each connection what `answer` says."""
+    with socket.socket() as listening:
+        listening.bind(("127.0.0.1", 0))
+        listening.listen()
+        threading.Thread(target=accept, args=(listening, answer), daemon=True).start()
+        yield f"http://127.0.0.1:{listening.getsockname()[1]}"
+
+
+def accept(listening, answer):
+    with contextlib.suppress(OSError):
+        while True:
+            line = listening.accept()[0]
+            with line, contextlib.suppress(OSError):
+                answer(line)
+
+
+def drip(text):
+    """Sends a byte each tenth of a second: each wait is short, and the whole is long."""
+    def answer(line):
+        for byte in text:
+            line.sendall(bytes([byte]))
+            time.sleep(0.1)
+    return answer
+
+
+def said(text, pause=0.0):
+    def answer(line):
+        line.recv(65536)
+        time.sleep(pause)
+        line.sendall(text)
+    return answer
+
+
+def response(status, body):
+    return f"HTTP/1.1 {status} X\r\nContent-Length: {len(body)}\r\n\r\n{body}".encode()
+
+
+#: What a server does, further words, the status, and a part of the line.
+SERVERS = {
+    "a silent server": (lambda line: time.sleep(30), [], 2, "within 2 seconds"),
+    "one that drips its head": (drip(b"HTTP/1.1 200 OK\r\n" + b"X: y\r\n" * 100), [], 2, "within 2 seconds"),
+    "one that drips the right answer": (drip(NOT_FOUND), [], 2, "within 2 seconds"),
+    "one that drips spaces before it": (drip(b" " * 1000), [], 2, "within 2 seconds"),
+    "one that closes at once": (lambda line: line.recv(65536), [], 2, "without an answer"),
+    "one that speaks no HTTP": (said(b"SSH-2.0-x\r\n"), [], 2, "no HTTP"),
+    "one that never ends": (lambda line: [line.sendall(b"HTTP/1.1 404 X\r\n\r\n" + b"x" * 65536) for _ in range(10000)], [], 2, "isn't the counter's"),
+    "a web server's own 404": (said(response(404, "<h1>Not Found</h1>")), [], 2, "isn't the counter's"),
+    "no route, of some other service": (said(response(404, '{"code":66,"fault":"NoRoute"}')), [], 2, "isn't the counter's"),
+    "a store that fails": (said(response(503, '{"code":2,"unserved":"StoreFailed"}')), [], 2, "its store fails: StoreFailed"),
+    "nginx without a counter": (said(response(502, "<h1>502</h1>")), [], 2, "nginx answers, and the counter doesn't"),
+    "a wrong password": (said(response(401, "")), [], 3, "doesn't pass the check on (401)"),
+    "a slow answer": (said(NOT_FOUND, 0.5), ["--warning", "0.2"], 1, "answers after 0."),
+    "a very slow answer": (said(NOT_FOUND, 0.5), ["--warning", "0.1", "--critical", "0.2"], 2, "answers after 0."),
+    "a right answer": (said(NOT_FOUND), [], 0, "answers after 0."),
+    "a batch of that day": (said(response(200, '{"bonds":0,"day":"2005-05-01","tickets":0,"total":"0.00"}')), [], 0, "answers after"),
+}
+
+
+def over_servers(check):
+    for what, (answer, words, wanted, part) in SERVERS.items():
+        with server(answer) as url:
+            status, line, took = checked(check, url, "--timeout", str(LIMIT), *words)
+        right(status == wanted and part in line and took < LIMIT + 12, f"{what}: status {status} after {took:.1f} seconds", (status, line))
+
+
+def words(check):
+    for given in (["--nonsense"], ["ftp://127.0.0.1"], ["http://127.0.0.1/path"], ["--user", "x"], ["http://no.such.invalid"], ["--user", "x", "--password", "/nowhere"]):
+        status, line, _ = checked(check, *given)
+        right(status == 3 and line.startswith("COUNTER UNKNOWN - "), f"{' '.join(given)}: status 3", (status, line))
+
+
+def broken(check, folder):
+    """Control: a check without its limit of time, and one that takes any 404 for life, are told from the right one."""
+    with open(check, encoding="utf-8") as file:
+        text = file.read()
+    for what, old, new in (("no limit of time", "threading.Event().wait(words.timeout)", "threading.Event().wait(20)"), ("any 404", 'answer.get("code") == 69', "True")):
+        assert old in text
+        path = f"{folder}/broken_check"
+        with open(path, "w", encoding="utf-8") as file:
+            file.write(text.replace(old, new))
+        wrong = []
+        for name, (answer, more, wanted, part) in SERVERS.items():
+            if name in ("one that drips its head", "a web server's own 404"):
+                with server(answer) as url:
+                    status, line, took = checked(path, url, "--timeout", str(LIMIT), *more)
+                wrong += [] if status == wanted and part in line and took < LIMIT + 12 else [name]
+        right(len(wrong) == 1, f"control: a check with {what} is found wrong over {', '.join(wrong)}", wrong)
+        os.unlink(path)
+
+
+def check(path, program, folder):
+    over_the_counter(path, program, folder)
+    over_servers(path)
+    words(path)
+    broken(path, folder)

@@ -1,0 +1,211 @@
+"""The metrics of logs: each line counted once through rotations and kills, the figures by hand, no customer or serial number: for tests/samples/watching."""
+import gzip
+import json
+import os
+import random
+import shutil
+import subprocess
+import sys
+import threading
+import time
+
+from counter_calls import right
+
+#: A log as samples/nginx writes it for restoring, with customers and serial numbers in it; what it has to give is counted by hand below.
+ENTRIES = [
+    ("/redeem", "200", '{"number":4,"day":"2012-02-06","payee":123456789,"serials":["L7777EE"]}', '{"day":"2012-02-06","lines":[{"paid":"25.16","serial":"L7777EE"}],"payee":123456789,"ticket":1,"total":"25.16"}'),
+    ("/redeem", "200", '{"number":4,"day":"2012-02-06","payee":123456789,"serials":["L7777EE"]}', '{"day":"2012-02-06","lines":[{"paid":"25.16","serial":"L7777EE"}],"payee":123456789,"ticket":1,"total":"25.16"}'),
+    ("/redeem", "409", '{"desk":1,"number":4,"day":"2012-02-06","payee":123456789,"serials":["L7777EE"]}', '{"code":52,"refused":"AlreadyPaid","serial":"L7777EE","ticket":1}'),
+    ("/redeem", "200", '{"desk":1,"number":5,"day":"2012-02-06","payee":123456789,"serials":["K8888EE"]}', '{"day":"2012-02-06","lines":[{"paid":"100.00","serial":"K8888EE"}],"payee":123456789,"ticket":2,"total":"100.00"}'),
+    ("/redeem", "409", '{"desk":1,"number":5,"day":"2012-02-06","payee":987654321,"serials":["K8888EE"]}', '{"code":10,"refused":"NumberReused"}'),
+    ("/redeem", "502", '{"desk":1,"number":6,"day":"2012-02-06","payee":123456789,"serials":["M9999EE"]}', ""),
+    ("/redeem", "200", '{"desk":1,"number":6,"day":"2012-02-06","payee":123456789,"serials":["M9999EE"]}', '{"day":"2012-02-06","lines":[{"paid":"1.01","serial":"M9999EE"}],"payee":123456789,"ticket":3,"total":"1.01"}'),
+    ("/bonds", "400", '{"number":7,"bonds":[', '{"code":64,"fault":"BadJson"}'),
+    ("/redeem", "503", '{"number":8,"day":"2012-02-06","payee":123456789,"serials":["M9999EE"]}', '{"code":2,"unserved":"StoreFailed"}'),
+    ("/inventory/123456789/2012-02", "404", "", ""),
+    ("/123456789/L7777EE", "404", "", ""),
+]
+BY_HAND = {
+    'ladwenpik_requests_total{route="/redeem",status="200",by="counter"}': 4,
+    'ladwenpik_requests_total{route="/redeem",status="409",by="counter"}': 2,
+    'ladwenpik_requests_total{route="/redeem",status="502",by="nginx"}': 1,
+    'ladwenpik_requests_total{route="/redeem",status="503",by="counter"}': 1,
+    'ladwenpik_requests_total{route="/bonds",status="400",by="counter"}': 1,
+    'ladwenpik_requests_total{route="/inventory",status="404",by="counter"}': 1,
+    'ladwenpik_requests_total{route="other",status="404",by="counter"}': 1,
+    'ladwenpik_refusals_total{code="52",name="AlreadyPaid"}': 1,
+    'ladwenpik_refusals_total{code="10",name="NumberReused"}': 1,
+    'ladwenpik_refusals_total{code="50",name="UnknownSerial"}': 0,
+    'ladwenpik_faults_total{code="64",name="BadJson"}': 1,
+    'ladwenpik_unserved_total{code="2",name="StoreFailed"}': 1,
+    'ladwenpik_retries_total{route="/redeem"}': 2,
+    "ladwenpik_tickets_total": 3,
+    "ladwenpik_paid_dollars_total": 126.17,
+    "ladwenpik_log_other_lines_total": 2,
+}
+PRIVATE = ("123456789", "987654321", "L7777", "K8888", "M9999", "7777", "8888", "9999")
+
+
+class Watched:
+    """A log, and the metrics of it."""
+
+    def __init__(self, watch, folder):
+        self.program, self.folder = os.path.join(watch, "metrics"), folder
+        shutil.rmtree(folder, ignore_errors=True)
+        os.makedirs(folder)
+        self.log, self.prom, self.state = f"{folder}/x.log", f"{folder}/x.prom", f"{folder}/state.json"
+
+    def words(self, program=None):
+        return [sys.executable, program or self.program, "--to", self.prom, "--state", self.state, "--log", self.log]
+
+    def run(self, program=None):
+        ran = subprocess.run(self.words(program), stdout=subprocess.PIPE, stderr=subprocess.STDOUT, text=True)
+        if ran.returncode != 0:
+            sys.exit(f"WRONG: metrics ended with status {ran.returncode}\n{ran.stdout}")
+        return self.read()
+
+    def read(self):
+        with open(self.prom, encoding="utf-8") as file:
+            return {name: float(value) for name, value in (line.rstrip("\n").rsplit(" ", 1) for line in file if not line.startswith("#"))}
+
+    def requests(self, program=None):
+        return sum(value for name, value in self.run(program).items() if name.startswith("ladwenpik_requests_total"))
+
+
+def line_of(route, status, body, reply, at):
+    counter = status if status != "404" or route.startswith("/inventory") else status
+    return json.dumps({"time": "x", "entry": "y", "user": "anna", "address": "10.0.0.5", "route": route, "status": status, "counter": counter, "at": f"{at:.3f}", "body": body, "reply": reply}, separators=(",", ":")) + "\n"
+
+
+def by_hand(watch, folder):
+    one = Watched(watch, folder)
+    with open(one.log, "w", encoding="utf-8") as file:
+        file.writelines(line_of(*entry, 1328523300 + at) for at, entry in enumerate(ENTRIES))
+        file.write('no entry\n{"status":"200"}\n')
+    found = one.run()
+    right({name: found.get(name) for name in BY_HAND} == BY_HAND, f"{len(ENTRIES)} entries give the figures that were counted by hand", {name: (found.get(name), value) for name, value in BY_HAND.items() if found.get(name) != value})
+    with open(one.prom, encoding="utf-8") as file, open(one.log, encoding="utf-8") as log:
+        text, said = file.read(), log.read()
+    right(all(word in said for word in PRIVATE) and not any(word in text for word in PRIVATE), "customers and serial numbers stand in that log, and not in the metrics")
+    ran = subprocess.run(["promtool", "check", "metrics"], input=text, stdout=subprocess.PIPE, stderr=subprocess.STDOUT, text=True)
+    right(ran.returncode == 0 and ran.stdout == "", "promtool has nothing to say of the metrics", ran.stdout)
+    right(one.run() == {**found, **{name: value for name, value in one.read().items() if "_watch_" in name}}, "a second run counts nothing twice")
+
+
+class Writer:
+    """Writes entries, and rotates the log in one of three ways."""
+
+    def __init__(self, one, chance):
+        self.one, self.chance, self.written = one, chance, 0
+
+    def write(self, count):
+        with open(self.one.log, "a", encoding="utf-8") as file:
+            for _ in range(count):
+                self.written += 1
+                file.write(line_of("/redeem", "200", json.dumps({"number": self.written}), "", 1328523300 + self.written))
+
+    def rotate(self):
+        log, way = self.one.log, self.chance.choice(["rename", "truncate", "pack"])
+        for nth in range(5, 0, -1):
+            for end in ("", ".gz"):
+                if os.path.exists(f"{log}.{nth}{end}"):
+                    os.replace(f"{log}.{nth}{end}", f"{log}.{nth + 1}{end}")
+        if way == "truncate":
+            shutil.copy2(log, f"{log}.1")
+            os.truncate(log, 0)
+        else:
+            os.replace(log, f"{log}.1")
+            open(log, "w", encoding="utf-8").close()
+        if way == "pack":
+            with open(f"{log}.1", "rb") as plain, gzip.open(f"{log}.1.gz", "wb") as packed:
+                packed.write(plain.read())
+            shutil.copystat(f"{log}.1", f"{log}.1.gz")
+            os.unlink(f"{log}.1")
+
+
+def rotations(watch, folder, chance, turns=60):
+    """Entries, rotations, runs and killed runs by chance; in the end each entry was counted once."""
+    one = Watched(watch, folder)
+    writer, kills, rotated, since = Writer(one, chance), 0, 0, 0
+    writer.write(3)
+    one.run()
+    for _ in range(turns):
+        writer.write(chance.randrange(20))
+        if chance.random() < 0.4 and since < 4:
+            writer.rotate()
+            writer.write(chance.randrange(1, 9))
+            rotated, since = rotated + 1, since + 1
+        if chance.random() < 0.3:
+            killed = subprocess.Popen(one.words(), stderr=subprocess.DEVNULL)
+            time.sleep(chance.random() * 0.15)
+            killed.kill()
+            killed.wait()
+            kills += 1
+        elif chance.random() < 0.5:
+            one.run()
+            since = 0
+    found = one.requests()
+    right(found == writer.written and one.read()["ladwenpik_log_gaps_total"] == 0, f"{writer.written} entries, {rotated} rotations, {kills} killed runs: each is counted once", found)
+    writer.rotate()
+    os.unlink(next(path for path in (f"{one.log}.1", f"{one.log}.1.gz") if os.path.exists(path)))
+    writer.write(7)
+    right(one.requests() == writer.written and one.read()["ladwenpik_log_gaps_total"] == 1, "a rotated file that is gone before it was read is told as a gap")
+
+
+def broken(watch, folder, chance):
+    """Control: a follower that takes no notice of rotated files miscounts."""
+    copy = f"{folder}-broken"
+    shutil.copytree(watch, copy)
+    with open(f"{copy}/watching/proxy.py", encoding="utf-8") as file:
+        text = file.read()
+    old = 'begin = marks.index(place["mark"]) if place.get("mark") in marks else 0'
+    assert old in text
+    with open(f"{copy}/watching/proxy.py", "w", encoding="utf-8") as file:
+        file.write(text.replace(old, "begin = 0"))
+    one = Watched(copy, folder)
+    writer = Writer(one, chance)
+    writer.write(5)
+    one.run()
+    writer.write(5)
+    writer.rotate()
+    writer.write(5)
+    found = one.requests()
+    right(found != writer.written, f"control: without the rotated files {found:.0f} of {writer.written} entries are counted")
+    shutil.rmtree(copy)
+
+
+def check(watch, folder):
+    chance = random.Random(54)
+    by_hand(watch, f"{folder}/log")
+    rotations(watch, f"{folder}/log", chance)
+    broken(watch, f"{folder}/log", chance)
+
+
+# ---- through nginx
+
+
+def through_nginx(world):
+    """nginx's own log is rotated three times while clients ask: each request is counted once, and the store is opened by nobody."""
+    log, done = "/var/log/nginx/counter-watch.log", threading.Event()
+
+    def rotate():
+        while not done.wait(2):
+            world.machine.on("sh", "-c", f"for n in 4 3 2 1; do [ -e {log}.$n ] && mv {log}.$n {log}.$((n + 1)); done; mv {log} {log}.1; nginx -s reopen")
+
+    world.watched()
+    before = world.sum_of("ladwenpik_requests_total")
+    rotating = threading.Thread(target=rotate)
+    rotating.start()
+    asked = 0
+    until = time.time() + 8
+    while time.time() < until:
+        asked += world.ask("GET", "/ticket/1")[0] == 200
+    done.set()
+    rotating.join()
+    world.watched()
+    world.watched()
+    counted = world.sum_of("ladwenpik_requests_total") - before
+    right(counted == asked > 20, f"{asked} requests by nginx while its log was rotated: {counted:.0f} were counted")
+    opened = world.opened_files()
+    touched = [path for path in opened if path.startswith("/var/lib/counter/")]
+    right(any(path.endswith("/day.db") and "/snapshots/watch-" in path for path in opened) and not touched, f"of the {len(opened)} files that a run opens, the snapshot is one, and none is the store's", touched)

@@ -1,0 +1,137 @@
+"""The rules by promtool and broken ones beside them, the dashboard's queries over a real Prometheus, and the page: for tests/samples/watching."""
+import html.parser
+import json
+import os
+import re
+import shutil
+import subprocess
+import sys
+import tempfile
+
+from counter_calls import right
+
+
+def promtool(*words):
+    return subprocess.run(["promtool", *words], stdout=subprocess.PIPE, stderr=subprocess.STDOUT, text=True)
+
+
+# ---- rules
+
+
+def rules(watch):
+    """promtool accepts the rules and their tests; a rule whose comparison is turned round, or that waits for an hour, fails the tests."""
+    ran = promtool("check", "rules", f"{watch}/alerts.yml")
+    right(ran.returncode == 0, "promtool accepts the rules", ran.stdout)
+    ran = promtool("test", "rules", f"{watch}/alerts_test.yml")
+    right(ran.returncode == 0, "and they pass their tests", ran.stdout)
+    with open(f"{watch}/alerts.yml", encoding="utf-8") as file:
+        text = file.read()
+    with open(f"{watch}/alerts_test.yml", encoding="utf-8") as file:
+        tests = file.read()
+    blocks = re.split(r"(?=  - alert: )", text)
+    right(all(re.search(r'action: "[A-Z].*\."', block) for block in blocks[1:]), "each of them says what to do")
+    missed = [f"{name_of(block)} with {what}" for block in blocks[1:] for what, other in mutants(block) if passes(text.replace(block, other), of_alert(tests, name_of(block)))]
+    right(not missed, f"control: of {sum(len(mutants(block)) for block in blocks[1:])} broken rules the tests find each", missed)
+
+
+def name_of(block):
+    return re.search("alert: Ladwenpik(.*)", block)[1]
+
+
+def of_alert(tests, name):
+    """The file of tests with those of one alert alone."""
+    head, *parts = re.split(r"(?=- name: )", tests)
+    return head + "".join(part for part in parts if part.startswith(f'- name: "{name}: '))
+
+
+def mutants(block):
+    """Broken rules of one: a comparison turned round, another limit, another wait."""
+    head, end = block.split("    labels:", 1)
+    found = [("a comparison turned round", re.sub(r" (>=?|<|==) ", lambda sign: {">": " <= ", ">=": " < ", "<": " >= ", "==": " != "}[sign[1]], head, count=1) + "    labels:" + end)]
+    found.append(("a wait of three hours", (re.sub(r"for: \d+m", "for: 3h", head) if "for: " in head else head + "    for: 3h\n") + "    labels:" + end))
+    return found
+
+
+def passes(text, tests):
+    folder = tempfile.mkdtemp()
+    for name, content in (("alerts.yml", text), ("alerts_test.yml", tests)):
+        with open(f"{folder}/{name}", "w", encoding="utf-8") as file:
+            file.write(content)
+    ran = promtool("test", "rules", f"{folder}/alerts_test.yml")
+    shutil.rmtree(folder)
+    return ran.returncode == 0
+
+
+# ---- the dashboard
+
+
+def dashboard(world, path):
+    """Its structure as Grafana's import wants it, and data for each query."""
+    with open(path, encoding="utf-8") as file:
+        board = json.load(file)
+    panels = [panel for panel in board["panels"] if panel["type"] != "row"]
+    ids = [panel["id"] for panel in board["panels"]]
+    cells = [(x, y) for panel in board["panels"] for place in [panel["gridPos"]] for x in range(place["x"], place["x"] + place["w"]) for y in range(place["y"], place["y"] + place["h"])]
+    right(len(set(ids)) == len(ids) and len(set(cells)) == len(cells) and max(x for x, _ in cells) < 24, f"the dashboard's {len(panels)} panels have numbers of their own, and lie beside each other")
+    right(all(panel["title"] and panel["description"] and panel["datasource"]["uid"] == "${DS_PROMETHEUS}" for panel in panels) and board["__inputs"][0]["name"] == "DS_PROMETHEUS", "each has a title, a description, and the data source that the import asks for")
+    expressions = [target["expr"] for panel in panels for target in panel["targets"]]
+    empty = [expression for expression in expressions if not has_data(world, expression)]
+    right(not empty, f"each of the {len(expressions)} queries has data", empty)
+    right(not has_data(world, "ladwenpik_no_such_metric"), "control: a metric that isn't there has none")
+
+
+def has_data(world, expression):
+    return any(item["value"][1] != "NaN" for item in world.query(expression))
+
+
+# ---- the page
+
+
+class Page(html.parser.HTMLParser):
+    """The elements of a page that are counted: open ones are named to see that each is closed."""
+
+    def __init__(self):
+        super().__init__()
+        self.open, self.pictures, self.tables, self.ids, self.labels = [], 0, 0, [], []
+
+    def handle_starttag(self, tag, attrs):
+        named = dict(attrs)
+        self.ids += [named["id"]] if "id" in named else []
+        self.pictures += tag == "svg"
+        self.tables += tag == "table"
+        if tag == "svg":
+            self.labels.append(named.get("aria-label", "") if named.get("role") == "img" else "")
+        if tag != "meta":
+            self.open.append(tag)
+
+    def handle_startendtag(self, tag, attrs):
+        pass
+
+    def handle_endtag(self, tag):
+        if not self.open or self.open.pop() != tag:
+            sys.exit(f"WRONG: the page's element {tag} isn't closed where it was opened")
+
+
+def page(world, keep):
+    """Made on the machine, by the log and the snapshot; its figures are those of the books."""
+    m = world.machine
+    m.follow("/opt/counter/watch/page --to /tmp/counter.html --log /var/log/nginx/counter-watch.log --snapshots /srv/counter/snapshots")
+    with open(f"{m.root}/tmp/counter.html", encoding="utf-8") as file:
+        text = file.read()
+    read = Page()
+    read.feed(text)
+    right(not read.open and read.pictures >= 5 and read.tables >= read.pictures - 1 and len(set(read.ids)) == len(read.ids), f"the page has {read.pictures} pictures and {read.tables} tables, and is well formed", (read.open, read.pictures, read.tables))
+    right(all(len(label) > 20 for label in read.labels), "each picture says in words what it shows", read.labels)
+    dollars = f"{world.metric('ladwenpik_open_day_dollars'):,.2f}"
+    right(dollars in text, f"the sum of the open day stands there: {dollars}")
+    right(not re.search(r"[A-Z]\d+EE|payee|10\.0\.|anna", text), "and no serial number, payee, address or user")
+    if keep:
+        os.makedirs(keep, exist_ok=True)
+        for name in ("tmp/counter.html", "var/lib/counter-watch/counter.prom"):
+            shutil.copy(f"{m.root}/{name}", keep)
+
+
+def with_data(world, watch, keep):
+    world.watched()
+    dashboard(world, f"{watch}/dashboard.json")
+    page(world, keep)

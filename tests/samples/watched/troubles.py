@@ -1,0 +1,305 @@
+"""A trouble for each alert of samples/watch/alerts.yml: a generator that makes it, waits until its alert fires, and mends it."""
+import contextlib
+import datetime
+import socket
+import struct
+import threading
+import time
+
+from counter_calls import wait_for
+from world import STORE
+
+TROUBLES = {}
+NEW = "/var/lib/new"
+
+
+def trouble(alert, *companions):
+    """Registers a trouble under its alert, with the other alerts that may fire too since the trouble is theirs as well."""
+    def register(make):
+        TROUBLES[alert] = (make, set(companions))
+        return make
+    return register
+
+
+def day_after(days):
+    return (datetime.date.today() + datetime.timedelta(days)).isoformat()
+
+
+# ---- days
+
+
+@trouble("DayLeftOpen")
+def day_left_open(w):
+    w.open_day(day_after(-3))
+    yield
+    w.close_day(day_after(-3))
+    w.open_day(w.today)
+
+
+@trouble("DayNearlyFull")
+def day_nearly_full(w):
+    w.pay(900 - w.paid_today(), w.today)
+    yield
+
+
+@trouble("DayFull", "DayNearlyFull")
+def day_full(w):
+    w.pay(1000 - w.paid_today(), w.today)
+    w.ask("POST", "/redeem", w.redemption(w.bond, w.today))
+    yield
+    w.close_day(w.today)
+    w.today = day_after(1)
+    w.open_day(w.today)
+
+
+@trouble("DayInFuture")
+def day_in_future(w):
+    w.close_day(w.today)
+    w.open_day(day_after(365))
+    yield
+
+
+# ---- requests
+
+
+@trouble("ManyRefusals")
+def many_refusals(w):
+    for _ in range(40):
+        w.ask("POST", "/redeem", {"desk": 1, "number": w.next_number(), "day": w.today, "payee": 7, "serials": ["Z999EE"]})
+    yield
+
+
+@trouble("NumberReused")
+def number_reused(w):
+    w.ask("POST", "/redeem", {"desk": 1, "number": w.number, "day": w.today, "payee": 8, "serials": ["Z998EE"]})
+    yield
+
+
+@trouble("PaidAgain")
+def paid_again(w):
+    for _ in range(10):
+        w.ask("POST", "/redeem", w.redemption(0, w.today))
+    yield
+
+
+@trouble("ManyRetries", "ManyRefusals")
+def many_retries(w):
+    request = w.redemption(w.bond, w.today)
+    w.bond += 1
+    for _ in range(50):
+        w.ask("POST", "/redeem", request)
+    yield
+
+
+@trouble("ManyForbidden")
+def many_forbidden(w):
+    for _ in range(200):
+        w.ask("GET", "/ticket/1", user=None)
+    yield
+
+
+# ---- delays
+
+
+@contextlib.contextmanager
+def running(*loops):
+    """Runs each function again and again beside this thread."""
+    is_over = threading.Event()
+
+    def repeat(one):
+        while not is_over.is_set():
+            with contextlib.suppress(OSError):
+                one()
+
+    threads = [threading.Thread(target=repeat, args=(one,)) for one in loops]
+    for thread in threads:
+        thread.start()
+    try:
+        yield
+    finally:
+        is_over.set()
+        for thread in threads:
+            thread.join()
+
+
+def hold():
+    """A client past nginx that is silent for three seconds."""
+    with socket.create_connection(("127.0.0.1", 8377)):
+        time.sleep(3)
+
+
+@trouble("Slow")
+def slow(w):
+    with running(hold, lambda: w.ask("GET", "/ticket/1")):
+        yield
+
+
+@trouble("Queue", "NotAnswering", "ArchiveOld", "WatchOld", "Slow")
+def queue(w):
+    held = [socket.create_connection(("127.0.0.1", 8377)) for _ in range(100)]
+    yield
+    for line in held:
+        line.close()
+    wait_for(8377)
+
+
+@trouble("ClientsHold")
+def clients_hold(w):
+    for _ in range(20):
+        with socket.create_connection(("127.0.0.1", 8377)) as line:
+            line.sendall(b"POST /redeem HTTP/1.1\r\n")
+            time.sleep(0.05)
+            line.setsockopt(socket.SOL_SOCKET, socket.SO_LINGER, struct.pack("ii", 1, 0))
+    yield
+
+
+# ---- the service
+
+
+def started(w):
+    w.machine.follow("systemctl start counter.service")
+    wait_for(8377)
+
+
+@trouble("NotAnswering")
+def not_answering(w):
+    w.machine.follow("systemctl stop counter.service")
+    yield
+    started(w)
+
+
+@trouble("Unanswered", "NotAnswering")
+def unanswered(w):
+    w.machine.follow("systemctl stop counter.service")
+    for _ in range(20):
+        w.ask("POST", "/redeem", {"desk": 2, "number": 1, "day": w.today, "payee": 7, "serials": ["Z997EE"]})
+    yield
+    started(w)
+
+
+@trouble("Restarting", "NotAnswering")
+def restarting(w):
+    for _ in range(6):
+        w.machine.follow("systemctl kill --signal=KILL counter.service")
+        time.sleep(1.5)
+        wait_for(8377)
+    yield
+
+
+@trouble("UnitFailed", "NotAnswering", "ArchiveOld")
+def unit_failed(w):
+    """A store of an earlier moment in the place of the counter's: the guard refuses it, and systemd doesn't start it again."""
+    m = w.machine
+    m.follow(f"systemctl stop counter.service counter-archive.service; mkdir {NEW}; mv {STORE} {STORE}-wal {NEW}/")
+    m.follow(f"cp /srv/archive/counter/first.db {STORE}; cp /srv/archive/counter/first.db-wal {STORE}-wal; chown counter: {STORE} {STORE}-wal; systemctl start --no-block counter.service")
+    yield
+    m.follow(f"rm {STORE} {STORE}-wal; cp -p {NEW}/day.db {NEW}/day.db-wal /var/lib/counter/; rm -r {NEW}; systemctl reset-failed counter.service")
+    started(w)
+    m.follow("systemctl start counter-archive.service")
+
+
+# ---- disks, copies, archives
+
+
+@trouble("DiskFull")
+def disk_full(w):
+    w.machine.follow("dd if=/dev/zero of=/srv/archive/fill bs=1M count=59 2> /dev/null")
+    yield
+    w.machine.follow("rm /srv/archive/fill")
+
+
+@trouble("Unserved", "DiskFull", "SnapshotOld", "ArchiveOld", "NotAnswering", "WatchOld", "SourceUnread", "ManyRefusals")
+def unserved(w):
+    """The store's disk has no room: requests are answered 503."""
+    m = w.machine
+    m.on("sh", "-c", "dd if=/dev/zero of=/srv/counter/fill bs=64k; dd if=/dev/zero of=/srv/counter/more bs=1k; sync; dd if=/dev/zero of=/srv/counter/last bs=512")
+    for _ in range(100):
+        status, body = w.ask("POST", "/redeem", w.redemption(w.bond, w.today))
+        if status == 503:
+            break
+        w.bond += status == 200
+    else:
+        raise SystemExit(f"WRONG: the disk is full, and the counter answers {status} {body}\n" + m.on("df", "/srv/counter").stdout)
+    yield
+    m.follow("rm /srv/counter/fill /srv/counter/more /srv/counter/last; sync; systemctl restart counter.service")
+    wait_for(8377)
+
+
+@trouble("CopyOld")
+def copy_old(w):
+    earlier = (datetime.datetime.now(datetime.timezone.utc) - datetime.timedelta(hours=27)).strftime("%Y-%m-%dT%H-%M-%S")
+    w.machine.follow(f"cd /srv/copies; for copy in 2*; do mv $copy {earlier}.000000001Z; done")
+    yield
+    w.machine.follow("systemctl start counter-copy.service")
+
+
+@trouble("CopyRefused")
+def copy_refused(w):
+    """A copy that doesn't open: here since the program that should open it is another."""
+    w.machine.on("/opt/counter/snapshot_copy", "/var/lib/counter", "/srv/counter/snapshots", "/srv/copies", "30", "/bin/false")
+    yield
+    w.machine.follow("btrfs -q subvolume delete /srv/copies/refused-*")
+
+
+@trouble("ArchiveOld")
+def archive_old(w):
+    w.machine.follow("systemctl stop counter-archive.service")
+    yield
+    w.machine.follow("systemctl start counter-archive.service")
+
+
+@trouble("LogLarge")
+def log_large(w):
+    """Files of another store are looked at, whose log is only large: the program's own was never seen above 1.4 MB."""
+    m, unit = w.machine, "/etc/systemd/system/counter-watch.service"
+    m.follow(f"mkdir -p {NEW}; chmod 755 {NEW}; truncate -s 20M {NEW}/day.db-wal; (echo '[Service]'; echo ExecStart=; grep ^ExecStart= {unit} | sed 's,--store /var/lib/counter,--store {NEW},') > {unit}.d/big.conf; systemctl daemon-reload")
+    yield
+    m.follow(f"rm {unit}.d/big.conf; systemctl daemon-reload; rm -r {NEW}")
+
+
+# ---- watching itself
+
+
+@trouble("ClockBack")
+def clock_back(w):
+    m, drop_in = w.machine, "/etc/systemd/system/counter-watch.service.d/clock.conf"
+    m.follow(f"printf '[Service]\\nEnvironment=LD_PRELOAD={w.faketime} FAKETIME=+1h\\n' > {drop_in}; systemctl daemon-reload")
+    time.sleep(6)
+    m.follow(f"rm {drop_in}; systemctl daemon-reload")
+    yield
+
+
+@trouble("SnapshotOld")
+def snapshot_old(w):
+    w.machine.follow("mount --bind /srv/counter/snapshots /srv/counter/snapshots; mount -o remount,bind,ro /srv/counter/snapshots")
+    yield
+    w.machine.follow("umount /srv/counter/snapshots")
+
+
+@trouble("SourceUnread")
+def source_unread(w):
+    w.machine.follow("chmod 700 /var/log/nginx")
+    yield
+    w.machine.follow("chmod 755 /var/log/nginx")
+
+
+@trouble("LogGap")
+def log_gap(w):
+    m, log = w.machine, "/var/log/nginx/counter-watch.log"
+    m.follow("systemctl stop counter-watch.timer")
+    w.ask("GET", "/ticket/1")
+    m.follow(f"mv {log} {log}.1; nginx -s reopen; sleep 1; rm {log}.1*")
+    w.ask("GET", "/ticket/1")
+    m.follow("systemctl start counter-watch.timer")
+    yield
+
+
+@trouble("WatchOld")
+def watch_old(w):
+    w.machine.follow("systemctl stop counter-watch.timer")
+    yield
+    w.machine.follow("systemctl start counter-watch.timer")
+
+
+#: A day is left open before today is opened, and the last one lies in the future: days only rise.
+FIRST, LAST = "DayLeftOpen", ("DayNearlyFull", "DayFull", "DayInFuture")

@@ -1,0 +1,194 @@
+"""The counter on its machine, set up by the commands of the samples' pages, with a day of today open and a user of each group."""
+import base64
+import datetime
+import http.client
+import json
+import os
+import ssl
+import time
+import urllib.parse
+import urllib.request
+
+from counter_calls import ask, bond, get, post, right, wait_for
+from machine import TOP
+
+STORE = "/var/lib/counter/day.db"
+USERS = {"anna": "teller", "bert": "supervisor", "cleo": "office"}
+PASSWORD = "a pass word"
+BONDS = 4000
+#: Not run in the machine: its /usr has the packages already, and passwords aren't typed.
+LEFT_OUT = ("apt-get ", "htpasswd ")
+PROMETHEUS = """global: {scrape_interval: 1s, evaluation_interval: 1s}
+rule_files: [/etc/prometheus/counter-alerts.yml]
+scrape_configs:
+- {job_name: node, static_configs: [{targets: ["localhost:9100"]}]}
+"""
+
+
+def commands(page, nth):
+    """Those of one block of a page of samples."""
+    with open(os.path.join(TOP, "samples", page, "README.md"), encoding="utf-8") as file:
+        lines = file.read().split("```\n")[2 * nth + 1].splitlines()
+    return [line for line in lines if not line.startswith(LEFT_OUT)]
+
+
+class World:
+    """The machine with the counter, and what its clients ask."""
+
+    def __init__(self, machine):
+        self.machine, self.number, self.today = machine, 0, datetime.date.today().isoformat()
+        self.bond = 0
+        self.faketime = "/usr/lib/x86_64-linux-gnu/faketime/libfaketime.so.1"
+
+    # ---- set up
+
+    def set_up(self):
+        m = self.machine
+        for line in commands("systemd", 0):
+            if " import rates " in line or line.startswith("systemctl enable"):
+                continue
+            m.follow(line)
+        self.make_store()
+        m.follow("systemctl enable --now counter.service counter-copy.timer")
+        m.enter_network()
+        wait_for(8377)
+        for line in commands("restore", 0):
+            m.follow(line)
+        self.set_up_nginx()
+        for line in commands("watch", 0):
+            m.follow(line.replace("--password /etc/counter/watch-password", "--password /etc/counter/watch-password --ca /etc/counter/certificate.pem"))
+        m.follow("systemctl start counter-copy.service")
+        self.wait_for_nginx()
+
+    def make_store(self):
+        """Rates and bonds, as the bank's first import brings them."""
+        rates = [{"from": "2010-05", "rate": "2.00"}, {"from": "2010-11", "rate": "3.50"}]
+        bonds = [post("/bonds", {"number": 2 + first // 500, "bonds": [bond(turn) for turn in range(first, first + 500)]}, b"") for first in range(0, BONDS, 500)]
+        with open(f"{self.machine.root}/tmp/first", "wb") as file:
+            file.write(b"".join([post("/rates", {"number": 1, "rates": rates}, b""), *bonds]))
+        made = self.machine.follow(f"setpriv --reuid counter --regid counter --clear-groups /opt/counter/ee_cli apply --db {STORE} < /tmp/first | grep -c '200 OK'")
+        right(made.strip() == str(1 + len(bonds)), f"a store of {BONDS} bonds is made", made)
+
+    def set_up_nginx(self):
+        m = self.machine
+        names = "-subj /CN=counter.bank.example -addext subjectAltName=DNS:counter.bank.example"
+        m.follow(f"openssl req -x509 -newkey rsa:2048 -nodes -days 60 {names} -keyout /etc/counter/key.pem -out /etc/counter/certificate.pem")
+        for name, group in USERS.items():
+            m.follow(f'echo "{name}:$(openssl passwd -6 \'{PASSWORD}\')" >> /etc/counter/passwords; echo "{name} {group};" >> /etc/counter/groups')
+        lines = commands("nginx", 0)
+        for line in lines:
+            m.follow("systemctl start nginx" if line.startswith("nginx -t") else line.replace("echo 'anna teller;' > /etc/counter/groups", "true"))
+        m.follow("sed -i 's/rate=10r/rate=10000r/' /etc/nginx/conf.d/counter.conf")
+        requests = next(nth for nth in range(8) if any("counter_replies.js" in line for line in commands("nginx", nth)))
+        for line in commands("nginx", requests):
+            m.follow(line)
+
+    def watch_quickly(self, period):
+        """Metrics each two seconds and alerts by seconds, in the place of minutes."""
+        m, drop_in = self.machine, "/etc/systemd/system/counter-watch.{}.d"
+        m.follow(f"mkdir -p {drop_in.format('timer')}; printf '[Timer]\\nOnUnitActiveSec=\\nOnUnitActiveSec={period}\\nAccuracySec=50ms\\n' > {drop_in.format('timer')}/quick.conf")
+        m.follow(f"printf '[Unit]\\nStartLimitIntervalSec=0\\n' > {drop_in.format('service')}/quick.conf; systemctl daemon-reload; systemctl restart counter-watch.timer")
+
+    def set_up_prometheus(self, rules):
+        m = self.machine
+        m.follow("mkdir -p /etc/prometheus /etc/default /var/lib/prometheus/node-exporter /var/lib/prometheus/metrics2")
+        for name in ("prometheus", "prometheus-node-exporter"):
+            m.follow(f"touch /etc/default/{name}")
+        for name, text in (("counter-alerts.yml", rules), ("prometheus.yml", PROMETHEUS)):
+            with open(f"{m.root}/etc/prometheus/{name}", "w", encoding="utf-8") as file:
+                file.write(text)
+        m.follow("ln -s /var/lib/counter-watch/counter.prom /var/lib/prometheus/node-exporter/counter.prom")
+        m.follow("chown -R prometheus: /var/lib/prometheus; systemctl start prometheus-node-exporter.service prometheus.service")
+
+    # ---- asking
+
+    def ask(self, method, path, value=None, user="anna", password=PASSWORD):
+        """Status and body by nginx, as a client of the bank."""
+        context = ssl.create_default_context(cafile=f"{self.machine.root}/etc/counter/certificate.pem")
+        connection = http.client.HTTPSConnection("127.0.0.1", 443, context=context, timeout=120)
+        connection.host, connection._tunnel_host = "127.0.0.1", None
+        headers = {"Host": "counter.bank.example", "X-Counter-Client": "test", "Content-Type": "application/json"}
+        if user:
+            headers["Authorization"] = "Basic " + base64.b64encode(f"{user}:{password}".encode()).decode()
+        context.check_hostname = False
+        try:
+            connection.request(method, path, None if value is None else json.dumps(value), headers)
+            response = connection.getresponse()
+            return response.status, response.read().decode()
+        finally:
+            connection.close()
+
+    def wait_for_nginx(self):
+        for _ in range(200):
+            try:
+                if self.ask("GET", "/ticket/1")[0] in (200, 404):
+                    return
+            except OSError:
+                pass
+            time.sleep(0.1)
+        raise SystemExit(f"WRONG: nginx doesn't answer\n{self.machine.on('journalctl', '-n', '30', '--no-pager').stdout}")
+
+    def next_number(self):
+        self.number += 1
+        return self.number
+
+    def open_day(self, day):
+        return self.ask("POST", "/day/open", {"desk": 9, "number": self.next_number(), "day": day}, "bert")
+
+    def close_day(self, day):
+        return self.ask("POST", "/day/close", {"desk": 9, "number": self.next_number(), "day": day}, "bert")
+
+    def redemption(self, turn, day, payee=7):
+        return {"desk": 1, "number": self.next_number(), "day": day, "payee": payee, "serials": [bond(turn)["serial"]]}
+
+    def pay(self, count, day):
+        """Pays the next bonds, one on a ticket, by the counter's own port: quicker than by nginx."""
+        for _ in range(count):
+            status, body = ask(8377, post("/redeem", self.redemption(self.bond, day)))
+            if status != 200:
+                raise SystemExit(f"WRONG: {body}")
+            self.bond += 1
+
+    def paid_today(self):
+        """Tickets of the open day, as the snapshot's metric has them."""
+        return int(self.metric("ladwenpik_open_day_tickets"))
+
+    # ---- metrics and alerts
+
+    def metrics(self):
+        """The metrics as they were written last: each sample's name with its labels, and its value."""
+        with open(f"{self.machine.root}/var/lib/counter-watch/counter.prom", encoding="utf-8") as file:
+            return dict(line.rstrip("\n").rsplit(" ", 1) for line in file if not line.startswith("#"))
+
+    def metric(self, name):
+        return float(self.metrics().get(name, "nan"))
+
+    def sum_of(self, name):
+        return sum(float(value) for sample, value in self.metrics().items() if sample.partition("{")[0] == name)
+
+    def watched(self):
+        """Waits for metrics that were begun after now."""
+        now = time.time()
+        for _ in range(600):
+            if self.metric("ladwenpik_watch_timestamp_seconds") > now:
+                return
+            time.sleep(0.1)
+        raise SystemExit("WRONG: no metrics are written\n" + self.machine.on("journalctl", "-o", "cat", "--no-pager", "-n", "30", "-u", "counter-watch.service").stdout)
+
+    def prometheus(self, path):
+        with urllib.request.urlopen(f"http://127.0.0.1:9090/api/v1/{path}", timeout=30) as response:
+            return json.load(response)["data"]
+
+    def firing(self):
+        """The names of the alerts that fire."""
+        return {alert["labels"]["alertname"].removeprefix("Ladwenpik") for alert in self.prometheus("alerts")["alerts"] if alert["state"] == "firing"}
+
+    def query(self, expression):
+        return self.prometheus("query?" + urllib.parse.urlencode({"query": expression}))["result"]
+
+    def opened_files(self):
+        """What one more run of the metrics opens, by Python's own events."""
+        hook = "import os, runpy, sys; sys.argv.pop(0); sys.path.insert(0, os.path.dirname(sys.argv[0])); sys.addaudithook(lambda event, words: event in ('open', 'sqlite3.connect') and print('OPENED', words[0])); runpy.run_path(sys.argv[0], run_name='__main__')"
+        words = f"--to /tmp/more.prom --state /tmp/more.json --store {STORE} --snapshots /srv/counter/snapshots --copies /srv/copies --archive /srv/archive/counter --disk /var/lib/counter"
+        said = self.machine.on("/usr/bin/python3", "-c", hook, "/opt/counter/watch/metrics", *words.split()).stdout
+        return [urllib.parse.unquote(line.split(" ", 1)[1].removeprefix("file:").partition("?")[0]) for line in said.splitlines() if line.startswith("OPENED ")]
