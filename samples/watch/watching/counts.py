@@ -11,7 +11,6 @@ BOUNDS = (0.005, 0.01, 0.025, 0.05, 0.1, 0.25, 0.5, 1, 2.5, 5, 10, 30, 60)
 ENDING = re.compile(r"connection \d+: (\d+) messages, (Closed|Asked|Limit|Fault|ReadFailed|WriteFailed|NoMemory)\b")
 SAID = ("store: StoreFailed", "store: NotWrittenBack", "store: WrongVersion", "store: Unusable", "input or output failed", "no memory", "guard: not served")
 CURSOR = "-- cursor: "
-NO_LINES = "-- No entries --"
 #: Statuses that are told from the first run on, though none was counted yet.
 USUAL = (("200", "counter"), ("404", "counter"), ("409", "counter"), ("503", "counter"), ("401", "nginx"), ("403", "nginx"), ("429", "nginx"), ("502", "nginx"), ("504", "nginx"))
 
@@ -79,8 +78,9 @@ class Counts:
         since = ["--after-cursor", place["cursor"]] if "cursor" in place else ["--since", f"@{place['since']}"]
         ran = subprocess.run(["journalctl", "--no-pager", "-o", "cat", "--show-cursor", "-u", unit, *since], stdout=subprocess.PIPE, stderr=subprocess.PIPE, timeout=60)
         lines = ran.stdout.decode("utf-8", "replace").splitlines()
-        if ran.returncode != 0 and lines != [NO_LINES]:
-            raise OSError(f"journalctl: {ran.stderr.decode('utf-8', 'replace').strip()}")
+        said = ran.stderr.decode("utf-8", "replace").strip()
+        if ran.returncode != 0 and said:
+            raise OSError(f"journalctl: {said}")
         if lines and lines[-1].startswith(CURSOR):
             place["cursor"] = lines.pop()[len(CURSOR) :]
         for line in lines:

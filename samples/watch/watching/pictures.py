@@ -2,7 +2,7 @@
 import html
 from typing import List, NamedTuple
 
-WIDTH, HEIGHT, LEFT, RIGHT, TOP, BOTTOM = 720, 300, 64, 708, 34, 250
+WIDTH, HEIGHT, LEFT, RIGHT, TOP, BOTTOM = 720, 280, 64, 708, 34, 250
 HATCHED = '<defs><pattern id="NAME" width="6" height="6" patternUnits="userSpaceOnUse" patternTransform="rotate(45)"><rect width="6" height="6" fill="#fff"/><rect width="2" height="6" fill="#222"/></pattern></defs>'
 FONT = "font-family:sans-serif;font-size:13px;fill:#111"
 
@@ -116,11 +116,17 @@ def said_of(groups, series):
     return "; ".join(said) or "No values"
 
 
+def cell_text(name, value):
+    if value is not None and name == "Dollars":
+        return f"{value:,.2f}"
+    return f"{value:.3f}" if value is not None and name.endswith("seconds") else number_text(value)
+
+
 def table(caption, heads, groups):
-    """A table with a row for each group. A column of dollars has cents."""
+    """A table with a row for each group. A column of dollars has cents, one of seconds milliseconds."""
     head = "".join(f'<th scope="col">{escaped(name)}</th>' for name in heads)
     lines = []
     for group in groups:
-        texts = [f"{value:,.2f}" if name == "Dollars" else number_text(value) for name, value in zip(heads[1:], group.values)]
+        texts = [cell_text(name, value) for name, value in zip(heads[1:], group.values)]
         lines.append(f'<tr><th scope="row">{escaped(group.label)}</th>' + "".join(f"<td>{text}</td>" for text in texts) + "</tr>")
     return f"<table>\n<caption>{escaped(caption)}</caption>\n<thead><tr>{head}</tr></thead>\n<tbody>\n" + "\n".join(lines) + "\n</tbody>\n</table>"

@@ -149,3 +149,23 @@ def check(path, program, folder):
     over_servers(path)
     words(path)
     broken(path, folder)
+
+
+# ---- through nginx
+
+
+def through_nginx(world):
+    """The check's user may ask for the check's path and for nothing else; what it says of a wrong password and of certificates."""
+    with open(f"{world.machine.root}/etc/counter/watch-password", encoding="utf-8") as file:
+        password = file.read().rstrip("\n")
+    asked = [world.ask(*words, user="watch", password=password) for words in (("GET", "/batch/2005-05-01"), ("GET", "/batch/2012-02-06"), ("GET", "/inventory/7/2012-02"), ("GET", "/ticket/1"), ("POST", "/redeem", {}), ("POST", "/batch/2005-05-01", {}))]
+    right(asked[0] == (404, '{"code":69,"fault":"NotFound"}') and [status for status, _ in asked[1:]] == [403] * 5, "by nginx the check's user is answered on its path, and refused on each other one", asked)
+    words = "/opt/counter/watch/check_counter https://counter.bank.example --user watch --ca /etc/counter/certificate.pem --password"
+    said = world.machine.follow(f"{words} /etc/counter/watch-password")
+    right(said.startswith("COUNTER OK") and "certificate=" in said, f"the check by nginx: {said.strip()}")
+    ran = world.machine.on("sh", "-c", f"echo nothing > /tmp/no; {words} /tmp/no")
+    right(ran.returncode == 3 and "(401)" in ran.stdout, "with a wrong password: status 3", ran.stdout)
+    ran = world.machine.on("sh", "-c", f"{words.replace(' --ca /etc/counter/certificate.pem', '')} /etc/counter/watch-password")
+    right(ran.returncode == 2 and "no TLS that can be trusted" in ran.stdout, "with a certificate that the machine doesn't trust: status 2", ran.stdout)
+    ran = world.machine.on("sh", "-c", f"{words} /etc/counter/watch-password --days 61")
+    right(ran.returncode == 1 and "certificate ends in" in ran.stdout, "with a certificate that ends within the days asked for: status 1", ran.stdout)

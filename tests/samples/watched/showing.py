@@ -120,7 +120,7 @@ def page(world, keep):
         text = file.read()
     read = Page()
     read.feed(text)
-    right(not read.open and read.pictures >= 5 and read.tables >= read.pictures - 1 and len(set(read.ids)) == len(read.ids), f"the page has {read.pictures} pictures and {read.tables} tables, and is well formed", (read.open, read.pictures, read.tables))
+    right(not read.open and read.pictures >= 5 and read.tables >= 3 and len(set(read.ids)) == len(read.ids), f"the page has {read.pictures} pictures and {read.tables} tables, and is well formed", (read.open, read.pictures, read.tables))
     right(all(len(label) > 20 for label in read.labels), "each picture says in words what it shows", read.labels)
     dollars = f"{world.metric('ladwenpik_open_day_dollars'):,.2f}"
     right(dollars in text, f"the sum of the open day stands there: {dollars}")

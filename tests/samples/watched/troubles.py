@@ -140,7 +140,7 @@ def queue(w):
     yield
     for line in held:
         line.close()
-    wait_for(8377)
+    wait_for(8377, 300)
 
 
 @trouble("ClientsHold")
@@ -158,7 +158,7 @@ def clients_hold(w):
 
 def started(w):
     w.machine.follow("systemctl start counter.service")
-    wait_for(8377)
+    wait_for(8377, 300)
 
 
 @trouble("NotAnswering")
@@ -182,7 +182,7 @@ def restarting(w):
     for _ in range(6):
         w.machine.follow("systemctl kill --signal=KILL counter.service")
         time.sleep(1.5)
-        wait_for(8377)
+        wait_for(8377, 300)
     yield
 
 
@@ -222,7 +222,7 @@ def unserved(w):
         raise SystemExit(f"WRONG: the disk is full, and the counter answers {status} {body}\n" + m.on("df", "/srv/counter").stdout)
     yield
     m.follow("rm /srv/counter/fill /srv/counter/more /srv/counter/last; sync; systemctl restart counter.service")
-    wait_for(8377)
+    wait_for(8377, 300)
 
 
 @trouble("CopyOld")

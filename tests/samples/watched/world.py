@@ -15,7 +15,7 @@ from machine import TOP
 STORE = "/var/lib/counter/day.db"
 USERS = {"anna": "teller", "bert": "supervisor", "cleo": "office"}
 PASSWORD = "a pass word"
-BONDS = 4000
+BONDS = 1100
 #: Not run in the machine: its /usr has the packages already, and passwords aren't typed.
 LEFT_OUT = ("apt-get ", "htpasswd ")
 PROMETHEUS = """global: {scrape_interval: 1s, evaluation_interval: 1s}
@@ -51,7 +51,7 @@ class World:
         self.make_store()
         m.follow("systemctl enable --now counter.service counter-copy.timer")
         m.enter_network()
-        wait_for(8377)
+        wait_for(8377, 300)
         for line in commands("restore", 0):
             m.follow(line)
         self.set_up_nginx()
@@ -63,7 +63,7 @@ class World:
     def make_store(self):
         """Rates and bonds, as the bank's first import brings them."""
         rates = [{"from": "2010-05", "rate": "2.00"}, {"from": "2010-11", "rate": "3.50"}]
-        bonds = [post("/bonds", {"number": 2 + first // 500, "bonds": [bond(turn) for turn in range(first, first + 500)]}, b"") for first in range(0, BONDS, 500)]
+        bonds = [post("/bonds", {"number": 2 + first // 500, "bonds": [bond(turn) for turn in range(first, min(first + 500, BONDS))]}, b"") for first in range(0, BONDS, 500)]
         with open(f"{self.machine.root}/tmp/first", "wb") as file:
             file.write(b"".join([post("/rates", {"number": 1, "rates": rates}, b""), *bonds]))
         made = self.machine.follow(f"setpriv --reuid counter --regid counter --clear-groups /opt/counter/ee_cli apply --db {STORE} < /tmp/first | grep -c '200 OK'")
@@ -105,12 +105,11 @@ class World:
     def ask(self, method, path, value=None, user="anna", password=PASSWORD):
         """Status and body by nginx, as a client of the bank."""
         context = ssl.create_default_context(cafile=f"{self.machine.root}/etc/counter/certificate.pem")
+        context.check_hostname = False
         connection = http.client.HTTPSConnection("127.0.0.1", 443, context=context, timeout=120)
-        connection.host, connection._tunnel_host = "127.0.0.1", None
         headers = {"Host": "counter.bank.example", "X-Counter-Client": "test", "Content-Type": "application/json"}
         if user:
             headers["Authorization"] = "Basic " + base64.b64encode(f"{user}:{password}".encode()).decode()
-        context.check_hostname = False
         try:
             connection.request(method, path, None if value is None else json.dumps(value), headers)
             response = connection.getresponse()
@@ -119,14 +118,15 @@ class World:
             connection.close()
 
     def wait_for_nginx(self):
-        for _ in range(200):
+        for _ in range(300):
             try:
-                if self.ask("GET", "/ticket/1")[0] in (200, 404):
+                met = self.ask("GET", "/ticket/1")
+                if met[0] in (200, 404):
                     return
-            except OSError:
-                pass
+            except OSError as fault:
+                met = fault
             time.sleep(0.1)
-        raise SystemExit(f"WRONG: nginx doesn't answer\n{self.machine.on('journalctl', '-n', '30', '--no-pager').stdout}")
+        raise SystemExit(f"WRONG: nginx doesn't answer: {met}\n{self.machine.on('sh', '-c', 'tail -n 20 /var/log/nginx/error.log /etc/counter/groups; journalctl -n 10 --no-pager').stdout}")
 
     def next_number(self):
         self.number += 1
@@ -182,6 +182,11 @@ class World:
     def firing(self):
         """The names of the alerts that fire."""
         return {alert["labels"]["alertname"].removeprefix("Ladwenpik") for alert in self.prometheus("alerts")["alerts"] if alert["state"] == "firing"}
+
+    def state(self):
+        """What is to be looked at if an alert doesn't fire."""
+        shown = "\n".join(f"{name} {value}" for name, value in self.metrics().items() if float(value) != 0 and "_bucket" not in name)
+        return shown + "\n" + self.machine.on("journalctl", "-o", "cat", "--no-pager", "-n", "12", "-u", "counter-watch.service").stdout
 
     def query(self, expression):
         return self.prometheus("query?" + urllib.parse.urlencode({"query": expression}))["result"]
