@@ -6,7 +6,7 @@ import struct
 import threading
 import time
 
-from counter_calls import wait_for
+from counter_calls import right, wait_for
 from world import STORE
 
 TROUBLES = {}
@@ -38,12 +38,14 @@ def day_left_open(w):
 
 @trouble("DayNearlyFull")
 def day_nearly_full(w):
+    w.watched()
     w.pay(900 - w.paid_today(), w.today)
     yield
 
 
 @trouble("DayFull", "DayNearlyFull")
 def day_full(w):
+    w.watched()
     w.pay(1000 - w.paid_today(), w.today)
     w.ask("POST", "/redeem", w.redemption(w.bond, w.today))
     yield
@@ -71,7 +73,9 @@ def many_refusals(w):
 
 @trouble("NumberReused")
 def number_reused(w):
-    w.ask("POST", "/redeem", {"desk": 1, "number": w.number, "day": w.today, "payee": 8, "serials": ["Z998EE"]})
+    first = w.redemption(0, w.today)
+    for payee in (7, 8):
+        w.ask("POST", "/redeem", {**first, "payee": payee})
     yield
 
 
@@ -91,10 +95,18 @@ def many_retries(w):
     yield
 
 
+def together(one, count):
+    """Runs a function in so many threads at once."""
+    threads = [threading.Thread(target=one) for _ in range(count)]
+    for thread in threads:
+        thread.start()
+    for thread in threads:
+        thread.join()
+
+
 @trouble("ManyForbidden")
 def many_forbidden(w):
-    for _ in range(200):
-        w.ask("GET", "/ticket/1", user=None)
+    together(lambda: [w.ask("GET", "/ticket/1", user=None) for _ in range(50)], 6)
     yield
 
 
@@ -179,11 +191,11 @@ def unanswered(w):
 
 @trouble("Restarting", "NotAnswering")
 def restarting(w):
-    for _ in range(6):
+    for _ in range(8):
         w.machine.follow("systemctl kill --signal=KILL counter.service")
-        time.sleep(1.5)
-        wait_for(8377, 300)
+        time.sleep(1.6)
     yield
+    wait_for(8377, 300)
 
 
 @trouble("UnitFailed", "NotAnswering", "ArchiveOld")
@@ -214,15 +226,17 @@ def unserved(w):
     m = w.machine
     m.on("sh", "-c", "dd if=/dev/zero of=/srv/counter/fill bs=64k; dd if=/dev/zero of=/srv/counter/more bs=1k; sync; dd if=/dev/zero of=/srv/counter/last bs=512")
     for _ in range(100):
-        status, body = w.ask("POST", "/redeem", w.redemption(w.bond, w.today))
+        request = w.redemption(w.bond, w.today)
+        status, body = w.ask("POST", "/redeem", request)
+        w.bond += 1
         if status == 503:
             break
-        w.bond += status == 200
     else:
         raise SystemExit(f"WRONG: the disk is full, and the counter answers {status} {body}\n" + m.on("df", "/srv/counter").stdout)
     yield
-    m.follow("rm /srv/counter/fill /srv/counter/more /srv/counter/last; sync; systemctl restart counter.service")
+    m.follow("rm -f /srv/counter/fill /srv/counter/more /srv/counter/last; sync; systemctl restart counter.service")
     wait_for(8377, 300)
+    right(w.ask("POST", "/redeem", request)[0] == 200, "with room again, the request that was answered 503 is sent again, and acts")
 
 
 @trouble("CopyOld")
@@ -269,7 +283,7 @@ def clock_back(w):
     yield
 
 
-@trouble("SnapshotOld")
+@trouble("SnapshotOld", "ArchiveOld")
 def snapshot_old(w):
     w.machine.follow("mount --bind /srv/counter/snapshots /srv/counter/snapshots; mount -o remount,bind,ro /srv/counter/snapshots")
     yield

@@ -18,7 +18,7 @@ PASSWORD = "a pass word"
 BONDS = 1100
 #: Not run in the machine: its /usr has the packages already, and passwords aren't typed.
 LEFT_OUT = ("apt-get ", "htpasswd ")
-PROMETHEUS = """global: {scrape_interval: 1s, evaluation_interval: 1s}
+PROMETHEUS = """global: {scrape_interval: 2s, scrape_timeout: 2s, evaluation_interval: 1s}
 rule_files: [/etc/prometheus/counter-alerts.yml]
 scrape_configs:
 - {job_name: node, static_configs: [{targets: ["localhost:9100"]}]}
@@ -92,8 +92,7 @@ class World:
     def set_up_prometheus(self, rules):
         m = self.machine
         m.follow("mkdir -p /etc/prometheus /etc/default /var/lib/prometheus/node-exporter /var/lib/prometheus/metrics2")
-        for name in ("prometheus", "prometheus-node-exporter"):
-            m.follow(f"touch /etc/default/{name}")
+        m.follow("touch /etc/default/prometheus; echo 'ARGS=\"--collector.disable-defaults --collector.textfile\"' > /etc/default/prometheus-node-exporter")
         for name, text in (("counter-alerts.yml", rules), ("prometheus.yml", PROMETHEUS)):
             with open(f"{m.root}/etc/prometheus/{name}", "w", encoding="utf-8") as file:
                 file.write(text)
