@@ -47,10 +47,10 @@ def basic(user, password):
 
 class Nginx:
     """nginx over the sample, or over another configuration. `users` has a password and groups for each user. `rate` replaces the sample's limit of requests a second.
-    `requests` turns on the log of requests with their replies: the file, and the port of syslog on the machine."""
+    `requests` turns on the log of requests with their replies: the file, and the port of syslog on the machine. `page` is the folder of the page."""
 
-    def __init__(self, folder, counter_port, users, *, conf=SAMPLE / "counter.conf", rate=None, user=None, hashed=None, requests=None):
-        self.folder, self.users, self.port = Path(folder), users, free_port()
+    def __init__(self, folder, counter_port, users, *, conf=SAMPLE / "counter.conf", rate=None, user=None, hashed=None, requests=None, page=PAGE):
+        self.folder, self.users, self.port, self.page = Path(folder), users, free_port(), page
         for name in ("conf.d", "log"):
             (self.folder / name).mkdir(parents=True)
         self.make_certificate()
@@ -78,7 +78,7 @@ class Nginx:
         (self.folder / "groups").write_text("".join(f'{name} "{groups}";\n' for name, (_, groups) in self.users.items() if groups))
 
     def make_settings(self, conf, counter_port, rate):
-        own = [("listen 443 ssl", f"listen 127.0.0.1:{self.port} ssl"), ("server_name counter.bank.example", "server_name 127.0.0.1"), ("/etc/counter/", f"{self.folder}/"), ("/opt/counter/teller/", f"{PAGE}/")]
+        own = [("listen 443 ssl", f"listen 127.0.0.1:{self.port} ssl"), ("server_name counter.bank.example", "server_name 127.0.0.1"), ("/etc/counter/", f"{self.folder}/"), ("/opt/counter/teller/", f"{self.page}/")]
         text = replaced(Path(conf).read_text(), own)
         passing = (SAMPLE / "pass_to_counter.conf").read_text()
         if "pass_to_counter.conf" in text:
