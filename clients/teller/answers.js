@@ -92,16 +92,28 @@ function readUnserved(text) {
   return value !== null && isNumber(value.code) && typeof value.unserved === "string" ? { kind: "unserved", name: value.unserved, ...value } : null;
 }
 
-// The proxy's refusal of a user whose group may not do what was asked. It passed nothing to the counter.
+// The proxy's refusal of a user whose group may not do what was asked, and of one who isn't signed in. It passed nothing to the counter.
 const FORBIDDEN = '{"forbidden":"group"}';
+const NO_PASSWORD = '{"forbidden":"password"}';
 
-const WHY = { 401: "the password was not accepted", 429: "too many requests" };
+// What isn't the counter's answer. A page in place of one is perhaps a proxy's page for signing in.
+function otherAnswer(status, text) {
+  if (status === 401) return { kind: "signed_out" };
+  if (status === 429) return { kind: "none", why: "busy" };
+  const is_page = (status === 200 || status === 403) && /^\s*</.test(text);
+  return { kind: "none", why: is_page ? "page" : "status", status };
+}
 
-// Reads a response: what `read` makes of a 200, a refusal, a fault, a request that wasn't served or that the user may not make, or no answer of the counter.
+function readForbidden(text) {
+  if (text === FORBIDDEN) return { kind: "forbidden" };
+  return text === NO_PASSWORD ? { kind: "signed_out" } : null;
+}
+
+// Reads a response: what `read` makes of a 200, a refusal, a fault, a request that wasn't served, that the user may not make or that needs signing in, or no answer of the counter.
 export function readAnswer(status, text, read) {
-  const other = { kind: "none", why: WHY[status] ?? `something else did (status ${status})` };
+  const other = otherAnswer(status, text);
   if (status === 200) return read(text) ?? other;
-  if (status === 403) return text === FORBIDDEN ? { kind: "forbidden" } : other;
+  if (status === 403) return readForbidden(text) ?? other;
   if (status === 409) return readRefused(text) ?? other;
   if (status === 503) return readUnserved(text) ?? other;
   if ([400, 404, 405, 413].includes(status)) return readFault(text) ?? other;

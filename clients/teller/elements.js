@@ -16,25 +16,11 @@ export function show(target, is_shown) {
   target.hidden = !is_shown;
 }
 
-// What a field spells, or null. Then the field is marked, and `asks` says at it what to enter.
-export function readField(input, read, asks) {
-  const value = read(input.value);
-  input.setAttribute("aria-invalid", value === null ? "true" : "false");
-  input.setCustomValidity(value === null ? asks : "");
-  if (value === null) input.reportValidity();
-  return value;
-}
-
-// Has a form do `work`, by Enter and by its button. A marked field is free again as it changes.
-export function onSubmit(form, work) {
-  form.addEventListener("submit", (event) => {
-    event.preventDefault();
-    work();
-  });
-  form.addEventListener("input", (event) => {
-    event.target.setCustomValidity?.("");
-    event.target.removeAttribute("aria-invalid");
-  });
+// Puts the texts of index.html into their places, by the names there.
+export function fill(texts, language) {
+  document.documentElement.lang = language;
+  for (const target of document.querySelectorAll("[data-words]")) target.textContent = texts[target.dataset.words];
+  for (const target of document.querySelectorAll("[data-label]")) target.setAttribute("aria-label", texts[target.dataset.label]);
 }
 
 // Long enough that the second click of a double one confirms nothing.
@@ -48,13 +34,13 @@ function restFor(button, milliseconds) {
   resting = setTimeout(() => (button.disabled = false), milliseconds);
 }
 
-// Asks the teller to confirm, with the keyboard on "Back", so that a key held too long confirms nothing. Resolves to whether it was confirmed.
+// Asks the teller to confirm, with the keyboard on "Back", so that a key held too long confirms nothing. `lines` are texts or elements. Resolves to whether it was confirmed.
 // With `rests`, the button that confirms can't be pressed at once.
 export function confirmed(title, lines, yes, rests = false) {
   const dialog = byId("confirm");
   if (dialog.open) return Promise.resolve(false);
   byId("confirm-title").textContent = title;
-  byId("confirm-text").replaceChildren(...lines.map((line) => element("p", {}, line)));
+  byId("confirm-text").replaceChildren(...lines.map((line) => (line instanceof Node ? line : element("p", {}, line))));
   byId("confirm-yes").textContent = yes;
   restFor(byId("confirm-yes"), rests ? REST : 0);
   dialog.returnValue = "";

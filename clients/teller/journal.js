@@ -7,6 +7,9 @@
 //   day     the day that this page works on
 //   closed  the latest day that this page knows to be closed; a journal of an earlier version lacks it
 //   last    the number of the last ticket that this page was told
+//   paid    the tickets that this page was told on one day, { day, tickets }: of each its number, how many bonds, its sum (cents as a text), the number of its request, when, by whom, and whether
+//           it was printed. A journal of an earlier version lacks it, and `tally`
+//   tally   how many tickets and bonds all desks had paid on one day, and their sum, up to the ticket `through`
 // Of bonds and customers the record has only what the open request names.
 
 const NAME = "ladwenpik-teller";
@@ -27,6 +30,20 @@ function completed(transaction) {
   });
 }
 
+// The record couldn't be written: `fault` is "quota" if the browser has no room, and else "other". What was there before stays.
+export class Unstored extends Error {
+  constructor(error) {
+    super("the journal can't be written", { cause: error });
+    this.fault = error?.name === "QuotaExceededError" ? "quota" : "other";
+  }
+}
+
+async function opened() {
+  const request = indexedDB.open(NAME, 1);
+  request.onupgradeneeded = () => request.result.createObjectStore(KEY);
+  return answered(request);
+}
+
 export class Journal {
   #database;
   #record;
@@ -38,9 +55,7 @@ export class Journal {
   }
 
   static async open() {
-    const request = indexedDB.open(NAME, 1);
-    request.onupgradeneeded = () => request.result.createObjectStore(KEY);
-    const database = await answered(request);
+    const database = await opened();
     // A browser that is short of room then drops other pages' storage first. If it declines, it keeps the journal like any page's storage.
     navigator.storage.persist().catch(() => false);
     const record = await answered(database.transaction(KEY).objectStore(KEY).get(KEY));
@@ -54,10 +69,10 @@ export class Journal {
   // Starts the record, once in the life of a browser's storage. The first number is the time in milliseconds: above every number that this desk has reached by counting up from an earlier time.
   async choose(desk) {
     if (this.#record !== null) throw new Error("the desk was chosen before");
-    await this.#write({ desk, next: Date.now(), open: null, day: null, closed: null, last: null });
+    await this.#write({ desk, next: Date.now(), open: null, day: null, closed: null, last: null, paid: null, tally: null });
   }
 
-  // Makes one change after another, each to the record that the one before left.
+  // Makes one change after another, each to the record that the one before left. Rejects with Unstored if it can't be written.
   change(changes) {
     const changed = this.#changes.then(() => this.#write({ ...this.#record, ...changes }));
     this.#changes = changed.catch(() => {});
@@ -65,10 +80,25 @@ export class Journal {
   }
 
   async #write(record) {
+    try {
+      await this.#put(record).catch((error) => this.#putAgain(error, record));
+    } catch (error) {
+      throw new Unstored(error);
+    }
+    this.#record = record;
+  }
+
+  async #put(record) {
     const transaction = this.#database.transaction(KEY, "readwrite", { durability: "strict" });
     transaction.objectStore(KEY).put(record, KEY);
     await completed(transaction);
-    this.#record = record;
+  }
+
+  // A browser may close the database, as when its storage is cleared. This page alone has the journal, so what it remembers is what belongs there.
+  async #putAgain(error, record) {
+    if (error?.name !== "InvalidStateError") throw error;
+    this.#database = await opened();
+    await this.#put(record);
   }
 }
 

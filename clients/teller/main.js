@@ -1,24 +1,29 @@
 // The page: it takes the journal of this browser, has a desk chosen, sends again what is open, and starts the views.
 
-import { byId, element, onSubmit, readField } from "./elements.js";
+import { byId, element, fill, show } from "./elements.js";
+import { button, onSubmit, readFields } from "./forms.js";
 import { Journal, takeJournal } from "./journal.js";
-import { asking, clearNotices, earlierSendings, endSteps, giveFocusBack, keepFocus, notice, startNotices, tellForbidden, tellRefused, tellStep, tellUnanswered } from "./notices.js";
+import { forgetTickets, startFrom, Unanswered } from "./latest.js";
+import { asking, clearNotices, earlierSendings, endSteps, giveFocusBack, keepFocus, notice, startNotices, tellFailed, tellForbidden, tellRefused, tellStep, tellUnanswered } from "./notices.js";
 import { Sender } from "./sender.js";
-import { dayInWords, laterOf, moneyInWords, readDesk } from "./spelling.js";
-import { dayReplied, showDay, startDayView } from "./view_day.js";
+import { laterOf, readDesk } from "./spelling.js";
+import { askUser, onSignedIn, tellSignedIn } from "./user.js";
+import { dayReplied, deskSums, enterDay, showDay, startDayView } from "./view_day.js";
 import { clearPay, enterPay, followDay, startPayView } from "./view_pay.js";
-import { lookUpTicket, showBatch, showTicket, startLookUps } from "./view_lookups.js";
-import { showOther, startViews } from "./views.js";
+import { clearLookUps, enterBatches, enterTickets, lookUpTicket, showBatch, showTicket, startLookUps } from "./view_lookups.js";
+import { currentView, showOther, startViews } from "./views.js";
+import { ENTER, HEAD, LANGUAGE, PAY, TEXTS } from "./words.js";
 
 const NOT_OPEN = [42, 43];
 const ALREADY_PAID = 52;
+const ENTERED = { day: enterDay, pay: enterPay, tickets: enterTickets, batches: enterBatches };
 
 // What the views know of the page.
 class Page {
   #journal;
   #sender;
-  #look_ups = 0;
-  showBatch = showBatch;
+  #look_up = null;
+  user = null;
 
   constructor(journal) {
     this.#journal = journal;
@@ -28,6 +33,8 @@ class Page {
       this.#sender.sendNow();
     });
     addEventListener("online", () => this.#sender.sendNow());
+    onSignedIn(() => this.#signedIn());
+    byId("sign-out").addEventListener("click", (event) => this.#signOut(event));
   }
 
   get record() {
@@ -51,18 +58,73 @@ class Page {
 
   showState() {
     const { desk, day } = this.record;
-    byId("state").textContent = `Desk ${desk}. ${day === null ? "No business day is open" : dayInWords(day)}`;
-    showDay(this.record);
+    byId("state").textContent = HEAD.state(desk, day);
+    showDay(this);
     followDay(this);
   }
 
-  // Resolves to the answer of a look-up. If a later look-up or a request overtakes it, it never resolves.
+  // Shows who is signed in. What was shown for another user goes.
+  showUser(name) {
+    if (this.user !== null && name !== this.user) {
+      clearPay();
+      clearLookUps();
+      forgetTickets();
+    }
+    this.user = name;
+    show(byId("user"), name !== null);
+    byId("user-name").textContent = name === null ? "" : HEAD.user(name);
+  }
+
+  async #signedIn() {
+    this.showUser(await askUser());
+    this.#look_up?.again?.();
+    this.#sender.sendNow();
+    const view = currentView();
+    if (view !== null) await ENTERED[view](this);
+  }
+
+  #signOut(event) {
+    if (!this.isOpen) return;
+    event.preventDefault();
+    notice("noted", HEAD.open_request);
+  }
+
+  showBatch(batch) {
+    return showBatch(this, batch);
+  }
+
+  // Resolves to what `ask` finds out by look-ups; it gets a signal that ends them, and a function that says how far it is. If the user isn't signed in, it is asked again once the user is. If a later
+  // look-up or a request overtakes it, or the teller ends it, it never resolves.
   async lookUp(ask) {
-    const place = ++this.#look_ups;
-    const told = asking();
-    const answer = await ask();
-    told.remove();
-    return place === this.#look_ups ? answer : new Promise(() => {});
+    this.#stopLookUp();
+    const control = new AbortController();
+    const told = asking(() => this.#stopLookUp());
+    const stop = () => {
+      control.abort();
+      told.end();
+    };
+    const look_up = { stop, again: null };
+    this.#look_up = look_up;
+    const answer = await this.#askedUntilSignedIn(ask, control.signal, told.say, look_up);
+    if (control.signal.aborted) return new Promise(() => {});
+    this.#look_up = null;
+    told.end();
+    return answer;
+  }
+
+  async #askedUntilSignedIn(ask, signal, say, look_up) {
+    for (;;) {
+      const answer = await ask(signal, say).catch(answerOf);
+      if (signal.aborted || answer.kind !== "signed_out") return answer;
+      tellUnanswered(answer);
+      await new Promise((resolve) => (look_up.again = resolve));
+      clearNotices();
+    }
+  }
+
+  #stopLookUp() {
+    this.#look_up?.stop();
+    this.#look_up = null;
   }
 
   tellUnanswered(answer) {
@@ -88,14 +150,14 @@ class Page {
   }
 
   async #through(sent) {
-    this.#look_ups += 1;
+    this.#stopLookUp();
     keepFocus();
     this.#rest(true);
     try {
       const answer = await sent();
       await this.#sender.forget(this.#shown(answer));
     } catch (error) {
-      notice("refused", `This page can't continue: ${error.message}.`, "Reload it. An open request is kept, and sent again then.");
+      tellFailed(error);
     }
     this.#rest(false);
     if (endSteps()) giveFocusBack();
@@ -109,7 +171,7 @@ class Page {
 
   // Shows an answer; returns what the journal then keeps.
   #shown(answer) {
-    this.#look_ups += 1;
+    this.#stopLookUp();
     if (answer.kind === "ticket") return this.#shownTicket(answer);
     if (answer.kind === "opened" || answer.kind === "batch") return dayReplied(this, answer);
     if (answer.kind === "forbidden") tellForbidden(answer, answer.request.path);
@@ -119,57 +181,87 @@ class Page {
 
   #shownTicket(ticket) {
     const { shown } = ticket.request;
+    const paid = this.#paidWith(ticket);
     clearPay();
-    showTicket(ticket);
+    showTicket(this, ticket, paid.tickets.at(-1));
     if (typeof shown === "string" && BigInt(shown) !== ticket.total) this.#tellOtherSum(ticket, BigInt(shown));
-    else notice("done", `Ticket ${ticket.ticket} is paid.`, "", ...this.earlier(ticket));
-    return { last: ticket.ticket };
+    else notice("done", PAY.paid(ticket.ticket), PAY.desk_so_far(deskSums({ paid, day: ticket.day })), ...this.earlier(ticket));
+    return { last: ticket.ticket, paid };
+  }
+
+  // What the journal keeps of this desk's tickets of the day, with this one last. A reply that comes again counts once.
+  #paidWith(ticket) {
+    const { paid } = this.record;
+    const tickets = paid?.day === ticket.day ? paid.tickets : [];
+    const entry = { ticket: ticket.ticket, bonds: ticket.lines.length, total: ticket.total.toString(), number: ticket.request.number, at: Date.now(), teller: this.user, printed: false };
+    return { day: ticket.day, tickets: [...tickets.filter((one) => one.ticket !== entry.ticket), entry] };
   }
 
   #tellOtherSum(ticket, shown) {
-    const says = `Ticket ${ticket.ticket} is paid, but its total isn't the sum that was confirmed.`;
-    const advises = `The total, ${moneyInWords(ticket.total)}, is what was paid: pay out that. You confirmed ${moneyInWords(shown)}. Tell the people who maintain this page.`;
-    notice("refused", says, advises, ...this.earlier(ticket));
+    notice("refused", PAY.other_sum(ticket.ticket), PAY.other_sum_help(ticket.total, shown), ...this.earlier(ticket));
   }
 
   #tellRefused(answer) {
-    const button = answer.code === ALREADY_PAID ? [this.#ticketButton(answer.ticket)] : [];
-    tellRefused(answer, ...this.earlier(answer), ...button);
+    const more = answer.code === ALREADY_PAID ? [this.#ticketButton(answer.ticket)] : [];
+    tellRefused(answer, ...this.earlier(answer), ...more);
   }
 
   #ticketButton(number) {
-    const button = element("button", { type: "button", class: "plain" }, `Show ticket ${number}`);
-    button.addEventListener("click", () => lookUpTicket(this, number));
-    return element("p", {}, button);
+    return element("p", {}, button(PAY.show_ticket(number), () => lookUpTicket(this, number)));
   }
+}
+
+// The answer of a look-up among several that wasn't answered.
+function answerOf(error) {
+  if (error instanceof Unanswered) return error.answer;
+  throw error;
 }
 
 function chosenDesk(journal) {
   showOther("start");
   return new Promise((resolve) => {
     onSubmit(byId("start").querySelector("form"), async () => {
-      const desk = readField(byId("desk"), readDesk, "Enter a desk number (0 to 999)");
-      if (desk === null) return;
-      await journal.choose(desk);
+      const fields = readFields([byId("desk"), readDesk, ENTER.desk]);
+      if (fields === null) return;
+      await journal.choose(...fields);
       resolve();
     });
   });
 }
 
+// In a tab that has to wait for another one, the user has signed in all the same.
+function waiting(user) {
+  showOther("waiting");
+  user.then(tellSignedIn);
+}
+
 async function start() {
+  fill(TEXTS, LANGUAGE);
   startNotices();
-  await takeJournal(() => showOther("waiting"));
+  const user = askUser();
+  await takeJournal(() => waiting(user));
   const journal = await Journal.open();
   if (journal.record === null) await chosenDesk(journal);
+  startFrom(journal.record.last);
+  startFrom(journal.record.tally?.through);
   const page = new Page(journal);
   startDayView(page);
   startPayView(page);
   startLookUps(page);
   page.showState();
-  startViews((name) => name === "pay" && enterPay(page));
+  user.then((name) => page.showUser(name));
+  const entered = (name) => ENTERED[name](page);
+  startViews(entered);
   byId("views").addEventListener("click", clearNotices);
-  byId("last-ticket").addEventListener("click", () => lookUpTicket(page, page.record.last));
   if (page.isOpen) await page.resume();
 }
 
-start().catch((error) => notice("refused", `This page can't start: ${error.message}.`, "It needs a current browser, over HTTPS, that may store data for this page."));
+addEventListener("unhandledrejection", (event) => {
+  event.preventDefault();
+  tellFailed(event.reason);
+});
+
+start().catch(() => {
+  const reload = element("p", { class: "buttons" }, button(HEAD.reload, () => location.reload()));
+  notice("refused", HEAD.no_start, HEAD.no_start_help, reload);
+});

@@ -5,23 +5,31 @@ import { readAnswer, readEntry } from "./answers.js";
 // Longer than the 30 seconds for which another client can hold the desk.
 export const TIME_LIMIT = 40_000;
 
-// No page of another origin can send this header without asking first, so the proxy demands it.
-const OWN = { "X-Counter-Client": "teller-page" };
+// No page of another origin can send this header without asking first, so the proxy demands it. By its value the proxy knows the page, and doesn't have the browser ask for a password.
+export const OWN = { "X-Counter-Client": "teller-page" };
 
-const SETTINGS = { cache: "no-store", credentials: "same-origin", redirect: "manual" };
+export const SETTINGS = { cache: "no-store", credentials: "same-origin", redirect: "manual" };
 
-async function exchanged(path, options, read) {
+function failed(error, cancel) {
+  if (cancel?.aborted) return { kind: "cancelled" };
+  return error.name === "TimeoutError" ? { kind: "none", why: "time", seconds: TIME_LIMIT / 1000 } : { kind: "none", why: "lost" };
+}
+
+async function exchanged(path, options, read, cancel) {
+  const limit = AbortSignal.timeout(TIME_LIMIT);
+  const signal = cancel === undefined ? limit : AbortSignal.any([limit, cancel]);
   try {
-    const response = await fetch(new URL(path, location.origin), { ...SETTINGS, signal: AbortSignal.timeout(TIME_LIMIT), ...options });
-    if (response.type === "opaqueredirect") return { kind: "none", why: "the request was redirected" };
+    const response = await fetch(new URL(path, location.origin), { ...SETTINGS, signal, ...options });
+    if (response.type === "opaqueredirect") return { kind: "none", why: "redirected" };
     return { ...readAnswer(response.status, await response.text(), read), entry: readEntry(response.headers.get("X-Request-Id")) };
   } catch (error) {
-    return { kind: "none", why: error.name === "TimeoutError" ? `no response within ${TIME_LIMIT / 1000} seconds` : "the connection was lost" };
+    return failed(error, cancel);
   }
 }
 
-export function asked(path, read) {
-  return exchanged(path, { method: "GET", headers: OWN }, read);
+// A look-up, which the signal `cancel` ends.
+export function asked(path, read, cancel) {
+  return exchanged(path, { method: "GET", headers: OWN }, read, cancel);
 }
 
 export function posted(path, body, read) {

@@ -1,8 +1,14 @@
-// What a teller is told: the outcome of the last request, and what a request under way is doing. Both stand at the top of the window, however far the page is scrolled.
+// What a teller is told: the outcome of the last request, and what a request under way is doing. Both stand at the top of the window, however far the page is scrolled. A screen reader hears them
+// from the page's one live region.
 
 import { byId, element, show } from "./elements.js";
-import { counted, dayInWords } from "./spelling.js";
-import { forbiddenInWords, inWords } from "./words.js";
+import { Unstored } from "./journal.js";
+import { forbiddenInWords, HEAD, interruptedInWords, inWords, NOTICES, STEPS, TEXTS } from "./words.js";
+
+// Has a screen reader say it, when it comes to it.
+export function announce(text) {
+  byId("live").textContent = text;
+}
 
 // What has the keyboard when no notice has it.
 let focused = null;
@@ -22,7 +28,7 @@ function takeFocus(target) {
 }
 
 function closeButton() {
-  const button = element("button", { type: "button", class: "plain close" }, "Close");
+  const button = element("button", { type: "button", class: "plain close" }, HEAD.close);
   button.addEventListener("click", () => {
     clearNotices();
     giveFocusBack();
@@ -34,20 +40,37 @@ function closeButton() {
 export function notice(kind, says, advises, ...more) {
   const lines = [element("p", { class: "says" }, says)];
   if (advises) lines.push(element("p", {}, advises));
-  const role = kind === "refused" ? { role: "alert" } : {};
-  const made = element("div", { class: `notice ${kind}`, tabindex: "-1", ...role }, ...lines, ...more, closeButton());
+  const made = element("div", { class: `notice ${kind}`, tabindex: "-1" }, ...lines, ...more, closeButton());
   byId("notices").replaceChildren(made);
   byId("told").scrollTop = 0;
+  announce([...made.querySelectorAll("p")].map((line) => line.textContent).join(" "));
   // After a change of view has put the keyboard on its heading.
   if (kind === "refused") setTimeout(() => made.isConnected && takeFocus(made), 0);
   return made;
 }
 
-// Says that a look-up is under way; returns the notice.
-export function asking() {
-  const made = element("div", { class: "notice noted" }, element("p", { class: "says" }, "Asking the counter."));
-  byId("notices").replaceChildren(made);
-  return made;
+// A look-up that takes less than this isn't told.
+const SOON = 400;
+
+// Says that a look-up is under way, beside what was told before, with a button that calls `cancel`. Returns what says how far it is, and what takes it away.
+export function asking(cancel) {
+  const told = byId("asking");
+  const stop = byId("stop-asking");
+  const say = (text) => (told.querySelector("p").textContent = text);
+  say(TEXTS.asking);
+  stop.onclick = cancel;
+  const timer = setTimeout(() => {
+    show(told, true);
+    announce(TEXTS.asking);
+  }, SOON);
+  const end = () => {
+    clearTimeout(timer);
+    if (stop.onclick !== cancel) return;
+    const had_focus = told.contains(document.activeElement);
+    show(told, false);
+    if (had_focus) giveFocusBack();
+  };
+  return { say, end };
 }
 
 export function clearNotices() {
@@ -59,83 +82,64 @@ export function clearNoted() {
   byId("notices").querySelector(".noted")?.remove();
 }
 
-function entryInWords(answer) {
-  return answer.entry ? `Log entry ${answer.entry}.` : "";
+// The way to sign in again, in another tab: what was typed in this one stays.
+function signInLink() {
+  return element("a", { class: "button", href: "./", target: "_blank", rel: "noopener" }, TEXTS.sign_in);
+}
+
+function needsSignIn(answer) {
+  return answer.kind === "signed_out" || answer.why === "redirected" || answer.why === "page";
 }
 
 // What those who look after the counter ask for: the code, and the entry in the proxy's log.
 function codeLine(answer, ...more) {
-  const code = answer.code === undefined ? "" : `${answer.name}, code ${answer.code}.`;
-  const text = [code, ...more, entryInWords(answer)].filter((one) => one !== "").join(" ");
+  const code = answer.code === undefined ? "" : NOTICES.code(answer.name, answer.code);
+  const text = [code, ...more, answer.entry ? NOTICES.entry(answer.entry) : ""].filter((one) => one !== "").join(" ");
   return text === "" ? [] : [element("p", { class: "code" }, text)];
 }
 
 // A refusal or a fault, in words.
 export function tellRefused(answer, ...more) {
   const { says, advises } = inWords(answer);
-  notice("refused", says, advises, ...more, ...codeLine(answer, answer.kind === "refused" ? "Nothing was changed." : ""));
+  notice("refused", says, advises, ...more, ...codeLine(answer, answer.kind === "refused" ? NOTICES.nothing_changed : ""));
 }
 
 // A request that this user may not make; `path` is null for a look-up.
 export function tellForbidden(answer, path) {
   const { says, advises } = forbiddenInWords(path);
-  notice("refused", `${says} Nothing was done.`, advises, ...codeLine(answer));
+  notice("refused", NOTICES.nothing_done(says), advises, ...codeLine(answer));
 }
 
 // A look-up that the counter didn't answer.
 export function tellUnanswered(answer) {
-  notice("refused", inWords(answer).says, "Nothing was changed. Try again.", ...codeLine(answer));
+  const { says, advises } = inWords(answer);
+  const link = needsSignIn(answer) ? [element("p", { class: "buttons" }, signInLink())] : [];
+  notice("refused", says, answer.kind === "signed_out" ? advises : NOTICES.try_again, ...link, ...codeLine(answer));
 }
 
-const DONE_ONCE = {
-  ticket: "This was paid once.",
-  opened: "The day was opened once.",
-  batch: "The day was closed once.",
-};
+// What of a look-up's list stands in the list's own place.
+export function unansweredLine(answer) {
+  const { says } = inWords(answer);
+  const line = element("p", {}, says);
+  return needsSignIn(answer) ? [line, element("p", { class: "buttons" }, signInLink())] : [line];
+}
+
+// What went wrong in the page itself, or in the browser's storage. An open request is in the journal.
+export function tellFailed(error) {
+  if (error instanceof Unstored) {
+    const { says, advises } = inWords({ kind: "unstored", fault: error.fault });
+    notice("refused", `${says} ${NOTICES.not_sent}`, advises);
+    return;
+  }
+  const reload = element("button", { type: "button" }, HEAD.reload);
+  reload.addEventListener("click", () => location.reload());
+  notice("refused", HEAD.failed, HEAD.failed_help, element("p", { class: "buttons" }, reload));
+}
 
 // Says that the reply is perhaps that of an earlier attempt. Empty after one attempt.
 export function earlierSendings({ kind, request }) {
-  if (request.sent < 2) return "";
-  return `The connection was interrupted. ${DONE_ONCE[kind] ?? `None of the ${request.sent} attempts changed anything.`}`;
+  return request.sent < 2 ? "" : interruptedInWords(kind, request.sent);
 }
-
-function requestInWords({ path, fields }) {
-  if (path === "/day/open") return `Opening ${dayInWords(fields.day)}`;
-  if (path === "/day/close") return `Closing ${dayInWords(fields.day)}`;
-  return `Paying ${counted(fields.serials.length, "bond", "bonds")} to customer ${fields.payee}`;
-}
-
-// What an attempt without a reply may have done.
-const MAY_BE_DONE = {
-  "/redeem": "Nothing may be paid out yet. The payment may have been made already.",
-  "/day/open": "The day may be open already.",
-  "/day/close": "The day may be closed already.",
-};
-
-// What came in place of a reply.
-function missedInWords(request, answer) {
-  const is_forbidden = answer.kind === "forbidden";
-  const { says, advises } = is_forbidden ? forbiddenInWords(request.path) : inWords(answer);
-  if (is_forbidden) return `${says} ${advises} This says nothing about the earlier attempts.`;
-  return answer.kind === "fault" && request.sent > 1 ? `${says} This says nothing about the earlier attempts.` : says;
-}
-
-// By step: what comes first, and the rest.
-const STEPS = {
-  sending: ({ request }) => {
-    const times = request.sent === 1 ? "sent" : `sent again (attempt ${request.sent})`;
-    return ["", `${requestInWords(request)}: ${times}, waiting for the reply.`];
-  },
-  renumbered: ({ request }) => {
-    const next = `The page continues with number ${request.number}. Does another page use this desk?`;
-    return ["", `${requestInWords(request)}: another request of this desk used that number. ${next}`];
-  },
-  pausing: ({ request, answer, milliseconds }) => {
-    const seconds = milliseconds < 1000 ? "half a second" : counted(milliseconds / 1000, "second", "seconds");
-    const first = `${requestInWords(request)}: no reply yet. ${MAY_BE_DONE[request.path]}`;
-    return [first, `${missedInWords(request, answer)} The same request is sent again in ${seconds}.`];
-  },
-};
 
 let countdown = null;
 
@@ -158,11 +162,16 @@ export function tellStep(step) {
   byId("progress-text").replaceChildren(...(first === "" ? [] : [element("strong", {}, first), " "]), rest);
   byId("progress-code").replaceChildren(...(is_pausing ? codeLine(step.answer) : []));
   byId("progress").className = "on";
-  show(byId("progress-bar"), is_pausing);
+  announce(byId("progress-text").textContent);
+  show(byId("progress-bar"), is_pausing && step.milliseconds !== null);
   show(byId("send-now"), is_pausing);
+  show(byId("sign-in"), is_pausing && needsSignIn(step.answer));
   clearInterval(countdown);
-  if (!is_pausing) return;
-  countDown(step.milliseconds);
+  if (is_pausing) tellPause(step.milliseconds);
+}
+
+function tellPause(milliseconds) {
+  if (milliseconds !== null) countDown(milliseconds);
   byId("told").scrollTop = 0;
   if (!has_taken_focus) takeFocus(byId("progress-text"));
   has_taken_focus = true;
@@ -176,17 +185,22 @@ export function endSteps() {
   byId("progress-text").textContent = "";
   byId("progress-code").replaceChildren();
   byId("progress").className = "";
-  show(byId("progress-bar"), false);
-  show(byId("send-now"), false);
+  for (const id of ["progress-bar", "send-now", "sign-in"]) show(byId(id), false);
   return had_focus;
 }
 
-// Keeps what has the keyboard from under the notices, for as long as they are there, and lets Escape close a notice.
+// Keeps what has the keyboard from under the notices and the bar of Pay, for as long as they are there, and lets Escape close a notice.
 export function startNotices() {
   const told = byId("told");
-  const measure = () => document.documentElement.style.setProperty("--told", `${told.offsetHeight}px`);
-  new ResizeObserver(measure).observe(told);
+  const bar = byId("pay-bonds");
+  const measure = () => {
+    document.documentElement.style.setProperty("--told", `${told.offsetHeight}px`);
+    document.documentElement.style.setProperty("--bar", `${bar.offsetHeight}px`);
+  };
+  const observer = new ResizeObserver(measure);
+  observer.observe(told);
+  observer.observe(bar);
   told.addEventListener("keydown", (event) => {
-    if (event.key === "Escape") told.querySelector(".close")?.click();
+    if (event.key === "Escape") told.querySelector("#notices .close")?.click();
   });
 }

@@ -1,4 +1,4 @@
-// Look-ups, which change nothing. Each is asked again a few times if no answer comes; then the teller is told.
+// Look-ups, which change nothing. Each is asked again a few times if no answer comes; then the teller is told. The signal `cancel` ends one, whose answer then is of the kind "cancelled".
 
 import { readBatch, readTicket } from "./answers.js";
 import { asked } from "./messages.js";
@@ -11,34 +11,45 @@ function isFinal(answer) {
   return answer.kind !== "none" && answer.kind !== "unserved";
 }
 
-async function answered(path, read) {
-  for (const milliseconds of PAUSES) {
-    const answer = await asked(path, read);
-    if (isFinal(answer)) return answer;
-    await new Promise((resolve) => setTimeout(resolve, milliseconds));
-  }
-  return asked(path, read);
+// Ends early if the signal `cancel` does.
+function pause(milliseconds, cancel) {
+  return new Promise((resolve) => {
+    setTimeout(resolve, milliseconds);
+    cancel?.addEventListener("abort", resolve, { once: true });
+  });
 }
 
-export function askTicket(number) {
-  return answered(`/ticket/${number}`, (text) => {
+async function answered(path, read, cancel) {
+  for (const milliseconds of PAUSES) {
+    const answer = await asked(path, read, cancel);
+    if (isFinal(answer)) return answer;
+    await pause(milliseconds, cancel);
+  }
+  return asked(path, read, cancel);
+}
+
+export function askTicket(number, cancel) {
+  const read = (text) => {
     const ticket = readTicket(text);
     return ticket !== null && ticket.ticket === number ? ticket : null;
-  });
+  };
+  return answered(`/ticket/${number}`, read, cancel);
 }
 
-export function askBatch(day) {
-  return answered(`/batch/${day}`, (text) => {
+export function askBatch(day, cancel) {
+  const read = (text) => {
     const batch = readBatch(text);
     return batch !== null && batch.day === day ? batch : null;
-  });
+  };
+  return answered(`/batch/${day}`, read, cancel);
 }
 
-export function askSheet(customer, month) {
-  return answered(`/inventory/${customer}/${month}`, (text) => {
+export function askSheet(customer, month, cancel) {
+  const read = (text) => {
     const sheet = readSheet(text);
     return sheet === null ? null : { kind: "sheet", customer, month, ...sheet };
-  });
+  };
+  return answered(`/inventory/${customer}/${month}`, read, cancel);
 }
 
 export function isMissing(answer) {
@@ -46,9 +57,9 @@ export function isMissing(answer) {
 }
 
 // The batch of the first of these days that has one; null if none has; an answer that is neither, if one comes first.
-export async function askFirstBatch(days) {
+export async function askFirstBatch(days, cancel) {
   for (const day of days) {
-    const answer = await askBatch(day);
+    const answer = await askBatch(day, cancel);
     if (!isMissing(answer)) return answer;
   }
   return null;

@@ -6,8 +6,12 @@
 //
 // A fault, or the proxy's word that this user may not do it, answers one sending. On the first sending it is final: nothing was done, and no other sending is on its way. On a later one
 // it tells nothing about the sendings before it, so the request stays open.
+//
+// Nothing is sent that isn't written into the journal. If the browser can't write it, the page pauses and tries again. If the user isn't signed in, each further sending could count as a wrong
+// password: so the request waits until the user has signed in, or presses the button.
 
 import { replyTo } from "./answers.js";
+import { Unstored } from "./journal.js";
 import { posted } from "./messages.js";
 
 const PAUSES = [500, 1000, 2000, 4000, 8000, 15000];
@@ -25,11 +29,16 @@ function isOfOneSending(answer) {
 }
 
 function isFinal(answer, sent) {
-  return isReply(answer) || (isOfOneSending(answer) && sent === 1);
+  return (isReply(answer) && !isReused(answer)) || (isOfOneSending(answer) && sent === 1);
 }
 
 function isReused(answer) {
   return answer.kind === "refused" && answer.code === NUMBER_REUSED;
+}
+
+// How long the page waits after a sending without a reply; null if it waits until it is woken.
+function pauseAfter(answer, failures) {
+  return answer.kind === "signed_out" ? null : PAUSES[Math.min(failures, PAUSES.length - 1)];
 }
 
 export class Sender {
@@ -76,20 +85,21 @@ export class Sender {
   async #finished() {
     for (let failures = 0; ; ) {
       const answer = await this.#sentOnce();
-      if (isReused(answer)) {
-        await this.#renumber();
-      } else if (isFinal(answer, this.#journal.record.open.sent)) {
-        return { ...answer, request: this.#journal.record.open };
-      } else {
-        await this.#pause(answer, PAUSES[Math.min(failures, PAUSES.length - 1)]);
-        failures += 1;
-      }
+      if (isFinal(answer, this.#journal.record.open.sent)) return { ...answer, request: this.#journal.record.open };
+      const missed = isReused(answer) ? await this.#renumbered() : answer;
+      if (missed === null) continue;
+      await this.#pause(missed, pauseAfter(missed, failures));
+      failures += 1;
     }
   }
 
   // Drops the request from the journal, once its reply was shown.
   async forget(changes) {
-    await this.#journal.change({ ...changes, open: null });
+    for (let failures = 0; ; failures += 1) {
+      const missed = await this.#written({ ...changes, open: null });
+      if (missed === null) return;
+      await this.#pause({ ...missed, is_replied: true }, pauseAfter(missed, failures));
+    }
   }
 
   // Ends the pause that is on.
@@ -97,26 +107,39 @@ export class Sender {
     this.#wake();
   }
 
+  // Null once the changes are in the journal, and else why not.
+  async #written(changes) {
+    try {
+      await this.#journal.change(changes);
+      return null;
+    } catch (error) {
+      if (error instanceof Unstored) return { kind: "unstored", fault: error.fault };
+      throw error;
+    }
+  }
+
   async #sentOnce() {
     const { open, desk } = this.#journal.record;
     const sending = { ...open, sent: open.sent + 1 };
-    await this.#journal.change({ open: sending });
+    const missed = await this.#written({ open: sending });
+    if (missed !== null) return missed;
     this.#tell({ step: "sending", request: sending });
     return posted(open.path, { desk, number: open.number, ...open.fields }, (text) => replyTo(open.path, open.fields, text));
   }
 
-  async #renumber() {
+  async #renumbered() {
     const { open } = this.#journal.record;
     const number = open.number + open.step;
     if (!Number.isSafeInteger(number + 1)) throw new Error("this desk has no numbers left");
-    await this.#journal.change({ next: number + 1, open: { ...open, number, step: open.step * 2, sent: 0 } });
-    this.#tell({ step: "renumbered", request: this.#journal.record.open });
+    const missed = await this.#written({ next: number + 1, open: { ...open, number, step: open.step * 2, sent: 0 } });
+    if (missed === null) this.#tell({ step: "renumbered", request: this.#journal.record.open });
+    return missed;
   }
 
   async #pause(answer, milliseconds) {
     this.#tell({ step: "pausing", request: this.#journal.record.open, answer, milliseconds });
     await new Promise((resolve) => {
-      const timer = setTimeout(resolve, milliseconds);
+      const timer = milliseconds === null ? undefined : setTimeout(resolve, milliseconds);
       this.#wake = () => {
         clearTimeout(timer);
         resolve();

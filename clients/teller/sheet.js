@@ -22,14 +22,6 @@ const ROW = new RegExp(
 );
 const TOTALS = new RegExp(`^(?<serial>Total) +(?<price>${MONEY}) +(?<interest>${MONEY}) +(?<value>${MONEY})$`);
 
-export const NOTES = {
-  NI: "not issued yet",
-  NE: "under 12 months: can't be paid yet",
-  P5: "under 5 years: less three months' interest",
-  MA: "30 years or more: earns no more interest",
-  "": "",
-};
-
 function line(cells) {
   const columns = COLUMNS.map(([name, , width, side]) => {
     const text = cells[name] ?? "";

@@ -1,46 +1,94 @@
-// A sheet as a table. In a narrow window each row becomes a block, in which each cell has its column's name.
+// A sheet as a table: what the teller asks for first, and the notes as badges with one legend. In a narrow window each bond becomes a card. A click anywhere on a bond chooses it.
 
 import { element } from "./elements.js";
-import { NOTES } from "./sheet.js";
-import { moneyInWords, monthInWords } from "./spelling.js";
+import { isPayable } from "./sheet.js";
+import { moneyInWords, numberInWords, SHEET } from "./words.js";
 
-const COLUMNS = ["Pay", "Bond", "Denom.", "Issued", "Next accrual", "Final maturity", "Price", "Interest", "Rate", "Value", "Note"];
-const RIGHT = ["Denom.", "Price", "Interest", "Rate", "Value"];
+const COLUMNS = Object.keys(SHEET.columns);
+const MONEY = ["denom", "price", "interest", "rate", "value"];
 
-function cell(place, text, attributes = {}) {
-  return element("td", { role: "cell", "data-name": COLUMNS[place], ...attributes }, text);
+function cell(name, content, attributes = {}) {
+  const kind = MONEY.includes(name) ? `money of-${name}` : `of-${name}`;
+  return element("td", { role: "cell", "data-name": SHEET.columns[name], class: kind, ...attributes }, content);
+}
+
+function badge(note) {
+  return note === "" ? "" : element("span", { class: isPayable({ note }) ? "badge" : "badge barred" }, note);
+}
+
+function cellsOf(row, box) {
+  return {
+    box,
+    serial: row.serial,
+    value: moneyInWords(row.value),
+    note: badge(row.note),
+    denom: `$${numberInWords(Number(row.denom))}`,
+    issued: row.issued,
+    price: moneyInWords(row.price),
+    interest: moneyInWords(row.interest),
+    rate: row.rate || SHEET.no_value,
+    next: row.next || SHEET.no_value,
+    final: row.final || SHEET.no_value,
+  };
+}
+
+// A click beside the box is one on it. Text that is being selected isn't a click.
+function choosesAsWhole(made, box) {
+  made.addEventListener("click", (event) => {
+    if (event.target !== box && !box.disabled && String(getSelection()) === "") box.click();
+  });
 }
 
 function sheetRow(row, box) {
-  const money = { class: "money" };
-  const name = element("th", { scope: "row", role: "rowheader", "data-name": COLUMNS[1] }, row.serial);
-  const texts = [row.issued, row.next || "–", row.final || "–"].map((text, place) => cell(place + 3, text));
-  const sums = [row.price, row.interest].map((cents, place) => cell(place + 6, moneyInWords(cents), money));
-  const denom = cell(2, `$${Number(row.denom).toLocaleString("en-US")}`, money);
-  const last = [cell(8, row.rate || "–", money), cell(9, moneyInWords(row.value), money), cell(10, NOTES[row.note], { class: "note" })];
-  return element("tr", { role: "row" }, cell(0, box), name, denom, ...texts, ...sums, ...last);
+  const cells = cellsOf(row, box);
+  const made = element("tr", { role: "row", class: box.disabled ? "barred" : "choosable" });
+  for (const name of COLUMNS) {
+    if (name === "serial") made.append(element("th", { scope: "row", role: "rowheader", class: "of-serial" }, cells.serial));
+    else made.append(cell(name, cells[name]));
+  }
+  choosesAsWhole(made, box);
+  return made;
 }
 
-function totalRow(totals) {
-  const money = { class: "money" };
-  const empty = (place) => cell(place, "", { class: "none" });
-  const name = element("th", { scope: "row", role: "rowheader" }, "Total");
-  const sums = [totals.price, totals.interest].map((cents, place) => cell(place + 6, moneyInWords(cents), money));
-  const value = cell(9, moneyInWords(totals.value), money);
-  return element("tr", { role: "row" }, empty(0), name, ...[2, 3, 4, 5].map(empty), ...sums, empty(8), value, empty(10));
+// The sums of some rows, under their columns.
+function sumRow(title, sums) {
+  const made = element("tr", { role: "row" });
+  for (const name of COLUMNS) {
+    if (name === "serial") made.append(element("th", { scope: "row", role: "rowheader", class: "of-serial" }, title));
+    else if (name in sums) made.append(cell(name, moneyInWords(sums[name])));
+    else made.append(element("td", { role: "cell", class: "none" }));
+  }
+  return made;
+}
+
+function sumsOf(rows) {
+  const sum = (name) => rows.reduce((cents, row) => cents + row[name], 0n);
+  return { price: sum("price"), interest: sum("interest"), value: sum("value") };
 }
 
 function sheetTable(sheet, boxOf) {
-  const caption = element("caption", {}, `Unpaid bonds of customer ${sheet.customer} in ${monthInWords(sheet.month)}`);
-  const heading = (name) => element("th", { scope: "col", role: "columnheader", class: RIGHT.includes(name) ? "money" : "" }, name);
+  const caption = element("caption", {}, SHEET.caption(sheet.customer, sheet.month));
+  const heading = (name) => element("th", { scope: "col", role: "columnheader", class: MONEY.includes(name) ? "money" : "" }, SHEET.columns[name]);
   const group = (name, ...rows) => element(name, { role: "rowgroup" }, ...rows);
   const head = group("thead", element("tr", { role: "row" }, ...COLUMNS.map(heading)));
   const rows = sheet.rows.map((row) => sheetRow(row, boxOf(row)));
-  return element("table", { class: "sheet", role: "table" }, caption, head, group("tbody", ...rows), group("tfoot", totalRow(sheet.totals)));
+  const { price, interest, value } = sheet.totals;
+  const payable = sheet.rows.filter(isPayable);
+  const sums = payable.length === sheet.rows.length ? [] : [sumRow(SHEET.payable_total, sumsOf(payable))];
+  const foot = group("tfoot", ...sums, sumRow(SHEET.total, { price, interest, value }));
+  return element("table", { class: "sheet", role: "table" }, caption, head, group("tbody", ...rows), foot);
+}
+
+function legend(sheet) {
+  const notes = Object.keys(SHEET.notes).filter((note) => sheet.rows.some((row) => row.note === note));
+  if (notes.length === 0) return [];
+  const lines = notes.flatMap((note) => [element("dt", {}, badge(note)), element("dd", {}, SHEET.notes[note])]);
+  return [element("dl", { class: "legend", "aria-label": SHEET.legend }, ...lines)];
 }
 
 // The sheet, with the box that `boxOf` makes for each row. If it is wider than the window, the keyboard moves it too.
 export function sheetRegion(sheet, boxOf) {
-  if (sheet.rows.length === 0) return element("p", {}, `Customer ${sheet.customer} owns no unpaid bonds.`);
-  return element("div", { class: "wide", tabindex: "0", role: "region", "aria-label": "Unpaid bonds" }, sheetTable(sheet, boxOf));
+  if (sheet.rows.length === 0) return [element("p", { class: "main-fact" }, SHEET.none(sheet.customer))];
+  const table = element("div", { class: "wide", tabindex: "0", role: "region", "aria-label": SHEET.region }, sheetTable(sheet, boxOf));
+  return [table, ...legend(sheet)];
 }

@@ -1,7 +1,4 @@
-// The spellings of docs/FORMATS.md: customers, desks, serial numbers, months, days and money. A reader returns null if the text spells no value.
-
-const WEEKDAYS = ["Sunday", "Monday", "Tuesday", "Wednesday", "Thursday", "Friday", "Saturday"];
-const MONTHS = ["January", "February", "March", "April", "May", "June", "July", "August", "September", "October", "November", "December"];
+// The spellings of docs/FORMATS.md: customers, desks, serial numbers, months, days and money. A reader returns null if the text spells no value. How the page says them is in words.js.
 
 function wholeNumber(text, most_digits, least, most) {
   if (!/^[0-9]+$/.test(text) || text.length > most_digits) return null;
@@ -49,19 +46,7 @@ export function monthOf(day) {
   return day.slice(0, 7);
 }
 
-export function monthInWords(month) {
-  return `${MONTHS[Number(month.slice(5)) - 1]} ${month.slice(0, 4)}`;
-}
-
-export function dayInWords(day) {
-  return `${Number(day.slice(8))} ${monthInWords(monthOf(day))}`;
-}
-
-export function weekdayInWords(day) {
-  return `${WEEKDAYS[noonOf(day).getUTCDay()]}, ${dayInWords(day)}`;
-}
-
-function noonOf(day) {
+export function noonOf(day) {
   return new Date(`${day}T12:00:00Z`);
 }
 
@@ -95,13 +80,4 @@ export function readMoney(text) {
 export function printMoney(cents) {
   const digits = cents.toString().padStart(3, "0");
   return `${digits.slice(0, -2)}.${digits.slice(-2)}`;
-}
-
-// Money as tellers read it, with a comma after each three digits.
-export function moneyInWords(cents) {
-  return `$${printMoney(cents).replace(/\B(?=([0-9]{3})+\.)/g, ",")}`;
-}
-
-export function counted(count, one, many) {
-  return `${count.toLocaleString("en-US")} ${count === 1 ? one : many}`;
 }

@@ -1,8 +1,28 @@
-// Loads the page's modules. If one of them doesn't come, the page reloads itself: it may have an open request to send.
+// Loads the page's modules. If one of them doesn't come, the page loads itself again, after growing pauses: it may have an open request to send. A file that comes and
+// can't be read would be the same after a reload, so the page says so and stops.
 
-const PAUSE = 3000;
+const PAUSES = [3000, 6000, 12_000, 30_000, 60_000];
 
-import("./main.js").catch(() => {
-  document.getElementById("starting").textContent = "The page didn't load completely. It reloads in 3 seconds.";
-  setTimeout(() => location.reload(), PAUSE);
-});
+function say(id) {
+  for (const name of ["starting", "unreadable", "incomplete"]) document.getElementById(name).hidden = name !== id;
+}
+
+// How often this entry of the browser's history was loaded again is kept with the entry.
+function loadAgain() {
+  const times = history.state?.times ?? 0;
+  setTimeout(() => {
+    history.replaceState({ times: times + 1 }, "");
+    location.reload();
+  }, PAUSES[Math.min(times, PAUSES.length - 1)]);
+}
+
+function failed(error) {
+  if (error instanceof SyntaxError) {
+    say("unreadable");
+  } else {
+    say("incomplete");
+    loadAgain();
+  }
+}
+
+if (!document.documentElement.hasAttribute("data-old")) import("./main.js").then(() => history.replaceState(null, ""), failed);

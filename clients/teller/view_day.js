@@ -1,57 +1,96 @@
-// The business day: opening it, joining it, closing it.
+// The business day: opening it, joining it, what was paid on it so far, closing it.
 
-import { byId, confirmed, onSubmit, readField, show } from "./elements.js";
+import { byId, confirmed, element, show } from "./elements.js";
+import { button, onClick, onSubmit, readFields } from "./forms.js";
+import { Unstored } from "./journal.js";
+import { countDay } from "./latest.js";
+import { listTable, load, stopLoading } from "./lists.js";
 import { notice } from "./notices.js";
 import { askBatch, askFirstBatch, isMissing } from "./queries.js";
-import { counted, dayInWords, daysBefore, daysFrom, laterOf, monthInWords, monthOf, readDay, today, weekdayInWords } from "./spelling.js";
-
-const ASKS = "Enter a day (YYYY-MM-DD, from 2005-05-01)";
+import { daysBefore, daysFrom, laterOf, readDay, today } from "./spelling.js";
+import { lookUpTicket } from "./view_lookups.js";
+import { DAY, ENTER, LOOKUPS, moneyInWords, numberInWords } from "./words.js";
 
 // A day is usually opened within a week of the last closed one. From the next day on the page asks twice.
 const USUAL_DAYS = 7;
 
-export function showDay(record) {
-  show(byId("day-open"), record.day !== null);
-  show(byId("day-closed"), record.day === null);
-  byId("day-name").textContent = record.day === null ? "" : weekdayInWords(record.day);
-  show(byId("day-last"), record.last !== null);
-  byId("last-ticket").textContent = record.last === null ? "" : `ticket ${record.last}`;
+// ---- what was paid so far
+
+// The sums of what this desk paid on the open day.
+export function deskSums({ paid, day }) {
+  const tickets = paid !== null && paid !== undefined && paid.day === day ? paid.tickets : [];
+  const total = tickets.reduce((cents, one) => cents + BigInt(one.total), 0n);
+  return { tickets: tickets.length, bonds: tickets.reduce((count, one) => count + one.bonds, 0), total };
+}
+
+function showDeskTickets(app) {
+  const { paid, day } = app.record;
+  const tickets = deskSums(app.record).tickets === 0 ? [] : paid.tickets;
+  const row = (one) => [button(LOOKUPS.show_ticket(one.ticket), () => lookUpTicket(app, one.ticket)), LOOKUPS.time(one.at), numberInWords(one.bonds), moneyInWords(BigInt(one.total))];
+  const table = listTable(LOOKUPS.desk_caption, LOOKUPS.desk_columns, tickets.map(row).reverse());
+  byId("desk-tickets").replaceChildren(...(day === null || tickets.length === 0 ? [] : [element("h3", {}, DAY.desk_tickets), table]));
+}
+
+export function showDay(app) {
+  const { day, last } = app.record;
+  show(byId("day-open"), day !== null);
+  show(byId("day-closed"), day === null);
+  byId("day-name").textContent = day === null ? "" : DAY.name(day);
+  byId("desk-sum").textContent = DAY.sums(deskSums(app.record));
+  showDeskTickets(app);
+  if (day === null || app.record.tally?.day !== day) byId("all-sum").replaceChildren();
+  show(byId("day-last"), last !== null && deskSums(app.record).tickets === 0);
+  byId("last-ticket").textContent = last === null ? "" : DAY.last(last);
+}
+
+// Counts what all desks paid on the open day, from where the journal left it.
+async function counted(app, day, signal, told) {
+  const { tally } = app.record;
+  const found = await countDay(day, tally ? { ...tally, total: BigInt(tally.total) } : null, signal, (count) => told(DAY.counting(count)));
+  try {
+    await app.keep({ tally: { ...found, total: found.total.toString() } });
+  } catch (error) {
+    // It can be counted again.
+    if (!(error instanceof Unstored)) throw error;
+  }
+  return { kind: "tally", ...found };
+}
+
+async function countAll(app) {
+  const { day } = app.record;
+  if (day === null) return;
+  await load(byId("all-sum"), async (signal, told) => [element("span", {}, DAY.all_sum(await counted(app, day, signal, told), Date.now()))]);
+}
+
+// As the view is entered, the day is counted again.
+export function enterDay(app) {
+  return countAll(app);
 }
 
 // ---- opening
 
 // The last day that is closed, as far as this page knows and the batches of the week before `day` tell: { day }, whose day may be null, or an answer that tells neither.
-async function lastClosed(known, day) {
+async function lastClosed(known, day, signal) {
   if (known !== null && known >= day) return { day: known };
-  const found = await askFirstBatch(daysBefore(day, USUAL_DAYS).filter((one) => one > (known ?? "")));
+  const found = await askFirstBatch(daysBefore(day, USUAL_DAYS).filter((one) => one > (known ?? "")), signal);
   if (found === null) return { day: known };
   return found.kind === "batch" ? { day: laterOf(known, found.day) } : found;
 }
 
-// Where a day stands by the last closed one.
-function distanceInWords(day, closed) {
-  if (closed === null) return `no closed day was found in the ${USUAL_DAYS} days before it.`;
-  const last = `the last closed day, ${weekdayInWords(closed)}`;
-  const days = daysFrom(closed, day);
-  if (days <= 0) return `not later than ${last}. The counter refuses to open it.`;
-  return `${counted(days, "day", "days")} after ${last}.`;
-}
-
 async function isConfirmed(day, closed) {
   const is_unusual = closed === null || daysFrom(closed, day) > USUAL_DAYS;
-  const distance = `${weekdayInWords(day)}: ${distanceInWords(day, closed)}`;
-  if (!(await confirmed(`Open ${dayInWords(day)}?`, [distance], is_unusual ? "Continue" : "Open the day"))) return false;
+  const distance = DAY.open_line(day, closed, USUAL_DAYS);
+  if (!(await confirmed(DAY.open_title(day), [distance], is_unusual ? DAY.continue : DAY.open))) return false;
   return !is_unusual || (await isConfirmedAgain(day, distance));
 }
 
 async function isConfirmedAgain(day, distance) {
   const year = day.slice(0, 4);
-  const follows = `Bonds are then paid at their values in ${monthInWords(monthOf(day))}, and no earlier day can ever be opened again.`;
-  return confirmed(`Is the year ${year} right?`, [distance, follows, "If the year or the day is mistyped, choose Back."], `Open the day in ${year}`, true);
+  return confirmed(DAY.year_title(year), [distance, DAY.year_line(day), DAY.year_back], DAY.open_in(year), true);
 }
 
 async function open(app, day) {
-  const found = await app.lookUp(() => lastClosed(app.record.closed ?? null, day));
+  const found = await app.lookUp((signal) => lastClosed(app.record.closed ?? null, day, signal));
   if (found.day === undefined) {
     app.tellUnanswered(found);
     return;
@@ -64,47 +103,59 @@ async function open(app, day) {
 
 // A closed day isn't joined: its batch is shown.
 async function join(app, day) {
-  const answer = await app.lookUp(() => askBatch(day));
+  const answer = await app.lookUp((signal) => askBatch(day, signal));
   if (answer.kind === "batch") {
     await app.knowClosed(day);
     app.showBatch(answer);
-    notice("noted", `${dayInWords(day)} is closed. This is its batch.`);
+    notice("noted", DAY.is_closed_batch(day));
   } else if (isMissing(answer)) {
     await app.keep({ day });
-    notice("done", `The page works on ${dayInWords(day)}.`, "If it isn't the open day, the first payment is refused, and nothing is changed.");
+    notice("done", DAY.joined(day), DAY.joined_help);
+    await countAll(app);
   } else {
     app.tellUnanswered(answer);
   }
 }
 
+// Asks by the sum of the day, of all desks.
 async function close(app) {
   const { day } = app.record;
-  const text = "No desk can pay on it any more, and it can't be opened again.";
-  if (await confirmed(`Close ${weekdayInWords(day)}?`, [text], "Close the day")) await app.act("/day/close", { day });
+  stopLoading(byId("all-sum"));
+  const tally = await app.lookUp((signal, told) => counted(app, day, signal, told));
+  if (tally.kind !== "tally") {
+    app.tellUnanswered(tally);
+    return;
+  }
+  byId("all-sum").replaceChildren(element("span", {}, DAY.all_sum(tally, Date.now())));
+  if (await confirmed(DAY.close_title(day, tally.total), [DAY.close_sums(tally), DAY.close_line], DAY.close(tally.total))) await app.act("/day/close", { day }, tally.total.toString());
 }
 
 // Shows the reply to an opening or a closing; returns what the journal then keeps.
 export function dayReplied(app, reply) {
   if (reply.kind === "opened") {
-    notice("done", `${dayInWords(reply.day)} is open.`, "", ...app.earlier(reply));
+    notice("done", DAY.is_open(reply.day), "", ...app.earlier(reply));
     return { day: reply.day };
   }
   app.showBatch(reply);
-  notice("done", `${dayInWords(reply.day)} is closed.`, "", ...app.earlier(reply));
-  return { day: null, closed: laterOf(app.record.closed, reply.day) };
+  const { shown } = reply.request;
+  const more = typeof shown === "string" && BigInt(shown) !== reply.total ? DAY.more_paid(BigInt(shown), reply.total) : "";
+  notice("done", DAY.is_closed(reply.day), more, ...app.earlier(reply));
+  return { day: null, closed: laterOf(app.record.closed, reply.day), tally: null };
 }
 
 export function startDayView(app) {
   byId("open-date").value = today();
   byId("join-date").value = today();
-  onSubmit(byId("open-day"), () => {
-    const day = readField(byId("open-date"), readDay, ASKS);
-    if (day !== null) open(app, day);
+  onSubmit(byId("open-day"), async () => {
+    const fields = readFields([byId("open-date"), readDay, ENTER.day]);
+    if (fields !== null) await open(app, ...fields);
   });
-  onSubmit(byId("join-day"), () => {
-    const day = readField(byId("join-date"), readDay, ASKS);
-    if (day !== null) join(app, day);
+  onSubmit(byId("join-day"), async () => {
+    const fields = readFields([byId("join-date"), readDay, ENTER.day]);
+    if (fields !== null) await join(app, ...fields);
   });
   onSubmit(byId("close-day"), () => close(app));
   onSubmit(byId("leave-day"), () => app.keep({ day: null }));
+  onClick(byId("count-day"), () => countAll(app));
+  onClick(byId("last-ticket"), () => lookUpTicket(app, app.record.last));
 }

@@ -1,24 +1,62 @@
-// Look-ups of tickets and batches.
+// Tickets and batches: the latest ones, and look-ups of any. A ticket that this desk paid prints once as itself, and from then on as a copy.
 
-import { byId, onSubmit, readField } from "./elements.js";
-import { notice } from "./notices.js";
+import { byId } from "./elements.js";
+import { button, onSubmit, readFields } from "./forms.js";
+import { latestBatches, lastTicket, remember, ticketsDown, ticketsOf } from "./latest.js";
+import { listTable, load, stopLoading } from "./lists.js";
+import { notice, unansweredLine } from "./notices.js";
 import { batchPaper, ticketPaper } from "./papers.js";
 import { askBatch, askTicket, isMissing } from "./queries.js";
-import { dayInWords, readDay, readTicketNumber } from "./spelling.js";
+import { readDay, readTicketNumber } from "./spelling.js";
 import { goTo } from "./views.js";
+import { dayInWords, ENTER, LOOKUPS, moneyInWords, numberInWords, PAPER } from "./words.js";
 
-export function showTicket(ticket) {
-  goTo("tickets");
-  byId("ticket-number").value = String(ticket.ticket);
-  byId("ticket").replaceChildren(ticketPaper(ticket));
-  focusLater("paper-title");
+// How many of the latest are listed, and how many more by the button.
+const LISTED = 10;
+
+// The ticket that is shown, and what the journal will have of it, if it was paid just now.
+const shown = { ticket: null, entry: null };
+
+// ---- tickets
+
+// What this desk's journal has of a ticket, or null.
+function entryOf(app, number) {
+  return app.record.paid?.tickets.find((one) => one.ticket === number) ?? null;
 }
 
-export function showBatch(batch) {
-  goTo("batches");
-  byId("batch-day").value = batch.day;
-  byId("batch").replaceChildren(batchPaper(batch));
-  focusLater("batch-title");
+function showPaper(app) {
+  const { ticket, entry } = shown;
+  if (ticket === null) return;
+  byId("ticket").replaceChildren(...ticketPaper(app, ticket, entryOf(app, ticket.ticket) ?? entry, () => printTicket(app)));
+}
+
+// Writes down that a ticket is printed, if this desk paid it. What is being printed stays as it is until then.
+async function markPrinted(app) {
+  const entry = shown.ticket === null ? null : entryOf(app, shown.ticket.ticket);
+  if (entry === null || entry.printed) return;
+  const tickets = app.record.paid.tickets.map((one) => (one.ticket === entry.ticket ? { ...one, printed: true } : one));
+  await app.keep({ paid: { ...app.record.paid, tickets } });
+}
+
+// The mark is on the disk before the paper is in the printer. So if anything fails in between, the next print is a copy.
+async function printTicket(app) {
+  const is_stored = shown.entry === null || entryOf(app, shown.ticket.ticket) !== null;
+  if (!is_stored) {
+    notice("noted", PAPER.not_stored);
+    return;
+  }
+  await markPrinted(app);
+  print();
+}
+
+export function showTicket(app, ticket, entry = null) {
+  remember(ticket);
+  shown.ticket = ticket;
+  shown.entry = entry;
+  goTo("tickets");
+  byId("ticket-number").value = String(ticket.ticket);
+  showPaper(app);
+  focusLater("paper-title");
 }
 
 // After the change of view has put the keyboard on the view's own heading.
@@ -27,33 +65,114 @@ function focusLater(id) {
 }
 
 export async function lookUpTicket(app, number) {
-  byId("ticket").replaceChildren();
-  const answer = await app.lookUp(() => askTicket(number));
-  if (answer.kind === "ticket") showTicket(answer);
-  else if (isMissing(answer)) notice("noted", `There is no ticket ${number}.`, "Check the number.");
+  const answer = await app.lookUp((signal) => askTicket(number, signal));
+  if (answer.kind === "ticket") showTicket(app, answer);
+  else if (isMissing(answer)) notice("noted", LOOKUPS.no_ticket(number), LOOKUPS.check_number);
   else app.tellUnanswered(answer);
 }
 
-async function lookUpBatch(app, day) {
+async function ticketList(app, count, signal) {
+  const found = await ticketsDown(await lastTicket(signal), count, signal);
+  if (found.length === 0) return [LOOKUPS.no_tickets];
+  const row = (one) => [button(LOOKUPS.show_ticket(one.ticket), () => lookUpTicket(app, one.ticket)), dayInWords(one.day), LOOKUPS.payee(one.payee), numberInWords(one.bonds), moneyInWords(one.total)];
+  const table = listTable(LOOKUPS.tickets_caption, LOOKUPS.ticket_columns, found.map(row));
+  return found.at(-1).ticket === 1 ? [table] : [table, button(LOOKUPS.earlier, () => listTickets(app, count + LISTED))];
+}
+
+function listTickets(app, count) {
+  return load(byId("ticket-list"), (signal) => ticketList(app, count, signal));
+}
+
+export function enterTickets(app) {
+  return listTickets(app, LISTED);
+}
+
+// ---- batches
+
+// Shows a batch at once, and its tickets as they come. It is printed with them.
+export async function showBatch(app, batch) {
+  goTo("batches");
+  byId("batch-day").value = batch.day;
   byId("batch").replaceChildren();
-  const answer = await app.lookUp(() => askBatch(day));
+  const printing = () => print();
+  const place = byId("batch");
+  place.replaceChildren(...batchPaper(app, batch, null, printing));
+  place.querySelector(".print").disabled = batch.tickets > 0;
+  focusLater("batch-title");
+  const list = document.createElement("div");
+  place.querySelector(".paper dl").after(list);
+  await load(list, async (signal, told) => {
+    const tickets = await ticketsOf(batch, signal, (count) => told(LOOKUPS.reading_tickets(count, batch.tickets)));
+    showWhole(app, batch, tickets, list, printing);
+    return [];
+  });
+}
+
+// The batch with its tickets, in place of the one without, unless another was shown meanwhile.
+function showWhole(app, batch, tickets, list, printing) {
+  if (!list.isConnected) return;
+  const is_whole = tickets.reduce((cents, one) => cents + one.total, 0n) === batch.total;
+  const had_focus = document.activeElement === byId("batch-title");
+  byId("batch").replaceChildren(...batchPaper(app, batch, tickets, printing, ...(is_whole ? [] : [PAPER.other_list])));
+  if (had_focus) byId("batch-title").focus();
+}
+
+async function lookUpBatch(app, day) {
+  const answer = await app.lookUp((signal) => askBatch(day, signal));
   if (answer.kind === "batch") {
     await app.knowClosed(day);
-    showBatch(answer);
+    await showBatch(app, answer);
   } else if (isMissing(answer)) {
-    notice("noted", `${dayInWords(day)} has no batch: it isn't closed.`);
+    notice("noted", LOOKUPS.no_batch(day));
   } else {
     app.tellUnanswered(answer);
   }
 }
 
+async function batchList(app, count, signal) {
+  const found = await latestBatches(count, app.record.closed ?? null, signal);
+  if (found.length === 0) return [LOOKUPS.no_batches];
+  const row = (one) => [button(dayInWords(one.day), () => lookUpBatch(app, one.day)), numberInWords(one.tickets), numberInWords(one.bonds), moneyInWords(one.total)];
+  const more = found.length < count ? [] : [button(LOOKUPS.earlier, () => listBatches(app, count + LISTED))];
+  const help = document.createElement("p");
+  help.className = "help";
+  help.textContent = LOOKUPS.some_missing;
+  return [listTable(LOOKUPS.batches_caption, LOOKUPS.batch_columns, found.map(row)), help, ...more];
+}
+
+function listBatches(app, count) {
+  return load(byId("batch-list"), (signal) => batchList(app, count, signal));
+}
+
+export function enterBatches(app) {
+  return listBatches(app, LISTED);
+}
+
+// ---- both
+
+// Leaves nothing of a customer in the views.
+export function clearLookUps() {
+  shown.ticket = null;
+  shown.entry = null;
+  for (const id of ["ticket", "ticket-list", "batch", "batch-list"]) {
+    stopLoading(byId(id));
+    byId(id).replaceChildren();
+  }
+}
+
 export function startLookUps(app) {
-  onSubmit(byId("ask-ticket"), () => {
-    const number = readField(byId("ticket-number"), readTicketNumber, "Enter a ticket number");
-    if (number !== null) lookUpTicket(app, number);
+  onSubmit(byId("ask-ticket"), async () => {
+    const fields = readFields([byId("ticket-number"), readTicketNumber, ENTER.ticket]);
+    if (fields !== null) await lookUpTicket(app, ...fields);
   });
-  onSubmit(byId("ask-batch"), () => {
-    const day = readField(byId("batch-day"), readDay, "Enter a day (YYYY-MM-DD, from 2005-05-01)");
-    if (day !== null) lookUpBatch(app, day);
+  onSubmit(byId("ask-batch"), async () => {
+    const fields = readFields([byId("batch-day"), readDay, ENTER.day]);
+    if (fields !== null) await lookUpBatch(app, ...fields);
   });
+  // Printing by the browser's own command counts too.
+  let marked = Promise.resolve();
+  addEventListener("beforeprint", () => {
+    if (byId("ticket").checkVisibility()) marked = markPrinted(app);
+  });
+  addEventListener("afterprint", () => marked.then(() => showPaper(app)));
 }

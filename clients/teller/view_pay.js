@@ -3,184 +3,257 @@
 // A bond is paid at its value in the month of the day that the page works on. So bonds are chosen only on a sheet of that month, and when another month's day begins, or the day ends,
 // nothing that was chosen stays: the sum that the teller confirms is the sum that is paid.
 
-import { byId, confirmed, element, onSubmit, readField } from "./elements.js";
-import { clearNoted, notice } from "./notices.js";
+import { byId, confirmed, element, show } from "./elements.js";
+import { button, onSubmit, readFields, unmark } from "./forms.js";
+import { announce, clearNoted, notice } from "./notices.js";
 import { askSheet } from "./queries.js";
 import { isPayable } from "./sheet.js";
 import { sheetRegion } from "./sheet_table.js";
-import { counted, moneyInWords, monthInWords, monthOf, readCustomer, readMonth, readSerial, today, weekdayInWords } from "./spelling.js";
+import { monthOf, readCustomer, readMonth, readSerial, today } from "./spelling.js";
+import { ENTER, moneyInWords, PAY, SHEET, TEXTS } from "./words.js";
 
 const MOST_BONDS = 100;
-const ASKS_CUSTOMER = "Enter a customer number (1 to 9 digits)";
-const NOT_YET = { NI: "it isn't issued yet", NE: "it is less than 12 months old" };
 
-// The month in which bonds are paid now, or null; the sheet that is shown; the serial numbers that are chosen on it; and the bonds added from other sheets of the month.
-const shown = { month: null, sheet: null, chosen: new Set(), added: [] };
+// The month in which bonds are paid now, or null; the sheet that is shown; and the bonds that are chosen, each once, by its serial number: on the sheet, or (`is_added`) from another one.
+const shown = { month: null, sheet: null, chosen: new Map() };
 
 function chosenBonds() {
-  const rows = shown.sheet === null ? [] : shown.sheet.rows.filter((row) => shown.chosen.has(row.serial));
-  return [...rows, ...shown.added];
+  return [...shown.chosen.values()];
+}
+
+function addedBonds() {
+  return chosenBonds().filter((bond) => bond.is_added);
 }
 
 function sumOf(bonds) {
   return bonds.reduce((cents, bond) => cents + bond.value, 0n);
 }
 
-function chosenInWords(bonds) {
-  if (bonds.length === 0) return "No bond is chosen.";
-  return `${counted(bonds.length, "bond", "bonds")} chosen, worth ${moneyInWords(sumOf(bonds))} in ${monthInWords(shown.month)}.`;
-}
-
-function showChosen() {
-  const bonds = chosenBonds();
-  const more = bonds.length > MOST_BONDS ? ` A ticket holds up to ${MOST_BONDS}: pay the rest on another one.` : "";
-  byId("chosen").textContent = chosenInWords(bonds) + more;
-}
-
-// ---- the sheet
-
 function canChoose() {
   return shown.sheet !== null && shown.sheet.month === shown.month;
 }
 
+function payableRows() {
+  return canChoose() ? shown.sheet.rows.filter(isPayable) : [];
+}
+
+// ---- the sum, and the button that pays it
+
+function chosenInWords(bonds) {
+  if (bonds.length === 0) return PAY.none_chosen;
+  const more = bonds.length > MOST_BONDS ? ` ${PAY.too_many(MOST_BONDS)}` : "";
+  return PAY.chosen(bonds.length, shown.month) + more;
+}
+
+function payButtonText(bonds) {
+  const payee = readCustomer(byId("payee").value);
+  if (bonds.length === 0) return PAY.pay;
+  return payee === null ? PAY.pay_sum(sumOf(bonds)) : PAY.pay_to(sumOf(bonds), payee);
+}
+
+// Without a day, or without a bond that can be paid, there is nothing to press.
+function showChosen() {
+  const bonds = chosenBonds();
+  byId("sum").textContent = moneyInWords(sumOf(bonds));
+  byId("chosen").textContent = chosenInWords(bonds);
+  byId("pay-button").textContent = payButtonText(bonds);
+  show(byId("no-day"), shown.month === null);
+  show(byId("add-bond"), shown.month !== null);
+  show(byId("pay-bonds"), shown.month !== null && (payableRows().length > 0 || bonds.length > 0));
+}
+
+function sayChosen() {
+  const bonds = chosenBonds();
+  announce(`${moneyInWords(sumOf(bonds))}. ${chosenInWords(bonds)}`);
+}
+
+// ---- the sheet
+
+function choose(row) {
+  shown.chosen.set(row.serial, { serial: row.serial, owner: shown.sheet.customer, value: row.value, is_added: false });
+}
+
 function chooser(row) {
-  const box = element("input", { type: "checkbox", "aria-label": `Pay bond ${row.serial}` });
+  const box = element("input", { type: "checkbox", "aria-label": PAY.box(row.serial), "data-serial": row.serial });
   box.disabled = !canChoose() || !isPayable(row);
   box.checked = shown.chosen.has(row.serial);
   box.addEventListener("change", () => {
     clearNoted();
-    if (box.checked) shown.chosen.add(row.serial);
+    if (box.checked) choose(row);
     else shown.chosen.delete(row.serial);
-    showChosen();
+    followBoxes();
+    sayChosen();
   });
   return box;
 }
 
 function noDay() {
-  const link = element("a", { href: "#day" }, "Open or join a day");
-  return element("p", { class: "other-month" }, "No business day is open, so nothing can be chosen here.", link);
+  return element("p", { class: "other-month" }, PAY.no_day_sheet);
 }
 
 // Says why nothing can be chosen on a sheet, with the way to the one on which it can.
 function otherMonth(app) {
   if (shown.month === null) return noDay();
-  const button = element("button", { type: "button", class: "plain" }, `Show the bonds in ${monthInWords(shown.month)}`);
-  button.addEventListener("click", () => {
-    byId("month").value = shown.month;
-    ask(app);
+  const month = shown.month;
+  const goes = button(PAY.show_month(month), () => {
+    byId("month").value = month;
+    return ask(app);
   });
-  const why = `Nothing can be chosen here: bonds are paid at their values in ${monthInWords(shown.month)}, the month of the open day.`;
-  return element("p", { class: "other-month" }, why, button);
+  return element("p", { class: "other-month" }, PAY.other_month(month), goes);
 }
 
-function showSheet(app) {
-  byId("sheet").replaceChildren(...(canChoose() ? [] : [otherMonth(app)]), sheetRegion(shown.sheet, chooser));
+// How many bonds the button chooses: all that can be paid, as far as a ticket has room for them beside those of other owners.
+function roomForAll() {
+  return Math.min(payableRows().length, MOST_BONDS - addedBonds().length);
+}
+
+function areAllChosen() {
+  return chosenBonds().length - addedBonds().length >= roomForAll();
+}
+
+function chooseAll() {
+  const are_all_chosen = areAllChosen();
+  for (const row of payableRows()) shown.chosen.delete(row.serial);
+  if (!are_all_chosen) payableRows().slice(0, roomForAll()).forEach(choose);
+  clearNoted();
+  followBoxes();
+  sayChosen();
+}
+
+function allButtonText() {
+  if (areAllChosen()) return SHEET.select_none;
+  return roomForAll() < payableRows().length ? SHEET.select_first(roomForAll()) : SHEET.select(payableRows().length);
+}
+
+// What can be paid of the sheet, and the button that chooses all of it.
+function payableLine() {
+  const payable = payableRows();
+  const line = element("p", { class: "payable" }, element("strong", {}, SHEET.payable(payable.length, shown.sheet.rows.length, sumOf(payable))));
+  if (roomForAll() > 0) line.append(" ", button(allButtonText(), chooseAll, { id: "choose-all", class: "plain" }));
+  return line;
+}
+
+// Shows in the boxes, the cards and the sum what is chosen.
+function followBoxes() {
+  for (const box of byId("sheet").querySelectorAll("input[type=checkbox]")) {
+    box.checked = shown.chosen.has(box.dataset.serial);
+    box.closest("tr").classList.toggle("chosen", box.checked);
+  }
+  if (byId("choose-all") !== null) byId("choose-all").textContent = allButtonText();
   showChosen();
 }
 
+function showSheet(app) {
+  const { sheet } = shown;
+  const head = sheet.rows.length === 0 ? [] : [canChoose() ? payableLine() : otherMonth(app)];
+  byId("sheet").replaceChildren(...head, ...sheetRegion(sheet, chooser));
+  followBoxes();
+}
+
+// The sheet that was there stays until the other has come.
 async function ask(app) {
-  const customer = readField(byId("customer"), readCustomer, ASKS_CUSTOMER);
-  const month = customer === null ? null : readField(byId("month"), readMonth, "Enter a month (YYYY-MM, from 2005-05)");
-  if (month === null) return;
-  clearPay();
-  const answer = await app.lookUp(() => askSheet(customer, month));
+  const fields = readFields([byId("customer"), readCustomer, ENTER.customer], [byId("month"), readMonth, ENTER.month]);
+  if (fields === null) return;
+  const answer = await app.lookUp((signal) => askSheet(...fields, signal));
   if (answer.kind !== "sheet") {
     app.tellUnanswered(answer);
     return;
   }
+  clearPay();
   shown.sheet = answer;
-  byId("payee").value = String(customer);
+  byId("payee").value = String(answer.customer);
   showSheet(app);
+  // In a low or narrow window the sheet would begin below what is seen.
+  if (byId("sheet").getBoundingClientRect().top > innerHeight / 2) byId("sheet").scrollIntoView();
 }
 
 // ---- bonds of other owners
 
 function showAdded() {
-  const items = shown.added.map((bond) => {
-    const remove = element("button", { type: "button", class: "plain" }, `Remove ${bond.serial}`);
-    remove.addEventListener("click", () => {
-      shown.added = shown.added.filter((other) => other.serial !== bond.serial);
+  const items = addedBonds().map((bond) => {
+    const remove = button(PAY.remove(bond.serial), () => {
+      shown.chosen.delete(bond.serial);
       showAdded();
       byId("serial").focus();
     });
-    const facts = element("span", {}, `${bond.serial}, owner ${bond.owner}: ${moneyInWords(bond.value)}`);
-    return element("li", {}, facts, remove);
+    return element("li", {}, element("span", {}, PAY.added_line(bond.serial, bond.owner, bond.value)), remove);
   });
-  byId("others").replaceChildren(...(items.length === 0 ? [] : [element("ul", { "aria-label": "Other bonds to pay" }, ...items)]));
-  showChosen();
+  byId("others").replaceChildren(...(items.length === 0 ? [] : [element("ul", { "aria-label": PAY.added }, ...items)]));
+  followBoxes();
+  sayChosen();
 }
 
 async function add(app) {
-  const serial = readField(byId("serial"), readSerial, "Enter a serial number (such as C12EE)");
-  const owner = serial === null ? null : readField(byId("owner"), readCustomer, ASKS_CUSTOMER);
-  if (owner === null) return;
+  const fields = readFields([byId("serial"), readSerial, ENTER.serial], [byId("owner"), readCustomer, ENTER.customer]);
+  if (fields === null) return;
+  const [serial, owner] = fields;
   if (shown.month === null) tellNoDay();
-  else if (chosenBonds().some((bond) => bond.serial === serial)) notice("noted", `Bond ${serial} is already chosen.`);
+  else if (shown.chosen.has(serial)) notice("noted", PAY.already(serial));
   else await addFrom(app, serial, owner, shown.month);
 }
 
 // Adds a bond from its owner's sheet, which tells that it is unpaid, and its value.
 async function addFrom(app, serial, owner, month) {
-  const sheet = await app.lookUp(() => askSheet(owner, month));
+  const sheet = await app.lookUp((signal) => askSheet(owner, month, signal));
   const row = sheet.kind === "sheet" ? sheet.rows.find((one) => one.serial === serial) : undefined;
   if (sheet.kind !== "sheet") app.tellUnanswered(sheet);
-  else if (month !== shown.month) notice("noted", "The business day changed meanwhile.", "Add the bond again.");
-  else if (row === undefined) notice("noted", `Bond ${serial} isn't among the unpaid bonds that customer ${owner} owns.`, "Compare the serial number and the owner with the paper and the register. The bond may be paid already.");
-  else if (!isPayable(row)) notice("noted", `Bond ${serial} can't be paid in ${monthInWords(month)}: ${NOT_YET[row.note]}.`);
-  else choose(app, { serial, owner, value: row.value });
+  else if (month !== shown.month) notice("noted", PAY.day_changed, PAY.add_again);
+  else if (row === undefined) notice("noted", PAY.not_owned(serial, owner), PAY.not_owned_help);
+  else if (!isPayable(row)) notice("noted", PAY.not_payable(serial, month, row.note));
+  else chooseAdded(row, owner);
 }
 
-// Chooses it on the sheet that is shown, if it is there, and else beside it. So no bond is chosen twice.
-function choose(app, bond) {
-  if (canChoose() && shown.sheet.rows.some((row) => row.serial === bond.serial)) {
-    shown.chosen.add(bond.serial);
-    showSheet(app);
-  } else if (!shown.added.some((other) => other.serial === bond.serial)) {
-    shown.added.push(bond);
-    showAdded();
-  }
+// Chooses it on the sheet that is shown, if it is there, and else beside it.
+function chooseAdded(row, owner) {
+  if (payableRows().some((one) => one.serial === row.serial)) choose(row);
+  else shown.chosen.set(row.serial, { serial: row.serial, owner, value: row.value, is_added: true });
   for (const field of ["serial", "owner"]) byId(field).value = "";
+  showAdded();
   byId("serial").focus();
 }
 
 // ---- paying
 
 function tellNoDay() {
-  notice("noted", "No business day is open.", "Open or join the day first, under Day.");
+  notice("noted", PAY.no_day, PAY.no_day_help);
 }
 
 async function pay(app) {
   const bonds = chosenBonds();
   const { day } = app.record;
   if (day === null || monthOf(day) !== shown.month) tellNoDay();
-  else if (bonds.length === 0) notice("noted", "No bond is chosen.", "Choose the bonds to pay on the sheet, or add bonds of other owners.");
-  else if (bonds.length > MOST_BONDS) notice("noted", `A ticket holds up to ${MOST_BONDS} bonds, and ${bonds.length} are chosen.`, "Choose fewer, and pay the rest on another ticket.");
+  else if (bonds.length === 0) notice("noted", PAY.none_chosen, PAY.choose_help);
+  else if (bonds.length > MOST_BONDS) notice("noted", PAY.too_many_chosen(MOST_BONDS, bonds.length), PAY.too_many_help);
   else await payTo(app, day, bonds);
 }
 
 async function payTo(app, day, bonds) {
-  const payee = readField(byId("payee"), readCustomer, ASKS_CUSTOMER);
-  if (payee === null) return;
-  const serials = bonds.map((bond) => bond.serial);
+  const fields = readFields([byId("payee"), readCustomer, ENTER.customer]);
+  if (fields === null) return;
+  const [payee] = fields;
   const sum = sumOf(bonds);
-  const lines = [`${counted(bonds.length, "bond", "bonds")}, worth ${moneyInWords(sum)} in ${monthInWords(monthOf(day))}: ${serials.join(", ")}.`, `Business day: ${weekdayInWords(day)}.`];
-  if (await confirmed(`Pay ${moneyInWords(sum)} to customer ${payee}?`, lines, "Pay")) await app.act("/redeem", { day, payee, serials }, sum.toString());
+  const items = bonds.map((bond) => element("li", {}, PAY.bond_line(bond.serial, bond.value)));
+  const lines = [PAY.pay_lines(bonds.length, day), element("ul", { class: "bonds", tabindex: "0", "aria-label": SHEET.region }, ...items)];
+  if (!(await confirmed(PAY.pay_title(sum, payee), lines, PAY.pay_to(sum, payee)))) return;
+  await app.act("/redeem", { day, payee, serials: bonds.map((bond) => bond.serial) }, sum.toString());
 }
 
 // ---- what stays
 
 function clearChosen() {
   shown.chosen.clear();
-  shown.added = [];
   byId("others").replaceChildren();
 }
 
-// Leaves nothing of a customer in the view.
+// Leaves nothing of a customer's bonds in the view.
 export function clearPay() {
   shown.sheet = null;
   clearChosen();
   byId("sheet").replaceChildren();
-  for (const field of ["payee", "serial", "owner"]) byId(field).value = "";
+  for (const field of ["payee", "serial", "owner"]) {
+    byId(field).value = "";
+    unmark(byId(field));
+  }
   showChosen();
 }
 
@@ -204,7 +277,11 @@ export function enterPay(app) {
 }
 
 export function startPayView(app) {
+  // A browser without a field for months has one for text.
+  if (byId("month").type !== "month") document.querySelector("label[for=month]").textContent = TEXTS.month_typed;
   onSubmit(byId("ask-sheet"), () => ask(app));
   onSubmit(byId("add-bond"), () => add(app));
   onSubmit(byId("pay-bonds"), () => pay(app));
+  byId("payee").addEventListener("input", showChosen);
+  showChosen();
 }

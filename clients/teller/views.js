@@ -1,6 +1,7 @@
 // Shows the view that the address's hash names. The keyboard goes to its heading.
 
 import { byId, show } from "./elements.js";
+import { HEAD } from "./words.js";
 
 const VIEWS = ["day", "pay", "tickets", "batches"];
 const OTHERS = ["start", "waiting"];
@@ -12,7 +13,7 @@ function showOnly(name) {
     if (link.hash === `#${name}`) link.setAttribute("aria-current", "page");
     else link.removeAttribute("aria-current");
   }
-  document.title = `${byId(name).querySelector("h1").textContent} – Counter`;
+  document.title = HEAD.title(byId(name).querySelector("h1").textContent);
 }
 
 function focusHeading(name) {
@@ -29,6 +30,11 @@ function named() {
 export function showOther(name) {
   show(byId("views"), false);
   showOnly(name);
+}
+
+// The view that is shown, or null before the views have started.
+export function currentView() {
+  return VIEWS.find((view) => !byId(view).hidden) ?? null;
 }
 
 export function goTo(name) {

@@ -1,33 +1,435 @@
-// Puts each code of the counter into a sentence, with what to do. `tests/clients/teller_page` tests that no code lacks one.
+// Every word of the page, and how it spells days, months, money and amounts. For a second language, translate a copy of this file and serve it under this name.
+// What is shown before this file is loaded, or if it can't be, stands in index.html. `tests/clients/teller_page` tests that no word of the page stands elsewhere, and that no code lacks a sentence.
 
-import { monthInWords } from "./spelling.js";
+import { daysFrom, monthOf, noonOf, printMoney } from "./spelling.js";
 
-const bond = (answer) => (answer.serial === undefined ? "A bond" : `Bond ${answer.serial}`);
-const that_bond = (answer) => (answer.serial === undefined ? "a bond" : `bond ${answer.serial}`);
-const month = (answer) => (typeof answer.month === "string" ? monthInWords(answer.month) : "that month");
+export const LANGUAGE = "en";
+
+// ---- days, money, numbers
+
+const WEEKDAYS = ["Sunday", "Monday", "Tuesday", "Wednesday", "Thursday", "Friday", "Saturday"];
+const MONTHS = ["January", "February", "March", "April", "May", "June", "July", "August", "September", "October", "November", "December"];
+
+export function monthInWords(month) {
+  return `${MONTHS[Number(month.slice(5)) - 1]} ${month.slice(0, 4)}`;
+}
+
+export function dayInWords(day) {
+  return `${Number(day.slice(8))} ${monthInWords(monthOf(day))}`;
+}
+
+export function weekdayInWords(day) {
+  return `${WEEKDAYS[noonOf(day).getUTCDay()]}, ${dayInWords(day)}`;
+}
+
+const twoDigits = (number) => String(number).padStart(2, "0");
+
+// A moment of this machine's clock, in milliseconds: its day and time.
+export function timeInWords(moment) {
+  const date = new Date(moment);
+  const day = `${date.getDate()} ${MONTHS[date.getMonth()]} ${date.getFullYear()}`;
+  return `${day}, ${twoDigits(date.getHours())}:${twoDigits(date.getMinutes())}`;
+}
+
+export function numberInWords(number) {
+  return number.toLocaleString("en-US");
+}
+
+// Money as tellers read it, with a comma after each three digits.
+export function moneyInWords(cents) {
+  return `$${printMoney(cents).replace(/\B(?=([0-9]{3})+\.)/g, ",")}`;
+}
+
+const counted = (count, one, many) => `${numberInWords(count)} ${count === 1 ? one : many}`;
+const bonds = (count) => counted(count, "bond", "bonds");
+const tickets = (count) => counted(count, "ticket", "tickets");
+
+const SMALL = ["zero", "one", "two", "three", "four", "five", "six", "seven", "eight", "nine", "ten", "eleven", "twelve", "thirteen", "fourteen", "fifteen", "sixteen", "seventeen", "eighteen", "nineteen"];
+const TENS = ["", "", "twenty", "thirty", "forty", "fifty", "sixty", "seventy", "eighty", "ninety"];
+const GROUPS = ["", " thousand", " million", " billion"];
+
+function belowHundred(number) {
+  if (number < 20) return SMALL[number];
+  return TENS[Math.floor(number / 10)] + (number % 10 === 0 ? "" : `-${SMALL[number % 10]}`);
+}
+
+function belowThousand(number) {
+  const rest = number % 100 === 0 && number > 0 ? "" : belowHundred(number % 100);
+  if (number < 100) return rest;
+  return `${SMALL[Math.floor(number / 100)]} hundred${rest === "" ? "" : ` ${rest}`}`;
+}
+
+// The amount as on a check: "Five thousand sixty-two dollars and 07/100".
+export function amountInWords(cents) {
+  const dollars = cents / 100n;
+  const groups = [];
+  for (let rest = dollars, place = 0; rest > 0n; rest /= 1000n, place += 1) {
+    if (rest % 1000n > 0n) groups.unshift(belowThousand(Number(rest % 1000n)) + GROUPS[place]);
+  }
+  const words = dollars === 0n ? "zero" : groups.join(" ");
+  return `${words[0].toUpperCase()}${words.slice(1)} ${dollars === 1n ? "dollar" : "dollars"} and ${twoDigits(cents % 100n)}/100`;
+}
+
+// ---- the texts of index.html, by their names there
+
+export const TEXTS = {
+  title: "Counter",
+  skip: "Skip to the content",
+  name: "Savings bond counter",
+  sign_out: "Sign out",
+  views: "Views",
+  day: "Day",
+  pay: "Pay",
+  tickets: "Tickets",
+  batches: "Batches",
+  until_sent: "Until it is sent again",
+  sign_in: "Sign in",
+  send_now: "Send it now",
+  asking: "Asking the counter.",
+  cancel: "Cancel",
+  choose_desk: "Choose a desk",
+  choose_desk_help: "Each page that works at the counter has its own desk, a number from 0 to 999. You choose it once for this browser. No other browser or program may use it.",
+  desk: "Desk",
+  work_at_desk: "Work at this desk",
+  waiting: "The counter is open in another tab",
+  waiting_help: "One page at a time works at a desk. This page continues when the other is closed.",
+  waiting_signed_in: "If you came here to sign in, you are signed in now. Close this tab, and continue in the other one.",
+  to_pay: "Pay bonds",
+  so_far: "This day so far",
+  this_desk: "This desk",
+  all_desks: "All desks",
+  count_day: "Count again",
+  close_day: "Close the day",
+  close_day_help: "Its tickets are settled into a batch. After that no desk can pay on this day.",
+  another_day: "Another day",
+  another_day_help: "If another desk has closed this day, continue with another one.",
+  choose_another_day: "Choose another day",
+  no_day: "No business day is open",
+  no_day_help: "One desk opens the day, and the others join it.",
+  no_day_to_pay: "You can look at bonds, but not pay them.",
+  to_day: "Open or join a day",
+  open_day_legend: "Open a day",
+  open_day: "Open the day",
+  join_day_legend: "Join the day that another desk opened",
+  open_day_label: "Open day",
+  join_day: "Join the day",
+  pay_bonds: "Pay bonds",
+  owner: "Owner (customer number)",
+  month: "Month",
+  month_typed: "Month (YYYY-MM)",
+  show_sheet: "Show the unpaid bonds",
+  another_bond: "Another bond",
+  another_bond_help: "For a bond of another owner whose coowner is paid here.",
+  serial: "Serial number",
+  its_owner: "Its owner (customer number)",
+  add_bond: "Add the bond",
+  payment: "Payment",
+  payee: "Pay to customer",
+  payee_help: "The number of the owner, or of the coowner of each bond.",
+  latest_tickets: "Latest tickets",
+  other_ticket: "Another ticket",
+  ticket_number: "Ticket number",
+  show_ticket: "Show the ticket",
+  latest_batches: "Latest batches",
+  other_batch: "Another day",
+  closed_day: "Closed day",
+  show_batch: "Show the batch",
+  back: "Back",
+};
+
+// ---- fields
+
+export const ENTER = {
+  desk: "Enter a desk number (0 to 999)",
+  day: "Enter a day from 2005-05-01 on, as YYYY-MM-DD",
+  month: "Enter a month from 2005-05 on, as YYYY-MM",
+  customer: "Enter a customer number (1 to 9 digits)",
+  serial: "Enter a serial number (such as C12EE)",
+  ticket: "Enter a ticket number",
+};
+
+// ---- the head of the page
+
+export const HEAD = {
+  state: (desk, day) => `Desk ${desk}. ${day === null ? TEXTS.no_day : dayInWords(day)}`,
+  user: (name) => `Teller ${name}`,
+  title: (view) => `${view} – ${TEXTS.title}`,
+  open_request: "A request has no reply yet. Sign out once its reply is there.",
+  close: "Close",
+  reload: "Reload the page",
+  no_start: "This page can't start.",
+  no_start_help: "It needs HTTPS, and a browser that may store data for this page.",
+  failed: "Something in this page went wrong.",
+  failed_help: "Reload the page. An open request is kept, and is sent again then.",
+};
+
+// ---- the day
+
+const distance = (day, closed, usual_days) => {
+  if (closed === null) return `no closed day was found in the ${usual_days} days before it.`;
+  const last = `the last closed day, ${weekdayInWords(closed)}`;
+  const days = daysFrom(closed, day);
+  if (days <= 0) return `not later than ${last}. The counter refuses to open it.`;
+  return `${counted(days, "day", "days")} after ${last}.`;
+};
+
+const sums = ({ tickets: count, bonds: lines, total }) => `${tickets(count)}, ${bonds(lines)}, ${moneyInWords(total)}`;
+
+export const DAY = {
+  name: (day) => `The page works on ${weekdayInWords(day)}.`,
+  last: (ticket) => `Show the last ticket of this page, ticket ${ticket}`,
+  sums,
+  all_sum: (tally, moment) => `${sums(tally)}, counted on ${timeInWords(moment)}`,
+  not_counted: "not counted yet",
+  counting: (done) => `Counting the tickets: ${numberInWords(done)} so far.`,
+  not_answered: "The counter didn't answer.",
+  desk_tickets: "Tickets of this desk",
+  open_title: (day) => `Open ${dayInWords(day)}?`,
+  open_line: (day, closed, usual_days) => `${weekdayInWords(day)}: ${distance(day, closed, usual_days)}`,
+  open: "Open the day",
+  continue: "Continue",
+  year_title: (year) => `Is the year ${year} right?`,
+  year_line: (day) => `Bonds are then paid at their values in ${monthInWords(monthOf(day))}, and no earlier day can ever be opened again.`,
+  year_back: "If the year or the day is mistyped, choose Back.",
+  open_in: (year) => `Open the day in ${year}`,
+  is_open: (day) => `${dayInWords(day)} is open.`,
+  is_closed: (day) => `${dayInWords(day)} is closed.`,
+  is_closed_batch: (day) => `${dayInWords(day)} is closed. This is its batch.`,
+  joined: (day) => `The page works on ${dayInWords(day)}.`,
+  joined_help: "If it isn't the open day, the first payment is refused, and nothing is changed.",
+  close_title: (day, total) => `Close ${weekdayInWords(day)} with ${moneyInWords(total)}?`,
+  close_sums: (tally) => `Paid so far, at all desks: ${sums(tally)}.`,
+  close_line: "No desk can pay on it any more, and it can't be opened again.",
+  close: (total) => `Close the day with ${moneyInWords(total)}`,
+  more_paid: (shown, total) => `You confirmed ${moneyInWords(shown)}. The batch has ${moneyInWords(total)}: another desk paid meanwhile.`,
+};
+
+// ---- paying
+
+const NOT_YET = { NI: "it isn't issued yet", NE: "it is less than 12 months old" };
+
+export const PAY = {
+  none_chosen: "No bond is chosen.",
+  chosen: (count, month) => `${bonds(count)}, valued in ${monthInWords(month)}`,
+  too_many: (most) => `A ticket holds up to ${most}: pay the rest on another one.`,
+  pay: "Pay",
+  pay_sum: (sum) => `Pay ${moneyInWords(sum)}`,
+  pay_to: (sum, payee) => `Pay ${moneyInWords(sum)} to customer ${payee}`,
+  pay_title: (sum, payee) => `Pay ${moneyInWords(sum)} to customer ${payee}?`,
+  pay_lines: (count, day) => `${bonds(count)}, on ${weekdayInWords(day)}:`,
+  bond_line: (serial, value) => `${serial}: ${moneyInWords(value)}`,
+  box: (serial) => `Pay bond ${serial}`,
+  no_day_sheet: "No business day is open, so nothing can be chosen here.",
+  show_month: (month) => `Show the bonds in ${monthInWords(month)}`,
+  other_month: (month) => `Nothing can be chosen here: bonds are paid at their values in ${monthInWords(month)}, the month of the open day.`,
+  no_day: "No business day is open.",
+  no_day_help: "Open or join the day first, under Day.",
+  choose_help: "Choose the bonds to pay on the sheet, or add bonds of other owners.",
+  too_many_chosen: (most, count) => `A ticket holds up to ${most} bonds, and ${count} are chosen.`,
+  too_many_help: "Choose fewer, and pay the rest on another ticket.",
+  already: (serial) => `Bond ${serial} is already chosen.`,
+  day_changed: "The business day changed meanwhile.",
+  add_again: "Add the bond again.",
+  not_owned: (serial, owner) => `Bond ${serial} isn't among the unpaid bonds that customer ${owner} owns.`,
+  not_owned_help: "Compare the serial number and the owner with the paper and the register. The bond may be paid already.",
+  not_payable: (serial, month, note) => `Bond ${serial} can't be paid in ${monthInWords(month)}: ${NOT_YET[note]}.`,
+  added: "Other bonds to pay",
+  added_line: (serial, owner, value) => `${serial}, owner ${owner}: ${moneyInWords(value)}`,
+  remove: (serial) => `Remove ${serial}`,
+  paid: (ticket) => `Ticket ${ticket} is paid.`,
+  desk_so_far: (desk_sums) => `This desk today: ${sums(desk_sums)}.`,
+  other_sum: (ticket) => `Ticket ${ticket} is paid, but its total isn't the sum that was confirmed.`,
+  other_sum_help: (total, shown) => `The total, ${moneyInWords(total)}, is what was paid: pay out that. You confirmed ${moneyInWords(shown)}. Tell the people who maintain this page.`,
+  show_ticket: (number) => `Show ticket ${number}`,
+};
+
+// ---- sheets
+
+export const SHEET = {
+  columns: { box: "Pay", serial: "Bond", value: "Value", note: "Note", denom: "Denom.", issued: "Issued", price: "Price", interest: "Interest", rate: "Rate", next: "Next accrual", final: "Final maturity" },
+  notes: {
+    NI: "not issued yet: can't be paid yet",
+    NE: "under 12 months: can't be paid yet",
+    P5: "under 5 years: less three months' interest",
+    MA: "30 years or more: earns no more interest",
+  },
+  legend: "Notes",
+  region: "Unpaid bonds",
+  caption: (customer, month) => `Unpaid bonds of customer ${customer} in ${monthInWords(month)}`,
+  none: (customer) => `Customer ${customer} owns no unpaid bonds.`,
+  total: "Total",
+  payable: (count, all, sum) => (count === 0 ? `None of ${bonds(all)} can be paid in this month.` : `${numberInWords(count)} of ${bonds(all)} can be paid: ${moneyInWords(sum)} in all.`),
+  payable_total: "Can be paid",
+  select: (count) => (count === 1 ? "Select the one that can be paid" : `Select all ${numberInWords(count)} that can be paid`),
+  select_first: (most) => `Select the first ${most}: a ticket holds no more`,
+  select_none: "Select none",
+  no_value: "–",
+};
+
+// ---- tickets and batches
+
+export const LOOKUPS = {
+  no_ticket: (number) => `There is no ticket ${number}.`,
+  check_number: "Check the number.",
+  no_batch: (day) => `${dayInWords(day)} has no batch: it isn't closed.`,
+  reading: "Asking the counter for the latest.",
+  reading_tickets: (done, all) => `Reading the tickets: ${numberInWords(done)} of ${numberInWords(all)}.`,
+  try_again: "Try again",
+  no_tickets: "No ticket has been paid yet.",
+  no_batches: "No closed day with tickets was found.",
+  some_missing: "A closed day without tickets may be missing here: enter the day below.",
+  earlier: "Show earlier ones",
+  ticket_columns: ["Ticket", "Day", "Paid to", "Bonds", "Sum"],
+  batch_columns: ["Day", "Tickets", "Bonds", "Sum"],
+  desk_columns: ["Ticket", "Time", "Bonds", "Sum"],
+  tickets_caption: "The latest tickets of all desks",
+  batches_caption: "The latest closed days",
+  desk_caption: "Tickets of this desk on this day",
+  show_ticket: (number) => `Ticket ${number}`,
+  payee: (number) => `customer ${number}`,
+  time: timeInWords,
+};
+
+// ---- paper
+
+export const PAPER = {
+  ticket: (number) => `Ticket ${number}`,
+  batch: (day) => `Batch of ${dayInWords(day)}`,
+  copy: "COPY",
+  not_stored: "The browser hasn't stored this reply yet. Print the ticket once it has.",
+  copy_help: "This ticket was printed before, or another desk paid it: it prints as a copy.",
+  bank: "Bank",
+  branch: "Branch",
+  desk: "Desk",
+  teller: "Teller",
+  printed_by: "Printed by",
+  time: "Time of payment",
+  printed: "Printed",
+  request: "Request",
+  request_number: (desk, number) => `desk ${desk}, number ${number}`,
+  day: "Day",
+  payee: "Paid to",
+  customer: (number) => `customer ${number}`,
+  bonds: "Bonds",
+  sum: "Sum",
+  amount: "Amount in words",
+  columns: ["No.", "Bond", "Paid"],
+  lines: (number) => `Bonds paid on ticket ${number}`,
+  total: "Total",
+  received: "Received by: the payee's name",
+  signature: "Signature",
+  settled: "Settled by: name",
+  print: "Print",
+  tickets_paid: "Tickets paid",
+  bonds_paid: "Bonds paid",
+  sum_paid: "Sum paid",
+  batch_columns: ["Ticket", "Paid to", "Bonds", "Sum"],
+  batch_lines: (day) => `Tickets of ${dayInWords(day)}`,
+  sheet: (title, day, payee) => `${title}, ${dayInWords(day)}, customer ${payee}`,
+  page: (page, pages) => `Page ${page} of ${pages}`,
+  other_list: "The tickets that were read don't add up to the batch. Tell the people who maintain this page.",
+};
+
+// ---- a request under way
+
+const requestInWords = ({ path, fields }) => {
+  if (path === "/day/open") return `Opening ${dayInWords(fields.day)}`;
+  if (path === "/day/close") return `Closing ${dayInWords(fields.day)}`;
+  return `Paying ${bonds(fields.serials.length)} to customer ${fields.payee}`;
+};
+
+// What an attempt without a reply may have done.
+const MAY_BE_DONE = {
+  "/redeem": "Nothing may be paid out yet. The payment may have been made already.",
+  "/day/open": "The day may be open already.",
+  "/day/close": "The day may be closed already.",
+};
+
+const secondsInWords = (milliseconds) => (milliseconds < 1000 ? "half a second" : counted(milliseconds / 1000, "second", "seconds"));
+
+// What came in place of a reply.
+function missedInWords(request, answer) {
+  const is_forbidden = answer.kind === "forbidden";
+  const { says, advises } = is_forbidden ? forbiddenInWords(request.path) : inWords(answer);
+  if (is_forbidden) return `${says} ${advises} This says nothing about the earlier attempts.`;
+  return answer.kind === "fault" && request.sent > 1 ? `${says} This says nothing about the earlier attempts.` : says;
+}
+
+const unstored = ({ request, answer, milliseconds }) => {
+  const { says, advises } = inWords(answer);
+  const first = answer.is_replied ? `${requestInWords(request)}: the reply has come.` : `${requestInWords(request)}: the request is open. ${request.sent === 0 ? "It wasn't sent." : MAY_BE_DONE[request.path]}`;
+  return [first, `${says} ${advises} The page tries again in ${secondsInWords(milliseconds)}.`];
+};
+
+const waits = ({ request, answer }) => [`${requestInWords(request)}: no reply yet. ${request.sent > 1 ? MAY_BE_DONE[request.path] : "This attempt did nothing."}`, `${inWords(answer).says} ${inWords(answer).advises} The page waits, and keeps the request and what you typed.`];
+
+// By step: what comes first, and the rest.
+export const STEPS = {
+  sending: ({ request }) => {
+    const times = request.sent === 1 ? "sent" : `sent again (attempt ${request.sent})`;
+    return ["", `${requestInWords(request)}: ${times}, waiting for the reply.`];
+  },
+  renumbered: ({ request }) => {
+    const next = `The page continues with number ${request.number}. Does another page use this desk?`;
+    return ["", `${requestInWords(request)}: another request of this desk used that number. ${next}`];
+  },
+  pausing: (step) => {
+    const { request, answer, milliseconds } = step;
+    if (answer.kind === "unstored") return unstored(step);
+    if (milliseconds === null) return waits(step);
+    const first = `${requestInWords(request)}: no reply yet. ${MAY_BE_DONE[request.path]}`;
+    return [first, `${missedInWords(request, answer)} The same request is sent again in ${secondsInWords(milliseconds)}.`];
+  },
+};
+
+const DONE_ONCE = {
+  ticket: "This was paid once.",
+  opened: "The day was opened once.",
+  batch: "The day was closed once.",
+};
+
+// The reply is perhaps that of an earlier attempt.
+export function interruptedInWords(kind, sent) {
+  return `The connection was interrupted. ${DONE_ONCE[kind] ?? `None of the ${sent} attempts changed anything.`}`;
+}
+
+export const NOTICES = {
+  entry: (entry) => `Log entry ${entry}.`,
+  code: (name, code) => `${name}, code ${code}.`,
+  nothing_changed: "Nothing was changed.",
+  nothing_done: (says) => `${says} Nothing was done.`,
+  try_again: "Nothing was changed. Try again.",
+  not_sent: "Nothing was sent, and nothing was changed.",
+};
+
+// ---- the counter's codes
+
+const bondOf = (answer) => (answer.serial === undefined ? "A bond" : `Bond ${answer.serial}`);
+const thatBond = (answer) => (answer.serial === undefined ? "a bond" : `bond ${answer.serial}`);
+const monthOfAnswer = (answer) => (typeof answer.month === "string" ? monthInWords(answer.month) : "that month");
 
 // By code: the name, what is so, and what to do about it.
 const REFUSALS = {
   10: ["NumberReused", () => "Another request of this desk used this request's number.", () => "The page continues under a higher number. If this happens often, two pages share one desk: give each its own."],
   11: ["Empty", () => "The request names no bond.", () => "Choose at least one bond and try again."],
   12: ["TooMany", () => "The request is too large: a ticket holds up to 100 bonds, a registration up to 500 rows.", () => "Split it into smaller requests."],
-  13: ["Repeated", (answer) => `${bond(answer)} is named twice in the request.`, () => "Name each bond once and try again."],
-  14: ["SameCoowner", (answer) => `${bond(answer)} has the same customer as owner and coowner.`, () => "Register it with another coowner, or with none."],
-  20: ["NotAnnouncementMonth", (answer) => `A rate can't start in ${month(answer)}. Rates start in May or November.`, () => "Enter it from the May or November in which it was announced."],
-  21: ["RateConflict", (answer) => `Other rates are already entered from ${month(answer)}.`, () => "Entered rates can't be changed. Compare them with the Treasury's announcement, and report any difference to the back office."],
+  13: ["Repeated", (answer) => `${bondOf(answer)} is named twice in the request.`, () => "Name each bond once and try again."],
+  14: ["SameCoowner", (answer) => `${bondOf(answer)} has the same customer as owner and coowner.`, () => "Register it with another coowner, or with none."],
+  20: ["NotAnnouncementMonth", (answer) => `A rate can't start in ${monthOfAnswer(answer)}. Rates start in May or November.`, () => "Enter it from the May or November in which it was announced."],
+  21: ["RateConflict", (answer) => `Other rates are already entered from ${monthOfAnswer(answer)}.`, () => "Entered rates can't be changed. Compare them with the Treasury's announcement, and report any difference to the back office."],
   22: ["RateUnsettled", (answer) => `Under this rate, the value at ${answer.month} months of age can't be settled to the cent.`, () => "Compare the rate with the Treasury's announcement. If it is right, tell the people who maintain the program."],
-  30: ["NoRate", (answer) => `No rate is entered for the month in which ${that_bond(answer)} was issued.`, () => "Have that rate entered first."],
-  31: ["SerialConflict", (answer) => `${bond(answer)} is registered with a different denomination, issue month, owner or coowner.`, () => "Compare the paper with the register. A registered bond can't be changed."],
+  30: ["NoRate", (answer) => `No rate is entered for the month in which ${thatBond(answer)} was issued.`, () => "Have that rate entered first."],
+  31: ["SerialConflict", (answer) => `${bondOf(answer)} is registered with a different denomination, issue month, owner or coowner.`, () => "Compare the paper with the register. A registered bond can't be changed."],
   40: ["DayOpen", () => "A business day is open already.", () => "If it is this day, join it. If it is an earlier day, close that day first."],
   41: ["DayNotLater", () => "This day, or a later one, is closed already.", () => "Open a later day. A day is opened only once."],
   42: ["NoOpenDay", () => "No business day is open.", () => "Open the day first, and try again."],
   43: ["DayIsOther", () => "A different business day is open.", () => "Join the day that is open, and try again."],
   44: ["DayFull", () => "The day has reached its limit of 1,000 tickets.", () => "Close it, and continue on a later day."],
-  50: ["UnknownSerial", (answer) => `${bond(answer)} isn't registered.`, () => "Compare the serial number with the paper. If it is right, have the bond registered first."],
-  51: ["NotPayee", (answer) => `The payee is neither the owner nor the coowner of ${that_bond(answer)}.`, () => "Compare the customer number with the register. Nobody else can be paid."],
-  52: ["AlreadyPaid", (answer) => `${bond(answer)} was paid already, on ticket ${answer.ticket}.`, () => "Don't pay it again. Look at that ticket to see who was paid, and when."],
-  53: ["NotIssued", (answer) => `${bond(answer)} isn't issued yet in the month of the open day.`, () => "Compare the issue month with the paper. The bond can't be paid now."],
-  54: ["NotEligible", (answer) => `${bond(answer)} is less than 12 months old.`, () => "It can be paid from 12 months after its issue month."],
+  50: ["UnknownSerial", (answer) => `${bondOf(answer)} isn't registered.`, () => "Compare the serial number with the paper. If it is right, have the bond registered first."],
+  51: ["NotPayee", (answer) => `The payee is neither the owner nor the coowner of ${thatBond(answer)}.`, () => "Compare the customer number with the register. Nobody else can be paid."],
+  52: ["AlreadyPaid", (answer) => `${bondOf(answer)} was paid already, on ticket ${answer.ticket}.`, () => "Don't pay it again. Look at that ticket to see who was paid, and when."],
+  53: ["NotIssued", (answer) => `${bondOf(answer)} isn't issued yet in the month of the open day.`, () => "Compare the issue month with the paper. The bond can't be paid now."],
+  54: ["NotEligible", (answer) => `${bondOf(answer)} is less than 12 months old.`, () => "It can be paid from 12 months after its issue month."],
 };
 
 const damaged = () => "The page sends the same request again. If this continues, tell the people who run the network.";
@@ -60,6 +462,21 @@ const RIGHTS = {
   "/day/close": ["close a day", "a supervisor"],
 };
 
+// By why no answer of the counter came.
+const WHY = {
+  redirected: () => "the request was redirected, as to a page for signing in",
+  page: (answer) => `a page of something else did (status ${answer.status}), as for signing in`,
+  busy: () => "too many requests",
+  status: (answer) => `something else did (status ${answer.status})`,
+  time: (answer) => `no response within ${answer.seconds} seconds`,
+  lost: () => "the connection was lost",
+};
+
+const UNSTORED = {
+  quota: ["This browser has no room left to store the request.", "Make room on this machine's disk."],
+  other: ["This browser couldn't store the request.", "If this continues, reload the page."],
+};
+
 const other = (answer) => ({
   says: `The counter answered ${answer.name} (code ${answer.code}), which this page doesn't know.`,
   advises: "Don't pay anything out for this request. Tell the people who maintain this page.",
@@ -67,7 +484,9 @@ const other = (answer) => ({
 
 // The sentence of an answer that is no reply, and what to do. If the name isn't that of the code, the page knows neither.
 export function inWords(answer) {
-  if (answer.kind === "none") return { says: `The counter didn't answer: ${answer.why}.`, advises: "The page sends the same request again." };
+  if (answer.kind === "none") return { says: `The counter didn't answer: ${WHY[answer.why](answer)}.`, advises: "The page sends the same request again." };
+  if (answer.kind === "signed_out") return { says: "You are signed out, or the password has changed.", advises: "Sign in, in the tab that opens, and come back." };
+  if (answer.kind === "unstored") return { says: UNSTORED[answer.fault][0], advises: UNSTORED[answer.fault][1] };
   const known = TABLES[answer.kind]?.[answer.code];
   if (known === undefined || known[0] !== answer.name) return other(answer);
   return { says: known[1](answer), advises: known[2](answer) };
