@@ -15,9 +15,10 @@ from gate import Gate
 TOP = Path(__file__).resolve().parents[3]
 sys.path.insert(0, str(TOP / "tests" / "shared"))
 
-from nginx_sample import Nginx, free_port  # noqa: E402
+from nginx_sample import PAGE, Nginx, free_port  # noqa: E402
 
-USER, PASSWORD = "teller", "a password of the test"
+USER, PASSWORD = "anna", "a password of the test"
+BANK, BRANCH = "First Bank of Testing", "Main Street"
 
 
 class Server:
@@ -81,9 +82,18 @@ class Bank:
         self.store = self.folder / "day.db"
         self.server = Server(program, str(self.store))
         self.gate = Gate(self.server)
-        users = {USER: (PASSWORD, "teller supervisor office")}
-        self.nginx = Nginx(self.folder / "nginx", self.gate.port, users, rate=100_000)
+        self.users = {USER: (PASSWORD, "teller supervisor office")}
+        self.teller = self.page_of_bank()
+        self.nginx = Nginx(self.folder / "nginx", self.gate.port, self.users, rate=100_000, page=self.teller)
         self.port = self.nginx.port
+
+    def page_of_bank(self):
+        """The page as a bank sets it up, in a folder that a test may change."""
+        shutil.copytree(PAGE, self.folder / "teller")
+        own = self.folder / "teller" / "bank.js"
+        branches = f'[{{ name: "{BRANCH}", from: 1, to: 9 }}]'
+        own.write_text(own.read_text().replace('BANK = ""', f'BANK = "{BANK}"').replace("BRANCHES = []", f"BRANCHES = {branches}"))
+        return self.folder / "teller"
 
     def ask(self, method, path, value=None):
         """Straight to the counter, past nginx and the gate: the status and the answer."""

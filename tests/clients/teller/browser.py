@@ -1,41 +1,45 @@
-"""The page in Debian's Chromium, as a teller sees it and a keyboard works it."""
+"""The page in a browser, as a teller sees it and a keyboard works it."""
 import tempfile
 import time
 
-from selenium import webdriver
 from selenium.common.exceptions import StaleElementReferenceException, TimeoutException, WebDriverException
-from selenium.webdriver.chrome.service import Service
 from selenium.webdriver.common.action_chains import ActionChains
 from selenium.webdriver.common.by import By
 from selenium.webdriver.common.keys import Keys
 from selenium.webdriver.support.ui import WebDriverWait
 
 from bank import PASSWORD, USER
+from engines import ENGINES
 
 PATIENCE = 60
+MONTHS = ("January", "February", "March", "April", "May", "June", "July", "August", "September", "October", "November", "December")
 
 
 class Page:
     """A browser of its own, with storage of its own; the same `profile` again is the same browser started again."""
 
+    #: The name of the browser, of engines.py.
+    browser = "chromium"
+
     def __init__(self, bank, profile=None, size=(1100, 820)):
         self.bank = bank
         self.profile = profile or tempfile.mkdtemp(dir=bank.folder)
-        options = webdriver.ChromeOptions()
-        options.binary_location = "/usr/bin/chromium"
-        options.accept_insecure_certs = True
-        own = (f"--user-data-dir={self.profile}", f"--window-size={size[0]},{size[1]}")
-        for word in ("--headless=new", "--no-sandbox", "--disable-dev-shm-usage", "--force-device-scale-factor=1", "--hide-scrollbars", *own):
-            options.add_argument(word)
-        options.set_capability("goog:loggingPrefs", {"browser": "ALL"})
-        self.driver = webdriver.Chrome(service=Service("/usr/bin/chromedriver"), options=options)
+        self.engine = ENGINES[self.browser](self.profile, size)
+        self.driver = self.engine.driver
         bank.pages.append(self)
         self.log_in()
 
+    def resize(self, width, height):
+        self.engine.resize(width, height)
+        self.until(lambda: self.run("return innerWidth") == width, f"the window is {width} wide, and not {self.run('return innerWidth')}")
+
     def log_in(self):
         credentials = f"{USER}:{PASSWORD.replace(' ', '%20')}@"
-        self.load(lambda: self.driver.get(f"https://{credentials}127.0.0.1:{self.bank.port}/teller/icon.svg"))
-        self.load(lambda: self.driver.get(f"https://127.0.0.1:{self.bank.port}/teller/"))
+        self.load(lambda: self.driver.get(self.address(credentials) + "icon.svg"))
+        self.load(lambda: self.driver.get(self.address("")))
+
+    def address(self, credentials):
+        return f"https://{credentials}127.0.0.1:{self.bank.port}/teller/"
 
     def load(self, action):
         """Once more where the machine's network was changed meanwhile, by something else than this test."""
@@ -51,8 +55,7 @@ class Page:
         self.load(self.driver.refresh)
 
     def quit(self):
-        if self.driver.service.process.poll() is None:
-            self.driver.quit()
+        self.engine.quit()
 
     def find(self, selector):
         return self.driver.find_element(By.CSS_SELECTOR, selector)
@@ -68,9 +71,9 @@ class Page:
         text = "const done = arguments[arguments.length - 1]; (async (...given) => {" + script + "})(...arguments).then(done, (error) => done('ERROR ' + error));"
         return self.driver.execute_async_script(text, *arguments)
 
-    def until(self, condition, what):
+    def until(self, condition, what, patience=PATIENCE):
         try:
-            return WebDriverWait(self.driver, PATIENCE, 0.05, [StaleElementReferenceException]).until(lambda _: condition())
+            return WebDriverWait(self.driver, patience, 0.05, [StaleElementReferenceException]).until(lambda _: condition())
         except TimeoutException:
             raise AssertionError(f"{what}\n{self.text()}") from None
 
@@ -89,9 +92,22 @@ class Page:
         self.waits_for(f"Desk {desk}.", "#state")
 
     def type(self, selector, text):
+        """As a teller types it: into a native field of a day or a month, each part by its keys."""
         field = self.find(selector)
-        field.send_keys(Keys.CONTROL, "a")
+        kind = self.run("return arguments[0].type", field)
+        if kind in ("date", "month") and self.browser == "chromium":
+            self.type_date(field, kind, text)
+            return
+        if kind != "date":
+            field.send_keys(Keys.CONTROL, "a")
         field.send_keys(text)
+
+    def type_date(self, field, kind, text):
+        """Chromium's fields are typed as MM/DD/YYYY, and as a month's name and a year."""
+        year, month, *day = text.split("-")
+        self.run("arguments[0].focus()", field)
+        self.keys(*([month, *day] if kind == "date" else [MONTHS[int(month) - 1][:3], Keys.RIGHT]), year)
+        self.until(lambda: field.get_attribute("value") == text, f"the field has {text}, and not {field.get_attribute('value')}")
 
     def press(self, selector):
         """From under a notice, which stands at the top of the window, the page is scrolled first."""
@@ -146,22 +162,46 @@ class Page:
         self.type("#join-date", day)
         self.press("#join-day button")
 
-    def close_day(self):
+    def ask_to_close(self, patience=PATIENCE):
+        """Up to the page's question, before which it counts the day."""
         self.go("day")
         self.press("#close-day button")
+        self.until(lambda: self.find("#confirm").is_displayed(), "the page asks once more", patience)
+        return self.question()
+
+    def close_day(self, patience=PATIENCE):
+        self.ask_to_close(patience)
         self.press("#confirm-yes")
 
-    def show_sheet(self, customer, month=None):
+    def show_sheet_begun(self, customer, month=None):
         self.go("pay")
         self.type("#customer", str(customer))
         if month is not None:
             self.type("#month", month)
         self.press("#ask-sheet button")
+
+    def show_sheet(self, customer, month=None):
+        self.go("pay")
+        self.run("for (const part of document.getElementById('sheet').children) part.classList.add('earlier-sheet')")
+        self.show_sheet_begun(customer, month)
+        self.until(lambda: self.all("#sheet .earlier-sheet") == [], "another sheet is shown")
         self.waits_for(f"ustomer {customer} ", "#sheet")
+
+    def question(self):
+        return self.find("#confirm-title").text + "\n" + self.find("#confirm-text").text
+
+    def shows_sum(self, count, dollars, month):
+        """The sum beside Pay, and of how many bonds it is."""
+        self.waits_for(f"{count} bond{'s' if count > 1 else ''}, valued in {month}", "#chosen")
+        self.waits_for(dollars, "#sum")
 
     def choose(self, *serials):
         for serial in serials:
             self.press(f"input[aria-label='Pay bond {serial}']")
+
+    def choose_by_serial(self, serial):
+        """In any language."""
+        self.press(f"input[data-serial='{serial}']")
 
     def ask_to_add(self, owner, serial):
         self.type("#serial", serial)
@@ -179,7 +219,7 @@ class Page:
             self.type("#payee", str(payee))
         self.press("#pay-bonds button:not([type])")
         self.until(lambda: self.find("#confirm").is_displayed(), "the page asks once more")
-        return self.find("#confirm-title").text + "\n" + self.find("#confirm-text").text
+        return self.question()
 
     def pay(self, payee=None):
         """Pays, and returns the texts of the question."""
@@ -203,7 +243,7 @@ class Page:
 
     def complaints(self):
         """What the browser's console was told that speaks of a fault of the page itself."""
-        return [entry["message"] for entry in self.driver.get_log("browser") if "Failed to load resource" not in entry["message"]]
+        return self.engine.complaints()
 
     def sleep(self, seconds):
         time.sleep(seconds)

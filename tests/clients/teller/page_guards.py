@@ -179,7 +179,7 @@ def error_page_on_resend(bank):
 
 
 def redirect_on_resend(bank):
-    lost_then(bank, "redirect", "The counter didn't answer: the request was redirected.")
+    lost_then(bank, "redirect", "The counter didn't answer: the request was redirected, as to a page for signing in.")
 
 
 def many_requests(bank):
@@ -321,11 +321,11 @@ def changed_month(bank):
     page = joined(bank)
     page.show_sheet(7)
     page.choose("L7EE", "K7EE")
-    page.waits_for(f"2 bonds chosen, worth {dollars(VALUES['L'] + VALUES['K'])} in February 2012.", "#chosen")
+    page.shows_sum(2, dollars(VALUES["L"] + VALUES["K"]), "February 2012")
     page.close_day()
     page.waits_for("Batch of 6 February 2012", "#batch h2")
     page.go("pay")
-    right(page.find("#sheet").text == "" and page.find("#chosen").text == "No bond is chosen.", "as the day ends, the sheet and what was chosen on it are gone")
+    right(page.find("#sheet").text == "" and not page.find("#pay-bonds").is_displayed(), "as the day ends, the sheet and what was chosen on it are gone")
     no_day_at_all(page)
     bank.expect(200, "/day/open", {"desk": 900, "number": 100_001, "day": "2012-08-06"})
     page.show_sheet(7, "2012-02")
@@ -337,9 +337,7 @@ def changed_month(bank):
     boxes = page.all("#sheet input")
     right(len(boxes) == 3 and not any(box.is_enabled() for box in boxes), "February's sheet can be looked at, and nothing can be chosen on it")
     page.waits_for("Nothing can be chosen here: bonds are paid at their values in August 2012, the month of the open day.", "#sheet")
-    page.press("#pay-bonds button")
-    page.waits_for("No bond is chosen.", "#notices")
-    right(not page.find("#confirm").is_displayed(), "nor can anything be confirmed")
+    right(not page.find("#pay-bonds").is_displayed(), "nor can anything be confirmed")
     page.press("#sheet button")
     page.waits_for("Unpaid bonds of customer 7 in August 2012", "#sheet")
     page.choose("L7EE", "K7EE")
@@ -370,7 +368,7 @@ def bonds_added(bank):
     page.show_sheet(7)
     page.choose("K7EE")
     page.add(9, "K9EE")
-    page.waits_for(f"2 bonds chosen, worth {dollars(2 * VALUES['K'])} in February 2012.", "#chosen")
+    page.shows_sum(2, dollars(2 * VALUES["K"]), "February 2012")
     right(f"K9EE, owner 9: {dollars(VALUES['K'])}" in page.find("#others").text, "an added bond is listed with its owner and its value", page.find("#others").text)
     for serial, owner, words in (
         ("K9EE", 9, "Bond K9EE is already chosen."),
@@ -384,13 +382,13 @@ def bonds_added(bank):
     page.add(7, "L7EE")
     right(page.find("input[aria-label='Pay bond L7EE']").is_selected() and len(page.all("#others li")) == 1, "a bond of the sheet that is shown is chosen there, and not twice")
     page.press("input[aria-label='Pay bond L7EE']")
-    page.waits_for("2 bonds chosen", "#chosen")
+    page.waits_for("2 bonds, valued", "#chosen")
     page.add(11, "K11EE")
     page.press("#others li:nth-child(2) button")
-    page.waits_for("2 bonds chosen", "#chosen")
+    page.waits_for("2 bonds, valued", "#chosen")
     told = page.pay(8)
     is_paid_on(page, 1, 2 * VALUES["K"])
-    right(f"Pay {dollars(2 * VALUES['K'])} to customer 8?" in told and "K7EE, K9EE" in told, "the question has the sum of all, as the ticket", told)
+    right(f"Pay {dollars(2 * VALUES['K'])} to customer 8?" in told and f"K7EE: {dollars(VALUES['K'])}\nK9EE: {dollars(VALUES['K'])}" in told, "the question has the sum of all, as the ticket", told)
     page.quit()
     right(books_of(bank).rows("SELECT payee, bonds, total FROM tickets") == [(8, 2, 2 * VALUES["K"])], "one ticket of two owners' bonds, to their coowner")
 
@@ -419,11 +417,15 @@ BOX = """
     return [box.top, box.bottom, box.left, box.right, innerHeight, innerWidth, scrollY];
 """
 COVERED = """
-    const told = document.querySelector("#told").getBoundingClientRect();
     const at = document.activeElement;
     const box = at.getBoundingClientRect();
-    if (at === document.body || document.querySelector("#told").contains(at)) return null;
-    return box.top < told.bottom - 1 && box.bottom > told.top + 1 && told.height > 0 ? at.outerHTML : null;
+    const covers = ([selector, edge]) => {
+        const over = document.querySelector(selector);
+        const { top, bottom, height } = over.getBoundingClientRect();
+        return height > 0 && !over.contains(at) && (edge === "top" ? box.top < bottom - 1 && box.bottom > top + 1 : box.bottom > top + 1 && box.top < bottom - 1);
+    };
+    const room = innerHeight - document.querySelector("#told").offsetHeight - document.querySelector("#pay-bonds").offsetHeight;
+    return at !== document.body && box.height < room && [["#told", "top"], ["#pay-bonds", "bottom"]].some(covers) ? at.outerHTML.slice(0, 200) : null;
 """
 
 
@@ -440,7 +442,7 @@ def many_bonds(bank, owner, count):
 def notices_seen(bank):
     """At 1366 x 768, with the teller at the button Pay: with three bonds on the sheet, and with sixty."""
     page = joined(bank, size=(1366, 768))
-    page.driver.execute_cdp_cmd("Emulation.setDeviceMetricsOverride", {"width": 1366, "height": 768, "deviceScaleFactor": 1, "mobile": False})
+    page.resize(1366, 768)
     many_bonds(bank, 60, 60)
     for owner, serial in ((7, "L7EE"), (60, "S60EE")):
         page.show_sheet(owner)
@@ -472,7 +474,7 @@ def told_in_sight(bank, page, owner):
 def notices_narrow(bank):
     """320 pixels: a notice takes half of the window at most, hides nothing that has the keyboard, and can be closed."""
     page = joined(bank)
-    page.driver.execute_cdp_cmd("Emulation.setDeviceMetricsOverride", {"width": 320, "height": 640, "deviceScaleFactor": 1, "mobile": False})
+    page.resize(320, 640)
     page.show_sheet(7)
     page.choose("L7EE")
     page.pay(99)
@@ -484,7 +486,7 @@ def notices_narrow(bank):
     right(bottom - top <= 0.5 * 640 + 1, f"it takes {bottom - top:.0f} of 640 pixels")
     right(page.run("return document.documentElement.scrollWidth") <= 320, "and nothing goes over the edge")
     covered, places = walked(page)
-    right(covered == [] and places >= 10, f"at none of {places} places that the keyboard goes to is it under the notice", covered)
+    right(covered == [] and places >= 10, f"at none of {places} places that the keyboard goes to is it under the notice or the bar", covered)
     page.tab_to(".notice .close", back=True)
     page.keys(Keys.ENTER)
     right(page.all(".notice") == [], "it is closed by the keyboard")

@@ -1,12 +1,11 @@
 """How the page is worked and seen: by the keyboard alone, in a narrow window, by a screen reader's tree, in print, and in pictures."""
-import base64
-import re
 from pathlib import Path
 
 from selenium.webdriver.common.keys import Keys
 
 from browser import Page
 from page_cases import SUM, dollars, is_paid_on
+from rules import RULES, checked, controls, least_contrast
 from samples import OLDER, TOO_YOUNG, UNISSUED, VALUES, begin, right, samples_bonds
 
 VIEWS = ("day", "pay", "tickets", "batches")
@@ -30,9 +29,7 @@ def keyboard_alone(bank):
     page.keys("5", Keys.ENTER)
     page.waits_for("Desk 5.", "#state")
     page.tab_to("#join-date")
-    for _ in range(10):
-        page.keys(Keys.BACKSPACE)
-    page.keys("2012-02-06", Keys.ENTER)
+    page.keys("02", "06", "2012", Keys.ENTER)
     page.waits_for("The page works on 6 February 2012")
     page.tab_to("nav a[href='#pay']", back=True)
     page.keys(Keys.ENTER)
@@ -43,7 +40,7 @@ def keyboard_alone(bank):
     page.waits_for("Unpaid bonds of customer 7", "#sheet")
     page.tab_to("input[aria-label='Pay bond L7EE']")
     page.keys(Keys.SPACE)
-    page.waits_for(f"1 bond chosen, worth {dollars(VALUES['L'])}", "#chosen")
+    page.shows_sum(1, dollars(VALUES["L"]), "February 2012")
     page.tab_to("#payee")
     page.keys(Keys.ENTER)
     page.until(lambda: page.find("#confirm").is_displayed(), "the page asks once more")
@@ -60,174 +57,140 @@ def keyboard_alone(bank):
     page.quit()
 
 
-def narrow(page, width):
-    page.driver.execute_cdp_cmd("Emulation.setDeviceMetricsOverride", {"width": width, "height": 800, "deviceScaleFactor": 1, "mobile": False})
+VIEWPORTS = {"320 pixels wide": (320, 800), "1280 pixels at 200 %": (640, 450), "a tablet": (820, 1100)}
 
 
 def narrow_window(bank):
-    """320 pixels: nothing is wider than the window, and a payment is made."""
+    """320 pixels, and a window zoomed to 200 %: nothing is cut or goes over the edge, what can be pressed is 44 pixels, a bond is a card, and a payment is made."""
     page = at_work(bank)
-    narrow(page, 320)
-    page.show_sheet(7)
-    page.choose("L7EE")
-    wide = {}
-    for view in VIEWS:
-        page.go(view)
-        wide[view] = page.run("return document.documentElement.scrollWidth")
-    right(all(width <= 320 for width in wide.values()), "in a window of 320 pixels nothing goes over its edge", wide)
+    bank.expect(200, "/bonds", {"desk": 900, "number": 60, "bonds": [TOO_YOUNG]})
+    for name, size in VIEWPORTS.items():
+        page.resize(*size)
+        page.show_sheet(7)
+        page.choose("L7EE")
+        for view in VIEWS:
+            page.go(view)
+            checked(page, f"{name}, {view}")
+        right(True, f"{name}: nothing is cut, and what can be pressed is 44 pixels high and wide, in each of {len(VIEWS)} views")
+    page.resize(320, 640)
     page.go("pay")
-    small = page.run(SMALL)
-    right(small == [], "buttons and fields are 36 pixels high at least", small)
+    cards(page)
     page.pay()
     is_paid_on(page, 1, VALUES["L"])
-    right(page.run("return document.documentElement.scrollWidth") <= 320, "a payment in a narrow window")
+    checked(page, "the ticket, 320 pixels wide")
+    right(True, "a payment in a narrow window")
     page.quit()
 
 
-SMALL = """
-    const shown = [...document.querySelectorAll("button, input, nav a")].filter((e) => e.offsetParent !== null && e.type !== "checkbox");
-    return shown.filter((e) => e.getBoundingClientRect().height < 36).map((e) => e.outerHTML);
-"""
-PRINTED = """
-    const gone = [...document.querySelectorAll("header, nav, form, button, #told, #notices, #progress, h1")];
-    return gone.filter((e) => e.getClientRects().length > 0).map((e) => e.tagName);
-"""
-NAMED = ("button", "textbox", "checkbox", "link", "dialog", "region", "table", "navigation", "progressbar")
-CONTRAST = """
-    const parts = (text) => text.match(/[0-9.]+/g).map(Number);
-    const straight = (c) => (c <= 0.04045 ? c / 12.92 : ((c + 0.055) / 1.055) ** 2.4);
-    const light = (text) => {
-        const [r, g, b] = parts(text).map((c) => straight(c / 255));
-        return 0.2126 * r + 0.7152 * g + 0.0722 * b;
-    };
-    const ground = (e) => {
-        for (let at = e; at !== null; at = at.parentElement) {
-            const colour = getComputedStyle(at).backgroundColor;
-            if (parts(colour)[3] !== 0) return colour;
-        }
-        return "rgb(255, 255, 255)";
-    };
-    const has_text = (e) => [...e.childNodes].some((n) => n.nodeType === 3 && n.data.trim() !== "") || e.matches("input");
-    return [...document.querySelectorAll("body *")].filter((e) => e.offsetParent !== null && has_text(e)).map((e) => {
-        const [more, less] = [light(getComputedStyle(e).color), light(ground(e))].sort((x, y) => y - x);
-        return [(more + 0.05) / (less + 0.05), e.tagName + " " + e.className + " " + e.textContent.slice(0, 30)];
-    });
-"""
-UNLABELLED = """
-    const shown = (e) => e.offsetParent !== null;
-    const fields = [...document.querySelectorAll("input")].filter(shown).filter((e) => e.labels.length === 0 && !e.hasAttribute("aria-label"));
-    const buttons = [...document.querySelectorAll("button, a")].filter(shown).filter((e) => e.textContent.trim() === "");
-    const levels = [...document.querySelectorAll("h1, h2, h3")].filter(shown).map((e) => Number(e.tagName[1]));
-    const jumps = levels.filter((level, at) => level - (levels[at - 1] ?? 0) > 1);
-    const ordered = [...document.querySelectorAll("[tabindex]")].filter((e) => e.tabIndex > 0);
-    const ids = [...document.querySelectorAll("[id]")].map((e) => e.id);
-    const twice = ids.filter((id, at) => ids.indexOf(id) !== at);
-    const first = levels.filter((level) => level === 1);
-    const counts = Object.entries({ fields, buttons, jumps, headings: first, ordered }).map(([name, list]) => [name, list.length]);
-    return { ...Object.fromEntries(counts), twice, lang: document.documentElement.lang };
+FIRST = """
+    const cells = [...document.querySelectorAll("#sheet tbody tr:first-child > *")].map((e) => [e.className.replace("money ", ""), e.getBoundingClientRect()]);
+    const order = cells.filter(([, box]) => box.width > 0).sort(([, x], [, y]) => Math.round(x.top - y.top) || x.left - y.left).map(([name]) => name);
+    return order.slice(0, 3);
 """
 
 
-def checked(page, where, least):
-    """The basics of one state of the page; the least contrast of its texts."""
-    found = page.run(UNLABELLED)
-    assert found == {"fields": 0, "buttons": 0, "jumps": 0, "headings": 1, "ordered": 0, "twice": [], "lang": "en"}, (where, found)
-    poor = [pair for pair in page.run(CONTRAST) if pair[0] < 4.5]
-    assert poor == [], (where, poor)
-    unnamed = [node for node in nodes(page) if node["role"]["value"] in NAMED and not node.get("name", {}).get("value")]
-    assert unnamed == [], (where, unnamed)
-    return min([least, *(ratio for ratio, _ in page.run(CONTRAST))])
+def cards(page):
+    """Beside its box, a card begins with serial number and value; it is tapped anywhere."""
+    right(set(page.run(FIRST)) == {"of-box", "of-serial", "of-value"}, "a card begins with its box, its serial number and its value", page.run(FIRST))
+    for serial, is_chosen in (("K7EE", True), ("N7EE", False)):
+        card = page.run("return document.querySelector(`input[data-serial='${arguments[0]}']`).closest('tr')", serial)
+        page.run("arguments[0].scrollIntoView({ block: 'center' })", card)
+        card.click()
+        box = page.find(f"input[data-serial='{serial}']")
+        right(box.is_selected() == is_chosen, f"{serial}: " + ("the card is tapped as a whole" if is_chosen else "control: the card of a bond that can't be paid chooses nothing"))
+    page.shows_sum(2, dollars(VALUES["L"] + VALUES["K"]), "February 2012")
+    page.press("input[data-serial='K7EE']")
+    page.shows_sum(1, dollars(VALUES["L"]), "February 2012")
+    right(True, "and so is its box, once")
 
 
-def nodes(page):
-    """What a screen reader is given."""
-    return [node for node in page.driver.execute_cdp_cmd("Accessibility.getFullAXTree", {})["nodes"] if not node.get("ignored") and "role" in node]
+NAMED = "button, a[href], input, dialog[open], [role=region], table, nav, progress"
+
+
+def unnamed(page):
+    """What a screen reader is given without a name, by the browser's own computing."""
+    elements = [element for element in page.all(NAMED) if element.is_displayed()]
+    return [element.get_attribute("outerHTML")[:120] for element in elements if element.accessible_name == ""]
 
 
 def accessible(bank):
+    """The rules, in each state of the page; and that each rule can fail."""
     begin(bank, [7, 9], "2012-02-06")
     page = Page(bank)
     page.waits_for("Choose a desk")
-    least = checked(page, "start", 21)
+    checked(page, "start")
     page.choose_desk(5)
+    blind = controls(page)
+    right(blind == [], f"control: each of {len(RULES)} rules notices a page that breaks it", blind)
+    page.go("day")
+    checked(page, "no day")
+    page.go("pay")
+    checked(page, "no day to pay on")
     page.join_day("2012-02-06")
     page.waits_for("The page works on 6 February 2012")
     page.show_sheet(7)
     page.choose("L7EE")
     page.add(9, "K9EE")
+    least = 21
     for view in VIEWS:
         page.go(view)
-        least = checked(page, view, least)
-    least = asked_and_barred(page, least)
-    least = in_trouble(bank, page, least)
-    roles = {node["role"]["value"] for node in nodes(page)}
-    right({"banner", "navigation", "main"} <= roles, "the page has its landmarks", roles)
+        checked(page, view)
+        right(unnamed(page) == [], f"{view}: each field, button and table has a name", unnamed(page))
+        least = min(least, least_contrast(page))
+    asked_and_barred(page)
+    in_trouble(bank, page)
     page.go("pay")
     page.show_sheet(7)
-    rows = [node for node in nodes(page) if node["role"]["value"] == "row"]
-    headers = [node for node in nodes(page) if node["role"]["value"] in ("columnheader", "rowheader")]
-    right(len(rows) >= 4 and len(headers) >= 14, "the sheet is a table with headings for a screen reader", (len(rows), len(headers)))
-    narrow(page, 320)
-    rows_of_narrow = [node for node in nodes(page) if node["role"]["value"] == "row"]
-    right(len(rows_of_narrow) >= 3, "and in a narrow window too", len(rows_of_narrow))
-    right(least >= 4.5, f"each field, button and table has a name, headings are in order, no element stands out of the order of tabs; the least contrast is {least:.1f} to 1")
+    for width in (1100, 320):
+        page.resize(width, 820)
+        roles = page.run("return ['table', 'rowgroup', 'row', 'columnheader', 'rowheader', 'cell'].map((role) => document.querySelectorAll(`#sheet [role=${role}]`).length)")
+        right(roles == [1, 3, 5, 11, 4, 40 + 4], f"{width} pixels wide: the sheet is a table with headings for a screen reader", roles)
+    right(least >= 4.5, f"the rules hold in each state; the least contrast is {least:.1f} to 1")
     focus_is_seen(page)
     page.quit()
 
 
-def asked_and_barred(page, least):
-    """A sheet on which nothing can be chosen, and the questions."""
+def asked_and_barred(page):
+    """A sheet on which nothing can be chosen, fields that are marked, and the question."""
     page.show_sheet(7, "2012-08")
     page.waits_for("Nothing can be chosen here", "#sheet")
-    least = checked(page, "another month", least)
+    checked(page, "another month")
     page.press("#sheet button")
     page.waits_for("Unpaid bonds of customer 7 in February 2012", "#sheet")
+    page.ask_to_add("x", "y")
+    page.until(lambda: len(page.all(".error")) == 2, "both fields are marked")
+    checked(page, "fields that are marked")
     page.choose("L7EE")
     page.ask_to_pay()
-    least = checked(page, "the question", least)
+    checked(page, "the question")
+    dialog = page.find("#confirm")
+    right(dialog.accessible_name == page.find("#confirm-title").text and dialog.get_attribute("aria-describedby") == "confirm-text", "the question's title is its name, and its text describes it")
     page.press("#confirm-no")
-    return least
 
 
-def in_trouble(bank, page, least):
+def heard(page, words):
+    """The live region says it."""
+    page.until(lambda: words in page.find("#live").get_attribute("textContent"), f"the live region says: {words}, and not {page.find('#live').get_attribute('textContent')}")
+
+
+def in_trouble(bank, page):
     """While a request is retried, and with a refusal."""
     page.go("pay")
     bank.gate.faults = ["lost request"] * 3
     page.pay(8)
     page.waits_for("sent again in 2 seconds", "#progress")
-    live = page.run("return [document.querySelector('#progress-text').getAttribute('role')]")
-    right(live == ["status"], "what a request is doing is told in a live region", live)
-    least = checked(page, "retried", least)
+    heard(page, "no reply yet. Nothing may be paid out yet.")
+    checked(page, "retried")
     page.waits_for("The payee is neither the owner nor the coowner of bond L7EE.", "#notices")
-    right(page.find("#notices > div").get_attribute("role") == "alert", "a refusal is an alert")
-    return checked(page, "refused", least)
+    heard(page, "The payee is neither the owner nor the coowner of bond L7EE.")
+    checked(page, "refused")
+    right(True, "one live region says what a request is doing, and its refusal")
 
 
 def focus_is_seen(page):
     page.tab_to("#customer")
     outline = page.run("const style = getComputedStyle(document.activeElement); return style.outlineStyle + ' ' + style.outlineWidth")
     right(outline == "solid 3px", "what has the keyboard has an outline", outline)
-
-
-def printed(bank):
-    """In print there is the ticket alone."""
-    page = at_work(bank)
-    page.show_sheet(7)
-    page.choose("K7EE", "L7EE", "M7EE")
-    page.pay()
-    is_paid_on(page, 1, SUM)
-    page.driver.execute_cdp_cmd("Emulation.setEmulatedMedia", {"media": "print"})
-    seen = page.run(PRINTED)
-    right(seen == [] and page.find("#ticket h2").is_displayed(), "in print there is the ticket, and no button, form or notice", seen)
-    text = page.find("main").text
-    wanted = ("Ticket 1", "K7EE", "L7EE", "M7EE", dollars(SUM), "customer 7", "6 February 2012", "Received by")
-    right(all(word in text for word in wanted), "it has its number, day, payee, bonds and sum, and a line to sign", text)
-    sheet = base64.b64decode(page.driver.execute_cdp_cmd("Page.printToPDF", {"printBackground": False})["data"])
-    pages = len(re.findall(rb"/Type\s*/Page\b", sheet))
-    right(sheet.startswith(b"%PDF") and pages == 1, "and takes one page", pages)
-    if bank.pictures:
-        page.driver.save_screenshot(str(Path(bank.pictures) / "print.png"))
-    page.quit()
 
 
 def pictures(bank):
@@ -268,7 +231,7 @@ def pictures(bank):
 
 
 def kept_picture(page, path, height):
-    page.driver.execute_cdp_cmd("Emulation.setDeviceMetricsOverride", {"width": 960, "height": height, "deviceScaleFactor": 1, "mobile": False})
+    page.resize(960, height)
     page.run("scrollTo(0, 0)")
     page.sleep(0.3)
     page.driver.save_screenshot(str(path))

@@ -1,0 +1,99 @@
+"""The two browsers in which the page is tested: Debian's Chromium, and its Firefox. Each starts on a profile, and does by its own means what the WebDriver protocol has no word for."""
+import base64
+import os
+import signal
+import subprocess
+
+from selenium import webdriver
+from selenium.webdriver.chrome.service import Service
+
+from marionette import Firefox as FirefoxProcess
+
+
+class Chromium:
+    name = "chromium"
+
+    def __init__(self, profile, size):
+        self.profile = profile
+        options = webdriver.ChromeOptions()
+        options.binary_location = "/usr/bin/chromium"
+        options.accept_insecure_certs = True
+        own = (f"--user-data-dir={profile}", f"--window-size={size[0]},{size[1]}")
+        for word in ("--headless=new", "--no-sandbox", "--disable-dev-shm-usage", "--force-device-scale-factor=1", "--hide-scrollbars", "--lang=en-US", *own):
+            options.add_argument(word)
+        options.set_capability("goog:loggingPrefs", {"browser": "ALL"})
+        self.driver = webdriver.Chrome(service=Service("/usr/bin/chromedriver"), options=options)
+
+    def resize(self, width, height):
+        self.driver.execute_cdp_cmd("Emulation.setDeviceMetricsOverride", {"width": width, "height": height, "deviceScaleFactor": 1, "mobile": False})
+
+    def media(self, name):
+        self.driver.execute_cdp_cmd("Emulation.setEmulatedMedia", {"media": name})
+
+    def pdf(self, width, height):
+        """The printed page, on paper of so many inches."""
+        return base64.b64decode(self.driver.execute_cdp_cmd("Page.printToPDF", {"paperWidth": width, "paperHeight": height, "preferCSSPageSize": False})["data"])
+
+    def complaints(self):
+        return [entry["message"] for entry in self.driver.get_log("browser") if "Failed to load resource" not in entry["message"]]
+
+    def kill(self):
+        """All processes of that browser, by the folder of its profile."""
+        service = self.driver.service.process
+        lines = subprocess.run(["ps", "-eo", "pid,args"], capture_output=True, text=True, check=True).stdout.splitlines()
+        mine = [line.split()[0] for line in lines if f"--user-data-dir={self.profile}" in line]
+        subprocess.run(["kill", "-KILL", *mine], check=True)
+        service.kill()
+        service.wait()
+        for lock in ("SingletonLock", "SingletonSocket", "SingletonCookie"):
+            subprocess.run(["rm", "-f", f"{self.profile}/{lock}"], check=True)
+
+    def quit(self):
+        if self.driver.service.process.poll() is None:
+            self.driver.quit()
+
+
+#: What Firefox's console was told of faults in the page's own files.
+COMPLAINTS = """
+    const errors = Services.console.getMessageArray().filter((one) => one instanceof Ci.nsIScriptError);
+    return errors.filter((one) => one.sourceName.includes("/teller/") && !(one.flags & Ci.nsIScriptError.warningFlag)).map((one) => one.errorMessage + " " + one.sourceName);
+"""
+#: Firefox makes no window narrower than this.
+LEAST_WIDTH = 500
+
+
+class Firefox:
+    name = "firefox"
+
+    def __init__(self, profile, size):
+        self.process = FirefoxProcess(profile)
+        options = webdriver.FirefoxOptions()
+        options.accept_insecure_certs = True
+        self.driver = webdriver.Remote(self.process.address, options=options)
+        self.resize(*size)
+
+    def resize(self, width, height):
+        """A narrower window than Firefox makes is one that is zoomed in, as by its own command."""
+        zoom = max(1, LEAST_WIDTH / width)
+        self.process.run_inside("gBrowser.selectedBrowser.fullZoom = arguments[0];", zoom)
+        outer = self.driver.execute_script("return outerHeight - innerHeight * devicePixelRatio") if zoom == 1 else 86
+        self.driver.set_window_size(round(width * zoom), round(height * zoom + outer))
+
+    def media(self, name):
+        self.process.run_inside("gBrowser.selectedBrowser.browsingContext.mediumOverride = arguments[0];", name)
+
+    def pdf(self, width, height):
+        return base64.b64decode(self.process.ask("WebDriver:Print", {"page": {"width": width * 2.54, "height": height * 2.54}, "margin": {"top": 1.2, "bottom": 1.2, "left": 1.2, "right": 1.2}, "shrinkToFit": False}))
+
+    def complaints(self):
+        return self.process.run_inside(COMPLAINTS)
+
+    def kill(self):
+        os.killpg(self.process.process.pid, signal.SIGKILL)
+        self.process.process.wait()
+
+    def quit(self):
+        self.process.end()
+
+
+ENGINES = {engine.name: engine for engine in (Chromium, Firefox)}

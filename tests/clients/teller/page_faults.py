@@ -1,0 +1,324 @@
+"""What goes wrong around a request: the browser's storage, signing in, look-ups without an answer, a bond that is chosen twice, a browser that is too old."""
+import json
+import threading
+
+from selenium.common.exceptions import WebDriverException
+
+from bank import PASSWORD, USER
+from browser import Page
+from page_cases import EARLIER, books_of, dollars, is_paid_on
+from page_guards import DAY, joined
+from samples import VALUES, begin, right
+
+#: The next `count` writings of the journal after `skipped` ones fail, as in a browser without room.
+FAILING = """
+    const real = window.realPut ?? IDBObjectStore.prototype.put;
+    window.realPut = real;
+    let [skipped, count, name] = arguments;
+    IDBObjectStore.prototype.put = function (...given) {
+        if (skipped > 0) skipped -= 1;
+        else if (count > 0) {
+            count -= 1;
+            throw new DOMException("the browser's own words", name);
+        }
+        return real.apply(this, given);
+    };
+"""
+UNHANDLED = """
+    window.unhandled = [];
+    addEventListener("unhandledrejection", (event) => window.unhandled.push(String(event.reason)));
+    addEventListener("error", (event) => window.unhandled.push(event.message));
+"""
+QUOTA = "This browser has no room left to store the request."
+
+
+def storage_fails(bank):
+    """Before a sending, between two, after the reply: what is told is true, the page goes on by itself, and the bond is paid once."""
+    page = joined(bank, owners=(7, 9))
+    page.run(UNHANDLED)
+    page.show_sheet(7)
+    page.choose("L7EE")
+    page.run(FAILING, 0, 1, "QuotaExceededError")
+    page.pay()
+    page.waits_for(f"{QUOTA} Nothing was sent, and nothing was changed.", "#notices")
+    right(bank.gate.bodies == [] and page.journal()["open"] is None, "a request that can't be stored isn't sent, and the page says so")
+    right(all(button.is_enabled() for button in page.all("fieldset.acts button")) and page.find("#sum").text == dollars(VALUES["L"]), "the forms live on, and what was chosen stays")
+    page.run(FAILING, 1, 2, "QuotaExceededError")
+    page.pay()
+    page.waits_for("the request is open. It wasn't sent.", "#progress")
+    right(QUOTA in page.find("#progress").text and bank.gate.bodies == [], "stored, and not counted as sent: it isn't sent either, and the page tries again")
+    is_paid_on(page, 1, VALUES["L"])
+    page.settled()
+    right(len(bank.gate.bodies) == 1 and EARLIER not in page.find("#notices").text, "as it can be stored, it is sent, once")
+    failing_after_reply(bank, page)
+    failing_between(bank, page)
+    right(page.run("return window.unhandled") == [], "no failure was left to the browser", page.run("return window.unhandled"))
+    right("own words" not in page.text(), "nor told in its words")
+    page.quit()
+    books = books_of(bank)
+    right(books.rows("SELECT payee, bonds, total FROM tickets ORDER BY ticket") == [(7, 1, VALUES["L"]), (7, 1, VALUES["K"]), (9, 1, VALUES["L"])], "three tickets")
+
+
+def failing_after_reply(bank, page):
+    sent = len(bank.gate.bodies)
+    page.show_sheet(7)
+    page.choose("K7EE")
+    page.run(FAILING, 2, 3, "UnknownError")
+    page.pay()
+    page.waits_for("the reply has come.", "#progress")
+    right("This browser couldn't store the request." in page.find("#progress").text and page.find("#ticket h2").text.startswith("Ticket 2"), "a reply that can't be stored is shown, and the page says that it tries again")
+    page.settled()
+    right(len(bank.gate.bodies) == sent + 1 and page.journal()["last"] == 2, "and it is stored at last, and sent no more")
+
+
+def failing_between(bank, page):
+    page.show_sheet(9)
+    page.choose("L9EE")
+    bank.gate.faults = ["lost answer"]
+    page.run(FAILING, 2, 2, "QuotaExceededError")
+    sent = len(bank.gate.bodies)
+    page.pay()
+    page.waits_for("the request is open. Nothing may be paid out yet. The payment may have been made already.", "#progress")
+    right(len(bank.gate.bodies) == sent + 1, "between two sendings: nothing is sent that isn't written down first")
+    is_paid_on(page, 3, VALUES["L"])
+    page.settled()
+    right(EARLIER in page.find("#notices").text and len(set(bank.gate.bodies[sent:])) == 1, "then the same request is sent again, and the page says that it was paid once")
+
+
+def storage_cleared(bank):
+    """The journal's database is closed and gone while the page works: the page writes it anew from what it remembers."""
+    page = joined(bank)
+    before = page.journal()
+    page.run("""
+        const real = IDBDatabase.prototype.transaction;
+        IDBDatabase.prototype.transaction = function (...given) {
+            if (!window.is_closed) {
+                window.is_closed = true;
+                this.close();
+            }
+            return real.apply(this, given);
+        };
+    """)
+    page.show_sheet(7)
+    page.choose("L7EE")
+    page.pay()
+    is_paid_on(page, 1, VALUES["L"])
+    page.settled()
+    after = page.journal()
+    right(page.run("return window.is_closed") and after["desk"] == 5 and after["next"] == before["next"] + 1 and after["last"] == 1, "a database that the browser closed is opened again, and the payment goes on", after)
+    page.quit()
+    right(books_of(bank).one("SELECT count(*) FROM tickets") == 1, "one ticket")
+
+
+def moved_on(bank, page):
+    """Another password for the user, as after a change: nginx reads the file for each request."""
+    passwords = bank.nginx.folder / "passwords"
+    was = passwords.read_text()
+    passwords.write_text(f"{USER}:{bank.nginx.hashed('another password')}\n")
+    return passwords, was
+
+
+def refused_since(bank, before):
+    return [entry for entry in bank.nginx.log()[before:] if entry["status"] == "403"]
+
+
+def signed_out_while_paying(bank):
+    """The password changes while a teller works. The page names it, keeps the request and what was typed, sends nothing more by itself, and goes on after signing in in another tab."""
+    page = joined(bank, owners=(7, 9))
+    page.show_sheet(7)
+    page.choose("L7EE")
+    page.type("#serial", "K-9")
+    passwords, was = moved_on(bank, page)
+    before = len(bank.nginx.log())
+    page.pay()
+    page.waits_for("You are signed out, or the password has changed.", "#progress")
+    right("The page waits, and keeps the request and what you typed." in page.find("#progress").text and page.find("#sign-in").is_displayed(), "the page says that it is signed out, with a button, and that it waits", page.find("#progress").text)
+    page.sleep(10)
+    right(len(refused_since(bank, before)) == 1 and bank.gate.bodies == [], "it sends nothing more by itself: each sending would count as a wrong password")
+    right(page.find("#serial").get_attribute("value") == "K-9" and page.find("input[data-serial='L7EE']").is_selected(), "what was typed and chosen stays")
+    right(page.journal()["open"]["fields"]["serials"] == ["L7EE"], "the request is in the journal")
+    passwords.write_text(was)
+    signed_in_elsewhere(page)
+    is_paid_on(page, 1, VALUES["L"])
+    page.settled()
+    right(len(bank.gate.bodies) == 1, "after signing in in another tab it is sent by itself, and paid")
+    page.quit()
+    right(books_of(bank).one("SELECT count(*) FROM tickets") == 1, "one ticket")
+
+
+def signed_in_elsewhere(page):
+    first = page.driver.current_window_handle
+    page.press("#sign-in")
+    page.until(lambda: len(page.driver.window_handles) == 2, "another tab opens")
+    page.driver.switch_to.window(next(one for one in page.driver.window_handles if one != first))
+    page.load(lambda: page.driver.get(page.address(f"{USER}:{PASSWORD.replace(' ', '%20')}@")))
+    page.waits_for("If you came here to sign in, you are signed in now.")
+    page.driver.close()
+    page.driver.switch_to.window(first)
+
+
+def signed_out_while_looking(bank):
+    """A look-up waits for the sign-in too; a login page in place of an answer is named."""
+    page = joined(bank, owners=(7, 9))
+    passwords, was = moved_on(bank, page)
+    page.show_sheet_begun(9)
+    page.waits_for("You are signed out, or the password has changed.", "#notices")
+    right(page.find("#notices a.button").text == "Sign in" and page.find("#customer").get_attribute("value") == "9", "a look-up that needs a sign-in says so, with a button, and what was typed stays")
+    passwords.write_text(was)
+    page.press("#notices a.button")
+    first = page.driver.current_window_handle
+    page.until(lambda: len(page.driver.window_handles) == 2, "another tab opens")
+    page.driver.switch_to.window(next(one for one in page.driver.window_handles if one != first))
+    page.load(lambda: page.driver.get(page.address(f"{USER}:{PASSWORD.replace(' ', '%20')}@")))
+    page.waits_for("you are signed in now")
+    page.driver.close()
+    page.driver.switch_to.window(first)
+    page.waits_for("Unpaid bonds of customer 9", "#sheet")
+    right(True, "and is asked again after the sign-in")
+    for fault, words in (("other page", "a page of something else did (status 200), as for signing in"), ("redirect", "the request was redirected, as to a page for signing in")):
+        page.show_sheet(9)
+        page.choose("L9EE" if fault == "other page" else "K9EE")
+        bank.gate.faults = [fault] * 2
+        page.pay()
+        page.waits_for(words, "#progress")
+        right(page.find("#sign-in").is_displayed(), f"{fault}: named, with a button")
+        page.settled()
+    page.quit()
+
+
+def name_and_sign_out(bank):
+    """The teller's name comes from the proxy. Signing out has the browser drop the password; it isn't offered while a request is open."""
+    page = joined(bank)
+    page.waits_for(f"Teller {USER}", "#user")
+    right(True, "the head has the name of the user")
+    page.show_sheet(7)
+    page.choose("L7EE")
+    bank.gate.faults = ["lost request"] * 3
+    page.pay()
+    page.waits_for("no reply yet", "#progress")
+    page.press("#sign-out")
+    page.waits_for("A request has no reply yet. Sign out once its reply is there.", "#notices")
+    is_paid_on(page, 1, VALUES["L"])
+    page.settled()
+    statuses = "return (await fetch('/teller/icon.svg', { cache: 'no-store', signal: AbortSignal.timeout(5000) }).catch(() => ({ status: 0 }))).status"
+    right(page.run_module(statuses) == 200, "control: before, the browser sends the password")
+    page.press("#sign-out")
+    page.sleep(2)
+    asked_anew(bank, page)
+    page.quit()
+    asked = bank.nginx.ask("GET", "/user")
+    right(asked[0] == 401 and "anna" not in asked[2], "nobody's name is given without a password")
+
+
+def asked_anew(bank, page):
+    """In a tab of its own the page is asked for again: the browser sends no password. Its own box stands over the tabs, which no test can see."""
+    log = bank.nginx.folder / "log" / "access.log"
+    before = len(log.read_text().splitlines())
+    page.driver.switch_to.new_window("tab")
+    page.driver.set_page_load_timeout(5)
+    try:
+        page.driver.get(page.address(""))
+    except WebDriverException:
+        pass
+    lines = [line for line in log.read_text().splitlines()[before:] if '"GET /teller/ HTTP' in line]
+    right(len(lines) >= 1 and all(" - - [" in line and '" 401 ' in line for line in lines), "after it the browser sends no password, and gets no page", lines)
+
+
+def chosen_twice(bank):
+    """A bond is chosen once, however it is chosen: on the sheet, added, added again while the first look-up is under way, and on the sheet that comes later."""
+    page = joined(bank, owners=(7, 9))
+    page.show_sheet(7)
+    page.choose("L7EE")
+    page.ask_to_add(7, "l-7-ee")
+    page.waits_for("Bond L7EE is already chosen.", "#notices")
+    page.add(9, "K9EE")
+    hold = threading.Event()
+    bank.gate.changed = lambda path, text: hold.wait(20) and text
+    page.ask_to_add(9, "L9EE")
+    page.press("#add-bond button")
+    page.ask_to_add(7, "K7EE")
+    page.choose("K7EE")
+    hold.set()
+    bank.gate.changed = None
+    page.until(lambda: page.find("#serial").get_attribute("value") == "", "the bond is added")
+    page.sleep(1)
+    page.shows_sum(3, dollars(VALUES["L"] + 2 * VALUES["K"]), "February 2012")
+    told = page.ask_to_pay(8)
+    items = [item.text.split(":")[0] for item in page.all("#confirm li")]
+    right(sorted(items) == ["K7EE", "K9EE", "L7EE"], "each bond is in the question once", told)
+    page.press("#confirm-no")
+    right(page.find("#others").text.count("K7EE") == 0 and page.find("#others").text.count("K9EE:") + page.find("#others").text.count("K9EE, owner") == 1, "and in one place of the page", page.find("#others").text)
+    page.show_sheet(9)
+    page.choose("K9EE")
+    page.shows_sum(1, dollars(VALUES["K"]), "February 2012")
+    page.pay(8)
+    is_paid_on(page, 1, VALUES["K"])
+    page.quit()
+    right([json.loads(body)["serials"] for body in bank.gate.bodies] == [["K9EE"]], "one bond was sent, once")
+
+
+def silent_look_up(bank):
+    """A look-up without an answer can be ended, and leaves the sheet that is shown, with what is chosen on it. One that was overtaken wipes nothing."""
+    page = joined(bank, owners=(7, 9, 11))
+    page.show_sheet(7)
+    page.choose("L7EE", "K7EE")
+    hold = threading.Event()
+    bank.gate.changed = lambda path, text: (hold.wait(60) and text) if path.startswith("/inventory/9/") else text
+    page.show_sheet_begun(9)
+    page.until(lambda: page.find("#asking").is_displayed(), "the page says that it asks")
+    right("Unpaid bonds of customer 7" in page.find("#sheet").text, "the sheet stays while another is asked for")
+    page.press("#stop-asking")
+    page.until(lambda: not page.find("#asking").is_displayed(), "the look-up is ended")
+    page.shows_sum(2, dollars(VALUES["L"] + VALUES["K"]), "February 2012")
+    right("Unpaid bonds of customer 7" in page.find("#sheet").text and page.find("#payee").get_attribute("value") == "7", "ended, it leaves the sheet, what is chosen and the payee")
+    page.show_sheet_begun(9)
+    page.until(lambda: page.find("#asking").is_displayed(), "the page asks again")
+    page.show_sheet(11)
+    page.choose("L11EE")
+    hold.set()
+    page.sleep(2)
+    page.shows_sum(1, dollars(VALUES["L"]), "February 2012")
+    right("Unpaid bonds of customer 11" in page.find("#sheet").text, "one that was overtaken wipes nothing, as its answer comes")
+    bank.gate.changed = None
+    page.show_sheet(9)
+    right(True, "control: without the silence the sheet comes")
+    page.quit()
+
+
+def loads(bank):
+    """How often the browser asked for the page itself."""
+    return (bank.nginx.folder / "log" / "access.log").read_text().count('"GET /teller/ HTTP')
+
+
+def old_browser(bank):
+    """A browser that lacks what the page needs, and a file that can't be read, get one sentence and no reload."""
+    index = (bank.teller / "index.html").read_text()
+    (bank.teller / "lacking.js").write_text("delete AbortSignal.any;\n")
+    (bank.teller / "index.html").write_text(index.replace('<script src="old.js"', '<script src="lacking.js"></script>\n<script src="old.js"'))
+    page = Page(bank)
+    page.waits_for("This browser is too old for this page: use one of 2024 or later.")
+    stays(bank, page, "a browser that is too old")
+    (bank.teller / "index.html").write_text(index)
+    sheet = (bank.teller / "sheet.js").read_text()
+    (bank.teller / "sheet.js").write_text(sheet[: len(sheet) // 2])
+    page.reload()
+    page.waits_for("A file of this page can't be read")
+    stays(bank, page, "a file that is cut")
+    (bank.teller / "sheet.js").unlink()
+    before = loads(bank)
+    page.reload()
+    page.waits_for("The page didn't load completely. It tries again by itself.")
+    page.sleep(12)
+    times = loads(bank) - before
+    right(times == 3, "control: without a file it is loaded again, after 3 seconds and after 6 more", times)
+    (bank.teller / "sheet.js").write_text(sheet)
+    page.waits_for("Choose a desk")
+    right(True, "and works as soon as the file is there")
+    page.quit()
+
+
+def stays(bank, page, what):
+    before = loads(bank)
+    page.sleep(8)
+    seen = [text for text in page.find("main").text.splitlines() if text.strip()]
+    right(loads(bank) == before and len(seen) == 1, f"{what}: one sentence, and no reload", seen)

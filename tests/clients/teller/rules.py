@@ -1,0 +1,102 @@
+"""Rules of accessibility, each asked of what is shown, and for each a change of the page that breaks it: the control that the rule can fail. No package of Debian's has a checker for pages."""
+
+#: What the rules share: what is shown, its names and colors.
+HELPERS = """
+    const all = (selector) => [...document.querySelectorAll(selector)];
+    const shown = (e) => e.checkVisibility({ visibilityProperty: true }) && e.closest(".unseen") === null;
+    const brief = (e) => e.outerHTML.slice(0, 120);
+    const parts = (text) => text.match(/[0-9.]+/g).map(Number);
+    const straight = (c) => (c <= 0.04045 ? c / 12.92 : ((c + 0.055) / 1.055) ** 2.4);
+    const light = (text) => {
+        const [r, g, b] = parts(text).map((c) => straight(c / 255));
+        return 0.2126 * r + 0.7152 * g + 0.0722 * b;
+    };
+    const ground = (e) => {
+        for (let at = e; at !== null; at = at.parentElement) {
+            const color = getComputedStyle(at).backgroundColor;
+            if (parts(color)[3] !== 0) return color;
+        }
+        return "rgb(255, 255, 255)";
+    };
+    const has_text = (e) => [...e.childNodes].some((n) => n.nodeType === 3 && n.data.trim() !== "") || e.matches("input");
+    const contrast = (e) => {
+        const [more, less] = [light(getComputedStyle(e).color), light(ground(e))].sort((x, y) => y - x);
+        return (more + 0.05) / (less + 0.05);
+    };
+    const references = (e) => ["aria-labelledby", "aria-describedby"].flatMap((name) => (e.getAttribute(name) ?? "").split(" ").filter((id) => id !== ""));
+    const target = (e) => (e.closest("tr.choosable, tr.barred") ?? e).getBoundingClientRect();
+    const in_text = (e) => e.matches("a:not(.button)") && getComputedStyle(e).display === "inline";
+    const levels = all("h1, h2, h3, h4").filter(shown).map((e) => Number(e.tagName[1]));
+"""
+#: By rule: an expression whose list has what breaks it.
+RULES = {
+    "each field has a label": 'all("input").filter(shown).filter((e) => e.labels.length === 0 && !e.hasAttribute("aria-label")).map(brief)',
+    "each button and link has a text": 'all("button, a[href]").filter(shown).filter((e) => e.textContent.trim() === "").map(brief)',
+    "there is one heading of the first level": "levels.filter((level) => level === 1).length === 1 ? [] : levels",
+    "no level of headings is left out": "levels.filter((level, at) => level - (levels[at - 1] ?? 0) > 1)",
+    "nothing stands out of the order of tabs": 'all("[tabindex]").filter((e) => e.tabIndex > 0).map(brief)',
+    "no name of an element comes twice": 'all("[id]").map((e) => e.id).filter((id, at, ids) => ids.indexOf(id) !== at)',
+    "the page names its language and its title": 'document.documentElement.lang === "en" && document.title.length > 3 ? [] : ["lang or title"]',
+    "what describes an element is there": 'all("*").flatMap((e) => references(e).filter((id) => document.getElementById(id) === null))',
+    "each text has a contrast of 4.5 to 1": 'all("body *").filter(shown).filter(has_text).filter((e) => contrast(e) < 4.5).map(brief)',
+    "each heading of a table says of what": 'all("th").filter((e) => !["col", "row"].includes(e.scope)).map(brief)',
+    "each table has a caption": 'all("table").filter(shown).filter((e) => e.caption === null || e.caption.textContent === "").map(brief)',
+    "there is one live region": 'all("[aria-live], [role=status], [role=alert], [role=log], output").length === 1 ? [] : ["live regions"]',
+    "banner, main and a named navigation": '["header", "main"].filter((name) => all(name).length !== 1).concat(all("nav").filter((e) => !e.getAttribute("aria-label")).map(brief))',
+    "a dialog has a name and a description": 'all("dialog").filter((e) => references(e).length < 2).map(brief)',
+    "a field that is marked is described": 'all("[aria-invalid=true]").filter((e) => !(e.getAttribute("aria-describedby") ?? "").includes(e.id + "-error")).map(brief)',
+    "what can be pressed is 44 pixels high and 44 wide": 'all("button, input, a[href], label input").filter(shown).filter((e) => !in_text(e)).filter((e) => target(e).height < 43.5 || target(e).width < 43.5).map(brief)',
+    "nothing goes over the edge": 'document.documentElement.scrollWidth <= innerWidth ? [] : [document.documentElement.scrollWidth + " of " + innerWidth]',
+    "no text is cut": 'all("body *").filter(shown).filter((e) => has_text(e) && !e.matches("input") && getComputedStyle(e).overflowX !== "visible" && e.scrollWidth > e.clientWidth + 1).map(brief)',
+}
+#: By rule: what breaks it, for the control. Each is undone by loading the page again.
+BREAKS = {
+    "each field has a label": "all('label').filter(shown)[0].remove()",
+    "each button and link has a text": "all('button').filter(shown)[0].textContent = ''",
+    "there is one heading of the first level": "all('section:not([hidden])')[0].append(document.createElement('h1'))",
+    "no level of headings is left out": "all('section:not([hidden])')[0].append(document.createElement('h4'))",
+    "nothing stands out of the order of tabs": "all('button')[0].tabIndex = 3",
+    "no name of an element comes twice": "document.body.append(Object.assign(document.createElement('p'), { id: 'main' }))",
+    "the page names its language and its title": "document.documentElement.lang = ''",
+    "what describes an element is there": "all('button')[0].setAttribute('aria-describedby', 'nowhere')",
+    "each text has a contrast of 4.5 to 1": "all('h1').filter(shown)[0].style.color = '#999999'",
+    "each heading of a table says of what": "document.body.append(document.createElement('th'))",
+    "each table has a caption": "all('section:not([hidden])')[0].append(document.createElement('table'))",
+    "there is one live region": "all('h1')[0].setAttribute('aria-live', 'polite')",
+    "banner, main and a named navigation": "all('nav')[0].removeAttribute('aria-label')",
+    "a dialog has a name and a description": "all('dialog')[0].removeAttribute('aria-describedby')",
+    "a field that is marked is described": "all('input')[0].setAttribute('aria-invalid', 'true')",
+    "what can be pressed is 44 pixels high and 44 wide": "all('button').filter(shown)[0].style.cssText = 'min-height: 0; height: 30px; padding: 0'",
+    "nothing goes over the edge": "all('h1').filter(shown)[0].style.cssText = 'width: 120vw'",
+    "no text is cut": "all('h1').filter(shown)[0].style.cssText = 'width: 1em; overflow: hidden; white-space: nowrap'",
+}
+
+
+def broken(page):
+    """What breaks a rule, by rule."""
+    script = HELPERS + "return {" + ", ".join(f"{name!r}: {rule}" for name, rule in RULES.items()) + "};"
+    return {name: found for name, found in page.run(script).items() if found}
+
+
+def checked(page, where):
+    found = broken(page)
+    if found:
+        raise SystemExit(f"WRONG: {where}: {found}")
+
+
+def controls(page):
+    """Each rule, broken on purpose; the rules that don't notice."""
+    blind = []
+    for name, script in BREAKS.items():
+        page.reload()
+        page.until(lambda: page.find("nav").is_displayed(), "the page has started")
+        page.run(HELPERS + script)
+        if name not in broken(page):
+            blind.append(name)
+    page.reload()
+    page.until(lambda: page.find("nav").is_displayed(), "the page has started")
+    return blind
+
+
+def least_contrast(page):
+    return page.run(HELPERS + "return Math.min(...all('body *').filter(shown).filter(has_text).map(contrast));")
