@@ -6,12 +6,13 @@ import { Unanswered } from "./latest.js";
 import { unansweredLine } from "./notices.js";
 import { LOOKUPS } from "./words.js";
 
-// What is being loaded into each place.
+// What is being loaded into each place: what ends it, and the line that says so.
 const loading = new Map();
 
 // Ends what is being loaded into a place.
 export function stopLoading(place) {
-  loading.get(place)?.abort();
+  loading.get(place)?.control.abort();
+  loading.get(place)?.line.remove();
   loading.delete(place);
 }
 
@@ -20,8 +21,8 @@ export function stopLoading(place) {
 export async function load(place, work) {
   stopLoading(place);
   const control = new AbortController();
-  loading.set(place, control);
   const line = element("p", { class: "help" }, LOOKUPS.reading);
+  loading.set(place, { control, line });
   if (place.childElementCount === 0) place.replaceChildren(line);
   try {
     const made = await work(control.signal, (text) => (line.textContent = text));
@@ -29,12 +30,16 @@ export async function load(place, work) {
   } catch (error) {
     if (control.signal.aborted) return;
     if (!(error instanceof Unanswered)) throw error;
-    const again = button(LOOKUPS.try_again, () => {
-      place.replaceChildren();
-      return load(place, work);
-    });
-    place.replaceChildren(...unansweredLine(error.answer), element("p", { class: "buttons" }, again));
+    place.replaceChildren(...unansweredLine(error.answer), tryAgain(place, work));
   }
+}
+
+function tryAgain(place, work) {
+  const again = button(LOOKUPS.try_again, () => {
+    place.replaceChildren();
+    return load(place, work);
+  });
+  return element("p", { class: "buttons" }, again);
 }
 
 // A table of a list: each row's cells, of which the first is a button that shows the thing.

@@ -23,6 +23,7 @@ class Page {
   #journal;
   #sender;
   #look_up = null;
+  #last_user = null;
   user = null;
 
   constructor(journal) {
@@ -63,14 +64,15 @@ class Page {
     followDay(this);
   }
 
-  // Shows who is signed in. What was shown for another user goes.
+  // Shows who is signed in, or nobody if the proxy doesn't say. What was shown for another user goes.
   showUser(name) {
-    if (this.user !== null && name !== this.user) {
+    if (name !== null && this.#last_user !== null && name !== this.#last_user) {
       clearPay();
       clearLookUps();
       forgetTickets();
     }
     this.user = name;
+    this.#last_user = name ?? this.#last_user;
     show(byId("user"), name !== null);
     byId("user-name").textContent = name === null ? "" : HEAD.user(name);
   }
@@ -105,11 +107,13 @@ class Page {
     };
     const look_up = { stop, again: null };
     this.#look_up = look_up;
-    const answer = await this.#askedUntilSignedIn(ask, control.signal, told.say, look_up);
-    if (control.signal.aborted) return new Promise(() => {});
-    this.#look_up = null;
-    told.end();
-    return answer;
+    try {
+      const answer = await this.#askedUntilSignedIn(ask, control.signal, told.say, look_up);
+      if (!control.signal.aborted) return answer;
+    } finally {
+      if (this.#look_up === look_up) this.#stopLookUp();
+    }
+    return new Promise(() => {});
   }
 
   async #askedUntilSignedIn(ask, signal, say, look_up) {
@@ -229,10 +233,12 @@ function chosenDesk(journal) {
   });
 }
 
-// In a tab that has to wait for another one, the user has signed in all the same.
-function waiting(user) {
+// In a tab that has to wait for another one, the user has signed in all the same: it says so once the other one knows.
+async function waiting(user) {
   showOther("waiting");
-  user.then(tellSignedIn);
+  await user;
+  tellSignedIn();
+  show(byId("signed-in"), true);
 }
 
 async function start() {

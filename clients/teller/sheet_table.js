@@ -83,7 +83,7 @@ function legend(sheet) {
   const notes = Object.keys(SHEET.notes).filter((note) => sheet.rows.some((row) => row.note === note));
   if (notes.length === 0) return [];
   const lines = notes.flatMap((note) => [element("dt", {}, badge(note)), element("dd", {}, SHEET.notes[note])]);
-  return [element("dl", { class: "legend", "aria-label": SHEET.legend }, ...lines)];
+  return [element("div", { role: "group", "aria-label": SHEET.legend }, element("dl", { class: "legend" }, ...lines))];
 }
 
 // The sheet, with the box that `boxOf` makes for each row. If it is wider than the window, the keyboard moves it too.

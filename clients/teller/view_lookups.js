@@ -4,7 +4,7 @@ import { byId } from "./elements.js";
 import { button, onSubmit, readFields } from "./forms.js";
 import { latestBatches, lastTicket, remember, ticketsDown, ticketsOf } from "./latest.js";
 import { listTable, load, stopLoading } from "./lists.js";
-import { notice, unansweredLine } from "./notices.js";
+import { notice } from "./notices.js";
 import { batchPaper, ticketPaper } from "./papers.js";
 import { askBatch, askTicket, isMissing } from "./queries.js";
 import { readDay, readTicketNumber } from "./spelling.js";

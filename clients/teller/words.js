@@ -180,9 +180,7 @@ export const DAY = {
   last: (ticket) => `Show the last ticket of this page, ticket ${ticket}`,
   sums,
   all_sum: (tally, moment) => `${sums(tally)}, counted on ${timeInWords(moment)}`,
-  not_counted: "not counted yet",
   counting: (done) => `Counting the tickets: ${numberInWords(done)} so far.`,
-  not_answered: "The counter didn't answer.",
   desk_tickets: "Tickets of this desk",
   open_title: (day) => `Open ${dayInWords(day)}?`,
   open_line: (day, closed, usual_days) => `${weekdayInWords(day)}: ${distance(day, closed, usual_days)}`,
@@ -302,7 +300,6 @@ export const PAPER = {
   branch: "Branch",
   desk: "Desk",
   teller: "Teller",
-  printed_by: "Printed by",
   time: "Time of payment",
   printed: "Printed",
   request: "Request",
@@ -473,8 +470,8 @@ const WHY = {
 };
 
 const UNSTORED = {
-  quota: ["This browser has no room left to store the request.", "Make room on this machine's disk."],
-  other: ["This browser couldn't store the request.", "If this continues, reload the page."],
+  quota: ["This browser has no room left for the journal of this page.", "Make room on this machine's disk."],
+  other: ["This browser couldn't write the journal of this page.", "If this continues, reload the page."],
 };
 
 const other = (answer) => ({

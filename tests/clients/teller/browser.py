@@ -30,8 +30,9 @@ class Page:
         self.log_in()
 
     def resize(self, width, height):
+        """Firefox zooms in steps, so its narrow windows are up to three pixels narrower."""
         self.engine.resize(width, height)
-        self.until(lambda: self.run("return innerWidth") == width, f"the window is {width} wide, and not {self.run('return innerWidth')}")
+        self.until(lambda: width - 3 <= self.run("return innerWidth") <= width, f"the window is {width} wide, and not {self.run('return innerWidth')}")
 
     def log_in(self):
         credentials = f"{USER}:{PASSWORD.replace(' ', '%20')}@"

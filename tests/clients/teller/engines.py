@@ -5,6 +5,7 @@ import signal
 import subprocess
 
 from selenium import webdriver
+from selenium.common.exceptions import NoAlertPresentException
 from selenium.webdriver.chrome.service import Service
 
 from marionette import Firefox as FirefoxProcess
@@ -36,6 +37,9 @@ class Chromium:
 
     def complaints(self):
         return [entry["message"] for entry in self.driver.get_log("browser") if "Failed to load resource" not in entry["message"]]
+
+    def leave_box(self):
+        """Without a screen Chromium shows nobody its box for a password, and no test can press its buttons."""
 
     def kill(self):
         """All processes of that browser, by the folder of its profile."""
@@ -87,6 +91,13 @@ class Firefox:
 
     def complaints(self):
         return self.process.run_inside(COMPLAINTS)
+
+    def leave_box(self):
+        """Presses Cancel in the browser's own box for a password, if it is there."""
+        try:
+            self.driver.switch_to.alert.dismiss()
+        except NoAlertPresentException:
+            pass
 
     def kill(self):
         os.killpg(self.process.process.pid, signal.SIGKILL)

@@ -29,7 +29,7 @@ UNHANDLED = """
     addEventListener("unhandledrejection", (event) => window.unhandled.push(String(event.reason)));
     addEventListener("error", (event) => window.unhandled.push(event.message));
 """
-QUOTA = "This browser has no room left to store the request."
+QUOTA = "This browser has no room left for the journal of this page."
 
 
 def storage_fails(bank):
@@ -66,7 +66,7 @@ def failing_after_reply(bank, page):
     page.run(FAILING, 2, 3, "UnknownError")
     page.pay()
     page.waits_for("the reply has come.", "#progress")
-    right("This browser couldn't store the request." in page.find("#progress").text and page.find("#ticket h2").text.startswith("Ticket 2"), "a reply that can't be stored is shown, and the page says that it tries again")
+    right("This browser couldn't write the journal of this page." in page.find("#progress").text and page.find("#ticket h2").text.startswith("Ticket 2"), "a reply that can't be stored is shown, and the page says that it tries again")
     page.settled()
     right(len(bank.gate.bodies) == sent + 1 and page.journal()["last"] == 2, "and it is stored at last, and sent no more")
 
@@ -204,6 +204,10 @@ def name_and_sign_out(bank):
     right(page.run_module(statuses) == 200, "control: before, the browser sends the password")
     page.press("#sign-out")
     page.sleep(2)
+    page.engine.leave_box()
+    if page.browser == "firefox":
+        page.waits_for("You are signed out in this browser.")
+        right(True, "Cancel in the browser's box leads to a page that says so")
     asked_anew(bank, page)
     page.quit()
     asked = bank.nginx.ask("GET", "/user")
@@ -211,7 +215,7 @@ def name_and_sign_out(bank):
 
 
 def asked_anew(bank, page):
-    """In a tab of its own the page is asked for again: the browser sends no password. Its own box stands over the tabs, which no test can see."""
+    """In a tab of its own the page is asked for again: the browser sends no password."""
     log = bank.nginx.folder / "log" / "access.log"
     before = len(log.read_text().splitlines())
     page.driver.switch_to.new_window("tab")

@@ -1,4 +1,5 @@
 """How the page is worked and seen: by the keyboard alone, in a narrow window, by a screen reader's tree, in print, and in pictures."""
+import subprocess
 from pathlib import Path
 
 from selenium.webdriver.common.keys import Keys
@@ -144,7 +145,7 @@ def accessible(bank):
     for width in (1100, 320):
         page.resize(width, 820)
         roles = page.run("return ['table', 'rowgroup', 'row', 'columnheader', 'rowheader', 'cell'].map((role) => document.querySelectorAll(`#sheet [role=${role}]`).length)")
-        right(roles == [1, 3, 5, 11, 4, 40 + 4], f"{width} pixels wide: the sheet is a table with headings for a screen reader", roles)
+        right(roles == [1, 3, 5, 11, 4, 40], f"{width} pixels wide: the sheet is a table with headings for a screen reader", roles)
     right(least >= 4.5, f"the rules hold in each state; the least contrast is {least:.1f} to 1")
     focus_is_seen(page)
     page.quit()
@@ -194,7 +195,7 @@ def focus_is_seen(page):
 
 
 def pictures(bank):
-    """The main views and questions, if --pictures names a folder for them."""
+    """The main views and questions, on a desktop, a tablet and a phone, and a printed ticket of 100 bonds, if --pictures names a folder for them."""
     if bank.pictures is None:
         print("no folder for pictures is named")
         return
@@ -204,34 +205,74 @@ def pictures(bank):
     bank.expect(200, "/bonds", {"desk": 900, "number": 50, "bonds": [*samples_bonds(), TOO_YOUNG, OLDER, UNISSUED]})
     page = Page(bank, size=(960, 900))
     page.choose_desk(5)
+    page.go("pay")
+    kept_picture(page, folder / "no_day.png", 960, 400)
     page.join_day("2012-02-06")
     page.waits_for("The page works on 6 February 2012")
-    kept_picture(page, folder / "day.png", 560)
+    pictures_of_payment(bank, page, folder)
+    pictures_of_day(page, folder)
+    page.quit()
+    picture_of_paper(bank, folder)
+    right(True, f"pictures in {folder}")
+
+
+def pictures_of_payment(bank, page, folder):
     page.show_sheet(7)
     page.choose("K2EE", "L1EE", "M3EE")
     page.run("document.activeElement.blur()")
-    kept_picture(page, folder / "pay.png", 1060)
+    kept_picture(page, folder / "pay.png", 1180, 960)
+    kept_picture(page, folder / "tablet.png", 820, 1100)
+    page.run("document.querySelector('#sheet').scrollIntoView()")
+    kept_picture(page, folder / "phone.png", 360, 740, scrolled=True)
     page.ask_to_pay()
-    kept_picture(page, folder / "confirm.png", 560)
+    kept_picture(page, folder / "confirm.png", 960, 560)
     bank.gate.faults = ["lost answer", "lost request", "lost request", "lost request"]
     page.press("#confirm-yes")
     page.waits_for("sent again in 4 seconds", "#progress")
-    kept_picture(page, folder / "retry.png", 560)
+    kept_picture(page, folder / "retry.png", 960, 560)
     is_paid_on(page, 1, SUM)
-    kept_picture(page, folder / "ticket.png", 840)
+    page.settled()
+    page.until(lambda: page.all("#ticket-list tr") != [], "the latest tickets are listed")
+    kept_picture(page, folder / "ticket.png", 960, 900)
+
+
+def pictures_of_day(page, folder):
+    page.go("day")
+    page.waits_for("1 ticket, 3 bonds", "#all-sum")
+    kept_picture(page, folder / "day.png", 960, 860)
     page.close_day()
-    page.waits_for("Batch of 6 February 2012", "#batch h2")
-    kept_picture(page, folder / "batch.png", 540)
+    page.waits_for("Tickets of 6 February 2012", "#batch")
+    page.until(lambda: page.all("#batch-list tr") != [], "the latest batches are listed")
+    kept_picture(page, folder / "batch.png", 960, 860)
     page.ask_to_open("2121-02-06")
     page.press("#confirm-yes")
     page.until(lambda: page.find("#confirm-yes").text == "Open the day in 2121" and page.find("#confirm-yes").is_enabled(), "it asks again")
-    kept_picture(page, folder / "again.png", 560)
-    right(True, f"pictures in {folder}")
+    kept_picture(page, folder / "again.png", 960, 560)
+
+
+def picture_of_paper(bank, folder):
+    """The first and the last sheet of a ticket of 100 bonds."""
+    bonds = [{"serial": f"S{place}EE", "denom": 50, "issued": "2010-11", "owner": 60} for place in range(1, 101)]
+    bank.expect(200, "/bonds", {"desk": 901, "number": 60, "bonds": bonds})
+    bank.expect(200, "/day/open", {"desk": 901, "number": 61, "day": "2012-02-07"})
+    page = Page(bank, size=(960, 900))
+    page.choose_desk(6)
+    page.join_day("2012-02-07")
+    page.waits_for("The page works on 7 February 2012")
+    page.show_sheet(60)
+    page.press("#choose-all")
+    page.pay()
+    page.waits_for("Ticket 2", "#ticket h2")
+    page.settled()
+    (folder / "paper.pdf").write_bytes(page.engine.pdf(8.5, 11))
+    for number in (1, 4):
+        subprocess.run(["pdftoppm", "-r", "70", "-f", str(number), "-l", str(number), "-singlefile", "-gray", "-png", str(folder / "paper.pdf"), str(folder / f"paper_{number}")], check=True)
     page.quit()
 
 
-def kept_picture(page, path, height):
-    page.resize(960, height)
-    page.run("scrollTo(0, 0)")
+def kept_picture(page, path, width, height, scrolled=False):
+    page.resize(width, height)
+    if not scrolled:
+        page.run("scrollTo(0, 0)")
     page.sleep(0.3)
     page.driver.save_screenshot(str(path))

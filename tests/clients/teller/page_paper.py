@@ -2,6 +2,7 @@
 import json
 import re
 import subprocess
+import unicodedata
 from pathlib import Path
 
 from bank import BANK, BRANCH, USER
@@ -36,7 +37,7 @@ def sheets(page, paper, name="ticket"):
     if page.bank.pictures and name.startswith("kept"):
         kept(path, page)
     text = subprocess.run(["pdftotext", "-layout", str(path), "-"], capture_output=True, text=True, check=True).stdout
-    return text.split("\f")[:-1]
+    return unicodedata.normalize("NFKC", text).split("\f")[:-1]
 
 
 def kept(path, page):

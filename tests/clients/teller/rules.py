@@ -3,7 +3,7 @@
 #: What the rules share: what is shown, its names and colors.
 HELPERS = """
     const all = (selector) => [...document.querySelectorAll(selector)];
-    const shown = (e) => e.checkVisibility({ visibilityProperty: true }) && e.closest(".unseen") === null;
+    const shown = (e) => e.checkVisibility({ visibilityProperty: true }) && e.closest(".unseen") === null && e.getBoundingClientRect().right > 0;
     const brief = (e) => e.outerHTML.slice(0, 120);
     const parts = (text) => text.match(/[0-9.]+/g).map(Number);
     const straight = (c) => (c <= 0.04045 ? c / 12.92 : ((c + 0.055) / 1.055) ** 2.4);
