@@ -72,9 +72,15 @@ class Page:
         text = "const done = arguments[arguments.length - 1]; (async (...given) => {" + script + "})(...arguments).then(done, (error) => done('ERROR ' + error));"
         return self.driver.execute_async_script(text, *arguments)
 
-    def until(self, condition, what, patience=PATIENCE):
+    def until(self, condition, what, patience=PATIENCE, again=None):
+        """With `again`, that button is pressed again if a look-up wasn't answered: the page gives up after some seconds, and a counter that was killed may take longer to come back."""
+        def is_so(_):
+            if again and "The counter didn't answer" in self.find("#notices").text:
+                self.press("#notices .close")
+                self.press(again)
+            return condition()
         try:
-            return WebDriverWait(self.driver, patience, 0.05, [StaleElementReferenceException]).until(lambda _: condition())
+            return WebDriverWait(self.driver, patience, 0.05, [StaleElementReferenceException]).until(is_so)
         except TimeoutException:
             raise AssertionError(f"{what}\n{self.text()}") from None
 
@@ -144,7 +150,7 @@ class Page:
         self.go("day")
         self.type("#open-date", day)
         self.press("#open-day button")
-        self.until(lambda: self.find("#confirm").is_displayed(), "the page asks once more")
+        self.until(lambda: self.find("#confirm").is_displayed(), "the page asks once more", again="#open-day button")
 
     def open_day(self, day):
         self.ask_to_open(day)
@@ -167,7 +173,7 @@ class Page:
         """Up to the page's question, before which it counts the day."""
         self.go("day")
         self.press("#close-day button")
-        self.until(lambda: self.find("#confirm").is_displayed(), "the page asks once more", patience)
+        self.until(lambda: self.find("#confirm").is_displayed(), "the page asks once more", patience, again="#close-day button")
         return self.question()
 
     def close_day(self, patience=PATIENCE):
@@ -185,8 +191,7 @@ class Page:
         self.go("pay")
         self.run("for (const part of document.getElementById('sheet').children) part.classList.add('earlier-sheet')")
         self.show_sheet_begun(customer, month)
-        self.until(lambda: self.all("#sheet .earlier-sheet") == [], "another sheet is shown")
-        self.waits_for(f"ustomer {customer} ", "#sheet")
+        self.until(lambda: self.all("#sheet .earlier-sheet") == [] and any(f"ustomer {customer} " in part.text for part in self.all("#sheet")), "the sheet", again="#ask-sheet button")
 
     def question(self):
         return self.find("#confirm-title").text + "\n" + self.find("#confirm-text").text

@@ -108,6 +108,14 @@ def unanswered(bank, page):
     bank.gate.changed = None
 
 
+#: When the button that confirms began to rest, and when it ended.
+RESTS = """
+    window.rests = [];
+    const button = document.getElementById("confirm-yes");
+    new MutationObserver(() => window.rests.push([button.disabled, performance.now()])).observe(button, { attributeFilter: ["disabled"] });
+"""
+
+
 def wrong_year(bank):
     """A year mistyped: the page asks again, and Back leaves the books as they are. Confirmed twice, it does open."""
     begin(bank, [7])
@@ -116,11 +124,14 @@ def wrong_year(bank):
     page.choose_desk(5)
     page.ask_to_open("2121-02-06")
     right("Thursday, 6 February 2121: no closed day was found in the 7 days before it." in question(page), "the page says that a day is far off", question(page))
+    page.run(RESTS)
     page.press("#confirm-yes")
     page.until(lambda: "Is the year 2121 right?" in question(page), "it asks again")
     wanted = ("values in February 2121", "no earlier day can ever be opened again", "mistyped, choose Back")
     right(all(words in question(page) for words in wanted), "it asks again, names the year, and says what follows", question(page))
-    right(not page.find("#confirm-yes").is_enabled(), "a second click of a double one confirms nothing")
+    page.until(lambda: len(page.run("return window.rests")) == 2, "the button has rested")
+    (rests, first), (works, last) = page.run("return window.rests")
+    right((rests, works) == (True, False) and last - first > 900, f"a second click of a double one confirms nothing: the button rests for {last - first:.0f} milliseconds")
     right(page.run("return document.activeElement.id") == "confirm-no", "the keyboard is on Back")
     page.press("#confirm-no")
     page.sleep(1.5)
