@@ -17,7 +17,7 @@ sys.path.insert(0, str(TOP / "tests" / "shared"))
 
 from nginx_sample import PAGE, Nginx, free_port  # noqa: E402
 
-USER, PASSWORD = "anna", "a password of the test"
+USER, PASSWORD = "nora", "a password of the test"
 BANK, BRANCH = "First Bank of Testing", "Main Street"
 
 

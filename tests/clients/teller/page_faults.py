@@ -211,7 +211,7 @@ def name_and_sign_out(bank):
     asked_anew(bank, page)
     page.quit()
     asked = bank.nginx.ask("GET", "/user")
-    right(asked[0] == 401 and "anna" not in asked[2], "nobody's name is given without a password")
+    right(asked[0] == 401 and USER not in asked[2], "nobody's name is given without a password")
 
 
 def asked_anew(bank, page):

@@ -230,7 +230,7 @@ def outside(text):
     """What stands outside the brackets, and is no number, serial number, badge, or name of the user."""
     while (shorter := re.sub("\u27e6[^\u27e6\u27e7]*\u27e7", "", text)) != text:
         text = shorter
-    text = re.sub(r"\b(?:[A-Z]\d+EE|P5|NE|NI|MA|anna|First Bank of Testing|Main Street|[0-9a-f]{32})\b", "", text)
+    text = re.sub(r"\b(?:[A-Z]\d+EE|P5|NE|NI|MA|nora|First Bank of Testing|Main Street|[0-9a-f]{32})\b", "", text)
     return re.search(r"[A-Za-z]{2,}", text)
 
 
