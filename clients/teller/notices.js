@@ -165,12 +165,13 @@ export function tellStep(step) {
   announce(byId("progress-text").textContent);
   show(byId("progress-bar"), is_pausing && step.milliseconds !== null);
   show(byId("send-now"), is_pausing);
-  show(byId("sign-in"), is_pausing && needsSignIn(step.answer));
   clearInterval(countdown);
-  if (is_pausing) tellPause(step.milliseconds);
+  if (is_pausing) tellPause(step);
 }
 
-function tellPause(milliseconds) {
+// The way to sign in stays while the request is sent again, so that it doesn't vanish as it is pressed.
+function tellPause({ answer, milliseconds }) {
+  show(byId("sign-in"), needsSignIn(answer));
   if (milliseconds !== null) countDown(milliseconds);
   byId("told").scrollTop = 0;
   if (!has_taken_focus) takeFocus(byId("progress-text"));

@@ -178,10 +178,11 @@ def signed_out_while_looking(bank):
     for fault, words in (("other page", "a page of something else did (status 200), as for signing in"), ("redirect", "the request was redirected, as to a page for signing in")):
         page.show_sheet(9)
         page.choose("L9EE" if fault == "other page" else "K9EE")
-        bank.gate.faults = [fault] * 2
+        bank.gate.faults = [fault] * 4
         page.pay()
         page.waits_for(words, "#progress")
-        right(page.find("#sign-in").is_displayed(), f"{fault}: named, with a button")
+        page.until(lambda: page.find("#sign-in").is_displayed(), "the way to sign in")
+        right(True, f"{fault}: named, with a button")
         page.settled()
     page.quit()
 
