@@ -82,6 +82,8 @@ class Firefox:
         self.process.run_inside("gBrowser.selectedBrowser.fullZoom = arguments[0];", zoom)
         outer = self.driver.execute_script("return outerHeight - innerHeight * devicePixelRatio") if zoom == 1 else 86
         self.driver.set_window_size(round(width * zoom), round(height * zoom + outer))
+        # The page has the keyboard again, after what was done beside it.
+        self.driver.switch_to.window(self.driver.current_window_handle)
 
     def media(self, name):
         self.process.run_inside("gBrowser.selectedBrowser.browsingContext.mediumOverride = arguments[0];", name)

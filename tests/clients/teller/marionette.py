@@ -96,6 +96,11 @@ class Marionette:
             return error, result
 
 
+class Server(http.server.ThreadingHTTPServer):
+    def handle_error(self, request, client_address):
+        """Selenium that has given up a command is told nothing."""
+
+
 class Firefox:
     """Debian's firefox-esr with a profile, and the server that selenium speaks to at `address`."""
 
@@ -109,7 +114,7 @@ class Firefox:
         words = ["firefox-esr", "--headless", "--marionette", "--remote-allow-system-access", "--no-remote", "--profile", str(profile)]
         self.process = subprocess.Popen(words, stdout=subprocess.DEVNULL, stderr=subprocess.DEVNULL, start_new_session=True)
         self.marionette = Marionette(self.port_of(active))
-        self.server = http.server.ThreadingHTTPServer(("127.0.0.1", 0), self.handler())
+        self.server = Server(("127.0.0.1", 0), self.handler())
         self.address = f"http://127.0.0.1:{self.server.server_address[1]}"
         threading.Thread(target=self.server.serve_forever, daemon=True).start()
 

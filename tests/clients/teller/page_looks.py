@@ -94,9 +94,9 @@ def cards(page):
     """Beside its box, a card begins with serial number and value; it is tapped anywhere."""
     right(set(page.run(FIRST)) == {"of-box", "of-serial", "of-value"}, "a card begins with its box, its serial number and its value", page.run(FIRST))
     for serial, is_chosen in (("K7EE", True), ("N7EE", False)):
-        card = page.run("return document.querySelector(`input[data-serial='${arguments[0]}']`).closest('tr')", serial)
-        page.run("arguments[0].scrollIntoView({ block: 'center' })", card)
-        card.click()
+        issued = page.run("return document.querySelector(`input[data-serial='${arguments[0]}']`).closest('tr').querySelector('.of-issued')", serial)
+        page.run("arguments[0].scrollIntoView({ block: 'center' })", issued)
+        issued.click()
         box = page.find(f"input[data-serial='{serial}']")
         right(box.is_selected() == is_chosen, f"{serial}: " + ("the card is tapped as a whole" if is_chosen else "control: the card of a bond that can't be paid chooses nothing"))
     page.shows_sum(2, dollars(VALUES["L"] + VALUES["K"]), "February 2012")
