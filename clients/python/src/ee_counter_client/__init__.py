@@ -1,0 +1,139 @@
+"""A client of the counter of a savings bond paying agent, for scripts and back offices. Each request gets its one reply, whatever is stopped or lost.
+
+    >>> from ee_counter_client import Counter
+    >>> with Counter("desk3.journal", "http://127.0.0.1:8377", desk=3) as counter:
+    ...     counter.open_day("2012-02-06")
+    ...     ticket = counter.redeem("2012-02-06", 7, ["L1EE", "K2EE"])
+    ...     print(ticket.number, ticket.total)
+    1 63.23
+
+A journal is a file that holds a desk's number and the numbers of its requests. A request is on the disk, with its number, before it is sent. It is sent again
+under that number until its reply has come: after a lost connection, a timeout, an answer 503, too many requests (429), or a restart of the script. So a
+journal belongs to one desk, a desk has one journal, and one process at a time uses it.
+
+After a stop, the same call sends the open request again, under its own number. Any other call raises StillOpen; `finish` sends what is open, and `abandon` gives
+it up. A `bookmark` is a value of the script's own, kept in the journal in one step with the reply. A `key` is a name of the caller's own for a request, such as
+invoice-4711: the same call with the same key returns the same reply, also in a later run.
+
+Errors are a tree (ee_counter_client.errors): BadCall, WrongSetup, Retryable, UnknownOutcome and Refused. The package logs to "ee_counter_client". It needs the standard
+library only, and a system with flock. `python3 -m ee_counter_client --help` lists the commands. Money is in dollars, as Decimal.
+"""
+from .counter import Counter
+from .errors import (
+    AlreadyPaid,
+    BadArchive,
+    BadCall,
+    BadFile,
+    BadJournal,
+    BadValue,
+    Busy,
+    Closed,
+    CounterError,
+    DayFull,
+    DayIsOther,
+    DayNotLater,
+    DayOpen,
+    Empty,
+    Fault,
+    FileFailed,
+    Forbidden,
+    ForeignAnswer,
+    JournalInUse,
+    KeyReused,
+    NoAnswer,
+    NoOpenDay,
+    NoRate,
+    NoReply,
+    NotAnnouncementMonth,
+    NotEligible,
+    NotIssued,
+    NotPayee,
+    NotReady,
+    RateConflict,
+    RateUnsettled,
+    Refused,
+    Repeated,
+    Retryable,
+    SameCoowner,
+    SerialConflict,
+    SignInRefused,
+    StillOpen,
+    TooMany,
+    UnknownHost,
+    UnknownOutcome,
+    UnknownSerial,
+    UntrustedCertificate,
+    WrongSetup,
+)
+from .files import Registered, bonds_in, rates_in, register
+from .pool import Pool
+from .results import Abandoned, Added, Batch, Finished, Line, Opened, Request, Row, Sheet, Ticket
+from .spelling import Bond, Month, Rates
+from .version import __version__
+
+__all__ = [
+    "Abandoned",
+    "Added",
+    "AlreadyPaid",
+    "BadArchive",
+    "BadCall",
+    "BadFile",
+    "BadJournal",
+    "BadValue",
+    "Batch",
+    "Bond",
+    "Busy",
+    "Closed",
+    "Counter",
+    "CounterError",
+    "DayFull",
+    "DayIsOther",
+    "DayNotLater",
+    "DayOpen",
+    "Empty",
+    "Fault",
+    "FileFailed",
+    "Finished",
+    "Forbidden",
+    "ForeignAnswer",
+    "JournalInUse",
+    "KeyReused",
+    "Line",
+    "Month",
+    "NoAnswer",
+    "NoOpenDay",
+    "NoRate",
+    "NoReply",
+    "NotAnnouncementMonth",
+    "NotEligible",
+    "NotIssued",
+    "NotPayee",
+    "NotReady",
+    "Opened",
+    "Pool",
+    "RateConflict",
+    "RateUnsettled",
+    "Rates",
+    "Refused",
+    "Registered",
+    "Repeated",
+    "Request",
+    "Retryable",
+    "Row",
+    "SameCoowner",
+    "SerialConflict",
+    "Sheet",
+    "SignInRefused",
+    "StillOpen",
+    "Ticket",
+    "TooMany",
+    "UnknownHost",
+    "UnknownOutcome",
+    "UnknownSerial",
+    "UntrustedCertificate",
+    "WrongSetup",
+    "__version__",
+    "bonds_in",
+    "rates_in",
+    "register",
+]

@@ -1,0 +1,342 @@
+"""The errors of this package, in one tree.
+
+    CounterError
+      BadCall          the program or its data must be corrected; nothing was changed
+        BadValue, BadFile, KeyReused, Closed, Fault
+      WrongSetup       a person must correct the set-up
+        UnknownHost, UntrustedCertificate, SignInRefused, Forbidden, ForeignAnswer, BadJournal, BadArchive, FileFailed
+      Retryable        nothing was changed; the same call may succeed later
+        NotReady, NoAnswer, JournalInUse, Busy
+      UnknownOutcome   a request may have been done, and has no reply yet
+        NoReply, StillOpen
+      Refused          the counter refused the request; nothing was changed
+        AlreadyPaid, NotPayee, UnknownSerial, .. : one class for each code
+
+Two attributes of each error say the same to a program that doesn't know the class: `retryable`, and `may_be_done`.
+"""
+from __future__ import annotations
+
+from typing import TYPE_CHECKING, Any, Dict, Mapping, Optional, Tuple, Type
+
+if TYPE_CHECKING:
+    from .results import Request
+
+
+class CounterError(Exception):
+    """The base of every error that this package raises."""
+
+    #: Whether the same call may succeed later, without any correction.
+    retryable: bool = False
+    #: Whether a request that this call was to finish may have taken effect. If so, the journal keeps it open.
+    may_be_done: bool = False
+
+
+# ---- the program or its data must be corrected
+
+
+class BadCall(CounterError):
+    """The program or its data must be corrected. Nothing was changed, and the journal keeps nothing of the call."""
+
+
+class BadValue(BadCall, ValueError):
+    """An argument that the counter can't read, or that is over one of its limits. Nothing was sent."""
+
+
+class BadFile(BadCall):
+    """A file that can't be read, or a row of it that is wrong. `row` counts from 1, which is the header. Nothing was sent."""
+
+    def __init__(self, row: int, fault: str) -> None:
+        super().__init__(f"row {row}: {fault}")
+        self.row, self.fault = row, fault
+
+
+class KeyReused(BadCall):
+    """The key belongs to another request of this journal. Nothing was sent."""
+
+    def __init__(self, key: str, number: int) -> None:
+        super().__init__(f"the key {key!r} belongs to request {number}, which asks for something else")
+        self.key, self.number = key, number
+
+
+class Closed(BadCall):
+    """The counter was closed, or belongs to the process that this one was forked from."""
+
+
+class Fault(BadCall):
+    """The counter can't read the request, which was sent once. `code` is from 60 to 69, `name` its name, `field` the field that it names."""
+
+    def __init__(self, answer: Mapping[str, Any]) -> None:
+        self.answer, self.code, self.name, self.field = dict(answer), int(answer["code"]), str(answer["fault"]), answer.get("field")
+        super().__init__(f"{self.name} (code {self.code})" + (f", field {self.field}" if self.field else ""))
+
+
+# ---- a person must correct the set-up
+
+
+class WrongSetup(CounterError):
+    """The address, the certificate, the user or a file is wrong. It is raised before the first good exchange with the counter, at once."""
+
+
+class UnknownHost(WrongSetup):
+    """The host of the address has no known name. No request left this machine."""
+
+
+class UntrustedCertificate(WrongSetup):
+    """The certificate of the server isn't trusted, or is for another name. No request was sent to it."""
+
+
+class SignInRefused(WrongSetup):
+    """A proxy doesn't accept the user and the password (status 401 or 407)."""
+
+
+class Forbidden(WrongSetup):
+    """A proxy says that this user may not make the request (`path`), which was sent once. Nothing was done, and the journal keeps nothing of it."""
+
+    def __init__(self, path: str) -> None:
+        self.path = path
+        super().__init__(f"this user may not do this ({path}); nothing was done")
+
+
+class ForeignAnswer(WrongSetup):
+    """Another program answered in the counter's place, as a sign-in page does. `status` is the HTTP status."""
+
+    def __init__(self, status: int, text: str) -> None:
+        self.status = status
+        super().__init__(text)
+
+
+class BadJournal(WrongSetup):
+    """The file is no journal, another desk's, or has two names."""
+
+
+class BadArchive(WrongSetup):
+    """The archive isn't as it was written."""
+
+
+class FileFailed(WrongSetup):
+    """The journal or the archive can't be read or written, as on a full disk. Its cause is the OSError."""
+
+
+# ---- the same call may succeed later
+
+
+class Retryable(CounterError):
+    """Nothing was changed. The same call may succeed later."""
+
+    retryable = True
+
+
+class NotReady(Retryable):
+    """A proxy answers that the counter behind it doesn't (status 502, 503 or 504), before the first good exchange. This call sent nothing, unless `may_be_done`."""
+
+
+class NoAnswer(Retryable):
+    """`patience` ended before a look-up was answered, or before the counter was reached for the first time. This call changed nothing."""
+
+
+class JournalInUse(Retryable):
+    """Another process, or another Counter of this one, uses the journal or the archive."""
+
+
+class Busy(Retryable):
+    """`patience` ended while another thread used the desk, or while every desk of a pool was in use. Nothing was sent."""
+
+
+# ---- a request may have been done
+
+
+class UnknownOutcome(CounterError):
+    """A request has no reply yet, and may have been done. The journal keeps it open. The same call, or `finish`, sends it again under its number."""
+
+    retryable = True
+    may_be_done = True
+
+    def __init__(self, text: str, request: "Request") -> None:
+        super().__init__(text)
+        #: The open request.
+        self.request = request
+
+
+class NoReply(UnknownOutcome):
+    """`patience` ended before the reply came."""
+
+
+class StillOpen(UnknownOutcome):
+    """An earlier request has no reply yet, so this one wasn't sent. `finish` sends the earlier one again; `abandon` gives it up."""
+
+
+# ---- refusals
+
+
+class Refused(CounterError):
+    """The counter refused the request, and nothing was changed. The refusal is the request's reply for good; a corrected request gets a new number.
+
+    `code` is from 10 to 54, `name` its name, `details` what it names, `reply` the counter's own JSON object. `rows` has the first and last row of the file that was
+    being registered. A code that this version doesn't know is a plain Refused."""
+
+    #: The keys of the reply beside its code and name, with their types.
+    keys: Tuple[Tuple[str, Type[object]], ...] = ()
+
+    def __init__(self, reply: Mapping[str, Any], request: Optional["Request"] = None) -> None:
+        self.reply: Dict[str, Any] = dict(reply)
+        self.code, self.name, self.request = int(reply["code"]), str(reply["refused"]), request
+        self.details = {key: value for key, value in reply.items() if key not in ("code", "refused")}
+        self.rows: Optional[Tuple[int, int]] = None
+        super().__init__(f"{self.name} (code {self.code})" + "".join(f", {key} {value}" for key, value in self.details.items()))
+
+    def __str__(self) -> str:
+        return super().__str__() + (f"; with it rows {self.rows[0]} to {self.rows[1]} of the file" if self.rows else "")
+
+
+class OfSerial(Refused):
+    """A refusal that names the serial number of a bond, as `serial`."""
+
+    keys: Tuple[Tuple[str, Type[object]], ...] = (("serial", str),)
+
+    @property
+    def serial(self) -> Optional[str]:
+        """The serial number as the counter prints it. None if nothing is named, as for `value` of a bond that isn't registered."""
+        serial = self.details.get("serial")
+        return None if serial is None else str(serial)
+
+
+class OfMonth(Refused):
+    """A refusal that names a month of a row of rates, as `month`."""
+
+    keys = (("month", str),)
+
+    @property
+    def month(self) -> str:
+        """The month, YYYY-MM."""
+        return str(self.details["month"])
+
+
+class Empty(Refused):
+    """Code 11: the list has no rows or serial numbers. This package refuses it by BadValue before it is sent."""
+
+
+class TooMany(Refused):
+    """Code 12: more than 500 rows or 100 serial numbers. This package refuses it by BadValue before it is sent."""
+
+
+class Repeated(OfSerial):
+    """Code 13: the serial number stands twice in the request."""
+
+
+class SameCoowner(OfSerial):
+    """Code 14: owner and coowner are one customer."""
+
+
+class NotAnnouncementMonth(OfMonth):
+    """Code 20: rates hold from a May or November."""
+
+
+class RateConflict(OfMonth):
+    """Code 21: that month has other rates already."""
+
+
+class RateUnsettled(Refused):
+    """Code 22: the values under these rates can't be settled to the cent. `age` is the least age, in months."""
+
+    keys = (("month", int),)
+
+    @property
+    def age(self) -> int:
+        """The least age in months at which a value can't be settled."""
+        return int(self.details["month"])
+
+
+class NoRate(OfSerial):
+    """Code 30: no rates are entered for the issue month of the bond."""
+
+
+class SerialConflict(OfSerial):
+    """Code 31: the serial number is registered with other content."""
+
+
+class DayOpen(Refused):
+    """Code 40: a day is open. Close it first."""
+
+
+class DayNotLater(Refused):
+    """Code 41: a day opens once, and days rise."""
+
+
+class NoOpenDay(Refused):
+    """Code 42: no day is open."""
+
+
+class DayIsOther(Refused):
+    """Code 43: another day is open."""
+
+
+class DayFull(Refused):
+    """Code 44: the day has its 1,000 tickets."""
+
+
+class UnknownSerial(OfSerial):
+    """Code 50: the bond isn't registered."""
+
+
+class NotPayee(OfSerial):
+    """Code 51: the payee is neither owner nor coowner of the bond."""
+
+
+class AlreadyPaid(OfSerial):
+    """Code 52: the bond was paid, on `ticket`."""
+
+    keys = (("serial", str), ("ticket", int))
+
+    @property
+    def ticket(self) -> int:
+        """The number of the ticket that paid the bond."""
+        return int(self.details["ticket"])
+
+
+class NotIssued(OfSerial):
+    """Code 53: the bond isn't issued yet in the month of the open day."""
+
+
+class NotEligible(OfSerial):
+    """Code 54: the bond is younger than 12 months."""
+
+
+#: The class of each code.
+REFUSALS: Dict[int, Type[Refused]] = {
+    11: Empty,
+    12: TooMany,
+    13: Repeated,
+    14: SameCoowner,
+    20: NotAnnouncementMonth,
+    21: RateConflict,
+    22: RateUnsettled,
+    30: NoRate,
+    31: SerialConflict,
+    40: DayOpen,
+    41: DayNotLater,
+    42: NoOpenDay,
+    43: DayIsOther,
+    44: DayFull,
+    50: UnknownSerial,
+    51: NotPayee,
+    52: AlreadyPaid,
+    53: NotIssued,
+    54: NotEligible,
+}
+
+
+def refusal_of(reply: Mapping[str, Any], request: Optional["Request"] = None) -> Refused:
+    """Returns the error of a refusal: of its own class, if the code and the name are known."""
+    kind: Type[Refused] = REFUSALS.get(int(reply["code"]), Refused)
+    return kind(reply, request) if kind.__name__ == reply["refused"] else Refused(reply, request)
+
+
+def is_known_shape(reply: Mapping[str, Any]) -> bool:
+    """Whether a refusal names what its code names, each of its type. A code that isn't known may name anything."""
+    kind = REFUSALS.get(reply["code"])
+    if kind is None or kind.__name__ != reply["refused"]:
+        return True
+    named = {key: value for key, value in reply.items() if key not in ("code", "refused")}
+    if kind is NoRate and not named:
+        return True
+    return list(named) == [key for key, _ in kind.keys] and all(type(named[key]) is form for key, form in kind.keys)

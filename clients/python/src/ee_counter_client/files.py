@@ -1,0 +1,116 @@
+"""Files of rates and bonds, and the registration of an inventory of any length."""
+from __future__ import annotations
+
+import csv
+import hashlib
+import logging
+import os
+from typing import Any, Callable, Dict, Iterator, List, NamedTuple, Sequence, Union
+
+from .answers import compact
+from .counter import Counter
+from .errors import BadFile, BadValue, Refused
+from .results import Added
+from .spelling import MOST_ROWS, Json, bond_of, rate_row_of
+
+LOG = logging.getLogger("ee_counter_client")
+Path = Union[str, "os.PathLike[str]"]
+
+
+class Registered(NamedTuple):
+    """What a registration did: how many bonds were new, how many the counter had already, and how many an earlier run had done (`before`)."""
+
+    new: int
+    same: int
+    before: int
+
+
+def records_of(path: Path, headers: Sequence[List[str]]) -> List[List[str]]:
+    """Reads the records of a CSV file, the header first. Each has a field for each column."""
+    try:
+        with open(path, encoding="utf-8-sig", newline="") as file:
+            records = [record for record in csv.reader(file, strict=True) if record]
+    except (csv.Error, ValueError, TypeError, OSError) as fault:
+        raise BadFile(1, f"the file can't be read: {fault}") from None
+    if not records or records[0] not in headers:
+        raise BadFile(1, f"the header isn't {','.join(headers[0])}")
+    for row, record in enumerate(records[1:], 2):
+        if len(record) != len(records[0]):
+            raise BadFile(row, f"it has {len(record)} fields, and not {len(records[0])}")
+    return records
+
+
+def rows_of(path: Path, headers: Sequence[List[str]], read: Callable[[object], Json]) -> List[Json]:
+    """Reads the rows of a CSV file. BadFile names the first that is wrong."""
+    records = records_of(path, headers)
+    rows = []
+    for row, record in enumerate(records[1:], 2):
+        try:
+            rows.append(read(dict(zip(records[0], record))))
+        except BadValue as fault:
+            raise BadFile(row, str(fault)) from None
+    return rows
+
+
+def rates_in(path: Path) -> List[Json]:
+    """Reads a file of rates."""
+    return rows_of(path, [["from", "rate"], ["from", "rate", "extension"]], rate_row_of)
+
+
+def bonds_in(path: Path) -> List[Json]:
+    """Reads the bonds of an inventory, with each serial number once."""
+    bonds = rows_of(path, [["serial", "denom", "issued", "owner", "coowner"]], bond_of)
+    seen: Dict[str, int] = {}
+    for row, bond in enumerate(bonds, 2):
+        if bond["serial"] in seen:
+            raise BadFile(row, f"{bond['serial']} stands in row {seen[bond['serial']]} already")
+        seen[bond["serial"]] = row
+    return bonds
+
+
+def digests(rows: Sequence[Json]) -> Iterator[str]:
+    """Yields the digest of each front of the rows, from none to all."""
+    digest = hashlib.sha256()
+    yield digest.hexdigest()
+    for row in rows:
+        digest.update(compact(row).encode() + b"\n")
+        yield digest.hexdigest()
+
+
+def place_in(marks: Sequence[str], bookmark: Any) -> int:
+    """Counts the rows that were done before, if the file still begins with them."""
+    if not isinstance(bookmark, dict) or set(bookmark) != {"registered", "digest"} or bookmark["registered"] >= len(marks):
+        return 0
+    return int(bookmark["registered"]) if marks[bookmark["registered"]] == bookmark["digest"] else 0
+
+
+def register(counter: Counter, path: Path, progress: Callable[[int, int], None] = lambda done, of: None) -> Registered:
+    """Registers the bonds of an inventory file in requests of 500, and continues where an earlier call was stopped. `progress` is called with the rows that are done,
+    and with all rows. A refusal names the rows of its request (`rows`)."""
+    bonds = bonds_in(path)
+    marks = list(digests(bonds))
+    finish_other(counter, bonds, marks)
+    begun = place = place_in(marks, counter.bookmark)
+    new = same = 0
+    progress(place, len(bonds))
+    while place < len(bonds):
+        end = min(place + MOST_ROWS, len(bonds))
+        try:
+            added: Added = counter.add_bonds(bonds[place:end], bookmark={"registered": end, "digest": marks[end]})
+        except Refused as refusal:
+            refusal.rows = (place + 2, end + 1)
+            raise
+        new, same, place = new + added.new, same + added.same, end
+        progress(place, len(bonds))
+    return Registered(new, same, begun)
+
+
+def finish_other(counter: Counter, bonds: Sequence[Json], marks: Sequence[str]) -> None:
+    """Finishes an open request that isn't the next one of this file, as after the file was changed. What it did counts."""
+    place = place_in(marks, counter.bookmark)
+    request = counter.open_request
+    if request is not None and request.path == "/bonds" and request.fields != {"bonds": list(bonds[place : place + MOST_ROWS])}:
+        try:
+            counter.finish()
+        except Refused as refusal:
+            LOG.warning("the rows that were open before were refused: %s", refusal)

@@ -1,0 +1,222 @@
+"""The way to the counter: one message at a time, each on a connection of its own, within a time that the caller gives."""
+from __future__ import annotations
+
+import base64
+import http.client
+import io
+import queue
+import socket
+import ssl
+import threading
+import time
+import urllib.parse
+from typing import Any, Dict, List, Optional, Tuple, Union, cast
+
+from .answers import Answer, Reader, answer_of, compact
+from .errors import BadValue, UnknownHost, UntrustedCertificate
+from .spelling import Json
+
+#: A header that no page of another origin can send without asking first. The proxy demands it.
+CLIENT = "X-Counter-Client"
+#: More than the longest sheet: a customer with 400,000 bonds.
+MOST_BYTES = 64 << 20
+
+Address = Tuple[int, int, int, str, Any]
+
+
+class Deadline:
+    """A moment until which something may last. Without seconds there is none."""
+
+    def __init__(self, seconds: Optional[float]) -> None:
+        self.seconds = seconds
+        self.end = None if seconds is None else time.monotonic() + seconds
+
+    def left(self) -> Optional[float]:
+        """The seconds that are left, 0 at least. None without an end."""
+        return None if self.end is None else max(0.0, self.end - time.monotonic())
+
+    def is_over(self) -> bool:
+        """Whether no time is left."""
+        return self.left() == 0.0
+
+    def within(self, seconds: float) -> "Deadline":
+        """The nearer one of this moment and the one in so many seconds."""
+        left = self.left()
+        return Deadline(seconds if left is None else min(seconds, left))
+
+    def for_socket(self) -> Optional[float]:
+        """The time limit of a socket's next call. Raises TimeoutError if no time is left."""
+        left = self.left()
+        if left == 0.0:
+            raise TimeoutError("timed out")
+        return left
+
+
+class TimedSocket(io.RawIOBase):
+    """A socket whose calls, all together, end by a deadline: a server that drips a byte a second gets no more time than one that is silent."""
+
+    def __init__(self, plain: socket.socket, deadline: Deadline) -> None:
+        super().__init__()
+        self.socket, self.deadline = plain, deadline
+
+    def readable(self) -> bool:
+        """Says that it can be read."""
+        return True
+
+    def readinto(self, buffer: Any) -> int:
+        """Reads what has come."""
+        self.socket.settimeout(self.deadline.for_socket())
+        return self.socket.recv_into(buffer)
+
+    def send_all(self, data: bytes) -> None:
+        """Sends all of the bytes."""
+        view = memoryview(data)
+        while view:
+            self.socket.settimeout(self.deadline.for_socket())
+            view = view[self.socket.send(view) :]
+
+    def makefile(self, *_: Any) -> io.BufferedReader:
+        """The file from which http.client reads the response."""
+        return io.BufferedReader(self)
+
+
+class Way:
+    """Sends one message at a time, each on its own connection: a kept one would hold the counter."""
+
+    def __init__(self, address: str, user: Optional[str], password: Optional[str], certificate: Optional[str], name: str) -> None:
+        self.is_encrypted, self.host, self.port = parts_of(address)
+        self.context = context_of(certificate) if self.is_encrypted else None
+        host = f"[{self.host}]" if ":" in self.host else self.host
+        self.headers = {"Host": host if self.port in (80, 443) else f"{host}:{self.port}", "Connection": "close", "Accept-Encoding": "identity", CLIENT: name}
+        authorization = authorization_of(user, password)
+        if authorization is not None:
+            self.headers["Authorization"] = authorization
+
+    def exchange(self, method: str, path: str, value: Optional[Json], read: Reader, deadline: Deadline) -> Answer:
+        """Sends a message and reads its answer. Failures of the network are answers too, of the kind "none"."""
+        try:
+            status, text = self.sent(method, path, value, deadline)
+        except socket.gaierror as failure:
+            met = f"the host {self.host!r} isn't known: {failure.strerror}"
+            return Answer("none", met=met, setup=UnknownHost(met))
+        except ssl.SSLCertVerificationError as failure:
+            met = f"the certificate of {self.host!r} isn't trusted: {failure.verify_message}"
+            return Answer("none", met=met, setup=UntrustedCertificate(met))
+        except (OSError, http.client.HTTPException) as failure:
+            return Answer("none", met=str(failure) or type(failure).__name__)
+        return answer_of(status, text, read)
+
+    def sent(self, method: str, path: str, value: Optional[Json], deadline: Deadline) -> Tuple[int, str]:
+        """Sends a message. Returns the status and the text of its response."""
+        body = b"" if value is None else compact(value).encode()
+        headers: Dict[str, str] = dict(self.headers)
+        if value is not None:
+            headers.update({"Content-Type": "application/json", "Content-Length": str(len(body))})
+        head = f"{method} {path} HTTP/1.1\r\n" + "".join(f"{name}: {text}\r\n" for name, text in headers.items()) + "\r\n"
+        connection = self.connected(deadline)
+        try:
+            timed = TimedSocket(connection, deadline)
+            timed.send_all(head.encode("ascii") + body)
+            return response_of(timed, method)
+        finally:
+            connection.close()
+
+    def connected(self, deadline: Deadline) -> socket.socket:
+        """Connects to the first address of the host that takes the connection."""
+        failure: Optional[OSError] = None
+        for family, kind, protocol, _, address in addresses_of(self.host, self.port, deadline):
+            plain = socket.socket(family, kind, protocol)
+            try:
+                plain.settimeout(deadline.for_socket())
+                plain.connect(address)
+                plain.setsockopt(socket.IPPROTO_TCP, socket.TCP_NODELAY, 1)
+                return plain if self.context is None else self.encrypted(plain, deadline)
+            except OSError as met:
+                plain.close()
+                failure = met
+        raise failure or OSError("the host has no address")
+
+    def encrypted(self, plain: socket.socket, deadline: Deadline) -> socket.socket:
+        """Does the handshake, which the socket's time limit ends as a whole."""
+        assert self.context is not None
+        plain.settimeout(deadline.for_socket())
+        return self.context.wrap_socket(plain, server_hostname=self.host)
+
+
+def parts_of(address: object) -> Tuple[bool, str, int]:
+    """Reads an address: whether it is https, the host and the port."""
+    wrong = BadValue(f"{address!r} is no address, as http://127.0.0.1:8377")
+    if not isinstance(address, str) or not address.isascii() or not address.isprintable() or " " in address:
+        raise wrong
+    try:
+        parts = urllib.parse.urlsplit(address)
+        port = parts.port
+    except ValueError:
+        raise wrong from None
+    is_whole = parts.scheme in ("http", "https") and parts.hostname and parts.path in ("", "/") and not (parts.query or parts.fragment)
+    if not is_whole or parts.username is not None or port == 0:
+        raise wrong
+    return parts.scheme == "https", str(parts.hostname), port or (443 if parts.scheme == "https" else 80)
+
+
+def context_of(certificate: object) -> ssl.SSLContext:
+    """The context that trusts the certificate of a file, or the system's."""
+    if certificate is not None and not isinstance(certificate, (str, bytes)) and not hasattr(certificate, "__fspath__"):
+        raise BadValue(f"a certificate is the path of a file, and not {certificate!r}")
+    try:
+        return ssl.create_default_context(cafile=cast(Optional[str], certificate))
+    except (OSError, ValueError) as failure:
+        raise BadValue(f"the certificate {certificate!r} can't be read: {failure}") from None
+
+
+def authorization_of(user: object, password: object) -> Optional[str]:
+    """The header of a user and a password. None without a user."""
+    if user is None and password is None:
+        return None
+    if not isinstance(user, str) or ":" in user or not user.isprintable():
+        raise BadValue("a password needs a user" if user is None else f"a user is a text without a colon, and not {user!r}")
+    if password is not None and (not isinstance(password, str) or not password.isprintable()):
+        raise BadValue("a password is a text of printable characters")
+    return "Basic " + base64.b64encode(f"{user}:{password or ''}".encode()).decode()
+
+
+def addresses_of(host: str, port: int, deadline: Deadline) -> List[Address]:
+    """Resolves a host. A name is resolved in a thread of its own, since the system's resolver takes no time limit."""
+    try:
+        return cast(List[Address], socket.getaddrinfo(host, port, type=socket.SOCK_STREAM, flags=socket.AI_NUMERICHOST))
+    except socket.gaierror:
+        pass
+    found: "queue.Queue[Union[List[Address], OSError]]" = queue.Queue()
+
+    def resolve() -> None:
+        try:
+            found.put(cast(List[Address], socket.getaddrinfo(host, port, type=socket.SOCK_STREAM)))
+        except (OSError, UnicodeError) as failure:
+            found.put(failure if isinstance(failure, OSError) else socket.gaierror(socket.EAI_NONAME, str(failure)))
+
+    threading.Thread(target=resolve, daemon=True).start()
+    try:
+        answer = found.get(timeout=deadline.for_socket())
+    except queue.Empty:
+        raise TimeoutError("the resolver timed out") from None
+    if isinstance(answer, OSError):
+        raise answer
+    return answer
+
+
+def response_of(timed: TimedSocket, method: str) -> Tuple[int, str]:
+    """Reads a response: its status and its text. Raises HTTPException if it is cut or too long."""
+    response = http.client.HTTPResponse(cast(socket.socket, timed), method=method)
+    try:
+        response.begin()
+        pieces, size = [], 0
+        while piece := response.read(65536):
+            pieces.append(piece)
+            size += len(piece)
+            if size > MOST_BYTES:
+                raise http.client.HTTPException(f"a response of more than {MOST_BYTES} bytes")
+        if response.length:
+            raise http.client.IncompleteRead(b"", response.length)
+        return response.status, b"".join(pieces).decode("utf-8", "replace")
+    finally:
+        response.close()
