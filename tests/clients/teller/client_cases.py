@@ -1,12 +1,15 @@
-"""What clients/counter.py does: a day, each fault, used numbers, refusals, journals, files."""
+"""What the Python client and its command do: a day, each fault, used numbers, refusals, journals, files."""
+import datetime
+import decimal
 import json
+import logging
 import re
 import socket
 import subprocess
 import sys
 import time
 
-import counter as client
+import ee_counter_client as client
 from bank import PASSWORD, TOP, USER
 from books import Books
 from gate import AFTER, BEFORE
@@ -17,7 +20,12 @@ DAY = "2012-02-06"
 
 
 def printed(cents):
-    return f"{cents // 100}.{cents % 100:02}"
+    return decimal.Decimal(cents) / 100
+
+
+def ticket_of(number, day, payee, serials):
+    lines = tuple(client.Line(serial, printed(VALUES[serial[0]])) for serial in serials)
+    return client.Ticket(number, datetime.date.fromisoformat(day), payee, lines, printed(SUM))
 
 
 def books_of(bank):
@@ -40,7 +48,19 @@ def command(bank, *words, journal="desk3.journal", proxied=True):
 
 
 def at_gate(bank, journal="desk3.journal", desk=3, **more):
-    return client.Counter(str(bank.folder / journal), f"http://127.0.0.1:{bank.gate.port}", desk=desk, **more)
+    return client.Counter(bank.folder / journal, f"http://127.0.0.1:{bank.gate.port}", desk=desk, **more)
+
+
+class Told(logging.Handler):
+    """What the client logs from here on, as texts."""
+
+    def __init__(self):
+        super().__init__()
+        self.texts = []
+        logging.getLogger("ee_counter_client").addHandler(self)
+
+    def emit(self, record):
+        self.texts.append(record.getMessage())
 
 
 def a_day(bank):
@@ -74,17 +94,17 @@ def each_fault(bank):
     """Each act meets each fault, by the module: the same bytes again, and one reply."""
     faults = [fault for fault in AFTER + BEFORE if fault != "silent"]
     begin(bank, [])
-    met = []
-    with at_gate(bank, told=met.append) as counter:
+    met = Told().texts
+    with at_gate(bank) as counter:
         for place, fault in enumerate(faults):
             day, owner = f"2012-02-{6 + place:02}", 1000 + place
             bonds = bonds_of(owner)
             serials = [bond["serial"] for bond in bonds]
             acts = (
-                (lambda: counter.add_bonds(bonds), {"new": 3, "same": 0}),
-                (lambda: counter.open_day(day), {"opened": day}),
-                (lambda: counter.redeem(day, owner, serials)["total"], printed(SUM)),
-                (lambda: counter.close_day(day), {"bonds": 3, "day": day, "tickets": 1, "total": printed(SUM)}),
+                (lambda: counter.add_bonds(bonds), client.Added(3, 0)),
+                (lambda: counter.open_day(day), client.Opened(datetime.date.fromisoformat(day))),
+                (lambda: counter.redeem(day, owner, serials), ticket_of(1 + place, day, owner, serials)),
+                (lambda: counter.close_day(day), client.Batch(datetime.date.fromisoformat(day), 1, 3, printed(SUM))),
             )
             for act, wanted in acts:
                 meets(bank, counter, fault, act, wanted)
@@ -100,7 +120,7 @@ def meets(bank, counter, fault, act, wanted):
     bank.gate.faults = [fault, fault]
     found = act()
     bodies = bank.gate.bodies[sent:]
-    assert found == wanted and counter.again and counter.open_request is None, (fault, found)
+    assert found == wanted and found.request.sent >= 3 and counter.open_request is None, (fault, found)
     assert len(bodies) >= 3 and len(set(bodies)) == 1, (fault, bodies)
 
 
@@ -123,23 +143,29 @@ def silent(bank):
             refused_or_none(counter, ask)
 
 
+def next_number(counter):
+    """The number of the next request, from the journal's file."""
+    with open(counter._journal.path, encoding="utf-8") as file:
+        return json.load(file)["next"]
+
+
 def refused_or_none(counter, ask):
     try:
         right(ask() is None, "then nothing is open")
     except client.Refused as refusal:
-        right(counter.again and refusal.code in (42, 43), f"the same request again has its reply: {refusal}")
+        right(refusal.request.sent > 1 and refusal.code in (42, 43), f"the same request again has its reply: {refusal}")
 
 
 def numbers_used(bank):
     begin(bank, [7], DAY)
     with at_gate(bank) as counter:
-        number = counter.journal.record["next"]
+        number = next_number(counter)
         for used in range(number, number + 10):
             bank.expect(409, "/redeem", {"desk": 3, "number": used, "day": DAY, "payee": 7, "serials": ["A1EE"]})
         bank.gate.faults = ["lost answer"]
         ticket = counter.redeem(DAY, 7, ["L7EE"])
         sent = [json.loads(body)["number"] - number for body in bank.gate.bodies]
-        right(sent == [0, 0, 1, 3, 7, 15] and ticket["ticket"] == 1, "past used numbers by 1, 2, 4 and 8", sent)
+        right(sent == [0, 0, 1, 3, 7, 15] and ticket.number == 1, "past used numbers by 1, 2, 4 and 8", sent)
         counter.redeem(DAY, 7, ["K7EE"])
         right(json.loads(bank.gate.bodies[-1])["number"] == number + 16, "and on from there")
     books = books_of(bank)
@@ -152,14 +178,14 @@ def numbers_used(bank):
 def fault_on_resend(bank):
     """The answer is lost after the commit, and a resend is answered by a fault, or by the proxy's word on the user: the request stays open until the true reply comes."""
     begin(bank, [7], DAY)
-    met = []
-    with at_gate(bank, told=met.append) as counter:
+    met = Told().texts
+    with at_gate(bank) as counter:
         for serial, fault, words in (("K7EE", "not json", "no reply: BadJson (code 64); "), ("L7EE", "forbidden", "no reply: the proxy says that this user may not do this; ")):
             sent = len(bank.gate.bodies)
             bank.gate.faults = ["lost answer", fault, fault]
             ticket = counter.redeem(DAY, 7, [serial])
             bodies = bank.gate.bodies[sent:]
-            right(ticket["lines"][0]["serial"] == serial and counter.again and len(bodies) == 4 == bodies.count(bodies[0]), f"{fault} on a resend: sent again, and the ticket comes")
+            right(ticket.lines[0].serial == serial and ticket.request.sent == 4 and len(bodies) == 4 == bodies.count(bodies[0]), f"{fault} on a resend: sent again, and the ticket comes")
             right(met.count(words + "the request was sent before, and may have been done") == 2, "and the client says that it may have been done", met)
     over_patience(bank)
     right(books_of(bank).one("SELECT count(*) FROM tickets") == 3, "one ticket for each payment")
@@ -172,10 +198,10 @@ def over_patience(bank):
         try:
             right(False, "a fault on each resend", counter.redeem(DAY, 7, ["M7EE"]))
         except client.NoReply as failure:
-            right("BadJson (code 64)" in str(failure) and counter.open_request["fields"]["serials"] == ["M7EE"], f"the request stays open: {failure}")
+            right("BadJson (code 64)" in str(failure) and failure.request == counter.open_request and failure.request.fields["serials"] == ["M7EE"], f"the request stays open: {failure}")
     bank.gate.faults = []
     with at_gate(bank) as counter:
-        right(counter.open_request["sent"] > 2 and counter.finish()["ticket"] == 3 and counter.open_request is None, "and the next start gets its ticket")
+        right(counter.open_request.sent > 2 and counter.finish().number == 3 and counter.open_request is None, "and the next start gets its ticket")
 
 
 def first_sendings(bank):
@@ -189,7 +215,7 @@ def first_sendings(bank):
                 right(False, fault, counter.redeem(DAY, 7, ["L7EE"]))
             except error as met:
                 right(len(bank.gate.bodies) == sent + 1 and counter.open_request is None, f"{fault} on the first sending: {met}")
-        right(counter.redeem(DAY, 7, ["L7EE"])["ticket"] == 1, "and the next request has the next number")
+        right(counter.redeem(DAY, 7, ["L7EE"]).number == 1, "and the next request has the next number")
     bank.gate.faults = ["forbidden"]
     status, out, told = command(bank, "close", DAY)
     right((status, out, told) == (1, "", "this user may not do this (/day/close); nothing was done\n"), "by the command it has status 1", (status, out, told))
@@ -197,14 +223,14 @@ def first_sendings(bank):
 
 def many_requests(bank):
     begin(bank, [7], DAY)
-    met = []
-    with at_gate(bank, told=met.append) as counter:
+    met = Told().texts
+    with at_gate(bank) as counter:
         bank.gate.faults = ["too many", "signed out"]
-        right(counter.redeem(DAY, 7, ["L7EE"])["ticket"] == 1, "too many requests: sent again")
+        right(counter.redeem(DAY, 7, ["L7EE"]).number == 1, "too many requests: sent again")
         right(met[:2] == ["no reply: too many requests (status 429)", "no reply: an answer of status 403 that isn't the counter's"], "and the client says so", met)
         counter.ticket(1)
     heads = [head.decode().split("\r\n") for head in bank.gate.heads]
-    right(len(heads) == 4 and all("X-Counter-Client: counter.py" in head for head in heads), "each request names its client", heads)
+    right(len(heads) == 5 and all(f"X-Counter-Client: ee_counter_client/{client.__version__}" in head for head in heads), "each request names its client", heads)
     right(all(("Content-Type: application/json" in head) == head[0].startswith("POST ") for head in heads), "each POST is application/json", heads)
 
 
@@ -273,8 +299,6 @@ def refusals(bank):
     with at_gate(bank) as counter:
         counter.redeem(DAY, 7, ["M7EE"])
         wanted = (
-            (11, "Empty", {}, lambda: counter.add_bonds([])),
-            (12, "TooMany", {}, lambda: counter.redeem(DAY, 7, [f"A{number}EE" for number in range(1, 102)])),
             (13, "Repeated", {"serial": "L7EE"}, lambda: counter.redeem(DAY, 7, ["L7EE", "L-007-EE"])),
             (14, "SameCoowner", {"serial": "A1EE"}, lambda: counter.add_bonds([{**bond, "coowner": 7}])),
             (20, "NotAnnouncementMonth", {"month": "2010-06"}, lambda: counter.add_rates([{"from": "2010-06", "rate": "1.00"}])),
@@ -301,22 +325,23 @@ def refusals(bank):
 def is_refused(code, name, details, act):
     try:
         right(False, name, act())
-    except client.Refused as refusal:
-        right((refusal.code, refusal.name, refusal.details) == (code, name, details), str(refusal), refusal.reply)
+    except getattr(client, name) as refusal:
+        named = all(getattr(refusal, key) == value for key, value in details.items())
+        right((refusal.code, refusal.name, refusal.details) == (code, name, details) and named, str(refusal), refusal.reply)
 
 
 def misfits(counter):
     """What the counter can't read is a Fault, and the request is open no more; what this module can't spell is told before it is sent."""
     try:
-        right(False, "a field that the counter doesn't know", counter.act("/day/open", {"day": DAY, "more": 1}))
+        right(False, "a field that the counter doesn't know", counter._act("/day/open", {"day": DAY, "more": 1}, None, None, client.Opened))
     except client.Fault as fault:
         right((fault.code, fault.field) == (65, "other") and counter.open_request is None, f"a field that the counter doesn't know: {fault}")
-    sent = counter.journal.record["next"]
+    sent = next_number(counter)
     for wrong in (lambda: counter.open_day("2012-02-30"), lambda: counter.redeem(DAY, 0, ["L1EE"]), lambda: counter.redeem(DAY, 7, ["l1ee"]), lambda: counter.ticket(0)):
         try:
             right(False, "a misspelled value", wrong())
         except client.BadValue as fault:
-            right(counter.journal.record["next"] == sent, f"nothing is sent where {fault}")
+            right(next_number(counter) == sent, f"nothing is sent if {fault}")
 
 
 def journals(bank):
@@ -337,7 +362,7 @@ def journals(bank):
     with at_gate(bank, journal="quick.journal") as counter:
         for serial in ("K7EE", "L7EE", "M7EE"):
             counter.redeem(DAY, 7, [serial], bookmark=serial)
-        right(counter.bookmark == "M7EE" and counter.last["reply"]["ticket"] == 3, f"three payments in {time.monotonic() - begun:.2f} seconds; the bookmark is that of the last")
+        right(counter.bookmark == "M7EE" and counter.last.result().number == 3, f"three payments in {time.monotonic() - begun:.2f} seconds; the bookmark is that of the last")
 
 
 def misspelt_keys(bank):
@@ -345,7 +370,7 @@ def misspelt_keys(bank):
     bond = {"serial": "A1EE", "denom": 50, "issued": "2010-11", "owner": 7}
     rate = {"from": "2010-05", "rate": "1.00"}
     with at_gate(bank) as counter:
-        sent = counter.journal.record["next"]
+        sent = next_number(counter)
         for wanted, act in (
             ("a bond has no key 'co_owner'", lambda: counter.add_bonds([{**bond, "serial": "A2EE"}, {**bond, "co_owner": 8}])),
             ("a bond has no key 'Coowner'", lambda: counter.add_bonds([{**bond, "Coowner": 8}])),
@@ -360,7 +385,7 @@ def misspelt_keys(bank):
             try:
                 right(False, wanted, act())
             except client.BadValue as fault:
-                right(wanted in str(fault) and counter.journal.record["next"] == sent, f"nothing is sent: {fault}")
+                right(wanted in str(fault) and next_number(counter) == sent, f"nothing is sent: {fault}")
         right(bank.gate.bodies == [], "the counter heard nothing")
         counter.add_rates(rates())
         counter.add_bonds([{**bond, "coowner": 8}])

@@ -337,13 +337,13 @@ def logs_alone(place):
 
 def client_day(place, nginx):
     """A day by the Python client, which keeps an archive of its own. Returns its path."""
-    sys.path.insert(0, os.path.join(TOP, "clients"))
-    import counter
+    sys.path.insert(0, os.path.join(TOP, "clients", "python", "src"))
+    import ee_counter_client as client
 
     path = place.path("desk5.archive")
     words = {"desk": 5, "user": "anna", "password": "a password", "certificate": str(nginx.folder / "certificate.pem"), "archive": path}
     address = f"https://127.0.0.1:{nginx.port}"
-    with counter.Counter(place.path("desk5.journal"), address, **words) as desk:
+    with client.Counter(place.path("desk5.journal"), address, **words) as desk:
         desk.add_rates([{"from": "2011-05", "rate": "1.1", "extension": "4"}, {"from": "2012-05", "rate": "2", "extension": "2.00"}])
         desk.open_day("2012-02-06")
         for turn in range(40):
@@ -353,17 +353,17 @@ def client_day(place, nginx):
     with open(path, "wb") as file:
         file.write(whole.replace(b'"payee":7', b'"payee":8', 1))
     try:
-        counter.Counter(place.path("desk5.journal"), address, **words)
+        client.Counter(place.path("desk5.journal"), address, **words)
         wrong("a changed archive is taken")
-    except counter.BadArchive as fault:
+    except client.BadArchive as fault:
         right(True, f"a changed line ends it before anything is sent: {str(fault)[-60:]}")
     with open(path, "wb") as file:
         file.write(whole + whole[-300:-1])
-    with counter.Counter(place.path("desk5.journal"), address, **words) as desk:
+    with client.Counter(place.path("desk5.journal"), address, **words) as desk:
         try:
             desk.redeem("2012-02-06", 7, [bond(3)["serial"]])
             wrong("a bond is paid twice")
-        except counter.Refused as refusal:
+        except client.AlreadyPaid as refusal:
             right(refusal.code == 52, "the Python client keeps an archive over two runs, takes off a line that a stop cut, and keeps a refusal")
         desk.close_day("2012-02-06")
         desk.open_day("2012-02-07")
