@@ -1,0 +1,155 @@
+"""Every bad argument is one of the package's own errors, and results are what they say."""
+import dataclasses
+import datetime
+import decimal
+import logging
+import subprocess
+import sys
+
+import ee_counter_client.errors as errors
+import ee_counter_client.spelling as spelling
+from bench import DAY, client, control, desks, folder, journal_text, own_environment, raises, right
+from unittest import mock
+
+JUNK = (None, True, 1.5, -1, 10**30, b"bytes", "", "x" * 300, "\0", "caf\u00e9", [], {}, object(), float("nan"), datetime.datetime(2012, 2, 6, 8), lambda: None)
+BRANCHES = (client.BadCall, client.WrongSetup, client.Retryable, client.UnknownOutcome, client.Refused)
+
+
+def arguments():
+    """Sixteen kinds of junk in each place of each call."""
+    check_calls()
+    control("a spelling that asks for a text's method raises another error", check_calls, mock.patch.object(spelling, "serial_of", str.upper), mock.patch("ee_counter_client.counter.serial_of", str.upper))
+    check_openings()
+    named_arguments()
+
+
+def is_own(call, what):
+    """Whether a call is answered, or refused by an error of the package."""
+    try:
+        call()
+    except client.CounterError as error:
+        return isinstance(error, client.BadCall) or what in ("a journal", "an archive")
+    except Exception as error:
+        raise SystemExit(f"WRONG: {what}: {type(error).__name__}: {error}") from error
+    return True
+
+
+def check_calls():
+    with desks("L1EE") as (place, fake, gate), client.Counter(place / "a.journal", gate.address, desk=3, patience=1) as counter:
+        places = {
+            "a day": lambda junk: counter.redeem(junk, 7, ["L1EE"]),
+            "a payee": lambda junk: counter.redeem(DAY, junk, ["L1EE"]),
+            "serial numbers": lambda junk: counter.redeem(DAY, 7, junk),
+            "a serial number": lambda junk: counter.redeem(DAY, 7, [junk]),
+            "rows of bonds": lambda junk: counter.add_bonds(junk),
+            "a row of bonds": lambda junk: counter.add_bonds([junk]),
+            "a bond's month": lambda junk: counter.add_bonds([{"serial": "A1EE", "denom": 50, "issued": junk, "owner": 7}]),
+            "a denomination": lambda junk: counter.add_bonds([client.Bond("A1EE", junk, "2010-11", 7)]),
+            "a coowner": lambda junk: counter.add_bonds([client.Bond("A1EE", 50, "2010-11", 7, junk or 0)]),
+            "a row of rates": lambda junk: counter.add_rates([junk]),
+            "a rate": lambda junk: counter.add_rates([client.Rates("2010-05", junk)]),
+            "a day to open": lambda junk: counter.open_day(junk),
+            "a day to close": lambda junk: counter.close_day(junk),
+            "a reason": lambda junk: counter.abandon(junk),
+            "a ticket": lambda junk: counter.ticket(junk),
+            "a batch": lambda junk: counter.batch(junk),
+            "a customer": lambda junk: counter.inventory(junk, "2012-02"),
+            "a sheet's month": lambda junk: counter.inventory(7, junk),
+            "a value's denomination": lambda junk: counter.value(junk, "2010-11", "2012-02"),
+            "a file": lambda junk: client.register(counter, junk),
+        }
+        before = journal_text(place / "a.journal")
+        for what, call in places.items():
+            right(all(is_own(lambda junk=junk: call(junk), what) for junk in JUNK), f"{what}: {len(JUNK)} kinds of junk")
+        right(journal_text(place / "a.journal") == before and fake.tickets == [] and gate.bodies == [], "and the journal is as it was")
+        for junk in (b"bytes", object(), float("nan"), {"a": object()}):
+            raises(client.BadValue, lambda: counter.open_day(DAY, bookmark=junk))
+        for junk in (b"bytes", 7, "", "x" * 201, "a\nb"):
+            raises(client.BadValue, lambda: counter.open_day(DAY, key=junk))
+        right(journal_text(place / "a.journal") == before and gate.bodies == [], "bookmarks and keys too")
+
+
+def check_openings():
+    """What a Counter is opened with."""
+    with folder() as place:
+        (place / "no.pem").write_text("no certificate\n")
+        wrong = {
+            "journal": (None, 7, "", "a\0b", b"bytes", object()),
+            "address": (None, 7, "", "127.0.0.1:8377", "ftp://x", "http://", "http://x:99999", "http://x:0", "http://x/path", "http://u:p@x", "http://x y", "http://x?q", "http://[::1", "http://caf\u00e9"),
+            "desk": (-1, 1000, True, 1.5, "x"),
+            "patience": (-1, "x", True, float("nan"), float("inf")),
+            "time_limit": (0, -1, None, "x"),
+            "user": (7, "a:b", "a\nb"),
+            "password": (7, "a\nb", "alone"),
+            "certificate": (7, b"bytes"),
+            "archive": (7, "", "a\0b"),
+        }
+        for name, values in wrong.items():
+            for value in values:
+                words = {"journal": place / "a.journal", "address": "http://127.0.0.1:9", "desk": 3, **({"user": "u"} if name == "password" and value != "alone" else {}), name: value}
+                raises(client.BadValue, lambda: client.Counter(words.pop("journal"), words.pop("address"), **words))
+            right(not (place / "a.journal").exists(), f"{name}: {len(values)} wrong ones, and no journal is made")
+        for certificate in (place / "no.pem", place / "missing.pem"):
+            raises(client.BadValue, lambda: client.Counter(place / "a.journal", "https://127.0.0.1:9", desk=3, certificate=certificate))
+        for desks_of in ((), [1, 1], [1000], "12", None, 7):
+            raises(client.BadValue, lambda: client.Pool(place, desks=desks_of))
+        raises(client.BadValue, lambda: client.Pool(place, desks=[1], pacience=3))
+        for path, kind in ((place, client.FileFailed), (place / "missing" / "a.journal", client.FileFailed), ("/proc/a.journal", client.FileFailed)):
+            raises(kind, lambda: client.Counter(path, desk=3))
+        right(True, "certificates, pools, and places where no journal can be")
+
+
+def named_arguments():
+    """What is read in more than one way."""
+    with desks("L1EE") as (place, fake, gate), client.Counter(str(place / "a.journal"), gate.address + "/", desk="3") as counter:
+        fake.answered("POST", "/day/close", b'{"number":2,"day":"2012-02-06"}')
+        counter.add_rates([client.Rates(client.Month(2010, 5), decimal.Decimal("3.5"), decimal.Decimal("4.00")), {"from": datetime.date(2010, 11, 1), "rate": "3.50%"}])
+        counter.add_bonds([client.Bond("K-0002-EE", 75, "10/2010", 7, 8)])
+        counter.open_day(datetime.date(2012, 2, 7))
+        ticket = counter.redeem(datetime.date(2012, 2, 7), "7", ("K2EE", "L-1EE"))
+        right([line.serial for line in ticket.lines] == ["K2EE", "L1EE"] and counter.inventory(7, client.Month(2012, 2)).rows == (), "dates, Months, Decimals and other spellings are read")
+
+
+# ---- results and errors
+
+
+def results():
+    """Frozen classes with Decimal, dates and numbers."""
+    with desks("L1EE", "L2EE", values={"L1EE": "25.16"}) as (place, _, gate), client.Counter(place / "a.journal", gate.address, desk=3) as counter:
+        sheet = counter.inventory(7, "2012-02")
+        row = sheet.rows[0]
+        right((row.value, row.issued, row.next, row.is_payable, sheet.value) == (decimal.Decimal("25.16"), client.Month(2010, 11), client.Month(2012, 3), True, decimal.Decimal("50.16")), f"a row: {row}")
+        ticket = counter.redeem(DAY, 7, ["L1EE"])
+        right(ticket == client.Ticket(1, datetime.date(2012, 2, 6), 7, (client.Line("L1EE", decimal.Decimal("25.16")),), decimal.Decimal("25.16")), f"a ticket: {ticket}")
+        right(counter.ticket(1) == ticket and counter.ticket(1).text == ticket.text and counter.ticket(2) is None, "looked up it is the same; a missing one is None")
+        batch = counter.close_day(DAY)
+        right(batch == client.Batch(datetime.date(2012, 2, 6), 1, 1, decimal.Decimal("25.16")) == counter.batch(DAY), f"a batch: {batch}")
+        for result in (row, sheet, ticket, ticket.lines[0], batch, ticket.request, counter.last):
+            right(isinstance(raises(dataclasses.FrozenInstanceError, lambda: setattr(result, "total", 0)), AttributeError), f"{type(result).__name__} can't be changed")
+    unknown = errors.refusal_of({"code": 99, "refused": "Later"})
+    right(type(unknown) is client.Refused and (unknown.code, unknown.name) == (99, "Later"), "a refusal of a later program is a plain Refused")
+
+
+def tree():
+    """Each error is in one branch, and says what its branch says."""
+    kinds = [kind for name in client.__all__ if isinstance(kind := getattr(client, name), type) and issubclass(kind, client.CounterError) and kind is not client.CounterError]
+    for kind in kinds:
+        right([branch for branch in BRANCHES if issubclass(kind, branch)] != [] and sum(issubclass(kind, branch) for branch in BRANCHES) == 1 and bool(kind.__doc__), f"{kind.__name__} is in one branch, and has its sentence")
+    flags = {branch.__name__: (branch.retryable, branch.may_be_done) for branch in BRANCHES}
+    right(flags == {"BadCall": (False, False), "WrongSetup": (False, False), "Retryable": (True, False), "UnknownOutcome": (True, True), "Refused": (False, False)}, f"{len(kinds)} errors: {flags}")
+    public = [name for name in client.__all__ if callable(getattr(client, name))] + [f"Counter.{name}" for name in vars(client.Counter) if not name.startswith("_")] + [f"Pool.{name}" for name in vars(client.Pool) if not name.startswith("_")]
+    undocumented = [name for name in public if not getattr(getattr(client, name.split(".")[0]), name.split(".")[-1], getattr(client, name.split(".")[0])).__doc__]
+    right(undocumented == [], f"{len(public)} public names have a docstring", undocumented)
+
+
+def words():
+    """The package logs, and prints nothing; without a handler its warnings reach standard error."""
+    script = "import logging, sys\n{}\nfrom ee_counter_client import *\ntry:\n    Counter(sys.argv[1], 'http://127.0.0.1:9', desk=3, patience=0.1).ticket(1)\nexcept NoAnswer:\n    pass\n"
+    for setting, wanted in (("logging.getLogger('ee_counter_client').addHandler(logging.NullHandler())", ""), ("logging.getLogger('ee_counter_client').setLevel(logging.ERROR)", ""), ("", "no reply: [Errno 111] Connection refused\n")):
+        with folder() as place:
+            ran = subprocess.run([sys.executable, "-c", script.format(setting), place / "a.journal"], capture_output=True, text=True, env=own_environment(), check=True)
+            right(ran.stdout == "" and sorted(set(ran.stderr.splitlines(True))) == sorted({wanted} - {""}), f"{setting or 'no setting'}: {ran.stderr.strip()!r}", ran)
+    logging.getLogger("ee_counter_client")
+
+
+CASES = (arguments, results, tree, words)

@@ -1,0 +1,222 @@
+"""A call ends: limits before the journal, a wrong set-up at once, the patience as a deadline, and requests that are given up."""
+import random
+import socket
+import time
+from unittest import mock
+
+import ee_counter_client.counter as counter_module
+import ee_counter_client.journal as journal_module
+import ee_counter_client.spelling as spelling
+import ee_counter_client.way as way
+from bench import DAY, client, control, desks, encrypted, folder, journal_text, listener, raises, right, timed
+from ee_counter_client.testing import Gate
+
+BOND = {"serial": "L1EE", "denom": 50, "issued": "2010-11", "owner": 7}
+
+
+# ---- limits
+
+
+def limits():
+    """What the counter, or the proxy, refuses by its size or range is refused before the journal is written."""
+    check_limits()
+    control("without the limit of a list 101 serial numbers are sent", check_limits, mock.patch.object(spelling, "MOST_SERIALS", 1000), mock.patch.object(counter_module, "MOST_SERIALS", 1000))
+
+
+def check_limits():
+    with desks("L1EE") as (place, _, gate), client.Counter(place / "a.journal", gate.address, desk=3) as counter:
+        before = journal_text(place / "a.journal")
+        wrong = (
+            ("no serial numbers", lambda: counter.redeem(DAY, 7, [])),
+            ("101 serial numbers", lambda: counter.redeem(DAY, 7, [f"A{number}EE" for number in range(1, 102)])),
+            ("501 bonds", lambda: counter.add_bonds([{**BOND, "serial": f"A{number}EE"} for number in range(1, 502)])),
+            ("no rates", lambda: counter.add_rates([])),
+            ("an issue month after 2099", lambda: counter.add_bonds([{**BOND, "issued": "2100-01"}])),
+            ("a rate above 20.00 %", lambda: counter.add_rates([{"from": "2010-05", "rate": "20.01"}])),
+            ("a bookmark of 10,001 characters", lambda: counter.open_day(DAY, bookmark="b" * 10_000)),
+            ("a key of 201 characters", lambda: counter.open_day(DAY, key="k" * 201)),
+        )
+        for what, call in wrong:
+            error = raises(client.BadValue, call)
+            right(journal_text(place / "a.journal") == before and gate.heads == [], f"{what}: {str(error)[:60]}")
+
+
+# ---- the set-up
+
+PAGES = (
+    ("other page", client.ForeignAnswer, client.WrongSetup),
+    ("redirect", client.ForeignAnswer, client.WrongSetup),
+    ("signed out", client.ForeignAnswer, client.WrongSetup),
+    ("no password", client.SignInRefused, client.WrongSetup),
+    ("no gateway", client.NotReady, client.Retryable),
+)
+
+
+def set_up():
+    """Before the first good exchange a page that no counter wrote, a wrong password, host or certificate end a call at once, with nothing in the journal."""
+    check_pages()
+    control("a client that takes the first answer for granted goes on trying", check_pages, mock.patch.object(client.Counter, "_try_the_way", lambda *_: None), mock.patch.object(client.Counter, "_is_known", property(lambda _: True, lambda *_: None), create=True))
+    check_ways()
+    after_good()
+    while_open()
+
+
+def check_pages():
+    for fault, kind, branch in PAGES:
+        with desks("L1EE") as (place, fake, gate), client.Counter(place / "a.journal", gate.address, desk=3, patience=3) as counter:
+            gate.is_wide, gate.faults = True, [fault] * 50
+            before = journal_text(place / "a.journal")
+            with timed(1):
+                error = raises(kind, lambda: counter.redeem(DAY, 7, ["L1EE"]))
+            right(isinstance(error, branch) and not error.may_be_done and error.retryable == (branch is client.Retryable), f"{fault}: {type(error).__name__}: {str(error)[:70]}")
+            right(journal_text(place / "a.journal") == before and fake.tickets == [] and len(gate.heads) == 1, "nothing is in the journal, and one look-up was sent")
+            with timed(1):
+                raises(kind, lambda: counter.ticket(1))
+            gate.faults = []
+            right(counter.redeem(DAY, 7, ["L1EE"]).number == 1, "with the set-up corrected, the same call pays")
+
+
+def check_ways():
+    """An unknown host, and a certificate that isn't trusted; with that certificate named it is."""
+    with desks("L1EE") as (place, fake, gate), listener(encrypted(place, gate.port)) as port:
+        with client.Counter(place / "a.journal", "http://no-such-host.invalid", desk=3) as counter, timed(20):
+            error = raises(client.UnknownHost, lambda: counter.redeem(DAY, 7, ["L1EE"]))
+            right(counter.open_request is None, f"an unknown host: {error}")
+        with client.Counter(place / "a.journal", f"https://127.0.0.1:{port}") as counter, timed(2):
+            error = raises(client.UntrustedCertificate, lambda: counter.redeem(DAY, 7, ["L1EE"]))
+            right(counter.open_request is None and fake.tickets == [], f"a certificate: {error}")
+        with client.Counter(place / "a.journal", f"https://127.0.0.1:{port}", certificate=place / "certificate.pem") as counter:
+            right(counter.redeem(DAY, 7, ["L1EE"]).number == 1, "control: with the certificate named, the same call pays")
+
+
+def after_good():
+    """After the first good exchange the same pages are met on the way, and the request is sent again."""
+    with desks("L1EE", "L2EE") as (place, _, gate), client.Counter(place / "a.journal", gate.address, desk=3) as counter:
+        gate.faults = [fault for fault, _, _ in PAGES]
+        ticket = counter.redeem(DAY, 7, ["L1EE"])
+        right((ticket.number, ticket.request.sent) == (1, 6), "after a good exchange each of them is met, and the ticket comes")
+
+
+def while_open():
+    """A request that an earlier run left open stays open, and the error says that it may have been done."""
+    with desks("L1EE") as (place, _, gate):
+        gate.faults = ["lost answer"] * 50
+        with client.Counter(place / "a.journal", gate.address, desk=3, patience=0.2) as counter:
+            raises(client.NoReply, lambda: counter.redeem(DAY, 7, ["L1EE"]))
+        gate.is_wide, gate.faults = True, ["no password"] * 2
+        with client.Counter(place / "a.journal", gate.address) as counter:
+            error = raises(client.SignInRefused, counter.finish)
+            right(error.may_be_done and counter.open_request.sent > 1, "with a wrong password an open request stays open, and may have been done")
+            gate.faults = []
+            right(counter.finish().number == 1, "control: with the right one it gets its ticket")
+
+
+# ---- patience
+
+
+def patience():
+    """The patience ends the whole call, whatever the server does."""
+    check_dripping()
+    control("with a time limit for each call of the socket, a dripping server holds the client", check_dripping, mock.patch.object(way.Deadline, "for_socket", lambda deadline: 2.0))
+    for what, serve in (("silent", silent), ("silent in the handshake", silent), ("dripping a head without an end", drip)):
+        with folder() as place, listener(serve) as port:
+            address = f"{'https' if 'handshake' in what else 'http'}://127.0.0.1:{port}"
+            with client.Counter(place / "a.journal", address, desk=3, patience=0.7) as counter:
+                with timed(1.5, 0.69):
+                    error = raises(client.NoAnswer, lambda: counter.redeem(DAY, 7, ["L1EE"]))
+                right(counter.open_request is None and not error.may_be_done, f"a server that is {what}: {error}")
+                with timed(1.5, 0.69):
+                    raises(client.NoAnswer, lambda: counter.batch(DAY))
+    resolver()
+    check_jitter()
+    control("pauses without chance are all alike", check_jitter, mock.patch.object(random, "uniform", lambda least, most: most))
+
+
+def silent(connection):
+    connection.recv(65536)
+    time.sleep(5)
+
+
+def drip(connection):
+    connection.recv(65536)
+    connection.sendall(b"HTTP/1.1 200 OK\r\n")
+    for _ in range(100):
+        connection.sendall(b"X: y\r\n")
+        time.sleep(0.05)
+
+
+def check_dripping():
+    with desks("L1EE") as (place, fake, gate), client.Counter(place / "a.journal", gate.address, desk=3, patience=0.8) as counter:
+        counter.ticket(1)
+        gate.faults, gate.drip = ["dripping"] * 9, 0.05
+        with timed(1.6, 0.79):
+            error = raises(client.NoReply, lambda: counter.redeem(DAY, 7, ["L1EE"]))
+        right(error.may_be_done and error.request == counter.open_request and len(fake.tickets) == 1, f"a dripping answer: {error}")
+
+
+def resolver():
+    """A resolver of the system that takes its time."""
+    true = socket.getaddrinfo
+
+    def slow(host, *words, **more):
+        if not more.get("flags"):
+            time.sleep(5)
+        return true(host, *words, **more)
+
+    with folder() as place, mock.patch.object(socket, "getaddrinfo", slow), client.Counter(place / "a.journal", "http://localhost:9", desk=3, patience=0.5) as counter, timed(1):
+        right("resolver" in str(raises(client.NoAnswer, lambda: counter.batch(DAY))), "a resolver that takes 5 seconds")
+
+
+def check_jitter():
+    """Each pause is from half of its time to all of it, and no two clients have the same."""
+    with desks("L1EE") as (place, _, gate), client.Counter(place / "a.journal", gate.address, desk=3, patience=60) as counter:
+        pauses = []
+        for _ in range(2):
+            gate.faults = ["lost request"] * 6
+            with mock.patch.object(counter_module.time, "sleep", pauses.append):
+                counter.redeem(DAY, 7, ["L1EE"]) if not pauses else raises(client.AlreadyPaid, lambda: counter.redeem(DAY, 7, ["L1EE"]))
+        full = counter_module.PAUSES[:6] * 2
+        pauses = [pause for pause in pauses if pause != gate.drip]
+        right(all(whole / 2 <= pause <= whole for pause, whole in zip(pauses, full)) and len(pauses) == 12, "pauses grow from 0.1 to 4 seconds, each from half of it to all", pauses)
+        right(pauses[:6] != pauses[6:], "and are other ones each time")
+
+
+# ---- giving up
+
+
+def abandoning():
+    """A request that its caller gives up is written down, and others go on."""
+    check_abandoned()
+    true = journal_module.Journal.change
+    control("a client that forgets what was given up", check_abandoned, mock.patch.object(journal_module.Journal, "change", lambda journal, **changes: true(journal, **{name: value for name, value in changes.items() if name != "abandoned"})))
+
+
+def check_abandoned():
+    with desks("L1EE", "L2EE") as (place, fake, gate):
+        with client.Counter(place / "a.journal", gate.address, desk=3, patience=0.3) as counter:
+            right(counter.abandon("nothing is open") is None, "nothing is open: nothing is given up")
+            gate.faults = ["lost answer"] * 20
+            number = raises(client.NoReply, lambda: counter.redeem(DAY, 7, ["L1EE"], key="invoice-1")).request.number
+            right(raises(client.StillOpen, lambda: counter.redeem(DAY, 7, ["L2EE"])).request.number == number, "another request waits for it")
+            gate.faults = []
+            given_up = counter.abandon("the customer left")
+            right(given_up.may_be_done and "AlreadyPaid" in given_up.outcome and counter.open_request is None, f"given up: {given_up.outcome}")
+            right(counter.redeem(DAY, 7, ["L2EE"]).request.number > number, "the next request has a number of its own")
+        with client.Counter(place / "a.journal", gate.address) as counter:
+            kept = counter.abandoned
+            right([(one.request.number, one.request.key, one.reason) for one in kept] == [(number, "invoice-1", "the customer left")], "it is in the journal, with the reason and the key", kept)
+            paid = raises(client.AlreadyPaid, lambda: counter.redeem(DAY, 7, ["L1EE"], key="invoice-1"))
+            right(paid.ticket == 1 and len(fake.tickets) == 2, "the payment that was done is found by AlreadyPaid, with its ticket")
+
+
+def full_disk():
+    """A journal that can't be written ends the call before anything is sent."""
+    with desks("L1EE") as (place, fake, gate), client.Counter(place / "a.journal", gate.address, desk=3) as counter:
+        with mock.patch.object(journal_module.os, "fsync", side_effect=OSError(28, "No space left on device")):
+            error = raises(client.FileFailed, lambda: counter.redeem(DAY, 7, ["L1EE"]))
+        right(fake.tickets == [] and isinstance(error.__cause__, OSError), f"a full disk: {error}")
+        right(counter.redeem(DAY, 7, ["L1EE"]).request.sent == 1, "control: with room the same call pays")
+
+
+CASES = (limits, set_up, patience, abandoning, full_disk)
+__all__ = ["CASES", "Gate"]
