@@ -11,7 +11,7 @@ import ee_counter_client.spelling as spelling
 from bench import DAY, client, control, desks, folder, journal_text, own_environment, raises, right
 from unittest import mock
 
-JUNK = (None, True, 1.5, -1, 10**30, b"bytes", "", "x" * 300, "\0", "caf\u00e9", [], {}, object(), float("nan"), datetime.datetime(2012, 2, 6, 8), lambda: None)
+JUNK = (None, True, 1.5, -1, 10**30, b"bytes", "", "x" * 300, "\0", "caf\u00e9", [], {}, object(), float("nan"), datetime.time(8), lambda: None)
 BRANCHES = (client.BadCall, client.WrongSetup, client.Retryable, client.UnknownOutcome, client.Refused)
 
 
@@ -62,6 +62,7 @@ def check_calls():
         for what, call in places.items():
             right(all(is_own(lambda junk=junk: call(junk), what) for junk in JUNK), f"{what}: {len(JUNK)} kinds of junk")
         right(journal_text(place / "a.journal") == before and fake.tickets == [] and gate.bodies == [], "and the journal is as it was")
+        raises(client.BadValue, lambda: counter.open_day(datetime.datetime(2012, 2, 6, 8)))
         for junk in (b"bytes", object(), float("nan"), {"a": object()}):
             raises(client.BadValue, lambda: counter.open_day(DAY, bookmark=junk))
         for junk in (b"bytes", 7, "", "x" * 201, "a\nb"):

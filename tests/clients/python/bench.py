@@ -16,7 +16,6 @@ from ee_counter_client.testing import FakeCounter, Gate
 
 TOP = Path(__file__).resolve().parents[3]
 DAY = "2012-02-06"
-PORTS = iter(range(25000, 25999))
 
 
 def right(is_right, what, found=""):
@@ -32,7 +31,7 @@ def control(what, check, *broken):
             stack.enter_context(part)
         try:
             check()
-        except (SystemExit, AssertionError, client.CounterError, OSError):
+        except (SystemExit, Exception):
             failed = True
         else:
             failed = False
@@ -83,7 +82,7 @@ def timed(most, least=0.0):
 @contextlib.contextmanager
 def true_counter(program, place):
     """The program itself, over a new store. Yields its port."""
-    port = next(port for port in PORTS if is_free(port))
+    port = free_port()
     with open(place / "serve.lines", "ab") as lines:
         process = subprocess.Popen([program, "serve", "--db", str(place / "day.db"), "--port", str(port)], stdout=lines, stderr=lines)
     try:
@@ -98,9 +97,10 @@ def true_counter(program, place):
         process.wait()
 
 
-def is_free(port):
+def free_port():
     with socket.socket() as trial:
-        return trial.connect_ex(("127.0.0.1", port)) != 0
+        trial.bind(("127.0.0.1", 0))
+        return trial.getsockname()[1]
 
 
 @contextlib.contextmanager

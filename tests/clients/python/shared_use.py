@@ -1,15 +1,16 @@
 """Threads, forked processes, closing, and two paths to one journal."""
-import contextlib
 import os
 import threading
 import time
+import types
 from concurrent.futures import ThreadPoolExecutor
 from unittest import mock
 
+import ee_counter_client.counter as counter_module
 import ee_counter_client.journal as journal_module
 from bench import DAY, client, control, desks, folder, raises, right, timed
 
-THREADS, PAYMENTS = 8, 10
+THREADS, PAYMENTS = 6, 5
 
 
 class NoLock:
@@ -21,22 +22,27 @@ class NoLock:
     def release(self):
         pass
 
+    __enter__ = acquire
+
+    def __exit__(self, *_):
+        pass
+
 
 def threads():
     """Threads that share a Counter wait for one another: each request is done once, and one at a time."""
     check_threads()
-    control("without its lock, threads meet each other's open requests", check_threads, mock.patch("threading.RLock", NoLock))
+    control("without its lock, threads meet each other's open requests", check_threads, mock.patch.object(counter_module, "threading", types.SimpleNamespace(RLock=NoLock)))
     busy()
 
 
 def check_threads():
     serials = [f"A{number}EE" for number in range(1, THREADS * PAYMENTS + 1)]
     with desks(*serials) as (place, fake, gate), client.Counter(place / "a.journal", gate.address, desk=3) as counter:
-        gate.faults = ["lost answer", "lost request"] * 10
+        gate.faults = ["lost answer", "lost request"] * 5
         with ThreadPoolExecutor(THREADS) as workers:
             tickets = list(workers.map(lambda serial: counter.redeem(DAY, 7, [serial]), serials))
         numbers = [ticket.request.number for ticket in tickets]
-        right(len(fake.tickets) == len(set(numbers)) == len(serials) and counter.open_request is None, f"{THREADS} threads with {PAYMENTS} payments each, 20 of them harmed: one ticket each")
+        right(len(fake.tickets) == len(set(numbers)) == len(serials) and counter.open_request is None, f"{THREADS} threads with {PAYMENTS} payments each, 10 of them harmed: one ticket each")
         right([[line.serial for line in ticket.lines] for ticket in tickets] == [[serial] for serial in serials], "and each thread got its own")
 
 
@@ -45,7 +51,7 @@ def busy():
     with desks("L1EE", "L2EE") as (place, _, gate), client.Counter(place / "a.journal", gate.address, desk=3, patience=1.5) as counter:
         counter.ticket(1)
         gate.faults = ["silent"]
-        other = threading.Thread(target=lambda: contextlib.suppress(client.NoReply).__enter__() or raises(client.NoReply, lambda: counter.redeem(DAY, 7, ["L1EE"])))
+        other = threading.Thread(target=raises, args=(client.NoReply, lambda: counter.redeem(DAY, 7, ["L1EE"])))
         other.start()
         time.sleep(0.3)
         counter.patience = 0.4

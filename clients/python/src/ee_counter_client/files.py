@@ -8,7 +8,7 @@ import os
 from typing import Any, Callable, Dict, Iterator, List, NamedTuple, Sequence, Union
 
 from .answers import compact
-from .counter import Counter
+from .counter import Counter, path_of
 from .errors import BadFile, BadValue, Refused
 from .results import Added
 from .spelling import MOST_ROWS, Json, bond_of, rate_row_of
@@ -27,10 +27,11 @@ class Registered(NamedTuple):
 
 def records_of(path: Path, headers: Sequence[List[str]]) -> List[List[str]]:
     """Reads the records of a CSV file, the header first. Each has a field for each column."""
+    name = path_of(path, "a file")
     try:
-        with open(path, encoding="utf-8-sig", newline="") as file:
+        with open(name, encoding="utf-8-sig", newline="") as file:
             records = [record for record in csv.reader(file, strict=True) if record]
-    except (csv.Error, ValueError, TypeError, OSError) as fault:
+    except (csv.Error, ValueError, OSError) as fault:
         raise BadFile(1, f"the file can't be read: {fault}") from None
     if not records or records[0] not in headers:
         raise BadFile(1, f"the header isn't {','.join(headers[0])}")
