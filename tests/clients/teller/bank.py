@@ -38,7 +38,7 @@ class Server:
 
     def begin(self):
         process = subprocess.Popen([self.program, "serve", "--db", self.store, "--port", str(self.port)], stdout=self.lines, stderr=self.lines)
-        for _ in range(6000):
+        for _ in range(12000):
             try:
                 socket.create_connection(("127.0.0.1", self.port)).close()
                 return process

@@ -119,7 +119,7 @@ def compared(bank):
     count = max(given) + 1
     books = books_of(bank)
     answers = books.rows("SELECT act, reply FROM answers WHERE desk = 3 ORDER BY number")
-    right(len(answers) == count == len(given), f"{count:,} requests, each answered once under one number; {sum('no reply' in line for line in told)} sendings without a reply, {sum(' times; ' in line for line in told)} replies to a repeated sending, {len(bank.gate.met)} messages harmed")
+    right(len(answers) == count == len(given), f"{count:,} requests, each answered once under one number; {sum('no reply' in line for line in told)} sendings without a reply, {sum(' times; ' in line for line in told)} replies to a repeated sending, {len(bank.gate.met)} messages harmed, {sum('started again' in line for line in told)} clients ended by a page and started again")
     wrong = [place for place, (act, _) in enumerate(answers) if act != canonical(place)]
     right(wrong == [], "the books have the acts of the plan, in its order", wrong[:3])
     wrong = [(place, given[place], reply) for place, (_, reply) in enumerate(answers) if json.loads(reply) != given[place]]

@@ -6,7 +6,7 @@ from pathlib import Path
 
 sys.path.insert(0, str(Path(__file__).resolve().parents[3] / "clients" / "python" / "src"))
 
-from ee_counter_client import Counter, Refused  # noqa: E402
+from ee_counter_client import Counter, ForeignAnswer, NotReady, Refused  # noqa: E402
 from plan import ACTS_A_DAY, act_at  # noqa: E402
 
 
@@ -29,7 +29,19 @@ def result_of(counter, place):
     return counter.redeem(fields["day"], fields["payee"], fields["serials"], bookmark=place + 1)
 
 
+def work(folder, address, keep):
+    """Does the acts from where the journal is, until it may stop."""
+    with Counter(folder / "worker.journal", address, desk=3) as counter:
+        place = 0 if counter.last is None else counter.last.request.bookmark
+        if place > 0:
+            keep(place - 1, counter.last.reply)
+        while counter.open_request is not None or not ((folder / "stop").exists() and place % ACTS_A_DAY == 0):
+            keep(place, done(counter, place))
+            place += 1
+
+
 def main():
+    """A page in the counter's place that comes before the first good exchange ends the client. It is then started again, as by a supervisor."""
     folder = Path(sys.argv[1])
     logging.basicConfig(filename=folder / "told", format="%(message)s", level=logging.WARNING)
     with open(folder / "replies", "a", encoding="utf-8") as replies:
@@ -38,13 +50,11 @@ def main():
             replies.write(json.dumps([place, reply]) + "\n")
             replies.flush()
 
-        with Counter(str(folder / "worker.journal"), sys.argv[2], desk=3) as counter:
-            place = 0 if counter.last is None else counter.last.request.bookmark
-            if place > 0:
-                keep(place - 1, counter.last.reply)
-            while counter.open_request is not None or not ((folder / "stop").exists() and place % ACTS_A_DAY == 0):
-                keep(place, done(counter, place))
-                place += 1
+        while True:
+            try:
+                return work(folder, sys.argv[2], keep)
+            except (ForeignAnswer, NotReady) as error:
+                logging.warning("started again: %s", error)
 
 
 main()
