@@ -1,15 +1,18 @@
 """Values an inventory of bonds in a month: inventory.py BONDS.csv RATES.csv YYYY-MM. The files are those that ee_cli imports."""
 
+from __future__ import annotations
+
 import array
 import bisect
 import csv
 import functools
 import sys
+import typing
 
 import ee_value
 
 
-def terms_at(rates):
+def terms_at(rates: str) -> typing.Callable[[str], tuple[int, int, int]]:
     """Return the function from the text of an issue month to its number and the bond's rates, as the library takes them."""
     with open(rates, newline="") as file:
         rows = list(csv.DictReader(file))
@@ -17,7 +20,7 @@ def terms_at(rates):
     begins = [ee_value.month_number(it["from"]) for it in rows]
 
     @functools.lru_cache(maxsize=None)
-    def terms(text):
+    def terms(text: str) -> tuple[int, int, int]:
         issued = ee_value.month_number(text)
         row = rows[bisect.bisect(begins, issued) - 1]
         return issued, ee_value.hundredths(row["rate"]), ee_value.hundredths(row.get("extension") or row["rate"])
@@ -25,7 +28,7 @@ def terms_at(rates):
     return terms
 
 
-def main(bonds, rates, month):
+def main(bonds: str, rates: str, month: str) -> None:
     terms, asked, questions = terms_at(rates), ee_value.month_number(month), array.array("I")
     with open(bonds, newline="") as file:
         reader = csv.reader(file)

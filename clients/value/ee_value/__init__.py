@@ -13,9 +13,12 @@ an int YYYYMM. A rate is a text or a Decimal in percent ("3.50"), or an int in h
 refused by TypeError, since 3.55 is none. Amounts are ints, in cents. A refused call raises Refused, a ValueError with the
 status and its text.
 
-The library is found where the variable EE_VALUE_LIBRARY says, or with the module: where pip installs it, beside this file, or
-in the folder out/ there, into which the script `build` puts it.
+The library is found where the variable EE_VALUE_LIBRARY says, or with the module: in its folder, where pip installs it, or in
+the folder out/ beside that one, into which the script `build` puts it, or among the system's libraries. Without it, importing
+raises ImportError.
 """
+
+from __future__ import annotations
 
 import ctypes
 import datetime
@@ -63,8 +66,8 @@ DONE, BAD_DENOMINATION, BAD_ISSUE_MONTH, BAD_MONTH, BAD_RATE, BAD_EXTENSION, NOT
 NOTES = ("", "NI", "NE", "P5", "MA")
 
 #: The layouts of what rows_into reads and writes, as numpy.dtype takes them.
-QUESTION_FIELDS = [(name, "u4") for name in ("dollars", "issued", "month", "rate", "extension")]
-ROW_FIELDS = [
+QUESTION_FIELDS: list[tuple[str, str]] = [(name, "u4") for name in ("dollars", "issued", "month", "rate", "extension")]
+ROW_FIELDS: list[tuple[str, str]] = [
     *((name, "u8") for name in ("payable_cents", "price_cents", "interest_cents", "value_cents")),
     *((name, "u4") for name in ("status", "note", "next_accrual", "final_maturity")),
 ]
@@ -72,10 +75,22 @@ ROW_FIELDS = [
 #: A row's fields in a buffer, by struct: the four amounts, the status, the number of the note (NOTES), and two months YYYYMM or 0.
 ROW = struct.Struct("=4Q4I")
 
-_TYPES = {"u4": ctypes.c_uint32, "u8": ctypes.c_uint64}
+_TYPES: dict[str, type[ctypes.c_uint32] | type[ctypes.c_uint64]] = {"u4": ctypes.c_uint32, "u8": ctypes.c_uint64}
 
 # A number that the library refuses in each place.
 _NO_NUMBER = 2**32 - 1
+
+#: What stands for a whole number: an int, or an integer of numpy.
+Whole = typing.SupportsIndex
+#: What stands for a month, and for a rate.
+MonthLike = typing.Union[str, datetime.date, typing.SupportsIndex]
+RateLike = typing.Union[str, decimal.Decimal, typing.SupportsIndex]
+#: A question of `rows`: dollars, issued, month, rate and perhaps the rate of extended maturity.
+Question = typing.Union[
+    typing.Tuple[Whole, MonthLike, MonthLike, RateLike], typing.Tuple[Whole, MonthLike, MonthLike, RateLike, typing.Optional[RateLike]]
+]
+#: What rows_into reads and writes: whatever has the buffer protocol, as arrays of numpy, array.array and bytearray.
+Buffer = typing.Any
 
 
 class _Question(ctypes.Structure):
@@ -84,17 +99,35 @@ class _Question(ctypes.Structure):
 
 class _Row(ctypes.Structure):
     _fields_ = [(name, _TYPES[form]) for name, form in ROW_FIELDS]
+    payable_cents: int
+    price_cents: int
+    interest_cents: int
+    value_cents: int
+    status: int
+    note: int
+    next_accrual: int
+    final_maturity: int
 
 
-def _load():
+def _opened() -> tuple[ctypes.CDLL, str]:
+    """Open the library: where the variable says, with the module, or where the system has its libraries."""
     named = os.environ.get("EE_VALUE_LIBRARY")
     here = pathlib.Path(__file__).resolve().parent
-    folders = (here / "ee_value.libs", here, here / "out")
-    places = [pathlib.Path(named)] if named else [folder / "libee_value.so.1" for folder in folders]
-    found = next((it for it in places if it.exists()), None)
-    if found is None:
-        raise ImportError(f"libee_value.so.1 is not at {' or '.join(map(str, places))}")
-    library = ctypes.CDLL(str(found.resolve()))
+    places = [pathlib.Path(named)] if named else [here / "libee_value.so.1", here.parent / "out" / "libee_value.so.1"]
+    found = next((str(it.resolve()) for it in places if it.exists()), None)
+    missing = f"the library is missing: there is no {' and no '.join(map(str, places))}; clients/value/build makes it"
+    if found is None and named:
+        raise ImportError(missing)
+    try:
+        library = ctypes.CDLL(found or "libee_value.so.1")
+        library.ee_value_version
+    except (OSError, AttributeError) as fault:
+        raise ImportError(missing if found is None else f"{found} is no library for this module on this machine: {fault}") from None
+    return library, found or "libee_value.so.1"
+
+
+def _load() -> ctypes.CDLL:
+    library, found = _opened()
     numbers = [ctypes.c_uint32] * 5
     library.ee_value_version.argtypes, library.ee_value_version.restype = [], ctypes.c_uint32
     library.ee_value_cents.argtypes, library.ee_value_cents.restype = numbers, ctypes.c_int64
@@ -114,7 +147,7 @@ def _load():
 _library = _load()
 
 
-def status_text(status):
+def status_text(status: int) -> str:
     """Return what a status says, as the library words it."""
     buffer = ctypes.create_string_buffer(64)
     _library.ee_value_status_text(_number(status), buffer, len(buffer))
@@ -124,11 +157,11 @@ def status_text(status):
 class Refused(ValueError):
     """A call has no answer. The attribute status says why, by one of this module's constants."""
 
-    def __init__(self, status):
+    def __init__(self, status: int) -> None:
         super().__init__(status)
         self.status = status
 
-    def __str__(self):
+    def __str__(self) -> str:
         return status_text(self.status)
 
 
@@ -144,14 +177,14 @@ class Row(typing.NamedTuple):
     final_maturity: typing.Optional[str]
 
 
-def _number(value):
+def _number(value: int) -> int:
     """Return the number as the library takes it: what no 32 bits hold is a number that it refuses."""
     return value if 0 <= value < _NO_NUMBER else _NO_NUMBER
 
 
-def _whole(value, what):
+def _whole(value: object, what: str) -> int:
     """Return what stands for a whole number, as int or numpy's do, as the library takes it."""
-    if isinstance(value, bool):
+    if isinstance(value, bool) or not isinstance(value, typing.SupportsIndex):
         raise TypeError(what)
     try:
         return _number(operator.index(value))
@@ -159,11 +192,11 @@ def _whole(value, what):
         raise TypeError(what) from None
 
 
-def _dollars(value):
+def _dollars(value: Whole) -> int:
     return _whole(value, "dollars are an int")
 
 
-def month_number(value):
+def month_number(value: MonthLike) -> int:
     """Return a month as the number YYYYMM that the library takes; what is no month becomes a number that it refuses."""
     if isinstance(value, datetime.date):
         return 100 * value.year + value.month
@@ -176,7 +209,7 @@ def month_number(value):
     return _whole(value, "a month is a text YYYY-MM or MM/YYYY, a date, or an int YYYYMM")
 
 
-def hundredths(value):
+def hundredths(value: RateLike) -> int:
     """Return a rate as the hundredths of a percent that the library takes; what is no rate becomes a number that it refuses."""
     if isinstance(value, str):
         found = re.fullmatch(r"([0-9]{1,2})(?:\.([0-9]{1,2}))?%?", value)
@@ -190,17 +223,19 @@ def hundredths(value):
     return _whole(value, "a rate is a text or a Decimal in percent, or an int in hundredths of a percent")
 
 
-def _numbers(dollars, issued, month, rate, extension=None):
+def _numbers(
+    dollars: Whole, issued: MonthLike, month: MonthLike, rate: RateLike, extension: typing.Optional[RateLike] = None
+) -> tuple[int, int, int, int, int]:
     fixed = hundredths(rate)
     extended = fixed if extension is None else hundredths(extension)
     return _dollars(dollars), month_number(issued), month_number(month), fixed, extended
 
 
-def _text(month):
+def _text(month: int) -> typing.Optional[str]:
     return f"{month // 100}-{month % 100:02}" if month else None
 
 
-def _row(answer):
+def _row(answer: _Row) -> Row:
     return Row(
         answer.payable_cents,
         answer.price_cents,
@@ -212,33 +247,37 @@ def _row(answer):
     )
 
 
-def cents(dollars, issued, month, rate, extension=None):
+def cents(
+    dollars: Whole, issued: MonthLike, month: MonthLike, rate: RateLike, extension: typing.Optional[RateLike] = None
+) -> int:
     """Return what a bond pays in a month, in cents.
 
     Raise Refused where it pays nothing: before issue (NOT_ISSUED), below 12 months of age (NOT_ELIGIBLE), and where an
     argument is no denomination, month or rate.
     """
-    answer = _library.ee_value_cents(*_numbers(dollars, issued, month, rate, extension))
+    answer: int = _library.ee_value_cents(*_numbers(dollars, issued, month, rate, extension))
     if answer < 0:
         raise Refused(-answer)
     return answer
 
 
-def row(dollars, issued, month, rate, extension=None):
+def row(
+    dollars: Whole, issued: MonthLike, month: MonthLike, rate: RateLike, extension: typing.Optional[RateLike] = None
+) -> Row:
     """Return a bond's Row in a month. Raise Refused where an argument is no denomination, month or rate."""
-    answer = _library.ee_value_row(*_numbers(dollars, issued, month, rate, extension))
+    answer: _Row = _library.ee_value_row(*_numbers(dollars, issued, month, rate, extension))
     if answer.status:
         raise Refused(answer.status)
     return _row(answer)
 
 
-def rows(questions):
+def rows(questions: typing.Iterable[Question]) -> list[typing.Union[Row, Refused]]:
     """Return the answer to each (dollars, issued, month, rate) or (dollars, issued, month, rate, extension) of a list: its Row,
     or a Refused, which is not raised.
 
     One call of the library answers them all.
     """
-    asked = [_numbers(*question) for question in questions]
+    asked: typing.Any = [_numbers(*question) for question in questions]  # ctypes makes a structure of a tuple
     if not asked:
         return []
     answers = (_Row * len(asked))()
@@ -246,7 +285,7 @@ def rows(questions):
     return [Refused(it.status) if it.status else _row(it) for it in answers]
 
 
-def rows_into(questions, answers):
+def rows_into(questions: Buffer, answers: Buffer) -> int:
     """Answer many questions in one call, from a buffer to a buffer; refusals are rows with their status. Return how many rows were written.
 
     The questions are an array of QUESTION_FIELDS, as of numpy, or an array.array("I") with the five numbers of one after those of another;
@@ -263,9 +302,10 @@ def rows_into(questions, answers):
     if asked.itemsize not in (4, ctypes.sizeof(_Question)) or given.itemsize not in (1, ctypes.sizeof(_Row)):
         raise ValueError("the buffers are of QUESTION_FIELDS or numbers, and of ROW_FIELDS or bytes")
     into = (_Row * count).from_buffer(given)
-    return _library.ee_value_rows((_Question * count).from_buffer_copy(asked), count, into, count)
+    written: int = _library.ee_value_rows((_Question * count).from_buffer_copy(asked), count, into, count)
+    return written
 
 
-def dollars_and_cents(amount):
+def dollars_and_cents(amount: int) -> str:
     """Return an amount of cents as its text, as 29.74."""
     return f"{amount // 100}.{amount % 100:02}"
