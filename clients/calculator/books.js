@@ -1,0 +1,85 @@
+// The rates and bonds of the page, and why rows are refused, with the codes, names and order of the counter (docs/OPERATING.md). Books never
+// change: an act that is done returns new ones.
+
+import { isAnnouncement, periodOf, serialOrder } from "./spelling.js";
+
+const MOST_RATES = 500;
+
+const refusal = (code, name, details = {}) => ({ refusal: { code, name, ...details } });
+const sameRates = (one, other) => one.rate === other.rate && one.extension === other.extension;
+const sameBond = (one, other) => ["denom", "issued", "owner", "coowner"].every((name) => one[name] === other[name]);
+
+export const NO_BOOKS = { rates: new Map(), bonds: new Map() };
+
+export function termsOf(rates, issued) {
+  return rates.get(periodOf(issued));
+}
+
+export function sortedBonds(bonds) {
+  return [...bonds.values()].sort((one, other) => serialOrder(one.serial) - serialOrder(other.serial));
+}
+
+// The first row whose month has other rates in an earlier row.
+function conflictOf(rows) {
+  const known = new Map();
+  for (const row of rows) {
+    const held = known.get(row.from);
+    if (held !== undefined && !sameRates(held, row)) return row;
+    known.set(row.from, row);
+  }
+  return undefined;
+}
+
+function rateRefusal(rows) {
+  if (rows.length === 0) return refusal(11, "Empty");
+  if (rows.length > MOST_RATES) return refusal(12, "TooMany");
+  const unannounced = rows.find((row) => !isAnnouncement(row.from));
+  if (unannounced !== undefined) return refusal(20, "NotAnnouncementMonth", { month: unannounced.from, row: unannounced.row });
+  const conflict = conflictOf(rows);
+  return conflict === undefined ? null : refusal(21, "RateConflict", { month: conflict.from, row: conflict.row });
+}
+
+// Adds the rates of a file. A month that the books have takes the file's rates; with `alone` the file's rates are the only ones.
+export function withRates(books, rows, alone) {
+  const refused = rateRefusal(rows);
+  if (refused !== null) return refused;
+  const added = rows.map((row) => [row.from, { rate: row.rate, extension: row.extension }]);
+  const rates = new Map([...(alone ? [] : books.rates), ...added].sort((one, other) => one[0] - other[0]));
+  const unrated = sortedBonds(books.bonds).find((bond) => termsOf(rates, bond.issued) === undefined);
+  if (unrated !== undefined) return refusal(30, "NoRate", { serial: unrated.serial, month: unrated.issued });
+  return { books: { ...books, rates }, added: rows.length };
+}
+
+function repeatedOf(rows) {
+  const known = new Set();
+  return rows.find((row) => known.has(row.serial) || !known.add(row.serial));
+}
+
+function bondRefusal(books, rows) {
+  const named = (code, name, row, details = {}) => refusal(code, name, { serial: row.serial, row: row.row, ...details });
+  if (rows.length === 0) return refusal(11, "Empty");
+  const repeated = repeatedOf(rows);
+  if (repeated !== undefined) return named(13, "Repeated", repeated);
+  const own = rows.find((row) => row.coowner === row.owner);
+  if (own !== undefined) return named(14, "SameCoowner", own);
+  const unrated = rows.find((row) => termsOf(books.rates, row.issued) === undefined);
+  if (unrated !== undefined) return named(30, "NoRate", unrated, { month: unrated.issued });
+  const other = rows.find((row) => books.bonds.has(row.serial) && !sameBond(books.bonds.get(row.serial), row));
+  return other === undefined ? null : named(31, "SerialConflict", other);
+}
+
+// Adds bonds, all or none. Counts those that are new, and those that the books have already.
+export function withBonds(books, rows) {
+  const refused = bondRefusal(books, rows);
+  if (refused !== null) return refused;
+  const bonds = new Map(books.bonds);
+  for (const { serial, denom, issued, owner, coowner } of rows) bonds.set(serial, { serial, denom, issued, owner, coowner });
+  const count = bonds.size - books.bonds.size;
+  return { books: { ...books, bonds }, added: count, same: rows.length - count };
+}
+
+export function withoutBond(books, serial) {
+  const bonds = new Map(books.bonds);
+  bonds.delete(serial);
+  return { ...books, bonds };
+}

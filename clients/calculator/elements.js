@@ -1,0 +1,32 @@
+// Makes elements of HTML and SVG, and finds those of the page.
+
+const SVG = "http://www.w3.org/2000/svg";
+
+export const byId = (id) => document.getElementById(id);
+
+function filled(made, attributes, children) {
+  for (const [name, value] of Object.entries(attributes)) made.setAttribute(name, value);
+  made.append(...children);
+  return made;
+}
+
+export function element(name, attributes = {}, ...children) {
+  return filled(document.createElement(name), attributes, children);
+}
+
+export function drawn(name, attributes = {}, ...children) {
+  return filled(document.createElementNS(SVG, name), attributes, children);
+}
+
+export function options(select, pairs, chosen = select.value) {
+  select.replaceChildren(...pairs.map(([value, text]) => element("option", { value }, text)));
+  if (pairs.some(([value]) => String(value) === String(chosen))) select.value = chosen;
+}
+
+// A plain table with headings, whose first column names the row.
+export function table(caption, headings, rows) {
+  const head = element("tr", {}, ...headings.map((text) => element("th", { scope: "col" }, text)));
+  const body = rows.map(([name, ...cells]) => element("tr", {}, element("th", { scope: "row" }, name), ...cells.map((text) => element("td", {}, text))));
+  const title = caption === "" ? [] : [element("caption", {}, caption)];
+  return [...title, element("thead", {}, head), element("tbody", {}, ...body)];
+}

@@ -1,0 +1,35 @@
+// What the page tells: one live region at the top of the window, with a list of faults below its sentence if there are any.
+
+import { byId, element } from "./elements.js";
+import { TEXTS } from "./texts.js";
+
+const MOST_FAULTS = 20;
+
+function show(text, kind, list) {
+  byId("told-box").hidden = false;
+  byId("told-box").className = kind;
+  byId("told-text").textContent = text;
+  byId("told-list").replaceChildren(...list.map((line) => element("li", {}, line)));
+}
+
+export function tell(text) {
+  show(text, "done", []);
+}
+
+export function tellFault(text) {
+  show(text, "refused", []);
+}
+
+// The first fault is the one that the counter names.
+export function tellFaults(faults) {
+  const more = faults.slice(1, MOST_FAULTS).map(TEXTS.fault);
+  const rest = faults.length > MOST_FAULTS ? [TEXTS.more_faults(faults.length - MOST_FAULTS)] : [];
+  show(`${TEXTS.nothing_added} ${TEXTS.fault(faults[0])}`, "refused", [...more, ...rest]);
+}
+
+export function beginNotices() {
+  byId("told-close").addEventListener("click", () => {
+    byId("told-box").hidden = true;
+    byId("main").focus();
+  });
+}

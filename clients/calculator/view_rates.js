@@ -1,0 +1,78 @@
+// The rates by which bonds are valued: those that the page ships, or a file's.
+
+import shipped from "../../samples/rates.csv";
+import { withRates } from "./books.js";
+import { byId, table } from "./elements.js";
+import { readRates, writeRates } from "./files.js";
+import { tell, tellFault, tellFaults } from "./notices.js";
+import { saveFile } from "./saving.js";
+import { monthText, rateText } from "./spelling.js";
+import { change, state } from "./state.js";
+import { TEXTS } from "./texts.js";
+
+const bytesOf = (text) => new TextEncoder().encode(text);
+
+export function ratesText() {
+  return writeRates(state.books.rates);
+}
+
+export function showRates() {
+  const { rates } = state.books;
+  byId("rates-told").textContent = TEXTS.rates_told(rates.size, state.is_shipped);
+  byId("shipped").hidden = state.is_shipped;
+  const rows = [...rates].map(([from, terms]) => [monthText(from), rateText(terms.rate), rateText(terms.extension)]);
+  byId("rate-table").replaceChildren(...table("", TEXTS.rate_columns, rows));
+}
+
+// Takes rates that were read. Whether they are in use.
+function take({ rows, faults }, alone, is_shipped) {
+  if (faults.length > 0) {
+    tellFaults(faults);
+    return false;
+  }
+  const done = withRates(state.books, rows, alone);
+  if (done.refusal !== undefined) {
+    tellFault(`${TEXTS.rates_kept} ${TEXTS.refusal(done.refusal)}`);
+    return false;
+  }
+  try {
+    change({ books: done.books, is_shipped });
+  } catch (failure) {
+    if (failure.serial === undefined) throw failure;
+    tellFault(`${TEXTS.rates_kept} ${TEXTS.unsettled(failure.serial)}`);
+    return false;
+  }
+  tell(is_shipped ? TEXTS.rates_shipped : TEXTS.rates_added(done.added));
+  return true;
+}
+
+export function takeShipped() {
+  return take(readRates(bytesOf(shipped)), true, true);
+}
+
+// Takes rates that the page kept.
+export function takeKept(text) {
+  const is_shipped = text === writeRates(withRates(state.books, readRates(bytesOf(shipped)).rows, true).books.rates);
+  return take(readRates(bytesOf(text)), true, is_shipped);
+}
+
+async function takeFile(event) {
+  const [file] = event.target.files;
+  if (file === undefined) return;
+  try {
+    take(readRates(new Uint8Array(await file.arrayBuffer())), byId("alone").checked, false);
+  } catch (failure) {
+    if (!(failure instanceof DOMException)) throw failure;
+    tellFault(TEXTS.unreadable(file.name));
+  }
+  event.target.value = "";
+}
+
+export function beginRates() {
+  byId("rate-file").addEventListener("change", takeFile);
+  byId("shipped").addEventListener("click", takeShipped);
+  byId("save-rates").addEventListener("click", () => {
+    saveFile(TEXTS.files.rates, ratesText(), "text/csv");
+    tell(TEXTS.saved(TEXTS.files.rates));
+  });
+}
