@@ -1,0 +1,91 @@
+"""What the page must answer, worked out once: by the counter's program, and by the tests' own arithmetic (tests/value/exact.py)."""
+import functools
+import random
+import sys
+from pathlib import Path
+
+import counter
+import data
+
+TOP = Path(__file__).resolve().parents[3]
+# The arithmetic of the library's tests, wherever those tests stand.
+EXACT = next(path.parent for path in (TOP / "tests").rglob("exact.py"))
+sys.path.insert(0, str(EXACT))
+import exact  # noqa: E402
+
+PUBLISHED = TOP / "crates" / "published_values" / "data"
+SHIPPED = (TOP / "samples" / "rates.csv").read_bytes()
+STORES = 8
+
+
+class Expected:
+    """The answers of one program. Each list is worked out when it is first asked for."""
+
+    def __init__(self, program, seed, sheets=200, values=2000, damages=120):
+        self.program, self.seed, self.sheets_wanted, self.values_wanted, self.damages = program, seed, sheets, values, damages
+
+    def dice(self, name):
+        return random.Random(f"{self.seed} {name}")
+
+    @functools.cached_property
+    def inventories(self):
+        """Refusals and spellings of inventories: (name, file, what the program says)."""
+        dice = self.dice("inventories")
+        bonds = data.random_bonds(dice, 6, set(), 7)
+        base = data.inventory_file([bond for bond in bonds if bond[2] < data.FIRST + 186], dice)
+        files = [*data.inventory_files(), *((f"damaged {place}", data.damaged(dice, base)) for place in range(self.damages))]
+        return counter.in_turn(files, lambda it: (*it, counter.first_answer(self.program, SHIPPED, "inventory", it[1])))
+
+    @functools.cached_property
+    def rates(self):
+        """The same of rate files."""
+        return counter.in_turn(list(data.rate_files()), lambda it: (*it, counter.first_answer(self.program, None, "rates", it[1])))
+
+    @functools.cached_property
+    def values(self):
+        """Groups of bonds with one value month and rates of their own, and the line of `value` for each bond."""
+        dice = self.dice("values")
+        groups = []
+        for _ in range(self.values_wanted // 50):
+            rates = data.random_rates(dice)
+            bonds = data.random_bonds(dice, 50, set(), 7)
+            month = data.random_month(dice, dice.choice(bonds)[2])
+            groups.append({"rates": rates, "bonds": bonds, "month": month})
+        asked = [self.question(group, bond) for group in groups for bond in group["bonds"]]
+        lines = counter.in_turn(asked, lambda it: counter.value_line(self.program, it))
+        for place, group in enumerate(groups):
+            group["lines"] = lines[50 * place : 50 * place + 50]
+        return groups
+
+    def question(self, group, bond):
+        rate, extension = group["rates"][data.period_of(bond[2])]
+        return bond[1], data.month_text(bond[2]), data.month_text(group["month"]), data.rate_text(rate), data.rate_text(extension)
+
+    @functools.cached_property
+    def sheets(self):
+        """Inventories with rates and a value month, and the sheet that the program prints."""
+        each = self.sheets_wanted // STORES
+        return [one for found in counter.in_turn(range(STORES), lambda store: self.store_sheets(store, each)) for one in found]
+
+    def store_sheets(self, store, count):
+        """Return the sheets of the customers of one store: 1 to 120 bonds each."""
+        dice = self.dice(f"sheets {store}")
+        rates = data.rates_file(data.random_rates(dice)) if store else SHIPPED
+        program, serials, found = counter.Counter(self.program), set(), []
+        assert program.enter("rates", rates).startswith('{"new":')
+        for customer in range(1, count + 1):
+            bonds = data.random_bonds(dice, dice.choice((1, 2, 5, 20, 120)), serials, customer)
+            if store == 0:
+                bonds = [(serial, dollars, data.FIRST + (issued - data.FIRST) % 186, owner, coowner) for serial, dollars, issued, owner, coowner in bonds]
+            file = data.inventory_file(bonds, dice)
+            assert program.enter("inventory", file) == f'{{"new":{len(bonds)},"same":0}}\n'
+            month = data.month_text(data.random_month(dice, dice.choice(bonds)[2]))
+            found.append({"rates": rates, "file": file, "owner": customer, "month": month, "sheet": program.sheet(customer, month)})
+        program.remove()
+        return found
+
+    def questions(self, count=20_000):
+        """Random questions of the library with their rows by exact arithmetic."""
+        dice = self.dice("questions")
+        asked = [exact.random_question(dice) for _ in range(count)]
+        return [{"question": question, "row": exact.row(*question), "cents": exact.cents(*question)} for question in asked]

@@ -1,0 +1,104 @@
+"""The modules and the page's readers under Node, without a browser."""
+import json
+import subprocess
+import tempfile
+from pathlib import Path
+
+import expected
+from telling import right, wrong_is_seen
+
+TOP = expected.TOP
+HERE = Path(__file__).resolve().parent
+OUT = TOP / "clients" / "value" / "out"
+MODULES = {"the module of 32 bits": (OUT / "ee_value.wasm", ()), "the module of 64 bits": (OUT / "ee_value64.wasm", ("--experimental-wasm-memory64",))}
+
+
+def node(*words, text=None):
+    done = subprocess.run(["node", "--no-warnings", *map(str, words)], input=text, capture_output=True, text=True)
+    assert done.returncode == 0, done.stderr
+    return done.stdout
+
+
+def compared(module, words, folder, questions):
+    return json.loads(node(*words, HERE / "modules.mjs", module, folder, questions))
+
+
+def all_equal(found, count):
+    assert found["published"] == {"asked": 66048, "equal": 66048}, found
+    assert found["rows"] == {"asked": count, "equal": count}, found
+    assert all(found["borders"].values()), found
+
+
+def one_cent_more(folder):
+    """The published values with one of them a cent higher."""
+    for name in ("rates.csv", "published-values.csv"):
+        (folder / name).write_bytes((expected.PUBLISHED / name).read_bytes())
+    text = (folder / "published-values.csv").read_text()
+    (folder / "published-values.csv").write_text(text.replace("2005-05,2006-05,1283", "2005-05,2006-05,1284"))
+    return folder
+
+
+def broken_module(module, folder):
+    """The module with 1251 in place of 1250, the unit's first value, as its machine code has it."""
+    content = module.read_bytes()
+    assert content.count(b"\x42\xe2\x09") == 1
+    path = folder / "broken.wasm"
+    path.write_bytes(content.replace(b"\x42\xe2\x09", b"\x42\xe3\x09"))
+    return path
+
+
+def modules(words):
+    """Both modules: the published values, random rows, borders."""
+    asked = words.expected.questions()
+    with tempfile.TemporaryDirectory() as name:
+        folder = Path(name)
+        questions = folder / "questions.json"
+        questions.write_text(json.dumps(asked))
+        for told, (module, flags) in MODULES.items():
+            all_equal(compared(module, flags, expected.PUBLISHED, questions), len(asked))
+            right(f"{told}: 8,256 published values at 8 denominations and {len(asked)} random questions, by each call")
+            wrong_is_seen("a published value of a cent more", lambda: all_equal(compared(module, flags, one_cent_more(folder), questions), len(asked)))
+            wrong_is_seen("a module that begins with 12.51", lambda: all_equal(compared(broken_module(module, folder), flags, expected.PUBLISHED, questions), len(asked)))
+
+
+def answers(tasks, module="the module of 32 bits"):
+    path, flags = MODULES[module]
+    text = "".join(json.dumps(task) + "\n" for task in tasks)
+    return [json.loads(line) for line in node(*flags, HERE / "answers.mjs", path, text=text).splitlines()]
+
+
+def same(found, wanted, names):
+    different = [(name, one, other) for name, one, other in zip(names, found, wanted, strict=True) if one != other]
+    assert not different, f"{len(different)} differ: {different[:3]}"
+
+
+def readers(words):
+    """Each refusal of the readers and of the registers, and damaged files."""
+    shipped = expected.SHIPPED.hex()
+    for kind, cases in (("rates", words.expected.rates), ("inventory", words.expected.inventories)):
+        tasks = [{"kind": kind, "file": file.hex(), "rates": shipped} for _, file, _ in cases]
+        names, wanted = [name for name, _, _ in cases], [text for _, _, text in cases]
+        found = answers(tasks)
+        same(found, wanted, names)
+        refused = sum("row" in text or "refused" in text for text in wanted)
+        right(f"{len(cases)} files of {kind} answered as the program does, {refused} of them refused")
+        wrong_is_seen("an answer with the row before", lambda: same([text.replace("row 3", "row 2") for text in found], wanted, names))
+    codes = {text.split("code")[-1].strip(' ":\n').split(",")[0].split("}")[0] for _, _, text in [*words.expected.rates, *words.expected.inventories]}
+    assert {"70", "71", "72", "75", "11", "12", "13", "14", "20", "21", "30"} <= codes, codes
+    right("each code that a file can have: 70, 71, 72, 75, and 11 to 14, 20, 21, 30 of the registers")
+
+
+def sheets(words):
+    """Random values beside `value`, random inventories beside `sheet`, by each module."""
+    groups, listed = words.expected.values, words.expected.sheets
+    for module in MODULES:
+        tasks = [{"kind": "values", "questions": [words.expected.question(group, bond) for bond in group["bonds"]]} for group in groups]
+        found = [f"{line}\n" for group in answers(tasks, module) for line in group]
+        same(found, [line for group in groups for line in group["lines"]], range(len(found)))
+        tasks = [{"kind": "sheet", "rates": one["rates"].hex(), "file": one["file"].hex(), "owner": one["owner"], "month": one["month"]} for one in listed]
+        printed = answers(tasks, module)
+        same(printed, [one["sheet"] for one in listed], range(len(listed)))
+        notes = {line.split()[-1] for one in listed for line in one["sheet"].splitlines()}
+        assert {"NI", "NE", "P5", "MA"} <= notes
+        right(f"{module}: {len(found)} rows beside `value`, {len(listed)} inventories beside `sheet`, byte for byte")
+        wrong_is_seen("a sheet with one byte changed", lambda: same([text.replace("P5", "P6", 1) for text in printed], [one["sheet"] for one in listed], range(len(listed))))
