@@ -24,10 +24,16 @@ function scales(points, width) {
   return { first, last, step, top, x, y, width };
 }
 
-function grid({ step, top, y, width }) {
-  const line = (cents) => drawn("line", { class: "grid", x1: 0, x2: width, y1: y(cents), y2: y(cents) });
-  const label = (cents) => drawn("text", { x: 2, y: y(cents) - 4 }, dollarsText(cents).replace(".00", ""));
-  return Array.from({ length: Math.round(top / step) + 1 }, (_, place) => place * step).flatMap((cents) => (cents === 0 ? [line(cents)] : [line(cents), label(cents)]));
+const levels = ({ step, top }) => Array.from({ length: Math.round(top / step) + 1 }, (_, place) => place * step);
+
+function grid(scale) {
+  const { y, width } = scale;
+  return levels(scale).map((cents) => drawn("line", { class: "grid", x1: 0, x2: width, y1: y(cents), y2: y(cents) }));
+}
+
+function amounts(scale) {
+  const named = levels(scale).filter((cents) => cents > 0);
+  return named.map((cents) => drawn("text", { x: 2, y: scale.y(cents) - 4 }, dollarsText(cents).replace(".00", "")));
 }
 
 function years({ first, last, x, width }) {
@@ -58,7 +64,7 @@ function dots(points, marked, { x, y }) {
 
 function drawing(points, { label, now, marked }, width) {
   const scale = scales(points, width);
-  const parts = [...grid(scale), ...years(scale), ...curve(points, scale), ...nowLine(now, scale), ...dots(points, marked, scale)];
+  const parts = [...curve(points, scale), ...grid(scale), ...amounts(scale), ...years(scale), ...nowLine(now, scale), ...dots(points, marked, scale)];
   return drawn("svg", { role: "img", "aria-label": label, viewBox: `0 0 ${width} ${HEIGHT}`, width, height: HEIGHT }, ...parts);
 }
 

@@ -31,8 +31,7 @@ export function curveOf(library, rates, bond) {
   return months.map((month, place) => ({ month, cents: answers[place].valueCents }));
 }
 
-// Bonds that were issued in one month are worth their dollars together over the dollars of the smallest one, times that one's value: a bond's value is its
-// units times the value of one unit. So each issue month takes one bond's curve.
+// The units of 25 dollars by issue month. A bond is worth its units times the value of one unit, so one curve serves all bonds of a month.
 function issuesOf(bonds) {
   const issues = new Map();
   for (const bond of bonds) issues.set(bond.issued, (issues.get(bond.issued) ?? 0) + bond.denom / 25);

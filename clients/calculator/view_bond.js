@@ -4,7 +4,7 @@ import { termsOf, withoutBond } from "./books.js";
 import { Chart } from "./chart.js";
 import { byId, element, table } from "./elements.js";
 import { tell } from "./notices.js";
-import { rateText } from "./spelling.js";
+import { dollarsText, rateText } from "./spelling.js";
 import { change, state } from "./state.js";
 import { TEXTS } from "./texts.js";
 import { curveOf, DOUBLES, FIRST_PAYABLE, MATURES, milestonesOf, PENALTY_ENDS } from "./timeline.js";
@@ -17,7 +17,7 @@ function facts(row) {
   const { rate, extension } = termsOf(state.books.rates, bond.issued);
   const told = {
     bond: TEXTS.facts.bond(bond),
-    value: TEXTS.facts.value(state.month, texts.value, TEXTS.notes[texts.note]),
+    value: TEXTS.facts.value(state.month, dollarsText(row.cents.value), TEXTS.notes[texts.note]),
     rate: TEXTS.facts.rates(rateText(rate), rateText(extension)),
     owner: TEXTS.facts.owner(bond),
   };
@@ -27,7 +27,7 @@ function facts(row) {
 function ahead(bond) {
   const list = milestonesOf(state.library, state.books.rates, bond, state.month);
   if (list.length === 0) return element("p", {}, TEXTS.ahead_none);
-  const rows = list.map((one) => [TEXTS.ahead[one.name], TEXTS.month(one.month), one.row.texts.value]);
+  const rows = list.map((one) => [TEXTS.ahead[one.name], TEXTS.month(one.month), dollarsText(one.row.cents.value)]);
   return element("table", { class: "small" }, ...table("", TEXTS.ahead_columns, rows));
 }
 

@@ -21,8 +21,13 @@ function sums(rows, totals) {
   return [...told, [TEXTS.sums.next(state.month + 1), `${dollarsText(next)}, ${TEXTS.more(next - totals.value)}`]];
 }
 
+let shown = null;
+
+// The order and the filter of the table change nothing here.
 export function showSummary() {
   const rows = allRows();
+  if (rows === shown) return;
+  shown = rows;
   const totals = totalsOf(rows);
   byId("month").value = monthText(state.month);
   byId("total-name").textContent = TEXTS.total_name(rows.length, state.month);

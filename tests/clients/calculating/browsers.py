@@ -148,11 +148,12 @@ class Firefox(Browser):
             "app.update.enabled": False,
             "datareporting.policy.dataSubmissionEnabled": False,
             "browser.aboutwelcome.enabled": False,
+            "focusmanager.testmode": True,
             "layout.css.devPixelsPerPx": "1.0",
         }
         lines = [f"user_pref({json.dumps(name)}, {json.dumps(value)});\n" for name, value in prefs.items()]
         (Path(self.profile) / "user.js").write_text("".join(lines))
-        words = ["/usr/bin/firefox-esr", "--headless", "--no-remote", "--marionette", "--profile", self.profile, f"--width={size[0]}", f"--height={size[1]}", "about:blank"]
+        words = ["/usr/bin/firefox-esr", "--headless", "--no-remote", "--marionette", "--remote-allow-system-access", "--profile", self.profile, f"--width={size[0]}", f"--height={size[1]}", "about:blank"]
         self.process = subprocess.Popen(words, stdout=subprocess.DEVNULL, stderr=subprocess.DEVNULL, start_new_session=True, env={**os.environ, "HOME": self.profile})
         self.count = 0
         self.connect(port)
@@ -231,9 +232,12 @@ class Firefox(Browser):
         self.press(("keyDown", shift), ("keyDown", tab), ("keyUp", tab), ("keyUp", shift))
 
     def size(self, width, height):
-        """Set the window so that the page has this size; Firefox has a least width of its own."""
-        outer = self.run("return [outerWidth - innerWidth, outerHeight - innerHeight]")
-        self.call("WebDriver:SetWindowRect", {"width": width + outer[0], "height": height + outer[1]})
+        """Give the page this size within its window, whose own least width is 450 pixels."""
+        self.call("WebDriver:SetWindowRect", {"width": max(width, 500), "height": height + 100})
+        self.call("Marionette:SetContext", {"value": "chrome"})
+        style = "const { style } = gBrowser.selectedBrowser; style.flex = 'none'; style.width = `${arguments[0]}px`; style.height = `${arguments[1]}px`;"
+        self.run(style, width, height)
+        self.call("Marionette:SetContext", {"value": "content"})
 
     def picture(self, path):
         Path(path).write_bytes(base64.b64decode(self.call("WebDriver:TakeScreenshot", {"full": False})))

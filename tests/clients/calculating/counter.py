@@ -4,7 +4,7 @@ import tempfile
 from concurrent.futures import ThreadPoolExecutor
 from pathlib import Path
 
-WORKERS = 2
+WORKERS = 4
 
 
 class Counter:
@@ -50,12 +50,37 @@ def value_line(program, question):
     return subprocess.run([program, "value", *map(str, question)], capture_output=True, text=True).stdout
 
 
-def first_answer(program, rates, kind, content):
-    """Return what a new store with these rates says to one file."""
-    counter = Counter(program)
+class Register:
+    """Stores with the same rates and no bonds. A file that was refused changed nothing, so its store serves again."""
+
+    def __init__(self, program, rates):
+        self.program, self.rates, self.free = program, rates, []
+
+    def first_answer(self, kind, content):
+        """Return what such a store says to a file."""
+        store = self.free.pop() if self.free else self.made()
+        answer = store.enter(kind, content)
+        if answer.startswith('{"new":'):
+            store.remove()
+        else:
+            self.free.append(store)
+        return answer
+
+    def made(self):
+        store = Counter(self.program)
+        if self.rates is not None:
+            store.enter("rates", self.rates)
+        return store
+
+    def remove(self):
+        for store in self.free:
+            store.remove()
+
+
+def first_answers(program, rates, kind, files):
+    """Return (name, file, answer) for each file, as a new store with these rates answers it."""
+    register = Register(program, rates)
     try:
-        if rates is not None:
-            counter.enter("rates", rates)
-        return counter.enter(kind, content)
+        return in_turn(files, lambda it: (*it, register.first_answer(kind, it[1])))
     finally:
-        counter.remove()
+        register.remove()

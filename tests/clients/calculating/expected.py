@@ -1,5 +1,6 @@
 """What the page must answer, worked out once: by the counter's program, and by the tests' own arithmetic (tests/value/exact.py)."""
 import functools
+import pickle
 import random
 import sys
 from pathlib import Path
@@ -24,6 +25,17 @@ class Expected:
     def __init__(self, program, seed, sheets=200, values=2000, damages=120):
         self.program, self.seed, self.sheets_wanted, self.values_wanted, self.damages = program, seed, sheets, values, damages
 
+    def work_out(self, path):
+        """Have all answers, which take minutes: those that the file keeps, or else the program's, which the file keeps then."""
+        if path is not None and Path(path).exists():
+            kept = pickle.loads(Path(path).read_bytes())
+            self.seed = kept.pop("seed")
+            self.__dict__.update(kept)
+            return
+        answers = {name: getattr(self, name) for name in ("rates", "inventories", "values", "sheets")}
+        if path is not None:
+            Path(path).write_bytes(pickle.dumps({"seed": self.seed, **answers}))
+
     def dice(self, name):
         return random.Random(f"{self.seed} {name}")
 
@@ -34,12 +46,12 @@ class Expected:
         bonds = data.random_bonds(dice, 6, set(), 7)
         base = data.inventory_file([bond for bond in bonds if bond[2] < data.FIRST + 186], dice)
         files = [*data.inventory_files(), *((f"damaged {place}", data.damaged(dice, base)) for place in range(self.damages))]
-        return counter.in_turn(files, lambda it: (*it, counter.first_answer(self.program, SHIPPED, "inventory", it[1])))
+        return counter.first_answers(self.program, SHIPPED, "inventory", files)
 
     @functools.cached_property
     def rates(self):
         """The same of rate files."""
-        return counter.in_turn(list(data.rate_files()), lambda it: (*it, counter.first_answer(self.program, None, "rates", it[1])))
+        return counter.first_answers(self.program, None, "rates", list(data.rate_files()))
 
     @functools.cached_property
     def values(self):

@@ -82,7 +82,7 @@ def readers(words):
         same(found, wanted, names)
         refused = sum("row" in text or "refused" in text for text in wanted)
         right(f"{len(cases)} files of {kind} answered as the program does, {refused} of them refused")
-        wrong_is_seen("an answer with the row before", lambda: same([text.replace("row 3", "row 2") for text in found], wanted, names))
+        wrong_is_seen("answers with another code", lambda: same([text.replace("code 72", "code 71") for text in found], wanted, names))
     codes = {text.split("code")[-1].strip(' ":\n').split(",")[0].split("}")[0] for _, _, text in [*words.expected.rates, *words.expected.inventories]}
     assert {"70", "71", "72", "75", "11", "12", "13", "14", "20", "21", "30"} <= codes, codes
     right("each code that a file can have: 70, 71, 72, 75, and 11 to 14, 20, 21, 30 of the registers")

@@ -1,0 +1,213 @@
+"""How the page looks and reads: 320 pixels, 200 % zoom, paper, names and contrast, and the pictures of docs/pictures."""
+import re
+import subprocess
+import tempfile
+import time
+from pathlib import Path
+
+import data
+from page import Page
+from serving import on_disk, variant
+from telling import right, wrong_is_seen
+
+FILE = data.INVENTORY + b"".join(
+    f"{serial},{dollars},{issued},7,{coowner}\n".encode()
+    for serial, dollars, issued, coowner in (
+        ("C1204415EE", 100, "2006-03", ""), ("C1204416EE", 100, "2006-03", ""), ("K20488EE", 75, "2010-10", "8"), ("L77031EE", 50, "2010-11", ""), ("L77032EE", 50, "2010-11", "8"),
+        ("M300519EE", 10000, "2011-02", ""), ("R9910EE", 500, "2005-05", ""), ("R9911EE", 500, "2007-12", ""), ("V4400127EE", 5000, "2009-06", ""), ("X801EE", 1000, "2019-08", ""), ("X802EE", 200, "2020-11", ""),
+    )
+)
+OVER = """
+    const wide = [...document.querySelectorAll("body *")].filter((one) => one.checkVisibility() && one.getBoundingClientRect().right > innerWidth + 1 && one.closest(".skip") === null);
+    return [document.documentElement.scrollWidth - innerWidth, wide.slice(0, 5).map((one) => one.outerHTML.slice(0, 120))];
+"""
+SMALL = """
+    const shown = [...document.querySelectorAll("button, input, select, summary")].filter((one) => one.checkVisibility() && one.type !== "checkbox");
+    return shown.filter((one) => one.getBoundingClientRect().height < 24).map((one) => one.outerHTML.slice(0, 120));
+"""
+
+
+def fits(browser):
+    over, wide = browser.run(OVER)
+    assert over <= 0 and not wide, (over, wide)
+
+
+def narrow(words, browser, site):
+    """At 320 pixels, at 200 % zoom of 1280, and with letters of twice the size nothing goes over the edge."""
+    page = Page(browser, site.url)
+    page.open_inventory(FILE)
+    page.choose_month("2012-02")
+    for width in (320, 640):
+        browser.size(width, 800)
+        browser.until(lambda: browser.run("return innerWidth") == width, f"a window of {width} pixels", 10)
+        browser.run("for (const one of document.querySelectorAll('details')) one.open = true")
+        fits(browser)
+        assert browser.run(SMALL) == []
+        browser.run("document.querySelector('#table .open').click()")
+        fits(browser)
+        browser.run("document.querySelector('#bond').close()")
+        page.open_inventory(data.INVENTORY + b"x" * 200 + b",50,2010-05,7,\n")
+        fits(browser)
+    browser.size(1280, 900)
+    browser.run("document.documentElement.style.fontSize = '200%'")
+    fits(browser)
+    browser.run("document.documentElement.style.fontSize = ''")
+    right(f"{browser.name}: 320 pixels, 200 % zoom and letters of twice the size: nothing over the edge, the dialog and long faults too")
+    with tempfile.TemporaryDirectory() as folder:
+        broken = variant(folder, "wide", ("style.css", "max-width: 84rem;", "min-width: 30rem;"))
+        Page(browser, on_disk(broken))
+        browser.size(320, 800)
+        browser.until(lambda: browser.run("return innerWidth") <= 500, "a narrow window", 10)
+        wrong_is_seen("a page that is 30 letters wide at least", lambda: fits(browser))
+    browser.size(1280, 900)
+
+
+def paper(browser):
+    """Return the printed pages as texts."""
+    with tempfile.TemporaryDirectory() as folder:
+        path = Path(folder) / "page.pdf"
+        path.write_bytes(browser.pdf())
+        text = subprocess.run(["pdftotext", "-layout", path, "-"], capture_output=True, text=True, check=True).stdout
+    return text.split("\f")[:-1]
+
+
+def reads_on_paper(browser, serials, total):
+    pages = paper(browser)
+    text = "\n".join(pages)
+    missing = [serial for serial in serials if serial not in text]
+    assert not missing, missing[:5]
+    assert total in text and "Value of the inventory" in text and "What is proved" in text
+    assert not [word for word in ("Add bonds", "Save the inventory", "Open rates", "Filter", "Choose") if word in text]
+    with_rows = [page for page in pages if any(serial in page for serial in serials)]
+    assert all("Denom" in page and "Final" in page for page in with_rows), "each page has the headings"
+    return len(pages)
+
+
+def printing(words, browser, site):
+    """On paper: sums, all rows under headings on each page, the chart; no field and no button."""
+    dice = words.expected.dice("print")
+    bonds = [(serial, dollars, data.FIRST + (issued - data.FIRST) % 186, owner, coowner) for serial, dollars, issued, owner, coowner in data.random_bonds(dice, 150, set(), 7)]
+    page = Page(browser, site.url)
+    page.open_inventory(data.inventory_file(bonds))
+    page.choose_month("2030-06")
+    time.sleep(1)
+    count = reads_on_paper(browser, [bond[0] for bond in bonds], page.total()[9])
+    right(f"{browser.name}: 150 bonds are printed on {count} pages, with headings on each page of rows")
+    with tempfile.TemporaryDirectory() as folder:
+        broken = variant(folder, "paper", ("style.css", "@media print", "@media speech"))
+        wrong = Page(browser, on_disk(broken))
+        wrong.open_inventory(data.inventory_file(bonds))
+        wrong_is_seen("a page without rules for paper", lambda: reads_on_paper(browser, [bond[0] for bond in bonds], "Total"))
+
+
+NAMES = """
+    const shown = (one) => one.checkVisibility();
+    const fields = [...document.querySelectorAll("input, select, textarea")].filter((one) => one.labels.length === 0 && !one.hasAttribute("aria-label"));
+    const buttons = [...document.querySelectorAll("button, a, summary")].filter((one) => one.textContent.trim() === "" && shown(one));
+    const levels = [...document.querySelectorAll("h1, h2, h3")].filter(shown).map((one) => Number(one.tagName[1]));
+    const jumps = levels.filter((level, at) => level - (levels[at - 1] ?? 0) > 1);
+    const ids = [...document.querySelectorAll("[id]")].map((one) => one.id);
+    const live = [...document.querySelectorAll("[aria-live], [role=status], [role=alert], output")].map((one) => one.id);
+    const ordered = [...document.querySelectorAll("[tabindex]")].filter((one) => one.tabIndex > 0);
+    const svgs = [...document.querySelectorAll("svg")].filter((one) => one.getAttribute("role") !== "img" || !one.getAttribute("aria-label"));
+    const untold = [...document.querySelectorAll("[data-text]")].filter((one) => one.textContent === "" || one.textContent === "undefined");
+    const first = levels.filter((level) => level === 1).length;
+    return { fields: fields.length, buttons: buttons.length, jumps: jumps.length, first, twice: ids.length - new Set(ids).size, live, ordered: ordered.length, svgs: svgs.length, untold: untold.map((one) => one.dataset.text), lang: document.documentElement.lang };
+"""
+WANTED = {"fields": 0, "buttons": 0, "jumps": 0, "first": 1, "twice": 0, "live": ["told-text"], "ordered": 0, "svgs": 0, "untold": [], "lang": "en"}
+CONTRAST = """
+    const parts = (text) => text.match(/[0-9.]+/g).map(Number);
+    const straight = (c) => (c <= 0.04045 ? c / 12.92 : ((c + 0.055) / 1.055) ** 2.4);
+    const light = (text) => { const [r, g, b] = parts(text).map((c) => straight(c / 255)); return 0.2126 * r + 0.7152 * g + 0.0722 * b; };
+    const ground = (one) => { for (let at = one; at !== null; at = at.parentElement) { const colour = getComputedStyle(at).backgroundColor; if (parts(colour)[3] !== 0) return colour; } return "rgb(255, 255, 255)"; };
+    const has_text = (one) => [...one.childNodes].some((node) => node.nodeType === 3 && node.data.trim() !== "") || one.matches("input");
+    const seen = [...document.querySelectorAll("body *")].filter((one) => one.checkVisibility() && has_text(one) && one.closest(".skip, option, noscript") === null);
+    return seen.map((one) => {
+        const style = getComputedStyle(one);
+        const [more, less] = [light(one.namespaceURI.includes("svg") ? style.fill : style.color), light(ground(one))].sort((x, y) => y - x);
+        return [(more + 0.05) / (less + 0.05), `${one.tagName} ${one.getAttribute("class")} ${one.textContent.slice(0, 30)}`];
+    });
+"""
+
+
+def least_contrast(browser):
+    found = browser.run(CONTRAST)
+    poor = [pair for pair in found if pair[0] < 4.5]
+    assert not poor, poor[:5]
+    return min(ratio for ratio, _ in found)
+
+
+def reading(words, browser, site):
+    """Names, headings, one live region, contrast; in Chromium also what a screen reader is given, and the dark scheme."""
+    page = Page(browser, site.url)
+    page.open_inventory(FILE)
+    page.choose_month("2012-02")
+    browser.until(lambda: browser.run("return document.querySelector('#curve-figure svg') !== null"), "the chart")
+    browser.run("for (const one of document.querySelectorAll('details')) one.open = true")
+    assert browser.run(NAMES) == WANTED, browser.run(NAMES)
+    least = least_contrast(browser)
+    page.open_inventory(b"x\n")
+    least = min(least, least_contrast(browser))
+    browser.run("document.querySelector('#table .open').click()")
+    assert browser.run(NAMES) == WANTED, browser.run(NAMES)
+    least = min(least, least_contrast(browser))
+    browser.run("document.querySelector('#bond').close()")
+    if browser.name == "Chromium":
+        least = min(least, screen_reader(browser))
+    right(f"{browser.name}: each field, button and drawing has a name, headings are in order, one live region; the least contrast of a text is {least:.1f} to 1")
+    browser.run("document.querySelector('label[for=serial]').remove()")
+    wrong_is_seen("a field without a label", lambda: equal(browser.run(NAMES), WANTED))
+
+
+def equal(found, wanted):
+    assert found == wanted, (found, wanted)
+
+
+def screen_reader(browser):
+    """Chromium's tree for screen readers: the bonds and the chart's values as tables, on a dark ground too; the least contrast there."""
+    nodes = [node for node in browser.driver.execute_cdp_cmd("Accessibility.getFullAXTree", {})["nodes"] if not node.get("ignored")]
+    roles = [node["role"]["value"] for node in nodes]
+    names = {node["role"]["value"]: node["name"]["value"] for node in nodes if node.get("name", {}).get("value")}
+    count = FILE.count(b"\n") - 1
+    assert roles.count("columnheader") >= 11 + 2 and roles.count("rowheader") >= count + 1 + 31 and roles.count("table") >= 2, {role: roles.count(role) for role in set(roles)}
+    assert {"banner", "main", "region"} <= set(roles) and ("image" in names or "img" in names), sorted(set(roles))
+    browser.size(320, 800)
+    browser.run("scrollTo(0, 0)")
+    again = [node["role"]["value"] for node in browser.driver.execute_cdp_cmd("Accessibility.getFullAXTree", {})["nodes"] if not node.get("ignored")]
+    assert again.count("rowheader") >= count + 1, "rows are rows in a narrow window too"
+    browser.size(1280, 900)
+    browser.dark(True)
+    least = least_contrast(browser)
+    browser.dark(False)
+    return least
+
+
+def pictures(words, browser, site):
+    """The pictures of docs/pictures, by Chromium, if --pictures names a folder."""
+    if words.pictures is None or browser.name != "Chromium":
+        return
+    folder = Path(words.pictures)
+    page = Page(browser, site.url)
+    page.open_inventory(FILE)
+    page.choose_month("2012-02")
+    browser.run("document.querySelector('#told-close').click(); document.activeElement.blur()")
+    taken(browser, folder / "calculator.png", 1100, 1810)
+    browser.run("document.querySelector('#table .open').click()")
+    taken(browser, folder / "calculator-bond.png", 820, 880)
+    browser.run("document.querySelector('#bond').close(); document.activeElement.blur()")
+    browser.run("document.querySelector('#add').hidden = true")
+    taken(browser, folder / "calculator-phone.png", 320, 1250)
+    browser.run("document.querySelector('#add').hidden = false")
+    browser.size(1280, 900)
+    with tempfile.TemporaryDirectory() as made:
+        Path(made, "page.pdf").write_bytes(browser.pdf())
+        subprocess.run(["pdftoppm", "-r", "70", "-png", "-singlefile", Path(made, "page.pdf"), folder / "calculator-print"], check=True)
+    right(f"pictures in {folder}")
+
+
+def taken(browser, path, width, height):
+    browser.size(width, height)
+    browser.run("scrollTo(0, 0)")
+    time.sleep(0.6)
+    browser.picture(path)
+    assert re.match(rb"\x89PNG", path.read_bytes())

@@ -1,0 +1,73 @@
+"""The built page on a port of this machine, and copies of it that are wrong on purpose."""
+import functools
+import http.server
+import shutil
+import socket
+import threading
+from pathlib import Path
+
+import expected
+
+OUT = expected.TOP / "clients" / "calculator" / "out"
+PORTS = iter(range(23100, 23900))
+
+
+def free_port():
+    """Return a port that nobody listens on. Each is given once, since a browser keeps pages by their port."""
+    for port in PORTS:
+        with socket.socket() as probe:
+            if probe.connect_ex(("127.0.0.1", port)) != 0:
+                return port
+    raise AssertionError("no port is free")
+
+
+class Handler(http.server.SimpleHTTPRequestHandler):
+    def log_message(self, *_):
+        pass
+
+    def do_GET(self):
+        self.server.asked.append(self.path)
+        super().do_GET()
+
+    def end_headers(self):
+        self.send_header("Cache-Control", "no-store")
+        self.send_header("Access-Control-Allow-Origin", "*")
+        super().end_headers()
+
+
+class Site:
+    """A server of a folder. `asked` has the paths that were asked for."""
+
+    def __init__(self, folder=OUT):
+        self.folder = folder
+        self.port = free_port()
+        self.asked = []
+        self.start()
+
+    def start(self):
+        self.server = http.server.ThreadingHTTPServer(("127.0.0.1", self.port), functools.partial(Handler, directory=self.folder))
+        self.server.asked = self.asked
+        threading.Thread(target=self.server.serve_forever, daemon=True).start()
+
+    def stop(self):
+        self.server.shutdown()
+        self.server.server_close()
+
+    @property
+    def url(self):
+        return f"http://127.0.0.1:{self.port}/"
+
+
+def on_disk(folder=OUT):
+    return (Path(folder) / "index.html").as_uri()
+
+
+def variant(folder, name, *changes):
+    """Return a copy of the page in which texts of files are others: (file, old, new)."""
+    made = Path(folder) / name
+    shutil.copytree(OUT, made)
+    for file, old, new in changes:
+        text = (made / file).read_text()
+        assert old in text, f"{file} has no {old}"
+        (made / file).write_text(text.replace(old, new))
+    return made
