@@ -12,6 +12,8 @@ from pathlib import Path
 from selenium import webdriver
 from selenium.webdriver.chrome.service import Service
 
+from serving import free_port
+
 PATIENCE = 60
 ELEMENT = "element-6066-11e4-a52e-4f735466cecf"
 KEYS = {"Tab": "\ue004", "Enter": "\ue007", "Escape": "\ue00c", "Space": " ", "Down": "\ue015", "Up": "\ue013", "End": "\ue010", "Home": "\ue011", "Shift": "\ue008"}
@@ -136,9 +138,10 @@ class Chromium(Browser):
 class Firefox(Browser):
     name = "Firefox"
 
-    def __init__(self, folder, size=(1280, 900), profile=None, port=23900):
+    def __init__(self, folder, size=(1280, 900), profile=None):
         self.downloads = tempfile.mkdtemp(dir=folder)
         self.profile = profile or tempfile.mkdtemp(dir=folder)
+        port = free_port()
         prefs = {
             "marionette.port": port,
             "browser.download.folderList": 2,

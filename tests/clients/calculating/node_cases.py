@@ -61,6 +61,22 @@ def modules(words):
             wrong_is_seen("a module that begins with 12.51", lambda: all_equal(compared(broken_module(module, folder), flags, expected.PUBLISHED, questions), len(asked)))
 
 
+def built(words):
+    """The page is built, of the sources as they are, and a second build has the same bytes."""
+    page = TOP / "clients" / "calculator"
+    with tempfile.TemporaryDirectory() as name:
+        subprocess.run([page / "build", name], check=True)
+        equal_folders(page / "out", Path(name))
+        right(f"{len(list(Path(name).iterdir()))} files of the page are built twice with the same bytes")
+        (Path(name) / "sw.js").write_text("")
+        wrong_is_seen("another file", lambda: equal_folders(page / "out", Path(name)))
+
+
+def equal_folders(one, other):
+    files = {folder: {path.name: path.read_bytes() for path in folder.iterdir()} for folder in (one, other)}
+    assert files[one] == files[other], "run clients/calculator/build first"
+
+
 def answers(tasks, module="the module of 32 bits"):
     path, flags = MODULES[module]
     text = "".join(json.dumps(task) + "\n" for task in tasks)

@@ -1,13 +1,15 @@
 """The page beside the published values and the counter's program, byte for byte, in a browser."""
 import csv
 import re
+import shutil
 import tempfile
+from pathlib import Path
 
 import data
 import expected
 from counter import Counter
 from page import Page
-from serving import on_disk, variant
+from serving import Site, on_disk, variant
 from telling import right, wrong_is_seen
 
 MANY_MONTHS = """
@@ -56,7 +58,7 @@ def published(words, browser, site):
         assert count == 8 * len(rows) == 66048, count
         right(f"{browser.name}, module of {bits} bits: {count} of {count} published values, 8,256 at 8 denominations, as the table shows them")
     with tempfile.TemporaryDirectory() as folder:
-        broken = variant(folder, "cent", ("calculator.js", "valueCents: amount(view, at + 24)", "valueCents: amount(view, at + 24) + 1"))
+        broken = variant(folder, "cent", ("calculator.js", "value: moneyText(answer.valueCents)", "value: moneyText(answer.valueCents + 1)"))
         wrong = Page(browser, on_disk(broken))
         wrong.open_rates((expected.PUBLISHED / "rates.csv").read_bytes())
         wrong.open_inventory(file)
@@ -172,3 +174,31 @@ def round_trip(words, browser, site):
 
 def expect(found, wanted):
     assert found == wanted, (found, wanted)
+
+
+FIVE_LINES = """<!doctype html>
+<p id="told"></p>
+<script type="module">
+import { load } from "./ee-value.js";
+const value = await load();
+document.querySelector("#told").textContent = value.cents(50, "2010-05", "2015-05", "3.50");
+</script>
+"""
+
+
+def web_page(words, browser, site):
+    """ee-value.js in a web page of five lines, which loads the module beside it."""
+    value = expected.TOP / "clients" / "value"
+    with tempfile.TemporaryDirectory() as name:
+        folder = Path(name)
+        (folder / "out").mkdir()
+        shutil.copy(value / "ee-value.js", folder)
+        shutil.copy(value / "out" / "ee_value.wasm", folder / "out")
+        (folder / "index.html").write_text(FIVE_LINES)
+        own = Site(folder)
+        try:
+            browser.open(own.url)
+            browser.until(lambda: browser.run("return document.querySelector('#told').textContent") == "2974", "the page of five lines shows 2974")
+        finally:
+            own.stop()
+    right(f"{browser.name}: a web page of five lines over ee-value.js shows 2974")

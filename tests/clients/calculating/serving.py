@@ -1,6 +1,7 @@
 """The built page on a port of this machine, and copies of it that are wrong on purpose."""
 import functools
 import http.server
+import random
 import shutil
 import socket
 import threading
@@ -9,12 +10,13 @@ from pathlib import Path
 import expected
 
 OUT = expected.TOP / "clients" / "calculator" / "out"
-PORTS = iter(range(23100, 23900))
+PORTS = random.SystemRandom().sample(range(23100, 23900), 800)
 
 
 def free_port():
     """Return a port that nobody listens on. Each is given once, since a browser keeps pages by their port."""
-    for port in PORTS:
+    while PORTS:
+        port = PORTS.pop()
         with socket.socket() as probe:
             if probe.connect_ex(("127.0.0.1", port)) != 0:
                 return port
