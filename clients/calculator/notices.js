@@ -27,7 +27,14 @@ export function tellFaults(faults) {
   show(`${TEXTS.nothing_added} ${TEXTS.fault(faults[0])}`, "refused", [...more, ...rest]);
 }
 
+// What takes the keyboard is scrolled to below the box, and not under it.
+function keepRoom() {
+  const box = byId("told-box");
+  new ResizeObserver(() => document.documentElement.style.setProperty("--told", `${box.offsetHeight}px`)).observe(box);
+}
+
 export function beginNotices() {
+  keepRoom();
   byId("told-close").addEventListener("click", () => {
     byId("told-box").hidden = true;
     byId("main").focus();

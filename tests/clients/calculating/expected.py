@@ -85,16 +85,24 @@ class Expected:
         rates = data.rates_file(data.random_rates(dice)) if store else SHIPPED
         program, serials, found = counter.Counter(self.program), set(), []
         assert program.enter("rates", rates).startswith('{"new":')
-        for customer in range(1, count + 1):
-            bonds = data.random_bonds(dice, dice.choice((1, 2, 5, 20, 120)), serials, customer)
-            if store == 0:
-                bonds = [(serial, dollars, data.FIRST + (issued - data.FIRST) % 186, owner, coowner) for serial, dollars, issued, owner, coowner in bonds]
-            file = data.inventory_file(bonds, dice)
-            assert program.enter("inventory", file) == f'{{"new":{len(bonds)},"same":0}}\n'
-            month = data.month_text(data.random_month(dice, dice.choice(bonds)[2]))
+        owned = [self.owned(dice, store, serials, customer) for customer in range(1, count + 1)]
+        bonds = [bond for owned_bonds in owned for bond in owned_bonds]
+        for place in range(0, len(bonds), 500):
+            part = bonds[place : place + 500]
+            assert program.enter("inventory", data.inventory_file(part, dice)) == f'{{"new":{len(part)},"same":0}}\n'
+        for customer, owned_bonds in enumerate(owned, 1):
+            month = data.month_text(data.random_month(dice, dice.choice(owned_bonds)[2]))
+            file = data.inventory_file(owned_bonds, dice)
             found.append({"rates": rates, "file": file, "owner": customer, "month": month, "sheet": program.sheet(customer, month)})
         program.remove()
         return found
+
+    def owned(self, dice, store, serials, customer):
+        """Return a customer's bonds, in the first store those that the shipped rates are for."""
+        bonds = data.random_bonds(dice, dice.choice((1, 2, 5, 20, 120)), serials, customer)
+        if store:
+            return bonds
+        return [(serial, dollars, data.FIRST + (issued - data.FIRST) % 186, owner, coowner) for serial, dollars, issued, owner, coowner in bonds]
 
     def questions(self, count=20_000):
         """Random questions of the library with their rows by exact arithmetic."""
