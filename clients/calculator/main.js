@@ -4,7 +4,7 @@ import { Chart } from "./chart.js";
 import { byId, element, options } from "./elements.js";
 import { readInventory } from "./files.js";
 import { libraryOf } from "./modules.js";
-import { beginNotices, tellFault } from "./notices.js";
+import { beginNotices, tellFault, tellNothing } from "./notices.js";
 import { keptTexts } from "./saving.js";
 import { readMonth } from "./spelling.js";
 import { change, state, watch } from "./state.js";
@@ -92,8 +92,8 @@ async function start() {
   takeShipped();
   const kept = keptTexts();
   byId("keep").checked = kept !== null;
+  tellNothing();
   if (kept !== null) takeUp(kept);
-  byId("told-box").hidden = kept === null;
   document.documentElement.dataset.ready = "";
   installOffline();
 }

@@ -1,4 +1,5 @@
-// What the page tells: one live region at the top of the window, with a list of faults below its sentence if there are any.
+// What the page tells: one live region at the top of the window, with a list of faults below its sentence if there are any. The region is always
+// there, since a screen reader tells only changes of one that it knows.
 
 import { byId, element } from "./elements.js";
 import { TEXTS } from "./texts.js";
@@ -6,10 +7,13 @@ import { TEXTS } from "./texts.js";
 const MOST_FAULTS = 20;
 
 function show(text, kind, list) {
-  byId("told-box").hidden = false;
   byId("told-box").className = kind;
   byId("told-text").textContent = text;
   byId("told-list").replaceChildren(...list.map((line) => element("li", {}, line)));
+}
+
+export function tellNothing() {
+  show("", "none", []);
 }
 
 export function tell(text) {
@@ -36,7 +40,7 @@ function keepRoom() {
 export function beginNotices() {
   keepRoom();
   byId("told-close").addEventListener("click", () => {
-    byId("told-box").hidden = true;
+    tellNothing();
     byId("main").focus();
   });
 }

@@ -77,7 +77,7 @@ export const EN = {
   paste_label: "Columns: serial number, denomination, issue month",
   paste_help: "Copy the columns in a spreadsheet and paste them here. Owner and coowner may follow. With a line of headings the columns may have any order.",
   paste_button: "Add the pasted bonds",
-  added: (added, same) => `${bonds(added)} added.${same > 0 ? ` ${bonds(same)} already there.` : ""}`,
+  added: (added, same, all) => `${bonds(added)} added.${same > 0 ? ` ${bonds(same)} already there.` : ""} ${all.toLocaleString("en-US")} in all.`,
   nothing_added: "Nothing was added.",
   removed: (serial) => `Bond ${serial} was removed.`,
   removed_all: (count) => `${bonds(count)} removed.`,

@@ -22,7 +22,7 @@ export function addRows({ rows, faults }, is_saved = false) {
   }
   const is_untouched = is_saved && state.books.bonds.size === 0;
   change({ books: done.books, is_saved: done.added === 0 ? state.is_saved : is_untouched });
-  tell(TEXTS.added(done.added, done.same));
+  tell(TEXTS.added(done.added, done.same, done.books.bonds.size));
   return true;
 }
 

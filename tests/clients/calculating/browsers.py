@@ -23,9 +23,11 @@ AWAITING = "const done = arguments[arguments.length - 1]; (async (...given) => {
 class Browser:
     """What both browsers can do, over the few calls that each has by itself."""
 
-    def until(self, condition, what, patience=PATIENCE):
+    patience = PATIENCE
+
+    def until(self, condition, what, patience=None):
         """Wait until the condition holds, and return what it gave."""
-        end = time.monotonic() + patience
+        end = time.monotonic() + (patience or self.patience)
         while time.monotonic() < end:
             found = condition()
             if found:
@@ -61,10 +63,10 @@ class Browser:
             self.key("Tab")
         raise AssertionError(f"{self.name}: no Tab reaches {selector}")
 
-    def saved(self, name, patience=PATIENCE):
+    def saved(self, name):
         """Return the bytes of a file that the page saved, and remove it."""
         path = Path(self.downloads) / name
-        self.until(lambda: path.exists() and path.stat().st_size > 0 and not list(Path(self.downloads).glob("*.part")), f"{name} is saved", patience)
+        self.until(lambda: path.exists() and path.stat().st_size > 0 and not list(Path(self.downloads).glob("*.part")), f"{name} is saved")
         content = path.read_bytes()
         path.unlink()
         return content

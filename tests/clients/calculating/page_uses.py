@@ -13,6 +13,14 @@ HEADER = data.INVENTORY
 BY_HAND = b"from,rate,extension\n2010-05,3.40,\n"
 
 
+def fails_broken(browser, what, check, *change):
+    """A control: the check fails on a page whose script has another text in one place."""
+    browser.patience = 8
+    with tempfile.TemporaryDirectory() as folder:
+        broken = variant(folder, "broken", ("calculator.js", *change))
+        wrong_is_seen(what, lambda: check(browser, on_disk(broken)))
+
+
 def type_bond(browser, serial, denom, issued):
     """Type a bond with the keyboard, from the field of the serial number on."""
     browser.run("for (const name of ['serial', 'issued']) document.querySelector(`#${name}`).value = ''; document.querySelector('#serial').focus()")
@@ -23,9 +31,8 @@ def type_bond(browser, serial, denom, issued):
     browser.key("Enter")
 
 
-def typing(words, browser, site):
-    """Bonds that are typed: spellings, faults by field, and the register's refusals."""
-    page = Page(browser, site.url)
+def typed(browser, url):
+    page = Page(browser, url)
     type_bond(browser, "C-0012-EE", "50", "05/2010")
     browser.waits_for("1 bond added")
     assert [row[0] for row in page.rows()] == ["C12EE"] and page.rows()[0][3] == "05/2010"
@@ -43,7 +50,13 @@ def typing(words, browser, site):
         if field is not None and wanted:
             assert browser.run("return document.activeElement.id + document.activeElement.getAttribute('aria-invalid')") == f"{field}true"
     assert len(page.rows()) == 1
+
+
+def typing(words, browser, site):
+    """Bonds that are typed: spellings, faults by field, and the register's refusals."""
+    typed(browser, site.url)
     right(f"{browser.name}: typed bonds are read by the counter's spellings; a fault takes the keyboard to its field; a bond is never there twice")
+    fails_broken(browser, "a page that takes a bond with another denomination", typed, "sameBond(books.bonds.get(row.serial), row)", "sameBond(row, row)")
 
 
 PASTES = (
@@ -62,9 +75,8 @@ def paste(browser, text):
     return browser.told()
 
 
-def pasting(words, browser, site):
-    """Columns of a spreadsheet: tabs, headings in any order, commas, spaces; faults by row."""
-    page = Page(browser, site.url)
+def pasted(browser, url):
+    page = Page(browser, url)
     for text, serials in PASTES:
         told = paste(browser, text)
         assert told.startswith(f"{len(serials)} bond"), (text, told)
@@ -73,26 +85,46 @@ def pasting(words, browser, site):
     for text, wanted in PASTE_FAULTS:
         told = paste(browser, text)
         assert wanted in told and len(page.rows()) == count, (text, told)
+
+
+def pasting(words, browser, site):
+    """Columns of a spreadsheet: tabs, headings in any order, commas, spaces; faults by row."""
+    pasted(browser, site.url)
     right(f"{browser.name}: {len(PASTES)} ways of pasting are read, and {len(PASTE_FAULTS)} faults named by row and code")
+    fails_broken(browser, "a page that keeps spaces around cells", pasted, '(cell ?? "").trim()', '(cell ?? "")')
 
 
 def shown_serials(page):
     return [row[0] for row in page.rows()]
 
 
-def sorting(words, browser, site):
-    """Sorting by each column both ways, and filters; the totals are those of the rows that are shown."""
-    dice = words.expected.dice("sorting")
-    page = Page(browser, site.url)
-    rates = data.random_rates(dice)
-    bonds = data.random_bonds(dice, 60, set(), 7) + data.random_bonds(dice, 40, set("Q"), 8)
-    bonds = list({bond[0]: bond for bond in bonds}.values())
+def number(text):
+    return float(text.rstrip("%") or -1)
+
+
+def month(text):
+    return (text[3:], text[:2]) if text else ("", "")
+
+
+KEYS = {
+    "serial": lambda row: (row[0][0], int(row[0][1:-2])),
+    "denom": lambda row: int(row[2]),
+    "issued": lambda row: month(row[3]),
+    "next": lambda row: month(row[4]),
+    "final": lambda row: month(row[5]),
+    "price": lambda row: number(row[6]),
+    "interest": lambda row: number(row[7]),
+    "rate": lambda row: number(row[8]),
+    "value": lambda row: number(row[9]),
+    "note": lambda row: row[10],
+}
+
+
+def sorted_and_filtered(browser, url, rates, bonds):
+    page = Page(browser, url)
     page.shows_only(data.rates_file(rates), data.inventory_file(bonds), "2030-01")
     rows = page.rows()
-    number = lambda text: float(text.rstrip("%") or -1)  # noqa: E731
-    month = lambda text: (text[3:], text[:2]) if text else ("", "")  # noqa: E731
-    keys = {"serial": lambda r: (r[0][0], int(r[0][1:-2])), "denom": lambda r: int(r[2]), "issued": lambda r: month(r[3]), "next": lambda r: month(r[4]), "final": lambda r: month(r[5]), "price": lambda r: number(r[6]), "interest": lambda r: number(r[7]), "rate": lambda r: number(r[8]), "value": lambda r: number(r[9]), "note": lambda r: r[10]}
-    for column, key in keys.items():
+    for column, key in KEYS.items():
         for order in (("descending", "ascending") if column == "serial" else ("ascending", "descending")):
             browser.run("document.querySelector(`#table [data-column='${arguments[0]}']`).click()", column)
             found = [key(row) for row in page.rows()]
@@ -105,12 +137,21 @@ def sorting(words, browser, site):
         assert shown_serials(page) == wanted, note
         total = round(sum(number(row[9]) for row in rows if row[0] in wanted) * 100)
         assert page.total()[9] == f"{total // 100}.{total % 100:02}", (note, page.total())
-    right(f"{browser.name}: {len(rows)} bonds sorted by 10 columns both ways, and by each note; totals are of the shown rows")
 
 
-def ahead(words, browser, site):
-    """What a bond will be worth, against values worked out by hand."""
-    page = Page(browser, site.url)
+def sorting(words, browser, site):
+    """Sorting by each column both ways, and filters; the totals are those of the rows that are shown."""
+    dice = words.expected.dice("sorting")
+    rates = data.random_rates(dice)
+    bonds = data.random_bonds(dice, 60, set(), 7) + data.random_bonds(dice, 40, set("Q"), 8)
+    bonds = list({bond[0]: bond for bond in bonds}.values())
+    sorted_and_filtered(browser, site.url, rates, bonds)
+    right(f"{browser.name}: {len(bonds)} bonds sorted by 10 columns both ways, and by each note; totals are of the shown rows")
+    fails_broken(browser, "a page that sorts one way alone", lambda at, url: sorted_and_filtered(at, url, rates, bonds), "is_falling ? -1 : 1", "is_falling ? 1 : 1")
+
+
+def looked_ahead(browser, url):
+    page = Page(browser, url)
     page.shows_only(BY_HAND, HEADER + b"C1EE,50,2010-05,7,8\n", "2014-06")
     browser.run("document.querySelector('#table .open').click()")
     read = "return [...document.querySelectorAll('#bond-ahead tbody tr')].map((row) => [...row.children].slice(1).map((cell) => cell.textContent));"
@@ -130,7 +171,13 @@ def ahead(words, browser, site):
     browser.until(lambda: browser.run("return document.querySelectorAll('#curve-figure tbody tr').length") == 31, "the inventory's curve")
     inventory = browser.run("return [...document.querySelectorAll('#curve-figure tbody tr')].map((row) => [...row.children].map((cell) => cell.textContent))")
     assert inventory == points, (inventory[:3], points[:3])
+
+
+def ahead(words, browser, site):
+    """What a bond will be worth, against values worked out by hand."""
+    looked_ahead(browser, site.url)
     right(f"{browser.name}: next accrual, the penalty's end, doubling and final maturity, and 31 yearly values of the charts as tables")
+    fails_broken(browser, "a page that doubles a month late", looked_ahead, "DOUBLES = 240", "DOUBLES = 241")
 
 
 def offline(words, browser, site):
@@ -185,9 +232,8 @@ def disk(words, browser, site):
         wrong_is_seen("a page whose script is a module, which no disk gives", starts)
 
 
-def kept(words, browser, site):
-    """What the browser keeps, if it is asked to; and nothing else."""
-    page = Page(browser, site.url)
+def keeps(browser, url):
+    page = Page(browser, url)
     assert browser.run("return Object.keys(localStorage).length") == 0
     page.open_rates(BY_HAND, alone=False)
     page.open_inventory(HEADER + b"C1EE,50,2010-05,7,8\n")
@@ -204,7 +250,13 @@ def kept(words, browser, site):
     assert page.rows()[0][9] == "50.14", page.rows()
     browser.click("#keep")
     assert browser.run("return Object.keys(localStorage).length") == 0
+
+
+def kept(words, browser, site):
+    """What the browser keeps, if it is asked to; and nothing else."""
+    keeps(browser, site.url)
     right(f"{browser.name}: bonds, rates and month outlive a reload if the box is ticked, and leave the browser when it isn't")
+    fails_broken(browser, "a page that keeps them all the same", keeps, "localStorage.removeItem(KEY)", "localStorage.length")
 
 
 INTERACTIVE = """

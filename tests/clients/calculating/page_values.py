@@ -186,19 +186,26 @@ document.querySelector("#told").textContent = value.cents(50, "2010-05", "2015-0
 """
 
 
-def web_page(words, browser, site):
-    """ee-value.js in a web page of five lines, which loads the module beside it."""
+def shows_value(browser, text):
+    """A web page of these lines, with ee-value.js and its module beside it, shows 2974."""
     value = expected.TOP / "clients" / "value"
     with tempfile.TemporaryDirectory() as name:
         folder = Path(name)
         (folder / "out").mkdir()
         shutil.copy(value / "ee-value.js", folder)
         shutil.copy(value / "out" / "ee_value.wasm", folder / "out")
-        (folder / "index.html").write_text(FIVE_LINES)
+        (folder / "index.html").write_text(text)
         own = Site(folder)
         try:
             browser.open(own.url)
-            browser.until(lambda: browser.run("return document.querySelector('#told').textContent") == "2974", "the page of five lines shows 2974")
+            shown = browser.until(lambda: browser.run("return document.querySelector('#told').textContent"), "the page shows a value")
+            assert shown == "2974", shown
         finally:
             own.stop()
+
+
+def web_page(words, browser, site):
+    """ee-value.js in a web page of five lines, which loads the module beside it."""
+    shows_value(browser, FIVE_LINES)
     right(f"{browser.name}: a web page of five lines over ee-value.js shows 2974")
+    wrong_is_seen("a page that asks for another month", lambda: shows_value(browser, FIVE_LINES.replace("2015-05", "2015-06")))
