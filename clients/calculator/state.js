@@ -40,6 +40,17 @@ export function change(changes) {
   for (const watcher of watchers) watcher();
 }
 
+// Takes over changes, or returns the serial number of a bond whose value the library can't settle.
+export function changeIfSettled(changes) {
+  try {
+    change(changes);
+    return null;
+  } catch (failure) {
+    if (failure.serial === undefined) throw failure;
+    return failure.serial;
+  }
+}
+
 // The value of all bonds in another month.
 export function totalsIn(month) {
   return totalsOf(rowsAt(state.library, state.books.rates, sortedBonds(state.books.bonds), month));

@@ -6,7 +6,7 @@ import { INVENTORY, readInventory, readRow } from "./files.js";
 import { tell, tellFault, tellFaults } from "./notices.js";
 import { readPasted } from "./paste.js";
 import { DENOMINATIONS, readCustomer } from "./spelling.js";
-import { change, state } from "./state.js";
+import { changeIfSettled, state } from "./state.js";
 import { TEXTS } from "./texts.js";
 
 // Adds rows that were read. Whether they were added.
@@ -21,7 +21,11 @@ export function addRows({ rows, faults }, is_saved = false) {
     return false;
   }
   const is_untouched = is_saved && state.books.bonds.size === 0;
-  change({ books: done.books, is_saved: done.added === 0 ? state.is_saved : is_untouched });
+  const unsettled = changeIfSettled({ books: done.books, is_saved: done.added === 0 ? state.is_saved : is_untouched });
+  if (unsettled !== null) {
+    tellFault(`${TEXTS.nothing_added} ${TEXTS.unsettled(unsettled)}`);
+    return false;
+  }
   tell(TEXTS.added(done.added, done.same, done.books.bonds.size));
   return true;
 }

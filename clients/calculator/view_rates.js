@@ -7,7 +7,7 @@ import { readRates, writeRates } from "./files.js";
 import { tell, tellFault, tellFaults } from "./notices.js";
 import { saveFile } from "./saving.js";
 import { monthText, rateText } from "./spelling.js";
-import { change, state } from "./state.js";
+import { changeIfSettled, state } from "./state.js";
 import { TEXTS } from "./texts.js";
 
 const bytesOf = (text) => new TextEncoder().encode(text);
@@ -35,11 +35,9 @@ function take({ rows, faults }, alone, is_shipped) {
     tellFault(`${TEXTS.rates_kept} ${TEXTS.refusal(done.refusal)}`);
     return false;
   }
-  try {
-    change({ books: done.books, is_shipped });
-  } catch (failure) {
-    if (failure.serial === undefined) throw failure;
-    tellFault(`${TEXTS.rates_kept} ${TEXTS.unsettled(failure.serial)}`);
+  const unsettled = changeIfSettled({ books: done.books, is_shipped });
+  if (unsettled !== null) {
+    tellFault(`${TEXTS.rates_kept} ${TEXTS.unsettled(unsettled)}`);
     return false;
   }
   tell(is_shipped ? TEXTS.rates_shipped : TEXTS.rates_added(done.added));

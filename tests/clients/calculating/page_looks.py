@@ -191,13 +191,12 @@ def pictures(words, browser, site):
     page.open_inventory(FILE)
     page.choose_month("2012-02")
     browser.run("document.querySelector('#told-close').click(); document.activeElement.blur()")
-    taken(browser, folder / "calculator.png", 1100, 1810)
+    taken(browser, folder / "calculator.png", 1160, 1640)
     browser.run("document.querySelector('#table .open').click()")
     taken(browser, folder / "calculator-bond.png", 820, 880)
     browser.run("document.querySelector('#bond').close(); document.activeElement.blur()")
-    browser.run("document.querySelector('#add').hidden = true")
-    taken(browser, folder / "calculator-phone.png", 320, 1250)
-    browser.run("document.querySelector('#add').hidden = false")
+    browser.size(320, 900)
+    taken(browser, folder / "calculator-phone.png", 320, 900, "document.querySelector('#shown').scrollIntoView()")
     browser.size(1280, 900)
     with tempfile.TemporaryDirectory() as made:
         Path(made, "page.pdf").write_bytes(browser.pdf())
@@ -205,9 +204,9 @@ def pictures(words, browser, site):
     right(f"pictures in {folder}")
 
 
-def taken(browser, path, width, height):
+def taken(browser, path, width, height, scroll="scrollTo(0, 0)"):
     browser.size(width, height)
-    browser.run("scrollTo(0, 0)")
+    browser.run(scroll)
     time.sleep(0.6)
     browser.picture(path)
     assert re.match(rb"\x89PNG", path.read_bytes())
