@@ -1,9 +1,10 @@
 """How the page looks and reads: 320 pixels, 200 % zoom, paper, names and contrast, and the pictures of docs/pictures."""
-import re
 import subprocess
 import tempfile
 import time
 from pathlib import Path
+
+from PIL import Image
 
 import data
 from page import Page
@@ -27,9 +28,26 @@ SMALL = """
 """
 
 
+# Cells of the table whose text is wider than they are, or that lie over one another.
+CUT = """
+    const cells = [...document.querySelectorAll("#table tbody th, #table tbody td, #table thead th")].filter((one) => one.checkVisibility());
+    return cells.filter((one) => one.scrollWidth > one.clientWidth + 1).map((one) => `${one.className} ${one.textContent} ${one.scrollWidth} ${one.clientWidth}`);
+"""
+
+
 def fits(browser):
     over, wide = browser.run(OVER)
     assert over <= 0 and not wide, (over, wide)
+    cut = browser.run(CUT)
+    assert not cut, cut[:5]
+
+
+def widest(page):
+    """Show bonds with the longest texts that a row can have: 1522468.00 at 20 %, and a serial number of 13 characters."""
+    page.remove_all()
+    page.open_rates(b"from,rate\n2005-05,20.00\n")
+    page.open_inventory(data.INVENTORY + b"W9999999999EE,10000,2005-05,7,8\nM8888888888EE,10000,2005-06,7,\n")
+    page.choose_month("2035-05")
 
 
 def narrow(words, browser, site):
@@ -48,11 +66,16 @@ def narrow(words, browser, site):
         browser.run("document.querySelector('#bond').close()")
         page.open_inventory(data.INVENTORY + b"x" * 200 + b",50,2010-05,7,\n")
         fits(browser)
-    browser.size(1280, 900)
+    widest(page)
+    for width in (320, 480, 700, 1000, 1060, 1110, 1280):
+        browser.size(width, 900)
+        for column in ("series", "denom", "value"):
+            browser.run("document.querySelector(`#table [data-column='${arguments[0]}']`).click()", column)
+            fits(browser)
     browser.run("document.documentElement.style.fontSize = '200%'")
     fits(browser)
     browser.run("document.documentElement.style.fontSize = ''")
-    right(f"{browser.name}: 320 pixels, 200 % zoom and letters of twice the size: nothing over the edge, the dialog and long faults too")
+    right(f"{browser.name}: 320 pixels, 200 % zoom and letters of twice the size: nothing over the edge, the dialog, long faults and the longest rows too")
     with tempfile.TemporaryDirectory() as folder:
         broken = variant(folder, "wide", ("style.css", "max-width: 84rem;", "min-width: 30rem;"))
         Page(browser, on_disk(broken))
@@ -201,7 +224,14 @@ def pictures(words, browser, site):
     with tempfile.TemporaryDirectory() as made:
         Path(made, "page.pdf").write_bytes(browser.pdf())
         subprocess.run(["pdftoppm", "-r", "70", "-png", "-singlefile", Path(made, "page.pdf"), folder / "calculator-print"], check=True)
+    in_few_colours(folder / "calculator-print.png")
     right(f"pictures in {folder}")
+
+
+def in_few_colours(path):
+    """Make a picture small: 48 colours are enough for letters and lines."""
+    picture = Image.open(path).convert("RGB").quantize(48, dither=Image.Dither.NONE)
+    picture.save(path, optimize=True)
 
 
 def taken(browser, path, width, height, scroll="scrollTo(0, 0)"):
@@ -209,4 +239,4 @@ def taken(browser, path, width, height, scroll="scrollTo(0, 0)"):
     browser.run(scroll)
     time.sleep(0.6)
     browser.picture(path)
-    assert re.match(rb"\x89PNG", path.read_bytes())
+    in_few_colours(path)

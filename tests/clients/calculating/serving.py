@@ -1,6 +1,7 @@
 """The built page on a port of this machine, and copies of it that are wrong on purpose."""
 import functools
 import http.server
+import os
 import random
 import shutil
 import socket
@@ -9,7 +10,7 @@ from pathlib import Path
 
 import expected
 
-OUT = expected.TOP / "clients" / "calculator" / "out"
+OUT = Path(os.environ.get("CALCULATOR_PAGE", expected.TOP / "clients" / "calculator" / "out"))
 PORTS = random.SystemRandom().sample(range(23100, 23900), 800)
 
 
