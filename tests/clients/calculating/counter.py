@@ -32,6 +32,18 @@ class Counter:
     def sheet(self, customer, month):
         return self.run("sheet", str(customer), month)
 
+    def sheets(self, asked):
+        """Return the sheet of each (customer, month), by one run of `apply`, which prints the same texts as `sheet`."""
+        messages = "".join(f"GET /inventory/{customer}/{month} HTTP/1.1\r\n\r\n" for customer, month in asked)
+        left = subprocess.run([self.program, "apply", "--db", str(self.store)], input=messages.encode(), capture_output=True, check=True).stdout
+        found = []
+        while left:
+            head, _, rest = left.partition(b"\r\n\r\n")
+            length = int(head.split(b"Content-Length: ")[1].split(b"\r\n")[0])
+            found.append(rest[:length].decode())
+            left = rest[length:]
+        return found
+
     def export(self, customer):
         return self.run("export", str(customer)).encode()
 

@@ -16,7 +16,7 @@ import exact  # noqa: E402
 
 PUBLISHED = TOP / "crates" / "published_values" / "data"
 SHIPPED = (TOP / "samples" / "rates.csv").read_bytes()
-STORES = 8
+STORES = 4
 
 
 class Expected:
@@ -25,16 +25,15 @@ class Expected:
     def __init__(self, program, seed, sheets=200, values=2000, damages=120):
         self.program, self.seed, self.sheets_wanted, self.values_wanted, self.damages = program, seed, sheets, values, damages
 
-    def work_out(self, path):
-        """Have all answers, which take minutes: those that the file keeps, or else the program's, which the file keeps then."""
-        if path is not None and Path(path).exists():
-            kept = pickle.loads(Path(path).read_bytes())
-            self.seed = kept.pop("seed")
-            self.__dict__.update(kept)
-            return
-        answers = {name: getattr(self, name) for name in ("rates", "inventories", "values", "sheets")}
-        if path is not None:
-            Path(path).write_bytes(pickle.dumps({"seed": self.seed, **answers}))
+    def take(self, path):
+        """Take the answers that a file keeps."""
+        if Path(path).exists():
+            self.__dict__.update(pickle.loads(Path(path).read_bytes()))
+
+    def keep(self, path):
+        """Write the answers that are known by now."""
+        known = {name: self.__dict__[name] for name in ("seed", "rates", "inventories", "values", "sheets") if name in self.__dict__}
+        Path(path).write_bytes(pickle.dumps(known))
 
     def dice(self, name):
         return random.Random(f"{self.seed} {name}")
@@ -83,19 +82,18 @@ class Expected:
         """Return the sheets of the customers of one store: 1 to 120 bonds each."""
         dice = self.dice(f"sheets {store}")
         rates = data.rates_file(data.random_rates(dice)) if store else SHIPPED
-        program, serials, found = counter.Counter(self.program), set(), []
+        program, serials = counter.Counter(self.program), set()
         assert program.enter("rates", rates).startswith('{"new":')
         owned = [self.owned(dice, store, serials, customer) for customer in range(1, count + 1)]
         bonds = [bond for owned_bonds in owned for bond in owned_bonds]
         for place in range(0, len(bonds), 500):
             part = bonds[place : place + 500]
             assert program.enter("inventory", data.inventory_file(part, dice)) == f'{{"new":{len(part)},"same":0}}\n'
-        for customer, owned_bonds in enumerate(owned, 1):
-            month = data.month_text(data.random_month(dice, dice.choice(owned_bonds)[2]))
-            file = data.inventory_file(owned_bonds, dice)
-            found.append({"rates": rates, "file": file, "owner": customer, "month": month, "sheet": program.sheet(customer, month)})
+        months = [data.month_text(data.random_month(dice, dice.choice(owned_bonds)[2])) for owned_bonds in owned]
+        printed = program.sheets(list(enumerate(months, 1)))
+        assert printed[0] == program.sheet(1, months[0])
         program.remove()
-        return found
+        return [{"rates": rates, "file": data.inventory_file(bonds, dice), "owner": place + 1, "month": months[place], "sheet": printed[place]} for place, bonds in enumerate(owned)]
 
     def owned(self, dice, store, serials, customer):
         """Return a customer's bonds, in the first store those that the shipped rates are for."""

@@ -287,34 +287,30 @@ def unreached(browser):
 PUBLISHED_TOTAL = "510.80"
 
 
-def keyboard(words, browser, site):
-    """A whole use with the keyboard alone: a bond, a month, the order, a bond's page, what is saved."""
-    page = Page(browser, site.url)
-    browser.key("Tab")
-    assert browser.has_keyboard(".skip"), "the first Tab offers to skip"
-    browser.key("Enter")
-    browser.tab_to("#serial")
-    for serial in ("C-12-EE", "C13EE"):
-        browser.type_keys(serial)
-        browser.key("Tab")
-        browser.type_keys("$500")
-        browser.key("Tab")
-        browser.run("document.activeElement.select()")
-        browser.type_keys("05/2010")
-        browser.key("Enter")
-        browser.waits_for("1 bond added")
-        assert browser.has_keyboard("#serial")
-    for _ in range(12):
-        if browser.has_keyboard("#month"):
-            break
+def back_to(browser, selector, most=60):
+    """Press Shift and Tab until an element has the keyboard."""
+    for _ in range(most):
+        if browser.has_keyboard(selector):
+            return
         browser.shift_tab()
+    raise AssertionError(f"{browser.name}: no Tab back reaches {selector}")
+
+
+def typed_by_tabs(browser, serial):
+    """Add a 500-dollar bond of May 2010 from the field of the serial number on."""
+    browser.type_keys(serial)
+    browser.key("Tab")
+    browser.type_keys("$500")
+    browser.key("Tab")
     browser.run("document.activeElement.select()")
-    browser.type_keys("2012-02")
+    browser.type_keys("05/2010")
     browser.key("Enter")
-    assert [row[2] for row in page.rows()] == ["500", "500"] and page.total()[9] == PUBLISHED_TOTAL, page.rows()
-    browser.tab_to("#table [data-column='value']")
-    browser.key("Enter")
-    assert browser.has_keyboard("#table [data-column='value']") and browser.run("return document.querySelector('#table th.value').getAttribute('aria-sort')") == "ascending"
+    browser.waits_for("1 bond added")
+    assert browser.has_keyboard("#serial")
+
+
+def opened_by_arrows(browser):
+    """Go down a row, open that bond and close it."""
     browser.tab_to("#table .open")
     browser.key("Down")
     assert browser.run("return document.activeElement.textContent") == "C13EE"
@@ -323,10 +319,27 @@ def keyboard(words, browser, site):
     assert "C13EE" in browser.run("return document.querySelector('#bond-title').textContent")
     browser.key("Escape")
     browser.until(lambda: browser.run("return document.activeElement.textContent") == "C13EE", "Escape gives the keyboard back")
-    for _ in range(40):
-        if browser.has_keyboard("#save-inventory"):
-            break
-        browser.shift_tab()
+
+
+def keyboard(words, browser, site):
+    """A whole use with the keyboard alone: a bond, a month, the order, a bond's page, what is saved."""
+    page = Page(browser, site.url)
+    browser.key("Tab")
+    assert browser.has_keyboard(".skip"), "the first Tab offers to skip"
+    browser.key("Enter")
+    browser.tab_to("#serial")
+    for serial in ("C-12-EE", "C13EE"):
+        typed_by_tabs(browser, serial)
+    back_to(browser, "#month")
+    browser.run("document.activeElement.select()")
+    browser.type_keys("2012-02")
+    browser.key("Enter")
+    assert [row[2] for row in page.rows()] == ["500", "500"] and page.total()[9] == PUBLISHED_TOTAL, page.rows()
+    browser.tab_to("#table [data-column='value']")
+    browser.key("Enter")
+    assert browser.has_keyboard("#table [data-column='value']") and browser.run("return document.querySelector('#table th.value').getAttribute('aria-sort')") == "ascending"
+    opened_by_arrows(browser)
+    back_to(browser, "#save-inventory")
     browser.key("Enter")
     assert browser.saved("inventory.csv") == HEADER + b"C12EE,500,2010-05,1,\nC13EE,500,2010-05,1,\n"
     missing, unseen = unreached(browser)
@@ -370,35 +383,37 @@ def expect_stopped(found):
     assert found == ["stopped"] * 3, found
 
 
+TIMES = """
+    const shown = () => new Promise((resolve) => requestAnimationFrame(() => requestAnimationFrame(resolve)));
+    const timed = async (act) => { const begun = performance.now(); act(); await shown(); return Math.round(performance.now() - begun); };
+    const month = () => { document.querySelector("#month").value = "2030-06"; document.querySelector("#month-form").requestSubmit(); };
+    const sort = () => document.querySelector("#table [data-column='value']").click();
+    const filter = (words) => () => { document.querySelector("#filter").value = words; document.querySelector("#filter").dispatchEvent(new Event("input")); };
+    const found = { month: await timed(month), sort: await timed(sort), filter: await timed(filter("99")), all: await timed(filter("")) };
+    await new Promise((resolve) => setTimeout(resolve, 1000));
+    const frames = [];
+    document.querySelector("#table").scrollIntoView();
+    for (let count = 0; count < 200; count++) {
+        const begun = performance.now();
+        scrollBy(0, 800);
+        await new Promise(requestAnimationFrame);
+        frames.push(performance.now() - begun);
+    }
+    frames.sort((one, other) => one - other);
+    return { ...found, scrolled: Math.round(scrollY), median: Math.round(frames[100]), of_ten: Math.round(frames[180]), longest: Math.round(frames[199]) };
+"""
+
+
 def speed(words, browser, site):
     """Milliseconds for 10,000 bonds, and the frames of a scroll through them."""
     dice = words.expected.dice("speed")
     bonds = [(serial, dollars, data.FIRST + (issued - data.FIRST) % 186, owner, coowner) for serial, dollars, issued, owner, coowner in data.random_bonds(dice, 10_000, set(), 7)]
     page = Page(browser, site.url)
     begun = time.monotonic()
-    told = page.open_inventory(data.inventory_file(bonds))
-    assert "10,000 bonds added" in told, told
+    assert "10,000 bonds added" in page.open_inventory(data.inventory_file(bonds))
     opened = 1000 * (time.monotonic() - begun)
-    times = browser.run_async("""
-        const shown = () => new Promise((resolve) => requestAnimationFrame(() => requestAnimationFrame(resolve)));
-        const timed = async (act) => { const begun = performance.now(); act(); await shown(); return Math.round(performance.now() - begun); };
-        const month = () => { document.querySelector("#month").value = "2030-06"; document.querySelector("#month-form").requestSubmit(); };
-        const sort = () => document.querySelector("#table [data-column='value']").click();
-        const filter = () => { document.querySelector("#filter").value = "99"; document.querySelector("#filter").dispatchEvent(new Event("input")); };
-        const all = () => { document.querySelector("#filter").value = ""; document.querySelector("#filter").dispatchEvent(new Event("input")); };
-        const found = { month: await timed(month), sort: await timed(sort), filter: await timed(filter), all: await timed(all) };
-        await new Promise((resolve) => setTimeout(resolve, 1000));
-        const frames = [];
-        document.querySelector("#table").scrollIntoView();
-        for (let count = 0; count < 200; count++) {
-            const begun = performance.now();
-            scrollBy(0, 800);
-            await new Promise(requestAnimationFrame);
-            frames.push(performance.now() - begun);
-        }
-        frames.sort((one, other) => one - other);
-        return { ...found, scrolled: Math.round(scrollY), median: Math.round(frames[100]), of_ten: Math.round(frames[180]), longest: Math.round(frames[199]) };
-    """)
-    assert times["scrolled"] > 100_000, times
-    assert times["median"] < 100, times
-    right(f"{browser.name}: 10,000 bonds opened in {opened:.0f} ms with the driver's part; another month {times['month']} ms, sorted {times['sort']} ms, filtered {times['filter']} ms, all again {times['all']} ms; scrolling 200 frames of 800 pixels: median {times['median']} ms, 9 of 10 within {times['of_ten']} ms, longest {times['longest']} ms")
+    times = browser.run_async(TIMES)
+    assert times["scrolled"] > 100_000 and times["median"] < 100, times
+    told = f"another month {times['month']} ms, sorted {times['sort']} ms, filtered {times['filter']} ms, all again {times['all']} ms"
+    frames = f"median {times['median']} ms, 9 of 10 within {times['of_ten']} ms, longest {times['longest']} ms"
+    right(f"{browser.name}: 10,000 bonds opened in {opened:.0f} ms with the driver's part; {told}; scrolling 200 frames of 800 pixels: {frames}")
