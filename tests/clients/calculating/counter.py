@@ -1,10 +1,20 @@
 """What the counter's program prints: the answers that the page must give too."""
+import json
 import subprocess
 import tempfile
 from concurrent.futures import ThreadPoolExecutor
 from pathlib import Path
 
 WORKERS = 4
+
+
+def message(asked):
+    """Return the bytes of a message: a POST of JSON, or a GET without a body."""
+    path, body = asked
+    if body is None:
+        return f"GET {path} HTTP/1.1\r\n\r\n".encode()
+    text = json.dumps(body)
+    return f"POST {path} HTTP/1.1\r\nContent-Length: {len(text)}\r\n\r\n{text}".encode()
 
 
 class Counter:
@@ -32,10 +42,9 @@ class Counter:
     def sheet(self, customer, month):
         return self.run("sheet", str(customer), month)
 
-    def sheets(self, asked):
-        """Return the sheet of each (customer, month), by one run of `apply`, which prints the same texts as `sheet`."""
-        messages = "".join(f"GET /inventory/{customer}/{month} HTTP/1.1\r\n\r\n" for customer, month in asked)
-        left = subprocess.run([self.program, "apply", "--db", str(self.store)], input=messages.encode(), capture_output=True, check=True).stdout
+    def talk(self, messages):
+        """Send messages, (path, body or None), by one run of `apply`. Return the bodies of the answers."""
+        left = subprocess.run([self.program, "apply", "--db", str(self.store)], input=b"".join(map(message, messages)), capture_output=True, check=True).stdout
         found = []
         while left:
             head, _, rest = left.partition(b"\r\n\r\n")

@@ -20,10 +20,10 @@ def period_of(month):
     return month - (month - 4) % 6
 
 
-def random_rates(dice):
-    """Return terms by period: a fixed rate and an extension, which is the fixed one now and then."""
+def random_rates(dice, count=190):
+    """Return terms of so many periods: a fixed rate and an extension, which is the fixed one now and then."""
     found = {}
-    for period in range(FIRST, LAST_ISSUE + 1, 6):
+    for period in sorted(dice.sample(range(FIRST, LAST_ISSUE + 1, 6), count)):
         rate = dice.choice((0, 10, 350, 402, 2000)) if dice.random() < 0.1 else dice.randrange(2001)
         found[period] = (rate, rate if dice.random() < 0.3 else dice.randrange(2001))
     return found
@@ -66,6 +66,18 @@ def spelled(dice, bond):
     issue = month_text(issued) if dice.random() < 0.6 else f"{issued % 12 + 1:02}/{issued // 12}"
     fields = [f"{letter}{hyphens[0]}{number}{hyphens[1]}EE", str(dollars), issue, str(owner), "" if coowner is None else str(coowner)]
     return ",".join(f'"{field}"' if dice.random() < 0.1 else field for field in fields)
+
+
+def rate_row(period, terms):
+    """Return a row of a message that adds rates."""
+    rate, extension = terms
+    return {"from": month_text(period), "rate": rate_text(rate), "extension": rate_text(extension)}
+
+
+def bond_row(bond):
+    """Return a row of a message that adds bonds."""
+    serial, dollars, issued, owner, coowner = bond
+    return {"serial": serial, "denom": dollars, "issued": month_text(issued), "owner": owner, "coowner": coowner}
 
 
 def inventory_file(bonds, dice=None):

@@ -79,28 +79,29 @@ class Expected:
         return [one for found in counter.in_turn(range(STORES), lambda store: self.store_sheets(store, each)) for one in found]
 
     def store_sheets(self, store, count):
-        """Return the sheets of the customers of one store: 1 to 120 bonds each."""
+        """Return the sheets of the customers of one store, 1 to 120 bonds each, by one run of `apply`; one is the command `sheet`'s too."""
         dice = self.dice(f"sheets {store}")
-        rates = data.rates_file(data.random_rates(dice)) if store else SHIPPED
-        program, serials = counter.Counter(self.program), set()
-        assert program.enter("rates", rates).startswith('{"new":')
-        owned = [self.owned(dice, store, serials, customer) for customer in range(1, count + 1)]
-        bonds = [bond for owned_bonds in owned for bond in owned_bonds]
-        for place in range(0, len(bonds), 500):
-            part = bonds[place : place + 500]
-            assert program.enter("inventory", data.inventory_file(part, dice)) == f'{{"new":{len(part)},"same":0}}\n'
-        months = [data.month_text(data.random_month(dice, dice.choice(owned_bonds)[2])) for owned_bonds in owned]
-        printed = program.sheets(list(enumerate(months, 1)))
+        rates, serials = data.random_rates(dice, 40), set()
+        owned = [self.owned(dice, rates, serials, customer) for customer in range(1, count + 1)]
+        months = [data.month_text(data.random_month(dice, dice.choice(bonds)[2])) for bonds in owned]
+        rows = [data.bond_row(bond) for bonds in owned for bond in bonds]
+        parts = [rows[place : place + 500] for place in range(0, len(rows), 500)]
+        posts = [("/rates", {"number": 1, "rates": [data.rate_row(*row) for row in rates.items()]})]
+        posts += [("/bonds", {"number": place + 2, "bonds": part}) for place, part in enumerate(parts)]
+        program = counter.Counter(self.program)
+        answers = program.talk([*posts, *((f"/inventory/{place + 1}/{month}", None) for place, month in enumerate(months))])
+        replies, printed = answers[: len(posts)], answers[len(posts) :]
+        assert replies == [f'{{"new":{size},"same":0}}' for size in (40, *map(len, parts))], replies
         assert printed[0] == program.sheet(1, months[0])
         program.remove()
-        return [{"rates": rates, "file": data.inventory_file(bonds, dice), "owner": place + 1, "month": months[place], "sheet": printed[place]} for place, bonds in enumerate(owned)]
+        file = data.rates_file(rates)
+        return [{"rates": file, "file": data.inventory_file(bonds, dice), "owner": place + 1, "month": months[place], "sheet": printed[place]} for place, bonds in enumerate(owned)]
 
-    def owned(self, dice, store, serials, customer):
-        """Return a customer's bonds, in the first store those that the shipped rates are for."""
+    def owned(self, dice, rates, serials, customer):
+        """Return a customer's bonds, issued in periods that have a rate."""
         bonds = data.random_bonds(dice, dice.choice((1, 2, 5, 20, 120)), serials, customer)
-        if store:
-            return bonds
-        return [(serial, dollars, data.FIRST + (issued - data.FIRST) % 186, owner, coowner) for serial, dollars, issued, owner, coowner in bonds]
+        periods = list(rates)
+        return [(serial, dollars, min(dice.choice(periods) + dice.randrange(6), data.LAST_ISSUE), owner, coowner) for serial, dollars, _, owner, coowner in bonds]
 
     def questions(self, count=20_000):
         """Random questions of the library with their rows by exact arithmetic."""
