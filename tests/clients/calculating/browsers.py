@@ -167,7 +167,7 @@ class Firefox(Browser):
         self.size(*size)
 
     def connect(self, port):
-        end = time.monotonic() + PATIENCE
+        end = time.monotonic() + 5 * PATIENCE
         while True:
             try:
                 self.socket = socket.create_connection(("127.0.0.1", port), timeout=320)
