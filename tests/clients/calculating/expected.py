@@ -1,4 +1,4 @@
-"""What the page must answer, worked out once: by the counter's program, and by the tests' own arithmetic (tests/value/exact.py)."""
+"""What the page must answer, worked out once: by the counter's program, and by the tests' own arithmetic (tests/shared/exact.py)."""
 import functools
 import pickle
 import random
