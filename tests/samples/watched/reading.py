@@ -73,8 +73,7 @@ class Watched:
 
 
 def line_of(route, status, body, reply, at):
-    counter = status if status != "404" or route.startswith("/inventory") else status
-    return json.dumps({"time": "x", "entry": "y", "user": "anna", "address": "10.0.0.5", "route": route, "status": status, "counter": counter, "at": f"{at:.3f}", "body": body, "reply": reply}, separators=(",", ":")) + "\n"
+    return json.dumps({"time": "x", "entry": "y", "user": "anna", "address": "10.0.0.5", "route": route, "status": status, "counter": status, "at": f"{at:.3f}", "body": body, "reply": reply}, separators=(",", ":")) + "\n"
 
 
 def by_hand(watch, folder):

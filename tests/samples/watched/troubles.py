@@ -140,7 +140,7 @@ def hold():
         time.sleep(3)
 
 
-@trouble("Slow")
+@trouble("Slow", "NotAnswering")
 def slow(w):
     with running(hold, lambda: w.ask("GET", "/ticket/1")):
         yield
@@ -308,7 +308,7 @@ def log_gap(w):
     yield
 
 
-@trouble("WatchOld")
+@trouble("WatchOld", "SnapshotOld", "ArchiveOld")
 def watch_old(w):
     w.machine.follow("systemctl stop counter-watch.timer")
     yield

@@ -9,7 +9,7 @@ import time
 import urllib.parse
 import urllib.request
 
-from counter_calls import ask, bond, get, post, right, wait_for
+from counter_calls import ask, bond, post, right, wait_for
 from machine import TOP
 
 STORE = "/var/lib/counter/day.db"
