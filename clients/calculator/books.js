@@ -1,4 +1,4 @@
-// The rates and bonds of the page, and why rows are refused, with the codes, names and order of the counter (docs/OPERATING.md). Books never
+// The rates and bonds of the page, and why rows are refused, with the codes, names and order of the counter (docs/STATUSES.md). Books never
 // change: an act that is done returns new ones.
 
 import { isAnnouncement, periodOf, serialOrder } from "./spelling.js";
