@@ -1,0 +1,84 @@
+"""Lays out the source package that debhelper packs: what the repository has, with the paths of the packages in place of /opt/counter."""
+import os
+import shutil
+from pathlib import Path
+
+from sources import LIBRARY_FILES, TOP
+
+#: Folders and files of the repository that packages take from.
+TAKEN = ("README.md", "CHANGELOG.md", "clients", "docs", "include", "samples")
+#: Where the files of the samples lie in the packages. The first that fits counts.
+PATHS = (
+    ("/opt/counter/restore/call_somebody", "/etc/counter/call_somebody"),
+    ("/opt/counter/restore/", "/usr/share/ladwenpik/restore/"),
+    ("/opt/counter/snapshot_copy", "/usr/share/ladwenpik/snapshots/snapshot_copy"),
+    ("/opt/counter/wait_until_served", "/usr/share/ladwenpik/systemd/wait_until_served"),
+    ("/opt/counter/teller/", "/usr/share/ladwenpik/teller/"),
+    ("/opt/counter/ee_cli", "/usr/bin/ee_cli"),
+    ("/opt/counter/", "/usr/share/ladwenpik/"),
+    ("/usr/bin/env python3", "/usr/bin/python3"),
+    ("from counter_replies.js;", "from /usr/share/ladwenpik/nginx/counter_replies.js;"),
+)
+#: Files that packages have under another name.
+NAMED = (("samples/nginx/counter-port.nft", "samples/nginx/port.nft"), ("samples/systemd/counter.sysusers", "debian/ladwenpik.sysusers"))
+#: Pages say what the repository has, and keep its paths.
+PAGES = (".md", ".json", ".png", ".a", ".1")
+
+
+def lay_out(tree, program, library, version, epoch):
+    """Writes the source package into a folder that isn't there yet."""
+    tree.mkdir()
+    for name in TAKEN:
+        copy(TOP / name, tree / name)
+    for name in ("debian", "completion", "man", "client"):
+        copy(TOP / "packaging" / name, tree / name)
+    (tree / "program").mkdir()
+    shutil.copy(program, tree / "program" / "ee_cli")
+    for name in LIBRARY_FILES:
+        shutil.copy(Path(library) / name, tree / "program" / name)
+    for old, new in NAMED:
+        (tree / old).rename(tree / new)
+    write_pkgconfig(tree / "program" / "ee_value.pc", version.rsplit("-", 1)[0])
+    for path in files(tree):
+        put_paths(path)
+    settle(tree, epoch)
+
+
+def copy(old, new):
+    ignored = shutil.ignore_patterns("out", "__pycache__")
+    shutil.copytree(old, new, ignore=ignored) if old.is_dir() else shutil.copy(old, new)
+
+
+def files(tree):
+    return sorted(path for path in tree.rglob("*") if path.is_file())
+
+
+def write_pkgconfig(path, version):
+    path.write_text(
+        "prefix=/usr\n"
+        "includedir=${prefix}/include\n"
+        "libdir=${prefix}/lib/x86_64-linux-gnu\n\n"
+        "Name: ee_value\n"
+        "Description: value of paper Series EE savings bonds, to the cent\n"
+        f"Version: {version}\n"
+        "Cflags: -I${includedir}\n"
+        "Libs: -L${libdir} -lee_value\n"
+    )
+
+
+def put_paths(path):
+    """Puts the packages' paths into a file of samples or clients."""
+    if path.suffix in PAGES or path.parent.name in ("program", "debian", "man"):
+        return
+    text = path.read_text()
+    for old, new in PATHS:
+        text = text.replace(old, new)
+    path.write_text(text)
+
+
+def settle(tree, epoch):
+    """Gives each file the rights that its executable bit says, and the one time, whatever this checkout has."""
+    for path in [tree, *tree.rglob("*")]:
+        if not path.is_symlink():
+            path.chmod(0o755 if path.is_dir() or path.stat().st_mode & 0o100 else 0o644)
+        os.utime(path, (epoch, epoch), follow_symlinks=False)

@@ -1,0 +1,211 @@
+"""The packages as files: built twice, tested by lintian, signed, and what is said of them."""
+import copy
+import json
+import os
+import re
+import shutil
+import subprocess
+import sys
+from pathlib import Path
+
+from fresh import done, run
+
+TOP = Path(__file__).resolve().parents[3]
+#: What the machine that builds may have otherwise, and the packages mustn't show.
+OTHERWISE = {"TZ": "Asia/Tokyo", "LC_ALL": "C", "HOME": "/nonexistent"}
+
+#: What the list of materials may have.
+FIELDS = Path(__file__).resolve().parent / "spdx_fields.json"
+
+
+def right(is_right, what, found=""):
+    if not is_right:
+        sys.exit(f"WRONG: {what}\n{found}")
+    print(f"right: {what}", flush=True)
+
+
+def copy_of_repository(folder):
+    """The files that git has or would take, without its own folder."""
+    names = done("git", "-C", str(TOP), "ls-files", "-z", "--cached", "--others", "--exclude-standard").split("\0")
+    for name in names:
+        if name and (TOP / name).exists():
+            (folder / name).parent.mkdir(parents=True, exist_ok=True)
+            shutil.copy(TOP / name, folder / name)
+    return folder
+
+
+def change(path, old, new):
+    text = path.read_text()
+    if old not in text:
+        sys.exit(f"WRONG: {path} has no {old}")
+    path.write_text(text.replace(old, new, 1))
+
+
+class Release:
+    """A folder of packages, built from a copy of the repository."""
+
+    def __init__(self, tree, to, words, **env):
+        env = {**os.environ, "SOURCE_DATE_EPOCH": done("git", "-C", str(TOP), "log", "-1", "--format=%ct").strip(), **env}
+        ran = run("sh", "-c", f'umask {env.pop("UMASK", "022")}; exec "$@"', "build", str(tree / "packaging" / "build"), "--to", str(to), *words, env=env)
+        if ran.returncode != 0:
+            sys.exit(f"WRONG: packaging/build ended with status {ran.returncode}\n{ran.stdout}")
+        self.folder = to
+        self.debs = sorted(to.glob("*.deb"))
+
+    def sums(self):
+        return {deb.name: done("sha256sum", str(deb)).split()[0] for deb in self.debs}
+
+    def deb(self, name):
+        return next(deb for deb in self.debs if deb.name.startswith(f"{name}_"))
+
+    def file(self, ending):
+        return next(self.folder.glob(f"*{ending}"))
+
+
+def built_twice(folder, words):
+    """The packages of two folders of different depth, built under another umask, time zone, locale and home, are the same. Returns the first."""
+    tree = copy_of_repository(folder / "one")
+    other = shutil.copytree(tree, folder / "a" / "deeper" / "folder")
+    shutil.copytree(tree, folder / "before")
+    first = Release(tree, folder / "packages", words)
+    second = Release(other, folder / "again", words, UMASK="077", **OTHERWISE)
+    right(len(first.debs) == 5 and first.sums() == second.sums(), f"{len(first.debs)} packages, built twice in different folders, have the same bytes", (first.sums(), second.sums()))
+    change(other / "samples" / "rates.csv", "from,rate", "from,rate\n")
+    third = Release(other, folder / "changed", words, UMASK="077", **OTHERWISE)
+    differing = [name for name in first.sums() if first.sums()[name] != third.sums()[name]]
+    right(differing == [first.deb("ladwenpik").name], "control: with a line more in a sample just the package that has it differs", differing)
+    return first
+
+
+def refuses_another_program(folder, program):
+    """Without --program, no program and one whose sources have changed since are refused."""
+    tree = folder / "one"
+    ran = run(str(tree / "packaging" / "build"), "--to", str(folder / "none"), env={**os.environ, "SOURCE_DATE_EPOCH": "1"})
+    right(ran.returncode == 1 and "isn't proved and built" in ran.stdout, "without a proved program it is refused", ran.stdout)
+    out = tree / "crates" / "ee_cli" / "out"
+    out.mkdir()
+    shutil.copy(program, out / "ee_cli")
+    (out / "ee_cli.sources").write_text(f"{'0' * 64}  -\n")
+    ran = run(str(tree / "packaging" / "build"), "--to", str(folder / "none"), env={**os.environ, "SOURCE_DATE_EPOCH": "1"})
+    right(ran.returncode == 1 and "isn't the program of the sources as they are" in ran.stdout and not (folder / "none").exists(), "so is one whose sources were others", ran.stdout)
+    ran = run("bash", "-c", f"cd {tree} && sed -n '/^crates()/,/^}}/p;/^sources()/,/^}}/p;/^checksum()/,/^}}/p' ee_cli > f && top=$PWD && . ./f && rm f && checksum ee_cli")
+    (out / "ee_cli.sources").write_text(ran.stdout)
+    taken = Release(tree, folder / "taken", ["--library", str(TOP / "clients" / "value" / "out")])
+    said = taken.file("_evidence.txt").read_text()
+    right("proved and built from these sources by ./ee_cli" in said, "control: with the checksum of these sources beside it, it is taken, and the evidence says so", said)
+    shutil.rmtree(out)
+
+
+def linted(release):
+    """lintian has no error and no warning but those that an override explains."""
+    words = ["lintian", "--allow-root", "--fail-on", "error,warning", "--tag-display-limit", "0"]
+    ran = run(*words, *map(str, release.debs))
+    right(ran.returncode == 0 and not re.search("^[EW]:", ran.stdout, re.M), "lintian has no error and no warning", ran.stdout)
+    overridden = run(*words, "--no-override", *map(str, release.debs))
+    right(overridden.returncode != 0 and "unstripped-binary-or-object" in overridden.stdout, "control: without the overrides it has", overridden.stdout)
+    for path in sorted((TOP / "packaging" / "debian").glob("*.lintian-overrides")):
+        lines = path.read_text().splitlines()
+        right(all(line.startswith("#") or lines[nth - 1].startswith("#") for nth, line in enumerate(lines)), f"each override of {path.name} has its reason", lines)
+
+
+def signed(folder, release):
+    """Signed by a throwaway key by the command of packaging/README.md, and checked by the commands of docs/INSTALL.md."""
+    home = folder / "key"
+    home.mkdir(mode=0o700)
+    env = {**os.environ, "GNUPGHOME": str(home)}
+    done("gpg", "--batch", "--quiet", "--passphrase", "", "--quick-generate-key", "release@bank.example", "ed25519", "sign", "1d", env=env)
+    sign = re.search(r"^(gpg --armor .*)$", (TOP / "packaging" / "README.md").read_text(), re.M)[1].replace("KEY", "release@bank.example")
+    checks = [line for line in section("INSTALL", "Check that it is the proved one")[0].splitlines()]
+    right(len(checks) == 2, "docs/INSTALL.md has the two commands of a check", checks)
+    done("sh", "-c", sign, cwd=release.folder, env=env)
+    for check in checks:
+        done("sh", "-c", check, cwd=release.folder, env=env)
+    right(True, "the release is signed, and its signature and sums are right")
+    other = folder / "forged"
+    shutil.copytree(release.folder, other)
+    with open(other / release.debs[0].name, "ab") as file:
+        file.write(b"\n")
+    ran = [run("sh", "-c", check, cwd=other, env=env).returncode for check in checks]
+    right(ran[0] == 0 and ran[1] != 0, "control: with a byte more in a package its sum is wrong", ran)
+    change(other / "SHA256SUMS", done("sha256sum", str(release.debs[0])).split()[0], done("sha256sum", str(other / release.debs[0].name)).split()[0])
+    ran = [run("sh", "-c", check, cwd=other, env=env).returncode for check in checks]
+    right(ran[0] != 0 and ran[1] == 0, "control: with that sum put in, the signature is wrong", ran)
+    subprocess.run(["gpgconf", "--kill", "all"], env=env, check=False)
+
+
+def section(page, heading):
+    """The blocks of commands below a heading of a page in docs."""
+    text = (TOP / "docs" / f"{page}.md").read_text()
+    found = re.search(rf"^#+ {re.escape(heading)}\n(.*?)(?=^#+ |\Z)", text, re.M | re.S)
+    if not found:
+        sys.exit(f"WRONG: docs/{page}.md has no heading {heading}")
+    return re.findall(r"^```\n(.*?)^```$", found[1], re.M | re.S)
+
+
+def materials(release, schema):
+    """The list of materials names the packages with their sums, each crate of crates.txt that the program stands on, and is right by the schema of SPDX 2.3 if that is given."""
+    listed = json.loads(release.file(".spdx.json").read_text())
+    sums = {item["packageFileName"]: item["checksums"][0]["checksumValue"] for item in listed["packages"] if "packageFileName" in item}
+    right(sums == release.sums(), "the list of materials has the sum of each package", (sums, release.sums()))
+    names = {item["SPDXID"] for item in listed["packages"]} | {"SPDXRef-DOCUMENT"}
+    right(len(names) == len(listed["packages"]) + 1, "each of its parts has a name of its own")
+    ends = {end for it in listed["relationships"] for end in (it["spdxElementId"], it["relatedSpdxElement"])}
+    right(ends == names, "each relation is between parts that are there, and each part has one", ends ^ names)
+    by_schema(listed, FIELDS, "our own list of the fields and words of SPDX 2.3")
+    if schema is None:
+        print("not tested: the list of materials by the official schema of SPDX 2.3 (--schema FILE)", flush=True)
+    else:
+        by_schema(listed, schema, "the schema that is given")
+
+
+def by_schema(listed, schema, what):
+    """Debian's jsonschema, whichever Python runs this, reads the list."""
+    said = by_debian(listed, schema)
+    right(said == "", f"the list of materials is right by {what}: {len(listed['packages'])} parts, {len(listed['relationships'])} relations", said)
+    for wrong, made in wrong_lists(listed):
+        said = by_debian(made, schema)
+        right(said != "" and "Traceback" not in said, f"control: {wrong} is refused", said)
+
+
+def by_debian(listed, schema):
+    script = "import json, sys, jsonschema; schema = json.load(open(sys.argv[1])); kind = jsonschema.validators.validator_for(schema); kind.check_schema(schema); print(*(it.message for it in kind(schema).iter_errors(json.load(sys.stdin))), sep='\\n', end='')"
+    return run("/usr/bin/python3", "-c", script, str(schema), input=json.dumps(listed)).stdout
+
+
+def wrong_lists(listed):
+    wrong = copy.deepcopy(listed)
+    del wrong["creationInfo"]
+    yield "a list without its making", wrong
+    wrong = copy.deepcopy(listed)
+    wrong["relationships"][0]["relationshipType"] = "STANDS_ON"
+    yield "a relation that SPDX doesn't know", wrong
+    wrong = copy.deepcopy(listed)
+    wrong["packages"][0]["checksums"] = [{"algorithm": "SHA256"}]
+    yield "a sum without its value", wrong
+
+
+def evident(release, program):
+    said = release.file("_evidence.txt").read_text()
+    sums = {**release.sums(), "usr/bin/ee_cli": done("sha256sum", program).split()[0]}
+    lacking = [name for name, value in sums.items() if f"{value}  {name}" not in said]
+    right(lacking == [], "the evidence has the sum of the program and of each package", lacking)
+    lines = ["rattle-kit-13f logic dac8208d650f15bf", "49 of the 128 that `libc` declares", "13 of the 22 that `os` declares"]
+    right(all(line in said for line in lines), "it names the toolchain and the axioms", said)
+
+
+def repacked(folder, release, name, old, new):
+    """A package with a changed maintainer script or file, for a control."""
+    tree = folder / "repacked"
+    done("dpkg-deb", "-R", str(release.deb("ladwenpik")), str(tree))
+    change(tree / name, old, new)
+    done("dpkg-deb", "--root-owner-group", "-b", str(tree), str(folder / "wrong.deb"))
+    shutil.rmtree(tree)
+    return folder / "wrong.deb"
+
+
+def release_before(folder, words):
+    """A release of a lower version, which differs in a file of settings too."""
+    tree = folder / "before"
+    change(tree / "packaging" / "debian" / "changelog", "(1.0.0-1)", "(1.0.0-0)")
+    change(tree / "samples" / "nginx" / "pass_to_counter.conf", "# Passes", "# As it was before. Passes")
+    return Release(tree, folder / "packages-before", words)

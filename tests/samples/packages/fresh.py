@@ -1,0 +1,169 @@
+"""A fresh Debian that runs under a systemd of its own: process 1 of namespaces (mounts, processes, network, cgroups), over a root of debootstrap that isn't written. All that it writes is in
+memory, and gone at its end. The way is that of the script that runs the units of samples/systemd."""
+import os
+import re
+import subprocess
+import sys
+import time
+
+SUITE = "bookworm"
+MIRROR = "http://deb.debian.org/debian"
+#: What the packages need, what a bank has beside them, and the shells in which completion is tried.
+INCLUDED = "systemd,systemd-sysv,nftables,nginx-light,apache2-utils,python3,curl,man-db,bash-completion,zsh,sqlite3,openssl"
+DEVICES = ["null", "zero", "full", "random", "urandom", "tty"]
+#: What is asked of a machine that isn't up, or that does what it shouldn't.
+WAIT = 120
+
+
+def run(*words, **more):
+    return subprocess.run(words, stdout=subprocess.PIPE, stderr=subprocess.STDOUT, text=True, **more)
+
+
+def done(*words, **more):
+    ran = run(*words, **more)
+    if ran.returncode != 0:
+        sys.exit(f"WRONG: {' '.join(map(str, words))} ended with status {ran.returncode}\n{ran.stdout}")
+    return ran.stdout
+
+
+def bootstrap(folder):
+    """Makes the root, which takes some minutes and Debian's mirror."""
+    done("debootstrap", "--variant=minbase", f"--include={INCLUDED}", SUITE, folder, MIRROR)
+
+
+# Within the namespaces, until systemd is process 1.
+
+
+def make_root(base, memory, root):
+    done("mount", "--make-rprivate", "/")
+    done("mount", "-t", "tmpfs", "-o", "mode=755", "memory", memory)
+    for name in ("upper", "work"):
+        os.mkdir(f"{memory}/{name}")
+    os.mkdir(root)
+    done("mount", "-t", "overlay", "-o", f"lowerdir={base},upperdir={memory}/upper,workdir={memory}/work", "overlay", root)
+    done("mount", "-t", "proc", "proc", f"{root}/proc")
+    done("mount", "-t", "sysfs", "sysfs", f"{root}/sys")
+    done("mount", "-t", "cgroup2", "cgroup2", f"{root}/sys/fs/cgroup")
+    for path in ("dev", "run", "tmp"):
+        done("mount", "-t", "tmpfs", "-o", "mode=755" if path != "tmp" else "mode=1777", path, f"{root}/{path}")
+    for name in DEVICES:
+        open(f"{root}/dev/{name}", "w").close()
+        done("mount", "--bind", f"/dev/{name}", f"{root}/dev/{name}")
+    open(f"{root}/dev/console", "w").close()
+    done("mount", "--bind", "/dev/null", f"{root}/dev/console")
+    for name in ("shm", "pts"):
+        os.mkdir(f"{root}/dev/{name}")
+    done("mount", "-t", "devpts", "-o", "newinstance,ptmxmode=666,gid=5", "devpts", f"{root}/dev/pts")
+    os.symlink("pts/ptmx", f"{root}/dev/ptmx")
+    with open(f"{root}/etc/machine-id", "w") as file:
+        file.write("0123456789abcdef0123456789abcdef\n")
+    os.makedirs(f"{root}/before", exist_ok=True)
+
+
+def inside(base, memory):
+    root = f"{memory}/root"
+    make_root(base, memory, root)
+    done("ip", "link", "set", "lo", "up")
+    os.chdir(root)
+    done("pivot_root", ".", "before")
+    os.chroot("/")
+    os.chdir("/")
+    done("umount", "-l", "/before")
+    os.execve("/usr/lib/systemd/systemd", ["systemd", "--system", "--unit=multi-user.target", "--log-target=journal", "--show-status=no"], {"container": "namespaces", "PATH": "/usr/sbin:/usr/bin:/sbin:/bin"})
+
+
+# Outside.
+
+
+class Fresh:
+    """One such machine, over the root in `base`. `folder` is an empty one of this run's."""
+
+    def __init__(self, base, folder):
+        self.group = make_group()
+        self.told = f"{folder}.told"
+        words = ["unshare", "--mount", "--pid", "--fork", "--uts", "--ipc", "--net", "--cgroup", "--kill-child", sys.executable, os.path.abspath(__file__), base, folder]
+        enter = ["sh", "-c", 'echo $$ > "$0/cgroup.procs" && exec "$@"', self.group, *words]
+        self.outer = subprocess.Popen(enter, stdout=subprocess.DEVNULL, stderr=open(self.told, "w"), start_new_session=True)
+        try:
+            self.process = self.first_process()
+            self.wait_until_up()
+        except BaseException:
+            self.end()
+            raise
+
+    def first_process(self):
+        for _ in range(WAIT * 10):
+            children = f"/proc/{self.outer.pid}/task/{self.outer.pid}/children"
+            found = open(children).read().split() if os.path.exists(children) else []
+            if found and os.readlink(f"/proc/{found[0]}/exe").endswith("/systemd"):
+                return int(found[0])
+            if self.outer.poll() is not None:
+                break
+            time.sleep(0.1)
+        sys.exit(f"WRONG: systemd didn't become process 1\n{open(self.told).read()}")
+
+    def wait_until_up(self):
+        for _ in range(WAIT * 10):
+            if self.on("systemctl", "is-system-running").stdout.strip() in ("running", "degraded"):
+                return
+            time.sleep(0.1)
+        sys.exit("WRONG: systemd doesn't come up")
+
+    def path(self, name):
+        """A file of the machine, as it is seen from outside."""
+        return f"/proc/{self.process}/root{name}"
+
+    def words(self, *words):
+        """The words by which a command is run on the machine."""
+        return ["nsenter", "-t", str(self.process), "--mount", "--pid", "--net", "--uts", "--ipc", "--cgroup", "--root", "--wd", *words]
+
+    def on(self, *words, **more):
+        env = {"PATH": "/usr/sbin:/usr/bin:/sbin:/bin", "LC_ALL": "C.UTF-8", "DEBIAN_FRONTEND": "noninteractive", "HOME": "/root"}
+        return run(*self.words(*words), env=env, **more)
+
+    def shell(self, text):
+        """What some lines of a shell print; the test ends if they fail."""
+        ran = self.on("bash", "-euo", "pipefail", "-c", f"cd /root\n{text}")
+        if ran.returncode != 0:
+            sys.exit(f"WRONG: status {ran.returncode} after\n{text}\n{ran.stdout}")
+        return ran.stdout
+
+    def shown(self, unit, name):
+        return self.on("systemctl", "show", "--value", "-p", name, unit).stdout.strip()
+
+    def wait(self, unit, name, wanted, seconds=60):
+        for _ in range(seconds * 10):
+            if re.fullmatch(wanted, self.shown(unit, name)):
+                return True
+            time.sleep(0.1)
+        return False
+
+    def end(self):
+        self.outer.kill()
+        self.outer.wait()
+        remove_group(self.group)
+
+
+def make_group():
+    top = next((line.split()[1] for line in open("/proc/mounts") if line.split()[2] == "cgroup2"), None)
+    if top is None:
+        sys.exit("no cgroup 2 is mounted")
+    group = os.path.join(top, f"package-{os.getpid()}-{time.monotonic_ns()}")
+    os.mkdir(group)
+    return group
+
+
+def remove_group(group):
+    for _ in range(100):
+        for path, _, _ in os.walk(group, topdown=False):
+            try:
+                os.rmdir(path)
+            except OSError:
+                pass
+        if not os.path.exists(group):
+            return
+        time.sleep(0.1)
+
+
+if __name__ == "__main__":
+    inside(*sys.argv[1:])
