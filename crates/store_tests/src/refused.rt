@@ -27,7 +27,7 @@ NoMemory
 WriteFailed
 Err(WriteFailed)
 file: row 1 code 74
-no memory
+out of memory
 Err(Unserved(NoMemory))
 "#;
 
