@@ -101,7 +101,7 @@ def while_open():
     """A request that an earlier run left open stays open, and the error says that it may have been done."""
     with desks("L1EE") as (place, _, gate):
         gate.faults = ["lost answer"] * 50
-        with client.Counter(place / "a.journal", gate.address, desk=3, patience=0.2) as counter:
+        with client.Counter(place / "a.journal", gate.address, desk=3, patience=2) as counter:
             raises(client.NoReply, lambda: counter.redeem(DAY, 7, ["L1EE"]))
         gate.is_wide, gate.faults = True, ["no password"] * 2
         with client.Counter(place / "a.journal", gate.address) as counter:
