@@ -68,6 +68,8 @@ def another_listens(machine):
         state = machine.shown("counter.service", "ActiveState")
         right(ran.returncode != 0 and state != "active", "while another user listens at the port, the unit isn't taken for started", (ran.returncode, state))
     finally:
+        # What enters the machine is killed here, and what it started there.
+        machine.on("pkill", "--uid", "65534", "--full", "8377")
         other.kill()
         other.wait()
     machine.shell("systemctl stop counter.service; systemctl reset-failed counter.service")
