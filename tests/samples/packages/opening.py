@@ -60,17 +60,16 @@ def states_until_active(machine):
 
 def another_listens(machine):
     """A socket of another user at the port is no sign: the unit isn't started by it."""
-    script = "import socket, time; s = socket.socket(); s.setsockopt(socket.SOL_SOCKET, socket.SO_REUSEADDR, 1); s.bind(('127.0.0.1', 8377)); s.listen(); time.sleep(600)"
-    other = subprocess.Popen(machine.words("setpriv", "--reuid", "65534", "--clear-groups", "python3", "-c", script))
+    script = "import socket, sys; s = socket.socket(); s.setsockopt(socket.SOL_SOCKET, socket.SO_REUSEADDR, 1); s.bind(('127.0.0.1', 8377)); s.listen(); sys.stdin.read()"
+    other = subprocess.Popen(machine.words("setpriv", "--reuid", "65534", "--clear-groups", "python3", "-c", script), stdin=subprocess.PIPE)
     try:
         time.sleep(1)
         ran = machine.on("systemctl", "start", "counter.service")
         state = machine.shown("counter.service", "ActiveState")
         right(ran.returncode != 0 and state != "active", "while another user listens at the port, the unit isn't taken for started", (ran.returncode, state))
     finally:
-        # What enters the machine is killed here, and what it started there.
-        machine.on("pkill", "--uid", "65534", "--full", "8377")
-        other.kill()
+        # It ends with its input. A kill from here would end what enters the machine, and leave the listener there.
+        other.stdin.close()
         other.wait()
     machine.shell("systemctl stop counter.service; systemctl reset-failed counter.service")
 
