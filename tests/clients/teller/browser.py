@@ -117,10 +117,16 @@ class Page:
         self.until(lambda: field.get_attribute("value") == text, f"the field has {text}, and not {field.get_attribute('value')}")
 
     def press(self, selector):
-        """From under a notice, which stands at the top of the window, the page is scrolled first."""
-        element = self.find(selector)
-        self.run("arguments[0].scrollIntoView({ block: 'nearest', inline: 'nearest' })", element)
-        element.click()
+        """From under a notice, which stands at the top of the window, the page is scrolled first. If the page writes the element anew meanwhile, the new one is pressed."""
+        for _ in range(5):
+            element = self.find(selector)
+            try:
+                self.run("arguments[0].scrollIntoView({ block: 'nearest', inline: 'nearest' })", element)
+                element.click()
+                return
+            except StaleElementReferenceException:
+                time.sleep(0.2)
+        raise TimeoutException(f"{selector} is written anew again and again")
 
     def go(self, view):
         self.until(lambda: self.find("nav").is_displayed(), "the page has started")
