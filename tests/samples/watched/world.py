@@ -155,8 +155,11 @@ class World:
     # ---- metrics and alerts
 
     def metrics(self):
-        """The metrics as they were written last: each sample's name with its labels, and its value."""
-        with open(f"{self.machine.root}/var/lib/counter-watch/counter.prom", encoding="utf-8") as file:
+        """The metrics as they were written last, none before the first time: each sample's name with its labels, and its value."""
+        path = f"{self.machine.root}/var/lib/counter-watch/counter.prom"
+        if not os.path.exists(path):
+            return {}
+        with open(path, encoding="utf-8") as file:
             return dict(line.rstrip("\n").rsplit(" ", 1) for line in file if not line.startswith("#"))
 
     def metric(self, name):
