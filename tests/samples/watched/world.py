@@ -88,6 +88,8 @@ class World:
         m, drop_in = self.machine, "/etc/systemd/system/counter-watch.{}.d"
         m.follow(f"mkdir -p {drop_in.format('timer')}; printf '[Timer]\\nOnUnitActiveSec=\\nOnUnitActiveSec={period}\\nAccuracySec=50ms\\n' > {drop_in.format('timer')}/quick.conf")
         m.follow(f"printf '[Unit]\\nStartLimitIntervalSec=0\\n' > {drop_in.format('service')}/quick.conf; systemctl daemon-reload; systemctl restart counter-watch.timer")
+        # The empty setting takes away the first run after a boot too, and the others count from a first one.
+        m.follow("systemctl start counter-watch.service")
 
     def set_up_prometheus(self, rules):
         m = self.machine
