@@ -87,9 +87,9 @@ class World:
         """Metrics each two seconds and alerts by seconds, in the place of minutes."""
         m, drop_in = self.machine, "/etc/systemd/system/counter-watch.{}.d"
         m.follow(f"mkdir -p {drop_in.format('timer')}; printf '[Timer]\\nOnUnitActiveSec=\\nOnUnitActiveSec={period}\\nAccuracySec=50ms\\n' > {drop_in.format('timer')}/quick.conf")
-        m.follow(f"printf '[Unit]\\nStartLimitIntervalSec=0\\n' > {drop_in.format('service')}/quick.conf; systemctl daemon-reload; systemctl restart counter-watch.timer")
         # The empty setting takes away the first run after a boot too, and the others count from a first one.
         m.follow("systemctl start counter-watch.service")
+        m.follow(f"printf '[Unit]\\nStartLimitIntervalSec=0\\n' > {drop_in.format('service')}/quick.conf; systemctl daemon-reload; systemctl restart counter-watch.timer")
 
     def set_up_prometheus(self, rules):
         m = self.machine
