@@ -1,5 +1,5 @@
 #!/usr/bin/env python3
-"""What a store of so many bonds takes: sizing.py PROGRAM [BONDS ..], where PROGRAM is the built ee_cli; 1,000, 100,000 and 1,000,000 bonds without numbers.
+"""Measures what stores take: sizing.py PROGRAM [BONDS ..], where PROGRAM is the built ee_cli; 1,000, 100,000 and 1,000,000 bonds without numbers.
 
 Each store has a tenth of its bonds paid, and a kept reply for each ten bonds, as make_version_one.py makes it. PROGRAM opens it once, which migrates it. Then it is opened three times more, by an
 export of a customer without bonds, whose time is the opening's. A line for each store: bonds, seconds of the processor and by the clock (medians), memory at most, and the bytes of file and log.

@@ -58,7 +58,7 @@ function thisMonth() {
   return 12 * now.getFullYear() + now.getMonth();
 }
 
-// Shows what an earlier visit kept. A text that can't be read any more is told, and left.
+// Shows what an earlier visit kept. Reports a text that can't be read any more, and leaves it.
 function takeUp(kept) {
   change({ month: readMonth(kept.month) ?? state.month });
   if (!takeKept(kept.rates)) return;

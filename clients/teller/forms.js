@@ -40,7 +40,7 @@ export function unmark(input) {
   mark(input, "");
 }
 
-// Does `work`. What goes wrong in it is told in the page's own words.
+// Does `work`, and reports a failure in the page's own words.
 async function guarded(work) {
   try {
     await work();

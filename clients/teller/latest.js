@@ -15,7 +15,7 @@ export class Unanswered extends Error {
 const known = new Map();
 let last = 0;
 
-// Look-ups at a time, and then one each so many milliseconds, so that a long list stays below the proxy's limit for an address.
+// The number of look-ups at a time, and then the milliseconds between two, so that a long list stays below the proxy's limit for an address.
 const AT_ONCE = 100;
 const SPACE = 125;
 

@@ -1,4 +1,4 @@
-// What a teller is told: the outcome of the last request, and what a request under way is doing. Both stand at the top of the window, however far the page is scrolled. A screen reader hears them
+// The notices for a teller: the outcome of the last request, and what a request under way is doing. Both stand at the top of the window, however far the page is scrolled. A screen reader hears them
 // from the page's one live region.
 
 import { byId, element, show } from "./elements.js";

@@ -1,4 +1,4 @@
-// Look-ups, which change nothing. Each is asked again a few times if no answer comes; then the teller is told. The signal `cancel` ends one, whose answer then is of the kind "cancelled".
+// Look-ups, which change nothing. Each is asked again a few times if no answer comes; then the page says so. The signal `cancel` ends one, whose answer then is of the kind "cancelled".
 
 import { readBatch, readTicket } from "./answers.js";
 import { asked } from "./messages.js";

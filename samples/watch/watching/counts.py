@@ -11,7 +11,7 @@ BOUNDS = (0.005, 0.01, 0.025, 0.05, 0.1, 0.25, 0.5, 1, 2.5, 5, 10, 30, 60)
 ENDING = re.compile(r"connection \d+: (\d+) messages, (Closed|Asked|Limit|Fault|ReadFailed|WriteFailed|NoMemory)\b")
 SAID = ("store: StoreFailed", "store: NotWrittenBack", "store: WrongVersion", "store: Unusable", "input or output failed", "no memory", "guard: not served")
 CURSOR = "-- cursor: "
-#: Statuses that are told from the first run on, though none was counted yet.
+#: Statuses that have a series from the first run on, though none was counted yet.
 USUAL = (("200", "counter"), ("404", "counter"), ("409", "counter"), ("503", "counter"), ("401", "nginx"), ("403", "nginx"), ("429", "nginx"), ("502", "nginx"), ("504", "nginx"))
 
 
@@ -95,7 +95,7 @@ class Counts:
             if text in line:
                 self.count("said", text=text)
 
-    # ---- what is told
+    # ---- the samples that are written
 
     def tell(self, metrics, has_log, has_journal):
         """Adds all counters, those that are 0 too: a series that begins with its first event would hide that event from `increase`."""

@@ -14,7 +14,7 @@ DROP_IN = "/etc/systemd/system/counter.service.d/plain.conf"
 
 
 def large_store(machine, folder, program, bonds):
-    """A store of so many bonds in place of the machine's, whose own is kept."""
+    """Puts a store of `bonds` bonds in place of the machine's, and keeps that one."""
     file = folder / "large.db"
     done(str(TOP / "benchmarks" / "make_version_one.py"), str(file), str(bonds), str(bonds // 10))
     done(program, "export", "999999999", "--db", str(file))

@@ -40,7 +40,7 @@ class Deadline:
         return self.left() == 0.0
 
     def within(self, seconds: float) -> "Deadline":
-        """The nearer one of this moment and the one in so many seconds."""
+        """Returns the earlier of this deadline and the one in `seconds` seconds."""
         left = self.left()
         return Deadline(seconds if left is None else min(seconds, left))
 
