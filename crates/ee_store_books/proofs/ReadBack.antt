@@ -25,7 +25,7 @@ use Rattle.ee_store_load.specs.declared.entries.StoredTicket.{StoredTicket}
 use Rattle.ee_store_load.specs.declared.entries.StoredLine.{StoredLine}
 use Rattle.ee_store_load.specs.declared.entries.StoredBatch.{StoredBatch}
 use Rattle.ee_store_books.specs.Contents.{stored_desk, stored_held, stored_bond, stored_ticket, stored_line, placed_lines, stored_lines, stored_batch}
-use Rattle.ee_store_books.specs.Reading.{each, optional_in, issue_in, day_in, customer_in, days_of, days_in, plain_bond_in, marked_right, bond_in, line_in, line_at, lines_at, ticket_with, ticket_in, tickets_in, batch_in}
+use Rattle.ee_store_books.specs.Reading.{each, optional_in, issue_in, day_in, customer_in, days_of, days_in, plain_bond_in, marked_right, bond_in, line_with, line_at, lines_at, ticket_with, ticket_in, tickets_in, batch_in}
 
 -- ---- what may be absent
 pub some_is : {A : Type 0} (x y : A) → Some x ≡ Some y → x ≡ y
@@ -189,13 +189,13 @@ bond_is tickets row bond e =
 
 -- ---- lines
 line_read : (ticket place : ℕ) (line : Line) → IsSerial line.serial → line_at ticket place (stored_line ticket place line) ≡ Some line
-unfolding line_in
+unfolding line_with
 line_read ticket place line h =
-    ap (λ b. cond b (line_in (stored_line ticket place line)) None) (λ i. eq-eqb ticket ticket refl i && eq-eqb place place refl i)
+    ap (λ b. cond b (line_with line.serial.letter line.serial.number line.cents.0) None) (λ i. eq-eqb ticket ticket refl i && eq-eqb place place refl i)
     ∙ bind_some (serial_at line.serial.letter line.serial.number) line.serial _ _ (serial_read line.serial h) refl
 
-plain_line_is : (row : StoredLine) (line : Line) → line_in row ≡ Some line → row ≡ stored_line row.ticket row.place line
-unfolding line_in
+plain_line_is : (row : StoredLine) (line : Line) → line_with row.letter row.number row.cents ≡ Some line → row ≡ stored_line row.ticket row.place line
+unfolding line_with
 plain_line_is row line e =
     let serial = bind_is (serial_at row.letter row.number) _ line e in
     let s = serial_is row.letter row.number serial.0 serial.1 in
@@ -204,7 +204,7 @@ plain_line_is row line e =
 
 line_is : (ticket place : ℕ) (row : StoredLine) (line : Line) → line_at ticket place row ≡ Some line → row ≡ stored_line ticket place line
 line_is ticket place row line e =
-    let here = cond_is ((row.ticket == ticket) && (row.place == place)) line (line_in row) line e in
+    let here = cond_is ((row.ticket == ticket) && (row.place == place)) line (line_with row.letter row.number row.cents) line e in
     let both = and_parts (row.ticket == ticket) (row.place == place) here.0 in
     plain_line_is row line here.1 ∙ (λ i. stored_line (eqb-true row.ticket ticket both.0 i) (eqb-true row.place place both.1 i) line)
 

@@ -107,14 +107,15 @@ bond_with paid coowner row = plain_bond_in coowner row >>= marked_right paid row
 abbrev pub bond_in : (SerialNumber → Option ℕ) → StoredBond → Option Bond
 bond_in paid row = optional_in customer_in row.coowner >>= λ coowner. bond_with paid coowner row
 
-unfoldable pub line_in : StoredLine → Option Line
-line_in row = do
-  serial ← serial_at row.letter row.number
-  Some (record { serial = serial; cents = record { 0 = row.cents } })
+-- the line of a serial number's letter and number, and a payment in cents
+unfoldable pub line_with : ℕ → ℕ → ℕ → Option Line
+line_with letter number cents = do
+  serial ← serial_at letter number
+  Some (record { serial = serial; cents = record { 0 = cents } })
 
 -- the line at this place of a ticket
 abbrev pub line_at : ℕ → ℕ → StoredLine → Option Line
-line_at ticket place row = if (row.ticket == ticket) && (row.place == place) then line_in row else None
+line_at ticket place row = if (row.ticket == ticket) && (row.place == place) then line_with row.letter row.number row.cents else None
 
 -- the lines of a ticket, numbered from this place
 abbrev pub lines_at : ℕ → ℕ → List StoredLine → Option (List Line)

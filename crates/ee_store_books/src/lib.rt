@@ -26,3 +26,4 @@ pub use held_bonds::{held_from, held_in};
 pub use laws::one_content_law;
 pub use terms::{find_terms, no_terms, note_terms, terms_in};
 pub use ticket_counts::{counted_in, tickets_in};
+pub use tickets::line_with;

@@ -1,21 +1,27 @@
 //! Tickets, each with its lines.
 
-ghost use Rattle.std.specs.Prelude.{◌≡◌, ◌+◌, ◌<◌, IfOk, option_map};
-ghost use Rattle.ee_store_books.specs.Reading.{line_in, line_at, lines_at, ticket_with, ticket_in, tickets_in};
+ghost use Rattle.std.specs.Prelude.{◌≡◌, ◌+◌, ◌<◌, IfOk, IfSome, IsSome, option_map};
+ghost use Rattle.ee_desk_texts.specs.Ranges.{IsSerial};
+ghost use Rattle.ee_store_books.specs.Standing.{paid_row};
+ghost use Rattle.ee_store_books.specs.Reading.{line_with, line_at, lines_at, ticket_with, ticket_in, tickets_in};
 
 use ee_desk_model::{Line, Rows, Ticket};
 use ee_store_load::{StoredLine, StoredTicket};
 use ee_units::{Cents, Customer, Day, Serial};
 use std::alloc::{AllocError, Global};
 
-#[tactic(auto, unfolding(crate::specs::Reading::line_in))]
-fn line_in(row: &StoredLine) -> Option<Line>
-    ensures { result ≡ line_in row.now }
+/// The line of a bond, by the letter and number of its serial number, and of a payment in cents. It is `None` if the
+/// letter or the number is out of range.
+#[tactic(auto, unfolding(crate::specs::Reading::line_with))]
+pub fn line_with(letter: u64, number: u64, cents: u64) -> Option<Line>
+    ensures value { result ≡ line_with letter number cents }
+    ensures shown { IfSome result (λ line. paid_row line ≡ record { letter = letter; number = number; cents = cents }) }
+    ensures read { IsSerial (record { letter = letter; number = number }) → IsSome result }
 {
-    let serial = Serial::new(row.letter, row.number)?;
+    let serial = Serial::new(letter, number)?;
     Some(Line {
         serial,
-        cents: Cents(row.cents),
+        cents: Cents(cents),
     })
 }
 
@@ -23,7 +29,7 @@ fn line_at(ticket: u64, place: u64, row: &StoredLine) -> Option<Line>
     ensures { result ≡ line_at ticket place row.now }
 {
     if row.ticket == ticket && row.place == place {
-        line_in(row)
+        line_with(row.letter, row.number, row.cents)
     } else {
         None
     }

@@ -12,7 +12,7 @@ ghost use Rattle.ee_store_queries.specs.Asking.{row_of_placed, unpaid_row};
 
 use ee_calculator::Bond;
 use ee_desk_model::{Batch, Line, Rows, Ticket};
-use ee_store_books::held_from;
+use ee_store_books::{held_from, line_with};
 use ee_store_tables::{BatchRow, BondRow, Failure, PlacedLine, TicketRow, UnpaidBond};
 use ee_units::{Cents, Customer, Day, Serial};
 use std::alloc::Global;
@@ -31,17 +31,6 @@ pub fn batch_shown(day: Day, found: Option<BatchRow>) -> Option<Batch>
     })
 }
 
-fn line_shown(row: &PlacedLine) -> Option<Line>
-    ensures shown { IfSome result (λ line. paid_row line ≡ row_of_placed row.now) }
-    ensures read { IsSerial (record { letter = row.now.letter; number = row.now.number }) → IsSome result }
-{
-    let serial = Serial::new(row.letter, row.number)?;
-    Some(Line {
-        serial,
-        cents: Cents(row.cents),
-    })
-}
-
 /// The lines of a ticket, in the order of their rows.
 fn lines_shown(alloc: Global, rows: &[PlacedLine]) -> Result<Vec<Line>, Failure>
     ensures shown { IfOk result (λ lines. map paid_row lines.items ≡ map row_of_placed rows.now) }
@@ -49,7 +38,7 @@ fn lines_shown(alloc: Global, rows: &[PlacedLine]) -> Result<Vec<Line>, Failure>
 {
     let mut lines = Vec::new(alloc);
     for row in rows {
-        let Some(line) = line_shown(row) else {
+        let Some(line) = line_with(row.letter, row.number, row.cents) else {
             return Err(Failure::StoreFailed);
         };
         if lines.push(line).is_err() {
