@@ -1,6 +1,7 @@
 //! The searches for the bounds: the low one between 1 and 33/32, the high one from the low one upwards.
 
 ghost use Rattle.std.specs.Prelude.{◌≡◌, ◌+◌, ◌*◌, ◌^◌, ◌≤◌};
+ghost use Rattle.ee_units.specs.Limits.{highest_rate};
 ghost use Rattle.ee_roots.specs.Roots.{IsLow, IsHigh};
 
 use crate::products::{raise_down, raise_up};
@@ -10,7 +11,7 @@ use ee_units::{Bits, Rate};
 fn wanted(one: u128, rate: Rate) -> u128
     requires { one ≤ 2 ^ 62 }
     ensures value { result ≡ one * (20000 + rate) }
-    ensures range { rate ≤ 2000 }
+    ensures range { rate ≤ highest_rate }
 {
     one * (20_000 + u128::from(rate.hundredths()))
 }

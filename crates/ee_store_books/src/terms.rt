@@ -4,6 +4,7 @@ ghost use Rattle.std.specs.Prelude.{◌≡◌, ◌≤◌, None, IfSome, IfOk, If
 ghost use Rattle.std.specs.Result.{IsOk};
 ghost use Rattle.std.specs.FinMap as finite;
 ghost use Rattle.sqlite.specs.Held.{state};
+ghost use Rattle.ee_units.specs.Limits.{highest_rate};
 ghost use Rattle.ee_value.specs.Chain.{InRange, rates_with, named_extension};
 ghost use Rattle.ee_desk_model.specs.Values.{unsettled};
 ghost use Rattle.ee_desk_model.specs.Views.{picked};
@@ -52,7 +53,7 @@ fn find_rates<S: Alter>(
 /// The rate in a row, in hundredths of a percent.
 fn rate_shown(hundredths: u64) -> Result<Rate, Failure>
     ensures value { IfOk result (λ rate. rate ≡ hundredths) }
-    ensures read { hundredths ≤ 2000 → IsOk result }
+    ensures read { hundredths ≤ highest_rate → IsOk result }
 {
     match Rate::new(hundredths) {
         Some(rate) => Ok(rate),

@@ -8,12 +8,12 @@ ghost use Rattle.ee_value.specs.Rounding.{Rounds, grown};
 ghost use Rattle.ee_value.specs.Chain.{InRange, one_rate, rates_with, named_extension, rate_in, start, highest_start, highest_unit};
 ghost use Rattle.ee_value.specs.Value.{accrued, redemption};
 ghost use Rattle.ee_value.specs.Open.{low_root, high_root, is_exact, is_open, first_open, NeverOpen, IsFirstOpen};
-ghost use Rattle.ee_units.specs.Limits.{unit_price, unit_face};
+ghost use Rattle.ee_units.specs.Limits.{highest_rate, unit_price, unit_face};
 
 /// Rounding: exactly one number of cents satisfies `Rounds`, `grown` returns it, and an exact half cent
 /// rounds up.
 pub const fn rounding_law()
-    ensures fits { (u r m : ℕ) → 1 ≤ u → m ≤ 6 → r ≤ 2000 → Rounds u r m (grown u r m) }
+    ensures fits { (u r m : ℕ) → 1 ≤ u → m ≤ 6 → r ≤ highest_rate → Rounds u r m (grown u r m) }
     ensures unique { (u r m c d : ℕ) → Rounds u r m c → Rounds u r m d → c ≡ d }
     ensures half_up { (u r m c : ℕ) → 1 ≤ c → (2 * u) ^ 6 * (20000 + r) ^ m ≡ (2 * c - 1) ^ 6 * 20000 ^ m
         → Rounds u r m c }
@@ -83,13 +83,13 @@ pub const fn examples_law()
 pub const fn exact_law()
     ensures exact { (is_exact 0 ≡ true) × (is_exact 402 ≡ true) × (is_exact 808 ≡ true) × (is_exact 1218 ≡ true)
         × (is_exact 1632 ≡ true) }
-    ensures inexact { (r : ℕ) → r ≤ 2000 → r ≢ 0 → r ≢ 402 → r ≢ 808 → r ≢ 1218 → r ≢ 1632 → is_exact r ≡ false }
+    ensures inexact { (r : ℕ) → r ≤ highest_rate → r ≢ 0 → r ≢ 402 → r ≢ 808 → r ≢ 1218 → r ≢ 1632 → is_exact r ≡ false }
 {}
 
 /// Open ages: what the bounds are, which ages are never open, and what `first_open` returns.
 pub const fn open_law()
-    ensures low { (b r p : ℕ) → 8 ≤ b → r ≤ 2000 → IsLow b r p → low_root b r ≡ p }
-    ensures high { (b r p : ℕ) → 8 ≤ b → r ≤ 2000 → IsHigh b r p → high_root b r ≡ p }
+    ensures low { (b r p : ℕ) → 8 ≤ b → r ≤ highest_rate → IsLow b r p → low_root b r ≡ p }
+    ensures high { (b r p : ℕ) → 8 ≤ b → r ≤ highest_rate → IsHigh b r p → high_root b r ≡ p }
     ensures whole_half_year { (rates : Rates) (a b : ℕ) → a % 6 ≡ 0 → is_open rates a b ≡ false }
     ensures no_interest { (rates : Rates) (a b : ℕ) → rate_in rates (a / 6) ≡ 0 → is_open rates a b ≡ false }
     ensures exact_quarter { (rates : Rates) (a b : ℕ) → a % 6 ≡ 3 → is_exact (rate_in rates (a / 6)) ≡ true

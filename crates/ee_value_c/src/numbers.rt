@@ -2,6 +2,7 @@
 
 ghost use Rattle.std.specs.Prelude.{◌≡◌, Some};
 ghost use Rattle.ee_units.specs.Denoms.{denom_with};
+ghost use Rattle.ee_units.specs.Limits.{highest_rate};
 ghost use Rattle.ee_units.specs.Spelling.{in_range};
 ghost use Rattle.ee_value_c.specs.Numbers.{month_in, issue_in, month_number};
 
@@ -38,7 +39,7 @@ pub fn issue_month(number: u32) -> Option<IssueMonth>
 
 /// The rate of `hundredths` hundredths of a percent.
 pub fn rate(hundredths: u32) -> Option<Rate>
-    ensures { result ≡ in_range 0 2000 hundredths }
+    ensures { result ≡ in_range 0 highest_rate hundredths }
 {
     Rate::new(u64::from(hundredths))
 }
