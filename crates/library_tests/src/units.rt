@@ -337,7 +337,7 @@ impl Cases for UnitCases {
 }
 
 /// Values that are printed, and the results for months, days and denominations.
-const TOLD: [&str; 6] = [
+const TABLES: [&str; 6] = [
     PRINTED_NUMBERS,
     PRINTED_SPELLINGS,
     AGES,
@@ -347,8 +347,8 @@ const TOLD: [&str; 6] = [
 ];
 
 #[test]
-fn values_are_text(rt: HostRuntime) -> Result<(), Fail> {
-    for table in TOLD {
+fn units_by_tables(rt: HostRuntime) -> Result<(), Fail> {
+    for table in TABLES {
         compare::<UnitCases>(&rt, rt.alloc(), table)?;
     }
     Ok(())
