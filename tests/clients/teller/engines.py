@@ -36,7 +36,8 @@ class Chromium:
         return base64.b64decode(self.driver.execute_cdp_cmd("Page.printToPDF", {"paperWidth": width, "paperHeight": height, "preferCSSPageSize": False})["data"])
 
     def complaints(self):
-        return [entry["message"] for entry in self.driver.get_log("browser") if "Failed to load resource" not in entry["message"]]
+        messages = [entry["message"] for entry in self.driver.get_log("browser")]
+        return [message for message in messages if not message.startswith("chrome://") and "Failed to load resource" not in message]
 
     def leave_box(self):
         """Without a screen Chromium shows nobody its box for a password, and no test can press its buttons."""

@@ -76,7 +76,8 @@ def a_day(bank):
     page.close_day()
     page.waits_for("Batch of 6 February 2012", "#batch h2")
     right(dollars(SUM) in page.find("#batch").text and "3" in page.find("#batch dl").text, f"the batch has {dollars(SUM)}", page.find("#batch").text)
-    right(page.complaints() == [], "the browser has nothing to complain of", page.complaints())
+    complaints = page.complaints()
+    right(complaints == [], "the browser has nothing to complain of", complaints)
     page.quit()
     books = books_of(bank)
     wanted = [(1, 7, 2, VALUES["L"] + VALUES["M"]), (2, 8, 1, VALUES["K"])]
@@ -397,7 +398,8 @@ def refusals_shown(bank):
     refused_days(bank, page)
     refused_payments(bank, page)
     full_day(bank, page)
-    right(page.complaints() == [], "the browser has nothing to complain of", page.complaints())
+    complaints = page.complaints()
+    right(complaints == [], "the browser has nothing to complain of", complaints)
     page.quit()
 
 
