@@ -191,6 +191,10 @@ def through_nginx(world):
         while not done.wait(2):
             world.machine.on("sh", "-c", f"for n in 4 3 2 1; do [ -e {log}.$n ] && mv {log}.$n {log}.$((n + 1)); done; mv {log} {log}.1; nginx -s reopen")
 
+    # The log of posts gets a serial number by it.
+    status, body = world.ask("POST", "/redeem", world.redemption(world.bond, world.today))
+    right(status == 200, "a redemption by nginx is paid", body)
+    world.bond += 1
     world.watched()
     before = world.sum_of("ladwenpik_requests_total")
     rotating = threading.Thread(target=rotate)

@@ -184,7 +184,7 @@ def not_answering(w):
 def unanswered(w):
     w.machine.follow("systemctl stop counter.service")
     for _ in range(20):
-        w.ask("POST", "/redeem", {"desk": 2, "number": 1, "day": w.today, "payee": 7, "serials": ["Z997EE"]})
+        w.ask("POST", "/redeem", {"desk": 2, "number": w.next_number(), "day": w.today, "payee": 7, "serials": ["Z997EE"]})
     yield
     started(w)
 
@@ -234,9 +234,17 @@ def unserved(w):
     else:
         raise SystemExit(f"WRONG: the disk is full, and the counter answers {status} {body}\n" + m.on("df", "/srv/counter").stdout)
     yield
-    m.follow("rm -f /srv/counter/fill /srv/counter/more /srv/counter/last; sync; systemctl restart counter.service")
+    m.follow("rm -f /srv/counter/fill /srv/counter/more /srv/counter/last; sync")
+    wait_for_room(m)
+    m.follow("systemctl restart counter.service")
     wait_for(8377, 300)
     right(w.ask("POST", "/redeem", request)[0] == 200, "with room again, the request that was answered 503 is sent again, and acts")
+
+
+def wait_for_room(m):
+    """Waits until btrfs has room for its own tables too: it gives the room of removed files back in the background, up to half a minute later."""
+    room = "/srv/counter/snapshots/room"
+    m.follow(f"for n in $(seq 120); do btrfs -q subvolume snapshot /var/lib/counter {room} && break; sleep 1; done; btrfs -q subvolume delete {room}")
 
 
 @trouble("CopyOld")

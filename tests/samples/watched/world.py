@@ -1,5 +1,6 @@
 """The counter on its machine, set up by the commands of the samples' pages, with a day of today open and a user of each group."""
 import base64
+import contextlib
 import datetime
 import http.client
 import json
@@ -100,6 +101,19 @@ class World:
                 file.write(text)
         m.follow("ln -s /var/lib/counter-watch/counter.prom /var/lib/prometheus/node-exporter/counter.prom")
         m.follow("chown -R prometheus: /var/lib/prometheus; systemctl start prometheus-node-exporter.service prometheus.service")
+        self.wait_for_prometheus()
+
+    def wait_for_prometheus(self):
+        """Waits until Prometheus has metrics. It looks for its targets only 5 seconds after its start, but evaluates rules at once: for want of metrics WatchOld
+        is pending, and fires after 4 of our seconds, which are 2 minutes in the rules."""
+        met = "nothing"
+        for _ in range(600):
+            with contextlib.suppress(OSError):
+                met = self.query("ladwenpik_watch_timestamp_seconds"), self.firing()
+                if met[0] and "WatchOld" not in met[1]:
+                    return
+            time.sleep(0.1)
+        raise SystemExit(f"WRONG: Prometheus has no metrics, or WatchOld fires: {met}\n" + self.machine.on("journalctl", "-o", "cat", "--no-pager", "-n", "30", "-u", "prometheus.service").stdout)
 
     # ---- asking
 
