@@ -87,19 +87,19 @@ def of_axioms():
 
 
 def of_packages(facts, materials):
-    for path in [*facts.packages, materials]:
+    for path in [*facts.packages, *materials]:
         yield f"{sum_of(path)}  {path.name}"
 
 
 def text(facts, materials):
-    """The whole text. `materials` is the list of materials (SPDX)."""
+    """The whole text. `materials` are the files of the list of materials."""
     parts = {
         "Sources": of_sources(facts),
         "Toolchain": of_toolchain(facts),
         "Program and library": of_files(facts),
         "The gate, rt ci": of_gate(facts),
         "Axioms, by docs/ASSUMPTIONS.md": of_axioms(),
-        "Packages, and the list of what they are made of": of_packages(facts, materials),
+        "Packages, and the list of what they are made of, in SPDX and CycloneDX": of_packages(facts, materials),
     }
     body = "".join(f"\n{title}\n\n" + "".join(f"  {line}".rstrip() + "\n" for line in lines) for title, lines in parts.items())
     return f"Evidence of ladwenpik {facts.version}\n{body}"

@@ -116,5 +116,5 @@ def relations(crates, debs):
     return yielded + [relation(program, "DEPENDS_ON", spdx_id("crate", name)) for name in below]
 
 
-def text(facts, crates):
-    return json.dumps(document(facts, crates), indent=1, ensure_ascii=False) + "\n"
+def text(listed):
+    return json.dumps(listed, indent=1, ensure_ascii=False) + "\n"
