@@ -14,6 +14,10 @@ TOP = Path(__file__).resolve().parents[3]
 #: What the machine that builds may have otherwise, and the packages mustn't show.
 OTHERWISE = {"TZ": "Asia/Tokyo", "LC_ALL": "C", "HOME": "/nonexistent"}
 
+#: A log of ./ee_cli: the crates with their verdicts, the program's own last, and a summary.
+VERDICT = "logic=proved functions=9 axioms=62 target=x86_64-unknown-linux-gnu cpu=x86-64-v2 sum=dac8208d650f15bf"
+PROOF = f"crate ee_io: modules loaded=0 checked=3\nlogic=proved functions=3 sum=dac8208d650f15bf\ncrate ee_cli: modules loaded=0 checked=230\naxioms std: none reached of the 2 declared\n{VERDICT}\n== summary\nee_cli: ok\n"
+
 #: What the list of materials may have.
 FIELDS = Path(__file__).resolve().parent / "spdx_fields.json"
 
@@ -70,6 +74,8 @@ def built_twice(folder, words):
     first = Release(tree, folder / "packages", words)
     second = Release(other, folder / "again", words, UMASK="077", **OTHERWISE)
     right(len(first.debs) == 5 and first.sums() == second.sums(), f"{len(first.debs)} packages, built twice in different folders, have the same bytes", (first.sums(), second.sums()))
+    said = [ending for ending in (".spdx.json", ".cdx.json", "_evidence.txt") if first.file(ending).read_bytes() != second.file(ending).read_bytes()]
+    right(said == [], "so have the two lists of materials and the evidence", said)
     change(other / "samples" / "rates.csv", "from,rate", "from,rate\n")
     third = Release(other, folder / "changed", words, UMASK="077", **OTHERWISE)
     differing = [name for name in first.sums() if first.sums()[name] != third.sums()[name]]
@@ -78,7 +84,7 @@ def built_twice(folder, words):
 
 
 def refuses_another_program(folder, program):
-    """Without --program, no program and one whose sources have changed since are refused."""
+    """Without --program, no program and one whose sources have changed since are refused. The evidence says by what a program was proved."""
     tree = folder / "one"
     ran = run(str(tree / "packaging" / "build"), "--to", str(folder / "none"), env={**os.environ, "SOURCE_DATE_EPOCH": "1"})
     right(ran.returncode == 1 and "isn't proved and built" in ran.stdout, "without a proved program it is refused", ran.stdout)
@@ -90,9 +96,18 @@ def refuses_another_program(folder, program):
     right(ran.returncode == 1 and "isn't the program of the sources as they are" in ran.stdout and not (folder / "none").exists(), "so is one whose sources were others", ran.stdout)
     ran = run("bash", "-c", f"cd {tree} && sed -n '/^crates()/,/^}}/p;/^sources()/,/^}}/p;/^checksum()/,/^}}/p' ee_cli > f && top=$PWD && . ./f && rm f && checksum ee_cli")
     (out / "ee_cli.sources").write_text(ran.stdout)
-    taken = Release(tree, folder / "taken", ["--library", str(TOP / "clients" / "value" / "out")])
-    said = taken.file("_evidence.txt").read_text()
+    (folder / "ci.log").write_text("".join(f"line {nth}\n" for nth in range(1, 20)) + "31 passed, 0 failed\n")
+    words = ["--library", str(TOP / "clients" / "value" / "out"), "--ci-log", str(folder / "ci.log")]
+    said = Release(tree, folder / "taken", words).file("_evidence.txt").read_text()
     right("proved and built from these sources by ./ee_cli" in said, "control: with the checksum of these sources beside it, it is taken, and the evidence says so", said)
+    last = said.split("whose last lines are:\n")[1].split("\n\n")[0].split()
+    right(last == " ".join([*(f"line {nth}" for nth in range(9, 20)), "31 passed, 0 failed"]).split(), "and quotes the last twelve lines of the gate's log", said)
+    right("checker    its last line is not given" in said, "without the log of its proof the evidence names no verdict", said)
+    (out / "ee_cli.log").write_text(PROOF)
+    said = Release(tree, folder / "proof", words).file("_evidence.txt").read_text()
+    right(f"checker    {VERDICT}\n" in said, "with the log it names the checker's verdict on the program's own crate", said)
+    said = Release(tree, folder / "named", [*words, "--program", program]).file("_evidence.txt").read_text()
+    right("checker    its last line is not given" in said and "NAMED BY --program" in said, "control: for a program that is named by hand it doesn't", said)
     shutil.rmtree(out)
 
 

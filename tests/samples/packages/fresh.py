@@ -26,9 +26,10 @@ def done(*words, **more):
     return ran.stdout
 
 
-def bootstrap(folder):
-    """Makes the root, which takes some minutes and Debian's mirror."""
-    done("debootstrap", "--variant=minbase", f"--include={INCLUDED}", SUITE, folder, MIRROR)
+def bootstrap(folder, suite=SUITE, included=INCLUDED):
+    """Makes a root, which takes some minutes and Debian's mirror. Returns its folder."""
+    done("debootstrap", "--variant=minbase", f"--include={included}", suite, folder, MIRROR)
+    return folder
 
 
 # Within the namespaces, until systemd is process 1.
