@@ -210,7 +210,7 @@ def through_nginx(world):
     counted = world.sum_of("ladwenpik_requests_total") - before
     right(counted == asked > 20, f"{asked} requests by nginx while its log was rotated: {counted:.0f} were counted")
     found = world.machine.on("sh", "-c", "cat /var/log/nginx/counter-watch.log* | grep -cE '[A-Z][0-9]+EE|payee|anna|127[.]0|inventory/'; grep -cE '[A-Z][0-9]+EE' /var/log/nginx/counter.log").stdout.split()
-    right(found[0] == "0" and int(found[1]) > 0, f"the log for watching has no serial number, payee, user, address or path; control: the log of posts has serial numbers in {found[1]} lines", found)
+    right(found[0] == "0" and int(found[1]) > 0, f"the log for watching has no serial number, payee, user, address or path; control: the log of posts has serial numbers, in lines: {found[1]}", found)
     opened = world.opened_files()
     touched = [path for path in opened if path.startswith("/var/lib/counter/")]
     right(any(path.endswith("/day.db") and "/snapshots/watch-" in path for path in opened) and not touched, f"of the {len(opened)} files that a run opens, the snapshot is one, and none is the store's", touched)
