@@ -59,6 +59,29 @@ ChangesNothing old new result = HasCleanDisk new → IsInside old → OnOk resul
 abbrev pub FailsAlone : {X E : Type 0} → State → State → Result X E → Type 0
 FailsAlone old new result = HasCleanDisk new → IsInside old → OnErr result (KeepsCommit old new)
 
+-- ---- what statements of one kind leave
+
+-- A query. If it succeeds, the store is open, and nothing changed. If it fails, nothing is committed.
+pub record OnlyQueries {X E : Type 0} (old new : State) (result : Result X E) : Type 0 where
+  pub still_open : LeavesOpen new result
+  pub same : ChangesNothing old new result
+  pub err : FailsAlone old new result
+  pub crash : LeavesNoMore old new
+
+-- A statement that writes. If it succeeds, the store is open, and the transaction goes on. Nothing is committed.
+pub record WritesInside {X E : Type 0} (old new : State) (result : Result X E) : Type 0 where
+  pub still_open : LeavesOpen new result
+  pub inside : StaysInside old new result
+  pub commit : CommitsNothing old new
+  pub crash : LeavesNoMore old new
+
+-- Statements that write, of which there may be none: if they succeed, a store that was open is open.
+pub record WritesIfAny {X E : Type 0} (old new : State) (result : Result X E) : Type 0 where
+  pub still_open : StaysOpen old new result
+  pub inside : StaysInside old new result
+  pub commit : CommitsNothing old new
+  pub crash : LeavesNoMore old new
+
 -- ---- why a statement fails
 
 -- the device failed once more, or the store was shut before

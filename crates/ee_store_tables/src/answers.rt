@@ -10,15 +10,14 @@ ghost use Rattle.ee_store_tables.specs.AsRows.{Fits, row_of_reply};
 ghost use Rattle.ee_store_tables.specs.Rows as table;
 ghost use Rattle.ee_store_tables.specs.Rows.{IsText, IsInside, Rises, reply_columns, with_answer, FitsRow, HasRoom};
 ghost use Rattle.ee_store_tables.specs.Statements.{
+  OnlyQueries,
+  WritesInside,
   LeavesOpen,
   StaysInside,
-  CommitsNothing,
   LeavesNoMore,
   LeavesSound,
   Makes,
   Finds,
-  ChangesNothing,
-  FailsAlone,
   FailsByCause,
   QueryFailsByCause,
   IsMemory,
@@ -76,16 +75,13 @@ pub fn add_answer<S: Alter>(
     requires desk { Fits desk }
     requires number { Fits number }
     ensures same_reference { tx.new.conn.ghost_name ≡ tx.old.conn.ghost_name }
-    ensures open { LeavesOpen (state S.Store tx.new.conn.now) result }
-    ensures inside { StaysInside (state S.Store tx.old.conn.now) (state S.Store tx.new.conn.now) result }
+    ensures writes_inside { WritesInside (state S.Store tx.old.conn.now) (state S.Store tx.new.conn.now) result }
     ensures added { Makes (state S.Store tx.old.conn.now) (state S.Store tx.new.conn.now) result
         (λ rows. with_answer rows (desk, number) (row_of_reply entry.now)) }
     ensures sound { LeavesSound (state S.Store tx.old.conn.now) (state S.Store tx.new.conn.now) result }
     ensures room { TakesRoom (state S.Store tx.old.conn.now) (state S.Store tx.new.conn.now) result 1 }
-    ensures commit { CommitsNothing (state S.Store tx.old.conn.now) (state S.Store tx.new.conn.now) }
     ensures cause { FailsByCause (state S.Store tx.old.conn.now) (state S.Store tx.new.conn.now) result
         (λ rows. HasRoom 1 (state S.Store tx.old.conn.now) × (get rows.answers (desk, number) ≡ None) × FitsRow (row_of_reply entry.now)) }
-    ensures crash { LeavesNoMore (state S.Store tx.old.conn.now) (state S.Store tx.new.conn.now) }
 {
     add_answer_texts(tx, desk, number, entry.act.as_str(), entry.reply.as_str())
 }
@@ -99,13 +95,10 @@ fn answer_rows<S: Alter>(
     requires desk { Fits desk }
     requires number { Fits number }
     ensures same_reference { tx.new.conn.ghost_name ≡ tx.old.conn.ghost_name }
-    ensures open { LeavesOpen (state S.Store tx.new.conn.now) result }
+    ensures only_queries { OnlyQueries (state S.Store tx.old.conn.now) (state S.Store tx.new.conn.now) result }
     ensures found { Finds (state S.Store tx.old.conn.now) (state S.Store tx.new.conn.now) result
         (λ rows found. found.items ≡ option_to_list (option_map reply_columns (get rows.answers (desk, number)))) }
-    ensures same { ChangesNothing (state S.Store tx.old.conn.now) (state S.Store tx.new.conn.now) result }
-    ensures err { FailsAlone (state S.Store tx.old.conn.now) (state S.Store tx.new.conn.now) result }
     ensures cause { QueryFailsByCause (state S.Store tx.old.conn.now) (state S.Store tx.new.conn.now) result }
-    ensures crash { LeavesNoMore (state S.Store tx.old.conn.now) (state S.Store tx.new.conn.now) }
 {
     tx.query_all(
         "SELECT act, reply FROM answers WHERE desk = ?1 AND number = ?2",
@@ -138,14 +131,11 @@ pub fn find_answer<S: Alter>(
     requires desk { Fits desk }
     requires number { Fits number }
     ensures same_reference { tx.new.conn.ghost_name ≡ tx.old.conn.ghost_name }
-    ensures open { LeavesOpen (state S.Store tx.new.conn.now) result }
+    ensures only_queries { OnlyQueries (state S.Store tx.old.conn.now) (state S.Store tx.new.conn.now) result }
     ensures found { Finds (state S.Store tx.old.conn.now) (state S.Store tx.new.conn.now) result
         (λ rows found. option_map row_of_reply found ≡ get rows.answers (desk, number)) }
-    ensures same { ChangesNothing (state S.Store tx.old.conn.now) (state S.Store tx.new.conn.now) result }
-    ensures err { FailsAlone (state S.Store tx.old.conn.now) (state S.Store tx.new.conn.now) result }
     ensures cause { FailsByCause (state S.Store tx.old.conn.now) (state S.Store tx.new.conn.now) result
         (λ rows. IfSome (get rows.answers (desk, number)) IsText) }
-    ensures crash { LeavesNoMore (state S.Store tx.old.conn.now) (state S.Store tx.new.conn.now) }
 {
     let rows = answer_rows(tx, desk, number)?;
     let found = read_entry(&rows)?;

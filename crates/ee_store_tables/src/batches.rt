@@ -7,20 +7,7 @@ ghost use Rattle.sqlite.specs.Held.{state};
 ghost use Rattle.ee_store_tables.specs.AsRows.{Fits, FitsBatch, row_of_batch};
 ghost use Rattle.ee_store_tables.specs.Rows as table;
 ghost use Rattle.ee_store_tables.specs.Rows.{batch_columns, with_batch, HasRoom};
-ghost use Rattle.ee_store_tables.specs.Statements.{
-  LeavesOpen,
-  StaysInside,
-  CommitsNothing,
-  LeavesNoMore,
-  Makes,
-  Finds,
-  ChangesNothing,
-  FailsAlone,
-  FailsByCause,
-  QueryFailsByCause,
-  IsMemory,
-  KeepsRoom,
-};
+ghost use Rattle.ee_store_tables.specs.Statements.{OnlyQueries, WritesInside, Makes, Finds, FailsByCause, QueryFailsByCause, IsMemory, KeepsRoom};
 
 use crate::failures::Failure;
 use crate::records::BatchRow;
@@ -36,14 +23,11 @@ pub fn add_batch<S: Alter>(
     requires day { Fits day }
     requires batch { FitsBatch batch }
     ensures same_reference { tx.new.conn.ghost_name ≡ tx.old.conn.ghost_name }
-    ensures open { LeavesOpen (state S.Store tx.new.conn.now) result }
-    ensures inside { StaysInside (state S.Store tx.old.conn.now) (state S.Store tx.new.conn.now) result }
+    ensures writes_inside { WritesInside (state S.Store tx.old.conn.now) (state S.Store tx.new.conn.now) result }
     ensures added { Makes (state S.Store tx.old.conn.now) (state S.Store tx.new.conn.now) result (λ rows. with_batch rows day (row_of_batch batch)) }
     ensures room { KeepsRoom (state S.Store tx.old.conn.now) (state S.Store tx.new.conn.now) result }
-    ensures commit { CommitsNothing (state S.Store tx.old.conn.now) (state S.Store tx.new.conn.now) }
     ensures cause { FailsByCause (state S.Store tx.old.conn.now) (state S.Store tx.new.conn.now) result
         (λ rows. HasRoom 0 (state S.Store tx.old.conn.now) × (get rows.batches day ≡ None)) }
-    ensures crash { LeavesNoMore (state S.Store tx.old.conn.now) (state S.Store tx.new.conn.now) }
 {
     tx.execute(
         "INSERT INTO batches (day, tickets, bonds, total) VALUES (?1, ?2, ?3, ?4)",
@@ -61,13 +45,10 @@ pub fn add_batch<S: Alter>(
 fn batch_rows<S: Alter>(tx: &mut Transaction<'_, S>, day: u64) -> Result<Vec<Row>, Error>
     requires { Fits day }
     ensures same_reference { tx.new.conn.ghost_name ≡ tx.old.conn.ghost_name }
-    ensures open { LeavesOpen (state S.Store tx.new.conn.now) result }
+    ensures only_queries { OnlyQueries (state S.Store tx.old.conn.now) (state S.Store tx.new.conn.now) result }
     ensures found { Finds (state S.Store tx.old.conn.now) (state S.Store tx.new.conn.now) result
         (λ rows found. found.items ≡ option_to_list (option_map batch_columns (get rows.batches day))) }
-    ensures same { ChangesNothing (state S.Store tx.old.conn.now) (state S.Store tx.new.conn.now) result }
-    ensures err { FailsAlone (state S.Store tx.old.conn.now) (state S.Store tx.new.conn.now) result }
     ensures cause { QueryFailsByCause (state S.Store tx.old.conn.now) (state S.Store tx.new.conn.now) result }
-    ensures crash { LeavesNoMore (state S.Store tx.old.conn.now) (state S.Store tx.new.conn.now) }
 {
     tx.query_all(
         "SELECT tickets, bonds, total FROM batches WHERE day = ?1",
@@ -98,13 +79,10 @@ pub fn find_batch<S: Alter>(
 ) -> Result<Option<BatchRow>, Failure>
     requires { Fits day }
     ensures same_reference { tx.new.conn.ghost_name ≡ tx.old.conn.ghost_name }
-    ensures open { LeavesOpen (state S.Store tx.new.conn.now) result }
+    ensures only_queries { OnlyQueries (state S.Store tx.old.conn.now) (state S.Store tx.new.conn.now) result }
     ensures found { Finds (state S.Store tx.old.conn.now) (state S.Store tx.new.conn.now) result
         (λ rows found. option_map row_of_batch found ≡ get rows.batches day) }
-    ensures same { ChangesNothing (state S.Store tx.old.conn.now) (state S.Store tx.new.conn.now) result }
-    ensures err { FailsAlone (state S.Store tx.old.conn.now) (state S.Store tx.new.conn.now) result }
     ensures cause { FailsByCause (state S.Store tx.old.conn.now) (state S.Store tx.new.conn.now) result (λ _. ⊤) }
-    ensures crash { LeavesNoMore (state S.Store tx.old.conn.now) (state S.Store tx.new.conn.now) }
 {
     let rows = batch_rows(tx, day)?;
     let found = read_batch(&rows)?;

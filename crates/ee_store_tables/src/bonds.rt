@@ -8,14 +8,10 @@ ghost use Rattle.ee_store_tables.specs.AsRows.{Fits, FitsSerial, FitsUnpaid, key
 ghost use Rattle.ee_store_tables.specs.Rows as table;
 ghost use Rattle.ee_store_tables.specs.Rows.{bond_columns, marked, with_bond, unpaid_of, HasRoom};
 ghost use Rattle.ee_store_tables.specs.Statements.{
-  LeavesOpen,
-  StaysInside,
-  CommitsNothing,
-  LeavesNoMore,
+  OnlyQueries,
+  WritesInside,
   Makes,
   Finds,
-  ChangesNothing,
-  FailsAlone,
   FailsByCause,
   QueryFailsByCause,
   IsMemory,
@@ -34,13 +30,10 @@ use std::alloc::Global;
 pub fn add_bond<S: Alter>(tx: &mut Transaction<'_, S>, bond: UnpaidBond) -> Result<(), Failure>
     requires { FitsUnpaid bond }
     ensures same_reference { tx.new.conn.ghost_name ≡ tx.old.conn.ghost_name }
-    ensures open { LeavesOpen (state S.Store tx.new.conn.now) result }
-    ensures inside { StaysInside (state S.Store tx.old.conn.now) (state S.Store tx.new.conn.now) result }
+    ensures writes_inside { WritesInside (state S.Store tx.old.conn.now) (state S.Store tx.new.conn.now) result }
     ensures added { Makes (state S.Store tx.old.conn.now) (state S.Store tx.new.conn.now) result (λ rows. with_bond rows (entry_of_unpaid bond)) }
     ensures room { TakesRoom (state S.Store tx.old.conn.now) (state S.Store tx.new.conn.now) result 1 }
-    ensures commit { CommitsNothing (state S.Store tx.old.conn.now) (state S.Store tx.new.conn.now) }
     ensures cause { FailsByCause (state S.Store tx.old.conn.now) (state S.Store tx.new.conn.now) result (λ _. HasRoom 1 (state S.Store tx.old.conn.now)) }
-    ensures crash { LeavesNoMore (state S.Store tx.old.conn.now) (state S.Store tx.new.conn.now) }
 {
     tx.execute(
         "INSERT INTO bonds (letter, number, denom, issued, owner, coowner) VALUES (?1, ?2, ?3, ?4, ?5, ?6) ON CONFLICT (letter, number) DO NOTHING",
@@ -65,13 +58,10 @@ pub fn mark_bond<S: Alter>(
     requires serial { FitsSerial serial }
     requires ticket { Fits ticket }
     ensures same_reference { tx.new.conn.ghost_name ≡ tx.old.conn.ghost_name }
-    ensures open { LeavesOpen (state S.Store tx.new.conn.now) result }
-    ensures inside { StaysInside (state S.Store tx.old.conn.now) (state S.Store tx.new.conn.now) result }
+    ensures writes_inside { WritesInside (state S.Store tx.old.conn.now) (state S.Store tx.new.conn.now) result }
     ensures marked { Makes (state S.Store tx.old.conn.now) (state S.Store tx.new.conn.now) result (λ rows. marked rows (key_of serial) ticket) }
     ensures room { KeepsRoom (state S.Store tx.old.conn.now) (state S.Store tx.new.conn.now) result }
-    ensures commit { CommitsNothing (state S.Store tx.old.conn.now) (state S.Store tx.new.conn.now) }
     ensures cause { FailsByCause (state S.Store tx.old.conn.now) (state S.Store tx.new.conn.now) result (λ _. HasRoom 0 (state S.Store tx.old.conn.now)) }
-    ensures crash { LeavesNoMore (state S.Store tx.old.conn.now) (state S.Store tx.new.conn.now) }
 {
     tx.execute(
         "UPDATE bonds SET ticket = ?3 WHERE letter = ?1 AND number = ?2",
@@ -84,13 +74,10 @@ pub fn mark_bond<S: Alter>(
 fn bond_rows<S: Alter>(tx: &mut Transaction<'_, S>, serial: SerialKey) -> Result<Vec<Row>, Error>
     requires { FitsSerial serial }
     ensures same_reference { tx.new.conn.ghost_name ≡ tx.old.conn.ghost_name }
-    ensures open { LeavesOpen (state S.Store tx.new.conn.now) result }
+    ensures only_queries { OnlyQueries (state S.Store tx.old.conn.now) (state S.Store tx.new.conn.now) result }
     ensures found { Finds (state S.Store tx.old.conn.now) (state S.Store tx.new.conn.now) result
         (λ rows found. found.items ≡ option_to_list (option_map bond_columns (get rows.bonds (key_of serial)))) }
-    ensures same { ChangesNothing (state S.Store tx.old.conn.now) (state S.Store tx.new.conn.now) result }
-    ensures err { FailsAlone (state S.Store tx.old.conn.now) (state S.Store tx.new.conn.now) result }
     ensures cause { QueryFailsByCause (state S.Store tx.old.conn.now) (state S.Store tx.new.conn.now) result }
-    ensures crash { LeavesNoMore (state S.Store tx.old.conn.now) (state S.Store tx.new.conn.now) }
 {
     tx.query_all(
         "SELECT denom, issued, owner, coowner, ticket FROM bonds WHERE letter = ?1 AND number = ?2",
@@ -123,13 +110,10 @@ pub fn find_bond<S: Alter>(
 ) -> Result<Option<BondRow>, Failure>
     requires { FitsSerial serial }
     ensures same_reference { tx.new.conn.ghost_name ≡ tx.old.conn.ghost_name }
-    ensures open { LeavesOpen (state S.Store tx.new.conn.now) result }
+    ensures only_queries { OnlyQueries (state S.Store tx.old.conn.now) (state S.Store tx.new.conn.now) result }
     ensures found { Finds (state S.Store tx.old.conn.now) (state S.Store tx.new.conn.now) result
         (λ rows found. option_map row_of_bond found ≡ get rows.bonds (key_of serial)) }
-    ensures same { ChangesNothing (state S.Store tx.old.conn.now) (state S.Store tx.new.conn.now) result }
-    ensures err { FailsAlone (state S.Store tx.old.conn.now) (state S.Store tx.new.conn.now) result }
     ensures cause { FailsByCause (state S.Store tx.old.conn.now) (state S.Store tx.new.conn.now) result (λ _. ⊤) }
-    ensures crash { LeavesNoMore (state S.Store tx.old.conn.now) (state S.Store tx.new.conn.now) }
 {
     let rows = bond_rows(tx, serial)?;
     let found = read_bond(&rows)?;
@@ -158,13 +142,10 @@ impl QueryRow for UnpaidBond {
 fn owner_rows<S: Alter>(tx: &mut Transaction<'_, S>, owner: u64) -> Result<Vec<Row>, Error>
     requires { Fits owner }
     ensures same_reference { tx.new.conn.ghost_name ≡ tx.old.conn.ghost_name }
-    ensures open { LeavesOpen (state S.Store tx.new.conn.now) result }
+    ensures only_queries { OnlyQueries (state S.Store tx.old.conn.now) (state S.Store tx.new.conn.now) result }
     ensures found { Finds (state S.Store tx.old.conn.now) (state S.Store tx.new.conn.now) result
         (λ rows found. found.items ≡ map unpaid_columns (map unpaid_bond_of (unpaid_of rows owner))) }
-    ensures same { ChangesNothing (state S.Store tx.old.conn.now) (state S.Store tx.new.conn.now) result }
-    ensures err { FailsAlone (state S.Store tx.old.conn.now) (state S.Store tx.new.conn.now) result }
     ensures cause { QueryFailsByCause (state S.Store tx.old.conn.now) (state S.Store tx.new.conn.now) result }
-    ensures crash { LeavesNoMore (state S.Store tx.old.conn.now) (state S.Store tx.new.conn.now) }
 {
     tx.query_all(
         "SELECT letter, number, denom, issued, owner, coowner FROM bonds WHERE ticket IS NULL AND owner = ?1 ORDER BY letter, number",
@@ -180,13 +161,10 @@ pub fn bonds_of_owner<S: Alter>(
 ) -> Result<Vec<UnpaidBond>, Failure>
     requires { Fits owner }
     ensures same_reference { tx.new.conn.ghost_name ≡ tx.old.conn.ghost_name }
-    ensures open { LeavesOpen (state S.Store tx.new.conn.now) result }
+    ensures only_queries { OnlyQueries (state S.Store tx.old.conn.now) (state S.Store tx.new.conn.now) result }
     ensures found { Finds (state S.Store tx.old.conn.now) (state S.Store tx.new.conn.now) result
         (λ rows found. found.items ≡ map unpaid_bond_of (unpaid_of rows owner)) }
-    ensures same { ChangesNothing (state S.Store tx.old.conn.now) (state S.Store tx.new.conn.now) result }
-    ensures err { FailsAlone (state S.Store tx.old.conn.now) (state S.Store tx.new.conn.now) result }
     ensures cause { FailsByCause (state S.Store tx.old.conn.now) (state S.Store tx.new.conn.now) result (λ _. ⊤) }
-    ensures crash { LeavesNoMore (state S.Store tx.old.conn.now) (state S.Store tx.new.conn.now) }
 {
     let rows = owner_rows(tx, owner)?;
     read_each(alloc, &rows)

@@ -10,15 +10,14 @@ ghost use Rattle.ee_store_tables.specs.AsRows.{Fits, row_of_desk};
 ghost use Rattle.ee_store_tables.specs.Rows as table;
 ghost use Rattle.ee_store_tables.specs.Rows.{desk_columns, with_day, with_version, HasRoom};
 ghost use Rattle.ee_store_tables.specs.Statements.{
+  OnlyQueries,
+  WritesInside,
   LeavesOpen,
   StaysInside,
-  CommitsNothing,
   LeavesNoMore,
   LeavesSound,
   Makes,
   Finds,
-  ChangesNothing,
-  FailsAlone,
   FailsByCause,
   QueryFailsByCause,
   IsMemory,
@@ -39,13 +38,10 @@ pub fn set_day<S: Alter>(
     requires day { IfSome day Fits }
     requires last_day { IfSome last_day Fits }
     ensures same_reference { tx.new.conn.ghost_name ≡ tx.old.conn.ghost_name }
-    ensures open { LeavesOpen (state S.Store tx.new.conn.now) result }
-    ensures inside { StaysInside (state S.Store tx.old.conn.now) (state S.Store tx.new.conn.now) result }
+    ensures writes_inside { WritesInside (state S.Store tx.old.conn.now) (state S.Store tx.new.conn.now) result }
     ensures set { Makes (state S.Store tx.old.conn.now) (state S.Store tx.new.conn.now) result (λ rows. with_day rows day last_day) }
     ensures room { KeepsRoom (state S.Store tx.old.conn.now) (state S.Store tx.new.conn.now) result }
-    ensures commit { CommitsNothing (state S.Store tx.old.conn.now) (state S.Store tx.new.conn.now) }
     ensures cause { FailsByCause (state S.Store tx.old.conn.now) (state S.Store tx.new.conn.now) result (λ _. HasRoom 0 (state S.Store tx.old.conn.now)) }
-    ensures crash { LeavesNoMore (state S.Store tx.old.conn.now) (state S.Store tx.new.conn.now) }
 {
     tx.execute(
         "UPDATE desk SET day = ?2, last_day = ?3 WHERE id = ?1",
@@ -77,13 +73,10 @@ pub fn set_version<S: Alter>(tx: &mut Transaction<'_, S>, version: u64) -> Resul
 /// The desk's row, if it exists.
 fn desk_rows<S: Alter>(tx: &mut Transaction<'_, S>) -> Result<Vec<Row>, Error>
     ensures same_reference { tx.new.conn.ghost_name ≡ tx.old.conn.ghost_name }
-    ensures open { LeavesOpen (state S.Store tx.new.conn.now) result }
+    ensures only_queries { OnlyQueries (state S.Store tx.old.conn.now) (state S.Store tx.new.conn.now) result }
     ensures found { Finds (state S.Store tx.old.conn.now) (state S.Store tx.new.conn.now) result
         (λ rows found. found.items ≡ option_to_list (option_map desk_columns (get rows.desk 1))) }
-    ensures same { ChangesNothing (state S.Store tx.old.conn.now) (state S.Store tx.new.conn.now) result }
-    ensures err { FailsAlone (state S.Store tx.old.conn.now) (state S.Store tx.new.conn.now) result }
     ensures cause { QueryFailsByCause (state S.Store tx.old.conn.now) (state S.Store tx.new.conn.now) result }
-    ensures crash { LeavesNoMore (state S.Store tx.old.conn.now) (state S.Store tx.new.conn.now) }
 {
     tx.query_all(
         "SELECT version, day, last_day FROM desk WHERE id = ?1",
@@ -110,13 +103,10 @@ fn read_desk(rows: &[Row]) -> Result<Option<DeskRow>, Error>
 /// Finds the desk's row: the version of the tables, the open day, and the last closed day.
 pub fn find_desk<S: Alter>(tx: &mut Transaction<'_, S>) -> Result<Option<DeskRow>, Failure>
     ensures same_reference { tx.new.conn.ghost_name ≡ tx.old.conn.ghost_name }
-    ensures open { LeavesOpen (state S.Store tx.new.conn.now) result }
+    ensures only_queries { OnlyQueries (state S.Store tx.old.conn.now) (state S.Store tx.new.conn.now) result }
     ensures found { Finds (state S.Store tx.old.conn.now) (state S.Store tx.new.conn.now) result
         (λ rows found. option_map row_of_desk found ≡ get rows.desk 1) }
-    ensures same { ChangesNothing (state S.Store tx.old.conn.now) (state S.Store tx.new.conn.now) result }
-    ensures err { FailsAlone (state S.Store tx.old.conn.now) (state S.Store tx.new.conn.now) result }
     ensures cause { FailsByCause (state S.Store tx.old.conn.now) (state S.Store tx.new.conn.now) result (λ _. ⊤) }
-    ensures crash { LeavesNoMore (state S.Store tx.old.conn.now) (state S.Store tx.new.conn.now) }
 {
     let rows = desk_rows(tx)?;
     let found = read_desk(&rows)?;

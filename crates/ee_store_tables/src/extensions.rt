@@ -6,19 +6,7 @@ ghost use Rattle.std.specs.FinMap.{get};
 ghost use Rattle.sqlite.specs.Held.{state};
 ghost use Rattle.ee_store_tables.specs.AsRows.{Fits, FitsRate, entry_of_rate};
 ghost use Rattle.ee_store_tables.specs.Rows.{rate_columns, with_extension, HasRoom};
-ghost use Rattle.ee_store_tables.specs.Statements.{
-  LeavesOpen,
-  StaysInside,
-  CommitsNothing,
-  LeavesNoMore,
-  Makes,
-  Finds,
-  ChangesNothing,
-  FailsAlone,
-  FailsByCause,
-  QueryFailsByCause,
-  KeepsRoom,
-};
+ghost use Rattle.ee_store_tables.specs.Statements.{OnlyQueries, WritesInside, Makes, Finds, FailsByCause, QueryFailsByCause, KeepsRoom};
 
 use crate::failures::Failure;
 use crate::reading::read_number;
@@ -33,14 +21,11 @@ pub fn add_extension<S: Alter>(
 ) -> Result<(), Failure>
     requires { FitsRate extension }
     ensures same_reference { tx.new.conn.ghost_name ≡ tx.old.conn.ghost_name }
-    ensures open { LeavesOpen (state S.Store tx.new.conn.now) result }
-    ensures inside { StaysInside (state S.Store tx.old.conn.now) (state S.Store tx.new.conn.now) result }
+    ensures writes_inside { WritesInside (state S.Store tx.old.conn.now) (state S.Store tx.new.conn.now) result }
     ensures added { Makes (state S.Store tx.old.conn.now) (state S.Store tx.new.conn.now) result
         (λ rows. with_extension rows (entry_of_rate extension)) }
     ensures room { KeepsRoom (state S.Store tx.old.conn.now) (state S.Store tx.new.conn.now) result }
-    ensures commit { CommitsNothing (state S.Store tx.old.conn.now) (state S.Store tx.new.conn.now) }
     ensures cause { FailsByCause (state S.Store tx.old.conn.now) (state S.Store tx.new.conn.now) result (λ _. HasRoom 0 (state S.Store tx.old.conn.now)) }
-    ensures crash { LeavesNoMore (state S.Store tx.old.conn.now) (state S.Store tx.new.conn.now) }
 {
     tx.execute(
         "INSERT INTO extensions (period, rate) VALUES (?1, ?2) ON CONFLICT (period) DO NOTHING",
@@ -53,13 +38,10 @@ pub fn add_extension<S: Alter>(
 fn extension_rows<S: Alter>(tx: &mut Transaction<'_, S>, period: u64) -> Result<Vec<Row>, Error>
     requires { Fits period }
     ensures same_reference { tx.new.conn.ghost_name ≡ tx.old.conn.ghost_name }
-    ensures open { LeavesOpen (state S.Store tx.new.conn.now) result }
+    ensures only_queries { OnlyQueries (state S.Store tx.old.conn.now) (state S.Store tx.new.conn.now) result }
     ensures found { Finds (state S.Store tx.old.conn.now) (state S.Store tx.new.conn.now) result
         (λ rows found. found.items ≡ option_to_list (option_map rate_columns (get rows.extensions period))) }
-    ensures same { ChangesNothing (state S.Store tx.old.conn.now) (state S.Store tx.new.conn.now) result }
-    ensures err { FailsAlone (state S.Store tx.old.conn.now) (state S.Store tx.new.conn.now) result }
     ensures cause { QueryFailsByCause (state S.Store tx.old.conn.now) (state S.Store tx.new.conn.now) result }
-    ensures crash { LeavesNoMore (state S.Store tx.old.conn.now) (state S.Store tx.new.conn.now) }
 {
     tx.query_all(
         "SELECT rate FROM extensions WHERE period = ?1",
@@ -74,12 +56,9 @@ pub fn find_extension<S: Alter>(
 ) -> Result<Option<u64>, Failure>
     requires { Fits period }
     ensures same_reference { tx.new.conn.ghost_name ≡ tx.old.conn.ghost_name }
-    ensures open { LeavesOpen (state S.Store tx.new.conn.now) result }
+    ensures only_queries { OnlyQueries (state S.Store tx.old.conn.now) (state S.Store tx.new.conn.now) result }
     ensures found { Finds (state S.Store tx.old.conn.now) (state S.Store tx.new.conn.now) result (λ rows found. found ≡ get rows.extensions period) }
-    ensures same { ChangesNothing (state S.Store tx.old.conn.now) (state S.Store tx.new.conn.now) result }
-    ensures err { FailsAlone (state S.Store tx.old.conn.now) (state S.Store tx.new.conn.now) result }
     ensures cause { FailsByCause (state S.Store tx.old.conn.now) (state S.Store tx.new.conn.now) result (λ _. ⊤) }
-    ensures crash { LeavesNoMore (state S.Store tx.old.conn.now) (state S.Store tx.new.conn.now) }
 {
     let rows = extension_rows(tx, period)?;
     let found = read_number(&rows)?;

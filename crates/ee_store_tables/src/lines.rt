@@ -6,15 +6,11 @@ ghost use Rattle.ee_store_tables.specs.AsRows.{Fits, FitsLine, row_of_line, plac
 ghost use Rattle.ee_store_tables.specs.Rows.{with_paid, with_lines, lines_on, CanPay, CanPayAll, HasRoom};
 ghost use Rattle.ee_store_tables.specs.Places.{with_places, all_marked, CanPlaceAll};
 ghost use Rattle.ee_store_tables.specs.Statements.{
-  LeavesOpen,
-  StaysOpen,
-  StaysInside,
-  CommitsNothing,
-  LeavesNoMore,
+  OnlyQueries,
+  WritesInside,
+  WritesIfAny,
   Makes,
   Finds,
-  ChangesNothing,
-  FailsAlone,
   FailsByCause,
   QueryFailsByCause,
   KeepsRoom,
@@ -40,14 +36,11 @@ pub fn add_paid<S: Alter>(
     requires place { Fits place }
     requires line { FitsLine line }
     ensures same_reference { tx.new.conn.ghost_name ≡ tx.old.conn.ghost_name }
-    ensures open { LeavesOpen (state S.Store tx.new.conn.now) result }
-    ensures inside { StaysInside (state S.Store tx.old.conn.now) (state S.Store tx.new.conn.now) result }
+    ensures writes_inside { WritesInside (state S.Store tx.old.conn.now) (state S.Store tx.new.conn.now) result }
     ensures added { Makes (state S.Store tx.old.conn.now) (state S.Store tx.new.conn.now) result (λ rows. with_paid rows (ticket, place) (row_of_line line)) }
     ensures room { TakesRoom (state S.Store tx.old.conn.now) (state S.Store tx.new.conn.now) result 1 }
-    ensures commit { CommitsNothing (state S.Store tx.old.conn.now) (state S.Store tx.new.conn.now) }
     ensures cause { FailsByCause (state S.Store tx.old.conn.now) (state S.Store tx.new.conn.now) result
         (λ rows. HasRoom 1 (state S.Store tx.old.conn.now) × CanPay rows ticket place (row_of_line line)) }
-    ensures crash { LeavesNoMore (state S.Store tx.old.conn.now) (state S.Store tx.new.conn.now) }
 {
     tx.execute(
         "INSERT INTO paid (ticket, place, letter, number, cents) VALUES (?1, ?2, ?3, ?4, ?5)",
@@ -79,16 +72,13 @@ fn add_four<S: Alter>(
     requires third { FitsLine third }
     requires fourth { FitsLine fourth }
     ensures same_reference { tx.new.conn.ghost_name ≡ tx.old.conn.ghost_name }
-    ensures open { LeavesOpen (state S.Store tx.new.conn.now) result }
-    ensures inside { StaysInside (state S.Store tx.old.conn.now) (state S.Store tx.new.conn.now) result }
+    ensures writes_inside { WritesInside (state S.Store tx.old.conn.now) (state S.Store tx.new.conn.now) result }
     ensures added { Makes (state S.Store tx.old.conn.now) (state S.Store tx.new.conn.now) result
         (λ rows. with_places rows ticket place (row_of_line first ∷ row_of_line second ∷ row_of_line third ∷ row_of_line fourth ∷ [])) }
     ensures room { TakesRoom (state S.Store tx.old.conn.now) (state S.Store tx.new.conn.now) result 4 }
-    ensures commit { CommitsNothing (state S.Store tx.old.conn.now) (state S.Store tx.new.conn.now) }
     ensures cause { FailsByCause (state S.Store tx.old.conn.now) (state S.Store tx.new.conn.now) result
         (λ rows. HasRoom 4 (state S.Store tx.old.conn.now)
         × CanPlaceAll rows ticket place (row_of_line first ∷ row_of_line second ∷ row_of_line third ∷ row_of_line fourth ∷ [])) }
-    ensures crash { LeavesNoMore (state S.Store tx.old.conn.now) (state S.Store tx.new.conn.now) }
 {
     let next = place + 1;
     let after_next = next + 1;
@@ -156,15 +146,12 @@ fn add_each<S: Alter>(
     requires places { Fits (place + length lines.now) }
     requires lines { All FitsLine lines.now }
     ensures same_reference { tx.new.conn.ghost_name ≡ tx.old.conn.ghost_name }
-    ensures open { StaysOpen (state S.Store tx.old.conn.now) (state S.Store tx.new.conn.now) result }
-    ensures inside { StaysInside (state S.Store tx.old.conn.now) (state S.Store tx.new.conn.now) result }
+    ensures writes_if_any { WritesIfAny (state S.Store tx.old.conn.now) (state S.Store tx.new.conn.now) result }
     ensures added { Makes (state S.Store tx.old.conn.now) (state S.Store tx.new.conn.now) result
         (λ rows. with_places rows ticket place (map row_of_line lines.now)) }
     ensures room { TakesRoom (state S.Store tx.old.conn.now) (state S.Store tx.new.conn.now) result (length lines.now) }
-    ensures commit { CommitsNothing (state S.Store tx.old.conn.now) (state S.Store tx.new.conn.now) }
     ensures cause { FailsByCause (state S.Store tx.old.conn.now) (state S.Store tx.new.conn.now) result
         (λ rows. HasRoom (length lines.now) (state S.Store tx.old.conn.now) × CanPlaceAll rows ticket place (map row_of_line lines.now)) }
-    ensures crash { LeavesNoMore (state S.Store tx.old.conn.now) (state S.Store tx.new.conn.now) }
 {
     match lines.split_first() {
         None => Ok(()),
@@ -187,15 +174,12 @@ fn add_lines<S: Alter>(
     requires places { Fits (place + length lines.now) }
     requires lines { All FitsLine lines.now }
     ensures same_reference { tx.new.conn.ghost_name ≡ tx.old.conn.ghost_name }
-    ensures open { StaysOpen (state S.Store tx.old.conn.now) (state S.Store tx.new.conn.now) result }
-    ensures inside { StaysInside (state S.Store tx.old.conn.now) (state S.Store tx.new.conn.now) result }
+    ensures writes_if_any { WritesIfAny (state S.Store tx.old.conn.now) (state S.Store tx.new.conn.now) result }
     ensures added { Makes (state S.Store tx.old.conn.now) (state S.Store tx.new.conn.now) result
         (λ rows. with_places rows ticket place (map row_of_line lines.now)) }
     ensures room { TakesRoom (state S.Store tx.old.conn.now) (state S.Store tx.new.conn.now) result (length lines.now) }
-    ensures commit { CommitsNothing (state S.Store tx.old.conn.now) (state S.Store tx.new.conn.now) }
     ensures cause { FailsByCause (state S.Store tx.old.conn.now) (state S.Store tx.new.conn.now) result
         (λ rows. HasRoom (length lines.now) (state S.Store tx.old.conn.now) × CanPlaceAll rows ticket place (map row_of_line lines.now)) }
-    ensures crash { LeavesNoMore (state S.Store tx.old.conn.now) (state S.Store tx.new.conn.now) }
 {
     match first_four(lines) {
         None => add_each(tx, ticket, place, lines),
@@ -223,14 +207,11 @@ fn mark_lines<S: Alter>(
     requires ticket { Fits ticket }
     requires lines { All FitsLine lines.now }
     ensures same_reference { tx.new.conn.ghost_name ≡ tx.old.conn.ghost_name }
-    ensures open { StaysOpen (state S.Store tx.old.conn.now) (state S.Store tx.new.conn.now) result }
-    ensures inside { StaysInside (state S.Store tx.old.conn.now) (state S.Store tx.new.conn.now) result }
+    ensures writes_if_any { WritesIfAny (state S.Store tx.old.conn.now) (state S.Store tx.new.conn.now) result }
     ensures marked { Makes (state S.Store tx.old.conn.now) (state S.Store tx.new.conn.now) result
         (λ rows. all_marked rows ticket (map row_of_line lines.now)) }
     ensures room { KeepsRoom (state S.Store tx.old.conn.now) (state S.Store tx.new.conn.now) result }
-    ensures commit { CommitsNothing (state S.Store tx.old.conn.now) (state S.Store tx.new.conn.now) }
     ensures cause { FailsByCause (state S.Store tx.old.conn.now) (state S.Store tx.new.conn.now) result (λ _. HasRoom 0 (state S.Store tx.old.conn.now)) }
-    ensures crash { LeavesNoMore (state S.Store tx.old.conn.now) (state S.Store tx.new.conn.now) }
 {
     match lines.split_first() {
         None => Ok(()),
@@ -256,15 +237,12 @@ pub fn pay_lines<S: Alter>(
     requires places { Fits (place + length lines.now) }
     requires lines { All FitsLine lines.now }
     ensures same_reference { tx.new.conn.ghost_name ≡ tx.old.conn.ghost_name }
-    ensures open { StaysOpen (state S.Store tx.old.conn.now) (state S.Store tx.new.conn.now) result }
-    ensures inside { StaysInside (state S.Store tx.old.conn.now) (state S.Store tx.new.conn.now) result }
+    ensures writes_if_any { WritesIfAny (state S.Store tx.old.conn.now) (state S.Store tx.new.conn.now) result }
     ensures added { Makes (state S.Store tx.old.conn.now) (state S.Store tx.new.conn.now) result
         (λ rows. with_lines rows ticket place (map row_of_line lines.now)) }
     ensures room { TakesRoom (state S.Store tx.old.conn.now) (state S.Store tx.new.conn.now) result (length lines.now) }
-    ensures commit { CommitsNothing (state S.Store tx.old.conn.now) (state S.Store tx.new.conn.now) }
     ensures cause { FailsByCause (state S.Store tx.old.conn.now) (state S.Store tx.new.conn.now) result
         (λ rows. HasRoom (length lines.now) (state S.Store tx.old.conn.now) × CanPayAll rows ticket place (map row_of_line lines.now)) }
-    ensures crash { LeavesNoMore (state S.Store tx.old.conn.now) (state S.Store tx.new.conn.now) }
 {
     add_lines(tx, ticket, place, lines)?;
     mark_lines(tx, ticket, lines)
@@ -290,13 +268,10 @@ impl QueryRow for PlacedLine {
 fn line_rows<S: Alter>(tx: &mut Transaction<'_, S>, ticket: u64) -> Result<Vec<Row>, Error>
     requires { Fits ticket }
     ensures same_reference { tx.new.conn.ghost_name ≡ tx.old.conn.ghost_name }
-    ensures open { LeavesOpen (state S.Store tx.new.conn.now) result }
+    ensures only_queries { OnlyQueries (state S.Store tx.old.conn.now) (state S.Store tx.new.conn.now) result }
     ensures found { Finds (state S.Store tx.old.conn.now) (state S.Store tx.new.conn.now) result
         (λ rows found. found.items ≡ map placed_columns (map placed_of (lines_on rows ticket))) }
-    ensures same { ChangesNothing (state S.Store tx.old.conn.now) (state S.Store tx.new.conn.now) result }
-    ensures err { FailsAlone (state S.Store tx.old.conn.now) (state S.Store tx.new.conn.now) result }
     ensures cause { QueryFailsByCause (state S.Store tx.old.conn.now) (state S.Store tx.new.conn.now) result }
-    ensures crash { LeavesNoMore (state S.Store tx.old.conn.now) (state S.Store tx.new.conn.now) }
 {
     tx.query_all(
         "SELECT place, letter, number, cents FROM paid WHERE ticket = ?1 ORDER BY place",
@@ -312,13 +287,10 @@ pub fn ticket_lines<S: Alter>(
 ) -> Result<Vec<PlacedLine>, Failure>
     requires { Fits ticket }
     ensures same_reference { tx.new.conn.ghost_name ≡ tx.old.conn.ghost_name }
-    ensures open { LeavesOpen (state S.Store tx.new.conn.now) result }
+    ensures only_queries { OnlyQueries (state S.Store tx.old.conn.now) (state S.Store tx.new.conn.now) result }
     ensures found { Finds (state S.Store tx.old.conn.now) (state S.Store tx.new.conn.now) result
         (λ rows found. found.items ≡ map placed_of (lines_on rows ticket)) }
-    ensures same { ChangesNothing (state S.Store tx.old.conn.now) (state S.Store tx.new.conn.now) result }
-    ensures err { FailsAlone (state S.Store tx.old.conn.now) (state S.Store tx.new.conn.now) result }
     ensures cause { FailsByCause (state S.Store tx.old.conn.now) (state S.Store tx.new.conn.now) result (λ _. ⊤) }
-    ensures crash { LeavesNoMore (state S.Store tx.old.conn.now) (state S.Store tx.new.conn.now) }
 {
     let rows = line_rows(tx, ticket)?;
     read_each(alloc, &rows)

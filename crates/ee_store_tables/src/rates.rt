@@ -6,19 +6,7 @@ ghost use Rattle.std.specs.FinMap.{get};
 ghost use Rattle.sqlite.specs.Held.{state};
 ghost use Rattle.ee_store_tables.specs.AsRows.{Fits, FitsRate, entry_of_rate};
 ghost use Rattle.ee_store_tables.specs.Rows.{rate_columns, with_rate, HasRoom};
-ghost use Rattle.ee_store_tables.specs.Statements.{
-  LeavesOpen,
-  StaysInside,
-  CommitsNothing,
-  LeavesNoMore,
-  Makes,
-  Finds,
-  ChangesNothing,
-  FailsAlone,
-  FailsByCause,
-  QueryFailsByCause,
-  KeepsRoom,
-};
+ghost use Rattle.ee_store_tables.specs.Statements.{OnlyQueries, WritesInside, Makes, Finds, FailsByCause, QueryFailsByCause, KeepsRoom};
 
 use crate::failures::Failure;
 use crate::reading::read_number;
@@ -30,13 +18,10 @@ use sqlite::{Alter, Error, Row, Transaction};
 pub fn add_rate<S: Alter>(tx: &mut Transaction<'_, S>, rate: PeriodRate) -> Result<(), Failure>
     requires { FitsRate rate }
     ensures same_reference { tx.new.conn.ghost_name ≡ tx.old.conn.ghost_name }
-    ensures open { LeavesOpen (state S.Store tx.new.conn.now) result }
-    ensures inside { StaysInside (state S.Store tx.old.conn.now) (state S.Store tx.new.conn.now) result }
+    ensures writes_inside { WritesInside (state S.Store tx.old.conn.now) (state S.Store tx.new.conn.now) result }
     ensures added { Makes (state S.Store tx.old.conn.now) (state S.Store tx.new.conn.now) result (λ rows. with_rate rows (entry_of_rate rate)) }
     ensures room { KeepsRoom (state S.Store tx.old.conn.now) (state S.Store tx.new.conn.now) result }
-    ensures commit { CommitsNothing (state S.Store tx.old.conn.now) (state S.Store tx.new.conn.now) }
     ensures cause { FailsByCause (state S.Store tx.old.conn.now) (state S.Store tx.new.conn.now) result (λ _. HasRoom 0 (state S.Store tx.old.conn.now)) }
-    ensures crash { LeavesNoMore (state S.Store tx.old.conn.now) (state S.Store tx.new.conn.now) }
 {
     tx.execute(
         "INSERT INTO rates (period, rate) VALUES (?1, ?2) ON CONFLICT (period) DO NOTHING",
@@ -49,13 +34,10 @@ pub fn add_rate<S: Alter>(tx: &mut Transaction<'_, S>, rate: PeriodRate) -> Resu
 fn rate_rows<S: Alter>(tx: &mut Transaction<'_, S>, period: u64) -> Result<Vec<Row>, Error>
     requires { Fits period }
     ensures same_reference { tx.new.conn.ghost_name ≡ tx.old.conn.ghost_name }
-    ensures open { LeavesOpen (state S.Store tx.new.conn.now) result }
+    ensures only_queries { OnlyQueries (state S.Store tx.old.conn.now) (state S.Store tx.new.conn.now) result }
     ensures found { Finds (state S.Store tx.old.conn.now) (state S.Store tx.new.conn.now) result
         (λ rows found. found.items ≡ option_to_list (option_map rate_columns (get rows.rates period))) }
-    ensures same { ChangesNothing (state S.Store tx.old.conn.now) (state S.Store tx.new.conn.now) result }
-    ensures err { FailsAlone (state S.Store tx.old.conn.now) (state S.Store tx.new.conn.now) result }
     ensures cause { QueryFailsByCause (state S.Store tx.old.conn.now) (state S.Store tx.new.conn.now) result }
-    ensures crash { LeavesNoMore (state S.Store tx.old.conn.now) (state S.Store tx.new.conn.now) }
 {
     tx.query_all("SELECT rate FROM rates WHERE period = ?1", &[whole(period)])
 }
@@ -64,12 +46,9 @@ fn rate_rows<S: Alter>(tx: &mut Transaction<'_, S>, period: u64) -> Result<Vec<R
 pub fn find_rate<S: Alter>(tx: &mut Transaction<'_, S>, period: u64) -> Result<Option<u64>, Failure>
     requires { Fits period }
     ensures same_reference { tx.new.conn.ghost_name ≡ tx.old.conn.ghost_name }
-    ensures open { LeavesOpen (state S.Store tx.new.conn.now) result }
+    ensures only_queries { OnlyQueries (state S.Store tx.old.conn.now) (state S.Store tx.new.conn.now) result }
     ensures found { Finds (state S.Store tx.old.conn.now) (state S.Store tx.new.conn.now) result (λ rows found. found ≡ get rows.rates period) }
-    ensures same { ChangesNothing (state S.Store tx.old.conn.now) (state S.Store tx.new.conn.now) result }
-    ensures err { FailsAlone (state S.Store tx.old.conn.now) (state S.Store tx.new.conn.now) result }
     ensures cause { FailsByCause (state S.Store tx.old.conn.now) (state S.Store tx.new.conn.now) result (λ _. ⊤) }
-    ensures crash { LeavesNoMore (state S.Store tx.old.conn.now) (state S.Store tx.new.conn.now) }
 {
     let rows = rate_rows(tx, period)?;
     let found = read_number(&rows)?;

@@ -7,20 +7,7 @@ ghost use Rattle.sqlite.specs.Held.{state};
 ghost use Rattle.ee_store_tables.specs.AsRows.{Fits, FitsTicket, row_of_ticket, sum_of, sum_columns};
 ghost use Rattle.ee_store_tables.specs.Rows as table;
 ghost use Rattle.ee_store_tables.specs.Rows.{number as number_in_store, ticket_columns, with_ticket, tickets_on, first_number, last_number, HasRoom};
-ghost use Rattle.ee_store_tables.specs.Statements.{
-  LeavesOpen,
-  StaysInside,
-  CommitsNothing,
-  LeavesNoMore,
-  Makes,
-  Finds,
-  ChangesNothing,
-  FailsAlone,
-  FailsByCause,
-  QueryFailsByCause,
-  IsMemory,
-  KeepsRoom,
-};
+ghost use Rattle.ee_store_tables.specs.Statements.{OnlyQueries, WritesInside, Makes, Finds, FailsByCause, QueryFailsByCause, IsMemory, KeepsRoom};
 
 use crate::failures::Failure;
 use crate::reading::{QueryRow, read_each, read_number};
@@ -38,14 +25,11 @@ pub fn add_ticket<S: Alter>(
     requires number { Fits number }
     requires ticket { FitsTicket ticket }
     ensures same_reference { tx.new.conn.ghost_name ≡ tx.old.conn.ghost_name }
-    ensures open { LeavesOpen (state S.Store tx.new.conn.now) result }
-    ensures inside { StaysInside (state S.Store tx.old.conn.now) (state S.Store tx.new.conn.now) result }
+    ensures writes_inside { WritesInside (state S.Store tx.old.conn.now) (state S.Store tx.new.conn.now) result }
     ensures added { Makes (state S.Store tx.old.conn.now) (state S.Store tx.new.conn.now) result (λ rows. with_ticket rows number (row_of_ticket ticket)) }
     ensures room { KeepsRoom (state S.Store tx.old.conn.now) (state S.Store tx.new.conn.now) result }
-    ensures commit { CommitsNothing (state S.Store tx.old.conn.now) (state S.Store tx.new.conn.now) }
     ensures cause { FailsByCause (state S.Store tx.old.conn.now) (state S.Store tx.new.conn.now) result
         (λ rows. HasRoom 0 (state S.Store tx.old.conn.now) × (get rows.tickets number ≡ None)) }
-    ensures crash { LeavesNoMore (state S.Store tx.old.conn.now) (state S.Store tx.new.conn.now) }
 {
     tx.execute(
         "INSERT INTO tickets (ticket, day, payee, bonds, total) VALUES (?1, ?2, ?3, ?4, ?5)",
@@ -64,13 +48,10 @@ pub fn add_ticket<S: Alter>(
 fn ticket_rows<S: Alter>(tx: &mut Transaction<'_, S>, number: u64) -> Result<Vec<Row>, Error>
     requires { Fits number }
     ensures same_reference { tx.new.conn.ghost_name ≡ tx.old.conn.ghost_name }
-    ensures open { LeavesOpen (state S.Store tx.new.conn.now) result }
+    ensures only_queries { OnlyQueries (state S.Store tx.old.conn.now) (state S.Store tx.new.conn.now) result }
     ensures found { Finds (state S.Store tx.old.conn.now) (state S.Store tx.new.conn.now) result
         (λ rows found. found.items ≡ option_to_list (option_map ticket_columns (get rows.tickets number))) }
-    ensures same { ChangesNothing (state S.Store tx.old.conn.now) (state S.Store tx.new.conn.now) result }
-    ensures err { FailsAlone (state S.Store tx.old.conn.now) (state S.Store tx.new.conn.now) result }
     ensures cause { QueryFailsByCause (state S.Store tx.old.conn.now) (state S.Store tx.new.conn.now) result }
-    ensures crash { LeavesNoMore (state S.Store tx.old.conn.now) (state S.Store tx.new.conn.now) }
 {
     tx.query_all(
         "SELECT day, payee, bonds, total FROM tickets WHERE ticket = ?1",
@@ -102,13 +83,10 @@ pub fn find_ticket<S: Alter>(
 ) -> Result<Option<TicketRow>, Failure>
     requires { Fits number }
     ensures same_reference { tx.new.conn.ghost_name ≡ tx.old.conn.ghost_name }
-    ensures open { LeavesOpen (state S.Store tx.new.conn.now) result }
+    ensures only_queries { OnlyQueries (state S.Store tx.old.conn.now) (state S.Store tx.new.conn.now) result }
     ensures found { Finds (state S.Store tx.old.conn.now) (state S.Store tx.new.conn.now) result
         (λ rows found. option_map row_of_ticket found ≡ get rows.tickets number) }
-    ensures same { ChangesNothing (state S.Store tx.old.conn.now) (state S.Store tx.new.conn.now) result }
-    ensures err { FailsAlone (state S.Store tx.old.conn.now) (state S.Store tx.new.conn.now) result }
     ensures cause { FailsByCause (state S.Store tx.old.conn.now) (state S.Store tx.new.conn.now) result (λ _. ⊤) }
-    ensures crash { LeavesNoMore (state S.Store tx.old.conn.now) (state S.Store tx.new.conn.now) }
 {
     let rows = ticket_rows(tx, number)?;
     let found = read_ticket(&rows)?;
@@ -134,13 +112,10 @@ impl QueryRow for TicketSum {
 fn day_rows<S: Alter>(tx: &mut Transaction<'_, S>, day: u64) -> Result<Vec<Row>, Error>
     requires { Fits day }
     ensures same_reference { tx.new.conn.ghost_name ≡ tx.old.conn.ghost_name }
-    ensures open { LeavesOpen (state S.Store tx.new.conn.now) result }
+    ensures only_queries { OnlyQueries (state S.Store tx.old.conn.now) (state S.Store tx.new.conn.now) result }
     ensures found { Finds (state S.Store tx.old.conn.now) (state S.Store tx.new.conn.now) result
         (λ rows found. found.items ≡ map sum_columns (map sum_of (tickets_on rows day))) }
-    ensures same { ChangesNothing (state S.Store tx.old.conn.now) (state S.Store tx.new.conn.now) result }
-    ensures err { FailsAlone (state S.Store tx.old.conn.now) (state S.Store tx.new.conn.now) result }
     ensures cause { QueryFailsByCause (state S.Store tx.old.conn.now) (state S.Store tx.new.conn.now) result }
-    ensures crash { LeavesNoMore (state S.Store tx.old.conn.now) (state S.Store tx.new.conn.now) }
 {
     tx.query_all(
         "SELECT ticket, bonds, total FROM tickets WHERE day = ?1 ORDER BY ticket",
@@ -156,13 +131,10 @@ pub fn day_tickets<S: Alter>(
 ) -> Result<Vec<TicketSum>, Failure>
     requires { Fits day }
     ensures same_reference { tx.new.conn.ghost_name ≡ tx.old.conn.ghost_name }
-    ensures open { LeavesOpen (state S.Store tx.new.conn.now) result }
+    ensures only_queries { OnlyQueries (state S.Store tx.old.conn.now) (state S.Store tx.new.conn.now) result }
     ensures found { Finds (state S.Store tx.old.conn.now) (state S.Store tx.new.conn.now) result
         (λ rows found. found.items ≡ map sum_of (tickets_on rows day)) }
-    ensures same { ChangesNothing (state S.Store tx.old.conn.now) (state S.Store tx.new.conn.now) result }
-    ensures err { FailsAlone (state S.Store tx.old.conn.now) (state S.Store tx.new.conn.now) result }
     ensures cause { FailsByCause (state S.Store tx.old.conn.now) (state S.Store tx.new.conn.now) result (λ _. ⊤) }
-    ensures crash { LeavesNoMore (state S.Store tx.old.conn.now) (state S.Store tx.new.conn.now) }
 {
     let rows = day_rows(tx, day)?;
     read_each(alloc, &rows)
@@ -172,13 +144,10 @@ pub fn day_tickets<S: Alter>(
 fn first_rows<S: Alter>(tx: &mut Transaction<'_, S>, day: u64) -> Result<Vec<Row>, Error>
     requires { Fits day }
     ensures same_reference { tx.new.conn.ghost_name ≡ tx.old.conn.ghost_name }
-    ensures open { LeavesOpen (state S.Store tx.new.conn.now) result }
+    ensures only_queries { OnlyQueries (state S.Store tx.old.conn.now) (state S.Store tx.new.conn.now) result }
     ensures found { Finds (state S.Store tx.old.conn.now) (state S.Store tx.new.conn.now) result
         (λ rows found. found.items ≡ option_to_list (option_map (λ n. number_in_store n ∷ []) (first_number (tickets_on rows day)))) }
-    ensures same { ChangesNothing (state S.Store tx.old.conn.now) (state S.Store tx.new.conn.now) result }
-    ensures err { FailsAlone (state S.Store tx.old.conn.now) (state S.Store tx.new.conn.now) result }
     ensures cause { QueryFailsByCause (state S.Store tx.old.conn.now) (state S.Store tx.new.conn.now) result }
-    ensures crash { LeavesNoMore (state S.Store tx.old.conn.now) (state S.Store tx.new.conn.now) }
 {
     tx.query_all(
         "SELECT ticket FROM tickets WHERE day = ?1 ORDER BY ticket LIMIT 1",
@@ -190,12 +159,9 @@ fn first_rows<S: Alter>(tx: &mut Transaction<'_, S>, day: u64) -> Result<Vec<Row
 pub fn first_ticket<S: Alter>(tx: &mut Transaction<'_, S>, day: u64) -> Result<Option<u64>, Failure>
     requires { Fits day }
     ensures same_reference { tx.new.conn.ghost_name ≡ tx.old.conn.ghost_name }
-    ensures open { LeavesOpen (state S.Store tx.new.conn.now) result }
+    ensures only_queries { OnlyQueries (state S.Store tx.old.conn.now) (state S.Store tx.new.conn.now) result }
     ensures found { Finds (state S.Store tx.old.conn.now) (state S.Store tx.new.conn.now) result (λ rows found. found ≡ first_number (tickets_on rows day)) }
-    ensures same { ChangesNothing (state S.Store tx.old.conn.now) (state S.Store tx.new.conn.now) result }
-    ensures err { FailsAlone (state S.Store tx.old.conn.now) (state S.Store tx.new.conn.now) result }
     ensures cause { FailsByCause (state S.Store tx.old.conn.now) (state S.Store tx.new.conn.now) result (λ _. ⊤) }
-    ensures crash { LeavesNoMore (state S.Store tx.old.conn.now) (state S.Store tx.new.conn.now) }
 {
     let rows = first_rows(tx, day)?;
     let found = read_number(&rows)?;
@@ -205,13 +171,10 @@ pub fn first_ticket<S: Alter>(tx: &mut Transaction<'_, S>, day: u64) -> Result<O
 /// The row of the last ticket's number.
 fn last_rows<S: Alter>(tx: &mut Transaction<'_, S>) -> Result<Vec<Row>, Error>
     ensures same_reference { tx.new.conn.ghost_name ≡ tx.old.conn.ghost_name }
-    ensures open { LeavesOpen (state S.Store tx.new.conn.now) result }
+    ensures only_queries { OnlyQueries (state S.Store tx.old.conn.now) (state S.Store tx.new.conn.now) result }
     ensures found { Finds (state S.Store tx.old.conn.now) (state S.Store tx.new.conn.now) result
         (λ rows found. found.items ≡ option_to_list (option_map (λ n. number_in_store n ∷ []) (last_number (entries rows.tickets)))) }
-    ensures same { ChangesNothing (state S.Store tx.old.conn.now) (state S.Store tx.new.conn.now) result }
-    ensures err { FailsAlone (state S.Store tx.old.conn.now) (state S.Store tx.new.conn.now) result }
     ensures cause { QueryFailsByCause (state S.Store tx.old.conn.now) (state S.Store tx.new.conn.now) result }
-    ensures crash { LeavesNoMore (state S.Store tx.old.conn.now) (state S.Store tx.new.conn.now) }
 {
     tx.query_all(
         "SELECT ticket FROM tickets ORDER BY ticket DESC LIMIT 1",
@@ -222,12 +185,9 @@ fn last_rows<S: Alter>(tx: &mut Transaction<'_, S>) -> Result<Vec<Row>, Error>
 /// Finds the number of the last ticket, if there is one.
 pub fn last_ticket<S: Alter>(tx: &mut Transaction<'_, S>) -> Result<Option<u64>, Failure>
     ensures same_reference { tx.new.conn.ghost_name ≡ tx.old.conn.ghost_name }
-    ensures open { LeavesOpen (state S.Store tx.new.conn.now) result }
+    ensures only_queries { OnlyQueries (state S.Store tx.old.conn.now) (state S.Store tx.new.conn.now) result }
     ensures found { Finds (state S.Store tx.old.conn.now) (state S.Store tx.new.conn.now) result (λ rows found. found ≡ last_number (entries rows.tickets)) }
-    ensures same { ChangesNothing (state S.Store tx.old.conn.now) (state S.Store tx.new.conn.now) result }
-    ensures err { FailsAlone (state S.Store tx.old.conn.now) (state S.Store tx.new.conn.now) result }
     ensures cause { FailsByCause (state S.Store tx.old.conn.now) (state S.Store tx.new.conn.now) result (λ _. ⊤) }
-    ensures crash { LeavesNoMore (state S.Store tx.old.conn.now) (state S.Store tx.new.conn.now) }
 {
     let rows = last_rows(tx)?;
     let found = read_number(&rows)?;

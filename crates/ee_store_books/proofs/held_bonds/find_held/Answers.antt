@@ -22,7 +22,7 @@ returns-clause-only_reads g c = record {
   still_open = search rules;
   inside = search rules;
   rows = λ clean inside.
-      always c.held_shown.result (λ rows sees. unchanged_rows (state g.S.Store c.args.tx.now.conn.now) (state g.S.Store c.find_bond.new.tx.conn.now) (c.in_ok-found.ensures.same clean inside) rows sees);
+      always c.held_shown.result (λ rows sees. unchanged_rows (state g.S.Store c.args.tx.now.conn.now) (state g.S.Store c.find_bond.new.tx.conn.now) (c.in_ok-found.ensures.only_queries.same clean inside) rows sees);
   commit = search rules;
   crash = search rules;
 }

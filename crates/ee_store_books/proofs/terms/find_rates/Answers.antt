@@ -13,8 +13,8 @@ returns-clause-found g c clean inside S sees =
     let old = state g.S.Store c.args.tx.now.conn.now in
     let middle = state g.S.Store c.find_rate.new.tx.conn.now in
     let new = state g.S.Store c.find_extension.new.tx.conn.now in
-    let before = clean_before middle new c.find_extension.ensures.crash clean in
-    let still = unchanged_sees old middle (rows_of S) (c.in_ok-fixed.ensures.same before inside) sees.rows in (
+    let before = clean_before middle new c.find_extension.ensures.only_queries.crash clean in
+    let still = unchanged_sees old middle (rows_of S) (c.in_ok-fixed.ensures.only_queries.same before inside) sees.rows in (
       c.in_ok-fixed.ensures.found before (rows_of S) sees.rows ∙ ap (finite.get (rows_of S).rates) c.count-key.ensures.value
           ∙ get_rate_row S.books.rates c.args.period,
       c.in_ok-extension.ensures.found clean (rows_of S) still ∙ ap (finite.get (rows_of S).extensions) c.count-key.ensures.value
@@ -29,9 +29,9 @@ returns-clause-only_reads g c = record {
       let old = state g.S.Store c.args.tx.now.conn.now in
       let middle = state g.S.Store c.find_rate.new.tx.conn.now in
       let new = state g.S.Store c.find_extension.new.tx.conn.now in
-      let before = clean_before middle new c.find_extension.ensures.crash clean in
-      seen_then old middle new rows (unchanged_rows old middle (c.in_ok-fixed.ensures.same before inside) rows sees)
-      (unchanged_rows middle new (c.in_ok-extension.ensures.same clean (unchanged_inside old middle (c.in_ok-fixed.ensures.same before inside) inside)) rows);
+      let before = clean_before middle new c.find_extension.ensures.only_queries.crash clean in
+      seen_then old middle new rows (unchanged_rows old middle (c.in_ok-fixed.ensures.only_queries.same before inside) rows sees)
+      (unchanged_rows middle new (c.in_ok-extension.ensures.only_queries.same clean (unchanged_inside old middle (c.in_ok-fixed.ensures.only_queries.same before inside) inside)) rows);
   commit = search rules;
   crash = search rules;
 }
@@ -46,8 +46,8 @@ returns-in_err-extension-clause-cause g c clean inside endless S sees _ =
     let old = state g.S.Store c.args.tx.now.conn.now in
     let middle = state g.S.Store c.find_rate.new.tx.conn.now in
     let new = state g.S.Store c.find_extension.new.tx.conn.now in
-    let before = clean_before middle new c.find_extension.ensures.crash clean in
-    let still = unchanged_sees old middle (rows_of S) (c.in_ok-fixed.ensures.same before inside) sees.rows in
+    let before = clean_before middle new c.find_extension.ensures.only_queries.crash clean in
+    let still = unchanged_sees old middle (rows_of S) (c.in_ok-fixed.ensures.only_queries.same before inside) sees.rows in
     statement_failed old new c.from_residual-in_err-extension.result c.in_err-extension.field-0.0 c.from_residual-in_err-extension.ensures.1
-    (excused_later old middle new clean c.find_rate.ensures.crash c.find_extension.ensures.crash _
-    (c.in_err-extension.ensures.cause clean (unchanged_inside old middle (c.in_ok-fixed.ensures.same before inside) inside) (c.find_rate.ensures.crash.limit ∙ endless) (rows_of S) still tt))
+    (excused_later old middle new clean c.find_rate.ensures.only_queries.crash c.find_extension.ensures.only_queries.crash _
+    (c.in_err-extension.ensures.cause clean (unchanged_inside old middle (c.in_ok-fixed.ensures.only_queries.same before inside) inside) (c.find_rate.ensures.only_queries.crash.limit ∙ endless) (rows_of S) still tt))

@@ -37,7 +37,7 @@ returns-clause-only_reads g c = record {
   still_open = search rules;
   inside = search rules;
   rows = λ clean inside.
-      always c.counts_of.result (λ rows sees. unchanged_rows (state g.S.Store c.args.tx.now.conn.now) (state g.S.Store c.day_tickets.new.tx.conn.now) (c.in_ok-sums.ensures.same clean inside) rows sees);
+      always c.counts_of.result (λ rows sees. unchanged_rows (state g.S.Store c.args.tx.now.conn.now) (state g.S.Store c.day_tickets.new.tx.conn.now) (c.in_ok-sums.ensures.only_queries.same clean inside) rows sees);
   commit = search rules;
   crash = search rules;
 }

@@ -18,7 +18,7 @@ returns-clause-only_reads g c = record {
   still_open = search rules;
   inside = search rules;
   rows = λ clean inside rows sees.
-      unchanged_rows (state g.S.Store c.args.tx.now.conn.now) (state g.S.Store c.first_ticket.new.tx.conn.now) (c.in_ok-first.ensures.same clean inside) rows sees;
+      unchanged_rows (state g.S.Store c.args.tx.now.conn.now) (state g.S.Store c.first_ticket.new.tx.conn.now) (c.in_ok-first.ensures.only_queries.same clean inside) rows sees;
   commit = search rules;
   crash = search rules;
 }

@@ -16,7 +16,7 @@ returns-clause-only_reads g c = record {
   still_open = search rules;
   inside = search rules;
   rows = λ clean inside rows sees.
-      unchanged_rows (state g.S.Store c.args.tx.now.conn.now) (state g.S.Store c.last_ticket.new.tx.conn.now) (c.in_ok-last.ensures.same clean inside) rows sees;
+      unchanged_rows (state g.S.Store c.args.tx.now.conn.now) (state g.S.Store c.last_ticket.new.tx.conn.now) (c.in_ok-last.ensures.only_queries.same clean inside) rows sees;
   commit = search rules;
   crash = search rules;
 }

@@ -26,7 +26,7 @@ returns-clause-decides g c clean inside S sees known none =
     let a = state g.S.Store c.effects_in.new.tx.conn.now in
     let b = state g.S.Store c.write_changes.new.tx.conn.now in
     let new = state g.S.Store c.add_answer.new.tx.conn.now in
-    let clean_b = clean_before b new c.add_answer.ensures.crash clean in
+    let clean_b = clean_before b new c.add_answer.ensures.writes_inside.crash clean in
     let clean_a = clean_before a b c.write_changes.ensures.crash clean_b in
     let found = c.in_ok-effects.ensures.found clean_a inside S sees known in
     let are : c.as_slice.result.now ≡ effects.changes = search rules in
@@ -67,7 +67,7 @@ returns-in_err-add_answer-clause-cause g c clean inside unlimited S sees any =
     let a = state g.S.Store c.effects_in.new.tx.conn.now in
     let b = state g.S.Store c.write_changes.new.tx.conn.now in
     let new = state g.S.Store c.add_answer.new.tx.conn.now in
-    let clean_b = clean_before b new c.add_answer.ensures.crash clean in
+    let clean_b = clean_before b new c.add_answer.ensures.writes_inside.crash clean in
     let clean_a = clean_before a b c.write_changes.ensures.crash clean_b in
     let inside_a = c.in_ok-effects.ensures.only_reads.inside clean_a inside in
     let found = c.in_ok-effects.ensures.found clean_a inside S sees any.0 in
@@ -85,7 +85,7 @@ returns-in_err-add_answer-clause-cause g c clean inside unlimited S sees any =
     let own = words ∙ ap (λ (e : Effects). record { act = act_text q.act; reply = reply_text e.reply }) found.0 in
     let crash = leaves_then old a b c.effects_in.ensures.only_reads.crash c.write_changes.ensures.crash in
     handed_on _ c.from_residual-in_err-add_answer.result c.in_err-add_answer.field-0.0 c.from_residual-in_err-add_answer.ensures.1
-    (excused_later old b new clean crash c.add_answer.ensures.crash _ (c.in_err-add_answer.ensures.cause clean (c.in_ok-write_changes.ensures.inside clean_b inside_a) (crash.limit ∙ unlimited) (applied_rows last (rows_of S) changes) written
+    (excused_later old b new clean crash c.add_answer.ensures.writes_inside.crash _ (c.in_err-add_answer.ensures.cause clean (c.in_ok-write_changes.ensures.inside clean_b inside_a) (crash.limit ∙ unlimited) (applied_rows last (rows_of S) changes) written
     (room, none, subst FitsRow (sym own) any.2)))
 
 pub returns-clause-room : goal.returns-clause-room
@@ -93,7 +93,7 @@ returns-clause-room g c clean inside S sees n room =
     let a = state g.S.Store c.effects_in.new.tx.conn.now in
     let b = state g.S.Store c.write_changes.new.tx.conn.now in
     let new = state g.S.Store c.add_answer.new.tx.conn.now in
-    let clean_b = clean_before b new c.add_answer.ensures.crash clean in
+    let clean_b = clean_before b new c.add_answer.ensures.writes_inside.crash clean in
     let clean_a = clean_before a b c.write_changes.ensures.crash clean_b in
     let inside_a = c.in_ok-effects.ensures.only_reads.inside clean_a inside in
     let stays = c.in_ok-effects.ensures.only_reads.rows clean_a inside (rows_of S) sees.rows in
@@ -108,7 +108,7 @@ returns-clause-learns g c clean inside S sees known =
     let a = state g.S.Store c.effects_in.new.tx.conn.now in
     let b = state g.S.Store c.write_changes.new.tx.conn.now in
     let new = state g.S.Store c.add_answer.new.tx.conn.now in
-    let clean_b = clean_before b new c.add_answer.ensures.crash clean in
+    let clean_b = clean_before b new c.add_answer.ensures.writes_inside.crash clean in
     let clean_a = clean_before a b c.write_changes.ensures.crash clean_b in
     let found = c.in_ok-effects.ensures.found clean_a inside S sees known in
     c.follow.ensures S.books (c.in_ok-effects.ensures.learns clean_a inside S sees known) (ap (λ (e : Effects). e.reply) found.0)

@@ -24,7 +24,7 @@ returns-in-Some-clause-serves g c clean inside S sees =
     let act : c.as_str-kept_act.result.now ≡ string_bytes c.in-Some.entry.act = search rules in
     let reply : c.as_str-kept_reply.result.now ≡ string_bytes c.in-Some.entry.reply = search rules in
     let asked : c.as_str-asked.result.now ≡ act_text q.act = search rules in
-    is_again old new c.args.known.now q S (row_of_reply c.in-Some.entry) c.in_ok-reply.reply (c.in_ok-entry.ensures.same clean inside) sees
+    is_again old new c.args.known.now q S (row_of_reply c.in-Some.entry) c.in_ok-reply.reply (c.in_ok-entry.ensures.only_queries.same clean inside) sees
     (sym (ap (option_map row_of_reply) c.in-Some.is) ∙ found ∙ ap (finite.get (rows_of S).answers) (λ i. (c.number-desk.ensures.value i, c.value.ensures.value i)))
     c.canonical.ensures.fits
     (λ number kept again is fits one two three. c.in_ok-reply.ensures.told number kept again is fits (act ∙ one) (reply ∙ two) (asked ∙ three))
@@ -36,7 +36,7 @@ returns-clause-serves g c clean inside S sees =
     let middle = state g.S.Store c.find_answer.new.tx.conn.now in
     let new = state g.S.Store c.decide_in.new.tx.conn.now in
     let before = clean_before middle new c.decide_in.ensures.crash clean in
-    let same = c.in_ok-entry.ensures.same before inside in
+    let same = c.in_ok-entry.ensures.only_queries.same before inside in
     let still : SeesContent middle S = record { right = sees.right; rows = unchanged_sees old middle (rows_of S) same sees.rows } in
     let found = c.in_ok-entry.ensures.found before (rows_of S) sees.rows in
     let nothing : c.in_ok-entry.field-0 ≡ None = search rules in
@@ -65,19 +65,19 @@ returns-in_err-reply-2-clause-cause g c clean inside unlimited S sees any =
     let middle = state g.S.Store c.find_answer.new.tx.conn.now in
     let new = state g.S.Store c.decide_in.new.tx.conn.now in
     let before = clean_before middle new c.decide_in.ensures.crash clean in
-    let same = c.in_ok-entry.ensures.same before inside in
+    let same = c.in_ok-entry.ensures.only_queries.same before inside in
     let still : SeesContent middle S = record { right = sees.right; rows = unchanged_sees old middle (rows_of S) same sees.rows } in
     let found = c.in_ok-entry.ensures.found before (rows_of S) sees.rows in
     let nothing : c.in_ok-entry.field-0 ≡ None = search rules in
     let none = is_new S (number_of q) (sym (ap (option_map row_of_reply) nothing) ∙ found ∙ ap (finite.get (rows_of S).answers) (λ i. (c.number-desk.ensures.value i, c.value.ensures.value i))) in
     handed_on _ c.from_residual-in_err-reply-2.result c.in_err-reply-2.field-0.0 c.from_residual-in_err-reply-2.ensures.1
-    (excused_later old middle new clean c.find_answer.ensures.crash c.decide_in.ensures.crash _
-    (c.in_err-reply-2.ensures.cause clean (unchanged_inside old middle same inside) (c.find_answer.ensures.crash.limit ∙ unlimited) S still (any.0, none, any.1, unchanged_room old middle 501 same any.2)))
+    (excused_later old middle new clean c.find_answer.ensures.only_queries.crash c.decide_in.ensures.crash _
+    (c.in_err-reply-2.ensures.cause clean (unchanged_inside old middle same inside) (c.find_answer.ensures.only_queries.crash.limit ∙ unlimited) S still (any.0, none, any.1, unchanged_room old middle 501 same any.2)))
 
 pub returns-in-Some-clause-room : goal.returns-in-Some-clause-room
 returns-in-Some-clause-room g c clean inside S sees n room =
     let old = state g.S.Store c.args.tx.now.conn.now in
-    unchanged_room old (state g.S.Store c.find_answer.new.tx.conn.now) n (c.in_ok-entry.ensures.same clean inside) (room_less old n (501 + n) (omega arith) room)
+    unchanged_room old (state g.S.Store c.find_answer.new.tx.conn.now) n (c.in_ok-entry.ensures.only_queries.same clean inside) (room_less old n (501 + n) (omega arith) room)
 
 pub returns-clause-room : goal.returns-clause-room
 returns-clause-room g c clean inside S sees n room =
@@ -85,7 +85,7 @@ returns-clause-room g c clean inside S sees n room =
     let middle = state g.S.Store c.find_answer.new.tx.conn.now in
     let new = state g.S.Store c.decide_in.new.tx.conn.now in
     let before = clean_before middle new c.decide_in.ensures.crash clean in
-    let same = c.in_ok-entry.ensures.same before inside in
+    let same = c.in_ok-entry.ensures.only_queries.same before inside in
     let still : SeesContent middle S = record { right = sees.right; rows = unchanged_sees old middle (rows_of S) same sees.rows } in
     c.in_ok-reply-2.ensures.room clean (unchanged_inside old middle same inside) S still n (unchanged_room old middle (501 + n) same room)
 
@@ -102,7 +102,7 @@ returns-clause-learns g c clean inside S sees known =
     let middle = state g.S.Store c.find_answer.new.tx.conn.now in
     let new = state g.S.Store c.decide_in.new.tx.conn.now in
     let before = clean_before middle new c.decide_in.ensures.crash clean in
-    let same = c.in_ok-entry.ensures.same before inside in
+    let same = c.in_ok-entry.ensures.only_queries.same before inside in
     let still : SeesContent middle S = record { right = sees.right; rows = unchanged_sees old middle (rows_of S) same sees.rows } in
     let found = c.in_ok-entry.ensures.found before (rows_of S) sees.rows in
     let nothing : c.in_ok-entry.field-0 ≡ None = search rules in

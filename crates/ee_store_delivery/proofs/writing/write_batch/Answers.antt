@@ -13,7 +13,7 @@ pub returns-clause-written : goal.returns-clause-written
 returns-clause-written g c clean rows sees =
     let middle = state g.S.Store c.add_batch.new.tx.conn.now in
     let new = state g.S.Store c.set_day.new.tx.conn.now in
-    let before = clean_before middle new c.set_day.ensures.crash clean in
+    let before = clean_before middle new c.set_day.ensures.writes_inside.crash clean in
     subst (λ (d : ℕ × BatchRow). Sees new (with_day (with_batch rows d.0 d.1) None (Some d.0)))
     (λ i. (c.count-day.ensures.value i, c.in_ok-row.ensures.row.0 i))
     (c.in_ok-set_day.ensures.set clean (with_batch rows c.count-day.result (row_of_batch c.in_ok-row.row)) (c.in_ok-add_batch.ensures.added before rows sees))
@@ -22,8 +22,8 @@ pub returns-clause-room : goal.returns-clause-room
 returns-clause-room g c clean inside rows sees n room =
     let middle = state g.S.Store c.add_batch.new.tx.conn.now in
     let new = state g.S.Store c.set_day.new.tx.conn.now in
-    let before = clean_before middle new c.set_day.ensures.crash clean in
-    c.in_ok-set_day.ensures.room clean (c.in_ok-add_batch.ensures.inside before inside)
+    let before = clean_before middle new c.set_day.ensures.writes_inside.crash clean in
+    c.in_ok-set_day.ensures.room clean (c.in_ok-add_batch.ensures.writes_inside.inside before inside)
     (with_batch rows c.count-day.result (row_of_batch c.in_ok-row.row)) (c.in_ok-add_batch.ensures.added before rows sees) n
     (c.in_ok-add_batch.ensures.room before inside rows sees n (room_less (state g.S.Store c.args.tx.now.conn.now) n (0 + n) (omega arith) room))
 
@@ -40,7 +40,7 @@ returns-in_err-set_day-clause-cause g c clean inside endless rows sees can =
     let old = state g.S.Store c.args.tx.now.conn.now in
     let middle = state g.S.Store c.add_batch.new.tx.conn.now in
     let new = state g.S.Store c.set_day.new.tx.conn.now in
-    let before = clean_before middle new c.set_day.ensures.crash clean in
-    later_failed old middle new clean c.add_batch.ensures.crash c.set_day.ensures.crash c.from_residual-in_err-set_day.result c.in_err-set_day.field-0.0 c.from_residual-in_err-set_day.ensures.1
-    (c.in_err-set_day.ensures.cause clean (c.in_ok-add_batch.ensures.inside before inside) (c.add_batch.ensures.crash.limit ∙ endless)
+    let before = clean_before middle new c.set_day.ensures.writes_inside.crash clean in
+    later_failed old middle new clean c.add_batch.ensures.writes_inside.crash c.set_day.ensures.writes_inside.crash c.from_residual-in_err-set_day.result c.in_err-set_day.field-0.0 c.from_residual-in_err-set_day.ensures.1
+    (c.in_err-set_day.ensures.cause clean (c.in_ok-add_batch.ensures.writes_inside.inside before inside) (c.add_batch.ensures.writes_inside.crash.limit ∙ endless)
     (with_batch rows c.count-day.result (row_of_batch c.in_ok-row.row)) (c.in_ok-add_batch.ensures.added before rows sees) (c.in_ok-add_batch.ensures.room before inside rows sees 0 can.1))

@@ -13,7 +13,7 @@ pub returns-clause-open : goal.returns-clause-open
 returns-clause-open g c clean =
     let middle = state g.S.Store c.add_rate.new.tx.conn.now in
     let new = state g.S.Store c.write_extension.new.tx.conn.now in
-    c.write_extension.ensures.open clean (c.in_ok-add_rate.ensures.open (clean_before middle new c.write_extension.ensures.crash clean))
+    c.write_extension.ensures.open clean (c.in_ok-add_rate.ensures.writes_inside.still_open (clean_before middle new c.write_extension.ensures.crash clean))
 
 pub returns-clause-written : goal.returns-clause-written
 returns-clause-written g c clean =
@@ -34,7 +34,7 @@ returns-clause-room g c clean inside =
     on_ok_weaker c.write_extension.result (λ keeps rows sees n room.
     keeps _ (c.in_ok-add_rate.ensures.added before rows sees) n
     (c.in_ok-add_rate.ensures.room before inside rows sees n (room_less (state g.S.Store c.args.tx.now.conn.now) n (0 + n) (omega arith) room)))
-    (c.write_extension.ensures.room clean (c.in_ok-add_rate.ensures.inside before inside))
+    (c.write_extension.ensures.room clean (c.in_ok-add_rate.ensures.writes_inside.inside before inside))
 
 pub returns-in_err-add_rate-clause-cause : goal.returns-in_err-add_rate-clause-cause
 returns-in_err-add_rate-clause-cause g c clean inside endless rows sees room =
@@ -47,6 +47,6 @@ returns-clause-cause g c clean inside endless rows sees room =
     let middle = state g.S.Store c.add_rate.new.tx.conn.now in
     let new = state g.S.Store c.write_extension.new.tx.conn.now in
     let before = clean_before middle new c.write_extension.ensures.crash clean in
-    IfErr-weaker c.write_extension.result _ _ (excused_later old middle new clean c.add_rate.ensures.crash c.write_extension.ensures.crash)
-    (c.write_extension.ensures.cause clean (c.in_ok-add_rate.ensures.inside before inside) (c.add_rate.ensures.crash.limit ∙ endless) _ (c.in_ok-add_rate.ensures.added before rows sees)
+    IfErr-weaker c.write_extension.result _ _ (excused_later old middle new clean c.add_rate.ensures.writes_inside.crash c.write_extension.ensures.crash)
+    (c.write_extension.ensures.cause clean (c.in_ok-add_rate.ensures.writes_inside.inside before inside) (c.add_rate.ensures.writes_inside.crash.limit ∙ endless) _ (c.in_ok-add_rate.ensures.added before rows sees)
     (c.in_ok-add_rate.ensures.room before inside rows sees 0 room))

@@ -15,7 +15,7 @@ pub returns-clause-written : goal.returns-clause-written
 returns-clause-written g c clean rows sees =
     let middle = state g.S.Store c.add_ticket.new.tx.conn.now in
     let new = state g.S.Store c.pay_lines.new.tx.conn.now in
-    let before = clean_before middle new c.pay_lines.ensures.crash clean in
+    let before = clean_before middle new c.pay_lines.ensures.writes_if_any.crash clean in
     let lines : map row_of_line c.deref.result.now ≡ map paid_row c.args.ticket.now.lines = search rules in
     subst (λ (d : ℕ × (TicketRow × List PaidRow)). Sees new (with_lines (with_ticket rows d.0 d.1.0) d.0 1 d.1.1))
     (λ i. (c.in_ok-number.ensures.value.0 i, (c.in_ok-row.ensures.row.0 i, lines i)))
@@ -26,11 +26,11 @@ returns-clause-room g c clean inside rows sees n room =
     let old = state g.S.Store c.args.tx.now.conn.now in
     let middle = state g.S.Store c.add_ticket.new.tx.conn.now in
     let new = state g.S.Store c.pay_lines.new.tx.conn.now in
-    let before = clean_before middle new c.pay_lines.ensures.crash clean in
+    let before = clean_before middle new c.pay_lines.ensures.writes_if_any.crash clean in
     let lines : map row_of_line c.deref.result.now ≡ map paid_row c.args.ticket.now.lines = search rules in
     let count = same_length row_of_line paid_row _ _ lines in
     let more = c.in_ok-add_ticket.ensures.room before inside rows sees (n + length c.deref.result.now) (room_less old (n + length c.deref.result.now) (length c.args.ticket.now.lines + n) (omega (arith, count)) room) in
-    c.in_ok-pay_lines.ensures.room clean (c.in_ok-add_ticket.ensures.inside before inside)
+    c.in_ok-pay_lines.ensures.room clean (c.in_ok-add_ticket.ensures.writes_inside.inside before inside)
     (with_ticket rows c.in_ok-number.number (row_of_ticket c.in_ok-row.row)) (c.in_ok-add_ticket.ensures.added before rows sees) n more
 
 pub returns-in_err-number-clause-cause : goal.returns-in_err-number-clause-cause
@@ -57,11 +57,11 @@ returns-in_err-pay_lines-clause-cause g c clean inside endless rows sees can =
     let old = state g.S.Store c.args.tx.now.conn.now in
     let middle = state g.S.Store c.add_ticket.new.tx.conn.now in
     let new = state g.S.Store c.pay_lines.new.tx.conn.now in
-    let before = clean_before middle new c.pay_lines.ensures.crash clean in
+    let before = clean_before middle new c.pay_lines.ensures.writes_if_any.crash clean in
     let lines : map row_of_line c.deref.result.now ≡ map paid_row c.args.ticket.now.lines = search rules in
     let count = same_length row_of_line paid_row _ _ lines in
-    later_failed old middle new clean c.add_ticket.ensures.crash c.pay_lines.ensures.crash c.from_residual-in_err-pay_lines.result c.in_err-pay_lines.field-0.0 c.from_residual-in_err-pay_lines.ensures.1
-    (c.in_err-pay_lines.ensures.cause clean (c.in_ok-add_ticket.ensures.inside before inside) (c.add_ticket.ensures.crash.limit ∙ endless)
+    later_failed old middle new clean c.add_ticket.ensures.writes_inside.crash c.pay_lines.ensures.writes_if_any.crash c.from_residual-in_err-pay_lines.result c.in_err-pay_lines.field-0.0 c.from_residual-in_err-pay_lines.ensures.1
+    (c.in_err-pay_lines.ensures.cause clean (c.in_ok-add_ticket.ensures.writes_inside.inside before inside) (c.add_ticket.ensures.writes_inside.crash.limit ∙ endless)
     (with_ticket rows c.in_ok-number.number (row_of_ticket c.in_ok-row.row)) (c.in_ok-add_ticket.ensures.added before rows sees) (
       c.in_ok-add_ticket.ensures.room before inside rows sees (length c.deref.result.now) (room_less old (length c.deref.result.now) (length c.args.ticket.now.lines) (omega (arith, count)) can.1),
       subst (λ (d : ℕ × (TicketRow × List PaidRow)). CanPayAll (with_ticket rows d.0 d.1.0) d.0 1 d.1.1)

@@ -20,7 +20,7 @@ returns-clause-found g c clean inside =
 
 pub returns-clause-rows : goal.returns-clause-rows
 returns-clause-rows g c clean inside =
-    always c.bonds_shown.result (λ rows sees. unchanged_rows (state g.S.Store c.args.tx.now.conn.now) (state g.S.Store c.bonds_of_owner.new.tx.conn.now) (c.in_ok-rows.ensures.same clean inside) rows sees)
+    always c.bonds_shown.result (λ rows sees. unchanged_rows (state g.S.Store c.args.tx.now.conn.now) (state g.S.Store c.bonds_of_owner.new.tx.conn.now) (c.in_ok-rows.ensures.only_queries.same clean inside) rows sees)
 
 pub returns-in_err-rows-clause-cause : goal.returns-in_err-rows-clause-cause
 returns-in_err-rows-clause-cause g c clean inside endless S sees _ =

@@ -18,8 +18,8 @@ returns-clause-found g c clean inside S sees =
     let old = state g.S.Store c.args.tx.now.conn.now in
     let middle = state g.S.Store c.find_ticket.new.tx.conn.now in
     let new = state g.S.Store c.ticket_lines.new.tx.conn.now in
-    let before = clean_before middle new c.ticket_lines.ensures.crash clean in
-    let still = unchanged_sees old middle (rows_of S) (c.in_ok-row.ensures.same before inside) sees.rows in
+    let before = clean_before middle new c.ticket_lines.ensures.only_queries.crash clean in
+    let still = unchanged_sees old middle (rows_of S) (c.in_ok-row.ensures.only_queries.same before inside) sees.rows in
     let own : c.as_slice-rows.result.now ≡ c.in_ok-lines.lines.items = search rules in
     ticket_found S c.args.number c.in_ok-ticket.ticket (row_of_ticket c.in-Some.row) c.as_slice-rows.result.now sees.right
     (sym (ap (option_map row_of_ticket) c.in-Some.is) ∙ c.in_ok-row.ensures.found before (rows_of S) sees.rows)
@@ -35,19 +35,19 @@ returns-in_err-lines-clause-cause g c clean inside endless S sees _ =
     let old = state g.S.Store c.args.tx.now.conn.now in
     let middle = state g.S.Store c.find_ticket.new.tx.conn.now in
     let new = state g.S.Store c.ticket_lines.new.tx.conn.now in
-    let before = clean_before middle new c.ticket_lines.ensures.crash clean in
-    let same = c.in_ok-row.ensures.same before inside in
-    let why = c.in_err-lines.ensures.cause clean (unchanged_inside old middle same inside) (c.find_ticket.ensures.crash.limit ∙ endless) (rows_of S) (unchanged_sees old middle (rows_of S) same sees.rows) tt in
+    let before = clean_before middle new c.ticket_lines.ensures.only_queries.crash clean in
+    let same = c.in_ok-row.ensures.only_queries.same before inside in
+    let why = c.in_err-lines.ensures.cause clean (unchanged_inside old middle same inside) (c.find_ticket.ensures.only_queries.crash.limit ∙ endless) (rows_of S) (unchanged_sees old middle (rows_of S) same sees.rows) tt in
     handed_on _ c.from_residual-in_err-lines.result _ c.from_residual-in_err-lines.ensures.1
-    (excused_later old middle new clean c.find_ticket.ensures.crash c.ticket_lines.ensures.crash _ why)
+    (excused_later old middle new clean c.find_ticket.ensures.only_queries.crash c.ticket_lines.ensures.only_queries.crash _ why)
 
 pub returns-in_err-ticket-clause-cause : goal.returns-in_err-ticket-clause-cause
 returns-in_err-ticket-clause-cause g c clean inside endless S sees _ =
     let old = state g.S.Store c.args.tx.now.conn.now in
     let middle = state g.S.Store c.find_ticket.new.tx.conn.now in
     let new = state g.S.Store c.ticket_lines.new.tx.conn.now in
-    let before = clean_before middle new c.ticket_lines.ensures.crash clean in
-    let still = unchanged_sees old middle (rows_of S) (c.in_ok-row.ensures.same before inside) sees.rows in
+    let before = clean_before middle new c.ticket_lines.ensures.only_queries.crash clean in
+    let still = unchanged_sees old middle (rows_of S) (c.in_ok-row.ensures.only_queries.same before inside) sees.rows in
     let own : c.as_slice-rows.result.now ≡ c.in_ok-lines.lines.items = search rules in
     let fits = ticket_fits S c.args.number (row_of_ticket c.in-Some.row) c.as_slice-rows.result.now sees.right
     (sym (ap (option_map row_of_ticket) c.in-Some.is) ∙ c.in_ok-row.ensures.found before (rows_of S) sees.rows)

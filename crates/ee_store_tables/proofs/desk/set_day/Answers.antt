@@ -11,7 +11,7 @@ use Rattle.sqlite.specs.Held.{state}
 use Rattle.sqlite.specs.State.{Executes, ExecutesInside}
 use Rattle.ee_store_tables.specs.Rows.{optional}
 use Rattle.ee_store_tables.proofs.Meaning.{set_day_text}
-use Rattle.ee_store_tables.proofs.KeepLemmas.{inside_if_ok}
+use Rattle.ee_store_tables.proofs.KeepLemmas.{inside_if_ok, writes_inside, fails_inside}
 use Rattle.ee_store_tables.proofs.WriteLemmas.{bound_optional}
 use Rattle.ee_store_tables.proofs.DeskLemmas.{given_days, sets_day}
 use Rattle.ee_store_tables.proofs.desk.set_day.Goals as goal
@@ -31,18 +31,25 @@ returns-clause-set g c clean rows sees =
     let after = sets_day old new c.args.day c.args.last_day c.in_ok-execute.field-0 first.0 ran in
     λ _. (after.0, after.1 rows first.1)
 
-pub returns-clause-inside : goal.returns-clause-inside
-returns-clause-inside g c clean inside_old =
+pub returns-clause-writes_inside : goal.returns-clause-writes_inside
+returns-clause-writes_inside g c =
     let old = state g.S.Store c.args.tx.now.conn.now in
     let new = state g.S.Store c.execute.new.self.conn.now in
     let inside = inside_if_ok old.in_transaction c.execute.result c.in_ok-execute.field-0 c.in_ok-execute.was c.execute.ensures.ended in
+    writes_inside old new (λ clean. (c.in_ok-execute.ensures.runs clean inside).1) (λ clean inside_old.
     let it = c.in_ok-execute.ensures.runs clean inside in
     let part-1 : bound_value (owned c.optional.result) ≡ optional c.args.day = ap bound_value c.optional.ensures ∙ bound_optional c.args.day in
     let part-2 : bound_value (owned c.optional-2.result) ≡ optional c.args.last_day = ap bound_value c.optional-2.ensures ∙ bound_optional c.args.last_day in
     let params : List Value = bound_value (owned c.whole.result) ∷ bound_value (owned c.optional.result) ∷ bound_value (owned c.optional-2.result) ∷ [] in
     let given : params ≡ given_days c.args.day c.args.last_day = λ i. bound_value (c.whole.ensures i) ∷ part-1 i ∷ part-2 i ∷ [] in
     let ran = subst (λ row. Executes set_day_text row old new (Ok c.in_ok-execute.field-0)) given it.0 in
-    λ _. (it.1.mode, (sets_day old new c.args.day c.args.last_day c.in_ok-execute.field-0 (inside_old it.1.was_open).1 ran).0)
+    (sets_day old new c.args.day c.args.last_day c.in_ok-execute.field-0 (inside_old it.1.was_open).1 ran).0)
+    c.execute.ensures.survives
+
+pub returns-in_err-execute-clause-writes_inside : goal.returns-in_err-execute-clause-writes_inside
+returns-in_err-execute-clause-writes_inside g c =
+    fails_inside (state g.S.Store c.args.tx.now.conn.now) (state g.S.Store c.execute.new.self.conn.now) _ set_day_text _ c.execute.result c.from_residual.result c.from_residual.ensures.1
+    c.execute.ensures.runs (λ without. ap (state g.S.Store) (c.execute.ensures.ended without).1) c.execute.ensures.survives
 
 pub returns-clause-room : goal.returns-clause-room
 returns-clause-room g c clean inside_old rows sees n room =

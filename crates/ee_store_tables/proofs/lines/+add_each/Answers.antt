@@ -15,7 +15,7 @@ use Rattle.ee_store_tables.proofs.lines.+add_each.Goals as goal
 pub returns-in_ok-add_paid-in-Some-clause-added : goal.returns-in_ok-add_paid-in-Some-clause-added
 returns-in_ok-add_paid-in-Some-clause-added g t c clean =
     let new = state g.S.Store c.add_each.new.tx.conn.now in
-    let before = clean_before (state g.S.Store c.add_paid.new.tx.conn.now) new c.add_each.ensures.crash clean in
+    let before = clean_before (state g.S.Store c.add_paid.new.tx.conn.now) new c.add_each.ensures.writes_if_any.crash clean in
     on_ok_weaker c.add_each.result (λ added rows sees. subst (λ lines. Sees new (with_places rows c.args.ticket c.args.place (map row_of_line lines))) (sym c.in-Some.ensures.cases.0)
     (added (with_paid rows (c.args.ticket, c.args.place) (row_of_line c.in-Some.line.now)) (c.in_ok-add_paid-in-Some.ensures.added before rows sees))) (c.add_each.ensures.added clean)
 
@@ -41,22 +41,22 @@ returns-in_ok-add_paid-in-Some-clause-room g t c clean inside =
     let old = state g.S.Store c.args.tx.now.conn.now in
     let middle = state g.S.Store c.add_paid.new.tx.conn.now in
     let new = state g.S.Store c.add_each.new.tx.conn.now in
-    let before = clean_before middle new c.add_each.ensures.crash clean in
+    let before = clean_before middle new c.add_each.ensures.writes_if_any.crash clean in
     let it = c.in_ok-add_paid-in-Some.ensures in
     let more = length c.in-Some.rest.now in
     on_ok_weaker c.add_each.result (λ takes rows sees n room.
     let count : n + length c.args.lines.now ≡ n + more + 1 = omega (arith, ap length c.in-Some.ensures.cases.0) in
     takes (with_paid rows (c.args.ticket, c.args.place) (row_of_line c.in-Some.line.now)) (it.added before rows sees) n (it.room before inside rows sees (n + more) (subst (λ m. HasRoom m old) count room)))
-    (c.add_each.ensures.room clean (it.inside before inside))
+    (c.add_each.ensures.room clean (it.writes_inside.inside before inside))
 
 pub returns-in_ok-add_paid-in-Some-clause-cause : goal.returns-in_ok-add_paid-in-Some-clause-cause
 returns-in_ok-add_paid-in-Some-clause-cause g t c clean inside endless rows sees allowed =
     let old = state g.S.Store c.args.tx.now.conn.now in
     let middle = state g.S.Store c.add_paid.new.tx.conn.now in
     let new = state g.S.Store c.add_each.new.tx.conn.now in
-    let before = clean_before middle new c.add_each.ensures.crash clean in
+    let before = clean_before middle new c.add_each.ensures.writes_if_any.crash clean in
     let it = c.in_ok-add_paid-in-Some.ensures in
     let all = subst (λ lines. HasRoom (length lines) old × CanPlaceAll rows c.args.ticket c.args.place (map row_of_line lines)) c.in-Some.ensures.cases.0 allowed in
     let room = it.room before inside rows sees (length c.in-Some.rest.now) (room_less old (length c.in-Some.rest.now + 1) _ (omega arith) all.0) in
-    IfErr-weaker c.add_each.result _ _ (excused_after old middle new it.crash.counts (it.open before))
-    (c.add_each.ensures.cause clean (it.inside before inside) (it.crash.limit ∙ endless) (with_paid rows (c.args.ticket, c.args.place) (row_of_line c.in-Some.line.now)) (it.added before rows sees) (room, all.1.1))
+    IfErr-weaker c.add_each.result _ _ (excused_after old middle new it.writes_inside.crash.counts (it.writes_inside.still_open before))
+    (c.add_each.ensures.cause clean (it.writes_inside.inside before inside) (it.writes_inside.crash.limit ∙ endless) (with_paid rows (c.args.ticket, c.args.place) (row_of_line c.in-Some.line.now)) (it.added before rows sees) (room, all.1.1))

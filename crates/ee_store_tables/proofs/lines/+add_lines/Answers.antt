@@ -31,7 +31,7 @@ add_lines-requires g t c κs within =
 pub returns-in_ok-add_four-in-Some-clause-added : goal.returns-in_ok-add_four-in-Some-clause-added
 returns-in_ok-add_four-in-Some-clause-added g t c clean =
     let new = state g.S.Store c.add_lines.new.tx.conn.now in
-    let before = clean_before (state g.S.Store c.add_four.new.tx.conn.now) new c.add_lines.ensures.crash clean in
+    let before = clean_before (state g.S.Store c.add_four.new.tx.conn.now) new c.add_lines.ensures.writes_if_any.crash clean in
     let it = c.in-Some.four in
     let four = row_of_line it.first ∷ row_of_line it.second ∷ row_of_line it.third ∷ row_of_line it.fourth ∷ [] in
     on_ok_weaker c.add_lines.result (λ after rows sees. subst (λ lines. Sees new (with_places rows c.args.ticket c.args.place (map row_of_line lines))) (sym c.in-Some.ensures)
@@ -51,7 +51,7 @@ returns-in_ok-add_four-in-Some-clause-room g t c clean inside =
     let old = state g.S.Store c.args.tx.now.conn.now in
     let middle = state g.S.Store c.add_four.new.tx.conn.now in
     let new = state g.S.Store c.add_lines.new.tx.conn.now in
-    let before = clean_before middle new c.add_lines.ensures.crash clean in
+    let before = clean_before middle new c.add_lines.ensures.writes_if_any.crash clean in
     let it = c.in_ok-add_four-in-Some.ensures in
     let f = c.in-Some.four in
     let four = row_of_line f.first ∷ row_of_line f.second ∷ row_of_line f.third ∷ row_of_line f.fourth ∷ [] in
@@ -59,20 +59,20 @@ returns-in_ok-add_four-in-Some-clause-room g t c clean inside =
     on_ok_weaker c.add_lines.result (λ takes rows sees n room.
     let count : n + length c.args.lines.now ≡ n + more + 4 = omega (arith, ap length c.in-Some.ensures) in
     takes (with_places rows c.args.ticket c.args.place four) (it.added before rows sees) n (it.room before inside rows sees (n + more) (subst (λ m. HasRoom m old) count room)))
-    (c.add_lines.ensures.room clean (it.inside before inside))
+    (c.add_lines.ensures.room clean (it.writes_inside.inside before inside))
 
 pub returns-in_ok-add_four-in-Some-clause-cause : goal.returns-in_ok-add_four-in-Some-clause-cause
 returns-in_ok-add_four-in-Some-clause-cause g t c clean inside endless rows sees allowed =
     let old = state g.S.Store c.args.tx.now.conn.now in
     let middle = state g.S.Store c.add_four.new.tx.conn.now in
     let new = state g.S.Store c.add_lines.new.tx.conn.now in
-    let before = clean_before middle new c.add_lines.ensures.crash clean in
+    let before = clean_before middle new c.add_lines.ensures.writes_if_any.crash clean in
     let it = c.in_ok-add_four-in-Some.ensures in
     let f = c.in-Some.four in
     let four = row_of_line f.first ∷ row_of_line f.second ∷ row_of_line f.third ∷ row_of_line f.fourth ∷ [] in
     let placed = with_places rows c.args.ticket c.args.place four in
     let all = subst (λ lines. HasRoom (length lines) old × CanPlaceAll rows c.args.ticket c.args.place (map row_of_line lines)) c.in-Some.ensures allowed in
     let room = it.room before inside rows sees (length f.rest.now) (room_less old (length f.rest.now + 4) _ (omega arith) all.0) in
-    IfErr-weaker c.add_lines.result _ _ (excused_after old middle new it.crash.counts (it.open before))
-    (c.add_lines.ensures.cause clean (it.inside before inside) (it.crash.limit ∙ endless) placed (it.added before rows sees)
+    IfErr-weaker c.add_lines.result _ _ (excused_after old middle new it.writes_inside.crash.counts (it.writes_inside.still_open before))
+    (c.add_lines.ensures.cause clean (it.writes_inside.inside before inside) (it.writes_inside.crash.limit ∙ endless) placed (it.added before rows sees)
     (room, subst (λ place. CanPlaceAll placed c.args.ticket place (map row_of_line f.rest.now)) (sym (four_on c.args.place)) all.1.1.1.1.1))

@@ -13,7 +13,7 @@ use Rattle.ee_store_tables.proofs.lines.+mark_lines.Goals as goal
 pub returns-in_ok-mark_bond-in-Some-clause-marked : goal.returns-in_ok-mark_bond-in-Some-clause-marked
 returns-in_ok-mark_bond-in-Some-clause-marked g t c clean =
     let new = state g.S.Store c.mark_lines.new.tx.conn.now in
-    let before = clean_before (state g.S.Store c.mark_bond.new.tx.conn.now) new c.mark_lines.ensures.crash clean in
+    let before = clean_before (state g.S.Store c.mark_bond.new.tx.conn.now) new c.mark_lines.ensures.writes_if_any.crash clean in
     on_ok_weaker c.mark_lines.result (λ after rows sees. subst (λ lines. Sees new (all_marked rows c.args.ticket (map row_of_line lines))) (sym c.in-Some.ensures.cases.0)
     (after (marked rows (c.in-Some.line.now.letter, c.in-Some.line.now.number) c.args.ticket) (c.in_ok-mark_bond-in-Some.ensures.marked before rows sees))) (c.mark_lines.ensures.marked clean)
 
@@ -30,17 +30,17 @@ pub returns-in_ok-mark_bond-in-Some-clause-room : goal.returns-in_ok-mark_bond-i
 returns-in_ok-mark_bond-in-Some-clause-room g t c clean inside =
     let middle = state g.S.Store c.mark_bond.new.tx.conn.now in
     let new = state g.S.Store c.mark_lines.new.tx.conn.now in
-    let before = clean_before middle new c.mark_lines.ensures.crash clean in
+    let before = clean_before middle new c.mark_lines.ensures.writes_if_any.crash clean in
     let it = c.in_ok-mark_bond-in-Some.ensures in
     on_ok_weaker c.mark_lines.result (λ keeps rows sees n room. keeps (marked rows (c.in-Some.line.now.letter, c.in-Some.line.now.number) c.args.ticket) (it.marked before rows sees) n (it.room before inside rows sees n room))
-    (c.mark_lines.ensures.room clean (it.inside before inside))
+    (c.mark_lines.ensures.room clean (it.writes_inside.inside before inside))
 
 pub returns-in_ok-mark_bond-in-Some-clause-cause : goal.returns-in_ok-mark_bond-in-Some-clause-cause
 returns-in_ok-mark_bond-in-Some-clause-cause g t c clean inside endless rows sees allowed =
     let old = state g.S.Store c.args.tx.now.conn.now in
     let middle = state g.S.Store c.mark_bond.new.tx.conn.now in
     let new = state g.S.Store c.mark_lines.new.tx.conn.now in
-    let before = clean_before middle new c.mark_lines.ensures.crash clean in
+    let before = clean_before middle new c.mark_lines.ensures.writes_if_any.crash clean in
     let it = c.in_ok-mark_bond-in-Some.ensures in
-    IfErr-weaker c.mark_lines.result _ _ (excused_after old middle new it.crash.counts (it.open before))
-    (c.mark_lines.ensures.cause clean (it.inside before inside) (it.crash.limit ∙ endless) (marked rows (c.in-Some.line.now.letter, c.in-Some.line.now.number) c.args.ticket) (it.marked before rows sees) (it.room before inside rows sees 0 allowed))
+    IfErr-weaker c.mark_lines.result _ _ (excused_after old middle new it.writes_inside.crash.counts (it.writes_inside.still_open before))
+    (c.mark_lines.ensures.cause clean (it.writes_inside.inside before inside) (it.writes_inside.crash.limit ∙ endless) (marked rows (c.in-Some.line.now.letter, c.in-Some.line.now.number) c.args.ticket) (it.marked before rows sees) (it.room before inside rows sees 0 allowed))

@@ -6,7 +6,7 @@ use Rattle.ee_store_tables.proofs.AskLemmas.{writes_four}
 use Rattle.ee_store_tables.proofs.PutLemmas.{add_four_stays}
 use Rattle.sqlite.specs.Held.{state}
 use Rattle.ee_store_tables.specs.AsRows.{row_of_line}
-use Rattle.ee_store_tables.proofs.KeepLemmas.{inside_if_ok, execute_keeps}
+use Rattle.ee_store_tables.proofs.KeepLemmas.{inside_if_ok, writes_inside, fails_inside}
 use Rattle.ee_store_tables.proofs.PlacesLemmas.{given_four, adds_four, room_lines}
 use Rattle.ee_store_tables.proofs.lines.add_four.Goals as goal
 
@@ -21,15 +21,22 @@ returns-clause-added g c clean rows sees =
     let after = adds_four old new c.args.ticket c.args.place (row_of_line c.args.first) (row_of_line c.args.second) (row_of_line c.args.third) (row_of_line c.args.fourth) c.in_ok-execute.field-0 first.0 ran in
     λ _. (after.0, after.1 rows first.1)
 
-pub returns-clause-inside : goal.returns-clause-inside
-returns-clause-inside g c clean inside_old =
+pub returns-clause-writes_inside : goal.returns-clause-writes_inside
+returns-clause-writes_inside g c =
     let old = state g.S.Store c.args.tx.now.conn.now in
     let new = state g.S.Store c.execute.new.self.conn.now in
     let inside = inside_if_ok old.in_transaction c.execute.result c.in_ok-execute.field-0 c.in_ok-execute.was c.execute.ensures.ended in
+    writes_inside old new (λ clean. (c.in_ok-execute.ensures.runs clean inside).1) (λ clean inside_old.
     let it = c.in_ok-execute.ensures.runs clean inside in
     let ran = rw (c.whole.ensures, c.whole-2.ensures, c.whole-3.ensures, c.whole-4.ensures, c.whole-5.ensures, c.whole-6.ensures, c.whole-7.ensures, c.whole-8.ensures, c.whole-9.ensures, c.whole-10.ensures, c.whole-11.ensures, c.whole-12.ensures, c.whole-13.ensures, c.whole-14.ensures, c.whole-15.ensures, c.whole-16.ensures, c.whole-17.ensures) at it.0 in
     let after = adds_four old new c.args.ticket c.args.place (row_of_line c.args.first) (row_of_line c.args.second) (row_of_line c.args.third) (row_of_line c.args.fourth) c.in_ok-execute.field-0 (inside_old it.1.was_open).1 ran in
-    λ _. (it.1.mode, after.0)
+    after.0)
+    c.execute.ensures.survives
+
+pub returns-in_err-execute-clause-writes_inside : goal.returns-in_err-execute-clause-writes_inside
+returns-in_err-execute-clause-writes_inside g c =
+    fails_inside (state g.S.Store c.args.tx.now.conn.now) (state g.S.Store c.execute.new.self.conn.now) _ add_four_text _ c.execute.result c.from_residual.result c.from_residual.ensures.1
+    c.execute.ensures.runs (λ without. ap (state g.S.Store) (c.execute.ensures.ended without).1) c.execute.ensures.survives
 
 pub returns-in_err-execute-clause-cause : goal.returns-in_err-execute-clause-cause
 returns-in_err-execute-clause-cause g c clean inside endless rows sees allowed =
@@ -56,7 +63,3 @@ returns-clause-room g c clean inside_old rows sees n room =
     let after = adds_four old new c.args.ticket c.args.place (row_of_line c.args.first) (row_of_line c.args.second) (row_of_line c.args.third) (row_of_line c.args.fourth) c.in_ok-execute.field-0 (inside_old it.1.was_open).1 ran in
     let four = row_of_line c.args.first ∷ row_of_line c.args.second ∷ row_of_line c.args.third ∷ row_of_line c.args.fourth ∷ [] in
     room_lines old new n c.args.ticket c.args.place four after.3 after.4 after.2 it.1.was_open room
-
-pub returns-in_err-execute-clause-commit : goal.returns-in_err-execute-clause-commit
-returns-in_err-execute-clause-commit g c clean inside =
-    execute_keeps (state g.S.Store c.args.tx.now.conn.now) (state g.S.Store c.execute.new.self.conn.now) add_four_text _ c.execute.result (c.execute.ensures.runs clean) (λ without. ap (state g.S.Store) (c.execute.ensures.ended without).1)

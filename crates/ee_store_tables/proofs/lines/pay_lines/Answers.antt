@@ -15,18 +15,18 @@ pub returns-clause-added : goal.returns-clause-added
 returns-clause-added g c clean =
     let middle = state g.S.Store c.add_lines.new.tx.conn.now in
     let new = state g.S.Store c.mark_lines.new.tx.conn.now in
-    let before = clean_before middle new c.mark_lines.ensures.crash clean in
+    let before = clean_before middle new c.mark_lines.ensures.writes_if_any.crash clean in
     let lines = map row_of_line c.args.lines.now in
     on_ok_weaker c.mark_lines.result (λ after rows sees. subst (Sees new) (sym (line_by_line rows c.args.ticket c.args.place lines)) (after (with_places rows c.args.ticket c.args.place lines) (c.in_ok-add_lines.ensures.added before rows sees))) (c.mark_lines.ensures.marked clean)
 
 pub returns-clause-room : goal.returns-clause-room
 returns-clause-room g c clean inside =
     let middle = state g.S.Store c.add_lines.new.tx.conn.now in
-    let before = clean_before middle (state g.S.Store c.mark_lines.new.tx.conn.now) c.mark_lines.ensures.crash clean in
+    let before = clean_before middle (state g.S.Store c.mark_lines.new.tx.conn.now) c.mark_lines.ensures.writes_if_any.crash clean in
     let it = c.in_ok-add_lines.ensures in
     on_ok_weaker c.mark_lines.result
     (λ keeps rows sees n room. keeps (with_places rows c.args.ticket c.args.place (map row_of_line c.args.lines.now)) (it.added before rows sees) n (it.room before inside rows sees n room))
-    (c.mark_lines.ensures.room clean (it.inside before inside))
+    (c.mark_lines.ensures.room clean (it.writes_if_any.inside before inside))
 
 pub returns-in_err-add_lines-clause-cause : goal.returns-in_err-add_lines-clause-cause
 returns-in_err-add_lines-clause-cause g c clean inside endless rows sees allowed =
@@ -40,7 +40,7 @@ returns-clause-cause g c clean inside endless rows sees allowed =
     let old = state g.S.Store c.args.tx.now.conn.now in
     let middle = state g.S.Store c.add_lines.new.tx.conn.now in
     let new = state g.S.Store c.mark_lines.new.tx.conn.now in
-    let before = clean_before middle new c.mark_lines.ensures.crash clean in
+    let before = clean_before middle new c.mark_lines.ensures.writes_if_any.crash clean in
     let it = c.in_ok-add_lines.ensures in
-    excused_from old middle new c.mark_lines.result it.crash.counts (it.open before)
-    (c.mark_lines.ensures.cause clean (it.inside before inside) (it.crash.limit ∙ endless) (with_places rows c.args.ticket c.args.place (map row_of_line c.args.lines.now)) (it.added before rows sees) (it.room before inside rows sees 0 (room_less old (0 + length c.args.lines.now) (length c.args.lines.now) (omega arith) allowed.0)))
+    excused_from old middle new c.mark_lines.result it.writes_if_any.crash.counts (it.writes_if_any.still_open before)
+    (c.mark_lines.ensures.cause clean (it.writes_if_any.inside before inside) (it.writes_if_any.crash.limit ∙ endless) (with_places rows c.args.ticket c.args.place (map row_of_line c.args.lines.now)) (it.added before rows sees) (it.room before inside rows sees 0 (room_less old (0 + length c.args.lines.now) (length c.args.lines.now) (omega arith) allowed.0)))

@@ -1,12 +1,11 @@
 use Rattle.std.proofs.Common.{pos, [], ◌∷◌}
-use Rattle.std.proofs.lemmas.Result.{IfOk-weaker, IfErr-weaker}
+use Rattle.std.proofs.lemmas.Result.{IfOk-weaker}
 use Rattle.sqlite.specs.declared.types.Value.TheVariants.{Int}
 use Rattle.sqlite.specs.Held.{state}
-use Rattle.ee_store_tables.specs.Tables.{counter_schema}
 use Rattle.ee_store_tables.proofs.Meaning.{find_ticket_text, find_ticket_plain}
 use Rattle.ee_store_tables.proofs.CauseLemmas.{query_excused}
 use Rattle.ee_store_tables.proofs.AskLemmas.{asks_find_ticket}
-use Rattle.ee_store_tables.proofs.KeepLemmas.{query_keeps, shown_open, is_open_after, query_same}
+use Rattle.ee_store_tables.proofs.KeepLemmas.{shown_open, only_queries}
 use Rattle.ee_store_tables.proofs.FindLemmas.{finds_ticket}
 use Rattle.ee_store_tables.proofs.tickets.ticket_rows.Goals as goal
 
@@ -16,23 +15,12 @@ returns-clause-found g c clean =
     let new = state g.S.Store c.query_all.new.self.conn.now in
     IfOk-weaker c.query_all.result _ _ (λ found shown rows sees. let it = sees (shown_open old new find_ticket_text _ found.items shown) in finds_ticket old new c.args.number rows.tickets found.items it.0 it.1.tickets shown) (rw (c.whole.ensures) at (c.query_all.ensures.ok clean))
 
-pub returns-clause-same : goal.returns-clause-same
-returns-clause-same g c clean inside =
+pub returns-clause-only_queries : goal.returns-clause-only_queries
+returns-clause-only_queries g c =
     let old = state g.S.Store c.args.tx.now.conn.now in
     let new = state g.S.Store c.query_all.new.self.conn.now in
-    query_same old new (λ rows. rows.items) find_ticket_text (Int (pos c.args.number) ∷ []) counter_schema (λ is_open. (inside is_open).1) find_ticket_plain c.query_all.result (rw (c.whole.ensures) at (c.query_all.ensures.ok clean))
-
-pub returns-clause-err : goal.returns-clause-err
-returns-clause-err g c clean inside =
-    let old = state g.S.Store c.args.tx.now.conn.now in
-    let new = state g.S.Store c.query_all.new.self.conn.now in
-    IfErr-weaker c.query_all.result _ _ (λ e failed. query_keeps old new find_ticket_text _ e failed) (c.query_all.ensures.err clean)
-
-pub returns-clause-open : goal.returns-clause-open
-returns-clause-open g c clean =
-    let old = state g.S.Store c.args.tx.now.conn.now in
-    let new = state g.S.Store c.query_all.new.self.conn.now in
-    IfOk-weaker c.query_all.result _ _ (λ found shown. is_open_after old new find_ticket_text _ found.items shown) (c.query_all.ensures.ok clean)
+    only_queries old new (λ rows. rows.items) find_ticket_text (Int (pos c.args.number) ∷ []) _ find_ticket_plain c.query_all.result (λ clean. rw (c.whole.ensures) at (c.query_all.ensures.ok clean))
+    c.query_all.ensures.err c.query_all.ensures.survives
 
 pub returns-clause-cause : goal.returns-clause-cause
 returns-clause-cause g c clean inside endless =
