@@ -13,7 +13,7 @@ ghost use Rattle.sqlite.specs.Effect.{IsDatabase};
 ghost use Rattle.sqlite.specs.State.{HasCleanDisk, Survives};
 ghost use Rattle.ee_store_tables.specs.Rows.{IsInside, HasRoom};
 ghost use Rattle.sqlite.specs.Held.{state};
-ghost use Rattle.ee_store_tables.specs.Statements.{LeavesOpen, StaysOpen, StaysInside, LeavesSound, CommitsNothing, LeavesNoMore};
+ghost use Rattle.ee_store_tables.specs.Statements.{WritesInside, WritesIfAny, LeavesSound};
 ghost use Rattle.ee_store_books.specs.Causes.{FailsByCause, IsReady};
 ghost use Rattle.ee_store_delivery.specs.Causes.{LeavesRoomAfter, TextsFit, TakesRequestRoom, DeliversOrFails};
 ghost use Rattle.ee_store_delivery.specs.Delivered.{Decides, Serves, Follows};
@@ -63,14 +63,11 @@ fn decide_in<S: Alter>(
     requires fits { ActFits request.now.act }
     requires text { string_bytes act ≡ act_text request.now.act }
     ensures same_reference { tx.new.conn.ghost_name ≡ tx.old.conn.ghost_name }
-    ensures open { StaysOpen (state S.Store tx.old.conn.now) (state S.Store tx.new.conn.now) result }
-    ensures inside { StaysInside (state S.Store tx.old.conn.now) (state S.Store tx.new.conn.now) result }
+    ensures writes_if_any { WritesIfAny (state S.Store tx.old.conn.now) (state S.Store tx.new.conn.now) result }
     ensures decides { Decides (state S.Store tx.old.conn.now) (state S.Store tx.new.conn.now) known.old request.now result }
     ensures learns { LearnsIn (state S.Store tx.old.conn.now) (state S.Store tx.new.conn.now) result
         (AreKnown known.old) (λ books. AreKnown known.new (books_after books request.now.act)) }
     ensures sound { LeavesSound (state S.Store tx.old.conn.now) (state S.Store tx.new.conn.now) result }
-    ensures commit { CommitsNothing (state S.Store tx.old.conn.now) (state S.Store tx.new.conn.now) }
-    ensures crash { LeavesNoMore (state S.Store tx.old.conn.now) (state S.Store tx.new.conn.now) }
     ensures room { LeavesRoomAfter (state S.Store tx.old.conn.now) (state S.Store tx.new.conn.now) result }
     ensures cause { FailsByCause (state S.Store tx.old.conn.now) (state S.Store tx.new.conn.now) result
         (λ content. AreKnown known.old content.books × (finite.get content.kept (number_of request.now) ≡ None) × TextsFit content request.now
@@ -96,14 +93,11 @@ pub fn serve_in<S: Alter>(
     request: &Request,
 ) -> Result<(bool, Reply), Failure>
     ensures same_reference { tx.new.conn.ghost_name ≡ tx.old.conn.ghost_name }
-    ensures open { LeavesOpen (state S.Store tx.new.conn.now) result }
-    ensures inside { StaysInside (state S.Store tx.old.conn.now) (state S.Store tx.new.conn.now) result }
+    ensures writes_inside { WritesInside (state S.Store tx.old.conn.now) (state S.Store tx.new.conn.now) result }
     ensures serves { Serves (state S.Store tx.old.conn.now) (state S.Store tx.new.conn.now) known.old request.now result }
     ensures learns { Follows (state S.Store tx.old.conn.now) (state S.Store tx.new.conn.now) known.old known.new request.now result }
     ensures sound { HasCleanDisk (state S.Store tx.new.conn.now) → IsInside (state S.Store tx.old.conn.now)
         → IfOk result (λ r. IsTrue r.0 → IsTrue (state S.Store tx.new.conn.now).is_open → IsDatabase (state S.Store tx.new.conn.now).now) }
-    ensures commit { CommitsNothing (state S.Store tx.old.conn.now) (state S.Store tx.new.conn.now) }
-    ensures crash { LeavesNoMore (state S.Store tx.old.conn.now) (state S.Store tx.new.conn.now) }
     ensures room { LeavesRoomAfter (state S.Store tx.old.conn.now) (state S.Store tx.new.conn.now) result }
     ensures cause { FailsByCause (state S.Store tx.old.conn.now) (state S.Store tx.new.conn.now) result
         (λ content. AreKnown known.old content.books × TextsFit content request.now × HasRoom 501 (state S.Store tx.old.conn.now)) }

@@ -27,7 +27,7 @@ returns-clause-decides g c clean inside S sees known none =
     let b = state g.S.Store c.write_changes.new.tx.conn.now in
     let new = state g.S.Store c.add_answer.new.tx.conn.now in
     let clean_b = clean_before b new c.add_answer.ensures.writes_inside.crash clean in
-    let clean_a = clean_before a b c.write_changes.ensures.crash clean_b in
+    let clean_a = clean_before a b c.write_changes.ensures.writes_if_any.crash clean_b in
     let found = c.in_ok-effects.ensures.found clean_a inside S sees known in
     let are : c.as_slice.result.now ≡ effects.changes = search rules in
     let row : ReplyRow = record { act = string_bytes c.args.act; reply = string_bytes c.in_ok-words.words } in
@@ -47,14 +47,14 @@ returns-in_err-write_changes-clause-cause g c clean inside unlimited S sees any 
     let old = state g.S.Store c.args.tx.now.conn.now in
     let a = state g.S.Store c.effects_in.new.tx.conn.now in
     let new = state g.S.Store c.write_changes.new.tx.conn.now in
-    let clean_a = clean_before a new c.write_changes.ensures.crash clean in
+    let clean_a = clean_before a new c.write_changes.ensures.writes_if_any.crash clean in
     let found = c.in_ok-effects.ensures.found clean_a inside S sees any.0 in
     let stays = c.in_ok-effects.ensures.only_reads.rows clean_a inside (rows_of S) sees.rows in
     let are : c.as_slice.result.now ≡ c.in_ok-effects.effects.changes = search rules in
     let can = subst (CanWriteAll c.in_ok-effects.last_day (rows_of S)) (sym are) (can_write S q.act c.in_ok-effects.effects c.in_ok-effects.last_day sees.right c.requires.fits found.0 found.1) in
     let few = subst (λ changes. all_added_rows changes ≤ 500) (sym are) c.in_ok-effects.ensures.few in
     handed_on _ c.from_residual-in_err-write_changes.result c.in_err-write_changes.field-0.0 c.from_residual-in_err-write_changes.ensures.1
-    (excused_later old a new clean c.effects_in.ensures.only_reads.crash c.write_changes.ensures.crash _
+    (excused_later old a new clean c.effects_in.ensures.only_reads.crash c.write_changes.ensures.writes_if_any.crash _
     (c.in_err-write_changes.ensures.cause clean (c.in_ok-effects.ensures.only_reads.inside clean_a inside) (c.effects_in.ensures.only_reads.crash.limit ∙ unlimited) (rows_of S) stays.0
     (can, room_less a _ 501 (omega (arith, few)) (stays.1 501 any.3))))
 
@@ -68,7 +68,7 @@ returns-in_err-add_answer-clause-cause g c clean inside unlimited S sees any =
     let b = state g.S.Store c.write_changes.new.tx.conn.now in
     let new = state g.S.Store c.add_answer.new.tx.conn.now in
     let clean_b = clean_before b new c.add_answer.ensures.writes_inside.crash clean in
-    let clean_a = clean_before a b c.write_changes.ensures.crash clean_b in
+    let clean_a = clean_before a b c.write_changes.ensures.writes_if_any.crash clean_b in
     let inside_a = c.in_ok-effects.ensures.only_reads.inside clean_a inside in
     let found = c.in_ok-effects.ensures.found clean_a inside S sees any.0 in
     let stays = c.in_ok-effects.ensures.only_reads.rows clean_a inside (rows_of S) sees.rows in
@@ -83,9 +83,9 @@ returns-in_err-add_answer-clause-cause g c clean inside unlimited S sees any =
     let row : ReplyRow = record { act = string_bytes c.args.act; reply = string_bytes c.in_ok-words.words } in
     let words : row ≡ record { act = act_text q.act; reply = reply_text effects.reply } = λ i. record { act = c.requires.text i; reply = c.in_ok-words.ensures.text i } in
     let own = words ∙ ap (λ (e : Effects). record { act = act_text q.act; reply = reply_text e.reply }) found.0 in
-    let crash = leaves_then old a b c.effects_in.ensures.only_reads.crash c.write_changes.ensures.crash in
+    let crash = leaves_then old a b c.effects_in.ensures.only_reads.crash c.write_changes.ensures.writes_if_any.crash in
     handed_on _ c.from_residual-in_err-add_answer.result c.in_err-add_answer.field-0.0 c.from_residual-in_err-add_answer.ensures.1
-    (excused_later old b new clean crash c.add_answer.ensures.writes_inside.crash _ (c.in_err-add_answer.ensures.cause clean (c.in_ok-write_changes.ensures.inside clean_b inside_a) (crash.limit ∙ unlimited) (applied_rows last (rows_of S) changes) written
+    (excused_later old b new clean crash c.add_answer.ensures.writes_inside.crash _ (c.in_err-add_answer.ensures.cause clean (c.in_ok-write_changes.ensures.writes_if_any.inside clean_b inside_a) (crash.limit ∙ unlimited) (applied_rows last (rows_of S) changes) written
     (room, none, subst FitsRow (sym own) any.2)))
 
 pub returns-clause-room : goal.returns-clause-room
@@ -94,13 +94,13 @@ returns-clause-room g c clean inside S sees n room =
     let b = state g.S.Store c.write_changes.new.tx.conn.now in
     let new = state g.S.Store c.add_answer.new.tx.conn.now in
     let clean_b = clean_before b new c.add_answer.ensures.writes_inside.crash clean in
-    let clean_a = clean_before a b c.write_changes.ensures.crash clean_b in
+    let clean_a = clean_before a b c.write_changes.ensures.writes_if_any.crash clean_b in
     let inside_a = c.in_ok-effects.ensures.only_reads.inside clean_a inside in
     let stays = c.in_ok-effects.ensures.only_reads.rows clean_a inside (rows_of S) sees.rows in
     let are : c.as_slice.result.now ≡ c.in_ok-effects.effects.changes = search rules in
     let few = subst (λ changes. all_added_rows changes ≤ 500) (sym are) c.in_ok-effects.ensures.few in
     let written = c.in_ok-write_changes.ensures.written clean_b (rows_of S) stays.0 in
-    c.in_ok-add_answer.ensures.room clean (c.in_ok-write_changes.ensures.inside clean_b inside_a) (applied_rows c.in_ok-effects.last_day (rows_of S) c.as_slice.result.now) written n
+    c.in_ok-add_answer.ensures.room clean (c.in_ok-write_changes.ensures.writes_if_any.inside clean_b inside_a) (applied_rows c.in_ok-effects.last_day (rows_of S) c.as_slice.result.now) written n
     (c.in_ok-write_changes.ensures.room clean_b inside_a (rows_of S) stays.0 (n + 1) (room_less a _ (501 + n) (omega (arith, few)) (stays.1 (501 + n) room)))
 
 pub returns-clause-learns : goal.returns-clause-learns
@@ -109,6 +109,6 @@ returns-clause-learns g c clean inside S sees known =
     let b = state g.S.Store c.write_changes.new.tx.conn.now in
     let new = state g.S.Store c.add_answer.new.tx.conn.now in
     let clean_b = clean_before b new c.add_answer.ensures.writes_inside.crash clean in
-    let clean_a = clean_before a b c.write_changes.ensures.crash clean_b in
+    let clean_a = clean_before a b c.write_changes.ensures.writes_if_any.crash clean_b in
     let found = c.in_ok-effects.ensures.found clean_a inside S sees known in
     c.follow.ensures S.books (c.in_ok-effects.ensures.learns clean_a inside S sees known) (ap (λ (e : Effects). e.reply) found.0)

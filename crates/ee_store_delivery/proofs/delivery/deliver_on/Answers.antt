@@ -29,7 +29,7 @@ returns-in_err-is_new-clause-failed g c =
     let same = c.conn-1.given.1 (sym (c.in_err-is_new.ensures.same_reference ∙ c.transaction-tx.ensures.same_reference)) in
     subst (λ h. HasCleanDisk (state g.S.Store h) → OnErr c.from_residual.result ((S : Content) → HasContent old S → HasContent (state g.S.Store h) S)) (sym same) (λ clean.
     let before = clean_before middle new c.drop-tx.ensures.survives clean in
-    on_err_from c.from_residual.result (λ S has. still_content old start is middle new S has (c.in_err-is_new.ensures.commit before (inside_content old start is settled S has))
+    on_err_from c.from_residual.result (λ S has. still_content old start is middle new S has (c.in_err-is_new.ensures.writes_inside.commit before (inside_content old start is settled S has))
     (rolled_keeps old start is middle new (c.drop-tx.ensures.undone clean))))
 
 pub returns-then-not-is_new-clause-told : goal.returns-then-not-is_new-clause-told
@@ -44,7 +44,7 @@ returns-then-not-is_new-clause-told g c =
     let same = c.conn-then-not-is_new-1.given.1 (sym (c.in_ok-is_new.ensures.same_reference ∙ c.transaction-tx.ensures.same_reference)) in
     subst (λ h. HasCleanDisk (state g.S.Store h) → IsInformed old c.args.known.now → (S : Content) → HasContent old S → c.in_ok-is_new.reply ≡ answer S [] q) (sym same) (λ clean informed S has.
     let before = clean_before middle new c.drop-tx-then-not-is_new.ensures.survives clean in
-    ((c.in_ok-is_new.ensures.serves before (inside_content old start is settled S has) S (sees_content old start is settled S has)).served (known_in old start is settled middle c.args.known.now c.replace-own.result c.replace-own.ensures.value c.serve_in.ensures.crash before (c.in_ok-is_new.ensures.commit before) (c.in_ok-is_new.ensures.open before) informed S has)).told)
+    ((c.in_ok-is_new.ensures.serves before (inside_content old start is settled S has) S (sees_content old start is settled S has)).served (known_in old start is settled middle c.args.known.now c.replace-own.result c.replace-own.ensures.value c.serve_in.ensures.writes_inside.crash before (c.in_ok-is_new.ensures.writes_inside.commit before) (c.in_ok-is_new.ensures.writes_inside.still_open before) informed S has)).told)
 
 pub returns-then-not-is_new-clause-kept : goal.returns-then-not-is_new-clause-kept
 returns-then-not-is_new-clause-kept g c =
@@ -60,7 +60,7 @@ returns-then-not-is_new-clause-kept g c =
     let before = clean_before middle new c.drop-tx-then-not-is_new.ensures.survives clean in
     let inside = inside_content old start is settled S has in
     subst (HasContent new) (known_stays S q c.in_ok-is_new.is_new c.if-not-is_new.true (c.in_ok-is_new.ensures.serves before (inside_content old start is settled S has) S (sees_content old start is settled S has)).first)
-    (still_content old start is middle new S has (c.in_ok-is_new.ensures.commit before inside) (rolled_keeps old start is middle new (c.drop-tx-then-not-is_new.ensures.undone clean))))
+    (still_content old start is middle new S has (c.in_ok-is_new.ensures.writes_inside.commit before inside) (rolled_keeps old start is middle new (c.drop-tx-then-not-is_new.ensures.undone clean))))
 
 pub returns-in_err-commit-clause-failed : goal.returns-in_err-commit-clause-failed
 returns-in_err-commit-clause-failed g c =
@@ -74,7 +74,7 @@ returns-in_err-commit-clause-failed g c =
     let same = c.conn-2-1.given.1 (sym (c.in_ok-is_new.ensures.same_reference ∙ c.transaction-tx.ensures.same_reference)) in
     subst (λ h. HasCleanDisk (state g.S.Store h) → OnErr c.from_residual-in_err-commit.result ((S : Content) → HasContent old S → HasContent (state g.S.Store h) S)) (sym same) (λ clean.
     let before = clean_before middle new c.in_err-commit.ensures.survives clean in
-    on_err_from c.from_residual-in_err-commit.result (λ S has. still_content old start is middle new S has (c.in_ok-is_new.ensures.commit before (inside_content old start is settled S has))
+    on_err_from c.from_residual-in_err-commit.result (λ S has. still_content old start is middle new S has (c.in_ok-is_new.ensures.writes_inside.commit before (inside_content old start is settled S has))
     (failed_keeps old start is middle new _ (c.in_err-commit.ensures.err clean))))
 
 pub returns-in_err-commit-clause-crash : goal.returns-in_err-commit-clause-crash
@@ -89,9 +89,9 @@ returns-in_err-commit-clause-crash g c =
     let same = c.conn-2-1.given.1 (sym (c.in_ok-is_new.ensures.same_reference ∙ c.transaction-tx.ensures.same_reference)) in
     subst (λ h. Survives old (state g.S.Store h) (λ db. IsInformed old c.args.known.now → (S : Content) → HasContent old S → StandsFor db (content_after S (q ∷ [])))) (sym same)
     (commit_survives old start is middle new (λ db. IsInformed old c.args.known.now → (S : Content) → HasContent old S → StandsFor db (content_after S (q ∷ [])))
-    (λ before informed S has. let inside = inside_content old start is settled S has in let is_open = c.in_ok-is_new.ensures.open before in
-    stands_when_open middle (content_after S (q ∷ [])) ((c.in_ok-is_new.ensures.serves before inside S (sees_content old start is settled S has)).served (known_in old start is settled middle c.args.known.now c.replace-own.result c.replace-own.ensures.value c.serve_in.ensures.crash before (c.in_ok-is_new.ensures.commit before) (c.in_ok-is_new.ensures.open before) informed S has)).seen is_open (c.in_ok-is_new.ensures.sound before inside c.if-not-is_new.false is_open))
-    c.in_ok-is_new.ensures.crash c.in_err-commit.ensures.survives)
+    (λ before informed S has. let inside = inside_content old start is settled S has in let is_open = c.in_ok-is_new.ensures.writes_inside.still_open before in
+    stands_when_open middle (content_after S (q ∷ [])) ((c.in_ok-is_new.ensures.serves before inside S (sees_content old start is settled S has)).served (known_in old start is settled middle c.args.known.now c.replace-own.result c.replace-own.ensures.value c.serve_in.ensures.writes_inside.crash before (c.in_ok-is_new.ensures.writes_inside.commit before) (c.in_ok-is_new.ensures.writes_inside.still_open before) informed S has)).seen is_open (c.in_ok-is_new.ensures.sound before inside c.if-not-is_new.false is_open))
+    c.in_ok-is_new.ensures.writes_inside.crash c.in_err-commit.ensures.survives)
 
 pub returns-clause-kept : goal.returns-clause-kept
 returns-clause-kept g c =
@@ -105,7 +105,7 @@ returns-clause-kept g c =
     let same = c.conn-2-1.given.1 (sym (c.in_ok-is_new.ensures.same_reference ∙ c.transaction-tx.ensures.same_reference)) in
     subst (λ h. HasCleanDisk (state g.S.Store h) → IsInformed old c.args.known.now → (S : Content) → HasContent old S → HasContent (state g.S.Store h) (content_after S (q ∷ []))) (sym same) (λ clean informed S has.
     let before = clean_before middle new c.in_ok-commit.ensures.survives clean in
-    committed_content old start is middle new (content_after S (q ∷ [])) ((c.in_ok-is_new.ensures.serves before (inside_content old start is settled S has) S (sees_content old start is settled S has)).served (known_in old start is settled middle c.args.known.now c.replace-own.result c.replace-own.ensures.value c.serve_in.ensures.crash before (c.in_ok-is_new.ensures.commit before) (c.in_ok-is_new.ensures.open before) informed S has)).seen (c.in_ok-commit.ensures.ok clean).1)
+    committed_content old start is middle new (content_after S (q ∷ [])) ((c.in_ok-is_new.ensures.serves before (inside_content old start is settled S has) S (sees_content old start is settled S has)).served (known_in old start is settled middle c.args.known.now c.replace-own.result c.replace-own.ensures.value c.serve_in.ensures.writes_inside.crash before (c.in_ok-is_new.ensures.writes_inside.commit before) (c.in_ok-is_new.ensures.writes_inside.still_open before) informed S has)).seen (c.in_ok-commit.ensures.ok clean).1)
 
 pub returns-clause-crash : goal.returns-clause-crash
 returns-clause-crash g c =
@@ -119,9 +119,9 @@ returns-clause-crash g c =
     let same = c.conn-2-1.given.1 (sym (c.in_ok-is_new.ensures.same_reference ∙ c.transaction-tx.ensures.same_reference)) in
     subst (λ h. Survives old (state g.S.Store h) (λ db. IsInformed old c.args.known.now → (S : Content) → HasContent old S → StandsFor db (content_after S (q ∷ [])))) (sym same)
     (commit_survives old start is middle new (λ db. IsInformed old c.args.known.now → (S : Content) → HasContent old S → StandsFor db (content_after S (q ∷ [])))
-    (λ before informed S has. let inside = inside_content old start is settled S has in let is_open = c.in_ok-is_new.ensures.open before in
-    stands_when_open middle (content_after S (q ∷ [])) ((c.in_ok-is_new.ensures.serves before inside S (sees_content old start is settled S has)).served (known_in old start is settled middle c.args.known.now c.replace-own.result c.replace-own.ensures.value c.serve_in.ensures.crash before (c.in_ok-is_new.ensures.commit before) (c.in_ok-is_new.ensures.open before) informed S has)).seen is_open (c.in_ok-is_new.ensures.sound before inside c.if-not-is_new.false is_open))
-    c.in_ok-is_new.ensures.crash c.in_ok-commit.ensures.survives)
+    (λ before informed S has. let inside = inside_content old start is settled S has in let is_open = c.in_ok-is_new.ensures.writes_inside.still_open before in
+    stands_when_open middle (content_after S (q ∷ [])) ((c.in_ok-is_new.ensures.serves before inside S (sees_content old start is settled S has)).served (known_in old start is settled middle c.args.known.now c.replace-own.result c.replace-own.ensures.value c.serve_in.ensures.writes_inside.crash before (c.in_ok-is_new.ensures.writes_inside.commit before) (c.in_ok-is_new.ensures.writes_inside.still_open before) informed S has)).seen is_open (c.in_ok-is_new.ensures.sound before inside c.if-not-is_new.false is_open))
+    c.in_ok-is_new.ensures.writes_inside.crash c.in_ok-commit.ensures.survives)
 
 pub returns-in_err-is_new-clause-ready : goal.returns-in_err-is_new-clause-ready
 returns-in_err-is_new-clause-ready g c =
@@ -133,7 +133,7 @@ returns-in_err-is_new-clause-ready g c =
     let new = state g.S.Store c.drop-tx.new.self.0 in
     let same = c.conn-1.given.1 (sym (c.in_err-is_new.ensures.same_reference ∙ c.transaction-tx.ensures.same_reference)) in
     subst (λ h. IsReady old → IsReady (state g.S.Store h)) (sym same)
-    (ready_then old start is middle new c.drop-tx.ensures.ended c.drop-tx.ensures.survives.limit c.serve_in.ensures.crash.limit)
+    (ready_then old start is middle new c.drop-tx.ensures.ended c.drop-tx.ensures.survives.limit c.serve_in.ensures.writes_inside.crash.limit)
 
 pub returns-in_err-is_new-clause-room : goal.returns-in_err-is_new-clause-room
 returns-in_err-is_new-clause-room g c =
@@ -146,7 +146,7 @@ returns-in_err-is_new-clause-room g c =
     let same = c.conn-1.given.1 (sym (c.in_err-is_new.ensures.same_reference ∙ c.transaction-tx.ensures.same_reference)) in
     subst (λ h. TakesRequestRoom old (state g.S.Store h)) (sym same) (λ clean ready S has n room.
     let before = clean_before middle new c.drop-tx.ensures.survives clean in
-    rolled_room old start is settled middle new (c.in_err-is_new.ensures.commit before (inside_content old start is settled S has)) (c.drop-tx.ensures.undone clean) n room)
+    rolled_room old start is settled middle new (c.in_err-is_new.ensures.writes_inside.commit before (inside_content old start is settled S has)) (c.drop-tx.ensures.undone clean) n room)
 
 pub returns-then-not-is_new-clause-ready : goal.returns-then-not-is_new-clause-ready
 returns-then-not-is_new-clause-ready g c =
@@ -158,7 +158,7 @@ returns-then-not-is_new-clause-ready g c =
     let new = state g.S.Store c.drop-tx-then-not-is_new.new.self.0 in
     let same = c.conn-then-not-is_new-1.given.1 (sym (c.in_ok-is_new.ensures.same_reference ∙ c.transaction-tx.ensures.same_reference)) in
     subst (λ h. IsReady old → IsReady (state g.S.Store h)) (sym same)
-    (ready_then old start is middle new c.drop-tx-then-not-is_new.ensures.ended c.drop-tx-then-not-is_new.ensures.survives.limit c.serve_in.ensures.crash.limit)
+    (ready_then old start is middle new c.drop-tx-then-not-is_new.ensures.ended c.drop-tx-then-not-is_new.ensures.survives.limit c.serve_in.ensures.writes_inside.crash.limit)
 
 pub returns-then-not-is_new-clause-room : goal.returns-then-not-is_new-clause-room
 returns-then-not-is_new-clause-room g c =
@@ -171,7 +171,7 @@ returns-then-not-is_new-clause-room g c =
     let same = c.conn-then-not-is_new-1.given.1 (sym (c.in_ok-is_new.ensures.same_reference ∙ c.transaction-tx.ensures.same_reference)) in
     subst (λ h. TakesRequestRoom old (state g.S.Store h)) (sym same) (λ clean ready S has n room.
     let before = clean_before middle new c.drop-tx-then-not-is_new.ensures.survives clean in
-    rolled_room old start is settled middle new (c.in_ok-is_new.ensures.commit before (inside_content old start is settled S has)) (c.drop-tx-then-not-is_new.ensures.undone clean) n room)
+    rolled_room old start is settled middle new (c.in_ok-is_new.ensures.writes_inside.commit before (inside_content old start is settled S has)) (c.drop-tx-then-not-is_new.ensures.undone clean) n room)
 
 pub returns-in_err-commit-clause-ready : goal.returns-in_err-commit-clause-ready
 returns-in_err-commit-clause-ready g c =
@@ -183,7 +183,7 @@ returns-in_err-commit-clause-ready g c =
     let new = state g.S.Store c.commit.new.self.0 in
     let same = c.conn-2-1.given.1 (sym (c.in_ok-is_new.ensures.same_reference ∙ c.transaction-tx.ensures.same_reference)) in
     subst (λ h. IsReady old → IsReady (state g.S.Store h)) (sym same)
-    (ready_then old start is middle new c.in_err-commit.ensures.ended c.in_err-commit.ensures.survives.limit c.serve_in.ensures.crash.limit)
+    (ready_then old start is middle new c.in_err-commit.ensures.ended c.in_err-commit.ensures.survives.limit c.serve_in.ensures.writes_inside.crash.limit)
 
 pub returns-in_err-commit-clause-room : goal.returns-in_err-commit-clause-room
 returns-in_err-commit-clause-room g c =
@@ -197,7 +197,7 @@ returns-in_err-commit-clause-room g c =
     subst (λ h. TakesRequestRoom old (state g.S.Store h)) (sym same) (λ clean ready S has n room.
     let before = clean_before middle new c.in_err-commit.ensures.survives clean in
     let inside = inside_content old start is settled S has in
-    failed_room old start is settled middle new (c.in_ok-is_new.ensures.inside before inside) (c.in_ok-is_new.ensures.commit before inside) _ (c.in_err-commit.ensures.err clean) n room)
+    failed_room old start is settled middle new (c.in_ok-is_new.ensures.writes_inside.inside before inside) (c.in_ok-is_new.ensures.writes_inside.commit before inside) _ (c.in_err-commit.ensures.err clean) n room)
 
 pub returns-clause-ready : goal.returns-clause-ready
 returns-clause-ready g c =
@@ -209,7 +209,7 @@ returns-clause-ready g c =
     let new = state g.S.Store c.commit.new.self.0 in
     let same = c.conn-2-1.given.1 (sym (c.in_ok-is_new.ensures.same_reference ∙ c.transaction-tx.ensures.same_reference)) in
     subst (λ h. IsReady old → IsReady (state g.S.Store h)) (sym same)
-    (ready_then old start is middle new c.in_ok-commit.ensures.ended c.in_ok-commit.ensures.survives.limit c.serve_in.ensures.crash.limit)
+    (ready_then old start is middle new c.in_ok-commit.ensures.ended c.in_ok-commit.ensures.survives.limit c.serve_in.ensures.writes_inside.crash.limit)
 
 pub returns-clause-room : goal.returns-clause-room
 returns-clause-room g c =
@@ -238,8 +238,8 @@ returns-in_err-is_new-clause-cause g c =
     let before = clean_before middle new c.drop-tx.ensures.survives clean in
     let has = can.1 in
     handed_on _ c.from_residual.result c.in_err-is_new.field-0.0 c.from_residual.ensures.1
-    (excused_by_known old new c.args.known.now S _ (began_clean old start is middle c.serve_in.ensures.crash before) informed has (λ known.
-    excused old start is middle new c.serve_in.ensures.crash c.drop-tx.ensures.survives _
+    (excused_by_known old new c.args.known.now S _ (began_clean old start is middle c.serve_in.ensures.writes_inside.crash before) informed has (λ known.
+    excused old start is middle new c.serve_in.ensures.writes_inside.crash c.drop-tx.ensures.survives _
     (c.in_err-is_new.ensures.cause before (inside_content old start is settled S has) (ap (λ (s : State). s.step_limit) is ∙ can.0.1) S (sees_content old start is settled S has) (subst (λ k. AreKnown k S.books) (sym c.replace-own.ensures.value) known, can.2, begun_with old start is 501 can.3)))))
 
 pub returns-in_err-commit-clause-cause : goal.returns-in_err-commit-clause-cause
@@ -253,10 +253,10 @@ returns-in_err-commit-clause-cause g c =
     let same = c.conn-2-1.given.1 (sym (c.in_ok-is_new.ensures.same_reference ∙ c.transaction-tx.ensures.same_reference)) in
     subst (λ h. DeliversOrFails old (state g.S.Store h) c.args.known.now c.args.request.now c.from_residual-in_err-commit.result) (sym same) (λ clean informed S can.
     let before = clean_before middle new c.in_err-commit.ensures.survives clean in
-    let inside = c.in_ok-is_new.ensures.inside before (inside_content old start is settled S can.1) in
+    let inside = c.in_ok-is_new.ensures.writes_inside.inside before (inside_content old start is settled S can.1) in
     handed_on _ c.from_residual-in_err-commit.result (failure_of c.in_err-commit.field-0.0) c.from_residual-in_err-commit.ensures.1
     (subst (λ s. IsExcused s new (failure_of c.in_err-commit.field-0.0)) is
-    (excused_later start middle new clean c.serve_in.ensures.crash c.in_err-commit.ensures.survives _ (commit_excused middle new inside c.in_err-commit.field-0.0 (c.in_err-commit.ensures.err clean)))))
+    (excused_later start middle new clean c.serve_in.ensures.writes_inside.crash c.in_err-commit.ensures.survives _ (commit_excused middle new inside c.in_err-commit.field-0.0 (c.in_err-commit.ensures.err clean)))))
 
 pub returns-clause-told : goal.returns-clause-told
 returns-clause-told g c =
@@ -270,7 +270,7 @@ returns-clause-told g c =
     let same = c.conn-2-1.given.1 (sym (c.in_ok-is_new.ensures.same_reference ∙ c.transaction-tx.ensures.same_reference)) in
     subst (λ h. HasCleanDisk (state g.S.Store h) → IsInformed old c.args.known.now → (S : Content) → HasContent old S → c.in_ok-is_new.reply ≡ answer S [] q) (sym same) (λ clean informed S has.
     let before = clean_before middle new c.in_ok-commit.ensures.survives clean in
-    ((c.in_ok-is_new.ensures.serves before (inside_content old start is settled S has) S (sees_content old start is settled S has)).served (known_in old start is settled middle c.args.known.now c.replace-own.result c.replace-own.ensures.value c.serve_in.ensures.crash before (c.in_ok-is_new.ensures.commit before) (c.in_ok-is_new.ensures.open before) informed S has)).told)
+    ((c.in_ok-is_new.ensures.serves before (inside_content old start is settled S has) S (sees_content old start is settled S has)).served (known_in old start is settled middle c.args.known.now c.replace-own.result c.replace-own.ensures.value c.serve_in.ensures.writes_inside.crash before (c.in_ok-is_new.ensures.writes_inside.commit before) (c.in_ok-is_new.ensures.writes_inside.still_open before) informed S has)).told)
 
 pub returns-in_err-is_new-clause-informed : goal.returns-in_err-is_new-clause-informed
 returns-in_err-is_new-clause-informed g c =
@@ -283,10 +283,10 @@ returns-in_err-is_new-clause-informed g c =
     let same = c.conn-1.given.1 (sym (c.in_err-is_new.ensures.same_reference ∙ c.transaction-tx.ensures.same_reference)) in
     subst (λ h. IsInformed old c.args.known.now → IsInformed (state g.S.Store h) c.replace-own.new.dest) (sym same) (λ informed clean.
     let before = clean_before middle new c.drop-tx.ensures.survives clean in
-    let it = informed (began_clean old start is middle c.serve_in.ensures.crash before) in
+    let it = informed (began_clean old start is middle c.serve_in.ensures.writes_inside.crash before) in
     let inside = inside_content old start is settled it.0 it.1 in (
       it.0,
-      still_content old start is middle new it.0 it.1 (c.in_err-is_new.ensures.commit before inside) (rolled_keeps old start is middle new (c.drop-tx.ensures.undone clean)),
+      still_content old start is middle new it.0 it.1 (c.in_err-is_new.ensures.writes_inside.commit before inside) (rolled_keeps old start is middle new (c.drop-tx.ensures.undone clean)),
       subst (λ known. AreKnown known it.0.books) (sym c.replace-own.ensures.after) (c.nothing.ensures it.0.books),
     ))
 
@@ -301,10 +301,10 @@ returns-in_err-commit-clause-informed g c =
     let same = c.conn-2-1.given.1 (sym (c.in_ok-is_new.ensures.same_reference ∙ c.transaction-tx.ensures.same_reference)) in
     subst (λ h. IsInformed old c.args.known.now → IsInformed (state g.S.Store h) c.replace-own.new.dest) (sym same) (λ informed clean.
     let before = clean_before middle new c.in_err-commit.ensures.survives clean in
-    let it = informed (began_clean old start is middle c.serve_in.ensures.crash before) in
+    let it = informed (began_clean old start is middle c.serve_in.ensures.writes_inside.crash before) in
     let inside = inside_content old start is settled it.0 it.1 in (
       it.0,
-      still_content old start is middle new it.0 it.1 (c.in_ok-is_new.ensures.commit before inside) (failed_keeps old start is middle new _ (c.in_err-commit.ensures.err clean)),
+      still_content old start is middle new it.0 it.1 (c.in_ok-is_new.ensures.writes_inside.commit before inside) (failed_keeps old start is middle new _ (c.in_err-commit.ensures.err clean)),
       subst (λ known. AreKnown known it.0.books) (sym c.replace-own.ensures.after) (c.nothing.ensures it.0.books),
     ))
 
@@ -321,7 +321,7 @@ returns-then-not-is_new-clause-informed g c =
     let middle_clean = subst (λ h. HasCleanDisk (state g.S.Store h) → HasCleanDisk middle) (sym same) (clean_before middle new c.drop-tx-then-not-is_new.ensures.survives) in
     λ informed clean.
     let before = middle_clean clean in
-    let it = informed (began_clean old start is middle c.serve_in.ensures.crash before) in
+    let it = informed (began_clean old start is middle c.serve_in.ensures.writes_inside.crash before) in
     let own = subst (λ known. AreKnown known it.0.books) (sym c.replace-own.ensures.value) it.2 in (
       content_after it.0 (q ∷ []),
       returns-then-not-is_new-clause-kept g c clean informed it.0 it.1,
@@ -341,7 +341,7 @@ returns-clause-informed g c =
     let middle_clean = subst (λ h. HasCleanDisk (state g.S.Store h) → HasCleanDisk middle) (sym same) (clean_before middle new c.in_ok-commit.ensures.survives) in
     λ informed clean.
     let before = middle_clean clean in
-    let it = informed (began_clean old start is middle c.serve_in.ensures.crash before) in
+    let it = informed (began_clean old start is middle c.serve_in.ensures.writes_inside.crash before) in
     let own = subst (λ known. AreKnown known it.0.books) (sym c.replace-own.ensures.value) it.2 in (
       content_after it.0 (q ∷ []),
       returns-clause-kept g c clean informed it.0 it.1,

@@ -35,7 +35,7 @@ returns-clause-serves g c clean inside S sees =
     let old = state g.S.Store c.args.tx.now.conn.now in
     let middle = state g.S.Store c.find_answer.new.tx.conn.now in
     let new = state g.S.Store c.decide_in.new.tx.conn.now in
-    let before = clean_before middle new c.decide_in.ensures.crash clean in
+    let before = clean_before middle new c.decide_in.ensures.writes_if_any.crash clean in
     let same = c.in_ok-entry.ensures.only_queries.same before inside in
     let still : SeesContent middle S = record { right = sees.right; rows = unchanged_sees old middle (rows_of S) same sees.rows } in
     let found = c.in_ok-entry.ensures.found before (rows_of S) sees.rows in
@@ -64,14 +64,14 @@ returns-in_err-reply-2-clause-cause g c clean inside unlimited S sees any =
     let old = state g.S.Store c.args.tx.now.conn.now in
     let middle = state g.S.Store c.find_answer.new.tx.conn.now in
     let new = state g.S.Store c.decide_in.new.tx.conn.now in
-    let before = clean_before middle new c.decide_in.ensures.crash clean in
+    let before = clean_before middle new c.decide_in.ensures.writes_if_any.crash clean in
     let same = c.in_ok-entry.ensures.only_queries.same before inside in
     let still : SeesContent middle S = record { right = sees.right; rows = unchanged_sees old middle (rows_of S) same sees.rows } in
     let found = c.in_ok-entry.ensures.found before (rows_of S) sees.rows in
     let nothing : c.in_ok-entry.field-0 ≡ None = search rules in
     let none = is_new S (number_of q) (sym (ap (option_map row_of_reply) nothing) ∙ found ∙ ap (finite.get (rows_of S).answers) (λ i. (c.number-desk.ensures.value i, c.value.ensures.value i))) in
     handed_on _ c.from_residual-in_err-reply-2.result c.in_err-reply-2.field-0.0 c.from_residual-in_err-reply-2.ensures.1
-    (excused_later old middle new clean c.find_answer.ensures.only_queries.crash c.decide_in.ensures.crash _
+    (excused_later old middle new clean c.find_answer.ensures.only_queries.crash c.decide_in.ensures.writes_if_any.crash _
     (c.in_err-reply-2.ensures.cause clean (unchanged_inside old middle same inside) (c.find_answer.ensures.only_queries.crash.limit ∙ unlimited) S still (any.0, none, any.1, unchanged_room old middle 501 same any.2)))
 
 pub returns-in-Some-clause-room : goal.returns-in-Some-clause-room
@@ -84,7 +84,7 @@ returns-clause-room g c clean inside S sees n room =
     let old = state g.S.Store c.args.tx.now.conn.now in
     let middle = state g.S.Store c.find_answer.new.tx.conn.now in
     let new = state g.S.Store c.decide_in.new.tx.conn.now in
-    let before = clean_before middle new c.decide_in.ensures.crash clean in
+    let before = clean_before middle new c.decide_in.ensures.writes_if_any.crash clean in
     let same = c.in_ok-entry.ensures.only_queries.same before inside in
     let still : SeesContent middle S = record { right = sees.right; rows = unchanged_sees old middle (rows_of S) same sees.rows } in
     c.in_ok-reply-2.ensures.room clean (unchanged_inside old middle same inside) S still n (unchanged_room old middle (501 + n) same room)
@@ -101,7 +101,7 @@ returns-clause-learns g c clean inside S sees known =
     let old = state g.S.Store c.args.tx.now.conn.now in
     let middle = state g.S.Store c.find_answer.new.tx.conn.now in
     let new = state g.S.Store c.decide_in.new.tx.conn.now in
-    let before = clean_before middle new c.decide_in.ensures.crash clean in
+    let before = clean_before middle new c.decide_in.ensures.writes_if_any.crash clean in
     let same = c.in_ok-entry.ensures.only_queries.same before inside in
     let still : SeesContent middle S = record { right = sees.right; rows = unchanged_sees old middle (rows_of S) same sees.rows } in
     let found = c.in_ok-entry.ensures.found before (rows_of S) sees.rows in

@@ -36,16 +36,16 @@ loop-change-preserved g c =
     let left = left_is c.args.changes.now c.loop-change.change-index change c.loop-change-test.true c.change-item.is in
     record {
       same_reference = c.write_change.ensures.same_reference ∙ was.same_reference;
-      stays = done_then old middle new was.stays c.write_change.ensures.crash c.write_change.ensures.commit c.in_ok-write_change.ensures.open c.in_ok-write_change.ensures.inside;
+      stays = done_then old middle new was.stays c.write_change.ensures.writes_if_any.crash c.write_change.ensures.writes_if_any.commit c.in_ok-write_change.ensures.writes_if_any.still_open c.in_ok-write_change.ensures.writes_if_any.inside;
       written = λ clean rows sees.
-          let here = was.written (clean_before middle new c.write_change.ensures.crash clean) rows sees in (
+          let here = was.written (clean_before middle new c.write_change.ensures.writes_if_any.crash clean) rows sees in (
             changed_rows last here.0 change,
             c.in_ok-write_change.ensures.written clean here.0 here.1,
             sym (ap (applied_rows last here.0) left) ∙ here.2,
             λ can. (subst (CanWriteAll last here.0) left (here.3 can)).1,
           );
       room = λ clean inside rows sees n room.
-          let before = clean_before middle new c.write_change.ensures.crash clean in
+          let before = clean_before middle new c.write_change.ensures.writes_if_any.crash clean in
           let here = was.written before rows sees in
           c.in_ok-write_change.ensures.room clean (was.stays.inside before inside) here.0 here.1 (all_added_rows (drop (c.loop-change.change-index + 1) c.args.changes.now) + n)
           (room_next middle c.args.changes.now c.loop-change.change-index n change left (was.room before inside rows sees n room));
@@ -72,11 +72,11 @@ returns-in_err-write_change-clause-cause g c clean inside endless rows sees can 
     let change = c.change-item.result in
     let changes = c.args.changes.now in
     let left = left_is changes c.loop-change.change-index change c.loop-change-test.true c.change-item.is in
-    let before = clean_before middle new c.write_change.ensures.crash clean in
+    let before = clean_before middle new c.write_change.ensures.writes_if_any.crash clean in
     let here = was.written before rows sees in
     let room = room_next middle changes c.loop-change.change-index 0 change left (was.room before inside rows sees 0 (room_less old (all_added_rows changes + 0) (all_added_rows changes) (omega arith) can.1)) in
     let e = c.in_err-write_change.field-0.0 in
     handed_on (IsExcused old new) c.from_residual.result e c.from_residual.ensures.1
-    (excused_later old middle new clean was.stays.crash c.write_change.ensures.crash e
+    (excused_later old middle new clean was.stays.crash c.write_change.ensures.writes_if_any.crash e
     (c.in_err-write_change.ensures.cause clean (was.stays.inside before inside) (was.stays.crash.limit ∙ endless) here.0 here.1
     ((subst (CanWriteAll c.args.last_day here.0) left (here.3 can.0)).0, room_less middle (added_rows change) _ (omega arith) room)))
