@@ -1,10 +1,18 @@
 -- What reading several tables in turn gives.
-use Rattle.std.proofs.Common.{Ok, Err, Result, IfOk, OnOk, sym, ap, subst, ◌∙◌}
+use Rattle.std.proofs.Common.{◌≡◌, ◌≢◌, Ok, Err, Result, IfOk, OnOk, sym, ap, subst, ◌∙◌}
+use Rattle.std.specs.Result.{IsErrAnd}
+use Rattle.std.proofs.lemmas.Result.{on_ok_weaker}
 use Rattle.sqlite.specs.Effect.{Database, IsDatabase}
-use Rattle.sqlite.specs.State.{State, IsUnchanged}
+use Rattle.sqlite.specs.State.{State, HasCleanDisk, IsUnchanged}
+use Rattle.sqlite.proofs.Callers.{unchanged_then}
+use Rattle.sqlite.proofs.InsideLemmas.{keeps_then}
+use Rattle.ee_store_tables.proofs.Lemmas.Transactions.{clean_before}
+use Rattle.ee_store_schema.specs.declared.faults.OpenFault.{OpenFault}
+use Rattle.ee_store_schema.specs.declared.faults.OpenFault.TheVariants.{WrongVersion}
+use Rattle.ee_store_schema.proofs.Lemmas.Causes.{then_survives}
 use Rattle.ee_store_schema.specs.declared.forms.Form.{Form}
 use Rattle.ee_store_schema.specs.Forms.{SeesForm, HasOurTables}
-use Rattle.ee_store_load.specs.Reading.{IsSoundNow}
+use Rattle.ee_store_load.specs.Reading.{IsSoundNow, OnlyLoads}
 
 pub both_ok : {X E : Type 0} {P Q R : X → Type 0} (r : Result X E) → ((x : X) → P x → Q x → R x) → IfOk r P → IfOk r Q → IfOk r R
 both_ok (Ok x) f p q = f x p q
@@ -32,3 +40,26 @@ under_ok P (Err e) f = tt
 pub ok_then : {X E Q : Type 0} {P R : X → Type 0} (r : Result X E) → ((x : X) → P x → Q → R x) → IfOk r P → OnOk r Q → IfOk r R
 ok_then (Ok x) f p q = f x p q
 ok_then (Err e) f p q = tt
+
+-- ---- what calls that read tables leave
+
+-- two calls, one after the other
+pub loads_then : {X Y : Type 0} (a b c : State) (x : X) (r : Result Y OpenFault) → OnlyLoads a b (Ok x) → OnlyLoads b c r → OnlyLoads a c r
+loads_then a b c x r first next =
+    let before : HasCleanDisk c → HasCleanDisk b = clean_before b c next.crash in
+    record {
+      same = λ clean. on_ok_weaker r (λ same. unchanged_then a b c (first.same (before clean)) same) (next.same clean);
+      kept = λ clean. keeps_then a b c (first.kept (before clean)) (next.kept clean);
+      outside = λ h. next.outside (first.outside h);
+      other = next.other;
+      crash = then_survives a b c first.crash next.crash;
+    }
+
+-- a value is made of what was read
+pub loads_made : {X Y : Type 0} (a b : State) (x : X) (y : Y) → OnlyLoads a b (Ok x) → OnlyLoads a b (Ok y)
+loads_made a b x y it = record { same = it.same; kept = it.kept; outside = it.outside; other = tt; crash = it.crash }
+
+-- a fault is handed on
+pub loads_failed : {X Y : Type 0} (a b : State) (fault : OpenFault) (r : Result Y OpenFault) → IsErrAnd r (λ f. f ≡ fault) → OnlyLoads {X = X} a b (Err fault) → OnlyLoads a b r
+loads_failed a b fault (Ok y) is it = absurd is
+loads_failed a b fault (Err f) is it = record { same = λ _. tt; kept = it.kept; outside = it.outside; other = subst (λ e. e ≢ WrongVersion) (sym is) it.other; crash = it.crash }

@@ -1,5 +1,5 @@
 -- Reading a whole table.
-use Rattle.std.specs.Prelude.{◌≡◌, ◌&&◌, ℕ, Bool, true, false, IsTrue, List, [], ◌∷◌, map, pos, negsuc, None, Ok, Err, Result, All, IsPermutation}
+use Rattle.std.specs.Prelude.{◌≡◌, ◌≢◌, ◌&&◌, ℕ, Bool, true, false, IsTrue, List, [], ◌∷◌, map, pos, negsuc, None, Ok, Err, Result, IfErr, OnOk, All, IsPermutation}
 use Rattle.sqlite.specs.declared.types.Value.TheVariants.{Int}
 use Rattle.sqlite.specs.Order.{Row}
 use Rattle.sqlite.specs.Tree.{Trees}
@@ -14,7 +14,10 @@ use Rattle.sqlite_resolve.specs.declared.error.CompileError.{CompileError}
 use Rattle.sqlite.specs.Command.TheVariants.{Select}
 use Rattle.sqlite.specs.Effect.{IsDatabase}
 use Rattle.sqlite.specs.Listing.{understood, reads_listing}
-use Rattle.sqlite.specs.State.{State, Begins}
+use Rattle.sqlite.specs.State.{State, HasCleanDisk, IsUnchanged, KeepsCommit, Survives, Begins}
+use Rattle.ee_store_schema.specs.declared.faults.OpenFault.{OpenFault}
+use Rattle.ee_store_schema.specs.declared.faults.OpenFault.TheVariants.{WrongVersion}
+use Rattle.ee_store_schema.specs.Faults.{StaysOutside}
 
 -- each element comes before the next
 abbrev pub rises : {X : Type 0} → (X → X → Bool) → List X → Bool
@@ -68,3 +71,11 @@ ShowsUnreadable IsReadable text s = (rows : List Row) × Begins text [] s rows �
 -- Each row that the query shows can be read, and their keys rise.
 abbrev pub CanBeRead : {A : Type 0} → (Row → Type 0) → (A → Row) → (A → A → Bool) → Trees → Query → Type 0
 CanBeRead {A} IsReadable shown precedes db query = (rows : List Row) → IsAnswer query (overlay db []) [] rows → All IsReadable rows × ((found : List A) → rows ≡ map shown found → rises precedes found ≡ true)
+
+-- What a call that reads whole tables leaves of a store. If it succeeds, nothing changed. It commits nothing, and never answers `WrongVersion`.
+pub record OnlyLoads {X : Type 0} (old new : State) (result : Result X OpenFault) : Type 0 where
+  pub same : HasCleanDisk new → OnOk result (IsUnchanged old new)
+  pub kept : HasCleanDisk new → KeepsCommit old new
+  pub outside : StaysOutside old new
+  pub other : IfErr result (λ e. e ≢ WrongVersion)
+  pub crash : Survives old new (λ _. ⊥)

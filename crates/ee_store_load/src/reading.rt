@@ -1,8 +1,8 @@
 //! Reading the rows of a table one after another. Each key is tested to be above the one before it.
 
-ghost use Rattle.std.specs.Prelude.{◌≡◌, ◌≢◌, List, Bool, true, IsTrue, IfOk, IfErr, OnOk, map, ℕ, [], ◌∷◌, ◌++◌};
+ghost use Rattle.std.specs.Prelude.{◌≡◌, ◌≢◌, List, Bool, true, IsTrue, IfOk, IfErr, map, ℕ, [], ◌∷◌, ◌++◌};
 ghost use Rattle.std.specs.Option.{option_copied, option_map_or};
-ghost use Rattle.sqlite.specs.State.{HasCleanDisk, IsUnchanged, KeepsCommit, Survives, Shown};
+ghost use Rattle.sqlite.specs.State.{HasCleanDisk, Shown};
 ghost use Rattle.sqlite.specs.Given.{IsPlain};
 ghost use Rattle.sqlite.specs.Held.{state};
 ghost use Rattle.sqlite.specs.Listing.{understood};
@@ -10,10 +10,10 @@ ghost use Rattle.sqlite.specs.Schema.{Schema};
 ghost use Rattle.sqlite.specs.Term.{Term};
 ghost use Rattle.sqlite_value.specs.declared.keys.Key.{Key};
 ghost use Rattle.sqlite.specs.Order.{Row as Columns};
-ghost use Rattle.ee_store_schema.specs.Faults.{FailsForCause, StaysOutside};
+ghost use Rattle.ee_store_schema.specs.Faults.{FailsForCause};
 ghost use Rattle.ee_store_schema.specs.Forms.{SeesSchema};
 ghost use Rattle.ee_store_schema.specs.Asking.{IsNeverRefused};
-ghost use Rattle.ee_store_load.specs.Reading.{rises, whole_table, AsksForAll, ShowsAll, ShowsUnreadable, CanBeRead, OnlyAsks};
+ghost use Rattle.ee_store_load.specs.Reading.{rises, whole_table, AsksForAll, ShowsAll, ShowsUnreadable, CanBeRead, OnlyAsks, OnlyLoads};
 
 use ee_store_schema::OpenFault;
 use sqlite::{Alter, Connection, Row};
@@ -78,12 +78,8 @@ pub(crate) fn gather_rows<S: Alter, T: StoredRow + Drop, G: Gather<T> + Drop>(
     ensures usable { HasCleanDisk (state S.Store conn.new) → IfErr result (λ e. e ≡ OpenFault.Unusable
         → IsPlain (understood (state S.Store conn.old).now.schema sql.now)
         → ShowsUnreadable T.is_readable sql.now (state S.Store conn.old)) }
-    ensures same { HasCleanDisk (state S.Store conn.new) → OnOk result (IsUnchanged (state S.Store conn.old) (state S.Store conn.new)) }
-    ensures kept { HasCleanDisk (state S.Store conn.new) → KeepsCommit (state S.Store conn.old) (state S.Store conn.new) }
-    ensures outside { StaysOutside (state S.Store conn.old) (state S.Store conn.new) }
-    ensures other { IfErr result (λ e. e ≢ OpenFault.WrongVersion) }
+    ensures only_loads { OnlyLoads (state S.Store conn.old) (state S.Store conn.new) result }
     ensures cause { FailsForCause (λ s. IsNeverRefused s.now.schema sql.now []) (state S.Store conn.old) (state S.Store conn.new) result }
-    ensures crash { Survives (state S.Store conn.old) (state S.Store conn.new) (λ _. ⊥) }
 {
     let mut gathered = first;
     let mut rows = conn.query(sql, &[])?;
@@ -133,13 +129,9 @@ pub(crate) fn read_table<S: Alter, T: StoredRow + Drop>(
         → (schema : Schema) (tree : ℕ) (terms : List Term) (order : List (Term × Key)) → AsksForAll schema sql.now tree terms order
         → SeesSchema schema (state S.Store conn.old) → IsTrue (state S.Store conn.old).is_open
         → ¬ CanBeRead T.is_readable T.shown T.stands_before (state S.Store conn.old).now.trees (whole_table tree terms order)) }
-    ensures same { HasCleanDisk (state S.Store conn.new) → OnOk result (IsUnchanged (state S.Store conn.old) (state S.Store conn.new)) }
-    ensures kept { HasCleanDisk (state S.Store conn.new) → KeepsCommit (state S.Store conn.old) (state S.Store conn.new) }
-    ensures outside { StaysOutside (state S.Store conn.old) (state S.Store conn.new) }
-    ensures other { IfErr result (λ e. e ≢ OpenFault.WrongVersion) }
+    ensures only_loads { OnlyLoads (state S.Store conn.old) (state S.Store conn.new) result }
     ensures cause { (schema : Schema) → IsNeverRefused schema sql.now []
         → FailsForCause (SeesSchema schema) (state S.Store conn.old) (state S.Store conn.new) result }
-    ensures crash { Survives (state S.Store conn.old) (state S.Store conn.new) (λ _. ⊥) }
 {
     let none = TableRows {
         all: Vec::new(alloc),

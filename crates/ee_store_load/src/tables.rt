@@ -26,7 +26,7 @@ ghost use Rattle.ee_store_schema.specs.Faults.{FailsForCause, StaysOutside};
 ghost use Rattle.ee_store_schema.specs.declared.forms.Form.TheVariants.{Current, First};
 ghost use Rattle.ee_store_schema.specs.Forms.{at_first_desk, HasOurTables, SeesForm, HoldsIn, HoldsReplies};
 ghost use Rattle.ee_store_schema.specs.Migrating.{answer_entry};
-ghost use Rattle.ee_store_load.specs.Reading.{IsSoundNow};
+ghost use Rattle.ee_store_load.specs.Reading.{IsSoundNow, OnlyLoads};
 ghost use Rattle.ee_store_load.specs.Shown.{
   AreWritten,
   desk_map,
@@ -67,12 +67,8 @@ pub(crate) fn read_desk<S: Alter>(
     ensures listed { IfOk result (λ found. entries (desk_map found.items) ≡ map desk_entry found.items) }
     ensures usable { HasCleanDisk (state S.Store conn.new) → IfErr result (λ e. e ≡ OpenFault.Unusable → HasOurTables (state S.Store conn.old)
         → IsTrue (state S.Store conn.old).is_open → (m : FinMap nat_cmp DeskRow) → ¬ HoldsMap desk_columns ((state S.Store conn.old).now.trees 0) m) }
-    ensures same { HasCleanDisk (state S.Store conn.new) → OnOk result (IsUnchanged (state S.Store conn.old) (state S.Store conn.new)) }
-    ensures kept { HasCleanDisk (state S.Store conn.new) → KeepsCommit (state S.Store conn.old) (state S.Store conn.new) }
-    ensures outside { StaysOutside (state S.Store conn.old) (state S.Store conn.new) }
-    ensures other { IfErr result (λ e. e ≢ OpenFault.WrongVersion) }
+    ensures only_loads { OnlyLoads (state S.Store conn.old) (state S.Store conn.new) result }
     ensures cause { FailsForCause HasOurTables (state S.Store conn.old) (state S.Store conn.new) result }
-    ensures crash { Survives (state S.Store conn.old) (state S.Store conn.new) (λ _. ⊥) }
 {
     read_table(
         conn,
@@ -91,12 +87,8 @@ pub(crate) fn read_rates<S: Alter>(
     ensures listed { IfOk result (λ found. entries (rate_map found.items) ≡ map rate_entry found.items) }
     ensures usable { HasCleanDisk (state S.Store conn.new) → IfErr result (λ e. e ≡ OpenFault.Unusable → HasOurTables (state S.Store conn.old)
         → IsTrue (state S.Store conn.old).is_open → (m : FinMap nat_cmp ℕ) → ¬ HoldsMap rate_columns ((state S.Store conn.old).now.trees 1) m) }
-    ensures same { HasCleanDisk (state S.Store conn.new) → OnOk result (IsUnchanged (state S.Store conn.old) (state S.Store conn.new)) }
-    ensures kept { HasCleanDisk (state S.Store conn.new) → KeepsCommit (state S.Store conn.old) (state S.Store conn.new) }
-    ensures outside { StaysOutside (state S.Store conn.old) (state S.Store conn.new) }
-    ensures other { IfErr result (λ e. e ≢ OpenFault.WrongVersion) }
+    ensures only_loads { OnlyLoads (state S.Store conn.old) (state S.Store conn.new) result }
     ensures cause { FailsForCause HasOurTables (state S.Store conn.old) (state S.Store conn.new) result }
-    ensures crash { Survives (state S.Store conn.old) (state S.Store conn.new) (λ _. ⊥) }
 {
     read_table(
         conn,
@@ -115,12 +107,8 @@ pub(crate) fn read_tickets<S: Alter>(
     ensures listed { IfOk result (λ found. entries (ticket_map found.items) ≡ map ticket_entry found.items) }
     ensures usable { HasCleanDisk (state S.Store conn.new) → IfErr result (λ e. e ≡ OpenFault.Unusable → HasOurTables (state S.Store conn.old)
         → IsTrue (state S.Store conn.old).is_open → (m : FinMap nat_cmp TicketRow) → ¬ HoldsMap ticket_columns ((state S.Store conn.old).now.trees 5) m) }
-    ensures same { HasCleanDisk (state S.Store conn.new) → OnOk result (IsUnchanged (state S.Store conn.old) (state S.Store conn.new)) }
-    ensures kept { HasCleanDisk (state S.Store conn.new) → KeepsCommit (state S.Store conn.old) (state S.Store conn.new) }
-    ensures outside { StaysOutside (state S.Store conn.old) (state S.Store conn.new) }
-    ensures other { IfErr result (λ e. e ≢ OpenFault.WrongVersion) }
+    ensures only_loads { OnlyLoads (state S.Store conn.old) (state S.Store conn.new) result }
     ensures cause { FailsForCause HasOurTables (state S.Store conn.old) (state S.Store conn.new) result }
-    ensures crash { Survives (state S.Store conn.old) (state S.Store conn.new) (λ _. ⊥) }
 {
     read_table(
         conn,
@@ -139,12 +127,8 @@ pub(crate) fn read_batches<S: Alter>(
     ensures listed { IfOk result (λ found. entries (batch_map found.items) ≡ map batch_entry found.items) }
     ensures usable { HasCleanDisk (state S.Store conn.new) → IfErr result (λ e. e ≡ OpenFault.Unusable → HasOurTables (state S.Store conn.old)
         → IsTrue (state S.Store conn.old).is_open → (m : FinMap nat_cmp BatchRow) → ¬ HoldsMap batch_columns ((state S.Store conn.old).now.trees 10) m) }
-    ensures same { HasCleanDisk (state S.Store conn.new) → OnOk result (IsUnchanged (state S.Store conn.old) (state S.Store conn.new)) }
-    ensures kept { HasCleanDisk (state S.Store conn.new) → KeepsCommit (state S.Store conn.old) (state S.Store conn.new) }
-    ensures outside { StaysOutside (state S.Store conn.old) (state S.Store conn.new) }
-    ensures other { IfErr result (λ e. e ≢ OpenFault.WrongVersion) }
+    ensures only_loads { OnlyLoads (state S.Store conn.old) (state S.Store conn.new) result }
     ensures cause { FailsForCause HasOurTables (state S.Store conn.old) (state S.Store conn.new) result }
-    ensures crash { Survives (state S.Store conn.old) (state S.Store conn.new) (λ _. ⊥) }
 {
     read_table(
         conn,
@@ -164,12 +148,8 @@ fn read_replies<S: Alter>(
     ensures usable { HasCleanDisk (state S.Store conn.new) → IfErr result (λ e. e ≡ OpenFault.Unusable → HasFirstTables (state S.Store conn.old)
         → IsTrue (state S.Store conn.old).is_open → (m : FinMap nat_cmp ReplyRow) → AreWritten (at_first_desk m)
         → ¬ HoldsMap reply_columns ((state S.Store conn.old).now.trees 11) m) }
-    ensures same { HasCleanDisk (state S.Store conn.new) → OnOk result (IsUnchanged (state S.Store conn.old) (state S.Store conn.new)) }
-    ensures kept { HasCleanDisk (state S.Store conn.new) → KeepsCommit (state S.Store conn.old) (state S.Store conn.new) }
-    ensures outside { StaysOutside (state S.Store conn.old) (state S.Store conn.new) }
-    ensures other { IfErr result (λ e. e ≢ OpenFault.WrongVersion) }
+    ensures only_loads { OnlyLoads (state S.Store conn.old) (state S.Store conn.new) result }
     ensures cause { FailsForCause HasFirstTables (state S.Store conn.old) (state S.Store conn.new) result }
-    ensures crash { Survives (state S.Store conn.old) (state S.Store conn.new) (λ _. ⊥) }
 {
     read_table(
         conn,
@@ -209,12 +189,8 @@ fn read_first_answers<S: Alter>(
     ensures usable { HasCleanDisk (state S.Store conn.new) → IfErr result (λ e. e ≡ OpenFault.Unusable → HasFirstTables (state S.Store conn.old)
         → IsTrue (state S.Store conn.old).is_open → (m : FinMap pair_cmp ReplyRow) → AreWritten m
         → ¬ HoldsReplies (state S.Store conn.old).now.trees m) }
-    ensures same { HasCleanDisk (state S.Store conn.new) → OnOk result (IsUnchanged (state S.Store conn.old) (state S.Store conn.new)) }
-    ensures kept { HasCleanDisk (state S.Store conn.new) → KeepsCommit (state S.Store conn.old) (state S.Store conn.new) }
-    ensures outside { StaysOutside (state S.Store conn.old) (state S.Store conn.new) }
-    ensures other { IfErr result (λ e. e ≢ OpenFault.WrongVersion) }
+    ensures only_loads { OnlyLoads (state S.Store conn.old) (state S.Store conn.new) result }
     ensures cause { FailsForCause HasFirstTables (state S.Store conn.old) (state S.Store conn.new) result }
-    ensures crash { Survives (state S.Store conn.old) (state S.Store conn.new) (λ _. ⊥) }
 {
     let replies = read_replies(conn, alloc)?;
     with_first_desk(alloc, replies)
@@ -240,12 +216,8 @@ fn test_first_answers<S: Alter, P: RowTest<StoredAnswer>>(
     ensures usable { HasCleanDisk (state S.Store conn.new) → IfErr result (λ e. e ≡ OpenFault.Unusable → HasFirstTables (state S.Store conn.old)
         → IsTrue (state S.Store conn.old).is_open → (m : FinMap pair_cmp ReplyRow) → AreWritten m
         → ¬ HoldsReplies (state S.Store conn.old).now.trees m) }
-    ensures same { HasCleanDisk (state S.Store conn.new) → OnOk result (IsUnchanged (state S.Store conn.old) (state S.Store conn.new)) }
-    ensures kept { HasCleanDisk (state S.Store conn.new) → KeepsCommit (state S.Store conn.old) (state S.Store conn.new) }
-    ensures outside { StaysOutside (state S.Store conn.old) (state S.Store conn.new) }
-    ensures other { IfErr result (λ e. e ≢ OpenFault.WrongVersion) }
+    ensures only_loads { OnlyLoads (state S.Store conn.old) (state S.Store conn.new) result }
     ensures cause { FailsForCause HasFirstTables (state S.Store conn.old) (state S.Store conn.new) result }
-    ensures crash { Survives (state S.Store conn.old) (state S.Store conn.new) (λ _. ⊥) }
 {
     let earlier = read_first_answers(conn, alloc)?;
     let pass = all_pass::<StoredAnswer, P>(alloc, &earlier)?;
@@ -263,12 +235,8 @@ fn test_current_answers<S: Alter, P: RowTest<StoredAnswer>>(
     ensures usable { HasCleanDisk (state S.Store conn.new) → IfErr result (λ e. e ≡ OpenFault.Unusable → SeesForm Current (state S.Store conn.old)
         → IsTrue (state S.Store conn.old).is_open → (m : FinMap pair_cmp ReplyRow) → AreWritten m
         → ¬ HoldsPairs reply_columns ((state S.Store conn.old).now.trees 13) m) }
-    ensures same { HasCleanDisk (state S.Store conn.new) → OnOk result (IsUnchanged (state S.Store conn.old) (state S.Store conn.new)) }
-    ensures kept { HasCleanDisk (state S.Store conn.new) → KeepsCommit (state S.Store conn.old) (state S.Store conn.new) }
-    ensures outside { StaysOutside (state S.Store conn.old) (state S.Store conn.new) }
-    ensures other { IfErr result (λ e. e ≢ OpenFault.WrongVersion) }
+    ensures only_loads { OnlyLoads (state S.Store conn.old) (state S.Store conn.new) result }
     ensures cause { FailsForCause (SeesForm Current) (state S.Store conn.old) (state S.Store conn.new) result }
-    ensures crash { Survives (state S.Store conn.old) (state S.Store conn.new) (λ _. ⊥) }
 {
     let pass = test_table::<S, StoredAnswer, P>(
         conn,
@@ -298,12 +266,8 @@ pub(crate) fn test_answers<S: Alter, P: RowTest<StoredAnswer>>(
     ensures usable { HasCleanDisk (state S.Store conn.new) → IfErr result (λ e. e ≡ OpenFault.Unusable → SeesForm form (state S.Store conn.old)
         → IsTrue (state S.Store conn.old).is_open → (m : FinMap pair_cmp ReplyRow) → AreWritten m
         → ¬ HoldsKept form (state S.Store conn.old).now.trees m) }
-    ensures same { HasCleanDisk (state S.Store conn.new) → OnOk result (IsUnchanged (state S.Store conn.old) (state S.Store conn.new)) }
-    ensures kept { HasCleanDisk (state S.Store conn.new) → KeepsCommit (state S.Store conn.old) (state S.Store conn.new) }
-    ensures outside { StaysOutside (state S.Store conn.old) (state S.Store conn.new) }
-    ensures other { IfErr result (λ e. e ≢ OpenFault.WrongVersion) }
+    ensures only_loads { OnlyLoads (state S.Store conn.old) (state S.Store conn.new) result }
     ensures cause { FailsForCause (SeesForm form) (state S.Store conn.old) (state S.Store conn.new) result }
-    ensures crash { Survives (state S.Store conn.old) (state S.Store conn.new) (λ _. ⊥) }
 {
     match form {
         Form::Current => test_current_answers::<S, P>(conn, alloc),
@@ -321,12 +285,8 @@ pub(crate) fn read_bonds<S: Alter>(
     ensures listed { IfOk result (λ found. entries (bond_map found.items) ≡ map bond_entry found.items) }
     ensures usable { HasCleanDisk (state S.Store conn.new) → IfErr result (λ e. e ≡ OpenFault.Unusable → HasOurTables (state S.Store conn.old)
         → IsTrue (state S.Store conn.old).is_open → (m : FinMap pair_cmp BondRow) → ¬ HoldsPairs bond_columns ((state S.Store conn.old).now.trees 2) m) }
-    ensures same { HasCleanDisk (state S.Store conn.new) → OnOk result (IsUnchanged (state S.Store conn.old) (state S.Store conn.new)) }
-    ensures kept { HasCleanDisk (state S.Store conn.new) → KeepsCommit (state S.Store conn.old) (state S.Store conn.new) }
-    ensures outside { StaysOutside (state S.Store conn.old) (state S.Store conn.new) }
-    ensures other { IfErr result (λ e. e ≢ OpenFault.WrongVersion) }
+    ensures only_loads { OnlyLoads (state S.Store conn.old) (state S.Store conn.new) result }
     ensures cause { FailsForCause HasOurTables (state S.Store conn.old) (state S.Store conn.new) result }
-    ensures crash { Survives (state S.Store conn.old) (state S.Store conn.new) (λ _. ⊥) }
 {
     let found = read_table(
         conn,
@@ -351,12 +311,8 @@ pub(crate) fn read_lines<S: Alter>(
     ensures listed { IfOk result (λ found. entries (line_map found.items) ≡ map line_entry found.items) }
     ensures usable { HasCleanDisk (state S.Store conn.new) → IfErr result (λ e. e ≡ OpenFault.Unusable → HasOurTables (state S.Store conn.old)
         → IsTrue (state S.Store conn.old).is_open → (m : FinMap pair_cmp PaidRow) → ¬ HoldsPairs paid_columns ((state S.Store conn.old).now.trees 7) m) }
-    ensures same { HasCleanDisk (state S.Store conn.new) → OnOk result (IsUnchanged (state S.Store conn.old) (state S.Store conn.new)) }
-    ensures kept { HasCleanDisk (state S.Store conn.new) → KeepsCommit (state S.Store conn.old) (state S.Store conn.new) }
-    ensures outside { StaysOutside (state S.Store conn.old) (state S.Store conn.new) }
-    ensures other { IfErr result (λ e. e ≢ OpenFault.WrongVersion) }
+    ensures only_loads { OnlyLoads (state S.Store conn.old) (state S.Store conn.new) result }
     ensures cause { FailsForCause HasOurTables (state S.Store conn.old) (state S.Store conn.new) result }
-    ensures crash { Survives (state S.Store conn.old) (state S.Store conn.new) (λ _. ⊥) }
 {
     let found = read_table(
         conn,

@@ -1,16 +1,16 @@
 //! Reading the rows of a table one after another. Each is tested and dropped before the next.
 
-ghost use Rattle.std.specs.Prelude.{◌≡◌, ◌≢◌, ◌↔◌, List, [], true, IsTrue, IfOk, IfErr, OnOk, ⊤, map, ℕ};
+ghost use Rattle.std.specs.Prelude.{◌≡◌, ◌↔◌, List, [], true, IsTrue, IfOk, IfErr, ⊤, map, ℕ};
 ghost use Rattle.std.specs.List.{AllByRecursion};
-ghost use Rattle.sqlite.specs.State.{HasCleanDisk, IsUnchanged, KeepsCommit, Survives};
+ghost use Rattle.sqlite.specs.State.{HasCleanDisk};
 ghost use Rattle.sqlite.specs.Held.{state};
 ghost use Rattle.sqlite.specs.Schema.{Schema};
 ghost use Rattle.sqlite.specs.Term.{Term};
 ghost use Rattle.sqlite_value.specs.declared.keys.Key.{Key};
-ghost use Rattle.ee_store_schema.specs.Faults.{FailsForCause, StaysOutside};
+ghost use Rattle.ee_store_schema.specs.Faults.{FailsForCause};
 ghost use Rattle.ee_store_schema.specs.Forms.{SeesSchema};
 ghost use Rattle.ee_store_schema.specs.Asking.{IsNeverRefused};
-ghost use Rattle.ee_store_load.specs.Reading.{rises, whole_table, AsksForAll, ShowsAll, CanBeRead, OnlyAsks};
+ghost use Rattle.ee_store_load.specs.Reading.{rises, whole_table, AsksForAll, ShowsAll, CanBeRead, OnlyAsks, OnlyLoads};
 ghost use Rattle.ee_store_load.specs.Testing.{Tells};
 
 use crate::reading::{Gather, StoredRow, follows, gather_rows};
@@ -81,13 +81,9 @@ pub(crate) fn test_table<S: Alter, T: StoredRow + Drop, P: RowTest<T>>(
         → (schema : Schema) (tree : ℕ) (terms : List Term) (order : List (Term × Key)) → AsksForAll schema sql.now tree terms order
         → SeesSchema schema (state S.Store conn.old) → IsTrue (state S.Store conn.old).is_open
         → ¬ CanBeRead T.is_readable T.shown T.stands_before (state S.Store conn.old).now.trees (whole_table tree terms order)) }
-    ensures same { HasCleanDisk (state S.Store conn.new) → OnOk result (IsUnchanged (state S.Store conn.old) (state S.Store conn.new)) }
-    ensures kept { HasCleanDisk (state S.Store conn.new) → KeepsCommit (state S.Store conn.old) (state S.Store conn.new) }
-    ensures outside { StaysOutside (state S.Store conn.old) (state S.Store conn.new) }
-    ensures other { IfErr result (λ e. e ≢ OpenFault.WrongVersion) }
+    ensures only_loads { OnlyLoads (state S.Store conn.old) (state S.Store conn.new) result }
     ensures cause { (schema : Schema) → IsNeverRefused schema sql.now []
         → FailsForCause (SeesSchema schema) (state S.Store conn.old) (state S.Store conn.new) result }
-    ensures crash { Survives (state S.Store conn.old) (state S.Store conn.new) (λ _. ⊥) }
 {
     let none = TestedRows {
         last: None,

@@ -1,6 +1,6 @@
 //! Reading the whole store.
 
-ghost use Rattle.std.specs.Prelude.{◌≡◌, ◌≢◌, false, IsTrue, IfOk, IfErr, OnOk};
+ghost use Rattle.std.specs.Prelude.{◌≡◌, false, IsTrue, IfOk, IfErr, OnOk};
 ghost use Rattle.sqlite.specs.State.{HasCleanDisk, IsUnchanged, KeepsCommit, Survives};
 ghost use Rattle.sqlite.specs.Held.{state};
 ghost use Rattle.ee_store_tables.specs.Rows.{Rows};
@@ -9,7 +9,7 @@ ghost use Rattle.ee_store_schema.specs.Forms.{HoldsIn, SeesForm, HasOurTables, S
 ghost use Rattle.ee_store_load.specs.Opening.{IsOfForm, IsOtherVersion, AreReadable};
 ghost use Rattle.ee_store_load.specs.Shown.{AreWritten};
 ghost use Rattle.ee_store_schema.specs.Faults.{FailsForCause, StaysOutside};
-ghost use Rattle.ee_store_load.specs.Reading.{IsSoundNow};
+ghost use Rattle.ee_store_load.specs.Reading.{IsSoundNow, OnlyLoads};
 ghost use Rattle.ee_store_load.specs.Whole.{
   AreRead,
   HoldsRegister,
@@ -88,12 +88,8 @@ fn read_register<S: Alter>(
     ensures listed { IfOk result ListsRegister }
     ensures usable { HasCleanDisk (state S.Store conn.new) → IfErr result (λ e. e ≡ OpenFault.Unusable → HasOurTables (state S.Store conn.old)
         → IsTrue (state S.Store conn.old).is_open → (form : Form) (rows : Rows) → ¬ HoldsIn form (state S.Store conn.old).now.trees rows) }
-    ensures same { HasCleanDisk (state S.Store conn.new) → OnOk result (IsUnchanged (state S.Store conn.old) (state S.Store conn.new)) }
-    ensures kept { HasCleanDisk (state S.Store conn.new) → KeepsCommit (state S.Store conn.old) (state S.Store conn.new) }
-    ensures outside { StaysOutside (state S.Store conn.old) (state S.Store conn.new) }
-    ensures other { IfErr result (λ e. e ≢ OpenFault.WrongVersion) }
+    ensures only_loads { OnlyLoads (state S.Store conn.old) (state S.Store conn.new) result }
     ensures cause { FailsForCause HasOurTables (state S.Store conn.old) (state S.Store conn.new) result }
-    ensures crash { Survives (state S.Store conn.old) (state S.Store conn.new) (λ _. ⊥) }
 {
     let desk = read_desk(conn, alloc)?;
     let rates = read_rates(conn, alloc)?;
@@ -111,12 +107,8 @@ fn read_payments<S: Alter>(
     ensures listed { IfOk result ListsPayments }
     ensures usable { HasCleanDisk (state S.Store conn.new) → IfErr result (λ e. e ≡ OpenFault.Unusable → HasOurTables (state S.Store conn.old)
         → IsTrue (state S.Store conn.old).is_open → (form : Form) (rows : Rows) → ¬ HoldsIn form (state S.Store conn.old).now.trees rows) }
-    ensures same { HasCleanDisk (state S.Store conn.new) → OnOk result (IsUnchanged (state S.Store conn.old) (state S.Store conn.new)) }
-    ensures kept { HasCleanDisk (state S.Store conn.new) → KeepsCommit (state S.Store conn.old) (state S.Store conn.new) }
-    ensures outside { StaysOutside (state S.Store conn.old) (state S.Store conn.new) }
-    ensures other { IfErr result (λ e. e ≢ OpenFault.WrongVersion) }
+    ensures only_loads { OnlyLoads (state S.Store conn.old) (state S.Store conn.new) result }
     ensures cause { FailsForCause HasOurTables (state S.Store conn.old) (state S.Store conn.new) result }
-    ensures crash { Survives (state S.Store conn.old) (state S.Store conn.new) (λ _. ⊥) }
 {
     let tickets = read_tickets(conn, alloc)?;
     let lines = read_lines(conn, alloc)?;
@@ -135,12 +127,8 @@ fn read_records<S: Alter, P: RowTest<StoredAnswer>>(
     ensures usable { HasCleanDisk (state S.Store conn.new) → IfErr result (λ e. e ≡ OpenFault.Unusable → SeesForm form (state S.Store conn.old)
         → IsTrue (state S.Store conn.old).is_open → (rows : Rows) → AreWritten rows.answers
         → ¬ HoldsIn form (state S.Store conn.old).now.trees rows) }
-    ensures same { HasCleanDisk (state S.Store conn.new) → OnOk result (IsUnchanged (state S.Store conn.old) (state S.Store conn.new)) }
-    ensures kept { HasCleanDisk (state S.Store conn.new) → KeepsCommit (state S.Store conn.old) (state S.Store conn.new) }
-    ensures outside { StaysOutside (state S.Store conn.old) (state S.Store conn.new) }
-    ensures other { IfErr result (λ e. e ≢ OpenFault.WrongVersion) }
+    ensures only_loads { OnlyLoads (state S.Store conn.old) (state S.Store conn.new) result }
     ensures cause { FailsForCause (SeesForm form) (state S.Store conn.old) (state S.Store conn.new) result }
-    ensures crash { Survives (state S.Store conn.old) (state S.Store conn.new) (λ _. ⊥) }
 {
     let batches = read_batches(conn, alloc)?;
     let replies = test_answers::<S, P>(conn, alloc, form)?;
@@ -159,12 +147,8 @@ fn read_in<S: Alter, P: RowTest<StoredAnswer>>(
     ensures form { IfOk result (λ all. all.form ≡ form) }
     ensures usable { HasCleanDisk (state S.Store conn.new) → IfErr result (λ e. e ≡ OpenFault.Unusable → SeesForm form (state S.Store conn.old)
         → IsTrue (state S.Store conn.old).is_open → (rows : Rows) → AreWritten rows.answers → ¬ HoldsIn form (state S.Store conn.old).now.trees rows) }
-    ensures same { HasCleanDisk (state S.Store conn.new) → OnOk result (IsUnchanged (state S.Store conn.old) (state S.Store conn.new)) }
-    ensures kept { HasCleanDisk (state S.Store conn.new) → KeepsCommit (state S.Store conn.old) (state S.Store conn.new) }
-    ensures outside { StaysOutside (state S.Store conn.old) (state S.Store conn.new) }
-    ensures other { IfErr result (λ e. e ≢ OpenFault.WrongVersion) }
+    ensures only_loads { OnlyLoads (state S.Store conn.old) (state S.Store conn.new) result }
     ensures cause { FailsForCause (SeesForm form) (state S.Store conn.old) (state S.Store conn.new) result }
-    ensures crash { Survives (state S.Store conn.old) (state S.Store conn.new) (λ _. ⊥) }
 {
     let register = read_register(conn, alloc)?;
     let payments = read_payments(conn, alloc)?;

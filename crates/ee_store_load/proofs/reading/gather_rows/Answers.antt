@@ -23,24 +23,24 @@ returns-in_err-rows-clause-usable g c clean =
     let fails = held.err clean in
     told_as _ c.from_residual.result c.in_err-rows.field-0.0 c.from_residual.ensures.1 (λ unusable plain. absurd (query_usable old new c.args.sql.now [] _ plain (inl fails) unusable))
 
-pub returns-in_err-rows-clause-kept : goal.returns-in_err-rows-clause-kept
-returns-in_err-rows-clause-kept g c clean =
-    let old = state g.S.Store c.args.conn.now in
-    let new = state g.S.Store c.query.follows.lender-at-none in
-    let held = rw c.in_err-rows.was at c.query.follows.holds-at-none in
-    let fails = held.err clean in
-    query_keeps old new c.args.sql.now [] _ (inl fails)
-
-pub returns-in_err-rows-clause-crash : goal.returns-in_err-rows-clause-crash
-returns-in_err-rows-clause-crash g c =
-    let old = state g.S.Store c.args.conn.now in
-    let new = state g.S.Store c.query.follows.lender-at-none in
-    let held = c.query.follows.holds-at-none in
-    let kept : Survives old new (CommitsShowing c.args.sql.now [] old) = search rules in
-    commits_nothing c.args.sql.now c.requires.asks [] old new kept
-
-pub returns-in_err-rows-clause-outside : goal.returns-in_err-rows-clause-outside
-returns-in_err-rows-clause-outside g c = (rw c.in_err-rows.was at c.query.follows.holds-at-none).mode
+pub returns-in_err-rows-clause-only_loads : goal.returns-in_err-rows-clause-only_loads
+returns-in_err-rows-clause-only_loads g c = record {
+  same = search rules;
+  kept = λ clean.
+      let old = state g.S.Store c.args.conn.now in
+      let new = state g.S.Store c.query.follows.lender-at-none in
+      let held = rw c.in_err-rows.was at c.query.follows.holds-at-none in
+      let fails = held.err clean in
+      query_keeps old new c.args.sql.now [] _ (inl fails);
+  outside = (rw c.in_err-rows.was at c.query.follows.holds-at-none).mode;
+  other = search rules;
+  crash =
+      let old = state g.S.Store c.args.conn.now in
+      let new = state g.S.Store c.query.follows.lender-at-none in
+      let held = c.query.follows.holds-at-none in
+      let kept : Survives old new (CommitsShowing c.args.sql.now [] old) = search rules in
+      commits_nothing c.args.sql.now c.requires.asks [] old new kept;
+}
 
 pub rows-init : goal.rows-init
 rows-init g c =

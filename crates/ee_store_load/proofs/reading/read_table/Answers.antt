@@ -16,7 +16,7 @@ pub returns-clause-found : goal.returns-clause-found
 returns-clause-found g c clean schema tree terms order asks ours =
     let old = state g.S.Store c.args.conn.now in
     let new = state g.S.Store c.gather_rows.new.conn in
-    let is_open = (c.in_ok-found.ensures.same clean).0.was_open in
+    let is_open = (c.in_ok-found.ensures.only_loads.same clean).0.was_open in
     let read = c.in_ok-found.ensures.shown clean in
     let shown = subst (λ (rows : List g.row.T.Denot). Shown c.args.sql.now [] old new (map g.T.StoredRow.shown rows)) (sym read.2.0) read.1 in
     (is_open, shows_all old new schema c.args.sql.now tree terms order _ asks (ours is_open) shown)

@@ -2,8 +2,6 @@ use Rattle.std.proofs.Common.{◌∙◌, [], ◌∷◌, map, sym, subst}
 use Rattle.sqlite.specs.declared.types.Value.TheVariants.{Int}
 use Rattle.sqlite.specs.Effect.{Database}
 use Rattle.sqlite.specs.Held.{state}
-use Rattle.sqlite.proofs.Callers.{unchanged_then}
-use Rattle.sqlite.proofs.InsideLemmas.{keeps_then}
 use Rattle.ee_store_tables.specs.Keyed.{HoldsPairs}
 use Rattle.ee_store_tables.specs.Rows.{bond_columns}
 use Rattle.ee_store_tables.proofs.Lemmas.Transactions.{clean_before}
@@ -12,7 +10,7 @@ use Rattle.ee_store_load.specs.Reading.{ShowsAll}
 use Rattle.ee_store_schema.specs.Forms.{schema_of}
 use Rattle.ee_store_load.proofs.AskLemmas.{only_bonds, only_bond_rowids}
 use Rattle.ee_store_load.proofs.QuestionLemmas.{by_key, by_pair, bond_terms, rowid_terms, asks_bonds, asks_bond_rowids}
-use Rattle.ee_store_load.proofs.ReadLemmas.{still_form}
+use Rattle.ee_store_load.proofs.ReadLemmas.{still_form, loads_then, loads_made, loads_failed}
 use Rattle.ee_store_schema.proofs.Lemmas.Faults.{handed_on}
 use Rattle.ee_store_load.proofs.CanRead.{can_read_bonds, can_read_bond_rowids}
 use Rattle.ee_store_load.proofs.EachTable.{holds_bonds, listed_bonds}
@@ -27,40 +25,28 @@ read_table-requires g c = only_bonds
 pub test_table-requires : goal.test_table-requires
 test_table-requires g c = only_bond_rowids
 
-pub returns-in_err-_rowids-clause-kept : goal.returns-in_err-_rowids-clause-kept
-returns-in_err-_rowids-clause-kept g c clean =
+pub returns-in_err-_rowids-clause-only_loads : goal.returns-in_err-_rowids-clause-only_loads
+returns-in_err-_rowids-clause-only_loads g c =
     let at_0 = state g.S.Store c.args.conn.now in
     let at_1 = state g.S.Store c.read_table.new.conn in
     let at_2 = state g.S.Store c.test_table.new.conn in
-    let clean_2 = clean in
-    let clean_1 = clean_before at_1 at_2 c.test_table.ensures.crash clean_2 in
-    keeps_then at_0 at_1 at_2 (c.read_table.ensures.kept clean_1) (c.test_table.ensures.kept clean_2)
+    loads_failed at_0 at_2 c.in_err-_rowids.field-0.0 c.from_residual-in_err-_rowids.result c.from_residual-in_err-_rowids.ensures.1
+    (loads_then at_0 at_1 at_2 _ _ c.in_ok-found.ensures.only_loads c.in_err-_rowids.ensures.only_loads)
 
-pub returns-clause-kept : goal.returns-clause-kept
-returns-clause-kept g c clean =
+pub returns-clause-only_loads : goal.returns-clause-only_loads
+returns-clause-only_loads g c =
     let at_0 = state g.S.Store c.args.conn.now in
     let at_1 = state g.S.Store c.read_table.new.conn in
     let at_2 = state g.S.Store c.test_table.new.conn in
-    let clean_2 = clean in
-    let clean_1 = clean_before at_1 at_2 c.test_table.ensures.crash clean_2 in
-    keeps_then at_0 at_1 at_2 (c.read_table.ensures.kept clean_1) (c.test_table.ensures.kept clean_2)
-
-pub returns-clause-same : goal.returns-clause-same
-returns-clause-same g c clean =
-    let old = state g.S.Store c.args.conn.now in
-    let middle = state g.S.Store c.read_table.new.conn in
-    let new = state g.S.Store c.test_table.new.conn in
-    let before = clean_before middle new c.test_table.ensures.crash clean in
-    let same = c.in_ok-found.ensures.same before in
-    unchanged_then old middle new same (c.in_ok-_rowids.ensures.same clean)
+    loads_made at_0 at_2 _ _ (loads_then at_0 at_1 at_2 _ _ c.in_ok-found.ensures.only_loads c.in_ok-_rowids.ensures.only_loads)
 
 pub returns-clause-found : goal.returns-clause-found
 returns-clause-found g c clean ours sound =
     let old = state g.S.Store c.args.conn.now in
     let middle = state g.S.Store c.read_table.new.conn in
     let new = state g.S.Store c.test_table.new.conn in
-    let before = clean_before middle new c.test_table.ensures.crash clean in
-    let same = c.in_ok-found.ensures.same before in
+    let before = clean_before middle new c.test_table.ensures.only_loads.crash clean in
+    let same = c.in_ok-found.ensures.only_loads.same before in
     let ours_then = still_form ours.0 old middle same ours.1 in
     let shows = c.in_ok-found.ensures.found before (schema_of ours.0) 2 bond_terms by_pair (asks_bonds ours.0) ours.1 in
     let numbered = c.in_ok-_rowids.ensures.found clean in
@@ -84,8 +70,8 @@ returns-in_err-_rowids-clause-usable g c clean =
     let middle = state g.S.Store c.read_table.new.conn in
     let new = state g.S.Store c.test_table.new.conn in
     handed_on _ c.from_residual-in_err-_rowids.result c.in_err-_rowids.field-0.0 c.from_residual-in_err-_rowids.ensures.1 (λ unusable ours is_open m holds.
-    let before = clean_before middle new c.test_table.ensures.crash clean in
-    let same = c.in_ok-found.ensures.same before in
+    let before = clean_before middle new c.test_table.ensures.only_loads.crash clean in
+    let same = c.in_ok-found.ensures.only_loads.same before in
     let ours_then = still_form ours.0 old middle same ours.1 in
     c.in_err-_rowids.ensures.usable clean unusable (schema_of ours.0) 2 rowid_terms by_key (asks_bond_rowids ours.0) ours_then same.0.is_open (can_read_bond_rowids middle.now.trees m (subst (λ (d : Database). HoldsPairs bond_columns (d.trees 2) m) (sym same.0.now_is) holds)))
 
@@ -100,7 +86,7 @@ returns-in_err-_rowids-clause-cause g c clean ours limit =
     let old = state g.S.Store c.args.conn.now in
     let middle = state g.S.Store c.read_table.new.conn in
     let new = state g.S.Store c.test_table.new.conn in
-    let first = c.read_table.ensures.crash in
-    let ours_then = still_form ours.0 old middle (c.in_ok-found.ensures.same (clean_before middle new c.test_table.ensures.crash clean)) ours.1 in
+    let first = c.read_table.ensures.only_loads.crash in
+    let ours_then = still_form ours.0 old middle (c.in_ok-found.ensures.only_loads.same (clean_before middle new c.test_table.ensures.only_loads.crash clean)) ours.1 in
     handed_on (IsExcused old new) c.from_residual-in_err-_rowids.result c.in_err-_rowids.field-0.0 c.from_residual-in_err-_rowids.ensures.1
-    (excused_then old middle new first c.test_table.ensures.crash clean _ (c.in_err-_rowids.ensures.cause (schema_of ours.0) (never_bond_rowids ours.0) clean ours_then (first.limit ∙ limit)))
+    (excused_then old middle new first c.test_table.ensures.only_loads.crash clean _ (c.in_err-_rowids.ensures.cause (schema_of ours.0) (never_bond_rowids ours.0) clean ours_then (first.limit ∙ limit)))

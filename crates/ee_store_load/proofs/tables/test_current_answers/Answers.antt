@@ -3,8 +3,6 @@ use Rattle.std.specs.FinMap.{entries, entries_sorted, is_sorted}
 use Rattle.sqlite.specs.declared.types.Value.TheVariants.{Int}
 use Rattle.sqlite.specs.Effect.{Database}
 use Rattle.sqlite.specs.Held.{state}
-use Rattle.sqlite.proofs.Callers.{unchanged_then}
-use Rattle.sqlite.proofs.InsideLemmas.{keeps_then}
 use Rattle.ee_store_tables.specs.Keyed.{pair_cmp, HoldsPairs}
 use Rattle.ee_store_tables.specs.Rows.{reply_columns}
 use Rattle.ee_store_tables.proofs.Lemmas.Transactions.{clean_before}
@@ -15,7 +13,7 @@ use Rattle.ee_store_tables.specs.Tables.{counter_schema}
 use Rattle.ee_store_schema.specs.declared.forms.Form.TheVariants.{Current}
 use Rattle.ee_store_load.proofs.AskLemmas.{only_answers, only_answer_rowids}
 use Rattle.ee_store_load.proofs.QuestionLemmas.{by_key, by_pair, answer_terms, rowid_terms, asks_answers, asks_answer_rowids}
-use Rattle.ee_store_load.proofs.ReadLemmas.{still_form}
+use Rattle.ee_store_load.proofs.ReadLemmas.{still_form, loads_then, loads_made, loads_failed}
 use Rattle.ee_store_schema.specs.Migrating.{answer_entry}
 use Rattle.ee_store_schema.proofs.Lemmas.Faults.{handed_on}
 use Rattle.ee_store_load.proofs.CanRead.{can_read_answers, can_read_answer_rowids}
@@ -31,40 +29,28 @@ test_table-requires g c = only_answers
 pub test_table-requires-2 : goal.test_table-requires-2
 test_table-requires-2 g c = only_answer_rowids
 
-pub returns-in_err-_rowids-clause-kept : goal.returns-in_err-_rowids-clause-kept
-returns-in_err-_rowids-clause-kept g c clean =
+pub returns-in_err-_rowids-clause-only_loads : goal.returns-in_err-_rowids-clause-only_loads
+returns-in_err-_rowids-clause-only_loads g c =
     let at_0 = state g.S.Store c.args.conn.now in
     let at_1 = state g.S.Store c.test_table.new.conn in
     let at_2 = state g.S.Store c.test_table-2.new.conn in
-    let clean_2 = clean in
-    let clean_1 = clean_before at_1 at_2 c.test_table-2.ensures.crash clean_2 in
-    keeps_then at_0 at_1 at_2 (c.test_table.ensures.kept clean_1) (c.test_table-2.ensures.kept clean_2)
+    loads_failed at_0 at_2 c.in_err-_rowids.field-0.0 c.from_residual-in_err-_rowids.result c.from_residual-in_err-_rowids.ensures.1
+    (loads_then at_0 at_1 at_2 _ _ c.in_ok-pass.ensures.only_loads c.in_err-_rowids.ensures.only_loads)
 
-pub returns-clause-kept : goal.returns-clause-kept
-returns-clause-kept g c clean =
+pub returns-clause-only_loads : goal.returns-clause-only_loads
+returns-clause-only_loads g c =
     let at_0 = state g.S.Store c.args.conn.now in
     let at_1 = state g.S.Store c.test_table.new.conn in
     let at_2 = state g.S.Store c.test_table-2.new.conn in
-    let clean_2 = clean in
-    let clean_1 = clean_before at_1 at_2 c.test_table-2.ensures.crash clean_2 in
-    keeps_then at_0 at_1 at_2 (c.test_table.ensures.kept clean_1) (c.test_table-2.ensures.kept clean_2)
-
-pub returns-clause-same : goal.returns-clause-same
-returns-clause-same g c clean =
-    let old = state g.S.Store c.args.conn.now in
-    let middle = state g.S.Store c.test_table.new.conn in
-    let new = state g.S.Store c.test_table-2.new.conn in
-    let before = clean_before middle new c.test_table-2.ensures.crash clean in
-    let same = c.in_ok-pass.ensures.same before in
-    unchanged_then old middle new same (c.in_ok-_rowids.ensures.same clean)
+    loads_made at_0 at_2 _ _ (loads_then at_0 at_1 at_2 _ _ c.in_ok-pass.ensures.only_loads c.in_ok-_rowids.ensures.only_loads)
 
 pub returns-clause-found : goal.returns-clause-found
 returns-clause-found g c clean ours sound =
     let old = state g.S.Store c.args.conn.now in
     let middle = state g.S.Store c.test_table.new.conn in
     let new = state g.S.Store c.test_table-2.new.conn in
-    let before = clean_before middle new c.test_table-2.ensures.crash clean in
-    let same = c.in_ok-pass.ensures.same before in
+    let before = clean_before middle new c.test_table-2.ensures.only_loads.crash clean in
+    let same = c.in_ok-pass.ensures.only_loads.same before in
     let ours_then = still_form Current old middle same ours in
     let read = c.in_ok-pass.ensures.found before in
     let shows = read.1 counter_schema 13 answer_terms by_pair asks_answers ours in
@@ -95,8 +81,8 @@ returns-in_err-_rowids-clause-usable g c clean =
     let middle = state g.S.Store c.test_table.new.conn in
     let new = state g.S.Store c.test_table-2.new.conn in
     handed_on _ c.from_residual-in_err-_rowids.result c.in_err-_rowids.field-0.0 c.from_residual-in_err-_rowids.ensures.1 (λ unusable ours is_open m written holds.
-    let before = clean_before middle new c.test_table-2.ensures.crash clean in
-    let same = c.in_ok-pass.ensures.same before in
+    let before = clean_before middle new c.test_table-2.ensures.only_loads.crash clean in
+    let same = c.in_ok-pass.ensures.only_loads.same before in
     let ours_then = still_form Current old middle same ours in
     c.in_err-_rowids.ensures.usable clean unusable counter_schema 13 rowid_terms by_key asks_answer_rowids ours_then same.0.is_open (can_read_answer_rowids middle.now.trees m (subst (λ (d : Database). HoldsPairs reply_columns (d.trees 13) m) (sym same.0.now_is) holds)))
 
@@ -111,10 +97,10 @@ returns-in_err-_rowids-clause-cause g c clean ours limit =
     let old = state g.S.Store c.args.conn.now in
     let middle = state g.S.Store c.test_table.new.conn in
     let new = state g.S.Store c.test_table-2.new.conn in
-    let first = c.test_table.ensures.crash in
-    let ours_then = still_form Current old middle (c.in_ok-pass.ensures.same (clean_before middle new c.test_table-2.ensures.crash clean)) ours in
+    let first = c.test_table.ensures.only_loads.crash in
+    let ours_then = still_form Current old middle (c.in_ok-pass.ensures.only_loads.same (clean_before middle new c.test_table-2.ensures.only_loads.crash clean)) ours in
     handed_on (IsExcused old new) c.from_residual-in_err-_rowids.result c.in_err-_rowids.field-0.0 c.from_residual-in_err-_rowids.ensures.1
-    (excused_then old middle new first c.test_table-2.ensures.crash clean _ (c.in_err-_rowids.ensures.cause counter_schema never_answer_rowids clean ours_then (first.limit ∙ limit)))
+    (excused_then old middle new first c.test_table-2.ensures.only_loads.crash clean _ (c.in_err-_rowids.ensures.cause counter_schema never_answer_rowids clean ours_then (first.limit ∙ limit)))
 
 pub returns-clause-listed : goal.returns-clause-listed
 returns-clause-listed g c = subst (λ all. entries (answer_map all) ≡ map answer_entry all) (sym c.new.ensures.items) (listed_answers [] refl)

@@ -28,17 +28,8 @@ returns-clause-listed g c = search rules
 pub returns-clause-usable : goal.returns-clause-usable
 returns-clause-usable g c = search rules
 
-pub returns-clause-same : goal.returns-clause-same
-returns-clause-same g c = search rules
-
-pub returns-clause-kept : goal.returns-clause-kept
-returns-clause-kept g c = search rules
-
-pub returns-clause-other : goal.returns-clause-other
-returns-clause-other g c = search rules
+pub returns-clause-only_loads : goal.returns-clause-only_loads
+returns-clause-only_loads g c = search rules
 
 pub returns-clause-cause : goal.returns-clause-cause
 returns-clause-cause g c = search rules
-
-pub returns-clause-crash : goal.returns-clause-crash
-returns-clause-crash g c = search rules

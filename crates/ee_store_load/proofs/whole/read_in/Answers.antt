@@ -1,81 +1,69 @@
-use Rattle.std.proofs.Common.{sym, subst, ◌∙◌}
+use Rattle.std.proofs.Common.{Ok, Err, sym, subst, ◌∙◌}
 use Rattle.sqlite.specs.Effect.{Database}
 use Rattle.sqlite.specs.Held.{state}
-use Rattle.sqlite.proofs.Callers.{unchanged_then}
-use Rattle.sqlite.proofs.InsideLemmas.{keeps_then}
 use Rattle.ee_store_tables.proofs.Lemmas.Transactions.{clean_before}
 use Rattle.ee_store_load.specs.declared.whole.AllRows.{AllRows}
 use Rattle.ee_store_schema.specs.Faults.{IsExcused}
 use Rattle.ee_store_schema.specs.Forms.{HoldsIn}
 use Rattle.ee_store_load.specs.Shown.{answer_map}
+use Rattle.std.specs.Prelude.{⊤}
+use Rattle.ee_store_load.specs.Reading.{OnlyLoads}
 use Rattle.ee_store_load.specs.Whole.{rows_with, HoldsPayments, HoldsRecords, HoldsExtensions}
 use Rattle.ee_store_schema.proofs.Lemmas.Causes.{excused_then, then_survives}
 use Rattle.ee_store_schema.proofs.Lemmas.Faults.{handed_on}
-use Rattle.ee_store_load.proofs.ReadLemmas.{sound_after, still_form}
+use Rattle.ee_store_load.proofs.ReadLemmas.{sound_after, still_form, loads_then, loads_made, loads_failed}
 use Rattle.ee_store_load.proofs.WholeLemmas.{holds_all}
 use Rattle.ee_store_load.proofs.whole.read_in.Goals as goal
 
-pub returns-in_err-payments-clause-kept : goal.returns-in_err-payments-clause-kept
-returns-in_err-payments-clause-kept g c clean =
+pub returns-in_err-payments-clause-only_loads : goal.returns-in_err-payments-clause-only_loads
+returns-in_err-payments-clause-only_loads g c =
     let at_0 = state g.S.Store c.args.conn.now in
     let at_1 = state g.S.Store c.read_register.new.conn in
     let at_2 = state g.S.Store c.read_payments.new.conn in
-    let clean_2 = clean in
-    let clean_1 = clean_before at_1 at_2 c.read_payments.ensures.crash clean_2 in
-    keeps_then at_0 at_1 at_2 (c.read_register.ensures.kept clean_1) (c.read_payments.ensures.kept clean_2)
+    loads_failed at_0 at_2 c.in_err-payments.field-0.0 c.from_residual-in_err-payments.result c.from_residual-in_err-payments.ensures.1
+    (loads_then at_0 at_1 at_2 _ _ c.in_ok-register.ensures.only_loads c.in_err-payments.ensures.only_loads)
 
-pub returns-in_err-records-clause-kept : goal.returns-in_err-records-clause-kept
-returns-in_err-records-clause-kept g c clean =
+pub returns-in_err-records-clause-only_loads : goal.returns-in_err-records-clause-only_loads
+returns-in_err-records-clause-only_loads g c =
     let at_0 = state g.S.Store c.args.conn.now in
     let at_1 = state g.S.Store c.read_register.new.conn in
     let at_2 = state g.S.Store c.read_payments.new.conn in
     let at_3 = state g.S.Store c.read_records.new.conn in
-    let clean_3 = clean in
-    let clean_2 = clean_before at_2 at_3 c.read_records.ensures.crash clean_3 in
-    let clean_1 = clean_before at_1 at_2 c.read_payments.ensures.crash clean_2 in
-    keeps_then at_0 at_1 at_3 (c.read_register.ensures.kept clean_1) (keeps_then at_1 at_2 at_3 (c.read_payments.ensures.kept clean_2) (c.read_records.ensures.kept clean_3))
+    loads_failed at_0 at_3 c.in_err-records.field-0.0 c.from_residual-in_err-records.result c.from_residual-in_err-records.ensures.1
+    (loads_then at_0 at_1 at_3 _ _ c.in_ok-register.ensures.only_loads (loads_then at_1 at_2 at_3 _ _ c.in_ok-payments.ensures.only_loads c.in_err-records.ensures.only_loads))
 
-pub returns-in_err-extensions-clause-kept : goal.returns-in_err-extensions-clause-kept
-returns-in_err-extensions-clause-kept g c clean =
+pub returns-in_err-extensions-clause-only_loads : goal.returns-in_err-extensions-clause-only_loads
+returns-in_err-extensions-clause-only_loads g c =
     let at_0 = state g.S.Store c.args.conn.now in
     let at_1 = state g.S.Store c.read_register.new.conn in
     let at_2 = state g.S.Store c.read_payments.new.conn in
     let at_3 = state g.S.Store c.read_records.new.conn in
     let at_4 = state g.S.Store c.read_extensions.new.conn in
-    let clean_4 = clean in
-    let clean_3 = clean_before at_3 at_4 c.read_extensions.ensures.crash clean_4 in
-    let clean_2 = clean_before at_2 at_3 c.read_records.ensures.crash clean_3 in
-    let clean_1 = clean_before at_1 at_2 c.read_payments.ensures.crash clean_2 in
-    keeps_then at_0 at_1 at_4 (c.read_register.ensures.kept clean_1) (keeps_then at_1 at_2 at_4 (c.read_payments.ensures.kept clean_2) (keeps_then at_2 at_3 at_4 (c.read_records.ensures.kept clean_3) (c.read_extensions.ensures.kept clean_4)))
+    let last : OnlyLoads {X = ⊤} at_3 at_4 (Err c.in_err-extensions.field-0.0) = record {
+      same = λ _. tt;
+      kept = c.read_extensions.ensures.kept;
+      outside = c.read_extensions.ensures.outside;
+      other = c.in_err-extensions.ensures.other;
+      crash = c.read_extensions.ensures.crash;
+    } in
+    loads_failed at_0 at_4 c.in_err-extensions.field-0.0 c.from_residual-in_err-extensions.result c.from_residual-in_err-extensions.ensures.1
+    (loads_then at_0 at_1 at_4 _ _ c.in_ok-register.ensures.only_loads (loads_then at_1 at_2 at_4 _ _ c.in_ok-payments.ensures.only_loads (loads_then at_2 at_3 at_4 _ _ c.in_ok-records.ensures.only_loads last)))
 
-pub returns-clause-kept : goal.returns-clause-kept
-returns-clause-kept g c clean =
+pub returns-clause-only_loads : goal.returns-clause-only_loads
+returns-clause-only_loads g c =
     let at_0 = state g.S.Store c.args.conn.now in
     let at_1 = state g.S.Store c.read_register.new.conn in
     let at_2 = state g.S.Store c.read_payments.new.conn in
     let at_3 = state g.S.Store c.read_records.new.conn in
     let at_4 = state g.S.Store c.read_extensions.new.conn in
-    let clean_4 = clean in
-    let clean_3 = clean_before at_3 at_4 c.read_extensions.ensures.crash clean_4 in
-    let clean_2 = clean_before at_2 at_3 c.read_records.ensures.crash clean_3 in
-    let clean_1 = clean_before at_1 at_2 c.read_payments.ensures.crash clean_2 in
-    keeps_then at_0 at_1 at_4 (c.read_register.ensures.kept clean_1) (keeps_then at_1 at_2 at_4 (c.read_payments.ensures.kept clean_2) (keeps_then at_2 at_3 at_4 (c.read_records.ensures.kept clean_3) (c.read_extensions.ensures.kept clean_4)))
-
-pub returns-clause-same : goal.returns-clause-same
-returns-clause-same g c clean =
-    let at_0 = state g.S.Store c.args.conn.now in
-    let at_1 = state g.S.Store c.read_register.new.conn in
-    let at_2 = state g.S.Store c.read_payments.new.conn in
-    let at_3 = state g.S.Store c.read_records.new.conn in
-    let at_4 = state g.S.Store c.read_extensions.new.conn in
-    let clean_4 = clean in
-    let clean_3 = clean_before at_3 at_4 c.read_extensions.ensures.crash clean_4 in
-    let clean_2 = clean_before at_2 at_3 c.read_records.ensures.crash clean_3 in
-    let clean_1 = clean_before at_1 at_2 c.read_payments.ensures.crash clean_2 in
-    let same_1 = c.in_ok-register.ensures.same clean_1 in
-    let same_2 = c.in_ok-payments.ensures.same clean_2 in
-    let same_3 = c.in_ok-records.ensures.same clean_3 in
-    unchanged_then at_0 at_1 at_4 same_1 (unchanged_then at_1 at_2 at_4 same_2 (unchanged_then at_2 at_3 at_4 same_3 (c.in_ok-extensions.ensures.same clean_4 same_3.0.is_open)))
+    let last : OnlyLoads at_3 at_4 (Ok c.in_ok-extensions.extensions) = record {
+      same = λ clean. c.in_ok-extensions.ensures.same clean (c.in_ok-records.ensures.only_loads.same (clean_before at_3 at_4 c.read_extensions.ensures.crash clean)).0.is_open;
+      kept = c.read_extensions.ensures.kept;
+      outside = c.read_extensions.ensures.outside;
+      other = tt;
+      crash = c.read_extensions.ensures.crash;
+    } in
+    loads_made at_0 at_4 _ _ (loads_then at_0 at_1 at_4 _ _ c.in_ok-register.ensures.only_loads (loads_then at_1 at_2 at_4 _ _ c.in_ok-payments.ensures.only_loads (loads_then at_2 at_3 at_4 _ _ c.in_ok-records.ensures.only_loads last)))
 
 pub returns-clause-found : goal.returns-clause-found
 returns-clause-found g c clean ours_0 sound_0 =
@@ -86,15 +74,15 @@ returns-clause-found g c clean ours_0 sound_0 =
     let at_4 = state g.S.Store c.read_extensions.new.conn in
     let clean_4 = clean in
     let clean_3 = clean_before at_3 at_4 c.read_extensions.ensures.crash clean_4 in
-    let clean_2 = clean_before at_2 at_3 c.read_records.ensures.crash clean_3 in
-    let clean_1 = clean_before at_1 at_2 c.read_payments.ensures.crash clean_2 in
-    let same_1 = c.in_ok-register.ensures.same clean_1 in
+    let clean_2 = clean_before at_2 at_3 c.read_records.ensures.only_loads.crash clean_3 in
+    let clean_1 = clean_before at_1 at_2 c.read_payments.ensures.only_loads.crash clean_2 in
+    let same_1 = c.in_ok-register.ensures.only_loads.same clean_1 in
     let ours_1 = still_form c.args.form at_0 at_1 same_1 ours_0 in
     let sound_1 = sound_after at_0 at_1 same_1 sound_0 in
-    let same_2 = c.in_ok-payments.ensures.same clean_2 in
+    let same_2 = c.in_ok-payments.ensures.only_loads.same clean_2 in
     let ours_2 = still_form c.args.form at_1 at_2 same_2 ours_1 in
     let sound_2 = sound_after at_1 at_2 same_2 sound_1 in
-    let same_3 = c.in_ok-records.ensures.same clean_3 in
+    let same_3 = c.in_ok-records.ensures.only_loads.same clean_3 in
     let ours_3 = still_form c.args.form at_2 at_3 same_3 ours_2 in
     let sound_3 = sound_after at_2 at_3 same_3 sound_2 in
     let back_2 = same_2.0.now_is ∙ same_1.0.now_is in
@@ -152,8 +140,8 @@ returns-in_err-payments-clause-usable g c clean =
     let at_1 = state g.S.Store c.read_register.new.conn in
     let at_2 = state g.S.Store c.read_payments.new.conn in
     let clean_2 = clean in
-    let clean_1 = clean_before at_1 at_2 c.read_payments.ensures.crash clean_2 in
-    let same_1 = c.in_ok-register.ensures.same clean_1 in
+    let clean_1 = clean_before at_1 at_2 c.read_payments.ensures.only_loads.crash clean_2 in
+    let same_1 = c.in_ok-register.ensures.only_loads.same clean_1 in
     let ours_1 = still_form c.args.form at_0 at_1 same_1 ours_0 in
     let holds_1 = subst (λ (d : Database). HoldsIn c.args.form d.trees rows) (sym same_1.0.now_is) holds_0 in
     c.in_err-payments.ensures.usable clean_2 unusable (c.args.form, ours_1) same_1.0.is_open c.args.form rows holds_1)
@@ -166,12 +154,12 @@ returns-in_err-records-clause-usable g c clean =
     let at_2 = state g.S.Store c.read_payments.new.conn in
     let at_3 = state g.S.Store c.read_records.new.conn in
     let clean_3 = clean in
-    let clean_2 = clean_before at_2 at_3 c.read_records.ensures.crash clean_3 in
-    let clean_1 = clean_before at_1 at_2 c.read_payments.ensures.crash clean_2 in
-    let same_1 = c.in_ok-register.ensures.same clean_1 in
+    let clean_2 = clean_before at_2 at_3 c.read_records.ensures.only_loads.crash clean_3 in
+    let clean_1 = clean_before at_1 at_2 c.read_payments.ensures.only_loads.crash clean_2 in
+    let same_1 = c.in_ok-register.ensures.only_loads.same clean_1 in
     let ours_1 = still_form c.args.form at_0 at_1 same_1 ours_0 in
     let holds_1 = subst (λ (d : Database). HoldsIn c.args.form d.trees rows) (sym same_1.0.now_is) holds_0 in
-    let same_2 = c.in_ok-payments.ensures.same clean_2 in
+    let same_2 = c.in_ok-payments.ensures.only_loads.same clean_2 in
     let ours_2 = still_form c.args.form at_1 at_2 same_2 ours_1 in
     let holds_2 = subst (λ (d : Database). HoldsIn c.args.form d.trees rows) (sym same_2.0.now_is) holds_1 in
     c.in_err-records.ensures.usable clean_3 unusable ours_2 same_2.0.is_open rows written holds_2)
@@ -186,15 +174,15 @@ returns-in_err-extensions-clause-usable g c clean =
     let at_4 = state g.S.Store c.read_extensions.new.conn in
     let clean_4 = clean in
     let clean_3 = clean_before at_3 at_4 c.read_extensions.ensures.crash clean_4 in
-    let clean_2 = clean_before at_2 at_3 c.read_records.ensures.crash clean_3 in
-    let clean_1 = clean_before at_1 at_2 c.read_payments.ensures.crash clean_2 in
-    let same_1 = c.in_ok-register.ensures.same clean_1 in
+    let clean_2 = clean_before at_2 at_3 c.read_records.ensures.only_loads.crash clean_3 in
+    let clean_1 = clean_before at_1 at_2 c.read_payments.ensures.only_loads.crash clean_2 in
+    let same_1 = c.in_ok-register.ensures.only_loads.same clean_1 in
     let ours_1 = still_form c.args.form at_0 at_1 same_1 ours_0 in
     let holds_1 = subst (λ (d : Database). HoldsIn c.args.form d.trees rows) (sym same_1.0.now_is) holds_0 in
-    let same_2 = c.in_ok-payments.ensures.same clean_2 in
+    let same_2 = c.in_ok-payments.ensures.only_loads.same clean_2 in
     let ours_2 = still_form c.args.form at_1 at_2 same_2 ours_1 in
     let holds_2 = subst (λ (d : Database). HoldsIn c.args.form d.trees rows) (sym same_2.0.now_is) holds_1 in
-    let same_3 = c.in_ok-records.ensures.same clean_3 in
+    let same_3 = c.in_ok-records.ensures.only_loads.same clean_3 in
     let ours_3 = still_form c.args.form at_2 at_3 same_3 ours_2 in
     let holds_3 = subst (λ (d : Database). HoldsIn c.args.form d.trees rows) (sym same_3.0.now_is) holds_2 in
     c.in_err-extensions.ensures.usable clean_4 unusable ours_3 same_3.0.is_open rows holds_3)
@@ -211,11 +199,11 @@ returns-in_err-payments-clause-cause g c clean ours_0 limit =
     let at_1 = state g.S.Store c.read_register.new.conn in
     let at_2 = state g.S.Store c.read_payments.new.conn in
     let clean_2 = clean in
-    let clean_1 = clean_before at_1 at_2 c.read_payments.ensures.crash clean_2 in
-    let before_1 = c.read_register.ensures.crash in
-    let ours_1 = still_form c.args.form at_0 at_1 (c.in_ok-register.ensures.same clean_1) ours_0 in
+    let clean_1 = clean_before at_1 at_2 c.read_payments.ensures.only_loads.crash clean_2 in
+    let before_1 = c.read_register.ensures.only_loads.crash in
+    let ours_1 = still_form c.args.form at_0 at_1 (c.in_ok-register.ensures.only_loads.same clean_1) ours_0 in
     handed_on (IsExcused at_0 at_2) c.from_residual-in_err-payments.result c.in_err-payments.field-0.0 c.from_residual-in_err-payments.ensures.1
-    (excused_then at_0 at_1 at_2 before_1 c.read_payments.ensures.crash clean _ (c.in_err-payments.ensures.cause clean (c.args.form, ours_1) (before_1.limit ∙ limit)))
+    (excused_then at_0 at_1 at_2 before_1 c.read_payments.ensures.only_loads.crash clean _ (c.in_err-payments.ensures.cause clean (c.args.form, ours_1) (before_1.limit ∙ limit)))
 
 pub returns-in_err-records-clause-cause : goal.returns-in_err-records-clause-cause
 returns-in_err-records-clause-cause g c clean ours_0 limit =
@@ -224,14 +212,14 @@ returns-in_err-records-clause-cause g c clean ours_0 limit =
     let at_2 = state g.S.Store c.read_payments.new.conn in
     let at_3 = state g.S.Store c.read_records.new.conn in
     let clean_3 = clean in
-    let clean_2 = clean_before at_2 at_3 c.read_records.ensures.crash clean_3 in
-    let clean_1 = clean_before at_1 at_2 c.read_payments.ensures.crash clean_2 in
-    let before_1 = c.read_register.ensures.crash in
-    let before_2 = then_survives at_0 at_1 at_2 before_1 c.read_payments.ensures.crash in
-    let ours_1 = still_form c.args.form at_0 at_1 (c.in_ok-register.ensures.same clean_1) ours_0 in
-    let ours_2 = still_form c.args.form at_1 at_2 (c.in_ok-payments.ensures.same clean_2) ours_1 in
+    let clean_2 = clean_before at_2 at_3 c.read_records.ensures.only_loads.crash clean_3 in
+    let clean_1 = clean_before at_1 at_2 c.read_payments.ensures.only_loads.crash clean_2 in
+    let before_1 = c.read_register.ensures.only_loads.crash in
+    let before_2 = then_survives at_0 at_1 at_2 before_1 c.read_payments.ensures.only_loads.crash in
+    let ours_1 = still_form c.args.form at_0 at_1 (c.in_ok-register.ensures.only_loads.same clean_1) ours_0 in
+    let ours_2 = still_form c.args.form at_1 at_2 (c.in_ok-payments.ensures.only_loads.same clean_2) ours_1 in
     handed_on (IsExcused at_0 at_3) c.from_residual-in_err-records.result c.in_err-records.field-0.0 c.from_residual-in_err-records.ensures.1
-    (excused_then at_0 at_2 at_3 before_2 c.read_records.ensures.crash clean _ (c.in_err-records.ensures.cause clean ours_2 (before_2.limit ∙ limit)))
+    (excused_then at_0 at_2 at_3 before_2 c.read_records.ensures.only_loads.crash clean _ (c.in_err-records.ensures.cause clean ours_2 (before_2.limit ∙ limit)))
 
 pub returns-in_err-extensions-clause-cause : goal.returns-in_err-extensions-clause-cause
 returns-in_err-extensions-clause-cause g c clean ours_0 limit =
@@ -242,13 +230,13 @@ returns-in_err-extensions-clause-cause g c clean ours_0 limit =
     let at_4 = state g.S.Store c.read_extensions.new.conn in
     let clean_4 = clean in
     let clean_3 = clean_before at_3 at_4 c.read_extensions.ensures.crash clean_4 in
-    let clean_2 = clean_before at_2 at_3 c.read_records.ensures.crash clean_3 in
-    let clean_1 = clean_before at_1 at_2 c.read_payments.ensures.crash clean_2 in
-    let before_1 = c.read_register.ensures.crash in
-    let before_2 = then_survives at_0 at_1 at_2 before_1 c.read_payments.ensures.crash in
-    let before_3 = then_survives at_0 at_2 at_3 before_2 c.read_records.ensures.crash in
-    let ours_1 = still_form c.args.form at_0 at_1 (c.in_ok-register.ensures.same clean_1) ours_0 in
-    let ours_2 = still_form c.args.form at_1 at_2 (c.in_ok-payments.ensures.same clean_2) ours_1 in
-    let ours_3 = still_form c.args.form at_2 at_3 (c.in_ok-records.ensures.same clean_3) ours_2 in
+    let clean_2 = clean_before at_2 at_3 c.read_records.ensures.only_loads.crash clean_3 in
+    let clean_1 = clean_before at_1 at_2 c.read_payments.ensures.only_loads.crash clean_2 in
+    let before_1 = c.read_register.ensures.only_loads.crash in
+    let before_2 = then_survives at_0 at_1 at_2 before_1 c.read_payments.ensures.only_loads.crash in
+    let before_3 = then_survives at_0 at_2 at_3 before_2 c.read_records.ensures.only_loads.crash in
+    let ours_1 = still_form c.args.form at_0 at_1 (c.in_ok-register.ensures.only_loads.same clean_1) ours_0 in
+    let ours_2 = still_form c.args.form at_1 at_2 (c.in_ok-payments.ensures.only_loads.same clean_2) ours_1 in
+    let ours_3 = still_form c.args.form at_2 at_3 (c.in_ok-records.ensures.only_loads.same clean_3) ours_2 in
     handed_on (IsExcused at_0 at_4) c.from_residual-in_err-extensions.result c.in_err-extensions.field-0.0 c.from_residual-in_err-extensions.ensures.1
     (excused_then at_0 at_3 at_4 before_3 c.read_extensions.ensures.crash clean _ (c.in_err-extensions.ensures.cause clean ours_3 (before_3.limit ∙ limit)))

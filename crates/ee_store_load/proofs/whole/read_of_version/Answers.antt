@@ -40,7 +40,7 @@ returns-clause-found g c clean ours sound =
     let old = state g.S.Store c.args.conn.now in
     let middle = state g.S.Store c.known_version.new.conn in
     let new = state g.S.Store c.read_in.new.conn in
-    let same = c.in_ok-version.ensures.same (clean_before middle new c.read_in.ensures.crash clean) in
+    let same = c.in_ok-version.ensures.same (clean_before middle new c.read_in.ensures.only_loads.crash clean) in
     each_ok c.read_in.result (λ all it. (it.0, subst (λ (d : Database). HoldsIn c.args.form d.trees it.0) same.0.now_is it.1, it.2))
     (c.read_in.ensures.found clean (still_form c.args.form old middle same ours) (sound_after old middle same sound))
 
@@ -49,7 +49,7 @@ returns-clause-usable g c clean =
     let old = state g.S.Store c.args.conn.now in
     let middle = state g.S.Store c.known_version.new.conn in
     let new = state g.S.Store c.read_in.new.conn in
-    let before = clean_before middle new c.read_in.ensures.crash clean in
+    let before = clean_before middle new c.read_in.ensures.only_loads.crash clean in
     each_fault c.read_in.result (λ e usable unusable ours is_open rows sees readable.
     let same = c.in_ok-version.ensures.same before in
     usable unusable (still_form c.args.form old middle same ours) same.0.is_open rows readable.texts (subst (λ (d : Database). HoldsIn c.args.form d.trees rows) (sym same.0.now_is) (sees is_open).1)) (c.read_in.ensures.usable clean)
@@ -58,7 +58,7 @@ pub returns-clause-tested : goal.returns-clause-tested
 returns-clause-tested g c clean =
     let middle = state g.S.Store c.known_version.new.conn in
     let new = state g.S.Store c.read_in.new.conn in
-    let before = clean_before middle new c.read_in.ensures.crash clean in
+    let before = clean_before middle new c.read_in.ensures.only_loads.crash clean in
     each_fault c.read_in.result (λ e usable unusable ours is_open rows sees other. one_version c.args.form rows (of_form c.args.form c.in_ok-version.version rows (c.in_ok-version.ensures.named before c.args.form rows sees) (c.if-version.false ∙ c.version.ensures)) other) (c.read_in.ensures.usable clean)
 
 pub returns-clause-kept : goal.returns-clause-kept
@@ -66,8 +66,8 @@ returns-clause-kept g c clean =
     let old = state g.S.Store c.args.conn.now in
     let middle = state g.S.Store c.known_version.new.conn in
     let new = state g.S.Store c.read_in.new.conn in
-    let before = clean_before middle new c.read_in.ensures.crash clean in
-    keeps_then old middle new (c.known_version.ensures.kept before) (c.read_in.ensures.kept clean)
+    let before = clean_before middle new c.read_in.ensures.only_loads.crash clean in
+    keeps_then old middle new (c.known_version.ensures.kept before) (c.read_in.ensures.only_loads.kept clean)
 
 pub returns-in_err-version-clause-cause : goal.returns-in_err-version-clause-cause
 returns-in_err-version-clause-cause g c clean ours limit =
@@ -81,6 +81,6 @@ returns-clause-cause g c clean ours limit =
     let middle = state g.S.Store c.known_version.new.conn in
     let new = state g.S.Store c.read_in.new.conn in
     let first = c.known_version.ensures.crash in
-    let second = c.read_in.ensures.crash in
+    let second = c.read_in.ensures.only_loads.crash in
     let still = still_form c.args.form old middle (c.in_ok-version.ensures.same (clean_before middle new second clean)) ours in
     each_fault c.read_in.result (excused_then old middle new first second clean) (c.read_in.ensures.cause clean still (first.limit ∙ limit))

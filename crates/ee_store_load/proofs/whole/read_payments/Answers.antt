@@ -1,8 +1,6 @@
 use Rattle.std.proofs.Common.{sym, subst, ◌∙◌}
 use Rattle.sqlite.specs.Effect.{Database}
 use Rattle.sqlite.specs.Held.{state}
-use Rattle.sqlite.proofs.Callers.{unchanged_then}
-use Rattle.sqlite.proofs.InsideLemmas.{keeps_then}
 use Rattle.ee_store_tables.specs.Keyed.{HoldsPairs}
 use Rattle.ee_store_tables.specs.Rows.{paid_columns}
 use Rattle.ee_store_tables.proofs.Lemmas.Transactions.{clean_before}
@@ -10,38 +8,25 @@ use Rattle.ee_store_load.specs.Shown.{line_map}
 use Rattle.ee_store_schema.specs.Forms.{HoldsIn}
 use Rattle.ee_store_schema.proofs.Lemmas.Forms.{common}
 use Rattle.ee_store_schema.proofs.Lemmas.Faults.{handed_on}
-use Rattle.ee_store_load.proofs.ReadLemmas.{sound_after, still_ours}
+use Rattle.ee_store_load.proofs.ReadLemmas.{sound_after, still_ours, loads_then, loads_made, loads_failed}
 use Rattle.ee_store_schema.specs.Faults.{IsExcused}
 use Rattle.ee_store_schema.proofs.Lemmas.Causes.{excused_then}
 use Rattle.ee_store_load.proofs.whole.read_payments.Goals as goal
 
-pub returns-in_err-lines-clause-kept : goal.returns-in_err-lines-clause-kept
-returns-in_err-lines-clause-kept g c clean =
+pub returns-in_err-lines-clause-only_loads : goal.returns-in_err-lines-clause-only_loads
+returns-in_err-lines-clause-only_loads g c =
     let at_0 = state g.S.Store c.args.conn.now in
     let at_1 = state g.S.Store c.read_tickets.new.conn in
     let at_2 = state g.S.Store c.read_lines.new.conn in
-    let clean_2 = clean in
-    let clean_1 = clean_before at_1 at_2 c.read_lines.ensures.crash clean_2 in
-    keeps_then at_0 at_1 at_2 (c.read_tickets.ensures.kept clean_1) (c.read_lines.ensures.kept clean_2)
+    loads_failed at_0 at_2 c.in_err-lines.field-0.0 c.from_residual-in_err-lines.result c.from_residual-in_err-lines.ensures.1
+    (loads_then at_0 at_1 at_2 _ _ c.in_ok-tickets.ensures.only_loads c.in_err-lines.ensures.only_loads)
 
-pub returns-clause-kept : goal.returns-clause-kept
-returns-clause-kept g c clean =
+pub returns-clause-only_loads : goal.returns-clause-only_loads
+returns-clause-only_loads g c =
     let at_0 = state g.S.Store c.args.conn.now in
     let at_1 = state g.S.Store c.read_tickets.new.conn in
     let at_2 = state g.S.Store c.read_lines.new.conn in
-    let clean_2 = clean in
-    let clean_1 = clean_before at_1 at_2 c.read_lines.ensures.crash clean_2 in
-    keeps_then at_0 at_1 at_2 (c.read_tickets.ensures.kept clean_1) (c.read_lines.ensures.kept clean_2)
-
-pub returns-clause-same : goal.returns-clause-same
-returns-clause-same g c clean =
-    let old = state g.S.Store c.args.conn.now in
-    let at_1 = state g.S.Store c.read_tickets.new.conn in
-    let at_2 = state g.S.Store c.read_lines.new.conn in
-    let clean_2 = clean in
-    let clean_1 = clean_before at_1 at_2 c.read_lines.ensures.crash clean_2 in
-    let same_1 = c.in_ok-tickets.ensures.same clean_1 in
-    unchanged_then old at_1 at_2 same_1 (c.in_ok-lines.ensures.same clean_2)
+    loads_made at_0 at_2 _ _ (loads_then at_0 at_1 at_2 _ _ c.in_ok-tickets.ensures.only_loads c.in_ok-lines.ensures.only_loads)
 
 pub returns-clause-found : goal.returns-clause-found
 returns-clause-found g c clean ours sound =
@@ -49,8 +34,8 @@ returns-clause-found g c clean ours sound =
     let at_1 = state g.S.Store c.read_tickets.new.conn in
     let at_2 = state g.S.Store c.read_lines.new.conn in
     let clean_2 = clean in
-    let clean_1 = clean_before at_1 at_2 c.read_lines.ensures.crash clean_2 in
-    let same_1 = c.in_ok-tickets.ensures.same clean_1 in
+    let clean_1 = clean_before at_1 at_2 c.read_lines.ensures.only_loads.crash clean_2 in
+    let same_1 = c.in_ok-tickets.ensures.only_loads.same clean_1 in
     let ours_1 = still_ours old at_1 same_1 ours in
     let sound_1 = sound_after old at_1 same_1 sound in
     let tickets_held = c.in_ok-tickets.ensures.found clean_1 ours sound in
@@ -75,8 +60,8 @@ returns-in_err-lines-clause-usable g c clean =
     let at_1 = state g.S.Store c.read_tickets.new.conn in
     let at_2 = state g.S.Store c.read_lines.new.conn in
     let clean_2 = clean in
-    let clean_1 = clean_before at_1 at_2 c.read_lines.ensures.crash clean_2 in
-    let same_1 = c.in_ok-tickets.ensures.same clean_1 in
+    let clean_1 = clean_before at_1 at_2 c.read_lines.ensures.only_loads.crash clean_2 in
+    let same_1 = c.in_ok-tickets.ensures.only_loads.same clean_1 in
     let ours_1 = still_ours at_0 at_1 same_1 ours_0 in
     let open_1 = same_1.0.is_open in
     let holds_1 = subst (λ (d : Database). HoldsIn form d.trees rows) (sym same_1.0.now_is) holds_0 in
@@ -94,8 +79,8 @@ returns-in_err-lines-clause-cause g c clean ours_0 limit =
     let at_1 = state g.S.Store c.read_tickets.new.conn in
     let at_2 = state g.S.Store c.read_lines.new.conn in
     let clean_2 = clean in
-    let clean_1 = clean_before at_1 at_2 c.read_lines.ensures.crash clean_2 in
-    let before_1 = c.read_tickets.ensures.crash in
-    let ours_1 = still_ours at_0 at_1 (c.in_ok-tickets.ensures.same clean_1) ours_0 in
+    let clean_1 = clean_before at_1 at_2 c.read_lines.ensures.only_loads.crash clean_2 in
+    let before_1 = c.read_tickets.ensures.only_loads.crash in
+    let ours_1 = still_ours at_0 at_1 (c.in_ok-tickets.ensures.only_loads.same clean_1) ours_0 in
     handed_on (IsExcused at_0 at_2) c.from_residual-in_err-lines.result c.in_err-lines.field-0.0 c.from_residual-in_err-lines.ensures.1
-    (excused_then at_0 at_1 at_2 before_1 c.read_lines.ensures.crash clean _ (c.in_err-lines.ensures.cause clean ours_1 (before_1.limit ∙ limit)))
+    (excused_then at_0 at_1 at_2 before_1 c.read_lines.ensures.only_loads.crash clean _ (c.in_err-lines.ensures.cause clean ours_1 (before_1.limit ∙ limit)))

@@ -1,46 +1,31 @@
 use Rattle.std.proofs.Common.{sym, subst, ◌∙◌}
 use Rattle.sqlite.specs.Effect.{Database}
 use Rattle.sqlite.specs.Held.{state}
-use Rattle.sqlite.proofs.Callers.{unchanged_then}
-use Rattle.sqlite.proofs.InsideLemmas.{keeps_then}
 use Rattle.ee_store_tables.proofs.Lemmas.Transactions.{clean_before}
 use Rattle.ee_store_load.specs.Whole.{HoldsTested}
 use Rattle.ee_store_load.proofs.WholeLemmas.{holds_kept}
 use Rattle.ee_store_schema.specs.Forms.{HoldsIn}
 use Rattle.ee_store_schema.proofs.Lemmas.Forms.{common}
 use Rattle.ee_store_schema.proofs.Lemmas.Faults.{handed_on}
-use Rattle.ee_store_load.proofs.ReadLemmas.{sound_after, still_form}
+use Rattle.ee_store_load.proofs.ReadLemmas.{sound_after, still_form, loads_then, loads_made, loads_failed}
 use Rattle.ee_store_schema.specs.Faults.{IsExcused}
 use Rattle.ee_store_schema.proofs.Lemmas.Causes.{excused_then}
 use Rattle.ee_store_load.proofs.whole.read_records.Goals as goal
 
-pub returns-in_err-replies-clause-kept : goal.returns-in_err-replies-clause-kept
-returns-in_err-replies-clause-kept g c clean =
+pub returns-in_err-replies-clause-only_loads : goal.returns-in_err-replies-clause-only_loads
+returns-in_err-replies-clause-only_loads g c =
     let at_0 = state g.S.Store c.args.conn.now in
     let at_1 = state g.S.Store c.read_batches.new.conn in
     let at_2 = state g.S.Store c.test_answers.new.conn in
-    let clean_2 = clean in
-    let clean_1 = clean_before at_1 at_2 c.test_answers.ensures.crash clean_2 in
-    keeps_then at_0 at_1 at_2 (c.read_batches.ensures.kept clean_1) (c.test_answers.ensures.kept clean_2)
+    loads_failed at_0 at_2 c.in_err-replies.field-0.0 c.from_residual-in_err-replies.result c.from_residual-in_err-replies.ensures.1
+    (loads_then at_0 at_1 at_2 _ _ c.in_ok-batches.ensures.only_loads c.in_err-replies.ensures.only_loads)
 
-pub returns-clause-kept : goal.returns-clause-kept
-returns-clause-kept g c clean =
+pub returns-clause-only_loads : goal.returns-clause-only_loads
+returns-clause-only_loads g c =
     let at_0 = state g.S.Store c.args.conn.now in
     let at_1 = state g.S.Store c.read_batches.new.conn in
     let at_2 = state g.S.Store c.test_answers.new.conn in
-    let clean_2 = clean in
-    let clean_1 = clean_before at_1 at_2 c.test_answers.ensures.crash clean_2 in
-    keeps_then at_0 at_1 at_2 (c.read_batches.ensures.kept clean_1) (c.test_answers.ensures.kept clean_2)
-
-pub returns-clause-same : goal.returns-clause-same
-returns-clause-same g c clean =
-    let old = state g.S.Store c.args.conn.now in
-    let at_1 = state g.S.Store c.read_batches.new.conn in
-    let at_2 = state g.S.Store c.test_answers.new.conn in
-    let clean_2 = clean in
-    let clean_1 = clean_before at_1 at_2 c.test_answers.ensures.crash clean_2 in
-    let same_1 = c.in_ok-batches.ensures.same clean_1 in
-    unchanged_then old at_1 at_2 same_1 (c.in_ok-replies.ensures.same clean_2)
+    loads_made at_0 at_2 _ _ (loads_then at_0 at_1 at_2 _ _ c.in_ok-batches.ensures.only_loads c.in_ok-replies.ensures.only_loads)
 
 pub returns-clause-found : goal.returns-clause-found
 returns-clause-found g c clean ours sound =
@@ -48,8 +33,8 @@ returns-clause-found g c clean ours sound =
     let at_1 = state g.S.Store c.read_batches.new.conn in
     let at_2 = state g.S.Store c.test_answers.new.conn in
     let clean_2 = clean in
-    let clean_1 = clean_before at_1 at_2 c.test_answers.ensures.crash clean_2 in
-    let same_1 = c.in_ok-batches.ensures.same clean_1 in
+    let clean_1 = clean_before at_1 at_2 c.test_answers.ensures.only_loads.crash clean_2 in
+    let same_1 = c.in_ok-batches.ensures.only_loads.same clean_1 in
     let ours_1 = still_form c.args.form old at_1 same_1 ours in
     let sound_1 = sound_after old at_1 same_1 sound in
     let batches_held = c.in_ok-batches.ensures.found clean_1 (c.args.form, ours) sound in
@@ -74,8 +59,8 @@ returns-in_err-replies-clause-usable g c clean =
     let at_1 = state g.S.Store c.read_batches.new.conn in
     let at_2 = state g.S.Store c.test_answers.new.conn in
     let clean_2 = clean in
-    let clean_1 = clean_before at_1 at_2 c.test_answers.ensures.crash clean_2 in
-    let same_1 = c.in_ok-batches.ensures.same clean_1 in
+    let clean_1 = clean_before at_1 at_2 c.test_answers.ensures.only_loads.crash clean_2 in
+    let same_1 = c.in_ok-batches.ensures.only_loads.same clean_1 in
     let ours_1 = still_form c.args.form at_0 at_1 same_1 ours_0 in
     let open_1 = same_1.0.is_open in
     let holds_1 = subst (λ (d : Database). HoldsIn c.args.form d.trees rows) (sym same_1.0.now_is) holds_0 in
@@ -93,8 +78,8 @@ returns-in_err-replies-clause-cause g c clean ours_0 limit =
     let at_1 = state g.S.Store c.read_batches.new.conn in
     let at_2 = state g.S.Store c.test_answers.new.conn in
     let clean_2 = clean in
-    let clean_1 = clean_before at_1 at_2 c.test_answers.ensures.crash clean_2 in
-    let before_1 = c.read_batches.ensures.crash in
-    let ours_1 = still_form c.args.form at_0 at_1 (c.in_ok-batches.ensures.same clean_1) ours_0 in
+    let clean_1 = clean_before at_1 at_2 c.test_answers.ensures.only_loads.crash clean_2 in
+    let before_1 = c.read_batches.ensures.only_loads.crash in
+    let ours_1 = still_form c.args.form at_0 at_1 (c.in_ok-batches.ensures.only_loads.same clean_1) ours_0 in
     handed_on (IsExcused at_0 at_2) c.from_residual-in_err-replies.result c.in_err-replies.field-0.0 c.from_residual-in_err-replies.ensures.1
-    (excused_then at_0 at_1 at_2 before_1 c.test_answers.ensures.crash clean _ (c.in_err-replies.ensures.cause clean ours_1 (before_1.limit ∙ limit)))
+    (excused_then at_0 at_1 at_2 before_1 c.test_answers.ensures.only_loads.crash clean _ (c.in_err-replies.ensures.cause clean ours_1 (before_1.limit ∙ limit)))

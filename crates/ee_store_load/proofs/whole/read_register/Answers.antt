@@ -1,8 +1,6 @@
 use Rattle.std.proofs.Common.{sym, subst, ◌∙◌}
 use Rattle.sqlite.specs.Effect.{Database}
 use Rattle.sqlite.specs.Held.{state}
-use Rattle.sqlite.proofs.Callers.{unchanged_then}
-use Rattle.sqlite.proofs.InsideLemmas.{keeps_then}
 use Rattle.ee_store_tables.specs.Keyed.{HoldsMap, HoldsPairs}
 use Rattle.ee_store_tables.specs.Rows.{rate_columns, bond_columns}
 use Rattle.ee_store_tables.proofs.Lemmas.Transactions.{clean_before}
@@ -10,54 +8,35 @@ use Rattle.ee_store_load.specs.Shown.{rate_map, bond_map}
 use Rattle.ee_store_schema.specs.Forms.{HoldsIn}
 use Rattle.ee_store_schema.proofs.Lemmas.Forms.{common}
 use Rattle.ee_store_schema.proofs.Lemmas.Faults.{handed_on}
-use Rattle.ee_store_load.proofs.ReadLemmas.{sound_after, still_ours}
+use Rattle.ee_store_load.proofs.ReadLemmas.{sound_after, still_ours, loads_then, loads_made, loads_failed}
 use Rattle.ee_store_schema.specs.Faults.{IsExcused}
 use Rattle.ee_store_schema.proofs.Lemmas.Causes.{excused_then, then_survives}
 use Rattle.ee_store_load.proofs.whole.read_register.Goals as goal
 
-pub returns-in_err-rates-clause-kept : goal.returns-in_err-rates-clause-kept
-returns-in_err-rates-clause-kept g c clean =
+pub returns-in_err-rates-clause-only_loads : goal.returns-in_err-rates-clause-only_loads
+returns-in_err-rates-clause-only_loads g c =
     let at_0 = state g.S.Store c.args.conn.now in
     let at_1 = state g.S.Store c.read_desk.new.conn in
     let at_2 = state g.S.Store c.read_rates.new.conn in
-    let clean_2 = clean in
-    let clean_1 = clean_before at_1 at_2 c.read_rates.ensures.crash clean_2 in
-    keeps_then at_0 at_1 at_2 (c.read_desk.ensures.kept clean_1) (c.read_rates.ensures.kept clean_2)
+    loads_failed at_0 at_2 c.in_err-rates.field-0.0 c.from_residual-in_err-rates.result c.from_residual-in_err-rates.ensures.1
+    (loads_then at_0 at_1 at_2 _ _ c.in_ok-desk.ensures.only_loads c.in_err-rates.ensures.only_loads)
 
-pub returns-in_err-bonds-clause-kept : goal.returns-in_err-bonds-clause-kept
-returns-in_err-bonds-clause-kept g c clean =
-    let at_0 = state g.S.Store c.args.conn.now in
-    let at_1 = state g.S.Store c.read_desk.new.conn in
-    let at_2 = state g.S.Store c.read_rates.new.conn in
-    let at_3 = state g.S.Store c.read_bonds.new.conn in
-    let clean_3 = clean in
-    let clean_2 = clean_before at_2 at_3 c.read_bonds.ensures.crash clean_3 in
-    let clean_1 = clean_before at_1 at_2 c.read_rates.ensures.crash clean_2 in
-    keeps_then at_0 at_1 at_3 (c.read_desk.ensures.kept clean_1) (keeps_then at_1 at_2 at_3 (c.read_rates.ensures.kept clean_2) (c.read_bonds.ensures.kept clean_3))
-
-pub returns-clause-kept : goal.returns-clause-kept
-returns-clause-kept g c clean =
+pub returns-in_err-bonds-clause-only_loads : goal.returns-in_err-bonds-clause-only_loads
+returns-in_err-bonds-clause-only_loads g c =
     let at_0 = state g.S.Store c.args.conn.now in
     let at_1 = state g.S.Store c.read_desk.new.conn in
     let at_2 = state g.S.Store c.read_rates.new.conn in
     let at_3 = state g.S.Store c.read_bonds.new.conn in
-    let clean_3 = clean in
-    let clean_2 = clean_before at_2 at_3 c.read_bonds.ensures.crash clean_3 in
-    let clean_1 = clean_before at_1 at_2 c.read_rates.ensures.crash clean_2 in
-    keeps_then at_0 at_1 at_3 (c.read_desk.ensures.kept clean_1) (keeps_then at_1 at_2 at_3 (c.read_rates.ensures.kept clean_2) (c.read_bonds.ensures.kept clean_3))
+    loads_failed at_0 at_3 c.in_err-bonds.field-0.0 c.from_residual-in_err-bonds.result c.from_residual-in_err-bonds.ensures.1
+    (loads_then at_0 at_1 at_3 _ _ c.in_ok-desk.ensures.only_loads (loads_then at_1 at_2 at_3 _ _ c.in_ok-rates.ensures.only_loads c.in_err-bonds.ensures.only_loads))
 
-pub returns-clause-same : goal.returns-clause-same
-returns-clause-same g c clean =
-    let old = state g.S.Store c.args.conn.now in
+pub returns-clause-only_loads : goal.returns-clause-only_loads
+returns-clause-only_loads g c =
+    let at_0 = state g.S.Store c.args.conn.now in
     let at_1 = state g.S.Store c.read_desk.new.conn in
     let at_2 = state g.S.Store c.read_rates.new.conn in
     let at_3 = state g.S.Store c.read_bonds.new.conn in
-    let clean_3 = clean in
-    let clean_2 = clean_before at_2 at_3 c.read_bonds.ensures.crash clean_3 in
-    let clean_1 = clean_before at_1 at_2 c.read_rates.ensures.crash clean_2 in
-    let same_1 = c.in_ok-desk.ensures.same clean_1 in
-    let same_2 = c.in_ok-rates.ensures.same clean_2 in
-    unchanged_then old at_1 at_3 same_1 (unchanged_then at_1 at_2 at_3 same_2 (c.in_ok-bonds.ensures.same clean_3))
+    loads_made at_0 at_3 _ _ (loads_then at_0 at_1 at_3 _ _ c.in_ok-desk.ensures.only_loads (loads_then at_1 at_2 at_3 _ _ c.in_ok-rates.ensures.only_loads c.in_ok-bonds.ensures.only_loads))
 
 pub returns-clause-found : goal.returns-clause-found
 returns-clause-found g c clean ours sound =
@@ -66,12 +45,12 @@ returns-clause-found g c clean ours sound =
     let at_2 = state g.S.Store c.read_rates.new.conn in
     let at_3 = state g.S.Store c.read_bonds.new.conn in
     let clean_3 = clean in
-    let clean_2 = clean_before at_2 at_3 c.read_bonds.ensures.crash clean_3 in
-    let clean_1 = clean_before at_1 at_2 c.read_rates.ensures.crash clean_2 in
-    let same_1 = c.in_ok-desk.ensures.same clean_1 in
+    let clean_2 = clean_before at_2 at_3 c.read_bonds.ensures.only_loads.crash clean_3 in
+    let clean_1 = clean_before at_1 at_2 c.read_rates.ensures.only_loads.crash clean_2 in
+    let same_1 = c.in_ok-desk.ensures.only_loads.same clean_1 in
     let ours_1 = still_ours old at_1 same_1 ours in
     let sound_1 = sound_after old at_1 same_1 sound in
-    let same_2 = c.in_ok-rates.ensures.same clean_2 in
+    let same_2 = c.in_ok-rates.ensures.only_loads.same clean_2 in
     let ours_2 = still_ours at_1 at_2 same_2 ours_1 in
     let sound_2 = sound_after at_1 at_2 same_2 sound_1 in
     let desk_held = c.in_ok-desk.ensures.found clean_1 ours sound in
@@ -97,8 +76,8 @@ returns-in_err-rates-clause-usable g c clean =
     let at_1 = state g.S.Store c.read_desk.new.conn in
     let at_2 = state g.S.Store c.read_rates.new.conn in
     let clean_2 = clean in
-    let clean_1 = clean_before at_1 at_2 c.read_rates.ensures.crash clean_2 in
-    let same_1 = c.in_ok-desk.ensures.same clean_1 in
+    let clean_1 = clean_before at_1 at_2 c.read_rates.ensures.only_loads.crash clean_2 in
+    let same_1 = c.in_ok-desk.ensures.only_loads.same clean_1 in
     let ours_1 = still_ours at_0 at_1 same_1 ours_0 in
     let open_1 = same_1.0.is_open in
     let holds_1 = subst (λ (d : Database). HoldsIn form d.trees rows) (sym same_1.0.now_is) holds_0 in
@@ -112,13 +91,13 @@ returns-in_err-bonds-clause-usable g c clean =
     let at_2 = state g.S.Store c.read_rates.new.conn in
     let at_3 = state g.S.Store c.read_bonds.new.conn in
     let clean_3 = clean in
-    let clean_2 = clean_before at_2 at_3 c.read_bonds.ensures.crash clean_3 in
-    let clean_1 = clean_before at_1 at_2 c.read_rates.ensures.crash clean_2 in
-    let same_1 = c.in_ok-desk.ensures.same clean_1 in
+    let clean_2 = clean_before at_2 at_3 c.read_bonds.ensures.only_loads.crash clean_3 in
+    let clean_1 = clean_before at_1 at_2 c.read_rates.ensures.only_loads.crash clean_2 in
+    let same_1 = c.in_ok-desk.ensures.only_loads.same clean_1 in
     let ours_1 = still_ours at_0 at_1 same_1 ours_0 in
     let open_1 = same_1.0.is_open in
     let holds_1 = subst (λ (d : Database). HoldsIn form d.trees rows) (sym same_1.0.now_is) holds_0 in
-    let same_2 = c.in_ok-rates.ensures.same clean_2 in
+    let same_2 = c.in_ok-rates.ensures.only_loads.same clean_2 in
     let ours_2 = still_ours at_1 at_2 same_2 ours_1 in
     let open_2 = same_2.0.is_open in
     let holds_2 = subst (λ (d : Database). HoldsIn form d.trees rows) (sym same_2.0.now_is) holds_1 in
@@ -136,11 +115,11 @@ returns-in_err-rates-clause-cause g c clean ours_0 limit =
     let at_1 = state g.S.Store c.read_desk.new.conn in
     let at_2 = state g.S.Store c.read_rates.new.conn in
     let clean_2 = clean in
-    let clean_1 = clean_before at_1 at_2 c.read_rates.ensures.crash clean_2 in
-    let before_1 = c.read_desk.ensures.crash in
-    let ours_1 = still_ours at_0 at_1 (c.in_ok-desk.ensures.same clean_1) ours_0 in
+    let clean_1 = clean_before at_1 at_2 c.read_rates.ensures.only_loads.crash clean_2 in
+    let before_1 = c.read_desk.ensures.only_loads.crash in
+    let ours_1 = still_ours at_0 at_1 (c.in_ok-desk.ensures.only_loads.same clean_1) ours_0 in
     handed_on (IsExcused at_0 at_2) c.from_residual-in_err-rates.result c.in_err-rates.field-0.0 c.from_residual-in_err-rates.ensures.1
-    (excused_then at_0 at_1 at_2 before_1 c.read_rates.ensures.crash clean _ (c.in_err-rates.ensures.cause clean ours_1 (before_1.limit ∙ limit)))
+    (excused_then at_0 at_1 at_2 before_1 c.read_rates.ensures.only_loads.crash clean _ (c.in_err-rates.ensures.cause clean ours_1 (before_1.limit ∙ limit)))
 
 pub returns-in_err-bonds-clause-cause : goal.returns-in_err-bonds-clause-cause
 returns-in_err-bonds-clause-cause g c clean ours_0 limit =
@@ -149,11 +128,11 @@ returns-in_err-bonds-clause-cause g c clean ours_0 limit =
     let at_2 = state g.S.Store c.read_rates.new.conn in
     let at_3 = state g.S.Store c.read_bonds.new.conn in
     let clean_3 = clean in
-    let clean_2 = clean_before at_2 at_3 c.read_bonds.ensures.crash clean_3 in
-    let clean_1 = clean_before at_1 at_2 c.read_rates.ensures.crash clean_2 in
-    let before_1 = c.read_desk.ensures.crash in
-    let before_2 = then_survives at_0 at_1 at_2 before_1 c.read_rates.ensures.crash in
-    let ours_1 = still_ours at_0 at_1 (c.in_ok-desk.ensures.same clean_1) ours_0 in
-    let ours_2 = still_ours at_1 at_2 (c.in_ok-rates.ensures.same clean_2) ours_1 in
+    let clean_2 = clean_before at_2 at_3 c.read_bonds.ensures.only_loads.crash clean_3 in
+    let clean_1 = clean_before at_1 at_2 c.read_rates.ensures.only_loads.crash clean_2 in
+    let before_1 = c.read_desk.ensures.only_loads.crash in
+    let before_2 = then_survives at_0 at_1 at_2 before_1 c.read_rates.ensures.only_loads.crash in
+    let ours_1 = still_ours at_0 at_1 (c.in_ok-desk.ensures.only_loads.same clean_1) ours_0 in
+    let ours_2 = still_ours at_1 at_2 (c.in_ok-rates.ensures.only_loads.same clean_2) ours_1 in
     handed_on (IsExcused at_0 at_3) c.from_residual-in_err-bonds.result c.in_err-bonds.field-0.0 c.from_residual-in_err-bonds.ensures.1
-    (excused_then at_0 at_2 at_3 before_2 c.read_bonds.ensures.crash clean _ (c.in_err-bonds.ensures.cause clean ours_2 (before_2.limit ∙ limit)))
+    (excused_then at_0 at_2 at_3 before_2 c.read_bonds.ensures.only_loads.crash clean _ (c.in_err-bonds.ensures.cause clean ours_2 (before_2.limit ∙ limit)))
