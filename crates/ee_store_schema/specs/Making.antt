@@ -1,5 +1,5 @@
 -- A store without tables, and the tables created in it: those of version 1, and from them those of version 2.
-use Rattle.std.specs.Prelude.{◌≡◌, IsTrue, List, ℕ, [], ◌∷◌, Some, None, Ok, Err, Result, true, false, not, slice_get, codes}
+use Rattle.std.specs.Prelude.{◌≡◌, ◌≢◌, IsTrue, List, ℕ, [], ◌∷◌, Some, None, Ok, Err, Result, IfErr, OnOk, true, false, not, slice_get, codes}
 use Rattle.std.specs.List.{AllByRecursion, list_all}
 use Rattle.std.specs.FinMap.{empty, insert}
 use Rattle.sqlite.specs.Table.{Table}
@@ -18,10 +18,12 @@ use Rattle.sqlite_catalog.specs.declared.error.Refusal.{Refusal}
 use Rattle.sqlite.specs.Tree.{Trees}
 use Rattle.sqlite.specs.Does.{lacks_sequence}
 use Rattle.sqlite.specs.Listing.{understood}
-use Rattle.sqlite.specs.State.{State, text_of}
+use Rattle.sqlite.specs.State.{State, HasCleanDisk, KeepsCommit, Survives, text_of}
 use Rattle.sqlite_catalog.specs.Listing.{automatic}
 use Rattle.ee_store_tables.specs.Tables.{counter_schema, desk, rates, bonds, tickets, paid, batches, extensions, answers, index_on}
 use Rattle.ee_store_tables.specs.Rows.{Rows, DeskRow}
+use Rattle.ee_store_schema.specs.declared.faults.OpenFault.{OpenFault}
+use Rattle.ee_store_schema.specs.declared.faults.OpenFault.TheVariants.{WrongVersion}
 use Rattle.ee_store_schema.specs.Asking.{IsOneStatement}
 use Rattle.ee_store_schema.specs.Forms.{replies, SeesSchema}
 
@@ -136,3 +138,11 @@ pub record TakesIndex (before : Schema) (text : List ℕ) (table : Table) : Type
   pub statement : IsOneStatement text 0 (understood before text)
   pub taken : (db : Trees) → AllByRecursion (λ t. db t.tree ≡ []) before.tables → (reason : Refusal) → ¬ RefusesIndex before db table text reason
   pub short : (db : Trees) → AllByRecursion (λ t. db t.tree ≡ []) before.tables → ¬ IsLongIndex db table text
+
+-- What a call that makes tables in a transaction leaves. If it succeeds, the store is open, and the transaction goes on. It commits nothing, and never answers `WrongVersion`.
+pub record MakesInside {X : Type 0} (old new : State) (result : Result X OpenFault) : Type 0 where
+  pub still_open : HasCleanDisk new → OnOk result (IsTrue new.is_open)
+  pub inside : HasCleanDisk new → OnOk result (IsTrue new.in_transaction)
+  pub other : IfErr result (λ e. e ≢ WrongVersion)
+  pub commit : HasCleanDisk new → KeepsCommit old new
+  pub crash : Survives old new (λ _. ⊥)

@@ -27,6 +27,7 @@ ghost use Rattle.ee_store_schema.specs.Making.{
   register_tables,
   payment_tables,
   both_tables,
+  MakesInside,
 };
 
 use crate::faults::OpenFault;
@@ -35,8 +36,7 @@ use sqlite::{Alter, Connection, Transaction};
 /// Creates a table, beside the tables that exist and their rows.
 fn define_table<S: Alter>(tx: &mut Transaction<'_, S>, sql: &str) -> Result<(), OpenFault>
     ensures same_reference { tx.new.conn.ghost_name ≡ tx.old.conn.ghost_name }
-    ensures inside { HasCleanDisk (state S.Store tx.new.conn.now) → OnOk result (IsTrue (state S.Store tx.new.conn.now).in_transaction) }
-    ensures open { HasCleanDisk (state S.Store tx.new.conn.now) → OnOk result (IsTrue (state S.Store tx.new.conn.now).is_open) }
+    ensures makes_inside { MakesInside (state S.Store tx.old.conn.now) (state S.Store tx.new.conn.now) result }
     ensures gained { HasCleanDisk (state S.Store tx.new.conn.now) → OnOk result ((before after : Schema) → AddsTable before sql.now after
         → SeesSchema before (state S.Store tx.old.conn.now) → IsTrue (state S.Store tx.new.conn.now).is_open
         → GainsTable before after (state S.Store tx.old.conn.now) (state S.Store tx.new.conn.now)) }
@@ -44,11 +44,8 @@ fn define_table<S: Alter>(tx: &mut Transaction<'_, S>, sql: &str) -> Result<(), 
         → SeesTables (state S.Store tx.old.conn.now) before → SeesTables (state S.Store tx.new.conn.now) after) }
     ensures usable { HasCleanDisk (state S.Store tx.new.conn.now) → IfErr result (λ e. (before after : Schema) → AddsTable before sql.now after
         → SeesSchema before (state S.Store tx.old.conn.now) → IsTrue (state S.Store tx.old.conn.now).is_open → e ≢ OpenFault.Unusable) }
-    ensures other { IfErr result (λ e. e ≢ OpenFault.WrongVersion) }
     ensures cause { (before after : Schema) → AddsTable before sql.now after → TakesTable before sql.now
         → FailsForCause (IsOver before) (state S.Store tx.old.conn.now) (state S.Store tx.new.conn.now) result }
-    ensures commit { HasCleanDisk (state S.Store tx.new.conn.now) → KeepsCommit (state S.Store tx.old.conn.now) (state S.Store tx.new.conn.now) }
-    ensures crash { Survives (state S.Store tx.old.conn.now) (state S.Store tx.new.conn.now) (λ _. ⊥) }
 {
     tx.execute(sql, &[])?;
     Ok(())
@@ -57,17 +54,13 @@ fn define_table<S: Alter>(tx: &mut Transaction<'_, S>, sql: &str) -> Result<(), 
 /// Creates an index.
 fn define_index<S: Alter>(tx: &mut Transaction<'_, S>, sql: &str) -> Result<(), OpenFault>
     ensures same_reference { tx.new.conn.ghost_name ≡ tx.old.conn.ghost_name }
-    ensures inside { HasCleanDisk (state S.Store tx.new.conn.now) → OnOk result (IsTrue (state S.Store tx.new.conn.now).in_transaction) }
-    ensures open { HasCleanDisk (state S.Store tx.new.conn.now) → OnOk result (IsTrue (state S.Store tx.new.conn.now).is_open) }
+    ensures makes_inside { MakesInside (state S.Store tx.old.conn.now) (state S.Store tx.new.conn.now) result }
     ensures added { HasCleanDisk (state S.Store tx.new.conn.now) → OnOk result ((before after : Schema) → AddsIndex before sql.now after
         → SeesTables (state S.Store tx.old.conn.now) before → SeesTables (state S.Store tx.new.conn.now) after) }
     ensures usable { HasCleanDisk (state S.Store tx.new.conn.now) → IfErr result (λ e. (before after : Schema) → AddsIndex before sql.now after
         → SeesTables (state S.Store tx.old.conn.now) before → IsTrue (state S.Store tx.old.conn.now).is_open → e ≢ OpenFault.Unusable) }
-    ensures other { IfErr result (λ e. e ≢ OpenFault.WrongVersion) }
     ensures cause { (before after : Schema) (adds : AddsIndex before sql.now after) → TakesIndex before sql.now adds.table
         → FailsForCause (IsAmid before) (state S.Store tx.old.conn.now) (state S.Store tx.new.conn.now) result }
-    ensures commit { HasCleanDisk (state S.Store tx.new.conn.now) → KeepsCommit (state S.Store tx.old.conn.now) (state S.Store tx.new.conn.now) }
-    ensures crash { Survives (state S.Store tx.old.conn.now) (state S.Store tx.new.conn.now) (λ _. ⊥) }
 {
     tx.execute(sql, &[])?;
     Ok(())
@@ -76,16 +69,12 @@ fn define_index<S: Alter>(tx: &mut Transaction<'_, S>, sql: &str) -> Result<(), 
 /// Creates the tables of the register: the desk, the rates and the bonds.
 fn make_register<S: Alter>(tx: &mut Transaction<'_, S>) -> Result<(), OpenFault>
     ensures same_reference { tx.new.conn.ghost_name ≡ tx.old.conn.ghost_name }
-    ensures inside { HasCleanDisk (state S.Store tx.new.conn.now) → OnOk result (IsTrue (state S.Store tx.new.conn.now).in_transaction) }
-    ensures open { HasCleanDisk (state S.Store tx.new.conn.now) → OnOk result (IsTrue (state S.Store tx.new.conn.now).is_open) }
+    ensures makes_inside { MakesInside (state S.Store tx.old.conn.now) (state S.Store tx.new.conn.now) result }
     ensures added { HasCleanDisk (state S.Store tx.new.conn.now) → OnOk result (SeesTables (state S.Store tx.old.conn.now) no_tables
         → SeesTables (state S.Store tx.new.conn.now) register_tables) }
     ensures usable { HasCleanDisk (state S.Store tx.new.conn.now) → IfErr result (λ e. SeesTables (state S.Store tx.old.conn.now) no_tables
         → IsTrue (state S.Store tx.old.conn.now).is_open → e ≢ OpenFault.Unusable) }
-    ensures other { IfErr result (λ e. e ≢ OpenFault.WrongVersion) }
     ensures cause { FailsForCause (IsAmid no_tables) (state S.Store tx.old.conn.now) (state S.Store tx.new.conn.now) result }
-    ensures commit { HasCleanDisk (state S.Store tx.new.conn.now) → KeepsCommit (state S.Store tx.old.conn.now) (state S.Store tx.new.conn.now) }
-    ensures crash { Survives (state S.Store tx.old.conn.now) (state S.Store tx.new.conn.now) (λ _. ⊥) }
 {
     define_table(
         tx,
@@ -108,16 +97,12 @@ fn make_register<S: Alter>(tx: &mut Transaction<'_, S>) -> Result<(), OpenFault>
 /// Creates the tables of payments: the tickets and their lines.
 fn make_payments<S: Alter>(tx: &mut Transaction<'_, S>) -> Result<(), OpenFault>
     ensures same_reference { tx.new.conn.ghost_name ≡ tx.old.conn.ghost_name }
-    ensures inside { HasCleanDisk (state S.Store tx.new.conn.now) → OnOk result (IsTrue (state S.Store tx.new.conn.now).in_transaction) }
-    ensures open { HasCleanDisk (state S.Store tx.new.conn.now) → OnOk result (IsTrue (state S.Store tx.new.conn.now).is_open) }
+    ensures makes_inside { MakesInside (state S.Store tx.old.conn.now) (state S.Store tx.new.conn.now) result }
     ensures added { HasCleanDisk (state S.Store tx.new.conn.now) → OnOk result (SeesTables (state S.Store tx.old.conn.now) register_tables
         → SeesTables (state S.Store tx.new.conn.now) payment_tables) }
     ensures usable { HasCleanDisk (state S.Store tx.new.conn.now) → IfErr result (λ e. SeesTables (state S.Store tx.old.conn.now) register_tables
         → IsTrue (state S.Store tx.old.conn.now).is_open → e ≢ OpenFault.Unusable) }
-    ensures other { IfErr result (λ e. e ≢ OpenFault.WrongVersion) }
     ensures cause { FailsForCause (IsAmid register_tables) (state S.Store tx.old.conn.now) (state S.Store tx.new.conn.now) result }
-    ensures commit { HasCleanDisk (state S.Store tx.new.conn.now) → KeepsCommit (state S.Store tx.old.conn.now) (state S.Store tx.new.conn.now) }
-    ensures crash { Survives (state S.Store tx.old.conn.now) (state S.Store tx.new.conn.now) (λ _. ⊥) }
 {
     define_table(
         tx,
@@ -133,8 +118,7 @@ fn make_payments<S: Alter>(tx: &mut Transaction<'_, S>) -> Result<(), OpenFault>
 /// Creates the table of extensions, the last of version 1.
 pub(crate) fn define_extensions<S: Alter>(tx: &mut Transaction<'_, S>) -> Result<(), OpenFault>
     ensures same_reference { tx.new.conn.ghost_name ≡ tx.old.conn.ghost_name }
-    ensures inside { HasCleanDisk (state S.Store tx.new.conn.now) → OnOk result (IsTrue (state S.Store tx.new.conn.now).in_transaction) }
-    ensures open { HasCleanDisk (state S.Store tx.new.conn.now) → OnOk result (IsTrue (state S.Store tx.new.conn.now).is_open) }
+    ensures makes_inside { MakesInside (state S.Store tx.old.conn.now) (state S.Store tx.new.conn.now) result }
     ensures gained { HasCleanDisk (state S.Store tx.new.conn.now) → OnOk result (SeesSchema earliest_tables (state S.Store tx.old.conn.now)
         → IsTrue (state S.Store tx.new.conn.now).is_open
         → GainsTable earliest_tables first_tables (state S.Store tx.old.conn.now) (state S.Store tx.new.conn.now)) }
@@ -142,10 +126,7 @@ pub(crate) fn define_extensions<S: Alter>(tx: &mut Transaction<'_, S>) -> Result
         → SeesTables (state S.Store tx.new.conn.now) first_tables) }
     ensures usable { HasCleanDisk (state S.Store tx.new.conn.now) → IfErr result (λ e. SeesSchema earliest_tables (state S.Store tx.old.conn.now)
         → IsTrue (state S.Store tx.old.conn.now).is_open → e ≢ OpenFault.Unusable) }
-    ensures other { IfErr result (λ e. e ≢ OpenFault.WrongVersion) }
     ensures cause { FailsForCause (IsOver earliest_tables) (state S.Store tx.old.conn.now) (state S.Store tx.new.conn.now) result }
-    ensures commit { HasCleanDisk (state S.Store tx.new.conn.now) → KeepsCommit (state S.Store tx.old.conn.now) (state S.Store tx.new.conn.now) }
-    ensures crash { Survives (state S.Store tx.old.conn.now) (state S.Store tx.new.conn.now) (λ _. ⊥) }
 {
     define_table(
         tx,
@@ -156,8 +137,7 @@ pub(crate) fn define_extensions<S: Alter>(tx: &mut Transaction<'_, S>) -> Result
 /// Creates the table of replies under desk and number, the first step to version 2.
 fn define_answers<S: Alter>(tx: &mut Transaction<'_, S>) -> Result<(), OpenFault>
     ensures same_reference { tx.new.conn.ghost_name ≡ tx.old.conn.ghost_name }
-    ensures inside { HasCleanDisk (state S.Store tx.new.conn.now) → OnOk result (IsTrue (state S.Store tx.new.conn.now).in_transaction) }
-    ensures open { HasCleanDisk (state S.Store tx.new.conn.now) → OnOk result (IsTrue (state S.Store tx.new.conn.now).is_open) }
+    ensures makes_inside { MakesInside (state S.Store tx.old.conn.now) (state S.Store tx.new.conn.now) result }
     ensures gained { HasCleanDisk (state S.Store tx.new.conn.now) → OnOk result (SeesSchema first_tables (state S.Store tx.old.conn.now)
         → IsTrue (state S.Store tx.new.conn.now).is_open
         → GainsTable first_tables both_tables (state S.Store tx.old.conn.now) (state S.Store tx.new.conn.now)) }
@@ -165,10 +145,7 @@ fn define_answers<S: Alter>(tx: &mut Transaction<'_, S>) -> Result<(), OpenFault
         → SeesTables (state S.Store tx.new.conn.now) both_tables) }
     ensures usable { HasCleanDisk (state S.Store tx.new.conn.now) → IfErr result (λ e. SeesSchema first_tables (state S.Store tx.old.conn.now)
         → IsTrue (state S.Store tx.old.conn.now).is_open → e ≢ OpenFault.Unusable) }
-    ensures other { IfErr result (λ e. e ≢ OpenFault.WrongVersion) }
     ensures cause { FailsForCause (IsOver first_tables) (state S.Store tx.old.conn.now) (state S.Store tx.new.conn.now) result }
-    ensures commit { HasCleanDisk (state S.Store tx.new.conn.now) → KeepsCommit (state S.Store tx.old.conn.now) (state S.Store tx.new.conn.now) }
-    ensures crash { Survives (state S.Store tx.old.conn.now) (state S.Store tx.new.conn.now) (λ _. ⊥) }
 {
     define_table(
         tx,
@@ -179,18 +156,14 @@ fn define_answers<S: Alter>(tx: &mut Transaction<'_, S>) -> Result<(), OpenFault
 /// Drops the table of replies under a number alone.
 fn drop_replies<S: Alter>(tx: &mut Transaction<'_, S>) -> Result<(), OpenFault>
     ensures same_reference { tx.new.conn.ghost_name ≡ tx.old.conn.ghost_name }
-    ensures inside { HasCleanDisk (state S.Store tx.new.conn.now) → OnOk result (IsTrue (state S.Store tx.new.conn.now).in_transaction) }
-    ensures open { HasCleanDisk (state S.Store tx.new.conn.now) → OnOk result (IsTrue (state S.Store tx.new.conn.now).is_open) }
+    ensures makes_inside { MakesInside (state S.Store tx.old.conn.now) (state S.Store tx.new.conn.now) result }
     ensures dropped { HasCleanDisk (state S.Store tx.new.conn.now) → OnOk result (SeesSchema both_tables (state S.Store tx.old.conn.now)
         → IsTrue (state S.Store tx.new.conn.now).is_open → LeavesTables counter_schema (state S.Store tx.old.conn.now) (state S.Store tx.new.conn.now)) }
     ensures left { HasCleanDisk (state S.Store tx.new.conn.now) → OnOk result (SeesTables (state S.Store tx.old.conn.now) both_tables
         → SeesTables (state S.Store tx.new.conn.now) counter_schema) }
     ensures usable { HasCleanDisk (state S.Store tx.new.conn.now) → IfErr result (λ e. SeesSchema both_tables (state S.Store tx.old.conn.now)
         → IsTrue (state S.Store tx.old.conn.now).is_open → e ≢ OpenFault.Unusable) }
-    ensures other { IfErr result (λ e. e ≢ OpenFault.WrongVersion) }
     ensures cause { FailsForCause (IsOver both_tables) (state S.Store tx.old.conn.now) (state S.Store tx.new.conn.now) result }
-    ensures commit { HasCleanDisk (state S.Store tx.new.conn.now) → KeepsCommit (state S.Store tx.old.conn.now) (state S.Store tx.new.conn.now) }
-    ensures crash { Survives (state S.Store tx.old.conn.now) (state S.Store tx.new.conn.now) (λ _. ⊥) }
 {
     tx.execute("DROP TABLE replies", &[])?;
     Ok(())
@@ -199,18 +172,14 @@ fn drop_replies<S: Alter>(tx: &mut Transaction<'_, S>) -> Result<(), OpenFault>
 /// Makes the tables of version 2 from those of version 1, without replies.
 pub(crate) fn replace_replies<S: Alter>(tx: &mut Transaction<'_, S>) -> Result<(), OpenFault>
     ensures same_reference { tx.new.conn.ghost_name ≡ tx.old.conn.ghost_name }
-    ensures inside { HasCleanDisk (state S.Store tx.new.conn.now) → OnOk result (IsTrue (state S.Store tx.new.conn.now).in_transaction) }
-    ensures open { HasCleanDisk (state S.Store tx.new.conn.now) → OnOk result (IsTrue (state S.Store tx.new.conn.now).is_open) }
+    ensures makes_inside { MakesInside (state S.Store tx.old.conn.now) (state S.Store tx.new.conn.now) result }
     ensures replaced { HasCleanDisk (state S.Store tx.new.conn.now) → OnOk result (SeesSchema first_tables (state S.Store tx.old.conn.now)
         → ReplacesReplies (state S.Store tx.old.conn.now) (state S.Store tx.new.conn.now)) }
     ensures left { HasCleanDisk (state S.Store tx.new.conn.now) → OnOk result (SeesTables (state S.Store tx.old.conn.now) first_tables
         → SeesTables (state S.Store tx.new.conn.now) counter_schema) }
     ensures usable { HasCleanDisk (state S.Store tx.new.conn.now) → IfErr result (λ e. SeesSchema first_tables (state S.Store tx.old.conn.now)
         → IsTrue (state S.Store tx.old.conn.now).is_open → e ≢ OpenFault.Unusable) }
-    ensures other { IfErr result (λ e. e ≢ OpenFault.WrongVersion) }
     ensures cause { FailsForCause (IsOver first_tables) (state S.Store tx.old.conn.now) (state S.Store tx.new.conn.now) result }
-    ensures commit { HasCleanDisk (state S.Store tx.new.conn.now) → KeepsCommit (state S.Store tx.old.conn.now) (state S.Store tx.new.conn.now) }
-    ensures crash { Survives (state S.Store tx.old.conn.now) (state S.Store tx.new.conn.now) (λ _. ⊥) }
 {
     define_answers(tx)?;
     drop_replies(tx)
@@ -219,18 +188,14 @@ pub(crate) fn replace_replies<S: Alter>(tx: &mut Transaction<'_, S>) -> Result<(
 /// Writes the one row of the desk, of version 2, at which nothing was done yet.
 fn add_desk<S: Alter>(tx: &mut Transaction<'_, S>) -> Result<(), OpenFault>
     ensures same_reference { tx.new.conn.ghost_name ≡ tx.old.conn.ghost_name }
-    ensures inside { HasCleanDisk (state S.Store tx.new.conn.now) → OnOk result (IsTrue (state S.Store tx.new.conn.now).in_transaction) }
-    ensures open { HasCleanDisk (state S.Store tx.new.conn.now) → OnOk result (IsTrue (state S.Store tx.new.conn.now).is_open) }
+    ensures makes_inside { MakesInside (state S.Store tx.old.conn.now) (state S.Store tx.new.conn.now) result }
     ensures added { HasCleanDisk (state S.Store tx.new.conn.now) → OnOk result (SeesTables (state S.Store tx.old.conn.now) counter_schema
         → Sees (state S.Store tx.new.conn.now) first_rows) }
     ensures sound { HasCleanDisk (state S.Store tx.new.conn.now) → OnOk result (SeesTables (state S.Store tx.old.conn.now) counter_schema
         → IsTrue (state S.Store tx.new.conn.now).is_open → IsDatabase (state S.Store tx.new.conn.now).now) }
     ensures usable { HasCleanDisk (state S.Store tx.new.conn.now) → IfErr result (λ e. SeesTables (state S.Store tx.old.conn.now) counter_schema
         → IsTrue (state S.Store tx.old.conn.now).is_open → e ≢ OpenFault.Unusable) }
-    ensures other { IfErr result (λ e. e ≢ OpenFault.WrongVersion) }
     ensures cause { FailsForCause (IsAmid counter_schema) (state S.Store tx.old.conn.now) (state S.Store tx.new.conn.now) result }
-    ensures commit { HasCleanDisk (state S.Store tx.new.conn.now) → KeepsCommit (state S.Store tx.old.conn.now) (state S.Store tx.new.conn.now) }
-    ensures crash { Survives (state S.Store tx.old.conn.now) (state S.Store tx.new.conn.now) (λ _. ⊥) }
 {
     tx.execute(
         "INSERT INTO desk (id, version, day, last_day) VALUES (1, 2, NULL, NULL)",
@@ -242,16 +207,12 @@ fn add_desk<S: Alter>(tx: &mut Transaction<'_, S>) -> Result<(), OpenFault>
 /// Creates the tables of the batches and the replies, and then that of the extensions.
 fn make_records<S: Alter>(tx: &mut Transaction<'_, S>) -> Result<(), OpenFault>
     ensures same_reference { tx.new.conn.ghost_name ≡ tx.old.conn.ghost_name }
-    ensures inside { HasCleanDisk (state S.Store tx.new.conn.now) → OnOk result (IsTrue (state S.Store tx.new.conn.now).in_transaction) }
-    ensures open { HasCleanDisk (state S.Store tx.new.conn.now) → OnOk result (IsTrue (state S.Store tx.new.conn.now).is_open) }
+    ensures makes_inside { MakesInside (state S.Store tx.old.conn.now) (state S.Store tx.new.conn.now) result }
     ensures added { HasCleanDisk (state S.Store tx.new.conn.now) → OnOk result (SeesTables (state S.Store tx.old.conn.now) payment_tables
         → SeesTables (state S.Store tx.new.conn.now) first_tables) }
     ensures usable { HasCleanDisk (state S.Store tx.new.conn.now) → IfErr result (λ e. SeesTables (state S.Store tx.old.conn.now) payment_tables
         → IsTrue (state S.Store tx.old.conn.now).is_open → e ≢ OpenFault.Unusable) }
-    ensures other { IfErr result (λ e. e ≢ OpenFault.WrongVersion) }
     ensures cause { FailsForCause (IsAmid payment_tables) (state S.Store tx.old.conn.now) (state S.Store tx.new.conn.now) result }
-    ensures commit { HasCleanDisk (state S.Store tx.new.conn.now) → KeepsCommit (state S.Store tx.old.conn.now) (state S.Store tx.new.conn.now) }
-    ensures crash { Survives (state S.Store tx.old.conn.now) (state S.Store tx.new.conn.now) (λ _. ⊥) }
 {
     define_table(
         tx,
@@ -267,18 +228,14 @@ fn make_records<S: Alter>(tx: &mut Transaction<'_, S>) -> Result<(), OpenFault>
 /// Makes the tables of version 2 from those of version 1, and writes the desk's row.
 fn make_current<S: Alter>(tx: &mut Transaction<'_, S>) -> Result<(), OpenFault>
     ensures same_reference { tx.new.conn.ghost_name ≡ tx.old.conn.ghost_name }
-    ensures inside { HasCleanDisk (state S.Store tx.new.conn.now) → OnOk result (IsTrue (state S.Store tx.new.conn.now).in_transaction) }
-    ensures open { HasCleanDisk (state S.Store tx.new.conn.now) → OnOk result (IsTrue (state S.Store tx.new.conn.now).is_open) }
+    ensures makes_inside { MakesInside (state S.Store tx.old.conn.now) (state S.Store tx.new.conn.now) result }
     ensures added { HasCleanDisk (state S.Store tx.new.conn.now) → OnOk result (SeesTables (state S.Store tx.old.conn.now) first_tables
         → Sees (state S.Store tx.new.conn.now) first_rows) }
     ensures sound { HasCleanDisk (state S.Store tx.new.conn.now) → OnOk result (SeesTables (state S.Store tx.old.conn.now) first_tables
         → IsTrue (state S.Store tx.new.conn.now).is_open → IsDatabase (state S.Store tx.new.conn.now).now) }
     ensures usable { HasCleanDisk (state S.Store tx.new.conn.now) → IfErr result (λ e. SeesTables (state S.Store tx.old.conn.now) first_tables
         → IsTrue (state S.Store tx.old.conn.now).is_open → e ≢ OpenFault.Unusable) }
-    ensures other { IfErr result (λ e. e ≢ OpenFault.WrongVersion) }
     ensures cause { FailsForCause (IsAmid first_tables) (state S.Store tx.old.conn.now) (state S.Store tx.new.conn.now) result }
-    ensures commit { HasCleanDisk (state S.Store tx.new.conn.now) → KeepsCommit (state S.Store tx.old.conn.now) (state S.Store tx.new.conn.now) }
-    ensures crash { Survives (state S.Store tx.old.conn.now) (state S.Store tx.new.conn.now) (λ _. ⊥) }
 {
     replace_replies(tx)?;
     add_desk(tx)
@@ -287,18 +244,14 @@ fn make_current<S: Alter>(tx: &mut Transaction<'_, S>) -> Result<(), OpenFault>
 /// Creates the tables and writes the desk's row, inside a transaction.
 fn make_in<S: Alter>(tx: &mut Transaction<'_, S>) -> Result<(), OpenFault>
     ensures same_reference { tx.new.conn.ghost_name ≡ tx.old.conn.ghost_name }
-    ensures inside { HasCleanDisk (state S.Store tx.new.conn.now) → OnOk result (IsTrue (state S.Store tx.new.conn.now).in_transaction) }
-    ensures open { HasCleanDisk (state S.Store tx.new.conn.now) → OnOk result (IsTrue (state S.Store tx.new.conn.now).is_open) }
+    ensures makes_inside { MakesInside (state S.Store tx.old.conn.now) (state S.Store tx.new.conn.now) result }
     ensures added { HasCleanDisk (state S.Store tx.new.conn.now) → OnOk result (SeesTables (state S.Store tx.old.conn.now) no_tables
         → Sees (state S.Store tx.new.conn.now) first_rows) }
     ensures sound { HasCleanDisk (state S.Store tx.new.conn.now) → OnOk result (SeesTables (state S.Store tx.old.conn.now) no_tables
         → IsTrue (state S.Store tx.new.conn.now).is_open → IsDatabase (state S.Store tx.new.conn.now).now) }
     ensures usable { HasCleanDisk (state S.Store tx.new.conn.now) → IfErr result (λ e. SeesTables (state S.Store tx.old.conn.now) no_tables
         → IsTrue (state S.Store tx.old.conn.now).is_open → e ≢ OpenFault.Unusable) }
-    ensures other { IfErr result (λ e. e ≢ OpenFault.WrongVersion) }
     ensures cause { FailsForCause (IsAmid no_tables) (state S.Store tx.old.conn.now) (state S.Store tx.new.conn.now) result }
-    ensures commit { HasCleanDisk (state S.Store tx.new.conn.now) → KeepsCommit (state S.Store tx.old.conn.now) (state S.Store tx.new.conn.now) }
-    ensures crash { Survives (state S.Store tx.old.conn.now) (state S.Store tx.new.conn.now) (λ _. ⊥) }
 {
     make_register(tx)?;
     make_payments(tx)?;

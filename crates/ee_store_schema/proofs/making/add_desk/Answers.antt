@@ -1,3 +1,4 @@
+use Rattle.std.proofs.Common.{rules}
 use Rattle.sqlite.specs.Held.{state}
 use Rattle.ee_store_tables.proofs.Lemmas.Transactions.{inside_if_ok}
 use Rattle.ee_store_schema.proofs.FirstLemmas.{adds_first, first_sound}
@@ -32,11 +33,17 @@ returns-clause-sound g c clean sees =
     let it = c.in_ok-execute.ensures.runs clean inside in
     λ _. first_sound old new c.in_ok-execute.field-0 (sees it.1.was_open).0 it.0
 
-pub returns-clause-inside : goal.returns-clause-inside
-returns-clause-inside g c clean =
-    let old = state g.S.Store c.args.tx.now.conn.now in
-    let inside = inside_if_ok old.in_transaction c.execute.result c.in_ok-execute.field-0 c.in_ok-execute.was c.execute.ensures.ended in
-    (c.in_ok-execute.ensures.runs clean inside).1.mode
+pub returns-clause-makes_inside : goal.returns-clause-makes_inside
+returns-clause-makes_inside g c = record {
+  still_open = search rules;
+  inside = λ clean.
+      let old = state g.S.Store c.args.tx.now.conn.now in
+      let inside = inside_if_ok old.in_transaction c.execute.result c.in_ok-execute.field-0 c.in_ok-execute.was c.execute.ensures.ended in
+      (c.in_ok-execute.ensures.runs clean inside).1.mode;
+  other = tt;
+  commit = search rules;
+  crash = c.execute.ensures.survives;
+}
 
 pub returns-in_err-execute-clause-cause : goal.returns-in_err-execute-clause-cause
 returns-in_err-execute-clause-cause g c clean amid limit =

@@ -1,3 +1,4 @@
+use Rattle.std.proofs.Common.{rules}
 use Rattle.sqlite.specs.Held.{state}
 use Rattle.ee_store_tables.proofs.Lemmas.Transactions.{inside_if_ok}
 use Rattle.ee_store_schema.proofs.DefineLemmas.{adds_index}
@@ -23,11 +24,17 @@ returns-in_err-execute-clause-usable g c clean =
     told_as _ c.from_residual.result c.in_err-execute.field-0.0 c.from_residual.ensures.1 (λ before after adds sees is_open.
     within_or_ended old.in_transaction c.in_err-execute.field-0.0 (λ inside. adds_index_usable old new c.args.sql.now c.in_err-execute.field-0.0 before after adds (sees is_open).0 (c.in_err-execute.ensures.runs clean inside)) (λ outside. (c.in_err-execute.ensures.ended outside).0))
 
-pub returns-clause-inside : goal.returns-clause-inside
-returns-clause-inside g c clean =
-    let old = state g.S.Store c.args.tx.now.conn.now in
-    let inside = inside_if_ok old.in_transaction c.execute.result c.in_ok-execute.field-0 c.in_ok-execute.was c.execute.ensures.ended in
-    (c.in_ok-execute.ensures.runs clean inside).1.mode
+pub returns-clause-makes_inside : goal.returns-clause-makes_inside
+returns-clause-makes_inside g c = record {
+  still_open = search rules;
+  inside = λ clean.
+      let old = state g.S.Store c.args.tx.now.conn.now in
+      let inside = inside_if_ok old.in_transaction c.execute.result c.in_ok-execute.field-0 c.in_ok-execute.was c.execute.ensures.ended in
+      (c.in_ok-execute.ensures.runs clean inside).1.mode;
+  other = tt;
+  commit = search rules;
+  crash = c.execute.ensures.survives;
+}
 
 pub returns-in_err-execute-clause-cause : goal.returns-in_err-execute-clause-cause
 returns-in_err-execute-clause-cause g c before after adds takes clean amid limit =

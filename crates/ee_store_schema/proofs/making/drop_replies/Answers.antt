@@ -1,3 +1,4 @@
+use Rattle.std.proofs.Common.{rules}
 use Rattle.sqlite.specs.Held.{state}
 use Rattle.ee_store_tables.proofs.Lemmas.Transactions.{inside_if_ok}
 use Rattle.ee_store_schema.specs.Faults.{IsExcused}
@@ -24,11 +25,17 @@ returns-clause-left g c clean sees =
     let first = sees it.1.was_open in
     λ _. left_none old new (drops old new c.in_ok-execute.field-0 first.0 it.0) first.1
 
-pub returns-clause-inside : goal.returns-clause-inside
-returns-clause-inside g c clean =
-    let old = state g.S.Store c.args.tx.now.conn.now in
-    let inside = inside_if_ok old.in_transaction c.execute.result c.in_ok-execute.field-0 c.in_ok-execute.was c.execute.ensures.ended in
-    (c.in_ok-execute.ensures.runs clean inside).1.mode
+pub returns-clause-makes_inside : goal.returns-clause-makes_inside
+returns-clause-makes_inside g c = record {
+  still_open = search rules;
+  inside = λ clean.
+      let old = state g.S.Store c.args.tx.now.conn.now in
+      let inside = inside_if_ok old.in_transaction c.execute.result c.in_ok-execute.field-0 c.in_ok-execute.was c.execute.ensures.ended in
+      (c.in_ok-execute.ensures.runs clean inside).1.mode;
+  other = tt;
+  commit = search rules;
+  crash = c.execute.ensures.survives;
+}
 
 pub returns-in_err-execute-clause-usable : goal.returns-in_err-execute-clause-usable
 returns-in_err-execute-clause-usable g c clean =

@@ -12,7 +12,7 @@ returns-clause-added g c clean =
     let at_1 = state g.S.Store c.replace_replies.new.tx.conn.now in
     let at_2 = state g.S.Store c.add_desk.new.tx.conn.now in
     let clean_2 = clean in
-    let clean_1 = clean_before at_1 at_2 c.add_desk.ensures.crash clean_2 in
+    let clean_1 = clean_before at_1 at_2 c.add_desk.ensures.makes_inside.crash clean_2 in
     on_ok_weaker c.add_desk.result (λ added sees_0.
     let sees_1 = c.in_ok-replace_replies.ensures.left clean_1 sees_0 in
     added sees_1) (c.add_desk.ensures.added clean)
@@ -22,7 +22,7 @@ returns-clause-sound g c clean =
     let at_1 = state g.S.Store c.replace_replies.new.tx.conn.now in
     let at_2 = state g.S.Store c.add_desk.new.tx.conn.now in
     let clean_2 = clean in
-    let clean_1 = clean_before at_1 at_2 c.add_desk.ensures.crash clean_2 in
+    let clean_1 = clean_before at_1 at_2 c.add_desk.ensures.makes_inside.crash clean_2 in
     on_ok_weaker c.add_desk.result (λ sound sees_0.
     let sees_1 = c.in_ok-replace_replies.ensures.left clean_1 sees_0 in
     sound sees_1) (c.add_desk.ensures.sound clean)
@@ -38,10 +38,10 @@ returns-clause-usable g c clean =
     let at_1 = state g.S.Store c.replace_replies.new.tx.conn.now in
     let at_2 = state g.S.Store c.add_desk.new.tx.conn.now in
     let clean_2 = clean in
-    let clean_1 = clean_before at_1 at_2 c.add_desk.ensures.crash clean_2 in
+    let clean_1 = clean_before at_1 at_2 c.add_desk.ensures.makes_inside.crash clean_2 in
     each_fault c.add_desk.result (λ e usable sees_0 open_0.
     let sees_1 = c.in_ok-replace_replies.ensures.left clean_1 sees_0 in
-    let open_1 = c.in_ok-replace_replies.ensures.open clean_1 in
+    let open_1 = c.in_ok-replace_replies.ensures.makes_inside.still_open clean_1 in
     usable sees_1 open_1) (c.add_desk.ensures.usable clean)
 
 pub returns-in_err-replace_replies-clause-cause : goal.returns-in_err-replace_replies-clause-cause
@@ -56,8 +56,8 @@ returns-clause-cause g c clean amid limit =
     let at_1 = state g.S.Store c.replace_replies.new.tx.conn.now in
     let at_2 = state g.S.Store c.add_desk.new.tx.conn.now in
     let clean_2 = clean in
-    let clean_1 = clean_before at_1 at_2 c.add_desk.ensures.crash clean_2 in
-    let before_1 = c.replace_replies.ensures.crash in
+    let clean_1 = clean_before at_1 at_2 c.add_desk.ensures.makes_inside.crash clean_2 in
+    let before_1 = c.replace_replies.ensures.makes_inside.crash in
     let sees_0 = amid.1 in
     let sees_1 = c.in_ok-replace_replies.ensures.left clean_1 sees_0 in
-    each_fault c.add_desk.result (excused_then at_0 at_1 at_2 before_1 c.add_desk.ensures.crash clean) (c.add_desk.ensures.cause clean (c.in_ok-replace_replies.ensures.inside clean_1, sees_1) (before_1.limit ∙ limit))
+    each_fault c.add_desk.result (excused_then at_0 at_1 at_2 before_1 c.add_desk.ensures.makes_inside.crash clean) (c.add_desk.ensures.cause clean (c.in_ok-replace_replies.ensures.makes_inside.inside clean_1, sees_1) (before_1.limit ∙ limit))

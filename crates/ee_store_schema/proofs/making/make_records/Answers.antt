@@ -17,8 +17,8 @@ returns-clause-added g c clean =
     let at_2 = state g.S.Store c.define_table-2.new.tx.conn.now in
     let at_3 = state g.S.Store c.define_extensions.new.tx.conn.now in
     let clean_3 = clean in
-    let clean_2 = clean_before at_2 at_3 c.define_extensions.ensures.crash clean_3 in
-    let clean_1 = clean_before at_1 at_2 c.define_table-2.ensures.crash clean_2 in
+    let clean_2 = clean_before at_2 at_3 c.define_extensions.ensures.makes_inside.crash clean_3 in
+    let clean_1 = clean_before at_1 at_2 c.define_table-2.ensures.makes_inside.crash clean_2 in
     on_ok_weaker c.define_extensions.result (λ added sees_0.
     let sees_1 = c.in_ok-define_table.ensures.added clean_1 payment_tables with_batches adds_batches sees_0 in
     let sees_2 = c.in_ok-define_table-2.ensures.added clean_2 with_batches earliest_tables adds_replies sees_1 in
@@ -35,10 +35,10 @@ returns-in_err-define_table-2-clause-usable g c clean =
     let at_1 = state g.S.Store c.define_table.new.tx.conn.now in
     let at_2 = state g.S.Store c.define_table-2.new.tx.conn.now in
     let clean_2 = clean in
-    let clean_1 = clean_before at_1 at_2 c.define_table-2.ensures.crash clean_2 in
+    let clean_1 = clean_before at_1 at_2 c.define_table-2.ensures.makes_inside.crash clean_2 in
     handed_on _ c.from_residual-in_err-define_table-2.result c.in_err-define_table-2.field-0.0 c.from_residual-in_err-define_table-2.ensures.1 (λ sees_0 open_0.
     let sees_1 = c.in_ok-define_table.ensures.added clean_1 payment_tables with_batches adds_batches sees_0 in
-    let open_1 = c.in_ok-define_table.ensures.open clean_1 in
+    let open_1 = c.in_ok-define_table.ensures.makes_inside.still_open clean_1 in
     c.in_err-define_table-2.ensures.usable clean_2 with_batches earliest_tables adds_replies (λ o. (sees_1 o).0) open_1)
 
 pub returns-clause-usable : goal.returns-clause-usable
@@ -47,12 +47,12 @@ returns-clause-usable g c clean =
     let at_2 = state g.S.Store c.define_table-2.new.tx.conn.now in
     let at_3 = state g.S.Store c.define_extensions.new.tx.conn.now in
     let clean_3 = clean in
-    let clean_2 = clean_before at_2 at_3 c.define_extensions.ensures.crash clean_3 in
-    let clean_1 = clean_before at_1 at_2 c.define_table-2.ensures.crash clean_2 in
+    let clean_2 = clean_before at_2 at_3 c.define_extensions.ensures.makes_inside.crash clean_3 in
+    let clean_1 = clean_before at_1 at_2 c.define_table-2.ensures.makes_inside.crash clean_2 in
     each_fault c.define_extensions.result (λ e usable sees_0 open_0.
     let sees_1 = c.in_ok-define_table.ensures.added clean_1 payment_tables with_batches adds_batches sees_0 in
     let sees_2 = c.in_ok-define_table-2.ensures.added clean_2 with_batches earliest_tables adds_replies sees_1 in
-    let open_2 = c.in_ok-define_table-2.ensures.open clean_2 in
+    let open_2 = c.in_ok-define_table-2.ensures.makes_inside.still_open clean_2 in
     usable (λ o. (sees_2 o).0) open_2) (c.define_extensions.ensures.usable clean)
 
 pub returns-in_err-define_table-clause-cause : goal.returns-in_err-define_table-clause-cause
@@ -67,12 +67,12 @@ returns-in_err-define_table-2-clause-cause g c clean amid limit =
     let at_1 = state g.S.Store c.define_table.new.tx.conn.now in
     let at_2 = state g.S.Store c.define_table-2.new.tx.conn.now in
     let clean_2 = clean in
-    let clean_1 = clean_before at_1 at_2 c.define_table-2.ensures.crash clean_2 in
-    let before_1 = c.define_table.ensures.crash in
+    let clean_1 = clean_before at_1 at_2 c.define_table-2.ensures.makes_inside.crash clean_2 in
+    let before_1 = c.define_table.ensures.makes_inside.crash in
     let sees_0 = amid.1 in
     let sees_1 = c.in_ok-define_table.ensures.added clean_1 payment_tables with_batches adds_batches sees_0 in
     handed_on (IsExcused at_0 at_2) c.from_residual-in_err-define_table-2.result c.in_err-define_table-2.field-0.0 c.from_residual-in_err-define_table-2.ensures.1
-    (excused_then at_0 at_1 at_2 before_1 c.define_table-2.ensures.crash clean _ (c.in_err-define_table-2.ensures.cause with_batches earliest_tables adds_replies takes_replies clean (c.in_ok-define_table.ensures.inside clean_1, (λ o. (sees_1 o).0)) (before_1.limit ∙ limit)))
+    (excused_then at_0 at_1 at_2 before_1 c.define_table-2.ensures.makes_inside.crash clean _ (c.in_err-define_table-2.ensures.cause with_batches earliest_tables adds_replies takes_replies clean (c.in_ok-define_table.ensures.makes_inside.inside clean_1, (λ o. (sees_1 o).0)) (before_1.limit ∙ limit)))
 
 pub returns-clause-cause : goal.returns-clause-cause
 returns-clause-cause g c clean amid limit =
@@ -81,11 +81,11 @@ returns-clause-cause g c clean amid limit =
     let at_2 = state g.S.Store c.define_table-2.new.tx.conn.now in
     let at_3 = state g.S.Store c.define_extensions.new.tx.conn.now in
     let clean_3 = clean in
-    let clean_2 = clean_before at_2 at_3 c.define_extensions.ensures.crash clean_3 in
-    let clean_1 = clean_before at_1 at_2 c.define_table-2.ensures.crash clean_2 in
-    let before_1 = c.define_table.ensures.crash in
-    let before_2 = then_survives at_0 at_1 at_2 before_1 c.define_table-2.ensures.crash in
+    let clean_2 = clean_before at_2 at_3 c.define_extensions.ensures.makes_inside.crash clean_3 in
+    let clean_1 = clean_before at_1 at_2 c.define_table-2.ensures.makes_inside.crash clean_2 in
+    let before_1 = c.define_table.ensures.makes_inside.crash in
+    let before_2 = then_survives at_0 at_1 at_2 before_1 c.define_table-2.ensures.makes_inside.crash in
     let sees_0 = amid.1 in
     let sees_1 = c.in_ok-define_table.ensures.added clean_1 payment_tables with_batches adds_batches sees_0 in
     let sees_2 = c.in_ok-define_table-2.ensures.added clean_2 with_batches earliest_tables adds_replies sees_1 in
-    each_fault c.define_extensions.result (excused_then at_0 at_2 at_3 before_2 c.define_extensions.ensures.crash clean) (c.define_extensions.ensures.cause clean (c.in_ok-define_table-2.ensures.inside clean_2, (λ o. (sees_2 o).0)) (before_2.limit ∙ limit))
+    each_fault c.define_extensions.result (excused_then at_0 at_2 at_3 before_2 c.define_extensions.ensures.makes_inside.crash clean) (c.define_extensions.ensures.cause clean (c.in_ok-define_table-2.ensures.makes_inside.inside clean_2, (λ o. (sees_2 o).0)) (before_2.limit ∙ limit))

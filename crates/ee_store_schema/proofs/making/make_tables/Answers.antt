@@ -20,9 +20,9 @@ returns-in_err-commit-clause-crash g c =
     let settled = c.is_autocommit.ensures.settled c.if-not-is_autocommit.false in
     subst (λ h. Survives old (state g.S.Store h) (λ db. IsBlank old → Stores db first_rows)) (sym same)
     (commit_survives old start is middle new (λ db. IsBlank old → Stores db first_rows)
-    (λ before blank. let none = sees_none old start is settled blank in let is_open = c.in_ok-make_in.ensures.open before in
+    (λ before blank. let none = sees_none old start is settled blank in let is_open = c.in_ok-make_in.ensures.makes_inside.still_open before in
     stored_sees middle first_rows is_open (c.in_ok-make_in.ensures.sound before none is_open) (c.in_ok-make_in.ensures.added before none))
-    c.in_ok-make_in.ensures.crash c.in_err-commit.ensures.survives)
+    c.in_ok-make_in.ensures.makes_inside.crash c.in_err-commit.ensures.survives)
 
 pub returns-clause-made : goal.returns-clause-made
 returns-clause-made g c =
@@ -49,7 +49,7 @@ returns-clause-stored g c =
     subst (λ h. HasCleanDisk (state g.S.Store h) → IsBlank old → Stores (state g.S.Store h).committed.trees first_rows) (sym same) (λ clean blank.
     let before = clean_before middle new c.in_ok-commit.ensures.survives clean in
     let none = sees_none old start is settled blank in
-    let is_open = c.in_ok-make_in.ensures.open before in
+    let is_open = c.in_ok-make_in.ensures.makes_inside.still_open before in
     subst (λ (d : Database). Stores d.trees first_rows) (sym (c.in_ok-commit.ensures.ok clean).1.committed_is)
     (stored_sees middle first_rows is_open (c.in_ok-make_in.ensures.sound before none is_open) (c.in_ok-make_in.ensures.added before none)))
 
@@ -64,9 +64,9 @@ returns-clause-crash g c =
     let settled = c.is_autocommit.ensures.settled c.if-not-is_autocommit.false in
     subst (λ h. Survives old (state g.S.Store h) (λ db. IsBlank old → Stores db first_rows)) (sym same)
     (commit_survives old start is middle new (λ db. IsBlank old → Stores db first_rows)
-    (λ before blank. let none = sees_none old start is settled blank in let is_open = c.in_ok-make_in.ensures.open before in
+    (λ before blank. let none = sees_none old start is settled blank in let is_open = c.in_ok-make_in.ensures.makes_inside.still_open before in
     stored_sees middle first_rows is_open (c.in_ok-make_in.ensures.sound before none is_open) (c.in_ok-make_in.ensures.added before none))
-    c.in_ok-make_in.ensures.crash c.in_ok-commit.ensures.survives)
+    c.in_ok-make_in.ensures.makes_inside.crash c.in_ok-commit.ensures.survives)
 
 pub returns-clause-cause : goal.returns-clause-cause
 returns-clause-cause g c = search rules

@@ -12,7 +12,7 @@ pub returns-in_ok-replace_replies-in-First-clause-inside : goal.returns-in_ok-re
 returns-in_ok-replace_replies-in-First-clause-inside g c clean sees is_open =
     let old = state g.S.Store c.args.tx.now.conn.now in
     let it = c.in_ok-replace_replies-in-First.ensures in
-    (it.inside clean, (it.replaced clean (subst (λ f. SeesForm f old) c.in-First.is sees)).schema)
+    (it.makes_inside.inside clean, (it.replaced clean (subst (λ f. SeesForm f old) c.in-First.is sees)).schema)
 
 pub returns-in_ok-replace_replies-in-First-clause-made : goal.returns-in_ok-replace_replies-in-First-clause-made
 returns-in_ok-replace_replies-in-First-clause-made g c clean rows sees is_open =
@@ -21,7 +21,7 @@ returns-in_ok-replace_replies-in-First-clause-made g c clean rows sees is_open =
     let it = c.in_ok-replace_replies-in-First.ensures in
     let first = subst (λ f. SeesIn f old rows) c.in-First.is sees in
     let replaces = it.replaced clean (λ o. (first o).0) in
-    (replaces.schema, replaced old new rows replaces (first ((it.commit clean).was_open is_open)).1)
+    (replaces.schema, replaced old new rows replaces (first ((it.makes_inside.commit clean).was_open is_open)).1)
 
 pub returns-in_ok-replace_replies-in-First-clause-place : goal.returns-in_ok-replace_replies-in-First-clause-place
 returns-in_ok-replace_replies-in-First-clause-place g c clean sees n few is_open =
@@ -36,32 +36,32 @@ returns-in_ok-replace_replies-in-Earliest-clause-inside g c clean sees is_open =
     let old = state g.S.Store c.args.tx.now.conn.now in
     let middle = state g.S.Store c.define_extensions.new.tx.conn.now in
     let new = state g.S.Store c.replace_replies-in-Earliest.new.tx.conn.now in
-    let before = clean_before middle new c.replace_replies-in-Earliest.ensures.crash clean in
+    let before = clean_before middle new c.replace_replies-in-Earliest.ensures.makes_inside.crash clean in
     let one = c.in_ok-define_extensions-in-Earliest.ensures in
     let it = c.in_ok-replace_replies-in-Earliest.ensures in
-    let gained = one.gained before (subst (λ f. SeesForm f old) c.in-Earliest.is sees) (one.open before) in
-    (it.inside clean, (it.replaced clean (λ _. gained.schema)).schema)
+    let gained = one.gained before (subst (λ f. SeesForm f old) c.in-Earliest.is sees) (one.makes_inside.still_open before) in
+    (it.makes_inside.inside clean, (it.replaced clean (λ _. gained.schema)).schema)
 
 pub returns-in_ok-replace_replies-in-Earliest-clause-made : goal.returns-in_ok-replace_replies-in-Earliest-clause-made
 returns-in_ok-replace_replies-in-Earliest-clause-made g c clean rows sees is_open =
     let old = state g.S.Store c.args.tx.now.conn.now in
     let middle = state g.S.Store c.define_extensions.new.tx.conn.now in
     let new = state g.S.Store c.replace_replies-in-Earliest.new.tx.conn.now in
-    let before = clean_before middle new c.replace_replies-in-Earliest.ensures.crash clean in
+    let before = clean_before middle new c.replace_replies-in-Earliest.ensures.makes_inside.crash clean in
     let one = c.in_ok-define_extensions-in-Earliest.ensures in
     let it = c.in_ok-replace_replies-in-Earliest.ensures in
     let first = subst (λ f. SeesIn f old rows) c.in-Earliest.is sees in
-    let gained = one.gained before (λ o. (first o).0) (one.open before) in
+    let gained = one.gained before (λ o. (first o).0) (one.makes_inside.still_open before) in
     let replaces = it.replaced clean (λ _. gained.schema) in
-    (replaces.schema, replaced middle new rows replaces (extended old middle rows gained (first ((one.commit before).was_open (one.open before))).1))
+    (replaces.schema, replaced middle new rows replaces (extended old middle rows gained (first ((one.makes_inside.commit before).was_open (one.makes_inside.still_open before))).1))
 
 pub returns-in_ok-replace_replies-in-Earliest-clause-place : goal.returns-in_ok-replace_replies-in-Earliest-clause-place
 returns-in_ok-replace_replies-in-Earliest-clause-place g c clean sees n few is_open =
     let old = state g.S.Store c.args.tx.now.conn.now in
     let middle = state g.S.Store c.define_extensions.new.tx.conn.now in
     let new = state g.S.Store c.replace_replies-in-Earliest.new.tx.conn.now in
-    let before = clean_before middle new c.replace_replies-in-Earliest.ensures.crash clean in
+    let before = clean_before middle new c.replace_replies-in-Earliest.ensures.makes_inside.crash clean in
     let one = c.in_ok-define_extensions-in-Earliest.ensures in
-    let gained = one.gained before (subst (λ f. SeesForm f old) c.in-Earliest.is sees) (one.open before) in
+    let gained = one.gained before (subst (λ f. SeesForm f old) c.in-Earliest.is sees) (one.makes_inside.still_open before) in
     let replaces = c.in_ok-replace_replies-in-Earliest.ensures.replaced clean (λ _. gained.schema) in
     (replaces.sound, subst (Rises 1 n) (sym replaces.empty) few)
