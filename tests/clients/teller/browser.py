@@ -138,15 +138,20 @@ class Page:
         for key in keys:
             ActionChains(self.driver).send_keys(key).perform()
 
+    def tab(self, back=False):
+        """To the page's next control, or back to the one before."""
+        if back:
+            ActionChains(self.driver).key_down(Keys.SHIFT).send_keys(Keys.TAB).key_up(Keys.SHIFT).perform()
+        else:
+            self.keys(Keys.TAB)
+        self.engine.come_round(back)
+
     def tab_to(self, selector, back=False):
         """Tabs until that element has the keyboard; how many keys it took."""
         for count in range(80):
             if self.run("return document.activeElement !== null && document.activeElement.matches(arguments[0])", selector):
                 return count
-            if back:
-                ActionChains(self.driver).key_down(Keys.SHIFT).send_keys(Keys.TAB).key_up(Keys.SHIFT).perform()
-            else:
-                self.keys(Keys.TAB)
+            self.tab(back)
         raise AssertionError(f"no tab reaches {selector}")
 
     # ---- the acts of a teller

@@ -39,6 +39,9 @@ class Chromium:
         messages = [entry["message"] for entry in self.driver.get_log("browser")]
         return [message for message in messages if not message.startswith("chrome://") and "Failed to load resource" not in message]
 
+    def come_round(self, back):
+        """Without a screen Chromium has no controls of its own: Tab goes from the last of the page to the first."""
+
     def leave_box(self):
         """Without a screen Chromium shows nobody its box for a password, and no test can press its buttons."""
 
@@ -62,6 +65,20 @@ class Chromium:
 COMPLAINTS = """
     const errors = Services.console.getMessageArray().filter((one) => one instanceof Ci.nsIScriptError);
     return errors.filter((one) => one.sourceName.includes("/teller/") && !(one.flags & Ci.nsIScriptError.warningFlag)).map((one) => one.errorMessage + " " + one.sourceName);
+"""
+#: Goes on by Tab through Firefox's own controls, until the page has the keyboard. Each step is waited for: the page is in another process.
+COME_ROUND = """
+    return (async () => {
+        const { focus } = Services;
+        const direction = arguments[0] ? focus.MOVEFOCUS_BACKWARD : focus.MOVEFOCUS_FORWARD;
+        const is_on_page = () => focus.focusedElement === gBrowser.selectedBrowser;
+        for (let count = 0; count < 50 && !is_on_page(); count += 1) {
+            const before = focus.focusedElement;
+            focus.moveFocus(window, null, direction, focus.FLAG_BYKEY);
+            for (let waits = 0; waits < 250 && focus.focusedElement === before; waits += 1) await new Promise((resolve) => setTimeout(resolve, 20));
+        }
+        return is_on_page();
+    })();
 """
 #: Firefox makes no window narrower than this.
 LEAST_WIDTH = 500
@@ -94,6 +111,11 @@ class Firefox:
 
     def complaints(self):
         return self.process.run_inside(COMPLAINTS)
+
+    def come_round(self, back):
+        """After the page's last control Tab goes on to Firefox's own, as a user sees it. The driver's keys stay in the page, which then shows no focus."""
+        if not self.process.run_inside(COME_ROUND, back):
+            raise AssertionError("no tab leads back to the page")
 
     def leave_box(self):
         """Presses Cancel in the browser's own box for a password, if it is there."""

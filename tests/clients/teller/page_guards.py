@@ -1,7 +1,6 @@
 """What keeps a teller from paying what wasn't seen: days by their distance, the confirmed sum, open requests after faults, users who may not, notices in sight."""
 import json
 
-from selenium.webdriver.common.action_chains import ActionChains
 from selenium.webdriver.common.keys import Keys
 
 from browser import Page
@@ -475,6 +474,8 @@ def told_in_sight(bank, page, owner):
     page.settled()
     page.until(lambda: page.run("return document.activeElement.matches('.notice.refused')"), "the notice takes the keyboard")
     is_in_window(page, ".notice", f"{count} bonds, a refusal")
+    page.run("scrollTo(0, document.documentElement.scrollHeight)")
+    is_in_window(page, ".notice", "and with the page scrolled to its end")
     top, *_ = page.run("document.querySelector('#told').style.position = 'static';" + BOX, ".notice")
     right(top < 0, f"control: if it didn't stick, it would stand {-top:.0f} pixels above the window", top)
     page.run("document.querySelector('#told').style.position = ''")
@@ -498,6 +499,10 @@ def notices_narrow(bank):
     right(page.run("return document.documentElement.scrollWidth") <= 320, "and nothing goes over the edge")
     covered, places = walked(page)
     right(covered == [] and places >= 10, f"at none of {places} places that the keyboard goes to is it under the notice or the bar", covered)
+    page.run("document.documentElement.style.scrollPadding = 0")
+    covered, _ = walked(page)
+    right(covered != [], f"control: if no room were kept for them, {len(covered)} places would be")
+    page.run("document.documentElement.style.scrollPadding = ''")
     page.tab_to(".notice .close", back=True)
     page.keys(Keys.ENTER)
     right(page.all(".notice") == [], "it is closed by the keyboard")
@@ -507,17 +512,9 @@ def notices_narrow(bank):
 def walked(page):
     """Tabs through the whole view and back; what was covered, and how many places there were."""
     covered, places = [], 0
-    for keys in ((Keys.TAB,), (Keys.SHIFT, Keys.TAB)):
+    for back in (False, True):
         for _ in range(20):
-            press(page, keys)
+            page.tab(back)
             covered.append(page.run(COVERED))
             places += 1
     return [one for one in covered if one is not None], places
-
-
-def press(page, keys):
-    chain = ActionChains(page.driver)
-    if len(keys) == 2:
-        chain.key_down(keys[0]).send_keys(keys[1]).key_up(keys[0]).perform()
-    else:
-        chain.send_keys(keys[0]).perform()

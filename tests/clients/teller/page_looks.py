@@ -188,10 +188,20 @@ def in_trouble(bank, page):
     right(True, "one live region says what a request is doing, and its refusal")
 
 
+OUTLINES = """
+    const outline = (e) => [getComputedStyle(e).outlineStyle, parseFloat(getComputedStyle(e).outlineWidth)];
+    return [outline(document.activeElement), outline(document.querySelector("#month"))];
+"""
+
+
 def focus_is_seen(page):
-    page.tab_to("#customer")
-    outline = page.run("const style = getComputedStyle(document.activeElement); return style.outlineStyle + ' ' + style.outlineWidth")
-    right(outline == "solid 3px", "what has the keyboard has an outline", outline)
+    """In a zoomed window an outline is rounded to whole pixels of the screen."""
+    for width, least in ((320, 2), (1100, 3)):
+        page.resize(width, 820)
+        page.tab_to("#month")
+        page.tab_to("#customer", back=True)
+        (style, thick), (other, _) = page.run(OUTLINES)
+        right((style, other) == ("solid", "none") and thick >= least, f"{width} pixels wide: what has the keyboard has an outline, and nothing else", (style, thick, other))
 
 
 def pictures(bank):
