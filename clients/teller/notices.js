@@ -190,6 +190,18 @@ export function endSteps() {
   return had_focus;
 }
 
+// Brings what takes the keyboard into sight whole. Firefox by itself scrolls only to what is out of sight altogether, so what is partly under a notice or the bar would stay there. Nothing moves while a
+// pointer is pressed.
+function keepInSight(told, bar) {
+  let is_pressed = false;
+  addEventListener("pointerdown", () => (is_pressed = true), true);
+  for (const name of ["pointerup", "pointercancel"]) addEventListener(name, () => (is_pressed = false), true);
+  document.body.addEventListener("focusin", ({ target }) => {
+    const is_over = told.contains(target) || bar.contains(target);
+    if (!is_pressed && !is_over && target.matches(":focus-visible")) target.scrollIntoView({ block: "nearest", inline: "nearest" });
+  });
+}
+
 // Keeps what has the keyboard from under the notices and the bar of Pay, for as long as they are there, and lets Escape close a notice.
 export function startNotices() {
   const told = byId("told");
@@ -201,6 +213,7 @@ export function startNotices() {
   const observer = new ResizeObserver(measure);
   observer.observe(told);
   observer.observe(bar);
+  keepInSight(told, bar);
   told.addEventListener("keydown", (event) => {
     if (event.key === "Escape") told.querySelector("#notices .close")?.click();
   });
