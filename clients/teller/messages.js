@@ -32,6 +32,9 @@ export function asked(path, read, cancel) {
   return exchanged(path, { method: "GET", headers: OWN }, read, cancel);
 }
 
+// Each sending has a name of its own. If its connection breaks, a browser may send a POST again by itself, and the page doesn't know: the proxy then knows the name, and doesn't pass it on. So what the
+// counter answers is the answer to the one sending that the page knows of.
 export function posted(path, body, read) {
-  return exchanged(path, { method: "POST", headers: { ...OWN, "Content-Type": "application/json" }, body: JSON.stringify(body) }, read);
+  const headers = { ...OWN, "Content-Type": "application/json", "X-Counter-Sending": crypto.randomUUID() };
+  return exchanged(path, { method: "POST", headers, body: JSON.stringify(body) }, read);
 }

@@ -4,8 +4,8 @@
 // NumberReused means that another request of this desk has the number. The same request would have got its own reply, so this one was never done under that number, and no copy of it
 // that is still on its way ever will be. It continues under a higher number, which is written into the journal first.
 //
-// A fault, or the proxy's word that this user may not do it, answers one sending. On the first sending it is final: nothing was done, and no other sending is on its way. On a later one
-// it tells nothing about the sendings before it, so the request stays open.
+// A fault, or the proxy's word that this user may not do it, answers one sending. On the first sending it is final: nothing was done, and no other sending is on its way, since the proxy passes no repeat of
+// the browser's own on. On a later one it tells nothing about the sendings before it, so the request stays open.
 //
 // Nothing is sent that isn't written into the journal. If the browser can't write it, the page pauses and tries again. If the user isn't signed in, each further sending could count as a wrong
 // password: so the request waits until the user has signed in, or presses the button.

@@ -1,4 +1,5 @@
 """What keeps a teller from paying what wasn't seen: days by their distance, the confirmed sum, open requests after faults, users who may not, notices in sight."""
+import contextlib
 import json
 
 from selenium.webdriver.common.keys import Keys
@@ -196,27 +197,47 @@ def many_requests(bank):
     lost_then(bank, "too many", "The counter didn't answer: too many requests.")
 
 
+#: Connections are kept, and repeats of a POST passed on.
+KEPT = [("keepalive_timeout 0", "keepalive_timeout 60s")]
+REPEATED = [("limit_req zone=counter_sendings;", "")]
+
+
 def connection_reset(bank):
-    """The connection breaks after the commit, and a fault answers what comes next. If nginx keeps connections, that is a repeat of the browser's own, of which the page doesn't know."""
-    conf = bank.folder / "kept.conf"
-    conf.write_text(replaced((SAMPLE / "counter.conf").read_text(), [("keepalive_timeout 0", "keepalive_timeout 60s")]))
-    kept = Nginx(bank.folder / "kept", bank.gate.port, bank.nginx.users, conf=conf, rate=100_000)
+    """The connection breaks after the commit, and a fault answers what comes next. Over a kept connection, and in Firefox at times over another, that is a repeat of the browser's own, of which the
+    page doesn't know."""
     begin(bank, [7], DAY)
-    try:
-        page = reset_while_paying(bank, kept.port, 5, "L7EE", ["not json"] * 3)
+    with changed_nginx(bank, "repeated", KEPT + REPEATED) as nginx:
+        page = reset_while_paying(bank, nginx.port, 5, "L7EE", ["not json"] * 3)
         page.waits_for("The counter can't read the request: it isn't JSON.", "#notices")
         page.settled()
         wrong = (len(bank.gate.bodies) > 1, page.journal()["open"], bank.ask("GET", "/ticket/1")[0])
-        right(wrong == (True, None, 200), "control: over kept connections the browser repeats a payment by itself, and the page takes its fault for nothing done", wrong)
+        right(wrong == (True, None, 200), "control: the browser repeats a payment by itself; if that is passed on, the page takes its fault for nothing done", wrong)
+        page.quit()
+    with changed_nginx(bank, "kept", KEPT) as nginx:
+        still_open(bank, nginx, 6, "K7EE", 2)
+        repeats = [entry for entry in nginx.log() if entry["status"] == "429"]
+        right(len(repeats) >= 1 and all(entry["counter"] == "" for entry in repeats), "the browser's own repeat is answered 429, and the counter never sees it", nginx.log())
+    still_open(bank, bank.nginx, 7, "M7EE", 3)
+
+
+@contextlib.contextmanager
+def changed_nginx(bank, name, changes):
+    conf = bank.folder / f"{name}.conf"
+    conf.write_text(replaced((SAMPLE / "counter.conf").read_text(), changes))
+    nginx = Nginx(bank.folder / name, bank.gate.port, bank.nginx.users, conf=conf, rate=100_000)
+    try:
+        yield nginx
     finally:
-        kept.end()
-    page.quit()
-    page = reset_while_paying(bank, bank.nginx.port, 6, "K7EE", ["not json"])
+        nginx.end()
+
+
+def still_open(bank, nginx, desk, serial, ticket):
+    page = reset_while_paying(bank, nginx.port, desk, serial, ["not json"])
     page.waits_for("This says nothing about the earlier attempts.", "#progress")
-    right(page.journal()["open"]["sent"] == 2, "over the sample each sending is the page's own, and the request stays open", page.journal())
-    is_paid_on(page, 2, VALUES["K"])
+    right(page.journal()["open"]["sent"] == 2, f"{nginx.folder.name}: each answer is that to a sending of the page's own, and the request stays open", page.journal())
+    is_paid_on(page, ticket, VALUES[serial[0]])
     page.settled()
-    right(bank.ask("GET", "/ticket/3")[0] == 404, "until its one ticket is there")
+    right(bank.ask("GET", f"/ticket/{ticket + 1}")[0] == 404, "until its one ticket is there")
     page.quit()
 
 
@@ -295,7 +316,7 @@ HEARD = """
     const real = window.fetch;
     window.fetch = (url, options) => {
         const headers = new Headers(options.headers);
-        window.heard.push([options.method, new URL(url).pathname, headers.get("X-Counter-Client"), headers.get("Content-Type"), options.redirect]);
+        window.heard.push([options.method, new URL(url).pathname, headers.get("X-Counter-Client"), headers.get("Content-Type"), headers.get("X-Counter-Sending"), options.redirect]);
         return real(url, options);
     };
 """
@@ -319,7 +340,9 @@ def headers_sent(bank):
     paths = {path for _, path, *_ in heard}
     right({"/day/open", "/redeem", "/day/close", "/inventory/7/2012-02", "/batch/2012-02-05"} <= paths, f"{len(heard)} requests were heard", paths)
     right(all(client == "teller-page" for _, _, client, *_ in heard), "each names its client", heard)
-    right(all((kind == "application/json") == (method == "POST") for method, _, _, kind, _ in heard), "each POST is application/json", heard)
+    right(all((kind == "application/json") == (method == "POST") for method, _, _, kind, *_ in heard), "each POST is application/json", heard)
+    names = [name for method, _, _, _, name, _ in heard if method == "POST"]
+    right(len(names) == 3 and len(set(names)) == 3 and None not in names, "each POST has a name of its own", heard)
     page.quit()
 
 
