@@ -25,6 +25,8 @@ def hierarchy(bank):
         page.choose("S1EE", "S60EE")
         places = [page.run("scrollTo(0, arguments[0] * document.documentElement.scrollHeight)", part) or (is_seen(page, "#sum"), is_seen(page, "#pay-button")) for part in (0, 0.3, 0.6, 1)]
         right(places == [(True, True)] * 4, f"{size[0]} x {size[1]}, sixty bonds: sum and Pay are in view wherever the page is scrolled", places)
+    texts_are_whole(page)
+    page.resize(360, 740)
     page.run("scrollTo(0, 0); document.querySelector('#pay-bonds').style.position = 'static'")
     right(not is_seen(page, "#pay-button"), "control: if the bar didn't stick, Pay would be out of view")
     page.run("document.querySelector('#pay-bonds').style.position = ''")
@@ -38,6 +40,34 @@ def hierarchy(bank):
     page.type("#payee", "60")
     asked_by_sum(page, sum_of_two)
     page.quit()
+
+
+#: The widest texts of a bond: those of 10,000 dollars at 20 % with a serial number of ten digits.
+WIDEST = {"serial": "Z9999999999EE", "value": "$21,345.60", "denom": "$10,000", "issued": "10/2010", "price": "$5,000.00", "interest": "$16,345.60", "rate": "20.00%", "next": "03/2012", "final": "10/2040"}
+BROKEN = """
+    const cell = (name) => document.querySelector(`#sheet tbody .of-${name}`);
+    const lines = (name) => {
+      const range = document.createRange();
+      range.selectNodeContents(cell(name));
+      return new Set([...range.getClientRects()].map((place) => Math.round(place.bottom))).size;
+    };
+    for (const [name, text] of Object.entries(arguments[0])) cell(name).textContent = text;
+    const broken = Object.keys(arguments[0]).filter((name) => lines(name) > 1);
+    return document.documentElement.scrollWidth > innerWidth ? [...broken, "window"] : broken;"""
+
+
+def texts_are_whole(page):
+    """No text of the widest bond is broken, and nothing is beside the window, as a table and as a card."""
+    for width in (1280, 1100, 1080, 948, 820, 360):
+        page.resize(width, 800)
+        broken = page.run(BROKEN, WIDEST)
+        right(broken == [], f"{width} pixels: each text of the widest bond is on one line", broken)
+    page.resize(1100, 800)
+    page.run("Object.assign(document.querySelector('table.sheet').style, { overflowWrap: 'anywhere', width: '50rem' })")
+    right(page.run(BROKEN, WIDEST) != [], "control: if words could be broken anywhere, some would be in a narrow table")
+    page.run("document.querySelector('table.sheet').removeAttribute('style')")
+    page.show_sheet(60)
+    page.choose("S1EE", "S60EE")
 
 
 def asked_by_sum(page, sum_of_two):
