@@ -2,6 +2,7 @@
 memory, and gone at its end. The way is that of the script that runs the units of samples/systemd."""
 import os
 import re
+import stat
 import subprocess
 import sys
 import time
@@ -50,8 +51,8 @@ def make_root(base, memory, root):
     for name in DEVICES:
         open(f"{root}/dev/{name}", "w").close()
         done("mount", "--bind", f"/dev/{name}", f"{root}/dev/{name}")
-    open(f"{root}/dev/console", "w").close()
-    done("mount", "--bind", "/dev/null", f"{root}/dev/console")
+    # A device of its own, since systemd gives the console another owner and other rights.
+    os.mknod(f"{root}/dev/console", stat.S_IFCHR | 0o600, os.makedev(1, 3))
     for name in ("shm", "pts"):
         os.mkdir(f"{root}/dev/{name}")
     done("mount", "-t", "devpts", "-o", "newinstance,ptmxmode=666,gid=5", "devpts", f"{root}/dev/pts")

@@ -4,6 +4,7 @@ Its root lies in memory and has this machine's /usr. Nothing outside is touched 
 import ctypes
 import os
 import shutil
+import stat
 import subprocess
 import sys
 import time
@@ -67,8 +68,8 @@ def mount_kernel(root):
     for name in DEVICES:
         open(f"{root}/dev/{name}", "w", encoding="ascii").close()
         done("mount", "--bind", f"/dev/{name}", f"{root}/dev/{name}")
-    open(f"{root}/dev/console", "w", encoding="ascii").close()
-    done("mount", "--bind", "/dev/null", f"{root}/dev/console")
+    # A device of its own, since systemd gives the console another owner and other rights.
+    os.mknod(f"{root}/dev/console", stat.S_IFCHR | 0o600, os.makedev(1, 3))
     for name in ("shm", "pts"):
         os.mkdir(f"{root}/dev/{name}")
     done("mount", "-t", "devpts", "-o", "newinstance,ptmxmode=666", "devpts", f"{root}/dev/pts")
