@@ -20,7 +20,7 @@ PATHS = (
     ("from counter_replies.js;", "from /usr/share/ladwenpik/nginx/counter_replies.js;"),
 )
 #: Files that packages have under another name.
-NAMED = (("samples/nginx/counter-port.nft", "samples/nginx/port.nft"), ("samples/systemd/counter.sysusers", "debian/ladwenpik.sysusers"))
+NAMED = (("samples/nginx/sign_in_password.conf", "samples/nginx/sign_in.conf"), ("samples/systemd/counter.sysusers", "debian/ladwenpik.sysusers"))
 #: Pages say what the repository has, and keep its paths.
 PAGES = (".md", ".json", ".png", ".a", ".1")
 

@@ -15,6 +15,8 @@ from counter_calls import done, free_port, replaced
 TOP = Path(__file__).resolve().parents[2]
 SAMPLE = TOP / "samples" / "nginx"
 PAGE = TOP / "clients" / "teller"
+#: Where the sample reaches the counter.
+SOCKET = "unix:/run/counter-http.sock"
 CLIENT = {"X-Counter-Client": "test", "Content-Type": "application/json"}
 
 #: What stands for Debian's own nginx.conf. The media types are those that the page needs.
@@ -46,7 +48,8 @@ def basic(user, password):
 
 
 class Nginx:
-    """nginx over the sample, or over another configuration. `users` has a password and groups for each user. `rate` replaces the sample's limit of requests a second.
+    """nginx over the sample, or over another configuration. `users` has a password and groups for each user. `rate` replaces the sample's limit of requests a second, and
+    takes away that of requests under way. nginx reaches the counter by its port.
     `requests` turns on the log of requests with their replies: the file, and the port of syslog on the machine. `page` is the folder of the page."""
 
     def __init__(self, folder, counter_port, users, *, conf=SAMPLE / "counter.conf", rate=None, user=None, hashed=None, requests=None, page=PAGE):
@@ -86,9 +89,10 @@ class Nginx:
         else:
             text, passing = replaced(text, [("127.0.0.1:8377", f"127.0.0.1:{counter_port}")]), ""
         if rate is not None:
-            text = replaced(text, [("rate=10r/s", f"rate={rate}r/s")])
+            text = replaced(text, [("rate=10r/s", f"rate={rate}r/s"), ("    limit_conn counter_users 8;\n", "")])
         (self.folder / "conf.d" / "counter.conf").write_text(text)
-        (self.folder / "pass_to_counter.conf").write_text(passing.replace("127.0.0.1:8377", f"127.0.0.1:{counter_port}").replace("/etc/counter/", f"{self.folder}/"))
+        (self.folder / "pass_to_counter.conf").write_text(passing.replace(SOCKET, f"127.0.0.1:{counter_port}").replace("/etc/counter/", f"{self.folder}/"))
+        (self.folder / "sign_in.conf").write_text((SAMPLE / "sign_in_password.conf").read_text().replace("/etc/counter/", f"{self.folder}/"))
 
     def make_requests(self, file, syslog_port):
         where = replaced((SAMPLE / "server_requests.conf").read_text(), [("/srv/requests/requests.log", str(file)), ("127.0.0.1:514", f"127.0.0.1:{syslog_port}")])
