@@ -124,10 +124,23 @@ def read_answer(client):
     return int(head.split(b" ")[1]), body.decode()
 
 
-def ask(port, message, patience=60):
-    """The answer to one message on a connection of its own; None where none came."""
+@contextlib.contextmanager
+def connected(place, patience):
+    """A connection to a port of this machine, or to the path of a Unix socket."""
+    if isinstance(place, int):
+        with socket.create_connection(("127.0.0.1", place), timeout=patience) as client:
+            yield client
+        return
+    with socket.socket(socket.AF_UNIX) as client:
+        client.settimeout(patience)
+        client.connect(place)
+        yield client
+
+
+def ask(place, message, patience=60):
+    """The answer to one message on a connection of its own to a port or a Unix socket; None if none came."""
     try:
-        with socket.create_connection(("127.0.0.1", port), timeout=patience) as client:
+        with connected(place, patience) as client:
             client.sendall(message)
             return read_answer(client)
     except OSError:

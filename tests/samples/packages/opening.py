@@ -59,9 +59,9 @@ def states_until_active(machine):
 
 
 def another_listens(machine):
-    """A socket of another user at the port is no sign: the unit isn't started by it."""
+    """A socket of another user at the port is no sign: the unit isn't started by it. Only root can put one into the counter's network."""
     script = "import socket, sys; s = socket.socket(); s.setsockopt(socket.SOL_SOCKET, socket.SO_REUSEADDR, 1); s.bind(('127.0.0.1', 8377)); s.listen(); sys.stdin.read()"
-    other = subprocess.Popen(machine.words("setpriv", "--reuid", "65534", "--clear-groups", "python3", "-c", script), stdin=subprocess.PIPE)
+    other = subprocess.Popen(machine.words("ip", "netns", "exec", "counter", "setpriv", "--reuid", "65534", "--clear-groups", "python3", "-c", script), stdin=subprocess.PIPE)
     try:
         time.sleep(1)
         ran = machine.on("systemctl", "start", "counter.service")

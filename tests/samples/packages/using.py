@@ -41,7 +41,7 @@ def installed(machine, release):
     machine.shell(f"cd release\n{section('INSTALL', 'Install it')[0]}")
     said = machine.shell("cd release\n" + section("INSTALL", "Check that it is the proved one")[1])
     right("usr/bin/ee_cli" in said, "the installed program has the sum that the evidence names", said)
-    states = [machine.shown(unit, "ActiveState") for unit in ("counter.service", "counter-port.service", "counter-archive.service")]
+    states = [machine.shown(unit, "ActiveState") for unit in ("counter.service", "counter-http.socket", "counter-archive.service")]
     right(states == ["inactive"] * 3, "nothing is started by installing", states)
     right(machine.shell("stat -c '%U:%G %a' /var/lib/counter").strip() == "counter:counter 700", "the user counter has its folder")
     right(machine.shell("ls -A /var/lib/counter") == "", "which has no store")
@@ -62,6 +62,8 @@ def first_day(machine):
     right("<!doctype html>" in page.lower(), "the page for tellers is there", page)
     refused = [machine.on("setpriv", "--reuid", user, "--clear-groups", "curl", "-s", "http://127.0.0.1:8377/ticket/1").returncode for user in ("65534", "0")]
     right(refused == [7, 7], "nobody and root are refused at the counter's port", refused)
+    logs = machine.shell("stat -c '%U:%G %a' /var/log/nginx/counter.log; setpriv --reuid nobody --clear-groups cat /var/log/nginx/counter.log 2>&1 || true")
+    right(logs.startswith("root:adm 640\n") and "Permission denied" in logs, "nginx's log of who asked isn't for all to read", logs)
 
 
 def asking():
@@ -150,18 +152,26 @@ def removed_and_purged(machine, release):
     machine.shell("apt-get remove ladwenpik")
     gone = machine.on("sh", "-c", f"test ! -e /usr/bin/ee_cli && test ! -e /lib/systemd/system/counter.service && ! kill -0 {process}")
     right(gone.returncode == 0, "removed: the program and the units are gone, and the counter is stopped")
+    nginx_starts(machine, "removed")
     right("No such file" not in state_of_store(machine), "the store is there")
-    right(machine.shell("test -s /etc/counter/passwords && test -e /etc/counter/port.nft && echo there") == "there\n", "the settings too")
+    right(machine.shell("test -s /etc/counter/passwords && test -e /etc/counter/handshakes.nft && echo there") == "there\n", "the settings too")
     right(stays(machine, "apt-get purge ladwenpik"), "purged: the store is there byte for byte, with its log, its owner and its rights")
     left = machine.shell("ls -A /etc/counter")
     right(left == "certificate.pem\nkey.pem\n", "of the settings only the bank's certificate and key are left", left)
     nginx = machine.shell("ls /etc/nginx/sites-available")
     right("counter.conf" not in nginx, "nginx's site is gone", nginx)
+    nginx_starts(machine, "purged")
     deliver(machine, release)
     machine.shell("cd release && apt-get install --no-install-recommends ./ladwenpik_*_amd64.deb")
-    machine.shell(section("INSTALL", "The first day")[0])
-    machine.shell("systemctl enable --now counter-port.service counter.service && systemctl restart nginx")
+    users, _, nginx, _, start, _ = section("INSTALL", "The first day")
+    machine.shell(users + nginx + start)
     answered(machine, AGAIN, "installed again, the counter serves the store as before")
+
+
+def nginx_starts(machine, when):
+    """nginx and nftables start without the package, and nginx answers."""
+    ran = machine.on("sh", "-c", "nginx -t && systemctl restart nginx.service nftables.service && systemctl is-active nginx.service nftables.service")
+    right(ran.returncode == 0 and ran.stdout.endswith("active\nactive\n"), f"{when}: nginx and nftables start", ran.stdout)
 
 
 def removed_by_a_wrong_package(machine, wrong):
