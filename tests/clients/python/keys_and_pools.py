@@ -1,9 +1,7 @@
 """Keys of the caller's own, and several desks for parallel workers, also over kills of the process."""
 import contextlib
 import json
-import os
 import random
-import signal
 import subprocess
 import sys
 import time
@@ -182,7 +180,7 @@ def killed_pools(program):
             wait_for(gate, chance.randint(4, 14), running)
             gate.faults = [chance.choice(("lost answer", "failed after", "lost request"))]
             time.sleep(chance.uniform(0, 0.05))
-            os.kill(running.pid, signal.SIGKILL)
+            running.kill()
             running.wait()
         gate.faults = []
         ran = subprocess.run(line, env=own_environment(), capture_output=True, text=True, timeout=300)

@@ -2,7 +2,8 @@
 
 import ctypes, os, platform, re, signal, socket, struct, subprocess, threading, time
 
-from hostile import judging, program, talk
+from counter_calls import free_port
+from hostile import judging, talk
 from hostile.judging import Wrong
 
 SECONDS = 120
@@ -92,7 +93,7 @@ class Served:
     """`serve`. It is killed, so that its last requests stand in the log alone."""
 
     def __init__(self, path, store, setup):
-        port = program.free_port()
+        port = free_port()
         self.process = subprocess.Popen([path, "serve", "--db", store, "--port", str(port)], stdout=subprocess.DEVNULL, preexec_fn=setup)
         until = time.time() + SECONDS
         while True:
