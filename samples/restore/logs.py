@@ -12,6 +12,8 @@ ROUTES = {"rates": "/rates", "bonds": "/bonds", "open": "/day/open", "redeem": "
 ACT = re.compile(r'\{"act":"(\w+)",(.*)\}', re.S)
 RATE = re.compile(r'("(?:rate|extension)":"\d+)(?:\.00|(\.\d)0|(\.\d\d))%"')
 NUMBER_REUSED = 10
+#: Raised for a line that is no entry, or an entry that is no request. RecursionError: JSON that is nested too deep for Python.
+UNREADABLE = (ValueError, KeyError, TypeError, AttributeError, RecursionError)
 
 
 class Asked(NamedTuple):
@@ -109,17 +111,18 @@ def seconds_of(time: str) -> float:
 
 
 def of_proxy(path: str, lines: List[str], notes: List[str]) -> List[Asked]:
-    """The requests of a proxy's log that reached the counter. Before the brace of an entry syslog writes what it likes."""
+    """The requests of a proxy's log that reached the counter. Before the brace of an entry syslog writes what it likes. If an entry that the
+    counter answered 200 or 409 can't be read as a request, the log is refused: the store would lack what it did."""
     found, others = [], 0
-    for text in lines:
-        start = text.find("{")
-        if start < 0:
-            others += bool(text.strip())
-            continue
+    for count, text in enumerate(lines, 1):
+        entry: Any = None
         try:
-            one = entry_in(json.loads(text[start:]), path)
-        except (ValueError, KeyError, TypeError, AttributeError):
-            others += 1
+            entry = json.loads(text[text.index("{") :])
+            one = entry_in(entry, path)
+        except UNREADABLE as fault:
+            if status_in(entry) is not None:
+                raise BadArchive(f"{path}: line {count} was answered {entry['counter']} by the counter, and can't be read as a request: {text[:300]}") from fault
+            others += bool(text.strip())
             continue
         if one is not None:
             found.append(one)
@@ -128,17 +131,23 @@ def of_proxy(path: str, lines: List[str], notes: List[str]) -> List[Asked]:
     return found
 
 
+def status_in(entry: Any) -> Optional[int]:
+    """The counter's status of an entry, if it kept a reply to the request: 200 or 409."""
+    is_posted = isinstance(entry, dict) and entry.get("route") in ROUTES.values()
+    return int(entry["counter"]) if is_posted and entry.get("counter") in ("200", "409") else None
+
+
 def entry_in(entry: Dict[str, Any], path: str) -> Optional[Asked]:
     """The request of an entry. None if the counter never saw it, refused its number, or couldn't read it."""
     if not entry["counter"] or entry["route"] not in ROUTES.values():
         return None
-    status = int(entry["counter"]) if entry["counter"] in ("200", "409") else None
+    status = status_in(entry)
     if status is None and entry["counter"] not in ("-", "502", "503", "504"):
         return None
     body = json.loads(entry["body"])
     desk, number = body.get("desk") or 0, body["number"]
     if type(desk) is not int or type(number) is not int:
-        return None
+        raise ValueError("no desk or no number")
     reply = reply_in(entry.get("reply", "")) if status else None
     if reply is not None and f'{{"code":{NUMBER_REUSED},' in reply:
         return None
@@ -149,10 +158,9 @@ def entry_in(entry: Dict[str, Any], path: str) -> Optional[Asked]:
 def reply_in(text: str) -> Optional[str]:
     """A reply that is whole. A client that left may have cut what the proxy wrote down."""
     try:
-        json.loads(text)
-    except ValueError:
+        return text if isinstance(json.loads(text), dict) else None
+    except (ValueError, RecursionError):
         return None
-    return text
 
 
 # ---- the order
