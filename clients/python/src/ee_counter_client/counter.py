@@ -259,8 +259,8 @@ class Counter:
         if os.getpid() != self._process:
             raise Closed(f"the counter belongs to process {self._process}, and not to the one that was forked from it: open one of its own, on another journal")
 
-    def _act(self, path: str, fields: Json, bookmark: Any, key: Optional[str], kind: Type[Kind]) -> Kind:
-        """Sends a new request, or the same one that is still open, until its reply has come."""
+    def _act(self, path: str, fields: Json, bookmark: Any, key: Optional[str], kind: Type[Kind], final: Tuple[Type[CounterError], ...] = ()) -> Kind:
+        """Sends a new request, or the same one that is still open, until its reply has come. An error of the set-up that is `final` ends it whenever it comes."""
         key, bookmark = key_of(key), bookmark_of(bookmark)
         with self._turn() as deadline:
             result = self._kept(path, fields, key)
@@ -268,7 +268,7 @@ class Counter:
                 self._test_nothing_else_is_open(path, fields, key)
                 self._try_the_way(deadline)
                 self._opened(path, fields, bookmark, key)
-                result = self._settled(deadline)
+                result = self._settled(deadline, final)
             assert isinstance(result, kind)
             return result
 
@@ -294,7 +294,7 @@ class Counter:
         """Writes a new request into the journal, unless it is open."""
         if self._journal.record["open"] is None:
             number = self._journal.record["next"]
-            if number >= MOST_NUMBER:
+            if number > MOST_NUMBER:
                 raise CounterError(f"desk {self.desk} has no numbers left")
             self._journal.change(next=number + 1, open={"number": number, "step": 1, "sent": 0, "path": path, "fields": fields, "bookmark": bookmark, "key": key})
 
@@ -322,7 +322,7 @@ class Counter:
         error.may_be_done = still is not None and still["sent"] > 0
         return error
 
-    def _settled(self, deadline: Deadline) -> Result:
+    def _settled(self, deadline: Deadline, final: Tuple[Type[CounterError], ...] = ()) -> Result:
         """Sends what is open until its reply has come. NumberReused means that another request of this desk has the number: this one was never done under it,
         and continues under a higher one. A fault, or Forbidden, ends only a request that was sent once."""
         for _ in self._trials(deadline, True):
@@ -335,7 +335,7 @@ class Counter:
                 path = self._journal.record["open"]["path"]
                 self._journal.change(open=None)
                 raise error_of(answer, path)
-            elif answer.setup is not None and not self._is_known:
+            elif answer.setup is not None and (not self._is_known or isinstance(answer.setup, final)):
                 raise self._as_open(answer.setup)
             else:
                 self._failed(answer)
@@ -377,7 +377,7 @@ class Counter:
     def _renumber(self) -> None:
         request = self._journal.record["open"]
         number = request["number"] + request["step"]
-        if number >= MOST_NUMBER:
+        if number > MOST_NUMBER:
             raise CounterError(f"desk {self.desk} has no numbers left")
         self._journal.change(next=number + 1, open={**request, "number": number, "step": request["step"] * 2, "sent": 0})
         LOG.warning("number %d was used by another request of desk %d; continuing with %d", request["number"], self.desk, number)

@@ -31,6 +31,11 @@ class CounterError(Exception):
     may_be_done: bool = False
 
 
+def in_file(line: Optional[int], rows: Optional[Tuple[int, int]]) -> str:
+    """Says where in a file it is: the line, and the rows that weren't registered with it."""
+    return (f", line {line} of the file" if line else "") + (f"; with it rows {rows[0]} to {rows[1]} of the file" if rows else "")
+
+
 # ---- the program or its data must be corrected
 
 
@@ -63,11 +68,15 @@ class Closed(BadCall):
 
 
 class Fault(BadCall):
-    """The counter can't read the request, which was sent once. `code` is from 60 to 69, `name` its name, `field` the field that it names."""
+    """The counter can't read the request, which was sent once. `code` is from 60 to 69, `name` its name, `field` the field that it names. `rows` is as in Refused."""
 
     def __init__(self, answer: Mapping[str, Any]) -> None:
         self.answer, self.code, self.name, self.field = dict(answer), int(answer["code"]), str(answer["fault"]), answer.get("field")
+        self.rows: Optional[Tuple[int, int]] = None
         super().__init__(f"{self.name} (code {self.code})" + (f", field {self.field}" if self.field else ""))
+
+    def __str__(self) -> str:
+        return super().__str__() + in_file(None, self.rows)
 
 
 # ---- a person must correct the set-up
@@ -171,8 +180,8 @@ class StillOpen(UnknownOutcome):
 class Refused(CounterError):
     """The counter refused the request, and nothing was changed. The refusal is the request's reply for good; a corrected request gets a new number.
 
-    `code` is from 10 to 54, `name` its name, `details` what it names, `reply` the counter's own JSON object. `rows` has the first and last row of the file that was
-    being registered. A code that this version doesn't know is a plain Refused."""
+    `code` is from 10 to 54, `name` its name, `details` what it names, `reply` the counter's own JSON object. If a file was being registered, `rows` has the first and
+    last row of the request, and `line` the line of the bond that the refusal names. A code that this version doesn't know is a plain Refused."""
 
     #: The keys of the reply beside its code and name, with their types.
     keys: Tuple[Tuple[str, Type[object]], ...] = ()
@@ -182,10 +191,11 @@ class Refused(CounterError):
         self.code, self.name, self.request = int(reply["code"]), str(reply["refused"]), request
         self.details = {key: value for key, value in reply.items() if key not in ("code", "refused")}
         self.rows: Optional[Tuple[int, int]] = None
+        self.line: Optional[int] = None
         super().__init__(f"{self.name} (code {self.code})" + "".join(f", {key} {value}" for key, value in self.details.items()))
 
     def __str__(self) -> str:
-        return super().__str__() + (f"; with it rows {self.rows[0]} to {self.rows[1]} of the file" if self.rows else "")
+        return super().__str__() + in_file(self.line, self.rows)
 
 
 class OfSerial(Refused):

@@ -5,13 +5,13 @@ import csv
 import hashlib
 import logging
 import os
-from typing import Any, Callable, Dict, Iterator, List, NamedTuple, Sequence, Union
+from typing import Any, Callable, Dict, Iterator, List, NamedTuple, Optional, Sequence, Union
 
 from .answers import compact
 from .counter import Counter, path_of
-from .errors import BadFile, BadValue, Refused
+from .errors import BadFile, BadValue, Fault, Refused, SignInRefused
 from .results import Added
-from .spelling import MOST_ROWS, Json, bond_of, rate_row_of
+from .spelling import MOST_ROWS, Json, bond_of, rate_row_of, serial_of
 
 LOG = logging.getLogger("ee_counter_client")
 Path = Union[str, "os.PathLike[str]"]
@@ -87,7 +87,8 @@ def place_in(marks: Sequence[str], bookmark: Any) -> int:
 
 def register(counter: Counter, path: Path, progress: Callable[[int, int], None] = lambda done, of: None) -> Registered:
     """Registers the bonds of an inventory file in requests of 500, and continues where an earlier call was stopped. `progress` is called with the rows that are done,
-    and with all rows. A refusal names the rows of its request (`rows`)."""
+    and with all rows. A refusal names the rows of its request (`rows`), and the line of the bond (`line`). A password that isn't accepted ends it at once, also after a
+    good exchange: sent again and again, it would lock this address out."""
     bonds = bonds_in(path)
     marks = list(digests(bonds))
     finish_other(counter, bonds, marks)
@@ -97,13 +98,26 @@ def register(counter: Counter, path: Path, progress: Callable[[int, int], None] 
     while place < len(bonds):
         end = min(place + MOST_ROWS, len(bonds))
         try:
-            added: Added = counter.add_bonds(bonds[place:end], bookmark={"registered": end, "digest": marks[end]})
-        except Refused as refusal:
+            added = counter._act("/bonds", {"bonds": bonds[place:end]}, {"registered": end, "digest": marks[end]}, None, Added, (SignInRefused,))
+        except (Refused, Fault) as refusal:
             refusal.rows = (place + 2, end + 1)
+            if isinstance(refusal, Refused):
+                refusal.line = line_of(path, refusal.details.get("serial"))
             raise
         new, same, place = new + added.new, same + added.same, end
         progress(place, len(bonds))
     return Registered(new, same, begun)
+
+
+def line_of(path: Path, serial: object) -> Optional[int]:
+    """Finds the line of a bond in an inventory file, which can differ from its row: rows don't count empty lines. None if the bond isn't found."""
+    try:
+        with open(path, encoding="utf-8-sig", newline="") as file:
+            reader = csv.reader(file)
+            next(reader)
+            return next((reader.line_num for record in reader if record and serial_of(record[0]) == serial), None)
+    except (csv.Error, ValueError, OSError, StopIteration):
+        return None
 
 
 def finish_other(counter: Counter, bonds: Sequence[Json], marks: Sequence[str]) -> None:
