@@ -32,6 +32,8 @@ def lay_out(tree, program, library, version, epoch):
         copy(TOP / name, tree / name)
     for name in ("debian", "completion", "man", "client"):
         copy(TOP / "packaging" / name, tree / name)
+    (tree / "verify").mkdir()
+    shutil.copy(TOP / "packaging" / "verify", tree / "verify" / "ladwenpik-verify")
     (tree / "program").mkdir()
     shutil.copy(program, tree / "program" / "ee_cli")
     for name in LIBRARY_FILES:

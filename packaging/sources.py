@@ -1,4 +1,5 @@
 """What the packages are built from: the checkout, its commit, and whether the program and the library are those of the sources as they are."""
+import hashlib
 import os
 import re
 import shutil
@@ -8,11 +9,15 @@ from pathlib import Path
 
 TOP = Path(__file__).resolve().parent.parent
 PROGRAM = TOP / "crates" / "ee_cli" / "out" / "ee_cli"
+#: The toolchain's own record of a build. It ends with the checksum of the program that it built.
+STAMP = PROGRAM.with_suffix(".stamp")
 LIBRARY = TOP / "clients" / "value" / "out"
 #: What clients/value/build makes, and packages take.
 LIBRARY_FILES = ("libee_value.a", "libee_value.so.1")
-#: The file beside the library that holds the checksum of its sources.
+#: The file beside the library that holds the checksums of its sources, and of what was built.
 LIBRARY_SOURCES = LIBRARY / "libee_value.sources"
+#: The crates of the program and of the library.
+CRATES = ("ee_cli", "ee_value_c")
 #: The functions of ./ee_cli that say which files a program is built from. They are run as they stand there.
 FUNCTIONS = ("crates", "sources", "checksum")
 
@@ -29,42 +34,77 @@ def told(*words, cwd=TOP, env=None):
     return ran.stdout
 
 
-def checksum(name):
-    """The checksum of the sources of a program or a library of this repository, as ./ee_cli computes it."""
+def sum_of(path):
+    return hashlib.sha256(Path(path).read_bytes()).hexdigest()
+
+
+def checksum(name, **env):
+    """The checksum of the sources of a program or a library of this repository, as ./ee_cli computes it. That sorts names
+    by the locale: LC_ALL=C gives a checksum that is the same everywhere."""
     script = (TOP / "ee_cli").read_text()
     found = [re.search(rf"^{function}\(\) \{{\n.*?^\}}\n", script, re.M | re.S) for function in FUNCTIONS]
     if None in found:
         raise Unfit("./ee_cli no longer has the functions that compute the checksum of sources")
-    return told("bash", "-c", f'top=$1\n{"".join(match[0] for match in found)}checksum "$2"', "checksum", str(TOP), name).strip()
+    script = f'top=$1\n{"".join(match[0] for match in found)}checksum "$2"'
+    return told("bash", "-c", script, "checksum", str(TOP), name, env={**os.environ, **env}).strip()
 
 
 def proved_program():
-    """The program, if it is the one that ./ee_cli proved and built from the sources as they are."""
-    record = PROGRAM.with_suffix(".sources")
+    """The program, if ./ee_cli proved and built it from the sources as they are, and the toolchain's stamp names it."""
+    name, record = PROGRAM.relative_to(TOP), PROGRAM.with_suffix(".sources")
+    again = "run ./ee_cli --version, or name a program by --program"
     if not PROGRAM.exists() or not record.exists():
-        raise Unfit(f"{PROGRAM.relative_to(TOP)} isn't proved and built: run ./ee_cli --version, or name a program by --program")
+        raise Unfit(f"{name} isn't proved and built: {again}")
     if record.read_text().strip() != checksum("ee_cli"):
-        raise Unfit(f"{PROGRAM.relative_to(TOP)} isn't the program of the sources as they are: run ./ee_cli --version, or name a program by --program")
+        raise Unfit(f"{name} isn't the program of the sources as they are: {again}")
+    if not STAMP.exists() or not STAMP.read_text().endswith(sum_of(PROGRAM)):
+        stamp = f"{STAMP.name} doesn't end with its checksum"
+        raise Unfit(f"{name} isn't the program that the toolchain built: {stamp}. Remove it, and {again}")
     return PROGRAM
 
 
-def library_sum():
-    """The checksum of all that the library is made from: its crates, and the script that builds it."""
-    return f"{checksum('ee_value_c')}\n{told('sha256sum', 'clients/value/build').strip()}\n"
+def record_of_sources():
+    """The lines of a log of the gate that say what it is of."""
+    return [f"packaging: sources of {name} {checksum(name, LC_ALL='C').split()[0]}" for name in CRATES]
+
+
+def record_of_program():
+    return f"packaging: program {sum_of(PROGRAM)}"
+
+
+def prove(log):
+    """Proves everything from nothing by `rt ci --anew`, which leaves its program in crates/ee_cli/out. The log has what rt
+    prints. Before it stand the checksums of the sources; after it these again, and the program's."""
+    if shutil.which("rt") is None:
+        raise Unfit("the toolchain's command rt is not on the PATH")
+    say = f"packaging: proving everything from nothing, which takes an hour and more; {log} has what rt prints"
+    print(say, file=sys.stderr, flush=True)
+    with open(log, "w") as file:
+        print(*record_of_sources(), sep="\n", file=file, flush=True)
+        how = {"cwd": TOP, "stdin": subprocess.DEVNULL, "stdout": file, "stderr": subprocess.STDOUT}
+        status = subprocess.run(["rt", "ci", "--anew"], **how).returncode
+        if status != 0:
+            raise Unfit(f"rt ci --anew ended with status {status}: read {log}")
+        print(*record_of_sources(), record_of_program(), sep="\n", file=file)
+
+
+def library_record():
+    """The checksums of all that the library is made from, its crates and the script that builds it, and of its files."""
+    made = [f"{sum_of(LIBRARY / name)}  {name}\n" for name in LIBRARY_FILES]
+    return f"{checksum('ee_value_c')}\n{told('sha256sum', 'clients/value/build').strip()}\n{''.join(made)}"
 
 
 def proved_library():
-    """The folder of the library, which is proved and built first if it isn't the one of the sources as they are."""
-    whole = library_sum()
+    """The folder of the library. It is proved and built first, unless this was done from the sources as they are."""
     is_there = all((LIBRARY / name).exists() for name in LIBRARY_FILES)
-    if is_there and LIBRARY_SOURCES.exists() and LIBRARY_SOURCES.read_text() == whole:
+    if is_there and LIBRARY_SOURCES.exists() and LIBRARY_SOURCES.read_text() == library_record():
         return LIBRARY
     if shutil.which("rt") is None:
         raise Unfit("the library of values isn't proved and built from these sources, and the toolchain's command rt is not on the PATH")
     print("packaging: proving and building the library of values, which takes some minutes the first time", file=sys.stderr, flush=True)
     LIBRARY_SOURCES.unlink(missing_ok=True)
     told("clients/value/build", "--jobs", "1")
-    LIBRARY_SOURCES.write_text(whole)
+    LIBRARY_SOURCES.write_text(library_record())
     return LIBRARY
 
 

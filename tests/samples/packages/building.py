@@ -14,9 +14,18 @@ TOP = Path(__file__).resolve().parents[3]
 #: What the machine that builds may have otherwise, and the packages mustn't show.
 OTHERWISE = {"TZ": "Asia/Tokyo", "LC_ALL": "C", "HOME": "/nonexistent"}
 
-#: A log of ./ee_cli: the crates with their verdicts, the program's own last, and a summary.
-VERDICT = "logic=proved functions=9 axioms=62 target=x86_64-unknown-linux-gnu cpu=x86-64-v2 sum=dac8208d650f15bf"
-PROOF = f"crate ee_io: modules loaded=0 checked=3\nlogic=proved functions=3 sum=dac8208d650f15bf\ncrate ee_cli: modules loaded=0 checked=230\naxioms std: none reached of the 2 declared\n{VERDICT}\n== summary\nee_cli: ok\n"
+#: The toolchain's last line on a crate that was proved from nothing, and on one that was checked over kept work.
+VERDICT = (
+    "logic=proved functions=9 axioms=62 target=x86_64-unknown-linux-gnu cpu=x86-64-v2 sum=dac8208d650f15bf"
+    " native=nat,char,string logic-built=trusted libraries-built=trusted statements=trusted"
+)
+KEPT = f"{VERDICT} incremental=trusted"
+#: A log of ./ee_cli: the crates with their last lines, the program's own last, and a summary.
+PROOF = (
+    "crate ee_io: modules loaded=0 checked=3\nlogic=proved functions=3 sum=dac8208d650f15bf\n"
+    f"crate ee_cli: modules loaded=0 checked=230\naxioms std: none reached of the 2 declared\n{KEPT}\n"
+    "== summary\nee_cli: ok\n"
+)
 
 #: What the list of materials may have.
 FIELDS = Path(__file__).resolve().parent / "spdx_fields.json"
@@ -83,31 +92,73 @@ def built_twice(folder, words):
     return first
 
 
-def refuses_another_program(folder, program):
-    """Without --program, no program and one whose sources have changed since are refused. The evidence says by what a program was proved."""
-    tree = folder / "one"
-    ran = run(str(tree / "packaging" / "build"), "--to", str(folder / "none"), env={**os.environ, "SOURCE_DATE_EPOCH": "1"})
-    right(ran.returncode == 1 and "isn't proved and built" in ran.stdout, "without a proved program it is refused", ran.stdout)
+def told_by(tree, expression):
+    """What an expression over packaging/sources.py of a tree gives, as text."""
+    script = f"import sys; sys.path.insert(0, 'packaging'); import sources; print({expression})"
+    return done(sys.executable, "-B", "-c", script, cwd=tree).rstrip("\n")
+
+
+def as_built(tree, program):
+    """Puts a program into a tree as ./ee_cli leaves it: with the checksum of its sources, the toolchain's stamp and the log
+    of its proof beside it."""
     out = tree / "crates" / "ee_cli" / "out"
-    out.mkdir()
+    out.mkdir(exist_ok=True)
     shutil.copy(program, out / "ee_cli")
-    (out / "ee_cli.sources").write_text(f"{'0' * 64}  -\n")
-    ran = run(str(tree / "packaging" / "build"), "--to", str(folder / "none"), env={**os.environ, "SOURCE_DATE_EPOCH": "1"})
-    right(ran.returncode == 1 and "isn't the program of the sources as they are" in ran.stdout and not (folder / "none").exists(), "so is one whose sources were others", ran.stdout)
-    ran = run("bash", "-c", f"cd {tree} && sed -n '/^crates()/,/^}}/p;/^sources()/,/^}}/p;/^checksum()/,/^}}/p' ee_cli > f && top=$PWD && . ./f && rm f && checksum ee_cli")
-    (out / "ee_cli.sources").write_text(ran.stdout)
-    (folder / "ci.log").write_text("".join(f"line {nth}\n" for nth in range(1, 20)) + "31 passed, 0 failed\n")
-    words = ["--library", str(TOP / "clients" / "value" / "out"), "--ci-log", str(folder / "ci.log")]
-    said = Release(tree, folder / "taken", words).file("_evidence.txt").read_text()
-    right("proved and built from these sources by ./ee_cli" in said, "control: with the checksum of these sources beside it, it is taken, and the evidence says so", said)
-    last = said.split("whose last lines are:\n")[1].split("\n\n")[0].split()
-    right(last == " ".join([*(f"line {nth}" for nth in range(9, 20)), "31 passed, 0 failed"]).split(), "and quotes the last twelve lines of the gate's log", said)
-    right("checker    its last line is not given" in said, "without the log of its proof the evidence names no verdict", said)
+    (out / "ee_cli.sources").write_text(f"{told_by(tree, 'sources.checksum(sources.CRATES[0])')}\n")
+    (out / "ee_cli.stamp").write_text("0" * 64 + done("sha256sum", str(program)).split()[0])
     (out / "ee_cli.log").write_text(PROOF)
-    said = Release(tree, folder / "proof", words).file("_evidence.txt").read_text()
-    right(f"checker    {VERDICT}\n" in said, "with the log it names the checker's verdict on the program's own crate", said)
-    said = Release(tree, folder / "named", [*words, "--program", program]).file("_evidence.txt").read_text()
-    right("checker    its last line is not given" in said and "NAMED BY --program" in said, "control: for a program that is named by hand it doesn't", said)
+    return out
+
+
+def gate_log(tree, program, line=VERDICT):
+    """The log of a gate over a tree, as packaging/build --prove writes it, with one last line for all crates."""
+    own = told_by(tree, "chr(10).join(sources.record_of_sources())")
+    crates = told_by(tree, "*sources.crates_file()").split()
+    edits = len(list(tree.glob("crates/*/must-fail/*.edit")))
+    lines = [own]
+    for crate in crates:
+        lines += [f"== {crate}", f"crate {crate}: modules loaded=0 checked=230", line, f"rt: {crate} proved"]
+    ok = f"rt: ok; handles allowed: Wait, Net; must-fail edits: {edits} refused"
+    lines += [f"{ok}; every proof and must-fail edit was done in this run", f"{len(crates) + edits} passed, 0 failed", own]
+    return "\n".join([*lines, f"packaging: program {done('sha256sum', str(program)).split()[0]}\n"])
+
+
+def build_of(tree, to, *words):
+    """How packaging/build of a tree ended."""
+    env = {**os.environ, "SOURCE_DATE_EPOCH": "1"}
+    return run(str(tree / "packaging" / "build"), "--to", str(to), *map(str, words), env=env)
+
+
+def refuses(tree, to, said, what, *words):
+    """packaging/build ends with status 1 and says why, and makes nothing."""
+    ran = build_of(tree, to, *words)
+    right(ran.returncode == 1 and said in ran.stdout and not to.exists(), what, ran.stdout)
+
+
+def refuses_another_program(folder, program):
+    """A program that isn't there is refused without --program, as is one of other sources, and one that the toolchain
+    didn't build."""
+    tree, none, library = folder / "one", folder / "none", ("--library", TOP / "clients" / "value" / "out")
+    refuses(tree, none, "isn't proved and built", "without a proved program it is refused", *library)
+    out = as_built(tree, program)
+    (out / "ee_cli.sources").write_text(f"{'0' * 64}  -\n")
+    refuses(tree, none, "isn't the program of the sources as they are", "so is one whose sources were others", *library)
+    as_built(tree, program)
+    (out / "ee_cli").write_text(f'#!/bin/sh\nexec {program} "$@"\n')
+    said, what = "isn't the program that the toolchain built", "so is a script beside all that belongs to the proved one"
+    refuses(tree, none, said, what, *library)
+    as_built(tree, program)
+    said = Release(tree, folder / "taken", [*map(str, library)]).file("_evidence.txt").read_text()
+    is_taken = "built from these sources by ./ee_cli" in said
+    right(is_taken, "control: the program that the toolchain's stamp names is taken", said)
+    is_quoted = f"checker    {KEPT}\n" in said and "verdict    NONE FROM NOTHING" in said
+    right(is_quoted, "the evidence quotes the checker's last line, and says that it is no verdict from nothing", said)
+    (out / "ee_cli.log").write_text(PROOF.replace("crate ee_cli:", "crate ee_cli_value_alone:"))
+    said = Release(tree, folder / "other-log", [*map(str, library)]).file("_evidence.txt").read_text()
+    right("checker    its last line is not given" in said, "with the log of another program it has no line", said)
+    said = Release(tree, folder / "named", [*map(str, library), "--program", program]).file("_evidence.txt").read_text()
+    has_none = "checker    its last line is not given" in said and "NAMED BY --program" in said
+    right(has_none, "nor for a program that is named by hand", said)
     shutil.rmtree(out)
 
 

@@ -9,7 +9,7 @@ import time
 
 from building import right
 
-PAGES = {"ee_cli.1": "One process at a time uses a store", "ee_store.5": "cksumvfs", "counter.service.8": "returns only then", "counter-selftest.8": "changes no store", "counter-client.1": "A journal belongs to one desk"}
+PAGES = {"ee_cli.1": "One process at a time uses a store", "ee_store.5": "cksumvfs", "counter.service.8": "returns only then", "counter-selftest.8": "changes no store", "counter-client.1": "A journal belongs to one desk", "ladwenpik-verify.1": "checks the folder of a release, and changes nothing"}
 #: What is typed, and what stands in the line after a Tab.
 TYPED = (
     ("ee_cli im", "ee_cli import "),
