@@ -1,4 +1,4 @@
-"""The machine around the counter: units, disks, the queue of the port, copies, archives, and a probe."""
+"""The machine around the counter: units, disks, sockets, copies, archives, the log of requests, and a probe."""
 import contextlib
 import datetime
 import json
@@ -10,7 +10,8 @@ import time
 
 from . import snapshot
 
-LISTENS = "0A"
+#: States of a socket in /proc/net/tcp: it listens, or it has asked for a connection that isn't accepted yet.
+LISTENS, ASKS = "0A", "02"
 
 
 def units(metrics, path):
@@ -39,25 +40,54 @@ def store(metrics, path):
             metrics.add("ladwenpik_store_bytes", "gauge", "Size of the store's file and of the log beside it.", os.stat(path + end).st_size, file=name)
 
 
-def queue(metrics, port):
-    """How many connections wait to be accepted at the counter's port, as `ss -ltn` shows it. No connection is made for it."""
-    waiting = None
-    with open("/proc/net/tcp", encoding="ascii") as file:
-        for line in file.read().splitlines()[1:]:
-            words = line.split()
-            if words[3] == LISTENS and int(words[1].rpartition(":")[2], 16) == port:
-                waiting = (waiting or 0) + int(words[4].rpartition(":")[2], 16)
-    metrics.add("ladwenpik_port_open", "gauge", "1 if a process listens on the counter's port.", int(waiting is not None))
-    metrics.add("ladwenpik_waiting_connections", "gauge", "Connections that wait at the counter's port, 128 at most.", waiting or 0)
+def mounted(metrics, path):
+    """A disk of its own. If it is away, its path lies on the disk of the folder above."""
+    if os.stat(path).st_dev == os.stat(os.path.dirname(os.path.abspath(path))).st_dev:
+        raise OSError(f"no disk is mounted at {path}")
+    disk(metrics, path)
+
+
+def sockets(text, port):
+    """The lines of /proc/net/tcp with this local or remote port: each one's local and remote port, its state, and how many connections wait at it."""
+    for line in text.splitlines()[1:]:
+        words = line.split()
+        local, remote = (int(words[place].rpartition(":")[2], 16) for place in (1, 2))
+        if port in (local, remote):
+            yield local, remote, words[3], int(words[4].rpartition(":")[2], 16)
+
+
+def strangers(metrics, port):
+    """Whoever listens on the counter's port in the machine's own network. The counter doesn't: it has a network of its own."""
+    text = "\n"
+    for name in ("/proc/net/tcp", "/proc/net/tcp6"):
+        with contextlib.suppress(FileNotFoundError), open(name, encoding="ascii") as file:
+            text += file.read().partition("\n")[2]
+    count = sum(local == port and state == LISTENS for local, _, state, _ in sockets(text, port))
+    metrics.add("ladwenpik_port_strangers", "gauge", "Sockets that listen on the counter's port in the machine's own network, where the counter doesn't.", count)
+
+
+def queue(metrics, folder, port):
+    """Whether the counter listens in its network, and how many connections wait for it there and at its Unix socket, by what `prepare` wrote."""
+    with open(os.path.join(folder, "tcp"), encoding="ascii") as file:
+        found = list(sockets(file.read(), port))
+    with open(os.path.join(folder, "unix"), encoding="utf-8") as file:
+        at_socket = sum(int(line.split()[2]) for line in file)
+    listening = [waiting for local, _, state, waiting in found if local == port and state == LISTENS]
+    asking = sum(remote == port and state == ASKS for _, remote, state, _ in found)
+    metrics.add("ladwenpik_port_open", "gauge", "1 if a process listens on the counter's port in the counter's network.", int(bool(listening)))
+    for at, waiting in (("port", sum(listening) + asking), ("socket", at_socket)):
+        metrics.add("ladwenpik_waiting_connections", "gauge", "Connections that wait at the counter's port, of which it holds 128, and at its Unix socket.", waiting, at=at)
 
 
 def copies(metrics, folder):
+    """Of copies. One that is named in the future, as by a clock that was wrong, doesn't hide that later ones are missing."""
     found = [taken for taken, path in snapshot.named_in(folder) if not os.path.basename(path).startswith("watch-")]
+    known = [taken for taken in found if taken <= time.time()]
     refused = [name for name in os.listdir(folder) if re.match(r"refused-\d{4}-", name)]
-    metrics.add("ladwenpik_copies", "gauge", "Copies that are kept.", len(found))
+    metrics.add("ladwenpik_copies", "gauge", "Copies that are kept, whose names aren't later than now.", len(known))
     metrics.add("ladwenpik_copies_refused", "gauge", "Copies that the program didn't open.", len(refused))
-    if found:
-        metrics.add("ladwenpik_copy_timestamp_seconds", "gauge", "When the newest copy was taken.", f"{max(found):.3f}")
+    if known:
+        metrics.add("ladwenpik_copy_timestamp_seconds", "gauge", "When the newest copy was taken, by a name that isn't later than now.", f"{max(known):.3f}")
 
 
 def archive(metrics, folder):
@@ -69,10 +99,23 @@ def archive(metrics, folder):
     metrics.add("ladwenpik_archive_requests", "gauge", "Requests that the archive has, with those of its first copy.", int(end["row"]), archive=folder)
 
 
+def requests_log(metrics, folder):
+    """How far the log of requests is behind nginx's log of posts, by what `prepare` wrote: the times of both logs' last entries. Both get each entry at once."""
+    with open(os.path.join(folder, "requests"), encoding="ascii") as file:
+        posted, kept = (float(line) for line in file)
+    metrics.add("ladwenpik_requests_log_behind_seconds", "gauge", "How much later the last entry of nginx's log of posts is than that of the log of requests.", f"{max(0.0, posted - kept):.3f}")
+
+
 def probe(metrics, command):
-    """A check as of Nagios, by its status: 0 and 1 mean that the counter answers."""
-    begun = time.monotonic()
-    ran = subprocess.run(shlex.split(command), stdout=subprocess.PIPE, stderr=subprocess.STDOUT, timeout=60)
-    metrics.add("ladwenpik_probe_success", "gauge", "1 if the check found that the counter answers.", int(ran.returncode in (0, 1)))
-    metrics.add("ladwenpik_probe_status", "gauge", "The check's status: 0 OK, 1 WARNING, 2 CRITICAL, 3 UNKNOWN.", ran.returncode)
-    metrics.add("ladwenpik_probe_duration_seconds", "gauge", "How long the check took.", f"{time.monotonic() - begun:.6f}")
+    """A check as of Nagios, by its status: 0 and 1 mean that the counter answers. A check that can't be run or doesn't end has found no counter."""
+    begun, status, said = time.monotonic(), 3, b""
+    try:
+        ran = subprocess.run(shlex.split(command), stdout=subprocess.PIPE, stderr=subprocess.STDOUT, timeout=60)
+        status, said = ran.returncode, ran.stdout
+    finally:
+        metrics.add("ladwenpik_probe_success", "gauge", "1 if the check found that the counter answers.", int(status in (0, 1)))
+        metrics.add("ladwenpik_probe_status", "gauge", "The check's status: 0 OK, 1 WARNING, 2 CRITICAL, 3 UNKNOWN.", status)
+        metrics.add("ladwenpik_probe_duration_seconds", "gauge", "How long the check took.", f"{time.monotonic() - begun:.6f}")
+    days = re.search(rb"certificate=(-?\d+(\.\d+)?)d;", said)
+    if days:
+        metrics.add("ladwenpik_certificate_end_timestamp_seconds", "gauge", "When nginx's certificate ends, as the check saw it.", f"{time.time() + float(days[1]) * 86400:.0f}")

@@ -116,7 +116,7 @@ def entry_of(line):
     try:
         read = json.loads(line[start:].decode("utf-8", "replace")) if start >= 0 else None
         status, at = read["status"], seconds_in(read["at"])
-    except (ValueError, KeyError, TypeError):
+    except (ValueError, KeyError, TypeError, RecursionError):
         return None
     if not re.fullmatch(r"\d{3}", str(status)) or at is None:
         return None
@@ -134,7 +134,7 @@ def of_texts(body, reply):
         try:
             read = json.loads(text)
             found.update((name, str(read[name])) for name in names if name in read)
-        except (ValueError, TypeError):
+        except (ValueError, TypeError, RecursionError):
             pass
     if "code" in found:
         found.pop("ticket", None)

@@ -41,7 +41,7 @@ def installed(machine, release):
     machine.shell(f"cd release\n{section('INSTALL', 'Install it')[0]}")
     said = machine.shell("cd release\n" + section("INSTALL", "Check that it is the proved one")[2])
     right("usr/bin/ee_cli" in said, "the installed program has the sum that the evidence names", said)
-    same = machine.on("sh", "-c", "sed 1d /usr/bin/ladwenpik-verify > one; sed 1d release/ladwenpik-verify > other; cmp one other && ladwenpik-verify --help")
+    same = machine.on("sh", "-c", "cd /root; sed 1d /usr/bin/ladwenpik-verify > one; sed 1d release/ladwenpik-verify > other; cmp one other && ladwenpik-verify --help")
     right(same.returncode == 0, "the verifier of the release is installed", same.stdout)
     states = [machine.shown(unit, "ActiveState") for unit in ("counter.service", "counter-http.socket", "counter-archive.service")]
     right(states == ["inactive"] * 3, "nothing is started by installing", states)

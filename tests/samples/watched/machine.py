@@ -18,7 +18,7 @@ FILES = {
     "etc/hosts": "127.0.0.1 localhost counter.bank.example\n",
     "etc/machine-id": "0123456789abcdef0123456789abcdef\n",
 }
-FOLDERS = ["usr", "etc/systemd/system", "etc/counter", "var/lib/counter", "var/lib/nginx", "var/log/nginx", "proc", "sys", "dev", "run", "tmp", "root/clients", "root/samples", "opt", "srv/counter", "srv/copies", "srv/archive", "srv/requests", "home", "before"]
+FOLDERS = ["usr", "etc/systemd/system", "etc/counter", "var/lib/counter", "var/lib/nginx", "var/log/nginx", "proc", "sys", "dev", "run", "tmp", "root/clients", "root/samples", "opt", "srv/counter", "srv/copies", "srv/archive", "srv/elsewhere", "srv/requests", "mnt/away", "home", "before"]
 DEVICES = ["null", "zero", "full", "random", "urandom", "tty"]
 CLONE_NEWNET = 0x40000000
 
@@ -49,7 +49,9 @@ def make_root(root, program, folder):
     for path, text in FILES.items():
         with open(f"{root}/{path}", "w", encoding="utf-8") as file:
             file.write(text)
-    shutil.copy("/etc/ld.so.cache", f"{root}/etc/ld.so.cache")
+    os.symlink("/run", f"{root}/var/run")
+    for name in ("ld.so.cache", "nftables.conf"):
+        shutil.copy(f"/etc/{name}", f"{root}/etc/{name}")
     for name in ("nginx", "ssl"):
         shutil.copytree(f"/etc/{name}", f"{root}/etc/{name}", symlinks=True)
     mount_kernel(root)
@@ -77,7 +79,7 @@ def mount_kernel(root):
 
 
 def mount_disks(root, folder):
-    """The disks of samples/snapshots/README.md, and a small one for the archive."""
+    """The disks of samples/snapshots/README.md, and small ones for the archive, its second folder and the log of requests."""
     for name in ("books", "copies"):
         with open(f"{folder}/{name}.disk", "w", encoding="ascii") as disk:
             disk.truncate(512 << 20)
@@ -88,7 +90,8 @@ def mount_disks(root, folder):
     device = done("findmnt", "-n", "-o", "SOURCE", f"{root}/srv/counter").strip()
     done("mount", "-o", "subvol=store", device, f"{root}/var/lib/counter")
     done("mount", "-o", "loop", f"{folder}/copies.disk", f"{root}/srv/copies")
-    done("mount", "-t", "tmpfs", "-o", "size=64m,mode=755", "archive", f"{root}/srv/archive")
+    for name in ("archive", "elsewhere", "requests"):
+        done("mount", "-t", "tmpfs", "-o", "size=64m,mode=755", name, f"{root}/srv/{name}")
 
 
 def inside(program, folder):

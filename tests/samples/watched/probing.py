@@ -120,7 +120,7 @@ def over_servers(check):
 
 
 def words(check):
-    for given in (["--nonsense"], ["ftp://127.0.0.1"], ["http://127.0.0.1/path"], ["--user", "x"], ["http://no.such.invalid"], ["--user", "x", "--password", "/nowhere"]):
+    for given in (["--nonsense"], ["ftp://127.0.0.1"], ["unix:here"], ["https://127.0.0.1", "--certificate", "/nowhere"], ["http://127.0.0.1/path"], ["--user", "x"], ["http://no.such.invalid"], ["--user", "x", "--password", "/nowhere"]):
         status, line, _ = checked(check, *given)
         right(status == 3 and line.startswith("COUNTER UNKNOWN - "), f"{' '.join(given)}: status 3", (status, line))
 
@@ -154,18 +154,48 @@ def check(path, program, folder):
 # ---- through nginx
 
 
+CHECK = "/opt/counter/watch/check_counter"
+
+
 def through_nginx(world):
     """The check's user may ask for the check's path and for nothing else; what it says of a wrong password and of certificates."""
     with open(f"{world.machine.root}/etc/counter/watch-password", encoding="utf-8") as file:
         password = file.read().rstrip("\n")
     asked = [world.ask(*words, user="watch", password=password) for words in (("GET", "/batch/2005-05-01"), ("GET", "/batch/2012-02-06"), ("GET", "/inventory/7/2012-02"), ("GET", "/ticket/1"), ("POST", "/redeem", {}), ("POST", "/batch/2005-05-01", {}))]
     right(asked[0] == (404, '{"code":69,"fault":"NotFound"}') and [status for status, _ in asked[1:]] == [403] * 5, "by nginx the check's user is answered on its path, and refused on each other one", asked)
-    words = "/opt/counter/watch/check_counter https://counter.bank.example --user watch --ca /etc/counter/certificate.pem --password"
+    words = f"{CHECK} https://counter.bank.example --user watch --ca /etc/counter/certificate.pem --password"
     said = world.machine.follow(f"{words} /etc/counter/watch-password")
     right(said.startswith("COUNTER OK") and "certificate=" in said, f"the check by nginx: {said.strip()}")
     ran = world.machine.on("sh", "-c", f"echo nothing > /tmp/no; {words} /tmp/no")
-    right(ran.returncode == 3 and "(401)" in ran.stdout, "with a wrong password: status 3", ran.stdout)
+    right(ran.returncode == 3 and "(401)" in ran.stdout and "certificate=" in ran.stdout, "with a wrong password: status 3, and the days of the certificate", ran.stdout)
     ran = world.machine.on("sh", "-c", f"{words.replace(' --ca /etc/counter/certificate.pem', '')} /etc/counter/watch-password")
     right(ran.returncode == 2 and "no TLS that can be trusted" in ran.stdout, "with a certificate that the machine doesn't trust: status 2", ran.stdout)
     ran = world.machine.on("sh", "-c", f"{words} /etc/counter/watch-password --days 61")
     right(ran.returncode == 1 and "certificate ends in" in ran.stdout, "with a certificate that ends within the days asked for: status 1", ran.stdout)
+
+
+def at_the_socket(world):
+    """The counter is asked past nginx by root alone."""
+    said = world.machine.follow(f"{CHECK} unix:/run/counter-http.sock")
+    right(said.startswith("COUNTER OK"), f"the check at the socket, as root: {said.strip()}")
+    for user in ("nobody", "counter"):
+        ran = world.machine.on("setpriv", "--reuid", user, "--regid", "nogroup", "--clear-groups", CHECK, "unix:/run/counter-http.sock")
+        right(ran.returncode == 2 and "Permission denied" in ran.stdout, f"as {user} it is refused", ran.stdout)
+
+
+def by_certificate(world):
+    """nginx asks for certificates of the staff in place of passwords: the check has one of its own."""
+    m = world.machine
+    m.follow("openssl req -x509 -newkey rsa:2048 -nodes -days 2 -subj /CN=staff -keyout /tmp/staff.key -out /etc/counter/staff.pem")
+    m.follow("openssl req -newkey rsa:2048 -nodes -subj /CN=watch -keyout /tmp/watch.key -out /tmp/watch.csr")
+    m.follow("openssl x509 -req -days 2 -in /tmp/watch.csr -CA /etc/counter/staff.pem -CAkey /tmp/staff.key -CAcreateserial -out /tmp/watch.crt; cat /tmp/watch.crt /tmp/watch.key > /tmp/watch.pem")
+    sign_in(m, "certificate")
+    words = [CHECK, "https://counter.bank.example", "--ca", "/etc/counter/certificate.pem"]
+    met = [m.on(*words, *more) for more in (["--certificate", "/tmp/watch.pem"], ["--user", "watch", "--password", "/etc/counter/watch-password"])]
+    sign_in(m, "password")
+    right(met[0].returncode == 0, f"the check by a certificate of the staff: {met[0].stdout.strip()}", met[0].stdout)
+    right(met[1].returncode == 2 and "status 400" in met[1].stdout, "control: by a password alone nginx refuses it there", met[1].stdout)
+
+
+def sign_in(machine, way):
+    machine.follow(f"install -m 644 samples/nginx/sign_in_{way}.conf /etc/counter/sign_in.conf; nginx -t && systemctl restart nginx.service")

@@ -15,6 +15,7 @@ from counter_calls import right
 ENTRIES = [
     ("/redeem", "200", '{"number":4,"day":"2012-02-06","payee":123456789,"serials":["L7777EE"]}', '{"day":"2012-02-06","lines":[{"paid":"25.16","serial":"L7777EE"}],"payee":123456789,"ticket":1,"total":"25.16"}'),
     ("/redeem", "200", '{"number":4,"day":"2012-02-06","payee":123456789,"serials":["L7777EE"]}', '{"day":"2012-02-06","lines":[{"paid":"25.16","serial":"L7777EE"}],"payee":123456789,"ticket":1,"total":"25.16"}'),
+    ("/redeem", "200", '{"desk":null,"number":4,"day":"2012-02-06","payee":123456789,"serials":["L7777EE"]}', '{"day":"2012-02-06","lines":[{"paid":"25.16","serial":"L7777EE"}],"payee":123456789,"ticket":1,"total":"25.16"}'),
     ("/redeem", "409", '{"desk":1,"number":4,"day":"2012-02-06","payee":123456789,"serials":["L7777EE"]}', '{"code":52,"refused":"AlreadyPaid","serial":"L7777EE","ticket":1}'),
     ("/redeem", "200", '{"desk":1,"number":5,"day":"2012-02-06","payee":123456789,"serials":["K8888EE"]}', '{"day":"2012-02-06","lines":[{"paid":"100.00","serial":"K8888EE"}],"payee":123456789,"ticket":2,"total":"100.00"}'),
     ("/redeem", "409", '{"desk":1,"number":5,"day":"2012-02-06","payee":987654321,"serials":["K8888EE"]}', '{"code":10,"refused":"NumberReused"}'),
@@ -26,7 +27,7 @@ ENTRIES = [
     ("/123456789/L7777EE", "404", "", ""),
 ]
 BY_HAND = {
-    'ladwenpik_requests_total{route="/redeem",status="200",by="counter"}': 4,
+    'ladwenpik_requests_total{route="/redeem",status="200",by="counter"}': 5,
     'ladwenpik_requests_total{route="/redeem",status="409",by="counter"}': 2,
     'ladwenpik_requests_total{route="/redeem",status="502",by="nginx"}': 1,
     'ladwenpik_requests_total{route="/redeem",status="503",by="counter"}': 1,
@@ -38,7 +39,7 @@ BY_HAND = {
     'ladwenpik_refusals_total{code="50",name="UnknownSerial"}': 0,
     'ladwenpik_faults_total{code="64",name="BadJson"}': 1,
     'ladwenpik_unserved_total{code="2",name="StoreFailed"}': 1,
-    'ladwenpik_retries_total{route="/redeem"}': 2,
+    'ladwenpik_retries_total{route="/redeem"}': 3,
     "ladwenpik_tickets_total": 3,
     "ladwenpik_paid_dollars_total": 126.17,
     "ladwenpik_log_other_lines_total": 2,
@@ -89,6 +90,46 @@ def by_hand(watch, folder):
     ran = subprocess.run(["promtool", "check", "metrics"], input=text, stdout=subprocess.PIPE, stderr=subprocess.STDOUT, text=True)
     right(ran.returncode == 0 and ran.stdout == "", "promtool has nothing to say of the metrics", ran.stdout)
     right(one.run() == {**found, **{name: value for name, value in one.read().items() if "_watch_" in name}}, "a second run counts nothing twice")
+
+
+def nested(watch, folder):
+    """A body, a line and an archive's end.json that are nested 100,000 deep."""
+    deep, copy = "[" * 100_000, f"{folder}-broken"
+    lines = {"a body": line_of("/bonds", "400", deep, '{"code":64,"fault":"BadJson"}', time.time()), "a line": '{"status":' + deep + "\n"}
+    shutil.copytree(watch, copy)
+    changed(f"{copy}/watching/proxy.py", ", RecursionError", "")
+    for what, line in lines.items():
+        found = {files: read_behind(files, folder, line) for files in (watch, copy)}
+        right(found[watch] == (1, 1 + (what == "a body"), 0), f"{what} nested 100,000 deep stops neither `metrics` nor `page`, and the next entry is counted", found)
+        right(found[copy] == (0, 0, 1), "control: without the clause that catches it, they read no further", found)
+    changed(f"{copy}/metrics", ", RecursionError", "")
+    ends = {}
+    for files in (watch, copy):
+        one = Watched(files, folder)
+        with open(f"{folder}/end.json", "w", encoding="utf-8") as file:
+            file.write(deep)
+        ends[files] = subprocess.run([*one.words()[:-2], "--archive", folder], stdout=subprocess.PIPE, stderr=subprocess.STDOUT).returncode
+    right(list(ends.values()) == [0, 1], "such an end.json doesn't end `metrics`; control: without the clause it does", ends)
+    shutil.rmtree(copy)
+
+
+def read_behind(files, folder, line):
+    """Whether the log could be read, how many requests were counted, and how `page` ended, over this line and an entry behind it."""
+    one = Watched(files, folder)
+    with open(one.log, "w", encoding="utf-8") as file:
+        file.write(line + line_of("/redeem", "200", '{"number":1}', "", time.time()))
+    found = one.run()
+    page = subprocess.run([sys.executable, f"{files}/page", "--to", f"{folder}/page.html", "--log", one.log], stdout=subprocess.PIPE, stderr=subprocess.STDOUT)
+    return found['ladwenpik_source_read{source="log"}'], sum(value for name, value in found.items() if name.startswith("ladwenpik_requests_total")), page.returncode
+
+
+def changed(path, old, new):
+    """Puts another text in the place of one that has to be in the file."""
+    with open(path, encoding="utf-8") as file:
+        text = file.read()
+    assert old in text, old
+    with open(path, "w", encoding="utf-8") as file:
+        file.write(text.replace(old, new))
 
 
 class Writer:
@@ -155,12 +196,7 @@ def broken(watch, folder, chance):
     """Control: a follower that takes no notice of rotated files miscounts."""
     copy = f"{folder}-broken"
     shutil.copytree(watch, copy)
-    with open(f"{copy}/watching/proxy.py", encoding="utf-8") as file:
-        text = file.read()
-    old = 'begin = marks.index(place["mark"]) if place.get("mark") in marks else 0'
-    assert old in text
-    with open(f"{copy}/watching/proxy.py", "w", encoding="utf-8") as file:
-        file.write(text.replace(old, "begin = 0"))
+    changed(f"{copy}/watching/proxy.py", 'begin = marks.index(place["mark"]) if place.get("mark") in marks else 0', "begin = 0")
     one = Watched(copy, folder)
     writer = Writer(one, chance)
     writer.write(5)
@@ -176,6 +212,7 @@ def broken(watch, folder, chance):
 def check(watch, folder):
     chance = random.Random(54)
     by_hand(watch, f"{folder}/log")
+    nested(watch, f"{folder}/log")
     rotations(watch, f"{folder}/log", chance)
     broken(watch, f"{folder}/log", chance)
 
@@ -183,7 +220,34 @@ def check(watch, folder):
 # ---- through nginx
 
 
+def private_logs(world):
+    """By the commands of the pages, nginx's logs can be read by root and adm alone."""
+    logs = ["/var/log/nginx/counter.log", "/var/log/nginx/counter-watch.log", "/srv/requests/requests.log"]
+    found = world.machine.follow(f"stat -c '%U:%G %a' {' '.join(logs)}").splitlines()
+    right(found == ["root:adm 640"] * 3, "nginx's logs can be read by root and adm alone", found)
+
+
+def null_desk(world):
+    """A desk of null is desk 0: the same request with desk 0 is a retry."""
+    request, retries = {**world.redemption(world.bond, world.today), "desk": None}, 'ladwenpik_retries_total{route="/redeem"}'
+    world.bond += 1
+    world.watched()
+    before = world.metric(retries)
+    replies = [world.ask("POST", "/redeem", {**request, "desk": desk}) for desk in (None, 0)]
+    world.watched()
+    world.watched()
+    right(replies[0] == replies[1] and replies[0][0] == 200 and world.metric(retries) == before + 1, "a request with a desk of null and the same with desk 0 are one, and one retry", replies)
+    logged = world.machine.on("grep", "-c", f'"desk":"0","number":"{request["number"]}"', "/var/log/nginx/counter-watch.log").stdout.strip()
+    right(logged == "2", "and nginx's log for watching has desk 0 for both", logged)
+
+
 def through_nginx(world):
+    private_logs(world)
+    null_desk(world)
+    rotated_by_nginx(world)
+
+
+def rotated_by_nginx(world):
     """nginx's own log is rotated three times while clients ask: each request is counted once, and the store is opened by nobody."""
     log, done = "/var/log/nginx/counter-watch.log", threading.Event()
 

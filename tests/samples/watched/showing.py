@@ -11,6 +11,22 @@ import tempfile
 from counter_calls import right
 
 
+#: A test of the alert of a host that is gone, by hours.
+DAYS = """rule_files: [alerts.yml]
+evaluation_interval: 1h
+tests:
+- interval: 1h
+  input_series:
+  - {series: 'ladwenpik_watch_timestamp_seconds{instance="a"}', values: '0+3600x10 stale'}
+  - {series: 'ladwenpik_watch_timestamp_seconds{instance="b"}', values: '0+3600x400'}
+  promql_expr_test:
+  - {expr: 'count by (instance) (FIRING)', eval_time: 10h, exp_samples: []}
+  - {expr: 'count by (instance) (FIRING)', eval_time: 12h, exp_samples: [{labels: '{instance="a"}', value: 1}]}
+  - {expr: 'count by (instance) (FIRING)', eval_time: 13d, exp_samples: [{labels: '{instance="a"}', value: 1}]}
+  - {expr: 'count by (instance) (FIRING)', eval_time: 15d, exp_samples: []}
+""".replace("FIRING", 'ALERTS{alertname="LadwenpikHostGone", alertstate="firing"}')
+
+
 def promtool(*words):
     return subprocess.run(["promtool", *words], stdout=subprocess.PIPE, stderr=subprocess.STDOUT, text=True)
 
@@ -19,7 +35,7 @@ def promtool(*words):
 
 
 def rules(watch):
-    """promtool accepts the rules and their tests; a rule whose comparison is turned round, or that waits for an hour, fails the tests."""
+    """promtool accepts the rules and their tests. A rule whose comparison is turned round, that waits for hours, or that takes two hosts for one, fails the tests."""
     ran = promtool("check", "rules", f"{watch}/alerts.yml")
     right(ran.returncode == 0, "promtool accepts the rules", ran.stdout)
     ran = promtool("test", "rules", f"{watch}/alerts_test.yml")
@@ -30,6 +46,8 @@ def rules(watch):
         tests = file.read()
     blocks = re.split(r"(?=  - alert: )", text)
     right(all(re.search(r'action: "[A-Z].*\."', block) for block in blocks[1:]), "each of them says what to do")
+    right(passes(text, DAYS), "the alert of a host that is gone lasts for 13 days, beside a host that is well, and ends after 14")
+    right(not passes(text.replace("[14d]", "[1h]"), DAYS), "control: with a range of an hour it doesn't")
     missed = [f"{name_of(block)} with {what}" for block in blocks[1:] for what, other in mutants(block) if passes(text.replace(block, other), of_alert(tests, name_of(block)))]
     right(not missed, f"control: of {sum(len(mutants(block)) for block in blocks[1:])} broken rules the tests find each", missed)
 
@@ -45,11 +63,14 @@ def of_alert(tests, name):
 
 
 def mutants(block):
-    """Broken rules of one: a comparison turned round, another limit, another wait."""
+    """Broken rules of one: a comparison turned round, a wait of hours, hosts that are taken for one."""
     head, end = block.split("    labels:", 1)
-    found = [("a comparison turned round", re.sub(r" (>=?|<|==) ", lambda sign: {">": " <= ", ">=": " < ", "<": " >= ", "==": " != "}[sign[1]], head, count=1) + "    labels:" + end)]
-    found.append(("a wait of three hours", (re.sub(r"for: \d+m", "for: 3h", head) if "for: " in head else head + "    for: 3h\n") + "    labels:" + end))
-    return found
+    turned = re.sub(r" (>=?|<|==|unless) ", lambda sign: {">": " <= ", ">=": " < ", "<": " >= ", "==": " != ", "unless": " and "}[sign[1]], head, count=1)
+    waiting = re.sub(r"for: \d+m", "for: 3h", head) if "for: " in head else head + "    for: 3h\n"
+    found = [("a comparison turned round", turned), ("a wait of three hours", waiting)]
+    if "(instance" in head:
+        found.append(("hosts taken for one", head.replace("(instance, ", "(").replace("(instance)", "()")))
+    return [(what, other + "    labels:" + end) for what, other in found]
 
 
 def passes(text, tests):
@@ -133,5 +154,8 @@ def page(world, keep):
 
 def with_data(world, watch, keep):
     world.watched()
+    with open(f"{world.machine.root}/var/lib/counter-watch/counter.prom", encoding="utf-8") as file:
+        ran = subprocess.run(["promtool", "check", "metrics"], stdin=file, stdout=subprocess.PIPE, stderr=subprocess.STDOUT, text=True)
+    right(ran.returncode == 0 and ran.stdout == "", "promtool has nothing to say of the machine's metrics", ran.stdout)
     dashboard(world, f"{watch}/dashboard.json")
     page(world, keep)

@@ -1,12 +1,10 @@
-"""A trouble for each alert of samples/watch/alerts.yml: a generator that makes it, waits until its alert fires, and mends it."""
+"""Troubles for the alerts of samples/watch/alerts.yml: a generator that makes one, waits until its alert fires, and mends it."""
 import contextlib
 import datetime
-import socket
-import struct
 import threading
 import time
 
-from counter_calls import right, wait_for
+from counter_calls import right
 from world import STORE
 
 TROUBLES = {}
@@ -14,7 +12,7 @@ NEW = "/var/lib/new"
 
 
 def trouble(alert, *companions):
-    """Registers a trouble under its alert, with the other alerts that may fire too since the trouble is theirs as well."""
+    """Registers a trouble under its alert, `ALERT: WHAT` for a further one, with the other alerts that may fire too since the trouble is theirs as well."""
     def register(make):
         TROUBLES[alert] = (make, set(companions))
         return make
@@ -106,7 +104,7 @@ def together(one, count):
 
 @trouble("ManyForbidden")
 def many_forbidden(w):
-    together(lambda: [w.ask("GET", "/ticket/1", user=None) for _ in range(50)], 6)
+    together(lambda: [w.ask("GET", "/ticket/1", user=None) for _ in range(10)], 20)
     yield
 
 
@@ -134,35 +132,38 @@ def running(*loops):
             thread.join()
 
 
-def hold():
-    """A client past nginx that is silent for three seconds."""
-    with socket.create_connection(("127.0.0.1", 8377)):
-        time.sleep(3)
-
-
 @trouble("Slow", "NotAnswering")
 def slow(w):
+    """Beside payments, a client past nginx is silent for three seconds, again and again."""
+    def hold():
+        with w.connected():
+            time.sleep(3)
+
     with running(hold, lambda: w.ask("GET", "/ticket/1")):
         yield
 
 
 @trouble("Queue", "NotAnswering", "ArchiveOld", "WatchOld", "Slow")
 def queue(w):
-    held = [socket.create_connection(("127.0.0.1", 8377)) for _ in range(100)]
-    yield
-    for line in held:
-        line.close()
-    wait_for(8377, 300)
+    with contextlib.ExitStack() as held:
+        for _ in range(100):
+            held.enter_context(w.connected())
+        yield
+    w.wait_for_counter()
 
 
-@trouble("ClientsHold")
-def clients_hold(w):
-    for _ in range(20):
-        with socket.create_connection(("127.0.0.1", 8377)) as line:
-            line.sendall(b"POST /redeem HTTP/1.1\r\n")
-            time.sleep(0.05)
-            line.setsockopt(socket.SOL_SOCKET, socket.SO_LINGER, struct.pack("ii", 1, 0))
-    yield
+@trouble("Queue: at the socket", "NotAnswering", "ArchiveOld", "WatchOld", "Slow", "Unanswered", "CertificateEnds")
+def queue_at_socket(w):
+    """The service behind the socket hangs, so connections wait there."""
+    w.machine.follow("systemctl kill --signal=STOP counter-http.service")
+    with contextlib.ExitStack() as held:
+        for _ in range(100):
+            held.enter_context(w.connected())
+        yield
+        at = w.labels_of("Queue", "at")
+    w.machine.follow("systemctl kill --signal=CONT counter-http.service")
+    w.wait_for_counter()
+    right(at == {"socket"}, "it names the socket", at)
 
 
 # ---- the service
@@ -170,7 +171,7 @@ def clients_hold(w):
 
 def started(w):
     w.machine.follow("systemctl start counter.service")
-    wait_for(8377, 300)
+    w.wait_for_counter()
 
 
 @trouble("NotAnswering")
@@ -178,6 +179,34 @@ def not_answering(w):
     w.machine.follow("systemctl stop counter.service")
     yield
     started(w)
+
+
+@trouble("NotAnswering: the socket")
+def no_socket(w):
+    """The counter runs, and its socket is closed."""
+    w.machine.follow("systemctl stop counter-http.socket")
+    yield
+    w.machine.follow("systemctl start counter-http.socket")
+    w.wait_for_counter()
+
+
+@trouble("NotAnswering: nginx", "CertificateEnds")
+def no_nginx(w):
+    """The counter answers, and the check doesn't reach it."""
+    w.machine.follow("systemctl stop nginx.service")
+    yield
+    w.machine.follow("systemctl start nginx.service")
+
+
+@trouble("PortTaken")
+def port_taken(w):
+    """A program of nobody listens where the counter did before it had a network of its own. It gets no request."""
+    m = w.machine
+    m.follow("systemd-run -q --unit stranger --uid nobody /usr/bin/python3 -u -m http.server --bind 127.0.0.1 8377")
+    w.ask("GET", "/ticket/1")
+    yield
+    said = m.follow("systemctl stop stranger.service; journalctl -o cat --no-pager -u stranger.service")
+    right("Started" in said and "GET" not in said, "what listens there got no request", said)
 
 
 @trouble("Unanswered", "NotAnswering")
@@ -195,7 +224,7 @@ def restarting(w):
         w.machine.follow("systemctl kill --signal=KILL counter.service")
         time.sleep(1.6)
     yield
-    wait_for(8377, 300)
+    w.wait_for_counter()
 
 
 @trouble("UnitFailed", "NotAnswering", "ArchiveOld")
@@ -237,7 +266,7 @@ def unserved(w):
     m.follow("rm -f /srv/counter/fill /srv/counter/more /srv/counter/last; sync")
     wait_for_room(m)
     m.follow("systemctl restart counter.service")
-    wait_for(8377, 300)
+    w.wait_for_counter()
     right(w.ask("POST", "/redeem", request)[0] == 200, "with room again, the request that was answered 503 is sent again, and acts")
 
 
@@ -245,6 +274,59 @@ def wait_for_room(m):
     """Waits until btrfs has room for its own tables too: it gives the room of removed files back in the background, up to half a minute later."""
     room = "/srv/counter/snapshots/room"
     m.follow(f"for n in $(seq 120); do btrfs -q subvolume snapshot /var/lib/counter {room} && break; sleep 1; done; btrfs -q subvolume delete {room}")
+
+
+def away(m, path):
+    """Unmounts a disk, and keeps what is on it at another path."""
+    m.follow(f"mount --bind {path} /mnt/away; umount -l {path}")
+
+
+def back(m, path):
+    m.follow(f"mount --bind /mnt/away {path}; umount /mnt/away")
+
+
+@trouble("Gone")
+def archive_gone(w):
+    away(w.machine, "/srv/archive")
+    yield
+    gone = w.labels_of("Gone", "source")
+    back(w.machine, "/srv/archive")
+    right(gone == {"archive /srv/archive/counter", "disk /srv/archive"}, "it names the archive and its disk", gone)
+
+
+@trouble("Gone: the log of requests")
+def requests_gone(w):
+    """After its disk was unmounted nginx opens its logs anew, as each night: then the log lies on the disk below."""
+    m = w.machine
+    away(m, "/srv/requests")
+    m.follow("nginx -s reopen")
+    yield
+    gone, below = w.labels_of("Gone", "source"), m.on("rm", "/srv/requests/requests.log")
+    back(m, "/srv/requests")
+    m.follow("nginx -s reopen")
+    right(gone == {"disk /srv/requests"} and below.returncode == 0, "it names the disk, though nginx writes a log on the disk below", gone)
+
+
+@trouble("Gone: the witness")
+def witness_gone(w):
+    w.drop_in("counter-witness.service", "zzz", "Environment=WITNESS=false")
+    yield
+    gone = w.labels_of("Gone", "source")
+    w.drop_in("counter-witness.service", "zzz")
+    right(gone == {"archive /run/counter-witness"}, "it names the witness, which doesn't answer", gone)
+
+
+@trouble("RequestsLogBehind", "DiskFull")
+def requests_full(w):
+    def refused():
+        w.ask("POST", "/day/open", {"desk": 9, "number": 1, "day": w.today})
+        time.sleep(1)
+
+    w.machine.on("sh", "-c", "dd if=/dev/zero of=/srv/requests/fill bs=4k 2>&1")
+    with running(refused):
+        yield
+    w.machine.follow("rm /srv/requests/fill")
+    refused()
 
 
 @trouble("CopyOld")
@@ -270,13 +352,25 @@ def archive_old(w):
     w.machine.follow("systemctl start counter-archive.service")
 
 
+@trouble("ArchiveOld: its second folder")
+def second_folder_old(w):
+    """The second folder can't be written. The archive itself goes on."""
+    w.machine.follow("mount -o remount,ro /srv/elsewhere")
+    yield
+    old = w.labels_of("ArchiveOld", "archive")
+    w.machine.follow("mount -o remount,rw /srv/elsewhere")
+    right(old == {"/srv/elsewhere/counter"}, "it names the second folder alone", old)
+
+
 @trouble("LogLarge")
 def log_large(w):
     """Files of another store are looked at, whose log is only large: the program's own was never seen above 1.4 MB."""
-    m, unit = w.machine, "/etc/systemd/system/counter-watch.service"
-    m.follow(f"mkdir -p {NEW}; chmod 755 {NEW}; truncate -s 20M {NEW}/day.db-wal; (echo '[Service]'; echo ExecStart=; grep ^ExecStart= {unit} | sed 's,--store /var/lib/counter,--store {NEW},') > {unit}.d/big.conf; systemctl daemon-reload")
+    m = w.machine
+    starts = m.follow(f"mkdir -p {NEW}; chmod 755 {NEW}; truncate -s 20M {NEW}/day.db-wal; grep ^ExecStart= /etc/systemd/system/counter-watch.service")
+    w.drop_in("counter-watch.service", "big", "ExecStart=", starts.strip().replace("--store /var/lib/counter", f"--store {NEW}"))
     yield
-    m.follow(f"rm {unit}.d/big.conf; systemctl daemon-reload; rm -r {NEW}")
+    w.drop_in("counter-watch.service", "big")
+    m.follow(f"rm -r {NEW}")
 
 
 # ---- watching itself
@@ -284,10 +378,9 @@ def log_large(w):
 
 @trouble("ClockBack")
 def clock_back(w):
-    m, drop_in = w.machine, "/etc/systemd/system/counter-watch.service.d/clock.conf"
-    m.follow(f"printf '[Service]\\nEnvironment=LD_PRELOAD={w.faketime} FAKETIME=+1h\\n' > {drop_in}; systemctl daemon-reload")
+    w.drop_in("counter-watch.service", "clock", f"Environment=LD_PRELOAD={w.faketime} FAKETIME=+1h")
     time.sleep(6)
-    m.follow(f"rm {drop_in}; systemctl daemon-reload")
+    w.drop_in("counter-watch.service", "clock")
     yield
 
 
@@ -300,9 +393,9 @@ def snapshot_old(w):
 
 @trouble("SourceUnread")
 def source_unread(w):
-    w.machine.follow("chmod 700 /var/log/nginx")
+    w.machine.follow("chmod 700 /srv/copies")
     yield
-    w.machine.follow("chmod 755 /var/log/nginx")
+    w.machine.follow("chmod 755 /srv/copies")
 
 
 @trouble("LogGap")
@@ -321,6 +414,45 @@ def watch_old(w):
     w.machine.follow("systemctl stop counter-watch.timer")
     yield
     w.machine.follow("systemctl start counter-watch.timer")
+
+
+@trouble("HostGone")
+def host_gone(w):
+    w.machine.follow("systemctl stop second-exporter.service")
+    yield
+    gone = w.labels_of("HostGone", "instance")
+    w.start_second_exporter()
+    right(gone == {"localhost:9101"}, "it names the host that is gone", gone)
+
+
+# ---- nginx's certificate
+
+
+def new_certificate(w, days):
+    w.make_certificate(days)
+    w.machine.follow("systemctl reload nginx.service")
+
+
+@trouble("CertificateEnds")
+def certificate_ends(w):
+    new_certificate(w, 20)
+    yield
+    new_certificate(w, 60)
+
+
+@trouble("CertificateEnds: no days")
+def no_days(w):
+    """A check that sees no certificate."""
+    w.drop_in("counter-watch.service", "probe", "Environment=PROBE=/bin/true")
+    yield
+    w.drop_in("counter-watch.service", "probe")
+
+
+@trouble("CertificateEndsSoon", "CertificateEnds")
+def certificate_ends_soon(w):
+    new_certificate(w, 2)
+    yield
+    new_certificate(w, 60)
 
 
 #: A day is left open before today is opened, and the last one lies in the future: days only rise.

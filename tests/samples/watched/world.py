@@ -5,12 +5,13 @@ import datetime
 import http.client
 import json
 import os
+import socket
 import ssl
 import time
 import urllib.parse
 import urllib.request
 
-from counter_calls import ask, bond, post, right, wait_for
+from counter_calls import bond, get, post, read_answer, right
 from machine import TOP
 
 STORE = "/var/lib/counter/day.db"
@@ -22,7 +23,7 @@ LEFT_OUT = ("apt-get ", "htpasswd ")
 PROMETHEUS = """global: {scrape_interval: 2s, scrape_timeout: 2s, evaluation_interval: 1s}
 rule_files: [/etc/prometheus/counter-alerts.yml]
 scrape_configs:
-- {job_name: node, static_configs: [{targets: ["localhost:9100"]}]}
+- {job_name: node, static_configs: [{targets: ["localhost:9100", "localhost:9101"]}]}
 """
 
 
@@ -38,7 +39,7 @@ class World:
 
     def __init__(self, machine):
         self.machine, self.number, self.today = machine, 0, datetime.date.today().isoformat()
-        self.bond = 0
+        self.bond, self.socket = 0, f"{machine.root}/run/counter-http.sock"
         self.faketime = "/usr/lib/x86_64-linux-gnu/faketime/libfaketime.so.1"
 
     # ---- set up
@@ -52,11 +53,11 @@ class World:
         self.make_store()
         m.follow("systemctl enable --now counter.service counter-copy.timer")
         m.enter_network()
-        wait_for(8377, 300)
-        for line in commands("restore", 0):
-            m.follow(line)
+        self.wait_for_counter()
+        self.set_up_archive()
         self.set_up_nginx()
-        for line in commands("watch", 0):
+        for line in [*commands("watch", 0), *commands("watch", 1)]:
+            line = line.replace("--mount /srv/elsewhere", "--mount /srv/elsewhere --archive /run/counter-witness")
             m.follow(line.replace("--password /etc/counter/watch-password", "--password /etc/counter/watch-password --ca /etc/counter/certificate.pem"))
         m.follow("systemctl start counter-copy.service")
         self.wait_for_nginx()
@@ -70,15 +71,39 @@ class World:
         made = self.machine.follow(f"setpriv --reuid counter --regid counter --clear-groups /opt/counter/ee_cli apply --db {STORE} < /tmp/first | grep -c '200 OK'")
         right(made.strip() == str(1 + len(bonds)), f"a store of {BONDS} bonds is made", made)
 
+    def set_up_archive(self):
+        """The archive, a second folder of it on a disk of its own, and a witness that has what is there."""
+        m = self.machine
+        for line in commands("restore", 0):
+            m.follow(line)
+        m.follow("install -d -g counter -m 2750 /srv/elsewhere/counter")
+        for unit in ("counter-archive", "counter-archive-check", "counter"):
+            m.follow(f"install -D -m 644 samples/restore/archive-to.conf /etc/systemd/system/{unit}.service.d/to.conf")
+        m.follow("install -m 644 samples/restore/counter-witness.service samples/restore/counter-witness.timer /etc/systemd/system/")
+        self.drop_in("counter-witness.service", "here", "LoadCredential=", 'Environment="WITNESS=cat /srv/elsewhere/counter/end.json"')
+        self.drop_in("counter-witness.timer", "quick", "OnActiveSec=", "OnUnitInactiveSec=", "OnActiveSec=1", "OnUnitInactiveSec=2", "AccuracySec=50ms")
+        m.follow("systemctl restart counter-archive.service counter.service; systemctl start counter-witness.timer")
+
+    def drop_in(self, unit, name, *lines):
+        """Puts a drop-in beside a unit. Without lines it takes it away."""
+        folder = f"/etc/systemd/system/{unit}.d"
+        os.makedirs(f"{self.machine.root}{folder}", exist_ok=True)
+        with open(f"{self.machine.root}{folder}/{name}.conf", "w", encoding="utf-8") as file:
+            file.write("\n".join([f"[{'Timer' if unit.endswith('.timer') else 'Service'}]", *lines, ""]))
+        self.machine.follow(f"{'' if lines else f'rm {folder}/{name}.conf; '}systemctl daemon-reload")
+
+    def make_certificate(self, days):
+        names = "-subj /CN=counter.bank.example -addext subjectAltName=DNS:counter.bank.example"
+        self.machine.follow(f"openssl req -x509 -newkey rsa:2048 -nodes -days {days} {names} -keyout /etc/counter/key.pem -out /etc/counter/certificate.pem")
+
     def set_up_nginx(self):
         m = self.machine
-        names = "-subj /CN=counter.bank.example -addext subjectAltName=DNS:counter.bank.example"
-        m.follow(f"openssl req -x509 -newkey rsa:2048 -nodes -days 60 {names} -keyout /etc/counter/key.pem -out /etc/counter/certificate.pem")
+        self.make_certificate(60)
         for name, group in USERS.items():
             m.follow(f'echo "{name}:$(openssl passwd -6 \'{PASSWORD}\')" >> /etc/counter/passwords; echo "{name} {group};" >> /etc/counter/groups')
         lines = commands("nginx", 0)
         for line in lines:
-            m.follow("systemctl start nginx" if line.startswith("nginx -t") else line.replace("echo 'anna teller;' > /etc/counter/groups", "true"))
+            m.follow(line.replace("echo 'anna teller;' > /etc/counter/groups", "true"))
         m.follow("sed -i 's/rate=10r/rate=10000r/' /etc/nginx/conf.d/counter.conf")
         requests = next(nth for nth in range(8) if any("counter_replies.js" in line for line in commands("nginx", nth)))
         for line in commands("nginx", requests):
@@ -86,11 +111,10 @@ class World:
 
     def watch_quickly(self, period):
         """Metrics each two seconds and alerts by seconds, in the place of minutes."""
-        m, drop_in = self.machine, "/etc/systemd/system/counter-watch.{}.d"
-        m.follow(f"mkdir -p {drop_in.format('timer')}; printf '[Timer]\\nOnUnitActiveSec=\\nOnUnitActiveSec={period}\\nAccuracySec=50ms\\n' > {drop_in.format('timer')}/quick.conf")
+        self.drop_in("counter-watch.timer", "quick", "OnUnitActiveSec=", f"OnUnitActiveSec={period}", "AccuracySec=50ms")
+        self.drop_in("counter-watch.service", "quick", "[Unit]", "StartLimitIntervalSec=0")
         # The empty setting takes away the first run after a boot too, and the others count from a first one.
-        m.follow("systemctl start counter-watch.service")
-        m.follow(f"printf '[Unit]\\nStartLimitIntervalSec=0\\n' > {drop_in.format('service')}/quick.conf; systemctl daemon-reload; systemctl restart counter-watch.timer")
+        self.machine.follow("systemctl start counter-watch.service; systemctl restart counter-watch.timer")
 
     def set_up_prometheus(self, rules):
         m = self.machine
@@ -101,19 +125,21 @@ class World:
                 file.write(text)
         m.follow("ln -s /var/lib/counter-watch/counter.prom /var/lib/prometheus/node-exporter/counter.prom")
         m.follow("chown -R prometheus: /var/lib/prometheus; systemctl start prometheus-node-exporter.service prometheus.service")
+        self.start_second_exporter()
         self.wait_for_prometheus()
 
+    def start_second_exporter(self):
+        """Stands for another host of the bank. It has the same metrics under another instance."""
+        self.machine.follow("systemd-run -q --unit second-exporter prometheus-node-exporter --web.listen-address localhost:9101 --collector.disable-defaults --collector.textfile")
+
     def wait_for_prometheus(self):
-        """Waits until Prometheus has metrics. It looks for its targets only 5 seconds after its start, but evaluates rules at once: for want of metrics WatchOld
-        is pending, and fires after 4 of our seconds, which are 2 minutes in the rules."""
-        met = "nothing"
+        """Waits until Prometheus has metrics of both hosts. It looks for its targets only 5 seconds after its start."""
         for _ in range(600):
             with contextlib.suppress(OSError):
-                met = self.query("ladwenpik_watch_timestamp_seconds"), self.firing()
-                if met[0] and "WatchOld" not in met[1]:
+                if len(self.query("ladwenpik_watch_timestamp_seconds")) == 2:
                     return
             time.sleep(0.1)
-        raise SystemExit(f"WRONG: Prometheus has no metrics, or WatchOld fires: {met}\n" + self.machine.on("journalctl", "-o", "cat", "--no-pager", "-n", "30", "-u", "prometheus.service").stdout)
+        raise SystemExit("WRONG: Prometheus has no metrics\n" + self.machine.on("journalctl", "-o", "cat", "--no-pager", "-n", "30", "-u", "prometheus.service").stdout)
 
     # ---- asking
 
@@ -157,12 +183,34 @@ class World:
         return {"desk": 1, "number": self.next_number(), "day": day, "payee": payee, "serials": [bond(turn)["serial"]]}
 
     def pay(self, count, day):
-        """Pays the next bonds, one on a ticket, by the counter's own port: quicker than by nginx."""
+        """Pays the next bonds, one on a ticket, at the counter's own socket: quicker than by nginx."""
         for _ in range(count):
-            status, body = ask(8377, post("/redeem", self.redemption(self.bond, day)))
+            status, body = self.ask_counter(post("/redeem", self.redemption(self.bond, day)))
             if status != 200:
                 raise SystemExit(f"WRONG: {body}")
             self.bond += 1
+
+    @contextlib.contextmanager
+    def connected(self):
+        """A connection to the counter past nginx, as root."""
+        with socket.socket(socket.AF_UNIX) as line:
+            line.settimeout(60)
+            line.connect(self.socket)
+            yield line
+
+    def ask_counter(self, message):
+        """Status and body, or None without an answer."""
+        with contextlib.suppress(OSError), self.connected() as line:
+            line.sendall(message)
+            return read_answer(line)
+        return None
+
+    def wait_for_counter(self):
+        for _ in range(3000):
+            if self.ask_counter(get("/ticket/1")) is not None:
+                return
+            time.sleep(0.1)
+        raise SystemExit("WRONG: the counter doesn't answer at its socket\n" + self.machine.on("systemctl", "status", "--no-pager", "counter.service", "counter-http.socket", "counter-http.service").stdout)
 
     def paid_today(self):
         """Tickets of the open day, as the snapshot's metric has them."""
@@ -200,6 +248,10 @@ class World:
     def firing(self):
         """The names of the alerts that fire."""
         return {alert["labels"]["alertname"].removeprefix("Ladwenpik") for alert in self.prometheus("alerts")["alerts"] if alert["state"] == "firing"}
+
+    def labels_of(self, alert, name):
+        """What a label of an alert says, of each one that fires."""
+        return {found["labels"].get(name) for found in self.prometheus("alerts")["alerts"] if found["state"] == "firing" and found["labels"]["alertname"] == f"Ladwenpik{alert}"}
 
     def state(self):
         """What is to be looked at if an alert doesn't fire."""
