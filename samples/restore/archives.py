@@ -1,6 +1,7 @@
 """The archive of requests, as docs/FORMATS.md has it: reading and testing it, and reading a store without touching it.
 
 The scripts beside this module share it. It needs Python's standard library alone, on Linux."""
+import collections
 import contextlib
 import datetime
 import fcntl
@@ -8,21 +9,28 @@ import hashlib
 import json
 import os
 import re
+import shlex
 import shutil
 import sqlite3
 import struct
 import subprocess
 import tempfile
-from typing import Any, Dict, Iterator, List, NamedTuple, Optional, Tuple
+from typing import Any, ContextManager, Dict, Iterator, List, NamedTuple, Optional, Sequence, Tuple
 
 LINES, END, FIRST = "requests.jsonl", "end.json", "first.db"
+#: The two files of a copy of a store: the key of each one's checksum in an archive's first line, and the end of its name.
+PARTS = (("file", ""), ("log", "-wal"))
+#: What a text raises that is no JSON, or not the one that is wanted.
+UNREADABLE = (ValueError, KeyError, TypeError, AttributeError, RecursionError)
 #: With this the names of folders begin in which a copy of a store is read.
 READ = "counter-read-"
 TIME = rb"\d{4}-\d\d-\d\dT\d\d:\d\d:\d\d\.\d{3}Z"
 LINE = re.compile(rb'\{"before":"([0-9a-f]{64})","time":"(' + TIME + rb')","row":([1-9]\d*),"desk":(\d{1,3}),"number":([1-9]\d*),"act":(\{.*?\}),"reply":(\{.*\})\}')
 SENT = re.compile(rb'\{"before":"([0-9a-f]{64})","time":"(' + TIME + rb')","desk":(\d{1,3}),"number":([1-9]\d*),"act":(\{.*?\})(?:,"reply":(\{.*\}))?\}')
-#: The bytes of a read.
-BLOCK = 1 << 20
+#: Rows, and the checksums of their lines as they are found.
+Marks = Dict[int, Optional[str]]
+#: The bytes of a read, and of an archive's end.
+BLOCK, NEAR_END = 1 << 20, 1 << 18
 
 
 class BadArchive(Exception):
@@ -91,6 +99,14 @@ def request_in(line: bytes) -> Tuple[str, Optional[Request]]:
 # ---- files that are whole on the disk
 
 
+def lock(folder: str) -> None:
+    """Keeps other writers from the folder until this process ends."""
+    try:
+        fcntl.flock(os.open(folder, os.O_RDONLY), fcntl.LOCK_EX | fcntl.LOCK_NB)
+    except BlockingIOError:
+        raise Busy(f"another archiver writes {folder}") from None
+
+
 def sync_folder(folder: str) -> None:
     handle = os.open(folder, os.O_RDONLY)
     try:
@@ -101,7 +117,7 @@ def sync_folder(folder: str) -> None:
 
 @contextlib.contextmanager
 def replacing(path: str) -> Iterator[Any]:
-    """A new file, which is whole on the disk before it takes the place of the old one."""
+    """A new file, which is whole on the disk before it takes the place of the old one. Until then its name ends with `.new`."""
     with open(path + ".new", "wb") as file:
         yield file
         file.flush()
@@ -110,139 +126,240 @@ def replacing(path: str) -> Iterator[Any]:
     sync_folder(os.path.dirname(path) or ".")
 
 
-def copy_whole(source: str, target: str) -> None:
-    with open(source, "rb") as read, replacing(target) as write:
+def copied(source: ContextManager[Any], target: str) -> str:
+    """Copies a file that is read from, whole, and returns its checksum."""
+    with source as read, replacing(target) as write:
         shutil.copyfileobj(read, write, BLOCK)
+    return file_checksum(target)
 
 
 # ---- the archive
 
 
+def is_begun(folder: str) -> bool:
+    """Tells whether a folder has an archive. Raises BadArchive if only its lines are missing. An archive that a stop kept from beginning has them under a new name."""
+    names = sorted(os.listdir(folder))
+    left = [name for name in names if not name.endswith(".new")]
+    if LINES not in names and (END in names or (left and LINES + ".new" not in names)):
+        raise BadArchive(f"{folder} has {END if END in names else left[0]}, and no {LINES}: its lines were lost")
+    return LINES in names
+
+
+def head_in(line: bytes, where: str) -> Dict[str, Any]:
+    try:
+        head = json.loads(line)
+        is_head = list(head) == ["archive", "of", "id", "time", "row", "first"] and head["archive"] == 1 and head["of"] == "store"
+    except UNREADABLE:
+        is_head = False
+    if not is_head or (compact(head) + "\n").encode() != line:
+        raise BadArchive(f"{where}: line 1 isn't the first line of an archive")
+    return head
+
+
+def end_in(text: str, where: str) -> Dict[str, Any]:
+    """What an end.json says: the last row, the checksum of its line, and until when the store was seen."""
+    try:
+        end = json.loads(text)
+        end["row"] + 0, end["checksum"] + "", end["time"] + ""
+    except UNREADABLE:
+        raise BadArchive(f"{where} is missing, or says nothing") from None
+    return end
+
+
 class Archive:
-    """An archive in its folder. `head` is its first line, and `end` what end.json says: how far the archive reached when it was last written."""
+    """An archive in its folder. `head` is its first line, and `end` what end.json says: how far the archive reached when it was last written. As its lines are read,
+    `last_row` and `last_checksum` become those of the last whole line, `sealed` and `whole` the bytes up to the line of `end` and up to the last whole one, and `cut`
+    the bytes that stand behind it."""
 
     def __init__(self, folder: str) -> None:
         self.folder, self.path = folder, os.path.join(folder, LINES)
+        if not is_begun(folder):
+            raise FileNotFoundError(f"there is no archive in {folder}")
         with open(self.path, "rb") as file:
             self.head_line = file.readline()
-        self.head = self.head_in(self.head_line)
-        try:
-            with open(os.path.join(folder, END), encoding="ascii") as file:
-                self.end = json.load(file)
-            self.end["row"] + 0, self.end["checksum"] + "", self.end["time"] + ""
-        except (ValueError, KeyError, TypeError, FileNotFoundError):
-            raise BadArchive(f"{folder}: {END} is missing, or says nothing") from None
-        self.is_cut = False
+            self.is_new = not file.read(1)
+        self.head = head_in(self.head_line, folder)
+        path = os.path.join(folder, END)
+        if os.path.exists(path):
+            with open(path, encoding="ascii", errors="replace") as file:
+                self.end = end_in(file.read(), path)
+        elif self.is_new:
+            self.end = {"row": self.head["row"], "checksum": checksum(self.head_line[:-1]), "time": self.head["time"]}
+        elif is_begun(folder):
+            raise BadArchive(f"{path} is missing")
+        else:
+            raise FileNotFoundError(f"{folder} is away")
 
-    def head_in(self, line: bytes) -> Dict[str, Any]:
-        try:
-            head = json.loads(line)
-            is_head = list(head) == ["archive", "of", "id", "time", "row", "first"] and head["archive"] == 1 and head["of"] == "store"
-        except (ValueError, TypeError):
-            is_head = False
-        if not is_head or (compact(head) + "\n").encode() != line:
-            raise BadArchive(f"{self.folder}: line 1 isn't the first line of an archive")
-        return head
-
-    def checked(self, marks: Optional[Dict[int, str]] = None) -> Iterator[Request]:
-        """Yields the request of each line, and tests the chain. `marks` gets the checksum of each row that it names."""
-        before, row = checksum(self.head_line[:-1]), self.head["row"]
-        marks = {} if marks is None else marks
-        self.mark(marks, row, before)
+    def checked(self, marks: Optional[Marks] = None, near_end: bool = False) -> Iterator[Request]:
+        """Yields the request of each line, or of the last lines, and tests the chain. `marks` gets the checksum of each row that it names."""
+        before, row, marks = checksum(self.head_line[:-1]), self.head["row"], {} if marks is None else marks
+        self.sealed, self.cut = None, b""
         with open(self.path, "rb") as file:
-            file.readline()
-            for count, line in enumerate(file, 2):
+            at = len(file.readline())
+            if near_end and file.seek(0, os.SEEK_END) - NEAR_END > at:
+                at = file.tell() - NEAR_END
+                file.seek(at)
+                at, before, row = at + len(file.readline()), None, None
+            file.seek(at)
+            self.mark(marks, row, before, at)
+            for line in file:
                 if not line.endswith(b"\n"):
-                    self.is_cut = True
+                    self.cut = line
                     break
-                line = line[:-1]
-                named, request = request_in(line)
-                if request is None:
-                    raise BadArchive(f"{self.folder}: line {count} isn't a line of an archive")
-                if named != before:
-                    raise BadArchive(f"{self.folder}: line {count} doesn't follow line {count - 1}: one of them was changed, taken out or moved")
-                if request.row != row + 1:
-                    raise BadArchive(f"{self.folder}: line {count} has row {request.row}, and not {row + 1}")
-                before, row = checksum(line), request.row
-                self.mark(marks, row, before)
+                named, request = request_in(line[:-1])
+                if request is None or (before is not None and (named != before or request.row != row + 1)):
+                    raise BadArchive(f"{self.folder}: the line behind {'byte ' + str(at) if row is None else 'row ' + str(row)} isn't the one that was written")
+                before, row, at = checksum(line[:-1]), request.row, at + len(line)
+                self.mark(marks, row, before, at)
                 yield request
-        if row < self.end["row"]:
+        if row is None:
+            yield from self.checked(marks)
+            return
+        self.last_row, self.last_checksum, self.whole = row, before, at
+        if row < self.end["row"] or (self.sealed is None and not near_end):
             raise BadArchive(f"{self.folder}: it ends with row {row}, and had {self.end['row']} rows on {self.end['time']}")
-        self.last_row, self.last_checksum = row, before
 
-    def mark(self, marks: Dict[int, str], row: int, found: str) -> None:
+    def mark(self, marks: Marks, row: Optional[int], found: Optional[str], at: int) -> None:
         if row in marks:
             marks[row] = found
-        if row == self.end["row"] and found != self.end["checksum"]:
-            raise BadArchive(f"{self.folder}: row {row} isn't the one that {END} names")
+        if row == self.end["row"]:
+            self.sealed = at
+            if found != self.end["checksum"]:
+                raise BadArchive(f"{self.folder}: row {row} isn't the one that {END} names")
+
+    def check(self) -> None:
+        """Tests each line, and the first copy."""
+        for _ in self.checked():
+            pass
+        self.first()
+
+    def last(self, most: int = 1) -> List[Request]:
+        """The last requests, which `tail` keeps."""
+        found = collections.deque(self.checked(near_end=True), most)
+        self.tail = list(found if self.sealed is not None else collections.deque(self.checked(), most))
+        return self.tail
+
+    def checksum_of(self, row: int) -> Optional[str]:
+        """The checksum of the line of a row, or None if the archive doesn't reach it. Reads the whole archive if the row isn't among the last ones."""
+        marks: Marks = {row: None}
+        for near_end in (True, False):
+            if marks[row] is None and (near_end or row <= self.last_row):
+                for _ in self.checked(marks, near_end):
+                    pass
+        return marks[row]
 
     def first(self) -> Optional[str]:
         """The file of the first copy, after a test of its checksums. None if the archive begins with an empty store."""
         if self.head["first"] is None:
             return None
         path = os.path.join(self.folder, FIRST)
-        for end in ("", "-wal"):
-            wanted = self.head["first"]["log" if end else "file"]
+        for part, end in PARTS:
             found = file_checksum(path + end) if os.path.exists(path + end) else None
-            if found != wanted:
+            if found != self.head["first"][part]:
                 raise BadArchive(f"{path}{end} isn't the file with which the archive begins")
         return path
 
-    def rows(self, marks: Optional[Dict[int, str]] = None) -> Iterator[Request]:
-        """All requests from row 1 on: those of the first copy, then those of the lines."""
+    def rows(self, room: str) -> Iterator[Request]:
+        """All requests from row 1 on: those of the first copy, which is read in the folder `room`, then those of the lines."""
         first = self.first()
         if first is not None:
-            with opened(first) as store:
+            with opened(first, room=room) as store:
                 yield from store.requests()
-        yield from self.checked(marks)
+        yield from self.checked()
 
-    def tail(self, most: int) -> List[Request]:
-        """The last requests, of which each was tested to follow the one before."""
-        with open(self.path, "rb") as file:
-            size = file.seek(0, os.SEEK_END)
-            file.seek(max(len(self.head_line), size - BLOCK))
-            is_middle = file.tell() > len(self.head_line)
-            lines = file.read().split(b"\n")
-        self.is_cut = lines.pop() != b""
-        lines = lines[1:] if is_middle else lines
-        found: List[Request] = []
-        before = None if is_middle else checksum(self.head_line[:-1])
-        for line in lines:
-            named, request = request_in(line)
-            if request is None or (before is not None and named != before) or (found and request.row != found[-1].row + 1):
-                raise BadArchive(f"{self.folder}: the line behind row {found[-1].row if found else 'of the middle'} isn't the one that was written")
-            before = checksum(line)
-            if request.row == self.end["row"] and before != self.end["checksum"]:
-                raise BadArchive(f"{self.folder}: row {request.row} isn't the one that {END} names")
-            found.append(request)
-        last = found[-1].row if found else self.head["row"]
-        if last < self.end["row"]:
-            raise BadArchive(f"{self.folder}: it ends with row {last}, and had {self.end['row']} rows on {self.end['time']}")
-        return found[-most:]
+    def cut_back(self) -> None:
+        """Takes off what stands behind the line that end.json names, as a stop or a full disk leaves it. Its requests are archived again."""
+        if os.path.getsize(self.path) > self.sealed:
+            os.truncate(self.path, self.sealed)
+        self.last_row, self.last_checksum, self.whole, self.cut = self.end["row"], self.end["checksum"], self.sealed, b""
+
+    def seal(self) -> None:
+        """Writes end.json before the first line is written behind the head."""
+        if self.is_new:
+            self.say_end(self.end["row"], self.end["checksum"], self.end["time"])
 
     def say_end(self, row: int, found: str, time: str) -> None:
-        self.end = {"row": row, "checksum": found, "time": time}
         with replacing(os.path.join(self.folder, END)) as file:
-            file.write((compact(self.end) + "\n").encode())
+            file.write((compact({"row": row, "checksum": found, "time": time}) + "\n").encode())
+        self.end = {"row": row, "checksum": found, "time": time}
+        self.last_row, self.last_checksum = row, found
 
 
 def begin(folder: str, row: int, first: Optional[str], time: str) -> Archive:
     """Begins an archive in an empty folder: with a copy of the store's file and log at `first`, which had rows up to `row` at `time`, or with an empty store."""
-    sums = None
-    if first is not None:
-        sums = {}
-        for end in ("", "-wal"):
-            name = "log" if end else "file"
-            sums[name] = None
-            if os.path.exists(first + end):
-                copy_whole(first + end, os.path.join(folder, FIRST + end))
-                sums[name] = file_checksum(os.path.join(folder, FIRST + end))
-    line = compact({"archive": 1, "of": "store", "id": os.urandom(16).hex(), "time": time, "row": row, "first": sums}).encode()
-    with replacing(os.path.join(folder, END)) as file:
-        file.write((compact({"row": row, "checksum": checksum(line), "time": time}) + "\n").encode())
     with replacing(os.path.join(folder, LINES)) as file:
-        file.write(line + b"\n")
+        target = os.path.join(folder, FIRST)
+        sums = first and {part: copied(open(first + end, "rb"), target + end) if os.path.exists(first + end) else None for part, end in PARTS}
+        file.write((compact({"archive": 1, "of": "store", "id": os.urandom(16).hex(), "time": time, "row": row, "first": sums}) + "\n").encode())
     return Archive(folder)
+
+
+# ---- from one folder to another
+
+
+class Source:
+    """An archive that is read by `tail`: in a folder of this machine, or on another one by the command that is put before it, as `ssh counter.bank.example`."""
+
+    def __init__(self, folder: str, over: Sequence[str] = ()) -> None:
+        self.folder, self.over = folder, over
+        with self.read(END) as file:
+            text = file.read().decode("ascii", "replace")
+        self.end = end_in(text, os.path.join(folder, END))
+
+    @contextlib.contextmanager
+    def read(self, name: str, start: int = 0) -> Iterator[Any]:
+        """The bytes of a file from `start` on. Raises OSError if the command failed."""
+        words = ["tail", "-c", f"+{start + 1}", os.path.join(self.folder, name)]
+        process = subprocess.Popen([*self.over, shlex.join(words)] if self.over else words, stdin=subprocess.DEVNULL, stdout=subprocess.PIPE)
+        try:
+            yield process.stdout
+            is_read = not process.stdout.read(1)
+            if is_read and process.wait() != 0:
+                raise OSError(f"{name} of {self.folder} can't be read: the command ended with status {process.returncode}")
+        finally:
+            process.kill()
+            process.stdout.close()
+            process.wait()
+
+
+def begin_as(source: Source, folder: str) -> Archive:
+    """Begins an archive in an empty folder as another one began."""
+    with source.read(LINES) as lines:
+        line = lines.readline()
+    first = head_in(line, source.folder)["first"] or {}
+    with replacing(os.path.join(folder, LINES)) as file:
+        for part, end in PARTS:
+            if first.get(part) and copied(source.read(FIRST + end), os.path.join(folder, FIRST + end)) != first[part]:
+                raise BadArchive(f"{FIRST}{end} of {source.folder} isn't the file with which the archive begins")
+        file.write(line)
+    return Archive(folder)
+
+
+def bring(source: Source, folder: str) -> Archive:
+    """Appends what `source` has more than the archive in `folder`, up to the row that its end.json names. Raises BadArchive if `source` has less, or lines that don't
+    chain on to those that are there."""
+    archive = Archive(folder) if is_begun(folder) else begin_as(source, folder)
+    archive.last()
+    archive.seal()
+    row, before, cut, until = archive.last_row, archive.last_checksum, archive.cut, source.end
+    if until["row"] < row:
+        raise BadArchive(f"{source.folder} has {until['row']} requests, and {folder} {row}: {source.folder} was taken back")
+    if row < until["row"]:
+        with source.read(LINES, archive.whole) as lines, open(archive.path, "ab") as file:
+            for line in lines:
+                if row == until["row"] or not line.endswith(b"\n"):
+                    break
+                named, request = request_in(line[:-1])
+                if request is None or named != before or request.row != row + 1 or not line.startswith(cut):
+                    raise BadArchive(f"{source.folder} doesn't go on from row {row} of {folder}: it was changed, or is another archive")
+                file.write(line[len(cut) :])
+                row, before, cut = request.row, checksum(line[:-1]), b""
+            file.flush()
+            os.fsync(file.fileno())
+    if (row, before) != (until["row"], until["checksum"]):
+        raise BadArchive(f"{source.folder} doesn't have the row {until['row']} that its {END} names, or {folder} has another row {row}")
+    archive.say_end(row, before, until["time"])
+    return archive
 
 
 # ---- the store
@@ -299,10 +416,10 @@ def read_here(path: str) -> Iterator[Store]:
 
 
 @contextlib.contextmanager
-def opened(path: str, with_log: bool = True) -> Iterator[Store]:
-    """Reads a store that no process uses, from a copy of both files in a folder beside it, which is removed again. On btrfs and XFS the copy takes no room."""
+def opened(path: str, with_log: bool = True, room: Optional[str] = None) -> Iterator[Store]:
+    """Reads a store that no process uses, from a copy of both files in the folder `room`, or beside it. The copy is removed again. On btrfs and XFS it takes no room."""
     refuse_use(path)
-    folder = tempfile.mkdtemp(prefix=READ, dir=os.path.dirname(os.path.abspath(path)))
+    folder = tempfile.mkdtemp(prefix=READ, dir=room or os.path.dirname(os.path.abspath(path)))
     try:
         for end in ("", "-wal") if with_log else ("",):
             if os.path.exists(path + end):

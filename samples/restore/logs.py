@@ -6,18 +6,21 @@ import json
 import re
 from typing import Any, Dict, List, NamedTuple, Optional, Tuple
 
-from archives import SENT, BadArchive, checksum
+from archives import SENT, UNREADABLE, BadArchive, checksum
 
 ROUTES = {"rates": "/rates", "bonds": "/bonds", "open": "/day/open", "redeem": "/redeem", "close": "/day/close"}
 ACT = re.compile(r'\{"act":"(\w+)",(.*)\}', re.S)
 RATE = re.compile(r'("(?:rate|extension)":"\d+)(?:\.00|(\.\d)0|(\.\d\d))%"')
 NUMBER_REUSED = 10
-#: Raised for a line that is no entry, or an entry that is no request. RecursionError: JSON that is nested too deep for Python.
-UNREADABLE = (ValueError, KeyError, TypeError, AttributeError, RecursionError)
+#: What rotation adds to the name of a log.
+ROTATED = re.compile(r"(-\d+|\.\d+)?(\.gz)?$")
+#: nginx's name of an entry, which no other one has.
+NAMED = re.compile(r'"entry": ?"\w+"')
 
 
 class Asked(NamedTuple):
-    """A request of a log. `reply` is its text, if the log has it; `status` that of the answer, None if none came; `at` the seconds of its entry."""
+    """A request of a log. `reply` is its text, if the log has it; `status` that of the answer, None if none came; `at` the seconds of its entry, and `place` its place
+    among those of one log."""
 
     desk: int
     number: int
@@ -28,6 +31,11 @@ class Asked(NamedTuple):
     at: float
     time: str
     source: str
+    place: int = 0
+
+    @property
+    def when(self) -> Tuple[float, int]:
+        return self.at, self.place
 
     @property
     def message(self) -> bytes:
@@ -65,15 +73,42 @@ def lines_in(path: str) -> List[str]:
 
 
 def asked_in(paths: List[str]) -> Tuple[List[Asked], List[str]]:
-    """The requests of all logs, each once, and notes of what was passed over."""
+    """The requests of all logs, each once, and notes of what was passed over. The rotated files of a log are one log with it, and come before it."""
     found: Dict[Tuple[int, int], Asked] = {}
+    logs: Dict[str, List[Tuple[bool, float, List[Asked]]]] = {}
     notes: List[str] = []
+    texts: List[str] = []
+    cut: List[Tuple[str, str]] = []
     for path in paths:
         lines = lines_in(path)
         is_archive = lines[0].startswith('{"archive":')
-        for one in of_client(path, lines) if is_archive else of_proxy(path, lines, notes):
+        name = path if is_archive else ROTATED.sub("", path)
+        asked = of_client(path, lines) if is_archive else of_proxy(path, lines, notes, cut)
+        texts += [] if is_archive else lines
+        logs.setdefault(name, []).append((path == name, asked[0].at if asked else 0.0, asked))
+    refuse_cut(cut, texts)
+    for files in logs.values():
+        for one in in_place([one for _, _, asked in sorted(files, key=lambda file: file[:2]) for one in asked]):
             found[one.key] = better(found.get(one.key), one)
     return list(found.values()), notes
+
+
+def in_place(asked: List[Asked]) -> List[Asked]:
+    """The requests of one log with times that never fall: its lines stand in the order in which they were written, also if the clock was set back."""
+    found, latest = [], 0.0
+    for place, one in enumerate(asked):
+        latest = max(latest, one.at)
+        found.append(one._replace(at=latest, place=place))
+    return found
+
+
+def refuse_cut(cut: List[Tuple[str, str]], texts: List[str]) -> None:
+    """Refuses a line that isn't whole, as a full disk or a stop leaves it, unless the whole one stands elsewhere."""
+    whole = sorted(text[text.find("{") :] for text in texts) if cut else []
+    for where, text in cut:
+        after = bisect.bisect_right(whole, text)
+        if not NAMED.search(text) or after == len(whole) or not whole[after].startswith(text):
+            raise BadArchive(f"{where} isn't whole, and a request of it may have been done: {text[:300]}")
 
 
 def better(had: Optional[Asked], one: Asked) -> Asked:
@@ -110,19 +145,23 @@ def seconds_of(time: str) -> float:
     return datetime.datetime.fromisoformat(time).timestamp()
 
 
-def of_proxy(path: str, lines: List[str], notes: List[str]) -> List[Asked]:
-    """The requests of a proxy's log that reached the counter. Before the brace of an entry syslog writes what it likes. If an entry that the
-    counter answered 200 or 409 can't be read as a request, the log is refused: the store would lack what it did."""
+def of_proxy(path: str, lines: List[str], notes: List[str], cut: List[Tuple[str, str]]) -> List[Asked]:
+    """The requests of a proxy's log that reached the counter. If an entry that the counter answered 200 or 409 can't be read as a request, the log
+    is refused: the store would lack what it did. `cut` gets each line that isn't whole, and where it stands."""
     found, others = [], 0
     for count, text in enumerate(lines, 1):
         entry: Any = None
+        start = text.find("{")
         try:
-            entry = json.loads(text[text.index("{") :])
+            entry = json.loads(text[start:])
             one = entry_in(entry, path)
         except UNREADABLE as fault:
             if status_in(entry) is not None:
                 raise BadArchive(f"{path}: line {count} was answered {entry['counter']} by the counter, and can't be read as a request: {text[:300]}") from fault
-            others += bool(text.strip())
+            if entry is None and start >= 0:
+                cut.append((f"{path}: line {count}", text[start:]))
+            else:
+                others += bool(text.strip())
             continue
         if one is not None:
             found.append(one)
@@ -184,19 +223,19 @@ def in_order(asked: List[Asked], next_ticket: int) -> Tuple[List[Asked], List[As
     placed = sorted(((place_of(reply), one) for one, reply in answered if place_of(reply)), key=lambda pair: pair[0])
     times, tickets = [], {}
     for index, (place, one) in enumerate(placed):
-        times.append(max(one.at, times[-1] if times else one.at))
+        times.append(max(one.when, times[-1] if times else one.when))
         if place[1] == 1:
             tickets[place[2]] = index
     others = []
     for one, reply in answered:
         if place_of(reply) is None:
-            after = bisect.bisect_right(times, one.at)
+            after = bisect.bisect_right(times, one.when)
             if "ticket" in reply:
                 after = max(after, tickets.get(reply["ticket"], -1) + 1)
-            others.append((after, 0, one.at, one))
-    merged = [*((index, 1, 0.0, one) for index, (_, one) in enumerate(placed)), *others]
+            others.append((after, 0, one.when, one))
+    merged = [*((index, 1, one.when, one) for index, (_, one) in enumerate(placed)), *others]
     ordered = [one for _, _, _, one in sorted(merged, key=lambda item: item[:3])]
-    waiting = sorted((one for one in asked if one.status is None), key=lambda one: one.at)
+    waiting = sorted((one for one in asked if one.status is None), key=lambda one: one.when)
     return with_missing_tickets(ordered, waiting, next_ticket)
 
 
@@ -207,7 +246,7 @@ def with_missing_tickets(ordered: List[Asked], waiting: List[Asked], next_ticket
         reply = json.loads(one.reply) if one.reply else {}
         if "lines" in reply:
             gap = reply["ticket"] - next_ticket
-            able = [other for other in waiting if other.path == "/redeem" and other.at <= one.at]
+            able = [other for other in waiting if other.path == "/redeem" and other.when <= one.when]
             if gap > 0 and len(able) != gap:
                 raise BadArchive(f"tickets {next_ticket} to {reply['ticket'] - 1} are missing, and {len(able)} redemptions without a reply may be theirs: they were sent another way, or a log is missing")
             if gap > 0:

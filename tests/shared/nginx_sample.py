@@ -50,7 +50,7 @@ def basic(user, password):
 class Nginx:
     """nginx over the sample, or over another configuration. `users` has a password and groups for each user. `rate` replaces the sample's limit of requests a second, and
     takes away that of requests under way. nginx reaches the counter by its port.
-    `requests` turns on the log of requests with their replies: the file, and the port of syslog on the machine. `page` is the folder of the page."""
+    `requests` is the file of the log of requests with their replies. `page` is the folder of the page."""
 
     def __init__(self, folder, counter_port, users, *, conf=SAMPLE / "counter.conf", rate=None, user=None, hashed=None, requests=None, page=PAGE):
         self.folder, self.users, self.port, self.page = Path(folder), users, free_port(), page
@@ -62,7 +62,7 @@ class Nginx:
         user = user or ("root" if os.getuid() == 0 else "nobody")
         modules = SCRIPTS if requests else ""
         if requests:
-            self.make_requests(*requests)
+            self.make_requests(requests)
         (self.folder / "nginx.conf").write_text(PLAIN.format(folder=self.folder, user=user, modules=modules))
         self.process = self.started()
 
@@ -94,8 +94,8 @@ class Nginx:
         (self.folder / "pass_to_counter.conf").write_text(passing.replace(SOCKET, f"127.0.0.1:{counter_port}").replace("/etc/counter/", f"{self.folder}/"))
         (self.folder / "sign_in.conf").write_text((SAMPLE / "sign_in_password.conf").read_text().replace("/etc/counter/", f"{self.folder}/"))
 
-    def make_requests(self, file, syslog_port):
-        where = replaced((SAMPLE / "server_requests.conf").read_text(), [("/srv/requests/requests.log", str(file)), ("127.0.0.1:514", f"127.0.0.1:{syslog_port}")])
+    def make_requests(self, file):
+        where = replaced((SAMPLE / "server_requests.conf").read_text(), [("/srv/requests/requests.log", str(file))])
         (self.folder / "server_requests.conf").write_text(where)
         for name, place in (("requests.conf", "conf.d/0-counter-requests.conf"), ("each_reply.conf", "each_reply.conf"), ("counter_replies.js", "counter_replies.js")):
             (self.folder / place).write_text((SAMPLE / name).read_text())

@@ -3,17 +3,15 @@ import os
 import random
 import shutil
 import signal
-import socket
 import subprocess
 import tempfile
-import threading
 import time
 
 from counter_calls import TABLES, TOP, apply, beginning, free_port, rows, serve, wait_for, wrong
 from nginx_sample import Nginx
 
 SAMPLE = os.path.join(TOP, "samples", "restore")
-ARCHIVE, REPLAY, GUARD = (os.path.join(SAMPLE, name) for name in ("archive", "replay", "guard"))
+ARCHIVE, REPLAY, GUARD, PULL = (os.path.join(SAMPLE, name) for name in ("archive", "replay", "guard", "pull"))
 
 
 def run(*words, **more):
@@ -69,8 +67,8 @@ class Place:
         self.at_end(lambda: run("umount", "-l", path))
         return path
 
-    def replay(self, store, *sources, way="apply"):
-        return run(REPLAY, store, *sources, "--program", self.program, "--by", way)
+    def replay(self, store, *sources, way="apply", before=()):
+        return run(*before, REPLAY, store, *sources, "--program", self.program, "--by", way)
 
     def restored(self, store, *sources, way="apply"):
         ran = self.replay(store, *sources, way=way)
@@ -109,19 +107,25 @@ def dumped(place, store):
     return found
 
 
-class Syslog:
-    """What listens at the port of syslog, and writes each message as a line of a file."""
+class Followed:
+    """What a second machine gets of the log of requests: each line, by `tail -F`."""
 
-    def __init__(self, path):
-        self.socket = socket.socket(socket.AF_INET, socket.SOCK_DGRAM)
-        self.socket.bind(("127.0.0.1", 0))
-        self.port = self.socket.getsockname()[1]
-        self.path, self.file = path, open(path, "ab", buffering=0)
-        threading.Thread(target=self.listen, daemon=True).start()
+    def __init__(self, log, path):
+        self.log, self.path = log, path
+        with open(path, "ab") as file:
+            self.process = subprocess.Popen(["tail", "-n", "+1", "-F", log], stdout=file, stderr=subprocess.DEVNULL)
 
-    def listen(self):
-        while True:
-            self.file.write(self.socket.recv(70000) + b"\n")
+    def wait(self):
+        """Until it has all of the log."""
+        for _ in range(600):
+            if os.path.getsize(self.path) == os.path.getsize(self.log):
+                return
+            time.sleep(0.1)
+        wrong(f"{self.path} hasn't what {self.log} has")
+
+    def end(self):
+        self.process.terminate()
+        self.process.wait()
 
 
 class Counter:
@@ -136,9 +140,10 @@ class Counter:
         os.mkdir(self.snapshots)
         self.archive, self.second = place.new("archive"), place.new("second")
         self.log = place.path("requests.log")
-        self.syslog = Syslog(place.path("syslog"))
-        self.nginx = Nginx(place.path("nginx"), self.port, self.USERS, rate=100000, requests=(self.log, self.syslog.port))
+        self.nginx = Nginx(place.path("nginx"), self.port, self.USERS, rate=100000, requests=self.log)
         place.at_end(self.nginx.end)
+        self.followed = Followed(self.log, place.path("followed.log"))
+        place.at_end(self.followed.end)
         self.store = self.new_subvolume()
         self.process = self.archiver = None
         apply(place.program, self.store, beginning(bonds))

@@ -11,7 +11,7 @@ from counter_calls import Load, day_text, fault_of_books, milliseconds, right, r
 BONDS, CLIENTS, EVERY = 19_000, 3, 1.0
 #: An archive lacks what came since its last turn began: one interval, and what a turn takes on a busy machine.
 SLACK = 5.0
-WAYS = ("from the archive and the log", "from a nightly copy, the archive and the log", "with the log of another moment beside the file", "from the archive and what syslog got")
+WAYS = ("from the archive and the log", "from a nightly copy, the archive and the log", "with the log of another moment beside the file", "from the archive and what the second machine got of the log")
 
 
 def key_of(message):
@@ -90,7 +90,8 @@ class Moments:
         if way == 2:
             self.taken_back.append(self.older_log(lost))
         if way == 3:
-            sources = [self.counter.second, self.counter.syslog.path]
+            self.counter.followed.wait()
+            sources = [self.counter.second, self.counter.followed.path]
         done("btrfs", "-q", "subvolume", "delete", os.path.dirname(lost))
         begun = time.time()
         self.place.restored(target, *sources, way="serve" if way == 1 else "apply")
