@@ -35,7 +35,7 @@ module _ {D : Type 0} {g : Ghosts D} {old new : Files D} (log : OnlyReads g old.
   same : image_of g new ≡ image_of g old
   same = same_image log db
 
-  back : (image : Image) → outcomes g new.log new.db image → outcomes g old.log old.db image
+  pub back : (image : Image) → outcomes g new.log new.db image → outcomes g old.log old.db image
   back image may = (log.crash _ may.0, db.crash _ may.1)
 
   under : (image : Image) → IsUnderWay g new image → IsUnderWay g old image
@@ -49,7 +49,7 @@ module _ {D : Type 0} {g : Ghosts D} {old new : Files D} (log : OnlyReads g old.
     something = λ other. it.something (λ was. other (back image was));
   }
 
-  files_after : (rest : Leftover D g) → LeavesFiles new rest → LeavesFiles old rest
+  pub files_after : (rest : Leftover D g) → LeavesFiles new rest → LeavesFiles old rest
   files_after (left.Files now) leaves = λ image may. back image (leaves image may)
   files_after (left.Unopened now) (inl (nothing, way)) = inl (subst IsNothing same nothing, λ image may. under image (way image may))
   files_after (left.Unopened now) (inr it) =

@@ -1,1 +1,3 @@
+mod Frames
 mod Left
+mod Stops

@@ -14,6 +14,8 @@ pub const FULL: Error = Error::SqliteFailure(ErrorCode::DiskFull);
 
 pub const NO_DATABASE: Error = Error::SqliteFailure(ErrorCode::NotADatabase);
 
+pub const DAMAGED: Error = Error::SqliteFailure(ErrorCode::DatabaseCorrupt);
+
 pub const CANNOT_OPEN: Error = Error::SqliteFailure(ErrorCode::CannotOpen);
 
 /// The error for a file that couldn't be examined.

@@ -1,13 +1,17 @@
 //! The two files of a store: the database file and its log. Opens them, or creates a database in them.
 //!
-//! It promises that an existing store keeps its pages, that a new one has small pages with checksums, and that
-//! a stop leaves nothing or a store. Begin with `opening.rt` and `specs/Files.antt`.
+//! It promises that an existing store keeps its pages, that a new one has small pages with checksums, that a
+//! stop leaves nothing or a store, and that a damaged log is refused (`damage.rt`, `specs/Damage.antt`). Begin
+//! with `opening.rt` and `specs/Files.antt`.
 #![tactic(auto)]
 
 mod creating;
+mod damage;
 mod errors;
+mod laws;
 mod opening;
 mod path;
 
+pub use laws::spares_stopped_law;
 pub use opening::open_files;
 pub use path::open_path;

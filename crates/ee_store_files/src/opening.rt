@@ -4,14 +4,42 @@ ghost use Rattle.std.specs.Prelude.{◌≡◌, true, IsTrue, IfOk, IfErr};
 ghost use Rattle.sqlite.specs.Opening.{is_open_error};
 ghost use Rattle.sqlite.specs.State.{HasCleanDisk};
 ghost use Rattle.sqlite.specs.Held.{IsNew};
-ghost use Rattle.sqlite.specs.Files.{file_state, image_of, IsOpened, IsCleanLeft};
+ghost use Rattle.sqlite.specs.Files.{file_state, image_of, IsOpened, IsCleanLeft, LeavesFiles, Finds as FindsIn};
 ghost use Rattle.sqlite_store.specs.FileStore.{view};
+ghost use Rattle.ee_store_files.specs.Damage.{IsDamaged};
 ghost use Rattle.ee_store_files.specs.Files.{IsUncreated, Finds, Leaves};
 
 use crate::creating::{create, is_uncreated};
+use crate::damage::is_damaged;
+use crate::errors::DAMAGED;
 use sqlite::{Connection, Error, FileStore, Files, Leftover, Options};
 use sqlite_disk::Disk;
 use std::alloc::Global;
+
+/// Opens the database in two files, unless its log is damaged.
+///
+/// # Errors
+///
+/// The error comes with what is left of the files. A damaged log is refused as it is.
+fn open_intact<D: Disk + Drop>(
+    alloc: Global,
+    mut files: Files<D>,
+    options: Options,
+) -> Result<Connection<FileStore<D>>, (Error, Leftover<D>)>
+    requires log { IsTrue (D.Disk.is_usable files.log) }
+    requires db { IsTrue (D.Disk.is_usable files.db) }
+    ensures named { IfErr result (λ e. IsTrue (is_open_error e.0)) }
+    ensures opened { IfOk result (λ c. HasCleanDisk (file_state c) → IsOpened c) }
+    ensures found { IfOk result (λ c. HasCleanDisk (file_state c) → FindsIn files c × (¬ IsDamaged (image_of D.Disk files))) }
+    ensures fresh { IfOk result IsNew }
+    ensures unharmed { IfErr result (λ e. IsCleanLeft e.1 → LeavesFiles files e.1) }
+{
+    match is_damaged(alloc, &mut files) {
+        Ok(false) => Connection::open_files(alloc, files, options),
+        Ok(true) => Err((DAMAGED, Leftover::Files(files))),
+        Err(error) => Err((error, Leftover::Files(files))),
+    }
+}
 
 /// Opens the database in two files, with its own page size. In an empty file, or one that a crash left half
 /// created, creates an empty database with pages of 1,024 bytes.
@@ -19,7 +47,8 @@ use std::alloc::Global;
 /// # Errors
 ///
 /// The error comes with what is left of the files. A file that is a single byte is refused, unless a crash
-/// left it there while a database was created.
+/// left it there while a database was created. So is a file whose log is damaged or was written by another
+/// program, and no file is changed then.
 pub fn open_files<D: Disk + Drop>(
     alloc: Global,
     mut files: Files<D>,
@@ -36,7 +65,7 @@ pub fn open_files<D: Disk + Drop>(
 {
     match is_uncreated(alloc, &mut files) {
         Ok(true) => create(alloc, files, options),
-        Ok(false) => Connection::open_files(alloc, files, options),
+        Ok(false) => open_intact(alloc, files, options),
         Err(error) => Err((error, Leftover::Files(files))),
     }
 }

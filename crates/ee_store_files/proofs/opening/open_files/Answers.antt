@@ -2,6 +2,7 @@ use Rattle.std.proofs.Common.{inl, inr, sym, subst}
 use Rattle.std.proofs.lemmas.Result.{IfOk-weaker, IfErr-weaker}
 use Rattle.sqlite.specs.Files.{image_of, HoldsDatabase, AreFoundIn, file_state}
 use Rattle.sqlite.proofs.FileLemmas.{same_image}
+use Rattle.ee_store_files.specs.Damage.{IsDamaged}
 use Rattle.ee_store_files.specs.Files.{IsUncreated}
 use Rattle.ee_store_files.proofs.Left.{leaves_after, holds_none}
 use Rattle.ee_store_files.proofs.opening.open_files.Goals as goal
@@ -19,6 +20,7 @@ returns-in-Ok-true-clause-found g c = IfOk-weaker c.create.result _ _ (λ conn m
       holds = λ db held. absurd (holds_none (image_of g.D.Disk c.args.files) db held uncreated);
       reads = inr (uncreated, empty);
       taken = c.in-Ok-true.ensures.taken clean;
+      intact = inl uncreated;
     }) c.create.ensures.made
 
 pub returns-in-Ok-true-clause-unharmed : goal.returns-in-Ok-true-clause-unharmed
@@ -27,25 +29,26 @@ returns-in-Ok-true-clause-unharmed g c =
     IfErr-weaker c.create.result _ _ (λ e leaves still. leaves_after read.log read.db e.1 (leaves still)) c.create.ensures.unharmed
 
 pub returns-in-Ok-false-clause-found : goal.returns-in-Ok-false-clause-found
-returns-in-Ok-false-clause-found g c = IfOk-weaker c.open_files.result _ _ (λ conn finds still.
-    let found = finds still in
+returns-in-Ok-false-clause-found g c = IfOk-weaker c.open_intact.result _ _ (λ conn finds still.
+    let (found, whole) = finds still in
     let same = same_image c.is_uncreated.ensures.log c.is_uncreated.ensures.db in
     record {
       holds = λ db held. found.holds db (subst (λ i. HoldsDatabase i db) (sym same) held);
       reads = inl (subst (λ i. AreFoundIn i (file_state conn).committed.trees) same found.reads);
       taken = c.in-Ok-false.ensures.taken found.honest;
-    }) c.open_files.ensures.found
+      intact = inr (λ damaged. whole (subst IsDamaged (sym same) damaged));
+    }) c.open_intact.ensures.found
 
 pub returns-in-Ok-true-clause-sums : goal.returns-in-Ok-true-clause-sums
 returns-in-Ok-true-clause-sums g c = IfOk-weaker c.create.result _ _ (λ conn sums still uncreated. sums still) c.create.ensures.sums
 
 pub returns-in-Ok-false-clause-sums : goal.returns-in-Ok-false-clause-sums
-returns-in-Ok-false-clause-sums g c = IfOk-weaker c.open_files.result _ _ (λ conn finds still uncreated.
-    let is = (c.in-Ok-false.ensures.ok (finds still).honest).1 uncreated in
+returns-in-Ok-false-clause-sums g c = IfOk-weaker c.open_intact.result _ _ (λ conn finds still uncreated.
+    let is = (c.in-Ok-false.ensures.ok (finds still).0.honest).1 uncreated in
     let not = c.in-Ok-false.field-0-test in
-    absurd (cc)) c.open_files.ensures.found
+    absurd (cc)) c.open_intact.ensures.found
 
 pub returns-in-Ok-false-clause-unharmed : goal.returns-in-Ok-false-clause-unharmed
 returns-in-Ok-false-clause-unharmed g c =
     let read = c.is_uncreated.ensures in
-    IfErr-weaker c.open_files.result _ _ (λ e leaves still. leaves_after read.log read.db e.1 (inl (leaves still))) c.open_files.ensures.unharmed
+    IfErr-weaker c.open_intact.result _ _ (λ e leaves still. leaves_after read.log read.db e.1 (inl (leaves still))) c.open_intact.ensures.unharmed

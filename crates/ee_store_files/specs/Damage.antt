@@ -1,0 +1,91 @@
+-- A log that was damaged, or written by another program: what no stop of this one leaves.
+use Rattle.std.specs.Prelude.{◌≡◌, ◌≢◌, ◌⊎◌, ◌+◌, ◌-◌, ◌<◌, ◌≤◌, ℕ, List, length, slice_index, take}
+use Rattle.sqlite_wal.specs.Format.{part, be32, IsSigned}
+use Rattle.sqlite_wal.specs.Recovery.{Image, frame_at, header, IsLogFor, Replays}
+use Rattle.sqlite_pool.specs.Stored.{sealed}
+
+-- the file has room for a header and a frame's header, and its first byte is that of a log
+abbrev pub BeginsAsLog : List ℕ → Type 0
+BeginsAsLog log = (56 ≤ length log) × (slice_index log 0 ≡ 0x37)
+
+-- The header fails its checksum. Recovery would take the file for no log, and drop all of its frames.
+abbrev pub HasBrokenHeader : List ℕ → Type 0
+HasBrokenHeader log = BeginsAsLog log × (¬ IsSigned (header log))
+
+-- Frame i is in the file, and its gate is open: the first byte of its salt, which is written last, is the header's.
+pub record IsOpenAt (page_size : ℕ) (log : List ℕ) (i : ℕ) : Type 0 where
+  pub within : frame_at page_size i + (24 + page_size) ≤ length log
+  pub gate : slice_index log (frame_at page_size i + 8) ≡ slice_index log 16
+
+-- frame i is in the file, and has this header
+pub record IsFrontOf (page_size : ℕ) (log : List ℕ) (i : ℕ) (front : List ℕ) : Type 0 where
+  pub within : frame_at page_size i + (24 + page_size) ≤ length log
+  pub read : front ≡ part log (frame_at page_size i) 24
+
+-- frame i ends a transaction of this log: it has the header's salt, and a size for the database
+pub record EndsOne (page_size : ℕ) (log : List ℕ) (i : ℕ) : Type 0 where
+  pub salt : part log (frame_at page_size i + 8) 8 ≡ part log 16 8
+  pub size : be32 log (frame_at page_size i + 4) ≢ 0
+
+-- Behind the first k frames, two frames end transactions, and no gate is shut up to the second of them.
+pub record HasTwoMore (page_size : ℕ) (log : List ℕ) (k : ℕ) : Type 0 where
+  pub first : ℕ
+  pub second : ℕ
+  pub behind : k ≤ first
+  pub later : first < second
+  pub is_open : (i : ℕ) → k ≤ i → i ≤ second → IsOpenAt page_size log i
+  pub ends_first : EndsOne page_size log first
+  pub ends_second : EndsOne page_size log second
+
+-- the number of the page that frame i has
+abbrev pub number_at : ℕ → List ℕ → ℕ → ℕ
+number_at page_size log i = be32 log (frame_at page_size i)
+
+-- the first frames have the pages of these numbers
+abbrev pub AreNumbersOf : ℕ → List ℕ → List ℕ → Type 0
+AreNumbersOf page_size log numbers = (i : ℕ) → i < length numbers → slice_index numbers i ≡ number_at page_size log i
+
+-- the content of that page
+abbrev pub page_at : ℕ → List ℕ → ℕ → List ℕ
+page_at page_size log i = part log (frame_at page_size i + 24) page_size
+
+-- the page ends in its checksum
+abbrev pub IsSummed : ℕ → List ℕ → Type 0
+IsSummed page_size page = page ≡ sealed (take (page_size - 8) page)
+
+-- the number of pages of the database after the first k frames
+abbrev pub size_after : ℕ → List ℕ → ℕ → ℕ
+size_after page_size log k = be32 log (frame_at page_size (k - 1) + 4)
+
+-- Frame i has a page of the database without its checksum, and no later one of the first k frames has that page.
+pub record LacksSum (page_size : ℕ) (log : List ℕ) (k i : ℕ) : Type 0 where
+  pub kept : number_at page_size log i ≤ size_after page_size log k
+  pub last : (j : ℕ) → i < j → j < k → number_at page_size log j ≢ number_at page_size log i
+  pub lacks : ¬ IsSummed page_size (page_at page_size log i)
+
+-- one of the first k frames is such a frame
+abbrev pub HasUnsummed : ℕ → List ℕ → ℕ → Type 0
+HasUnsummed page_size log k = (i : ℕ) × (i < k) × LacksSum page_size log k i
+
+-- a frame behind frame i has its page
+abbrev pub IsReplaced : List ℕ → ℕ → Type 0
+IsReplaced numbers i = (j : ℕ) × (i < j) × (j < length numbers) × (slice_index numbers j ≡ slice_index numbers i)
+
+-- the header of the database file reserves the eight bytes of a checksum in each page
+abbrev pub SaysSums : List ℕ → Type 0
+SaysSums db = (24 ≤ length db) × (be32 db 20 ≡ 0x0840_2020)
+
+-- two transactions stand behind the first k frames, or one of these has a page that lacks its checksum
+abbrev pub IsWrongAt : ℕ → Image → ℕ → Type 0
+IsWrongAt page_size image k = HasTwoMore page_size image.log k ⊎ (SaysSums image.db × HasUnsummed page_size image.log k)
+
+-- recovery takes k frames of the log, and one of the two holds
+pub record IsWrong (page_size : ℕ) (image : Image) : Type 0 where
+  pub k : ℕ
+  pub named : IsLogFor page_size image.log
+  pub replays : Replays page_size image.log k
+  pub wrong : IsWrongAt page_size image k
+
+-- the log is not what a stop leaves
+abbrev pub IsDamaged : Image → Type 0
+IsDamaged image = HasBrokenHeader image.log ⊎ ((page_size : ℕ) × IsWrong page_size image)

@@ -1,0 +1,389 @@
+//! Tells a damaged log from one that a loss of power left torn. Nothing is written.
+//!
+//! Each transaction is synced before the next is begun. So behind the last frame that recovery takes, a stop
+//! leaves one transaction at most. If two stand there, a frame before them was damaged, and recovery would drop
+//! replies that were given. A page without its checksum was written by another program.
+
+ghost use Rattle.std.specs.Prelude.{◌≡◌, ◌+◌, ◌^◌, ◌%◌, ◌<◌, ◌≤◌, ◌↔◌, ◌≢◌, length, IsTrue, IfOk, IfErr, OnOk, MatchOption};
+ghost use Rattle.sqlite_wal.specs.Format.{part, be32, IsSigned};
+ghost use Rattle.sqlite_wal.specs.Recovery.{frame_at, frames_len as wal_len, header, AreFramesOf};
+ghost use Rattle.sqlite_wal.specs.Reads.{IsClean, AreClean, OnlyReads};
+ghost use Rattle.sqlite_wal.specs.PageSize.{bytes_of};
+ghost use Rattle.sqlite_pool.specs.Stored.{sum_bytes};
+ghost use Rattle.sqlite.specs.Opening.{is_open_error};
+ghost use Rattle.sqlite.specs.Files.{image_of};
+ghost use Rattle.ee_store_files.specs.Damage.{BeginsAsLog, IsFrontOf, IsOpenAt, EndsOne, HasTwoMore, page_at, IsSummed, AreNumbersOf, IsReplaced, size_after, LacksSum, HasUnsummed, SaysSums, IsWrongAt, IsDamaged};
+
+use crate::errors::{FULL, IO, NO_DATABASE, NO_MEMORY, probe_error};
+use sqlite::{Error, Files};
+use sqlite_disk::Disk;
+use sqlite_pager::PageSize;
+use sqlite_wal::{checksum_of, probe_frames};
+use std::alloc::Global;
+use std::io;
+
+/// The length of the log's header.
+const HEADER: usize = 32;
+
+/// The length of a frame's header.
+const FRAME: usize = 24;
+
+/// The offset of the salt in the log's header.
+const SALT: usize = 16;
+
+/// The offset of a frame's salt. Its first byte is the gate.
+const GATE: usize = 8;
+
+/// The number at offset 20 of a database file whose pages end in checksums.
+const WITH_SUMS: u32 = 0x0840_2020;
+
+/// The four bytes at `at` as a number, the highest first.
+fn be32_at(bytes: &[u8], at: usize) -> u32
+    requires { at + 4 ≤ length bytes.now }
+    ensures { result ≡ be32 bytes.now at }
+{
+    bytes[at] as u32 * 0x100_0000
+        + bytes[at + 1] as u32 * 0x1_0000
+        + bytes[at + 2] as u32 * 0x100
+        + bytes[at + 3] as u32
+}
+
+/// Whether the header passes its checksum.
+fn is_signed(head: &[u8; 32]) -> bool
+    ensures { IsTrue result ↔ IsSigned head.now }
+{
+    if head[0] != 0x37 || head[1] != 0x7f || head[2] != 0x06 {
+        return false;
+    }
+    if head[3] != 0x82 && head[3] != 0x83 {
+        return false;
+    }
+    checksum_of(head[3] == 0x83, (0, 0), &head[..24]) == (be32_at(head, 24), be32_at(head, 28))
+}
+
+/// Reads the log's header, if the file begins as a log.
+fn read_header<D: Disk>(log: &mut D) -> io::Result<Option<[u8; 32]>>
+    requires { IsTrue (D.Disk.is_usable log.old) }
+    ensures ok { IfOk result (λ r. IsClean D.Disk log.new → MatchOption r (¬ BeginsAsLog (D.Disk.seen log.old))
+        (λ head. BeginsAsLog (D.Disk.seen log.old) × (head ≡ header (D.Disk.seen log.old)))) }
+    ensures same { OnlyReads D.Disk log.old log.new }
+{
+    if log.len()? < HEADER + FRAME {
+        return Ok(None);
+    }
+    let mut head = [0; 32];
+    log.read_at(0, &mut head)?;
+    if head[0] == 0x37 {
+        Ok(Some(head))
+    } else {
+        Ok(None)
+    }
+}
+
+/// The length of so many frames.
+fn frames_len(page_size: usize, frames: usize) -> usize
+    requires size { page_size ≤ 65536 }
+    requires few { frames ≤ 0xffff_ffff }
+    ensures len { result ≡ wal_len page_size frames }
+    ensures small { result < 2 ^ 50 }
+{
+    frames * (FRAME + page_size)
+}
+
+/// The offset of frame `i`.
+fn frame_offset(page_size: usize, i: usize) -> usize
+    requires size { page_size ≤ 65536 }
+    requires few { i ≤ 0xffff_ffff }
+    ensures at { result ≡ frame_at page_size i }
+    ensures small { result < 2 ^ 51 }
+{
+    HEADER + frames_len(page_size, i)
+}
+
+/// Reads the header of frame `i`, if the file has all of the frame.
+fn read_front<D: Disk>(
+    log: &mut D,
+    len: usize,
+    page_size: usize,
+    i: usize,
+) -> io::Result<Option<[u8; 24]>>
+    requires usable { IsTrue (D.Disk.is_usable log.old) }
+    requires len { IsClean D.Disk log.old → len ≡ length (D.Disk.seen log.old) }
+    requires size { page_size ≤ 65536 }
+    requires few { i ≤ 0xffff_ffff }
+    ensures ok { IfOk result (λ r. IsClean D.Disk log.new → MatchOption r (length (D.Disk.seen log.old) < frame_at page_size i + (24 + page_size))
+        (λ front. IsFrontOf page_size (D.Disk.seen log.old) i front)) }
+    ensures same { OnlyReads D.Disk log.old log.new }
+{
+    let at = frame_offset(page_size, i);
+    if len < at + (FRAME + page_size) {
+        return Ok(None);
+    }
+    let mut front = [0; 24];
+    log.read_at(at, &mut front)?;
+    Ok(Some(front))
+}
+
+/// Whether a frame with this header ends a transaction of the log with the header `head`.
+fn is_end(front: &[u8; 24], head: &[u8; 32]) -> bool
+    ensures { IsTrue result ↔ ((part front.now 8 8 ≡ part head.now 16 8) × (be32 front.now 4 ≢ 0)) }
+{
+    if front[8..16] != head[16..24] {
+        return false;
+    }
+    be32_at(front, 4) != 0
+}
+
+/// Whether frame `i` ends a transaction of the log with this header; `None` if the file ends before it, or its
+/// gate is shut.
+fn ends_one<D: Disk>(
+    log: &mut D,
+    len: usize,
+    head: &[u8; 32],
+    page_size: usize,
+    i: usize,
+) -> io::Result<Option<bool>>
+    requires usable { IsTrue (D.Disk.is_usable log.old) }
+    requires len { IsClean D.Disk log.old → len ≡ length (D.Disk.seen log.old) }
+    requires head { IsClean D.Disk log.old → head.now ≡ header (D.Disk.seen log.old) }
+    requires size { page_size ≤ 65536 }
+    requires few { i ≤ 0xffff_ffff }
+    ensures ok { IfOk result (λ r. IsClean D.Disk log.new → MatchOption r (¬ IsOpenAt page_size (D.Disk.seen log.old) i)
+        (λ b. IsOpenAt page_size (D.Disk.seen log.old) i × (IsTrue b ↔ EndsOne page_size (D.Disk.seen log.old) i))) }
+    ensures same { OnlyReads D.Disk log.old log.new }
+{
+    let Some(front) = read_front(log, len, page_size, i)? else {
+        return Ok(None);
+    };
+    if front[GATE] != head[SALT] {
+        return Ok(None);
+    }
+    Ok(Some(is_end(&front, head)))
+}
+
+/// Whether two transactions of the log stand behind its first `from` frames, with no gate shut up to the second.
+///
+/// # Errors
+///
+/// A log of 2^32 frames is refused as full, as recovery refuses it.
+fn has_two_more<D: Disk>(
+    log: &mut D,
+    head: &[u8; 32],
+    page_size: usize,
+    from: usize,
+) -> Result<bool, Error>
+    requires usable { IsTrue (D.Disk.is_usable log.old) }
+    requires head { IsClean D.Disk log.old → head.now ≡ header (D.Disk.seen log.old) }
+    requires size { page_size ≤ 65536 }
+    ensures named { IfErr result (λ e. IsTrue (is_open_error e)) }
+    ensures ok { IfOk result (λ b. IsClean D.Disk log.new → (IsTrue b ↔ HasTwoMore page_size (D.Disk.seen log.old) from)) }
+    ensures few { OnOk result (from ≤ 0xffff_ffff) }
+    ensures same { OnlyReads D.Disk log.old log.new }
+{
+    let Ok(len) = log.len() else {
+        return Err(IO);
+    };
+    let mut has_one = false;
+    for i in from..0xffff_ffff {
+        match ends_one(log, len, head, page_size, i) {
+            Ok(None) => return Ok(false),
+            Ok(Some(false)) => {}
+            Ok(Some(true)) if has_one => return Ok(true),
+            Ok(Some(true)) => has_one = true,
+            Err(_) => return Err(IO),
+        }
+    }
+    Err(FULL)
+}
+
+/// The checksum that a page with these bytes ends in.
+fn sum_of(bytes: &[u8]) -> [u8; 8]
+    ensures { result ≡ sum_bytes bytes.now }
+{
+    let (first, second) = checksum_of(false, (0, 0), bytes);
+    let (a, b) = (first.to_le_bytes(), second.to_le_bytes());
+    [a[0], a[1], a[2], a[3], b[0], b[1], b[2], b[3]]
+}
+
+/// Whether the page ends in its checksum.
+fn is_summed(page: &[u8]) -> bool
+    requires some { 8 ≤ length page.now }
+    requires aligned { length page.now % 16 ≡ 0 }
+    ensures { IsTrue result ↔ IsSummed (length page.now) page.now }
+{
+    let size = page.len() - 8;
+    page[size..] == sum_of(&page[..size])[..]
+}
+
+/// Whether the page in frame `i` ends in its checksum.
+fn is_summed_at<D: Disk>(log: &mut D, size: PageSize, i: usize, page: &mut [u8]) -> io::Result<bool>
+    requires usable { IsTrue (D.Disk.is_usable log.old) }
+    requires few { i ≤ 0xffff_ffff }
+    requires page { length page.old ≡ bytes_of size }
+    ensures ok { IfOk result (λ b. IsClean D.Disk log.new → (IsTrue b ↔ IsSummed (bytes_of size) (page_at (bytes_of size) (D.Disk.seen log.old) i))) }
+    ensures same { OnlyReads D.Disk log.old log.new }
+{
+    let at = frame_offset(size.bytes(), i) + FRAME;
+    log.read_at(at, page)?;
+    Ok(is_summed(page))
+}
+
+/// Whether a frame behind frame `i` has its page.
+fn is_replaced(numbers: &[u32], i: usize) -> bool
+    requires { i < length numbers.now }
+    ensures { IsTrue result ↔ IsReplaced numbers.now i }
+{
+    for j in i + 1..numbers.len() {
+        if numbers[j] == numbers[i] {
+            return true;
+        }
+    }
+    false
+}
+
+/// The number of pages of the database after so many frames.
+fn size_after<D: Disk>(log: &mut D, size: PageSize, frames: usize) -> io::Result<u32>
+    requires usable { IsTrue (D.Disk.is_usable log.old) }
+    requires few { frames ≤ 0xffff_ffff }
+    requires some { 0 < frames }
+    ensures ok { IfOk result (λ n. IsClean D.Disk log.new → n ≡ size_after (bytes_of size) (D.Disk.seen log.old) frames) }
+    ensures same { OnlyReads D.Disk log.old log.new }
+{
+    let at = frame_offset(size.bytes(), frames - 1) + 4;
+    let mut field = [0; 4];
+    log.read_at(at, &mut field)?;
+    Ok(be32_at(&field, 0))
+}
+
+/// Whether frame `i` has a page of the database, which has `count` pages, without its checksum, and none of the
+/// frames behind it has that page.
+fn lacks_sum<D: Disk>(
+    log: &mut D,
+    size: PageSize,
+    numbers: &[u32],
+    count: u32,
+    i: usize,
+    page: &mut [u8],
+) -> io::Result<bool>
+    requires usable { IsTrue (D.Disk.is_usable log.old) }
+    requires few { length numbers.now ≤ 0xffff_ffff }
+    requires low { i < length numbers.now }
+    requires page { length page.old ≡ bytes_of size }
+    requires numbers { IsClean D.Disk log.old → AreNumbersOf (bytes_of size) (D.Disk.seen log.old) numbers.now }
+    requires count { IsClean D.Disk log.old → count ≡ size_after (bytes_of size) (D.Disk.seen log.old) (length numbers.now) }
+    ensures ok { IfOk result (λ b. IsClean D.Disk log.new → (IsTrue b ↔ LacksSum (bytes_of size) (D.Disk.seen log.old) (length numbers.now) i)) }
+    ensures same { OnlyReads D.Disk log.old log.new }
+{
+    if numbers[i] > count {
+        return Ok(false);
+    }
+    if is_summed_at(log, size, i, page)? {
+        return Ok(false);
+    }
+    Ok(!is_replaced(numbers, i))
+}
+
+/// Whether recovery takes a page without its checksum from one of these frames.
+fn has_unsummed<D: Disk>(
+    alloc: Global,
+    log: &mut D,
+    size: PageSize,
+    numbers: &[u32],
+) -> Result<bool, Error>
+    requires usable { IsTrue (D.Disk.is_usable log.old) }
+    requires few { length numbers.now ≤ 0xffff_ffff }
+    requires numbers { IsClean D.Disk log.old → AreNumbersOf (bytes_of size) (D.Disk.seen log.old) numbers.now }
+    ensures named { IfErr result (λ e. IsTrue (is_open_error e)) }
+    ensures ok { IfOk result (λ b. IsClean D.Disk log.new → (IsTrue b ↔ HasUnsummed (bytes_of size) (D.Disk.seen log.old) (length numbers.now))) }
+    ensures same { OnlyReads D.Disk log.old log.new }
+{
+    if numbers.is_empty() {
+        return Ok(false);
+    }
+    let Ok(mut page) = vec![in alloc; 0; size.bytes()] else {
+        return Err(NO_MEMORY);
+    };
+    let Ok(count) = size_after(log, size, numbers.len()) else {
+        return Err(IO);
+    };
+    for i in 0..numbers.len() {
+        match lacks_sum(log, size, numbers, count, i, &mut page) {
+            Ok(true) => return Ok(true),
+            Ok(false) => {}
+            Err(_) => return Err(IO),
+        }
+    }
+    Ok(false)
+}
+
+/// Whether the database file says that each page ends in a checksum.
+fn says_sums<D: Disk>(db: &mut D) -> io::Result<bool>
+    requires { IsTrue (D.Disk.is_usable db.old) }
+    ensures ok { IfOk result (λ b. IsClean D.Disk db.new → (IsTrue b ↔ SaysSums (D.Disk.seen db.old))) }
+    ensures same { OnlyReads D.Disk db.old db.new }
+{
+    if db.len()? < 24 {
+        return Ok(false);
+    }
+    let mut field = [0; 4];
+    db.read_at(20, &mut field)?;
+    Ok(be32_at(&field, 0) == WITH_SUMS)
+}
+
+/// Whether two transactions stand behind the frames that recovery takes, whose page numbers are `numbers`, or one
+/// of those frames has a page without its checksum.
+fn is_wrong<D: Disk>(
+    alloc: Global,
+    files: &mut Files<D>,
+    head: &[u8; 32],
+    size: PageSize,
+    numbers: &[u32],
+) -> Result<bool, Error>
+    requires log { IsTrue (D.Disk.is_usable files.old.log) }
+    requires db { IsTrue (D.Disk.is_usable files.old.db) }
+    requires head { IsClean D.Disk files.old.log → head.now ≡ header (D.Disk.seen files.old.log) }
+    requires numbers { IsClean D.Disk files.old.log → AreNumbersOf (bytes_of size) (D.Disk.seen files.old.log) numbers.now }
+    ensures named { IfErr result (λ e. IsTrue (is_open_error e)) }
+    ensures ok { IfOk result (λ b. AreClean D.Disk files.new.log files.new.db → (IsTrue b ↔ IsWrongAt (bytes_of size) (image_of D.Disk files.old) (length numbers.now))) }
+    ensures log { OnlyReads D.Disk files.old.log files.new.log }
+    ensures db { OnlyReads D.Disk files.old.db files.new.db }
+{
+    if has_two_more(&mut files.log, head, size.bytes(), numbers.len())? {
+        return Ok(true);
+    }
+    match says_sums(&mut files.db) {
+        Ok(true) => has_unsummed(alloc, &mut files.log, size, numbers),
+        Ok(false) => Ok(false),
+        Err(_) => Err(IO),
+    }
+}
+
+/// Whether the log isn't what a stop of the program leaves: it was damaged, or another program wrote it.
+///
+/// # Errors
+///
+/// A file that can't be read, or a log that recovery refuses.
+pub fn is_damaged<D: Disk>(alloc: Global, files: &mut Files<D>) -> Result<bool, Error>
+    requires log { IsTrue (D.Disk.is_usable files.old.log) }
+    requires db { IsTrue (D.Disk.is_usable files.old.db) }
+    ensures named { IfErr result (λ e. IsTrue (is_open_error e)) }
+    ensures ok { IfOk result (λ b. AreClean D.Disk files.new.log files.new.db → (IsTrue b ↔ IsDamaged (image_of D.Disk files.old))) }
+    ensures log { OnlyReads D.Disk files.old.log files.new.log }
+    ensures db { OnlyReads D.Disk files.old.db files.new.db }
+{
+    let head = match read_header(&mut files.log) {
+        Ok(Some(head)) => head,
+        Ok(None) => return Ok(false),
+        Err(_) => return Err(IO),
+    };
+    if !is_signed(&head) {
+        return Ok(true);
+    }
+    let Some(size) = PageSize::new(be32_at(&head, 8) as usize) else {
+        return Err(NO_DATABASE);
+    };
+    match probe_frames(alloc, &mut files.log, size) {
+        Ok(numbers) => is_wrong(alloc, files, &head, size, numbers.as_slice()),
+        Err(error) => Err(probe_error(error)),
+    }
+}

@@ -1,0 +1,22 @@
+//! Laws of what is refused.
+
+ghost use Rattle.ee_store_files.specs.Stops.{SparesStopped, SparesSummed, SparesStore, SparesOpen, SparesSynced, SparesOneSync};
+
+use sqlite_disk::Disk;
+
+/// Nothing that a stop leaves is refused as damaged.
+///
+/// - `stopped`: nothing of the files that `IsStopped` describes: whole transactions, and at most one that was being
+///   written behind them.
+/// - `summed`: for the lack of a checksum, nothing that recovers to pages with their checksums.
+/// - `at_rest`: nothing that a crash leaves of an open store.
+/// - `between`: nothing that a crash leaves of an open log of `sqlite_wal`.
+/// - `synced`, `at_once`: nor what it leaves while `sqlite_wal` commits a transaction, by two syncs or by one.
+pub const fn spares_stopped_law<D: Disk>()
+    ensures stopped { SparesStopped }
+    ensures summed { SparesSummed }
+    ensures at_rest { SparesStore D.Disk }
+    ensures between { SparesOpen D.Disk }
+    ensures synced { SparesSynced D.Disk }
+    ensures at_once { SparesOneSync D.Disk }
+{}
