@@ -56,8 +56,6 @@ export class Journal {
 
   static async open() {
     const database = await opened();
-    // A browser that is short of room then drops other pages' storage first. If it declines, it keeps the journal like any page's storage.
-    navigator.storage.persist().catch(() => false);
     const record = await answered(database.transaction(KEY).objectStore(KEY).get(KEY));
     return new Journal(database, record ?? null);
   }
@@ -70,6 +68,19 @@ export class Journal {
   async choose(desk) {
     if (this.#record !== null) throw new Error("the desk was chosen before");
     await this.#write({ desk, next: Date.now(), open: null, day: null, closed: null, last: null, paid: null, tally: null });
+  }
+
+  // Calls `told` with why the journal might not be kept: "quota" or "other" if the browser can't write it now; "unkept" if the browser may drop it, as when it is short of room, or as a private window
+  // is closed; null if it is kept. Calls again once the user has allowed it to be kept, if the browser asks.
+  async testKept(told) {
+    try {
+      await this.change({});
+    } catch (error) {
+      told(error.fault);
+      return;
+    }
+    const asked = [navigator.storage.persisted(), navigator.storage.persist()].map((one) => one.catch(() => false));
+    for (const one of asked) told((await one) ? null : "unkept");
   }
 
   // Makes one change after another, each to the record that the one before left. Rejects with Unstored if it can't be written.

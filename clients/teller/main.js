@@ -5,14 +5,15 @@ import { button, onSubmit, readFields } from "./forms.js";
 import { Journal, takeJournal } from "./journal.js";
 import { forgetTickets, startFrom, Unanswered } from "./latest.js";
 import { asking, clearNotices, earlierSendings, endSteps, giveFocusBack, keepFocus, notice, startNotices, tellFailed, tellForbidden, tellRefused, tellStep, tellUnanswered } from "./notices.js";
+import { startQuestions } from "./question.js";
 import { Sender } from "./sender.js";
 import { laterOf, readDesk } from "./spelling.js";
 import { askUser, onSignedIn, tellSignedIn } from "./user.js";
 import { dayReplied, deskSums, enterDay, showDay, startDayView } from "./view_day.js";
-import { clearPay, enterPay, followDay, startPayView } from "./view_pay.js";
+import { clearPay, enterPay, followDay, hasGoneOn, markPaid, startPayView } from "./view_pay.js";
 import { clearLookUps, enterBatches, enterTickets, lookUpTicket, showBatch, showTicket, startLookUps } from "./view_lookups.js";
 import { currentView, showOther, startViews } from "./views.js";
-import { ENTER, HEAD, LANGUAGE, PAY, TEXTS } from "./words.js";
+import { ENTER, HEAD, LANGUAGE, PAY, TEXTS, unkeptInWords } from "./words.js";
 
 const NOT_OPEN = [42, 43];
 const ALREADY_PAID = 52;
@@ -186,11 +187,21 @@ class Page {
   #shownTicket(ticket) {
     const { shown } = ticket.request;
     const paid = this.#paidWith(ticket);
-    clearPay();
-    showTicket(this, ticket, paid.tickets.at(-1));
-    if (typeof shown === "string" && BigInt(shown) !== ticket.total) this.#tellOtherSum(ticket, BigInt(shown));
-    else notice("done", PAY.paid(ticket.ticket), PAY.desk_so_far(deskSums({ paid, day: ticket.day })), ...this.earlier(ticket));
+    const more = this.#showPaid(ticket, paid.tickets.at(-1));
+    if (typeof shown === "string" && BigInt(shown) !== ticket.total) this.#tellOtherSum(ticket, BigInt(shown), ...more);
+    else notice("done", PAY.paid(ticket.ticket), PAY.desk_so_far(deskSums({ paid, day: ticket.day })), ...this.earlier(ticket), ...more);
     return { last: ticket.ticket, paid };
+  }
+
+  // Shows the ticket, unless the teller has gone on to the next customer meanwhile: then what was typed stays, and the notice has the way to the ticket.
+  #showPaid(ticket, entry) {
+    if (!hasGoneOn()) {
+      clearPay();
+      showTicket(this, ticket, entry);
+      return [];
+    }
+    markPaid(this, ticket.lines.map((line) => line.serial), ticket.ticket);
+    return [element("p", {}, PAY.pay_out(ticket.total, ticket.payee)), this.#ticketButton(ticket.ticket)];
   }
 
   // What the journal keeps of this desk's tickets of the day, with this one last. A reply that comes again counts once.
@@ -201,12 +212,14 @@ class Page {
     return { day: ticket.day, tickets: [...tickets.filter((one) => one.ticket !== entry.ticket), entry] };
   }
 
-  #tellOtherSum(ticket, shown) {
-    notice("refused", PAY.other_sum(ticket.ticket), PAY.other_sum_help(ticket.total, shown), ...this.earlier(ticket));
+  #tellOtherSum(ticket, shown, ...more) {
+    notice("refused", PAY.other_sum(ticket.ticket), PAY.other_sum_help(ticket.total, shown), ...this.earlier(ticket), ...more);
   }
 
   #tellRefused(answer) {
-    const more = answer.code === ALREADY_PAID ? [this.#ticketButton(answer.ticket)] : [];
+    const is_paid = answer.code === ALREADY_PAID;
+    if (is_paid) markPaid(this, [answer.serial], answer.ticket);
+    const more = is_paid ? [this.#ticketButton(answer.ticket)] : [];
     tellRefused(answer, ...this.earlier(answer), ...more);
   }
 
@@ -241,13 +254,21 @@ async function waiting(user) {
   show(byId("signed-in"), true);
 }
 
+// Says above the sheet why an open payment might not be kept. Before the first payment there is time to mend it.
+function tellKept(why) {
+  byId("unkept").textContent = why === null ? "" : unkeptInWords(why);
+  show(byId("unkept"), why !== null);
+}
+
 async function start() {
   fill(TEXTS, LANGUAGE);
   startNotices();
+  startQuestions();
   const user = askUser();
   await takeJournal(() => waiting(user));
   const journal = await Journal.open();
   if (journal.record === null) await chosenDesk(journal);
+  journal.testKept(tellKept);
   startFrom(journal.record.last);
   startFrom(journal.record.tally?.through);
   const page = new Page(journal);

@@ -62,7 +62,11 @@ export function readSheet(text) {
   return is_whole && new Set(rows.map((row) => row.serial)).size === rows.length ? { rows, totals } : null;
 }
 
-// Whether a bond with this note can be paid in the month of the sheet.
+// Whether a bond can be paid in the month of the sheet. `row.ticket` is the ticket on which it was paid since the sheet came.
 export function isPayable(row) {
-  return row.note !== "NI" && row.note !== "NE";
+  return row.note !== "NI" && row.note !== "NE" && !isPaid(row);
+}
+
+export function isPaid(row) {
+  return row.ticket !== undefined;
 }

@@ -1,8 +1,8 @@
 // A sheet as a table: what the teller asks for first, and the notes as badges with one legend. In a narrow window each bond becomes a card. A click anywhere on a bond chooses it.
 
 import { element } from "./elements.js";
-import { isPayable } from "./sheet.js";
-import { moneyInWords, numberInWords, SHEET } from "./words.js";
+import { isPaid, isPayable } from "./sheet.js";
+import { moneyInWords, SHEET } from "./words.js";
 
 const COLUMNS = Object.keys(SHEET.columns);
 const MONEY = ["denom", "price", "interest", "rate", "value"];
@@ -16,13 +16,17 @@ function badge(note) {
   return note === "" ? "" : element("span", { class: isPayable({ note }) ? "badge" : "badge barred" }, note);
 }
 
+function noteOf(row) {
+  return isPaid(row) ? element("span", { class: "badge barred paid" }, SHEET.paid(row.ticket)) : badge(row.note);
+}
+
 function cellsOf(row, box) {
   return {
     box,
     serial: row.serial,
     value: moneyInWords(row.value),
-    note: badge(row.note),
-    denom: `$${numberInWords(Number(row.denom))}`,
+    note: noteOf(row),
+    denom: SHEET.denom(row.denom),
     issued: row.issued,
     price: moneyInWords(row.price),
     interest: moneyInWords(row.interest),
@@ -66,21 +70,26 @@ function sumsOf(rows) {
   return { price: sum("price"), interest: sum("interest"), value: sum("value") };
 }
 
+// The bonds of a sheet without those that were paid since it came.
+export function unpaidRows(sheet) {
+  return sheet.rows.filter((row) => !isPaid(row));
+}
+
 function sheetTable(sheet, boxOf) {
   const caption = element("caption", {}, SHEET.caption(sheet.customer, sheet.month));
   const heading = (name) => element("th", { scope: "col", role: "columnheader", class: MONEY.includes(name) ? "money" : "" }, SHEET.columns[name]);
   const group = (name, ...rows) => element(name, { role: "rowgroup" }, ...rows);
   const head = group("thead", element("tr", { role: "row" }, ...COLUMNS.map(heading)));
   const rows = sheet.rows.map((row) => sheetRow(row, boxOf(row)));
-  const { price, interest, value } = sheet.totals;
-  const payable = sheet.rows.filter(isPayable);
-  const sums = payable.length === sheet.rows.length ? [] : [sumRow(SHEET.payable_total, sumsOf(payable))];
-  const foot = group("tfoot", ...sums, sumRow(SHEET.total, { price, interest, value }));
+  const unpaid = unpaidRows(sheet);
+  const payable = unpaid.filter(isPayable);
+  const sums = payable.length === unpaid.length ? [] : [sumRow(SHEET.payable_total, sumsOf(payable))];
+  const foot = group("tfoot", ...sums, sumRow(SHEET.total, sumsOf(unpaid)));
   return element("table", { class: "sheet", role: "table" }, caption, head, group("tbody", ...rows), foot);
 }
 
 function legend(sheet) {
-  const notes = Object.keys(SHEET.notes).filter((note) => sheet.rows.some((row) => row.note === note));
+  const notes = Object.keys(SHEET.notes).filter((note) => unpaidRows(sheet).some((row) => row.note === note));
   if (notes.length === 0) return [];
   const lines = notes.flatMap((note) => [element("dt", {}, badge(note)), element("dd", {}, SHEET.notes[note])]);
   return [element("div", { role: "group", "aria-label": SHEET.legend }, element("dl", { class: "legend" }, ...lines))];

@@ -18,11 +18,17 @@ export function readTicketNumber(text) {
   return wholeNumber(text.trim(), 15, 1, Number.MAX_SAFE_INTEGER);
 }
 
-// The one printed spelling of a serial number. A teller may type small letters and spaces.
+// The one printed spelling of a serial number. It may be typed in small letters or wide ones, and with spaces, points, commas and any dashes in it.
 export function readSerial(text) {
-  const parts = /^([A-Z])-?([0-9]{1,10})-?EE$/.exec(text.replace(/\s/g, "").toUpperCase());
+  const parts = /^([A-Z])([0-9]{1,10})EE$/.exec(text.normalize("NFKC").replace(/[\s\p{Pd}\u2212.,]/gu, "").toUpperCase());
   if (parts === null || Number(parts[2]) === 0) return null;
   return `${parts[1]}${Number(parts[2])}EE`;
+}
+
+// The texts of serial numbers in a list. Each ends with EE; what is between them may be spaces, commas, semicolons or nothing.
+export function serialsIn(text) {
+  const texts = text.normalize("NFKC").trim().split(/(?<=EE)[\s,;.]*(?=[^\s,;.])/i);
+  return texts.filter((one) => one !== "");
 }
 
 // A month as YYYY-MM. It may be typed so, or as MM/YYYY.

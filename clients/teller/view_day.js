@@ -1,12 +1,13 @@
 // The business day: opening it, joining it, what was paid on it so far, closing it.
 
-import { byId, confirmed, element, show } from "./elements.js";
+import { byId, element, show } from "./elements.js";
 import { button, onClick, onSubmit, readFields } from "./forms.js";
 import { Unstored } from "./journal.js";
 import { countDay } from "./latest.js";
 import { listTable, load, stopLoading } from "./lists.js";
 import { notice } from "./notices.js";
 import { askBatch, askFirstBatch, isMissing } from "./queries.js";
+import { confirmed } from "./question.js";
 import { daysBefore, daysFrom, laterOf, readDay, today } from "./spelling.js";
 import { lookUpTicket } from "./view_lookups.js";
 import { DAY, ENTER, LOOKUPS, moneyInWords, numberInWords } from "./words.js";
@@ -86,7 +87,7 @@ async function isConfirmed(day, closed) {
 
 async function isConfirmedAgain(day, distance) {
   const year = day.slice(0, 4);
-  return confirmed(DAY.year_title(year), [distance, DAY.year_line(day), DAY.year_back], DAY.open_in(year), true);
+  return confirmed(DAY.year_title(year), [distance, DAY.year_line(day), DAY.year_back], DAY.open_in(year));
 }
 
 async function open(app, day) {

@@ -3,19 +3,24 @@
 // A bond is paid at its value in the month of the day that the page works on. So bonds are chosen only on a sheet of that month, and when another month's day begins, or the day ends,
 // nothing that was chosen stays: the sum that the teller confirms is the sum that is paid.
 
-import { byId, confirmed, element, show } from "./elements.js";
+import { byId, element, show } from "./elements.js";
 import { button, onSubmit, readFields, unmark } from "./forms.js";
+import { clearHand, found, miss, showHand, startHand } from "./hand.js";
 import { announce, clearNoted, notice } from "./notices.js";
 import { askSheet } from "./queries.js";
-import { isPayable } from "./sheet.js";
-import { sheetRegion } from "./sheet_table.js";
+import { confirmed } from "./question.js";
+import { isPaid, isPayable } from "./sheet.js";
+import { sheetRegion, unpaidRows } from "./sheet_table.js";
 import { monthOf, readCustomer, readMonth, readSerial, today } from "./spelling.js";
-import { ENTER, moneyInWords, PAY, SHEET, TEXTS } from "./words.js";
+import { ENTER, HAND, moneyInWords, PAY, SHEET, TEXTS } from "./words.js";
 
 const MOST_BONDS = 100;
 
-// The month in which bonds are paid now, or null; the sheet that is shown; and the bonds that are chosen, each once, by its serial number: on the sheet, or (`is_added`) from another one.
+// The month in which bonds are paid now, or null; the sheet that is shown; and the bonds that are chosen, each once, by its serial number: the rows of the sheet, and (`is_added`) of other ones.
 const shown = { month: null, sheet: null, chosen: new Map() };
+
+// What was chosen and typed when the last payment was sent.
+let sent = null;
 
 function chosenBonds() {
   return [...shown.chosen.values()];
@@ -59,18 +64,30 @@ function showChosen() {
   byId("pay-button").textContent = payButtonText(bonds);
   show(byId("no-day"), shown.month === null);
   show(byId("add-bond"), shown.month !== null);
+  showHand(canChoose());
   show(byId("pay-bonds"), shown.month !== null && (payableRows().length > 0 || bonds.length > 0));
 }
 
-function sayChosen() {
+function sumInWords() {
   const bonds = chosenBonds();
-  announce(`${moneyInWords(sumOf(bonds))}. ${chosenInWords(bonds)}`);
+  return `${moneyInWords(sumOf(bonds))}. ${chosenInWords(bonds)}`;
+}
+
+function sayChosen() {
+  announce(sumInWords());
+}
+
+// Moves the keyboard to Pay, or to the payee if none is entered.
+function toPay() {
+  if (byId("pay-bonds").hidden) return;
+  byId(readCustomer(byId("payee").value) === null ? "payee" : "pay-button").focus();
 }
 
 // ---- the sheet
 
 function choose(row) {
-  shown.chosen.set(row.serial, { serial: row.serial, owner: shown.sheet.customer, value: row.value, is_added: false });
+  shown.chosen.set(row.serial, { ...row, owner: shown.sheet.customer, is_added: false });
+  found(row.serial);
 }
 
 function chooser(row) {
@@ -83,6 +100,12 @@ function chooser(row) {
     else shown.chosen.delete(row.serial);
     followBoxes();
     sayChosen();
+  });
+  box.addEventListener("keydown", (event) => {
+    if (event.key !== "Enter") return;
+    // Else it would press Pay, too.
+    event.preventDefault();
+    toPay();
   });
   return box;
 }
@@ -128,7 +151,7 @@ function allButtonText() {
 // What can be paid of the sheet, and the button that chooses all of it.
 function payableLine() {
   const payable = payableRows();
-  const line = element("p", { class: "payable" }, element("strong", {}, SHEET.payable(payable.length, shown.sheet.rows.length, sumOf(payable))));
+  const line = element("p", { class: "payable" }, element("strong", {}, SHEET.payable(payable.length, unpaidRows(shown.sheet).length, sumOf(payable))));
   if (roomForAll() > 0) line.append(" ", button(allButtonText(), chooseAll, { id: "choose-all", class: "plain" }));
   return line;
 }
@@ -163,8 +186,48 @@ async function ask(app) {
   shown.sheet = answer;
   byId("payee").value = String(answer.customer);
   showSheet(app);
+  const begin = byId(canChoose() ? "hand" : "sheet");
   // In a low or narrow window the sheet would begin below what is seen.
-  if (byId("sheet").getBoundingClientRect().top > innerHeight / 2) byId("sheet").scrollIntoView();
+  if (begin.getBoundingClientRect().top > innerHeight / 2) begin.scrollIntoView();
+  // After Enter in one of these fields the next is the one for the bonds in hand.
+  if (canChoose() && document.activeElement.matches("#ask-sheet input")) byId("in-hand").focus({ preventScroll: true });
+}
+
+// ---- bonds in hand
+
+// Why a bond of this serial number can't be chosen on the sheet, or null.
+function barOf(serial) {
+  const row = shown.sheet.rows.find((one) => one.serial === serial);
+  if (row === undefined) return PAY.not_owned(serial, shown.sheet.customer);
+  if (isPaid(row)) return HAND.paid(serial, row.ticket);
+  if (!isPayable(row)) return PAY.not_payable(serial, shown.month, row.note);
+  return shown.chosen.size < MOST_BONDS ? null : HAND.no_room(serial, MOST_BONDS);
+}
+
+// A button that leads to the fields for a bond of another owner.
+function otherOwner(serial) {
+  return button(HAND.other_owner(serial), () => {
+    byId("serial").value = serial;
+    byId("owner").focus();
+  });
+}
+
+// Chooses a bond of the sheet by its serial number, or puts it on the list of what wasn't chosen. Returns what to say.
+function take(text) {
+  const serial = readSerial(text);
+  if (serial === null) return missing(text, HAND.no_serial(text));
+  if (shown.chosen.has(serial)) return PAY.already(serial);
+  const bar = barOf(serial);
+  const row = shown.sheet.rows.find((one) => one.serial === serial);
+  if (bar !== null) return missing(serial, bar, ...(row === undefined ? [otherOwner(serial)] : []));
+  choose(row);
+  followBoxes();
+  return HAND.taken(serial, row.denom, row.issued, row.value);
+}
+
+function missing(name, why, ...more) {
+  miss(name, why, ...more);
+  return why;
 }
 
 // ---- bonds of other owners
@@ -206,7 +269,8 @@ async function addFrom(app, serial, owner, month) {
 // Chooses it on the sheet that is shown, if it is there, and else beside it.
 function chooseAdded(row, owner) {
   if (payableRows().some((one) => one.serial === row.serial)) choose(row);
-  else shown.chosen.set(row.serial, { serial: row.serial, owner, value: row.value, is_added: true });
+  else shown.chosen.set(row.serial, { ...row, owner, is_added: true });
+  found(row.serial);
   for (const field of ["serial", "owner"]) byId(field).value = "";
   showAdded();
   byId("serial").focus();
@@ -232,13 +296,48 @@ async function payTo(app, day, bonds) {
   if (fields === null) return;
   const [payee] = fields;
   const sum = sumOf(bonds);
-  const items = bonds.map((bond) => element("li", {}, PAY.bond_line(bond.serial, bond.value)));
-  const lines = [PAY.pay_lines(bonds.length, day), element("ul", { class: "bonds", tabindex: "0", "aria-label": SHEET.region }, ...items)];
+  const lines = [PAY.pay_lines(bonds.length, day), bondList(bonds)];
   if (!(await confirmed(PAY.pay_title(sum, payee), lines, PAY.pay_to(sum, payee)))) return;
+  sent = asTyped();
   await app.act("/redeem", { day, payee, serials: bonds.map((bond) => bond.serial) }, sum.toString());
 }
 
+// What one holds against the paper. The list has its name from the question's title, so that a screen reader says the bonds, and not the name, as it describes the question.
+function bondList(bonds) {
+  const item = (bond) => {
+    const parts = PAY.bond_line(bond.serial, bond.denom, bond.issued, bond.value).map((text) => element("span", {}, text));
+    return element("li", {}, ...parts.flatMap((part) => [part, " "]));
+  };
+  return element("ul", { class: "bonds", tabindex: "0", "aria-labelledby": "confirm-title" }, ...bonds.map(item));
+}
+
 // ---- what stays
+
+// What is chosen and typed, for a comparison.
+function asTyped() {
+  const fields = ["customer", "payee", "in-hand", "serial", "owner"].map((id) => byId(id).value);
+  return { sheet: shown.sheet, text: JSON.stringify([fields, [...shown.chosen.keys()]]) };
+}
+
+// Whether the teller has gone on to other bonds: something is there that wasn't there when the last payment was sent.
+export function hasGoneOn() {
+  const now = asTyped();
+  const is_empty = now.sheet === null && !/[0-9A-Z]/.test(now.text);
+  return !is_empty && (now.sheet !== sent?.sheet || now.text !== sent.text);
+}
+
+// Marks bonds that turn out to be paid. They are no longer chosen, nor counted.
+export function markPaid(app, serials, ticket) {
+  for (const serial of serials) {
+    if (shown.chosen.get(serial)?.is_added) miss(serial, HAND.paid(serial, ticket));
+    shown.chosen.delete(serial);
+  }
+  if (shown.sheet !== null) {
+    for (const row of shown.sheet.rows) if (serials.includes(row.serial)) row.ticket = ticket;
+    showSheet(app);
+  }
+  showAdded();
+}
 
 function clearChosen() {
   shown.chosen.clear();
@@ -249,8 +348,9 @@ function clearChosen() {
 export function clearPay() {
   shown.sheet = null;
   clearChosen();
+  clearHand();
   byId("sheet").replaceChildren();
-  for (const field of ["payee", "serial", "owner"]) {
+  for (const field of ["payee", "in-hand", "serial", "owner"]) {
     byId(field).value = "";
     unmark(byId(field));
   }
@@ -283,5 +383,6 @@ export function startPayView(app) {
   onSubmit(byId("add-bond"), () => add(app));
   onSubmit(byId("pay-bonds"), () => pay(app));
   byId("payee").addEventListener("input", showChosen);
+  startHand({ take, toPay, sumInWords });
   showChosen();
 }

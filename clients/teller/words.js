@@ -14,8 +14,9 @@ export function monthInWords(month) {
   return `${MONTHS[Number(month.slice(5)) - 1]} ${month.slice(0, 4)}`;
 }
 
+// As an American bank writes it: "February 6, 2012".
 export function dayInWords(day) {
-  return `${Number(day.slice(8))} ${monthInWords(monthOf(day))}`;
+  return `${MONTHS[Number(day.slice(5, 7)) - 1]} ${Number(day.slice(8))}, ${day.slice(0, 4)}`;
 }
 
 export function weekdayInWords(day) {
@@ -24,11 +25,11 @@ export function weekdayInWords(day) {
 
 const twoDigits = (number) => String(number).padStart(2, "0");
 
-// A moment of this machine's clock, in milliseconds: its day and time.
+// A moment of this machine's clock, in milliseconds: its day and time, as "February 6, 2012, 2:05 PM".
 export function timeInWords(moment) {
   const date = new Date(moment);
-  const day = `${date.getDate()} ${MONTHS[date.getMonth()]} ${date.getFullYear()}`;
-  return `${day}, ${twoDigits(date.getHours())}:${twoDigits(date.getMinutes())}`;
+  const day = `${MONTHS[date.getMonth()]} ${date.getDate()}, ${date.getFullYear()}`;
+  return `${day}, ${date.getHours() % 12 || 12}:${twoDigits(date.getMinutes())} ${date.getHours() < 12 ? "AM" : "PM"}`;
 }
 
 export function numberInWords(number) {
@@ -118,6 +119,9 @@ export const TEXTS = {
   month: "Month",
   month_typed: "Month (YYYY-MM)",
   show_sheet: "Show the unpaid bonds",
+  in_hand: "Bonds in hand (serial numbers)",
+  choose: "Choose",
+  in_hand_help: "Type or scan serial numbers, each with Enter. Enter in the empty field, or on a bond below, leads to Pay.",
   another_bond: "Another bond",
   another_bond_help: "For a bond of another owner whose coowner is paid here.",
   serial: "Serial number",
@@ -141,7 +145,7 @@ export const TEXTS = {
 
 export const ENTER = {
   desk: "Enter a desk number (0 to 999)",
-  day: "Enter a day from 2005-05-01 on, as YYYY-MM-DD",
+  day: `Enter a day from ${dayInWords("2005-05-01")} on`,
   month: "Enter a month from 2005-05 on, as YYYY-MM",
   customer: "Enter a customer number (1 to 9 digits)",
   serial: "Enter a serial number (such as C12EE)",
@@ -151,7 +155,7 @@ export const ENTER = {
 // ---- the head of the page
 
 export const HEAD = {
-  state: (desk, day) => `Desk ${desk}. ${day === null ? TEXTS.no_day : dayInWords(day)}`,
+  state: (desk, day) => `Desk ${desk}, ${day === null ? "no open day" : dayInWords(day)}`,
   user: (name) => `Teller ${name}`,
   title: (view) => `${view} – ${TEXTS.title}`,
   open_request: "A request has no reply yet. Sign out once its reply is there.",
@@ -215,7 +219,7 @@ export const PAY = {
   pay_to: (sum, payee) => `Pay ${moneyInWords(sum)} to customer ${payee}`,
   pay_title: (sum, payee) => `Pay ${moneyInWords(sum)} to customer ${payee}?`,
   pay_lines: (count, day) => `${bonds(count)}, on ${weekdayInWords(day)}:`,
-  bond_line: (serial, value) => `${serial}: ${moneyInWords(value)}`,
+  bond_line: (serial, denom, issued, value) => [serial, SHEET.denom(denom), SHEET.issued(issued), moneyInWords(value)],
   box: (serial) => `Pay bond ${serial}`,
   no_day_sheet: "No business day is open, so nothing can be chosen here.",
   show_month: (month) => `Show the bonds in ${monthInWords(month)}`,
@@ -235,10 +239,23 @@ export const PAY = {
   added_line: (serial, owner, value) => `${serial}, owner ${owner}: ${moneyInWords(value)}`,
   remove: (serial) => `Remove ${serial}`,
   paid: (ticket) => `Ticket ${ticket} is paid.`,
+  pay_out: (total, payee) => `Pay out ${moneyInWords(total)} to customer ${payee}.`,
   desk_so_far: (desk_sums) => `This desk today: ${sums(desk_sums)}.`,
   other_sum: (ticket) => `Ticket ${ticket} is paid, but its total isn't the sum that was confirmed.`,
   other_sum_help: (total, shown) => `The total, ${moneyInWords(total)}, is what was paid: pay out that. You confirmed ${moneyInWords(shown)}. Tell the people who maintain this page.`,
   show_ticket: (number) => `Show ticket ${number}`,
+};
+
+// ---- the bonds in hand
+
+export const HAND = {
+  taken: (serial, denom, issued, value) => `${serial} is chosen: ${SHEET.denom(denom)}, ${SHEET.issued(issued)}, ${moneyInWords(value)}.`,
+  missed: (count) => `Not chosen: ${numberInWords(count)}`,
+  no_serial: (text) => `“${text}” isn't a serial number (such as C12EE).`,
+  paid: (serial, ticket) => `Bond ${serial} was paid already, on ticket ${ticket}.`,
+  no_room: (serial, most) => `Bond ${serial} has no room: a ticket holds up to ${most}. Pay it on another one.`,
+  other_owner: (serial) => `${serial} has another owner`,
+  clear: "Clear this list",
 };
 
 // ---- sheets
@@ -262,6 +279,9 @@ export const SHEET = {
   select_first: (most) => `Select the first ${most}: a ticket holds no more`,
   select_none: "Select none",
   no_value: "–",
+  denom: (dollars) => `$${numberInWords(Number(dollars))}`,
+  issued: (month) => `issued ${month}`,
+  paid: (ticket) => `Paid, ticket ${ticket}`,
 };
 
 // ---- tickets and batches
@@ -473,6 +493,12 @@ const UNSTORED = {
   quota: ["This browser has no room left for the journal of this page.", "Make room on this machine's disk."],
   other: ["This browser couldn't write the journal of this page.", "If this continues, reload the page."],
 };
+
+// Why an open payment might not be kept.
+export function unkeptInWords(why) {
+  if (why !== "unkept") return UNSTORED[why].join(" ");
+  return "This browser may forget an open payment: it doesn't promise to keep the data of this page, as in a private window. Ask the people who maintain this machine to allow it persistent storage.";
+}
 
 const other = (answer) => ({
   says: `The counter answered ${answer.name} (code ${answer.code}), which this page doesn't know.`,

@@ -26,13 +26,14 @@ class Page:
         self.profile = profile or tempfile.mkdtemp(dir=bank.folder)
         self.engine = ENGINES[self.browser](self.profile, size)
         self.driver = self.engine.driver
+        self.asked = []
         bank.pages.append(self)
         self.log_in()
 
     def resize(self, width, height):
-        """Firefox zooms in steps, so its narrow windows are up to three pixels narrower."""
+        """Firefox zooms in steps, so its narrow windows are up to five pixels narrower."""
         self.engine.resize(width, height)
-        self.until(lambda: width - 3 <= self.run("return innerWidth") <= width, f"the window is {width} wide, and not {self.run('return innerWidth')}")
+        self.until(lambda: width - 5 <= self.run("return innerWidth") <= width, f"the window is {width} wide, and not {self.run('return innerWidth')}")
 
     def log_in(self):
         credentials = f"{USER}:{PASSWORD.replace(' ', '%20')}@"
@@ -96,7 +97,7 @@ class Page:
         self.waits_for("Choose a desk")
         self.type("#desk", str(desk))
         self.press("#start button")
-        self.waits_for(f"Desk {desk}.", "#state")
+        self.waits_for(f"Desk {desk},", "#state")
 
     def type(self, selector, text):
         """As a teller types it: into a native field of a day or a month, each part by its keys."""
@@ -119,6 +120,7 @@ class Page:
     def press(self, selector):
         """From under a notice, which stands at the top of the window, the page is scrolled first. If the page writes the element anew meanwhile, the new one is pressed."""
         for _ in range(5):
+            self.until(lambda: self.find(selector).get_attribute("aria-disabled") is None, f"{selector} has rested")
             element = self.find(selector)
             try:
                 self.run("arguments[0].scrollIntoView({ block: 'nearest', inline: 'nearest' })", element)
@@ -172,7 +174,7 @@ class Page:
         is_asked_again = self.find("#confirm-yes").text == "Continue"
         self.press("#confirm-yes")
         if is_asked_again:
-            self.until(lambda: self.find("#confirm-yes").text.startswith("Open the day in") and self.find("#confirm-yes").is_enabled(), "the page asks again")
+            self.until(lambda: self.find("#confirm-yes").text.startswith("Open the day in"), "the page asks again")
             self.press("#confirm-yes")
 
     def join_day(self, day):
@@ -212,6 +214,10 @@ class Page:
         self.waits_for(f"{count} bond{'s' if count > 1 else ''}, valued in {month}", "#chosen")
         self.waits_for(dollars, "#sum")
 
+    def bonds_asked(self):
+        """The bonds of the question: of each the texts of its line."""
+        return self.run("return [...document.querySelectorAll('#confirm li')].map((line) => [...line.children].map((part) => part.textContent))")
+
     def choose(self, *serials):
         for serial in serials:
             self.press(f"input[aria-label='Pay bond {serial}']")
@@ -241,6 +247,7 @@ class Page:
     def pay(self, payee=None):
         """Pays, and returns the texts of the question."""
         question = self.ask_to_pay(payee)
+        self.asked = self.bonds_asked()
         self.press("#confirm-yes")
         return question
 

@@ -24,6 +24,8 @@ class Chromium:
             options.add_argument(word)
         options.set_capability("goog:loggingPrefs", {"browser": "ALL"})
         self.driver = webdriver.Chrome(service=Service("/usr/bin/chromedriver"), options=options)
+        # As in a browser that keeps the page's data.
+        self.driver.execute_cdp_cmd("Browser.grantPermissions", {"permissions": ["durableStorage"]})
 
     def resize(self, width, height):
         self.driver.execute_cdp_cmd("Emulation.setDeviceMetricsOverride", {"width": width, "height": height, "deviceScaleFactor": 1, "mobile": False})
@@ -41,6 +43,11 @@ class Chromium:
 
     def come_round(self, back):
         """Without a screen Chromium has no controls of its own: Tab goes from the last of the page to the first."""
+
+    def described(self):
+        """What a screen reader is given as the description of the open dialog, or None if the browser doesn't tell."""
+        nodes = self.driver.execute_cdp_cmd("Accessibility.getFullAXTree", {})["nodes"]
+        return next(node["description"]["value"] for node in nodes if node.get("role", {}).get("value") == "dialog" and "description" in node)
 
     def leave_box(self):
         """Without a screen Chromium shows nobody its box for a password, and no test can press its buttons."""
@@ -116,6 +123,10 @@ class Firefox:
         """After the page's last control Tab goes on to Firefox's own, as a user sees it. The driver's keys stay in the page, which then shows no focus."""
         if not self.process.run_inside(COME_ROUND, back):
             raise AssertionError("no tab leads back to the page")
+
+    def described(self):
+        """Firefox's driver has no command for it."""
+        return None
 
     def leave_box(self):
         """Presses Cancel in the browser's own box for a password, if it is there."""

@@ -48,7 +48,7 @@ COMMANDS = [
     ("POST", r"print", "WebDriver:Print"),
     ("POST", r"timeouts", "WebDriver:SetTimeouts"),
 ]
-#: No page of Mozilla's is asked for, a name and a password in an address need no question, and the WebDriver element keeps its name.
+#: No page of Mozilla's is asked for, a name and a password in an address need no question, a page's data is kept without one, and the WebDriver element keeps its name.
 PREFERENCES = {
     "marionette.port": 0,
     "app.update.enabled": False,
@@ -58,6 +58,8 @@ PREFERENCES = {
     "browser.aboutwelcome.enabled": False,
     "datareporting.policy.dataSubmissionEnabled": False,
     "dom.disable_open_during_load": False,
+    "dom.storageManager.prompt.testing": True,
+    "dom.storageManager.prompt.testing.allow": True,
     "network.captive-portal-service.enabled": False,
     "network.connectivity-service.enabled": False,
     "network.http.phishy-userpass-length": 255,

@@ -56,7 +56,7 @@ def a_day(bank):
     page = Page(bank)
     page.choose_desk(3)
     page.open_day("2012-02-06")
-    page.waits_for("6 February 2012 is open.")
+    page.waits_for("February 6, 2012 is open.")
     page.show_sheet(7)
     right(page.text().count("under 5 years: less three months' interest") == 1 and page.text().count("P5") == 4, "the sheet has its notes as badges, and one legend in words", page.text())
     right(page.find("#month").get_attribute("value") == "2012-02", "the month is that of the open day")
@@ -74,7 +74,7 @@ def a_day(bank):
     kept_nothing(page, "after two payments")
     looked_up(page)
     page.close_day()
-    page.waits_for("Batch of 6 February 2012", "#batch h2")
+    page.waits_for("Batch of February 6, 2012", "#batch h2")
     right(dollars(SUM) in page.find("#batch").text and "3" in page.find("#batch dl").text, f"the batch has {dollars(SUM)}", page.find("#batch").text)
     complaints = page.complaints()
     right(complaints == [], "the browser has nothing to complain of", complaints)
@@ -95,7 +95,7 @@ def looked_up(page):
     page.go("batches")
     page.type("#batch-day", "2012-02-06")
     page.press("#ask-batch button")
-    page.waits_for("6 February 2012 has no batch")
+    page.waits_for("February 6, 2012 has no batch")
     page.reload()
     page.go("day")
     page.press("#desk-tickets tbody tr button")
@@ -126,7 +126,7 @@ def interrupted(bank, page, fault, is_reloaded, act, shown):
 def interrupted_day(bank, page, place, fault, is_reloaded):
     """A day on which each of the three steps meets the fault, and between each two of them the counter is killed too."""
     day, owner, ticket = f"2012-02-{1 + place:02}", 1000 + place, place + 1
-    in_words = f"{1 + place} February 2012"
+    in_words = f"February {1 + place}, 2012"
     interrupted(bank, page, fault, is_reloaded, lambda: page.open_day(day), lambda: page.waits_for(f"{in_words} is open."))
     bank.server.kill()
     page.show_sheet(owner)
@@ -162,7 +162,7 @@ def browser_killed(bank):
     page = Page(bank)
     page.choose_desk(3)
     page.join_day("2012-02-06")
-    page.waits_for("The page works on 6 February 2012")
+    page.waits_for("The page works on February 6, 2012")
     page.show_sheet(7)
     page.choose("L7EE")
     bank.gate.faults = ["lost answer", "lost request", "lost request", "lost request"]
@@ -185,7 +185,7 @@ def two_desks(bank):
     for desk, page in enumerate(pages, 1):
         page.choose_desk(desk)
         page.join_day("2012-02-06")
-        page.waits_for("The page works on 6 February 2012")
+        page.waits_for("The page works on February 6, 2012")
         page.show_sheet(7)
         page.choose("L7EE")
     paying = [threading.Thread(target=page.pay) for page in pages]
@@ -230,7 +230,7 @@ def numbers_used(bank):
     page = Page(bank)
     page.choose_desk(5)
     page.join_day("2012-02-06")
-    page.waits_for("The page works on 6 February 2012")
+    page.waits_for("The page works on February 6, 2012")
     number = page.journal()["next"]
     for used in range(number, number + 10):
         bank.expect(409, "/redeem", {"desk": 5, "number": used, "day": "2012-02-06", "payee": 7, "serials": ["A1EE"]})
@@ -263,7 +263,7 @@ def two_tabs(bank):
     page.driver.switch_to.window(first)
     page.driver.close()
     page.driver.switch_to.window(second)
-    page.waits_for("Desk 5.", "#state")
+    page.waits_for("Desk 5,", "#state")
     right(True, "it goes on at the same desk when the first is closed")
     page.quit()
 
@@ -282,7 +282,7 @@ def half_a_page(bank):
     page.waits_for("The page didn't load completely.")
     (bank.teller / "sheet.away").rename(module)
     bank.gate.faults = []
-    page.waits_for("6 February 2012 is open.")
+    page.waits_for("February 6, 2012 is open.")
     right(EARLIER in page.text(), "a page of which a module didn't come is loaded again by itself, and sends what is open")
     page.quit()
 
@@ -310,13 +310,14 @@ def silent_counter(bank):
     page = Page(bank)
     page.choose_desk(5)
     bank.gate.faults = ["silent"]
-    begun = time.monotonic()
     page.open_day("2012-02-06")
+    begun = time.monotonic()
     page.waits_for("sent, waiting for the reply", "#progress")
     right(all(not button.is_enabled() for button in page.all("fieldset.acts button") if button.is_displayed()), "while it waits no other request can be made")
     page.waits_for("no response within 40 seconds", "#progress")
-    page.press("#send-now")
-    page.waits_for("6 February 2012 is open.")
+    # At once: the pause lasts half a second.
+    page.run("document.getElementById('send-now').click()")
+    page.waits_for("February 6, 2012 is open.")
     right(time.monotonic() - begun < 50 and EARLIER in page.text(), f"a silent counter: sent again after {time.monotonic() - begun:.0f} seconds")
     page.quit()
 
@@ -327,7 +328,7 @@ def device_fails(bank):
     page = Page(bank)
     page.choose_desk(5)
     page.join_day("2012-02-06")
-    page.waits_for("The page works on 6 February 2012")
+    page.waits_for("The page works on February 6, 2012")
     page.show_sheet(7)
     page.choose("L7EE")
     failing = ["strace", "-f", "-qq", "-e", "trace=fdatasync", "-e", "inject=fdatasync:error=EIO:when=1+", "-o", "/dev/null"]
@@ -412,24 +413,24 @@ def told(page, words, code):
 
 def refused_days(bank, page):
     page.open_day("2012-02-06")
-    page.waits_for("6 February 2012 is open.")
+    page.waits_for("February 6, 2012 is open.")
     page.press("#leave-day button")
     page.open_day("2012-02-07")
     told(page, "A business day is open already.", 40)
     page.join_day("2012-02-03")
-    page.waits_for("The page works on 3 February 2012")
+    page.waits_for("The page works on February 3, 2012")
     page.close_day()
     told(page, "A different business day is open.", 43)
     page.join_day("2012-02-06")
-    page.waits_for("The page works on 6 February 2012")
+    page.waits_for("The page works on February 6, 2012")
     page.close_day()
-    page.waits_for("Batch of 6 February 2012", "#batch h2")
+    page.waits_for("Batch of February 6, 2012", "#batch h2")
     page.open_day("2012-02-06")
     told(page, "This day, or a later one, is closed already.", 41)
     page.join_day("2012-02-06")
-    page.waits_for("6 February 2012 is closed. This is its batch.")
+    page.waits_for("February 6, 2012 is closed. This is its batch.")
     page.join_day("2012-02-08")
-    page.waits_for("The page works on 8 February 2012")
+    page.waits_for("The page works on February 8, 2012")
     page.close_day()
     told(page, "No business day is open.", 42)
 
@@ -444,7 +445,7 @@ def changed_sheets(bank, owner, change):
 def refused_payments(bank, page):
     """The page lets nobody choose a bond that can't be paid; so it is given false sheets here, and the counter refuses what they let choose."""
     page.open_day("2012-02-09")
-    page.waits_for("9 February 2012 is open.")
+    page.waits_for("February 9, 2012 is open.")
     later = bank.ask("GET", "/inventory/7/2013-06")[1].encode()
     other = bank.ask("GET", "/inventory/7/2012-02")[1].encode().replace(b"L7EE", b"A1EE")
     for serial, owner, sheet, words, code in (
@@ -464,7 +465,7 @@ def refused_payments(bank, page):
     bank.expect(200, "/redeem", {"desk": 900, "number": 60, "day": "2012-02-09", "payee": 9, "serials": ["L9EE"]})
     page.pay(9)
     told(page, "Bond L9EE was paid already, on ticket 1.", 52)
-    page.press("#others button")
+    right(page.find("#others").text == "", "a bond that was paid is no longer chosen")
     misspelled(page)
 
 
@@ -497,7 +498,7 @@ def full_day(bank, page):
     page.pay()
     told(page, "The day has reached its limit of 1,000 tickets.", 44)
     page.close_day(patience=240)
-    page.waits_for("Batch of 9 February 2012", "#batch h2")
+    page.waits_for("Batch of February 9, 2012", "#batch h2")
     right("1,000" in page.find("#batch dl").text, "and it is closed with 1,000 tickets")
 
 

@@ -249,7 +249,7 @@ def chosen_twice(bank):
     page.sleep(1)
     page.shows_sum(3, dollars(VALUES["L"] + 2 * VALUES["K"]), "February 2012")
     told = page.ask_to_pay(8)
-    items = [item.text.split(":")[0] for item in page.all("#confirm li")]
+    items = [serial for serial, *_ in page.bonds_asked()]
     right(sorted(items) == ["K7EE", "K9EE", "L7EE"], "each bond is in the question once", told)
     page.press("#confirm-no")
     right(page.find("#others").text.count("K7EE") == 0 and page.find("#others").text.count("K9EE:") + page.find("#others").text.count("K9EE, owner") == 1, "and in one place of the page", page.find("#others").text)

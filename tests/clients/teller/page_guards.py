@@ -12,7 +12,7 @@ from relay import Relay
 from samples import TOO_YOUNG, VALUES, begin, right
 
 DAY = "2012-02-06"
-OF_DAY = "Monday, 6 February 2012"
+OF_DAY = "Monday, February 6, 2012"
 AUGUST = "2012-08"
 
 
@@ -46,23 +46,23 @@ def usual_day(bank):
     page = Page(bank)
     page.choose_desk(5)
     page.ask_to_open(DAY)
-    wanted = f"Open 6 February 2012?\n{OF_DAY}: 3 days after the last closed day, Friday, 3 February 2012."
+    wanted = f"Open February 6, 2012?\n{OF_DAY}: 3 days after the last closed day, Friday, February 3, 2012."
     right(question(page) == wanted, "a new page finds the last closed day, and shows weekday and distance", question(page))
     right(page.find("#confirm-yes").text == "Open the day" and bank.gate.bodies == [], "nothing is sent before it is confirmed")
     page.press("#confirm-no")
     right(not page.find("#confirm").is_displayed() and page.journal()["open"] is None and bank.gate.bodies == [], "Back sends nothing")
     page.open_day(DAY)
-    page.waits_for("6 February 2012 is open.")
+    page.waits_for("February 6, 2012 is open.")
     page.close_day()
-    page.waits_for("Batch of 6 February 2012", "#batch h2")
+    page.waits_for("Batch of February 6, 2012", "#batch h2")
     page.settled()
     right(page.journal()["closed"] == DAY, "a closed day is remembered", page.journal())
-    for day, distance in (("2012-02-07", "Tuesday, 7 February 2012: 1 day after"), ("2012-02-13", "Monday, 13 February 2012: 7 days after")):
+    for day, distance in (("2012-02-07", "Tuesday, February 7, 2012: 1 day after"), ("2012-02-13", "Monday, February 13, 2012: 7 days after")):
         page.ask_to_open(day)
         right(distance in question(page) and page.find("#confirm-yes").text == "Open the day", f"once: {distance} the last closed day")
         page.press("#confirm-no")
     page.ask_to_open("2012-02-14")
-    right("Tuesday, 14 February 2012: 8 days after" in question(page) and page.find("#confirm-yes").text == "Continue", "from 8 days on it asks again")
+    right("Tuesday, February 14, 2012: 8 days after" in question(page) and page.find("#confirm-yes").text == "Continue", "from 8 days on it asks again")
     page.press("#confirm-no")
     page.ask_to_open("2012-02-06")
     right("not later than the last closed day" in question(page) and page.find("#confirm-yes").text == "Open the day", "a day that isn't later is left to the counter", question(page))
@@ -76,7 +76,7 @@ def learns_of_others(bank, page):
     """Days that another desk closed meanwhile."""
     closed_day(bank, "2012-02-10")
     page.ask_to_open("2012-02-14")
-    right("Tuesday, 14 February 2012: 4 days after the last closed day, Friday, 10 February 2012." in question(page), "a day that another desk closed counts", question(page))
+    right("Tuesday, February 14, 2012: 4 days after the last closed day, Friday, February 10, 2012." in question(page), "a day that another desk closed counts", question(page))
     page.press("#confirm-no")
     right(page.journal()["closed"] == "2012-02-10", "and is remembered")
     page.run_module("""
@@ -93,7 +93,7 @@ def learns_of_others(bank, page):
     """)
     page.reload()
     page.ask_to_open("2012-02-13")
-    right("3 days after the last closed day, Friday, 10 February 2012." in question(page), "a journal of an earlier version, without the field, is read as before", question(page))
+    right("3 days after the last closed day, Friday, February 10, 2012." in question(page), "a journal of an earlier version, without the field, is read as before", question(page))
     page.press("#confirm-no")
 
 
@@ -112,7 +112,7 @@ def unanswered(bank, page):
 RESTS = """
     window.rests = [];
     const button = document.getElementById("confirm-yes");
-    new MutationObserver(() => window.rests.push([button.disabled, performance.now()])).observe(button, { attributeFilter: ["disabled"] });
+    new MutationObserver(() => window.rests.push([button.hasAttribute("aria-disabled"), performance.now()])).observe(button, { attributeFilter: ["aria-disabled"] });
 """
 
 
@@ -123,7 +123,8 @@ def wrong_year(bank):
     page = Page(bank)
     page.choose_desk(5)
     page.ask_to_open("2121-02-06")
-    right("Thursday, 6 February 2121: no closed day was found in the 7 days before it." in question(page), "the page says that a day is far off", question(page))
+    right("Thursday, February 6, 2121: no closed day was found in the 7 days before it." in question(page), "the page says that a day is far off", question(page))
+    page.until(lambda: page.find("#confirm-yes").get_attribute("aria-disabled") is None, "the button has rested")
     page.run(RESTS)
     page.press("#confirm-yes")
     page.until(lambda: "Is the year 2121 right?" in question(page), "it asks again")
@@ -137,16 +138,16 @@ def wrong_year(bank):
     page.sleep(1.5)
     right(bank.gate.bodies == [] and page.journal()["open"] is None, "Back sends nothing")
     page.open_day("2012-02-06")
-    page.waits_for("6 February 2012 is open.")
+    page.waits_for("February 6, 2012 is open.")
     right(True, "the true day opens")
     page.close_day()
-    page.waits_for("Batch of 6 February 2012", "#batch h2")
+    page.waits_for("Batch of February 6, 2012", "#batch h2")
     page.settled()
     page.ask_to_open("2121-02-06")
-    right("39,812 days after the last closed day, Monday, 6 February 2012." in question(page), "with a closed day known, its distance is told", question(page))
+    right("39,812 days after the last closed day, Monday, February 6, 2012." in question(page), "with a closed day known, its distance is told", question(page))
     page.press("#confirm-no")
     page.open_day("2121-02-06")
-    page.waits_for("6 February 2121 is open.")
+    page.waits_for("February 6, 2121 is open.")
     page.quit()
     books = books_of(bank)
     days = books.rows("SELECT act FROM answers WHERE desk = 5 AND act LIKE '%\"open\"%' ORDER BY number")
@@ -329,13 +330,13 @@ def headers_sent(bank):
     page.choose_desk(5)
     page.run(HEARD)
     page.open_day(DAY)
-    page.waits_for("6 February 2012 is open.")
+    page.waits_for("February 6, 2012 is open.")
     page.show_sheet(7)
     page.choose("L7EE")
     page.pay()
     is_paid_on(page, 1, VALUES["L"])
     page.close_day()
-    page.waits_for("Batch of 6 February 2012", "#batch h2")
+    page.waits_for("Batch of February 6, 2012", "#batch h2")
     heard = page.run("return window.heard")
     paths = {path for _, path, *_ in heard}
     right({"/day/open", "/redeem", "/day/close", "/inventory/7/2012-02", "/batch/2012-02-05"} <= paths, f"{len(heard)} requests were heard", paths)
@@ -356,14 +357,14 @@ def changed_month(bank):
     page.choose("L7EE", "K7EE")
     page.shows_sum(2, dollars(VALUES["L"] + VALUES["K"]), "February 2012")
     page.close_day()
-    page.waits_for("Batch of 6 February 2012", "#batch h2")
+    page.waits_for("Batch of February 6, 2012", "#batch h2")
     page.go("pay")
     right(page.find("#sheet").text == "" and not page.find("#pay-bonds").is_displayed(), "as the day ends, the sheet and what was chosen on it are gone")
     no_day_at_all(page)
     bank.expect(200, "/day/open", {"desk": 900, "number": 100_001, "day": "2012-08-06"})
     page.show_sheet(7, "2012-02")
     page.join_day("2012-08-06")
-    page.waits_for("The page works on 6 August 2012")
+    page.waits_for("The page works on August 6, 2012")
     page.go("pay")
     right(page.find("#sheet").text == "" and page.find("#month").get_attribute("value") == AUGUST, "as a day in August is joined, February's sheet goes", page.text())
     page.show_sheet(7, "2012-02")
@@ -421,7 +422,7 @@ def bonds_added(bank):
     page.waits_for("2 bonds, valued", "#chosen")
     told = page.pay(8)
     is_paid_on(page, 1, 2 * VALUES["K"])
-    right(f"Pay {dollars(2 * VALUES['K'])} to customer 8?" in told and f"K7EE: {dollars(VALUES['K'])}\nK9EE: {dollars(VALUES['K'])}" in told, "the question has the sum of all, as the ticket", told)
+    right(f"Pay {dollars(2 * VALUES['K'])} to customer 8?" in told and page.asked == [["K7EE", "$75", "issued 10/2010", dollars(VALUES["K"])], ["K9EE", "$75", "issued 10/2010", dollars(VALUES["K"])]], "the question has the sum of all, as the ticket", told)
     page.quit()
     right(books_of(bank).rows("SELECT payee, bonds, total FROM tickets") == [(8, 2, 2 * VALUES["K"])], "one ticket of two owners' bonds, to their coowner")
 

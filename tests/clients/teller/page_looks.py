@@ -17,7 +17,7 @@ def at_work(bank, owners=(7,), desk=5):
     page = Page(bank)
     page.choose_desk(desk)
     page.join_day("2012-02-06")
-    page.waits_for("The page works on 6 February 2012")
+    page.waits_for("The page works on February 6, 2012")
     return page
 
 
@@ -28,10 +28,10 @@ def keyboard_alone(bank):
     page.waits_for("Choose a desk")
     page.tab_to("#desk")
     page.keys("5", Keys.ENTER)
-    page.waits_for("Desk 5.", "#state")
+    page.waits_for("Desk 5,", "#state")
     page.tab_to("#join-date")
     page.keys("02", "06", "2012", Keys.ENTER)
-    page.waits_for("The page works on 6 February 2012")
+    page.waits_for("The page works on February 6, 2012")
     page.tab_to("nav a[href='#pay']", back=True)
     page.keys(Keys.ENTER)
     page.until(lambda: page.find("#pay").is_displayed(), "the view of payments")
@@ -51,6 +51,7 @@ def keyboard_alone(bank):
     page.keys(Keys.ENTER)
     page.until(lambda: page.find("#confirm").is_displayed(), "the page asks once more")
     page.tab_to("#confirm-yes")
+    page.until(lambda: page.find("#confirm-yes").get_attribute("aria-disabled") is None, "the button has rested")
     page.keys(Keys.ENTER)
     is_paid_on(page, 1, VALUES["L"])
     page.until(lambda: page.run("return document.activeElement?.id") == "paper-title", "the ticket has the keyboard")
@@ -128,7 +129,7 @@ def accessible(bank):
     page.go("pay")
     checked(page, "no day to pay on")
     page.join_day("2012-02-06")
-    page.waits_for("The page works on 6 February 2012")
+    page.waits_for("The page works on February 6, 2012")
     page.show_sheet(7)
     page.choose("L7EE")
     page.add(9, "K9EE")
@@ -166,6 +167,9 @@ def asked_and_barred(page):
     checked(page, "the question")
     dialog = page.find("#confirm")
     right(dialog.accessible_name == page.find("#confirm-title").text and dialog.get_attribute("aria-describedby") == "confirm-text", "the question's title is its name, and its text describes it")
+    said = page.engine.described()
+    wanted = f"1 bond, on Monday, February 6, 2012: L7EE $50 issued 11/2010 {dollars(VALUES['L'])}"
+    right(said is None or " ".join(said.split()) == wanted, f"its description names the bond: {said}", said)
     page.press("#confirm-no")
 
 
@@ -218,7 +222,7 @@ def pictures(bank):
     page.go("pay")
     kept_picture(page, folder / "no_day.png", 960, 400)
     page.join_day("2012-02-06")
-    page.waits_for("The page works on 6 February 2012")
+    page.waits_for("The page works on February 6, 2012")
     pictures_of_payment(bank, page, folder)
     pictures_of_day(page, folder)
     page.quit()
@@ -228,13 +232,18 @@ def pictures(bank):
 
 def pictures_of_payment(bank, page, folder):
     page.show_sheet(7)
-    page.choose("K2EE", "L1EE", "M3EE")
+    page.find("#in-hand").send_keys("K9EE", Keys.ENTER, "N7EE", Keys.ENTER, "K2EE L1EE M3EE", Keys.ENTER)
+    page.shows_sum(3, dollars(SUM), "February 2012")
+    kept_picture(page, folder / "hand.png", 1180, 860)
+    page.press("#missed > button")
     page.run("document.activeElement.blur()")
     kept_picture(page, folder / "pay.png", 1180, 960)
     kept_picture(page, folder / "tablet.png", 820, 1100)
     page.run("document.querySelector('#sheet').scrollIntoView()")
     kept_picture(page, folder / "phone.png", 360, 740, scrolled=True)
     page.ask_to_pay()
+    page.resize(960, 560)
+    page.until(lambda: page.find("#confirm-yes").get_attribute("aria-disabled") is None, "the button has rested")
     kept_picture(page, folder / "confirm.png", 960, 560)
     bank.gate.faults = ["lost answer", "lost request", "lost request", "lost request"]
     page.press("#confirm-yes")
@@ -251,12 +260,12 @@ def pictures_of_day(page, folder):
     page.waits_for("1 ticket, 3 bonds", "#all-sum")
     kept_picture(page, folder / "day.png", 960, 860)
     page.close_day()
-    page.waits_for("Tickets of 6 February 2012", "#batch")
+    page.waits_for("Tickets of February 6, 2012", "#batch")
     page.until(lambda: page.all("#batch-list tr") != [], "the latest batches are listed")
     kept_picture(page, folder / "batch.png", 960, 860)
     page.ask_to_open("2121-02-06")
     page.press("#confirm-yes")
-    page.until(lambda: page.find("#confirm-yes").text == "Open the day in 2121" and page.find("#confirm-yes").is_enabled(), "it asks again")
+    page.until(lambda: page.find("#confirm-yes").text == "Open the day in 2121" and page.find("#confirm-yes").get_attribute("aria-disabled") is None, "it asks again")
     kept_picture(page, folder / "again.png", 960, 560)
 
 
@@ -268,7 +277,7 @@ def picture_of_paper(bank, folder):
     page = Page(bank, size=(960, 900))
     page.choose_desk(6)
     page.join_day("2012-02-07")
-    page.waits_for("The page works on 7 February 2012")
+    page.waits_for("The page works on February 7, 2012")
     page.show_sheet(60)
     page.press("#choose-all")
     page.pay()

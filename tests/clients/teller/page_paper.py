@@ -70,7 +70,7 @@ def hundred_bonds(bank):
     page = at_work(bank)
     total = paid_hundred(page, bank)
     first = sheets(page, "Letter", "kept_letter")
-    title = "Ticket 1, 6 February 2012, customer 60"
+    title = "Ticket 1, February 6, 2012, customer 60"
     right(len(first) == 4 and wrong_heads(first, title) == [], f"on Letter it takes {len(first)} sheets, each with number, day, payee and its page of all", [text[:200] for text in first])
     whole = "\n".join(first)
     right(whole.count(total) == 1 and total in first[-1] and whole.count("Total") == 1, "the total stands once, on the last sheet", whole.count(total))
@@ -167,13 +167,13 @@ def batch_printed(bank):
     many_bonds(bank, 60, 45)
     paid_elsewhere(bank, 60, 45, DAY, 3000)
     page.close_day()
-    page.waits_for("Tickets of 6 February 2012", "#batch")
+    page.waits_for("Tickets of February 6, 2012", "#batch")
     total = dollars(45 * VALUES["L"])
     for paper in PAPERS:
         found = sheets(page, paper, f"kept_batch_{paper}" if paper == "Letter" else "batch")
         whole = "\n".join(found)
         lines = re.findall(r"^ *(\d+) +customer 60 +1 +\$25\.16$", whole, re.M)
-        right(wrong_heads(found, "Batch of 6 February 2012") == [] and lines == [str(n) for n in range(1, 46)], f"{paper}: {len(found)} sheets list each of 45 tickets, with payee, bonds and sum", whole)
+        right(wrong_heads(found, "Batch of February 6, 2012") == [] and lines == [str(n) for n in range(1, 46)], f"{paper}: {len(found)} sheets list each of 45 tickets, with payee, bonds and sum", whole)
         right(len(re.findall(r"^ *Total +45 +" + re.escape(total) + "$", whole, re.M)) == 1 and "Settled by: name" in found[-1] and "One thousand one hundred thirty-two dollars and 20/100" in found[-1], f"{paper}: the total once, in words too, and a line to sign", found[-1])
     hidden = page.run("return document.querySelectorAll('#batch .print').length")
     right(hidden == 1 and "Show the batch" not in whole, "and nothing else of the page")

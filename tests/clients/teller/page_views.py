@@ -72,18 +72,50 @@ def texts_are_whole(page):
 
 def asked_by_sum(page, sum_of_two):
     told = page.ask_to_pay()
-    items = [item.text for item in page.all("#confirm li")]
+    items = page.bonds_asked()
     right(told.startswith(f"Pay {sum_of_two} to customer 60?\n") and page.find("#confirm-yes").text == f"Pay {sum_of_two} to customer 60", "so do the question and its button", told)
-    right(items == [f"S1EE: {dollars(VALUES['L'])}", f"S60EE: {dollars(VALUES['L'])}"], "the bonds are a list", items)
+    right(items == [[serial, "$50", "issued 11/2010", dollars(VALUES["L"])] for serial in ("S1EE", "S60EE")], "the bonds are a list, each with denomination, issue month and value", items)
     page.press("#confirm-yes")
     is_paid_on(page, 1, 2 * VALUES["L"])
     page.go("day")
     kinds = page.run("return ['#day-open .buttons a', '#close-day button'].map((one) => getComputedStyle(document.querySelector(one)).backgroundColor)")
     right(kinds[0] == "rgb(23, 66, 107)" and kinds[1] == "rgb(255, 255, 255)", "to pay is the main act of an open day, and to close it a second one", kinds)
     told = page.ask_to_close()
-    right(told.startswith(f"Close Monday, 6 February 2012 with {sum_of_two}?") and "1 ticket, 2 bonds" in told, "Close the day asks by the sum of the day", told)
+    right(told.startswith(f"Close Monday, February 6, 2012 with {sum_of_two}?") and "1 ticket, 2 bonds" in told, "Close the day asks by the sum of the day", told)
     right(page.find("#confirm-yes").text == f"Close the day with {sum_of_two}", "and its button names it")
     page.press("#confirm-no")
+
+
+TIMES = """
+    const { dayInWords, timeInWords } = await import(new URL("/teller/words.js", location.origin));
+    const times = [[0, 5], [9, 30], [12, 0], [23, 59]].map(([hour, minute]) => timeInWords(new Date(2012, 1, 6, hour, minute).getTime()));
+    return [...times, dayInWords("2012-12-31")];
+"""
+DAY_FIRST = r"\b\d{1,2} (?:January|February|March|April|May|June|July|August|September|October|November|December)\b"
+
+
+def dates(bank):
+    """Dates and times as an American bank writes them, on the page and on paper; and the desk can't be read with the day as one number."""
+    page = at_work(bank)
+    right(page.find("#state").text == "Desk 5, February 6, 2012", "the head has desk and day", page.find("#state").text)
+    found = page.run_module(TIMES)
+    right(found == [f"February 6, 2012, {time}" for time in ("12:05 AM", "9:30 AM", "12:00 PM", "11:59 PM")] + ["December 31, 2012"], "days and times in words", found)
+    page.show_sheet(7)
+    page.choose("L7EE")
+    page.pay()
+    is_paid_on(page, 1, VALUES["L"])
+    page.settled()
+    texts = {}
+    for view in ("day", "pay", "tickets", "batches"):
+        page.go(view)
+        page.sleep(1)
+        texts[view] = page.run("return document.body.textContent")
+    texts["question"] = page.ask_to_close()
+    page.press("#confirm-no")
+    wrong = {name: re.findall(DAY_FIRST, text) for name, text in texts.items() if re.search(DAY_FIRST, text)}
+    right(wrong == {} and all("February 6, 2012" in texts[name] for name in ("day", "tickets", "question")), "no day stands before its month, on the page and on its paper", wrong)
+    right(re.search(DAY_FIRST, "Desk 5. 6 February 2012") is not None, "control: such a date is found")
+    page.quit()
 
 
 def empty_states(bank):
@@ -103,7 +135,7 @@ def empty_states(bank):
     page.waits_for("No closed day with tickets was found.", "#batch-list")
     right(True, "no ticket and no batch are told as such")
     page.open_day(DAY)
-    page.waits_for("6 February 2012 is open.")
+    page.waits_for("February 6, 2012 is open.")
     page.show_sheet(99)
     right("Customer 99 owns no unpaid bonds." in page.find("#sheet").text and not page.find("#pay-bonds").is_displayed(), "a customer without bonds has no Pay")
     page.add(7, "K7EE")
@@ -142,9 +174,9 @@ def latest_first(bank):
     page.go("batches")
     page.until(lambda: len(page.all("#batch-list tbody tr")) == 2, "two batches are listed")
     rows = [row.text.replace("\n", " ") for row in page.all("#batch-list tbody tr")]
-    right(rows[0].startswith("7 February 2012") and rows[1].startswith("6 February 2012") and rows[1].endswith(f"23 23 {dollars(23 * VALUES['L'])}"), "Batches begins with the latest closed day, and leaves the open one out", rows)
+    right(rows[0].startswith("February 7, 2012") and rows[1].startswith("February 6, 2012") and rows[1].endswith(f"23 23 {dollars(23 * VALUES['L'])}"), "Batches begins with the latest closed day, and leaves the open one out", rows)
     page.press("#batch-list tbody tr:nth-child(2) button")
-    page.waits_for("Tickets of 6 February 2012", "#batch")
+    page.waits_for("Tickets of February 6, 2012", "#batch")
     right(len(page.all("#batch .paper tbody tr")) == 23, "a batch has the list of its tickets")
     page.quit()
 
@@ -217,7 +249,7 @@ def fields(bank):
     right(kinds[3][0] == "month" or "YYYY-MM" in page.find("label[for=month]").get_attribute("textContent"), "a browser without a field for months is told how to spell one", kinds[3])
     page.run("document.getElementById('open-date').value = ''")
     page.press("#open-day button")
-    right(page.find("#open-date-error").text.endswith("Enter a day from 2005-05-01 on, as YYYY-MM-DD"), "a day that is missing is told at its field")
+    right(page.find("#open-date-error").text.endswith("Enter a day from May 1, 2005 on"), "a day that is missing is told at its field")
     page.go("pay")
     page.type("#customer", "x")
     page.press("#ask-sheet button")
