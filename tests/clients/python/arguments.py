@@ -94,7 +94,7 @@ def check_openings():
             raises(client.BadValue, lambda: client.Counter(place / "a.journal", "https://127.0.0.1:9", desk=3, certificate=certificate))
         for desks_of in ((), [1, 1], [1000], "12", None, 7):
             raises(client.BadValue, lambda: client.Pool(place, desks=desks_of))
-        raises(client.BadValue, lambda: client.Pool(place, desks=[1], pacience=3))
+        raises(TypeError, lambda: client.Pool(place, desks=[1], pacience=3))
         for path, kind in ((place, client.FileFailed), (place / "missing" / "a.journal", client.FileFailed), ("/proc/a.journal", client.FileFailed)):
             raises(kind, lambda: client.Counter(path, desk=3))
         right(True, "certificates, pools, and places where no journal can be")
@@ -149,7 +149,7 @@ def words():
     for setting, wanted in (("logging.getLogger('ee_counter_client').addHandler(logging.NullHandler())", ""), ("logging.getLogger('ee_counter_client').setLevel(logging.ERROR)", ""), ("", "no reply: [Errno 111] Connection refused\n")):
         with folder() as place:
             ran = subprocess.run([sys.executable, "-c", script.format(setting), place / "a.journal"], capture_output=True, text=True, env=own_environment(), check=True)
-            right(ran.stdout == "" and sorted(set(ran.stderr.splitlines(True))) == sorted({wanted} - {""}), f"{setting or 'no setting'}: {ran.stderr.strip()!r}", ran)
+            right(ran.stdout == "" and set(ran.stderr.splitlines(True)) - {"no reply: timed out\n"} == {wanted} - {""}, f"{setting or 'no setting'}: {ran.stderr.strip()!r}", ran)
     logging.getLogger("ee_counter_client")
 
 

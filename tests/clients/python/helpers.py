@@ -3,6 +3,7 @@ import http.client
 import json
 from unittest import mock
 
+import ee_counter_client.counter as counter_module
 from bench import DAY, client, control, desks, folder, right, true_counter
 from ee_counter_client.testing import AFTER, BEFORE, FAULTS, OF_ONE_SENDING, FakeCounter, fake as fake_module
 
@@ -88,7 +89,7 @@ def gate_faults():
     """Each fault of the gate over the fake counter: the request is done once, and the client says how often it was sent."""
     for fault in FAULTS:
         kills = []
-        with desks("L1EE") as (place, fake, gate), client.Counter(place / "a.journal", gate.address, desk=3, time_limit=1) as counter:
+        with desks("L1EE") as (place, fake, gate), client.Counter(place / "a.journal", gate.address, desk=3, time_limit=1) as counter, mock.patch.object(counter_module, "SIGN_IN_PAUSE", 0.1):
             gate.kill = lambda: kills.append(fault)
             gate.faults = [fault]
             if fault in OF_ONE_SENDING:

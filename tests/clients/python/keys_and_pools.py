@@ -22,7 +22,7 @@ KILLS = 12
 def keys():
     """The same call with the same key has the same reply, in the same run, in a later one, and after a stop at each place."""
     check_keys()
-    control("without its file of keys a later run pays again, and is refused", check_keys, mock.patch.object(journal_module.Keys, "read", lambda keys: setattr(keys, "size", 10**6)))
+    control("without its file of keys a later run pays again, and is refused", check_keys, mock.patch.object(journal_module.Keys, "read", lambda keys, keyed: setattr(keys, "size", keyed)))
     reused_keys()
     stopped_keys()
     damaged_keys()
@@ -41,32 +41,54 @@ def check_keys():
 
 
 def reused_keys():
-    with desks("L1EE", "L2EE") as (place, fake, gate), client.Counter(place / "a.journal", gate.address, desk=3, patience=0.3) as counter:
+    with desks("L1EE", "L2EE", "L3EE") as (place, fake, gate), client.Counter(place / "a.journal", gate.address, desk=3, patience=2) as counter:
         counter.redeem(DAY, 7, ["L1EE"], key="invoice-1")
         right("invoice-1" in str(raises(client.KeyReused, lambda: counter.redeem(DAY, 7, ["L2EE"], key="invoice-1"))), "a key for another request is refused")
         raises(client.DayIsOther, lambda: counter.redeem("2012-02-07", 7, ["L2EE"], key="invoice-2"))
-        gate.faults = ["lost answer"] * 9
+        gate.faults = ["lost answer"] * 60
         raises(client.NoReply, lambda: counter.redeem(DAY, 7, ["L2EE"], key="invoice-2"))
         right(True, "a refusal leaves its key free, for the corrected request")
         raises(client.KeyReused, lambda: counter.redeem(DAY, 7, ["L1EE"], key="invoice-2"))
-        raises(client.StillOpen, lambda: counter.redeem(DAY, 7, ["L2EE"], key="invoice-3"))
-        raises(client.StillOpen, lambda: counter.redeem(DAY, 7, ["L2EE"]))
+        request = raises(client.NoReply, lambda: counter.redeem(DAY, 7, ["L3EE"], key="invoice-3")).request
+        right(request.key == "invoice-2", "another call finishes it first, and has no reply either")
         gate.faults = []
-        right(counter.redeem(DAY, 7, ["L2EE"], key="invoice-2").number == 2 and len(fake.tickets) == 2, "an open request is finished by its own key alone")
+        counter.patience = 60
+        right(counter.redeem(DAY, 7, ["L3EE"], key="invoice-3").number == 3, "with the counter back, the other call is done after it")
+        sent = len(gate.bodies)
+        right(counter.redeem(DAY, 7, ["L2EE"], key="invoice-2").number == 2 and len(gate.bodies) == sent, "and its own call finds its reply")
+    unkeyed()
+
+
+def unkeyed():
+    """Its caller alone would know the reply of a request without a key. So no other call finishes it."""
+    with desks("L1EE", "L2EE") as (place, _, gate), client.Counter(place / "a.journal", gate.address, desk=3, patience=1) as counter:
+        counter.ticket(1)
+        gate.faults = ["lost answer"] * 9
+        raises(client.NoReply, lambda: counter.redeem(DAY, 7, ["L1EE"]))
+        gate.faults = []
+        raises(client.StillOpen, lambda: counter.redeem(DAY, 7, ["L2EE"], key="invoice-2"))
+        right(counter.redeem(DAY, 7, ["L1EE"]).number == 1, "an open request without a key is finished by its own call, or by `finish`")
 
 
 def stopped_keys():
-    """A stop between the line of a key and the journal: the request is sent once more."""
-    with desks("L1EE") as (place, fake, gate):
+    """A stop between the line of a key and the journal: the next run takes the reply from the line."""
+    check_stopped()
+    control("a journal that leaves the request open wedges the next run", check_stopped, mock.patch.object(journal_module.Journal, "settled", lambda journal: journal.record))
+
+
+def check_stopped():
+    with desks("L1EE", "L2EE") as (place, fake, gate):
         with client.Counter(place / "a.journal", gate.address, desk=3) as counter:
             true = counter._journal.change
             with mock.patch.object(counter._journal, "change", lambda **changes: true(**changes) if "last" not in changes else (_ for _ in ()).throw(KeyboardInterrupt)):
                 with contextlib.suppress(KeyboardInterrupt):
-                    counter.redeem(DAY, 7, ["L1EE"], key="invoice-1")
-            right(counter.open_request.key == "invoice-1", "stopped after the line of the key: the request is open")
+                    counter.redeem(DAY, 7, ["L1EE"], key="invoice-1", bookmark=4)
+        right(json.loads((place / "a.journal").read_text())["open"]["key"] == "invoice-1", "stopped after the line of the key: the journal has the request open")
+        sent = len(gate.bodies)
         with client.Counter(place / "a.journal", gate.address) as counter:
-            right(counter.redeem(DAY, 7, ["L1EE"], key="invoice-1").number == 1 and len(fake.tickets) == 1, "the next run has its ticket")
-            right(counter.finish().number == 1 and counter.open_request is None, "and `finish` ends the open request with the same one")
+            right((counter.open_request, counter.bookmark, counter.finish()) == (None, 4, None), "the next run knows that it is done, with its bookmark")
+            right(counter.redeem(DAY, 7, ["L1EE"], key="invoice-1").number == 1 and len(gate.bodies) == sent, "the same call has its ticket, and nothing is sent")
+            right(counter.redeem(DAY, 7, ["L2EE"], key="invoice-2").number == 2 and len(fake.tickets) == 2, "and other calls go on")
 
 
 def damaged_keys():
@@ -82,6 +104,10 @@ def damaged_keys():
         with client.Counter(place / "a.journal", gate.address) as counter:
             counter.redeem(DAY, 7, ["L2EE"], key="invoice-2")
         right([json.loads(line)["key"] for line in name.read_text().splitlines()] == ["invoice-1", "invoice-2"], "a line that a stop cut is taken off")
+        with open(name, "ab") as file:
+            file.write(b"\0" * 50 + b"\n" + whole)
+        with client.Counter(place / "a.journal", gate.address) as counter:
+            right(counter.find("invoice-2").reply["ticket"] == 2, "and so is what a loss of power left after the lines that the journal relies on")
 
 
 def earlier_journal():

@@ -6,6 +6,7 @@ from unittest import mock
 
 import ee_counter_client.counter as counter_module
 import ee_counter_client.journal as journal_module
+import ee_counter_client.lookups as lookups_module
 import ee_counter_client.spelling as spelling
 import ee_counter_client.way as way
 from bench import DAY, client, control, desks, encrypted, folder, journal_text, listener, raises, right, timed
@@ -91,7 +92,7 @@ def check_ways():
 
 def after_good():
     """After the first good exchange the same pages are met on the way, and the request is sent again."""
-    with desks("L1EE", "L2EE") as (place, _, gate), client.Counter(place / "a.journal", gate.address, desk=3) as counter:
+    with desks("L1EE", "L2EE") as (place, _, gate), client.Counter(place / "a.journal", gate.address, desk=3) as counter, mock.patch.object(counter_module, "SIGN_IN_PAUSE", 0.1):
         gate.faults = [fault for fault, _, _ in PAGES]
         ticket = counter.redeem(DAY, 7, ["L1EE"])
         right((ticket.number, ticket.request.sent) == (1, 6), "after a good exchange each of them is met, and the ticket comes")
@@ -111,11 +112,52 @@ def while_open():
             right(counter.finish().number == 1, "control: with the right one it gets its ticket")
 
 
+# ---- signed out
+
+
+def signed_out():
+    """A password that isn't accepted any more: a look-up ends at once, and an act waits so long that no proxy locks the address out, also over several calls."""
+    check_signed_out()
+    control("without the pause an act is sent again and again", check_signed_out, mock.patch.object(counter_module, "SIGN_IN_PAUSE", 0.0))
+    signed_in_again()
+
+
+def check_signed_out():
+    right(counter_module.SIGN_IN_PAUSE >= 150, "four sendings in ten minutes at most")
+    with desks("L1EE", "L2EE") as (place, fake, gate), client.Counter(place / "a.journal", gate.address, desk=3, patience=1) as counter:
+        lookups = client.Lookups(gate.address)
+        right(counter.ticket(1) is None and lookups.ticket(1) is None, "a good exchange")
+        gate.is_wide, gate.faults = True, ["no password"] * 50
+        for asked in (counter, lookups):
+            before = len(gate.heads)
+            with timed(0.9):
+                error = raises(client.SignInRefused, lambda: asked.ticket(1))
+            right(len(gate.heads) == before + 1 and not error.may_be_done, f"a look-up of a {type(asked).__name__} ends at once: {error}")
+        before = len(gate.heads)
+        for _ in range(3):
+            with timed(2, 0.99):
+                error = raises(client.NoReply, lambda: counter.redeem(DAY, 7, ["L1EE"], key="a"))
+        right(len(gate.heads) <= before + 2 and error.may_be_done, f"three calls of an act don't ask again and again: {error}", gate.heads[before:])
+
+
+def signed_in_again():
+    with desks("L1EE", "L2EE") as (place, fake, gate), client.Counter(place / "a.journal", gate.address, desk=3, patience=60) as counter, mock.patch.object(counter_module, "SIGN_IN_PAUSE", 0.7):
+        counter.ticket(1)
+        gate.faults = ["no password"]
+        with timed(5, 0.69):
+            ticket = counter.redeem(DAY, 7, ["L1EE"])
+        right((ticket.number, ticket.request.sent) == (1, 2), "with the password accepted again, the act is done after the pause")
+        with timed(0.6):
+            right(counter.redeem(DAY, 7, ["L2EE"]).number == 2, "and the next one without any")
+
+
 # ---- patience
 
 
 def patience():
-    """The patience ends the whole call, whatever the server does."""
+    """The patience ends the whole call, whatever the server does. It ends by itself."""
+    with folder() as place, client.Counter(place / "a.journal", desk=3) as counter, client.Pool(place, desks=[4]) as pool:
+        right(counter.patience == client.Lookups().patience == pool._patience == 300, "without one a call ends after 300 seconds")
     check_dripping()
     control("with a time limit for each call of the socket, a dripping server holds the client", check_dripping, mock.patch.object(way.Deadline, "for_socket", lambda deadline: 2.0))
     for what, serve in (("silent", silent), ("silent in the handshake", silent), ("dripping a head without an end", drip)):
@@ -173,9 +215,9 @@ def check_jitter():
         pauses = []
         for _ in range(2):
             gate.faults = ["lost request"] * 6
-            with mock.patch.object(counter_module.time, "sleep", pauses.append):
+            with mock.patch.object(lookups_module.time, "sleep", pauses.append):
                 counter.redeem(DAY, 7, ["L1EE"]) if not pauses else raises(client.AlreadyPaid, lambda: counter.redeem(DAY, 7, ["L1EE"]))
-        full = counter_module.PAUSES[:6] * 2
+        full = lookups_module.PAUSES[:6] * 2
         pauses = [pause for pause in pauses if pause != gate.drip]
         right(all(whole / 2 <= pause <= whole for pause, whole in zip(pauses, full)) and len(pauses) == 12, "pauses grow from 0.1 to 4 seconds, each from half of it to all", pauses)
         right(pauses[:6] != pauses[6:], "and are other ones each time")
@@ -193,11 +235,12 @@ def abandoning():
 
 def check_abandoned():
     with desks("L1EE", "L2EE") as (place, fake, gate):
-        with client.Counter(place / "a.journal", gate.address, desk=3, patience=0.3) as counter:
+        with client.Counter(place / "a.journal", gate.address, desk=3, patience=1) as counter:
+            counter.ticket(1)
             right(counter.abandon("nothing is open") is None, "nothing is open: nothing is given up")
             gate.faults = ["lost answer"] * 20
             number = raises(client.NoReply, lambda: counter.redeem(DAY, 7, ["L1EE"], key="invoice-1")).request.number
-            right(raises(client.StillOpen, lambda: counter.redeem(DAY, 7, ["L2EE"])).request.number == number, "another request waits for it")
+            right(raises(client.NoReply, lambda: counter.redeem(DAY, 7, ["L2EE"])).request.number == number, "another request waits for it")
             gate.faults = []
             given_up = counter.abandon("the customer left")
             right(given_up.may_be_done and "AlreadyPaid" in given_up.outcome and counter.open_request is None, f"given up: {given_up.outcome}")
@@ -218,5 +261,5 @@ def full_disk():
         right(counter.redeem(DAY, 7, ["L1EE"]).request.sent == 1, "control: with room the same call pays")
 
 
-CASES = (limits, set_up, patience, abandoning, full_disk)
+CASES = (limits, set_up, signed_out, patience, abandoning, full_disk)
 __all__ = ["CASES", "Gate"]

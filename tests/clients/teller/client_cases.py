@@ -8,6 +8,7 @@ import socket
 import subprocess
 import sys
 import time
+from unittest import mock
 
 import ee_counter_client as client
 from bank import PASSWORD, TOP, USER
@@ -95,7 +96,7 @@ def each_fault(bank):
     faults = [fault for fault in AFTER + BEFORE if fault != "silent"]
     begin(bank, [])
     met = Told().texts
-    with at_gate(bank) as counter:
+    with at_gate(bank) as counter, mock.patch.object(client.counter, "SIGN_IN_PAUSE", 0.1):
         for place, fault in enumerate(faults):
             day, owner = f"2012-02-{6 + place:02}", 1000 + place
             bonds = bonds_of(owner)

@@ -14,6 +14,8 @@ from samples import rates, right
 
 BONDS = 100_000
 INTERRUPTIONS = 20
+#: Faults after which the client waits for minutes.
+LONG = ("silent", "no password")
 
 
 # ---- an inventory of 100,000 bonds
@@ -85,7 +87,7 @@ def random_kills(bank):
     while sum(kills.values()) < bank.wanted_kills:
         after_messages(bank, chance, 6)
         if chance.random() < 0.3:
-            bank.gate.faults = [chance.choice([fault for fault in AFTER + BEFORE if fault != "silent"])]
+            bank.gate.faults = [chance.choice([fault for fault in AFTER + BEFORE if fault not in LONG])]
         if chance.random() < 0.5:
             kills["client"] += 1
             worker.kill()

@@ -11,8 +11,8 @@ A journal is a file that holds a desk's number and the numbers of its requests. 
 under that number until its reply has come: after a lost connection, a timeout, an answer 503, too many requests (429), or a restart of the script. So a
 journal belongs to one desk, a desk has one journal, and one process at a time uses it.
 
-After a stop, the same call sends the open request again, under its own number. Any other call raises StillOpen; `finish` sends what is open, and `abandon` gives
-it up. A `bookmark` is a value of the script's own, kept in the journal in one step with the reply. A `key` is a name of the caller's own for a request, such as
+After a stop, the same call sends the open request again, under its own number. If the open request has a key, any other act finishes it first; if not, it raises
+StillOpen. `finish` sends what is open, and `abandon` gives it up. `Lookups` looks things up without a journal. A `bookmark` is a value of the script's own, kept in the journal in one step with the reply. A `key` is a name of the caller's own for a request, such as
 invoice-4711: the same call with the same key returns the same reply, also in a later run.
 
 Errors are a tree (ee_counter_client.errors): BadCall, WrongSetup, Retryable, UnknownOutcome and Refused. The package logs to "ee_counter_client". It needs the standard
@@ -66,6 +66,7 @@ from .errors import (
     WrongSetup,
 )
 from .files import Registered, bonds_in, rates_in, register
+from .lookups import Lookups
 from .pool import Pool
 from .results import Abandoned, Added, Batch, Finished, Line, Opened, Request, Row, Sheet, Ticket
 from .spelling import Bond, Month, Rates
@@ -99,6 +100,7 @@ __all__ = [
     "JournalInUse",
     "KeyReused",
     "Line",
+    "Lookups",
     "Month",
     "NoAnswer",
     "NoOpenDay",

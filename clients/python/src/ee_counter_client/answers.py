@@ -5,7 +5,7 @@ import json
 import re
 from typing import Any, Callable, NamedTuple, Optional, Sequence, TypeVar
 
-from .errors import CounterError, Fault, Forbidden, ForeignAnswer, NotReady, SignInRefused, is_known_shape
+from .errors import CounterError, Fault, Forbidden, ForeignAnswer, NotReady, SignInRefused, is_known_shape, shown
 from .spelling import Json, cents_of, day_of
 
 Reader = Callable[[str], Optional[Any]]
@@ -159,7 +159,7 @@ def answer_of(status: int, text: str, read: Reader) -> Answer:
     is_named = kind == "reply" or (value is not None and type(value.get("code")) is int and type(value.get(kind)) is str)
     if value is None or not is_named or (kind == "refused" and not is_known_shape(value)):
         return foreign(status, text)
-    return Answer(kind, value, f"{value['unserved']}" if kind == "unserved" else "")
+    return Answer(kind, value, shown(value["unserved"]) if kind == "unserved" else "")
 
 
 def is_good(answer: Answer) -> bool:

@@ -40,32 +40,43 @@ def act_text(path: str, fields: Json) -> str:
 
 
 class Archive:
-    """A file with each request before it is sent, and again with its reply. Each line names the checksum of the line before."""
+    """A file with each request before it is sent, and again with its reply. Each line names the checksum of the line before.
+
+    `end` is the size of the file and its last line, as far as the lines are known to be on the disk. After an interrupted write both are read back."""
+
+    file, process = -1, 0
 
     def __init__(self, path: str) -> None:
+        self.file, self.process = -1, os.getpid()
         self.path = os.path.realpath(path)
+        self.end = 0, b""
         try:
             self.file = os.open(self.path, os.O_RDWR | os.O_CREAT | os.O_APPEND | os.O_CLOEXEC, 0o600)
+            try:
+                fcntl.flock(self.file, fcntl.LOCK_EX | fcntl.LOCK_NB)
+            except BlockingIOError:
+                raise JournalInUse(f"another process has the archive {path}") from None
+            self.test()
         except OSError as failure:
+            self.close()
             raise FileFailed(f"the archive {self.path} can't be used: {failure}") from failure
-        try:
-            fcntl.flock(self.file, fcntl.LOCK_EX | fcntl.LOCK_NB)
-        except OSError:
-            os.close(self.file)
-            raise JournalInUse(f"another process has the archive {path}") from None
-        try:
-            self.last = self.tested()
         except BaseException:
-            os.close(self.file)
+            self.close()
             raise
 
-    def tested(self) -> bytes:
-        """Reads the file, or begins it, and returns its last line. A last line without an end, as a stop leaves it, is taken off."""
+    def __del__(self) -> None:
+        """Gives the lock back if an interruption lost the Counter before it was closed. In a forked process it would take the lock from the parent."""
+        if self.process == os.getpid():
+            self.close()
+
+    def test(self) -> None:
+        """Reads the file, or begins it. A last line without an end, as a stop leaves it, is taken off."""
         with open(self.path, "rb") as file:
             lines = file.read().split(b"\n")
-        if lines[-1]:
-            os.ftruncate(self.file, sum(len(line) + 1 for line in lines[:-1]))
-        lines = lines[:-1]
+        rest, lines = lines[-1], lines[:-1]
+        size = sum(len(line) + 1 for line in lines)
+        if rest:
+            os.ftruncate(self.file, size)
         if not lines:
             return self.write(compact({"archive": 1, "of": "desk", "id": os.urandom(16).hex(), "time": self.time()}).encode())
         if not lines[0].startswith(b'{"archive":1,"of":"desk",'):
@@ -74,33 +85,48 @@ class Archive:
             found = ARCHIVED.fullmatch(line)
             if found is None or found[1].decode() != hashlib.sha256(before).hexdigest():
                 raise BadArchive(f"{self.path}: line {count} doesn't follow line {count - 1}: one of them was changed, taken out or moved")
-        return lines[-1]
+        self.end = size, lines[-1]
 
     @staticmethod
     def time() -> str:
         """The time, in UTC."""
         return datetime.datetime.now(datetime.timezone.utc).strftime("%Y-%m-%dT%H:%M:%S.%f")[:-3] + "Z"
 
-    def write(self, line: bytes) -> bytes:
-        """Writes a line to the disk, whole or not at all."""
+    def write(self, line: bytes) -> None:
+        """Writes a line to the disk. FileFailed if that fails; `read_back` then mends the file."""
         try:
-            size = os.fstat(self.file).st_size
             if os.write(self.file, line + b"\n") != len(line) + 1:
-                os.ftruncate(self.file, size)
                 raise OSError("the line was cut")
             os.fsync(self.file)
         except OSError as failure:
             raise FileFailed(f"the archive {self.path} can't be written: {failure}") from failure
-        return line
+        self.end = self.end[0] + len(line) + 1, line
+
+    def read_back(self) -> None:
+        """Mends the end of the file after an interrupted write. A whole line is written once more, since it may not be on the disk. A part of one is taken off."""
+        size = self.end[0]
+        try:
+            found = os.fstat(self.file).st_size
+            if found == size:
+                return
+            line, is_whole, _ = os.pread(self.file, max(0, found - size), size).partition(b"\n")
+            os.ftruncate(self.file, size)
+        except OSError as failure:
+            raise FileFailed(f"the archive {self.path} can't be mended: {failure}") from failure
+        if is_whole:
+            self.write(line)
 
     def add(self, desk: int, request: Json, reply: Optional[Json] = None) -> None:
         """Writes a request, with its reply if it has come."""
-        before, act = hashlib.sha256(self.last).hexdigest(), act_text(request["path"], request["fields"])
+        self.read_back()
+        before, act = hashlib.sha256(self.end[1]).hexdigest(), act_text(request["path"], request["fields"])
         told = "" if reply is None else f',"reply":{compact(reply)}'
         text = f'{{"before":"{before}","time":"{self.time()}","desk":{desk},"number":{request["number"]},"act":{act}{told}}}'
-        self.last = self.write(text.encode())
+        self.write(text.encode())
 
     def close(self) -> None:
-        """Closes the file, and gives its lock back."""
-        fcntl.flock(self.file, fcntl.LOCK_UN)
-        os.close(self.file)
+        """Closes the file, and gives its lock back. A second call does nothing, or what an interruption of the first one left."""
+        if self.file >= 0:
+            fcntl.flock(self.file, fcntl.LOCK_UN)
+            file, self.file = self.file, -1
+            os.close(file)

@@ -10,6 +10,7 @@ from .answers import compact
 from .counter import Counter
 from .errors import BadCall, BadValue, CounterError, Fault, Forbidden, Refused
 from .files import rates_in, register
+from .lookups import ADDRESS, PATIENCE, Lookups
 from .results import Added, Batch, Opened, Row, Ticket
 from .spelling import MOST_ROWS
 from .version import __version__
@@ -47,7 +48,7 @@ def run_register(counter: Counter, words: argparse.Namespace) -> int:
     return 0
 
 
-def run_sheet(counter: Counter, words: argparse.Namespace) -> int:
+def run_sheet(counter: Lookups, words: argparse.Namespace) -> int:
     """Prints a sheet."""
     sys.stdout.write(counter.inventory(words.customer, words.month).text)
     return 0
@@ -64,46 +65,83 @@ def run_abandon(counter: Counter, words: argparse.Namespace) -> int:
 
 
 Run = Callable[[Counter, argparse.Namespace], int]
-COMMANDS: Tuple[Tuple[str, str, Tuple[str, ...], Run], ...] = (
-    ("rates", "enters the rates of a CSV file", ("file",), lambda counter, words: printed(counter.add_rates(rates_in(words.file)))),
-    ("register", "registers the bonds of a CSV file in requests of 500; run it again after a stop", ("file",), run_register),
+LookUp = Callable[[Lookups, argparse.Namespace], int]
+#: Commands that need a journal: their names, what they do, and their arguments.
+ACTS: Tuple[Tuple[str, str, Tuple[str, ...], Run], ...] = (
+    ("rates", "enters the rates of a CSV file", ("rates file",), lambda counter, words: printed(counter.add_rates(rates_in(words.file)))),
+    ("register", "registers the bonds of a CSV file in requests of 500; run it again after a stop", ("bonds file",), run_register),
     ("open", "opens a day", ("day",), lambda counter, words: printed(counter.open_day(words.day, key=words.key))),
     ("redeem", "pays bonds to their owner or coowner", ("day", "payee", "serials"), lambda counter, words: printed(counter.redeem(words.day, words.payee, words.serials, key=words.key))),
     ("close", "closes a day, and prints its batch", ("day",), lambda counter, words: printed(counter.close_day(words.day, key=words.key))),
     ("finish", "sends the open request until its reply has come", (), lambda counter, words: looked_up(counter.finish(), "no request is open")),
     ("abandon", "gives up the open request, which may have been done, and writes down why", ("reason",), run_abandon),
+)
+#: Commands that look something up. With a journal they wait for its lock, as acts do.
+LOOK_UPS: Tuple[Tuple[str, str, Tuple[str, ...], LookUp], ...] = (
     ("sheet", "prints the unpaid bonds that a customer owns", ("customer", "month"), run_sheet),
     ("ticket", "prints a ticket", ("number",), lambda counter, words: looked_up(counter.ticket(words.number), "there is no such ticket")),
     ("batch", "prints the batch of a closed day", ("day",), lambda counter, words: looked_up(counter.batch(words.day), "the day has no batch: it isn't closed")),
     ("value", "prints the row of a bond that isn't registered", ("denom", "issued", "month"), lambda counter, words: printed(counter.value(words.denom, words.issued, words.month))),
 )
+NEED_JOURNAL = tuple(name for name, _, _, _ in ACTS)
 #: The commands that take a key.
 KEYED = ("open", "redeem", "close")
+#: What each argument is, with an example.
+ARGUMENTS = {
+    "rates file": ("a CSV file with the columns from,rate or from,rate,extension, rates in percent", "samples/rates.csv"),
+    "bonds file": ("a CSV file with the columns serial,denom,issued,owner,coowner", "samples/inventory.csv"),
+    "day": ("the business day, YYYY-MM-DD", "2012-02-06"),
+    "payee": ("the number of the customer who is paid, owner or coowner of each bond", "7"),
+    "serials": ("the serial numbers of the bonds, 1 to 100", "L1EE K2EE"),
+    "reason": ("why it is given up, which the journal keeps", "'the counter was replaced'"),
+    "customer": ("the number of the customer", "7"),
+    "month": ("the month of the values, YYYY-MM", "2012-02"),
+    "number": ("the number of the ticket", "1"),
+    "denom": ("the denomination in dollars", "50"),
+    "issued": ("the issue month, YYYY-MM", "2010-11"),
+}
+STATUSES = """statuses:
+  0  done
+  1  refused or forbidden, or there is no such thing
+  2  the command line, a value or a file is wrong, and nothing was sent
+  3  no reply yet (the journal keeps the request open), the set-up is wrong, or the journal can't be used"""
 
 
 def words_of(line: Optional[Sequence[str]]) -> argparse.Namespace:
     """Reads a command line."""
-    parser = argparse.ArgumentParser(description="Sends requests to the counter. Each gets its one reply, which is printed as the counter gave it.")
+    example = "example:\n  %(prog)s --journal desk3.journal --desk 3 open 2012-02-06\n  %(prog)s ticket 1\n\n"
+    parser = parser_of(argparse.ArgumentParser, "Sends requests to the counter. Each gets its one reply, which is printed as the counter gave it.", example)
     parser.add_argument("--version", action="version", version=f"ee_counter_client {__version__}")
-    parser.add_argument("--journal", required=True, help="the file with the numbers of a desk; with --desk it is created if it doesn't exist")
-    parser.add_argument("--desk", type=int, help="the desk of a new journal, 0 to 999")
-    parser.add_argument("--at", default="http://127.0.0.1:8377", help="the counter's address (%(default)s)")
+    parser.add_argument("--journal", metavar="FILE", help="the file with the numbers of a desk, which look-ups don't need; with --desk it is created if it doesn't exist")
+    parser.add_argument("--desk", type=int, metavar="NUMBER", help="the desk of a new journal, 0 to 999")
+    parser.add_argument("--at", default=ADDRESS, metavar="ADDRESS", help="the counter's address (%(default)s)")
     parser.add_argument("--user", help="the user, if a proxy asks for a password")
-    parser.add_argument("--password-file", help="a file whose first line is the password")
-    parser.add_argument("--certificate", help="a file with the certificate to trust, instead of the system's")
-    parser.add_argument("--archive", help="a file that gets each request before it is sent, and each reply; it is created if it doesn't exist")
-    parser.add_argument("--patience", type=float, help="seconds until it gives up and leaves the request open (default: never)")
+    parser.add_argument("--password-file", metavar="FILE", help="a file whose first line is the password")
+    parser.add_argument("--certificate", metavar="FILE", help="a file with the certificate to trust, instead of the system's")
+    parser.add_argument("--archive", metavar="FILE", help="a file that gets each request before it is sent, and each reply; it is created if it doesn't exist")
+    parser.add_argument("--patience", type=float, default=PATIENCE, metavar="SECONDS", help="seconds until a request is left open without a reply (%(default)g)")
     commands = parser.add_subparsers(dest="command", required=True, metavar="COMMAND")
-    for name, does, arguments, _ in COMMANDS:
-        command = commands.add_parser(name, help=does, description=does)
+    for name, does, arguments, _ in (*ACTS, *LOOK_UPS):
+        journal = " --journal desk3.journal" if name in NEED_JOURNAL else ""
+        shown = " ".join(ARGUMENTS[argument][1] for argument in arguments)
+        command = parser_of(commands.add_parser, does, f"example:\n  {parser.prog}{journal} {name} {shown}".rstrip() + "\n\n", name=name, help=does)
         if name in KEYED:
             command.add_argument("--key", help="a name of your own for the request: the same command again prints the same reply, and sends nothing")
         for argument in arguments:
-            if argument == "serials":
-                command.add_argument(argument, nargs="+")
-            else:
-                command.add_argument(argument)
-    return parser.parse_args(line)
+            text, sample = ARGUMENTS[argument]
+            several = {"nargs": "+"} if argument == "serials" else {}
+            command.add_argument(argument.split()[-1], help=f"{text}; for example {sample}", **several)  # type: ignore[arg-type]
+    words = parser.parse_args(line)
+    if words.journal is None and words.command in NEED_JOURNAL:
+        parser.error(f"{words.command} needs --journal")
+    if words.journal is None and (words.desk is not None or words.archive is not None):
+        parser.error("--desk and --archive need --journal")
+    return words
+
+
+def parser_of(make: Callable[..., argparse.ArgumentParser], does: str, example: str, **more: str) -> argparse.ArgumentParser:
+    """A parser whose help ends with an example and the statuses."""
+    return make(description=does, epilog=example + STATUSES, formatter_class=argparse.RawDescriptionHelpFormatter, **more)
 
 
 def password_of(words: argparse.Namespace) -> Optional[str]:
@@ -119,9 +157,12 @@ def password_of(words: argparse.Namespace) -> Optional[str]:
 
 def run(words: argparse.Namespace) -> int:
     """Runs a command."""
-    password = password_of(words)
-    with Counter(words.journal, words.at, desk=words.desk, user=words.user, password=password, certificate=words.certificate, patience=words.patience, archive=words.archive) as counter:
-        return next(run for name, _, _, run in COMMANDS if name == words.command)(counter, words)
+    user, password, certificate = words.user, password_of(words), words.certificate
+    if words.journal is None:
+        lookups = Lookups(words.at, user=user, password=password, certificate=certificate, patience=words.patience)
+        return next(run for name, _, _, run in LOOK_UPS if name == words.command)(lookups, words)
+    with Counter(words.journal, words.at, desk=words.desk, user=user, password=password, certificate=certificate, patience=words.patience, archive=words.archive) as counter:
+        return next(run for name, _, _, run in (*ACTS, *LOOK_UPS) if name == words.command)(counter, words)
 
 
 def status_of(error: CounterError) -> int:
@@ -132,8 +173,7 @@ def status_of(error: CounterError) -> int:
 
 
 def main(line: Optional[Sequence[str]] = None) -> int:
-    """Runs a command line. Status 0: done. 1: refused or forbidden, or there is no such thing. 2: the command line, a value or a file is wrong, and nothing was sent.
-    3: no reply, the set-up is wrong, or the journal can't be used."""
+    """Runs a command line, and returns its status (STATUSES)."""
     words = words_of(line)
     logging.basicConfig(format="%(message)s", level=logging.WARNING, stream=sys.stderr)
     try:

@@ -6,53 +6,26 @@ import datetime
 import json
 import logging
 import os
-import random
 import threading
 import time
 from types import TracebackType
-from typing import Any, Iterator, Mapping, Optional, Sequence, Tuple, Type, TypeVar, Union
+from typing import Any, Iterator, Mapping, Optional, Tuple, Type, TypeVar, Union
 
-from .answers import NOT_FOUND, NUMBER_REUSED, Answer, Reader, batch_in, compact, error_of, is_good, is_of_one_sending, reply_in, row_in, ticket_in, with_its
+from .answers import NUMBER_REUSED, Answer, batch_in, error_of, is_good, is_of_one_sending, reply_in, with_its
 from .archive import Archive
-from .errors import BadValue, Busy, Closed, CounterError, Forbidden, KeyReused, NoAnswer, NoReply, StillOpen, WrongSetup, refusal_of
+from .errors import BadValue, Busy, Closed, CounterError, Fault, FileFailed, Forbidden, KeyReused, Refused, SignInRefused, StillOpen
 from .journal import Journal
-from .results import Abandoned, Added, Batch, Finished, Opened, Request, Result, Row, Sheet, Ticket, batch_of, result_of, row_of, ticket_of
-from .sheets import sheet_in
-from .spelling import (
-    MOST_BOOKMARK,
-    MOST_NUMBER,
-    MOST_ROWS,
-    MOST_SERIALS,
-    Bond,
-    DayLike,
-    Json,
-    MonthLike,
-    Rates,
-    bond_of,
-    customer_of,
-    day_of,
-    denom_of,
-    issue_of,
-    key_of,
-    list_of,
-    month_of,
-    rate_row_of,
-    seconds_of,
-    serial_of,
-    whole,
-)
-from .version import __version__
-from .way import Deadline, Way
+from .lookups import ADDRESS, PATIENCE, TIME_LIMIT, Lookups, Path, Trials, path_of
+from .results import Abandoned, Added, Batch, Finished, Opened, Request, Result, Ticket, result_of
+from .spelling import MOST_BOOKMARK, MOST_NUMBER, MOST_ROWS, MOST_SERIALS, Bond, DayLike, Json, ListOf, Rates, bond_of, customer_of, day_of, key_of, list_of, rate_row_of, serial_of, whole
+from .way import Deadline
 
 LOG = logging.getLogger("ee_counter_client")
 
-#: Seconds between one sending and the next; the last is repeated. Each is shortened by chance, to half of it at most.
-PAUSES = (0.1, 0.2, 0.5, 1, 2, 4, 8, 15)
-#: Longer than the 30 seconds for which another client can hold the counter.
-TIME_LIMIT = 40.0
+#: Seconds between one sending of a request whose password wasn't accepted and the next. A proxy that locks an address out counts attempts in ten minutes, mostly five.
+SIGN_IN_PAUSE = 180.0
 #: A look-up that names no customer and no ticket. It tells whether a counter is at the address.
 TRIAL = "/batch/2005-05-01"
-Path = Union[str, "os.PathLike[str]"]
 Kind = TypeVar("Kind")
 
 #: What may have happened to a request that was given up.
@@ -65,11 +38,11 @@ OUTCOMES = {
 }
 
 
-class Counter:
+class Counter(Lookups):
     """Sends requests to a counter, for the desk of a journal. Each request gets its one reply, whatever is stopped or lost.
 
     `journal` is the path of the journal, which is created if `desk` (0 to 999) is given. `address` is as http://127.0.0.1:8377, or https://.. with `user`, `password`
-    and `certificate` (a file that is trusted instead of the system's). `patience` is how many seconds a call may take, None without an end; `time_limit` how many
+    and `certificate` (a file that is trusted instead of the system's). `patience` is how many seconds a call may take (300; None without an end); `time_limit` how many
     seconds one sending may take. `archive` names a file for each request and its reply.
 
     Threads may share it: their calls wait for one another. A process that is forked from this one may not use it (Closed).
@@ -79,34 +52,27 @@ class Counter:
     def __init__(
         self,
         journal: Path,
-        address: str = "http://127.0.0.1:8377",
+        address: str = ADDRESS,
         *,
         desk: Optional[int] = None,
         user: Optional[str] = None,
         password: Optional[str] = None,
         certificate: Optional[Path] = None,
-        patience: Optional[float] = None,
+        patience: Optional[float] = PATIENCE,
         time_limit: float = TIME_LIMIT,
         archive: Optional[Path] = None,
     ) -> None:
+        super().__init__(address, user=user, password=password, certificate=certificate, patience=patience, time_limit=time_limit)
         paths = path_of(journal, "a journal"), None if archive is None else path_of(archive, "an archive")
-        if desk is not None:
-            desk = whole(desk, 0, 999, "a desk")
-        #: How many seconds a call may take. None without an end.
-        self.patience = None if patience is None else seconds_of(patience, "patience")
-        self.time_limit = seconds_of(time_limit, "a time limit")
-        if self.time_limit == 0:
-            raise BadValue("a time limit is more than 0 seconds")
-        self._way = Way(address, user, password, None if certificate is None else path_of(certificate, "a certificate"), f"ee_counter_client/{__version__}")
-        self._journal = Journal(paths[0], desk)
+        self._journal = Journal(paths[0], None if desk is None else whole(desk, 0, 999, "a desk"))
         try:
             self._archive = None if paths[1] is None else Archive(paths[1])
         except BaseException:
             self._journal.close()
             raise
         self._lock, self._process, self._is_closed = threading.RLock(), os.getpid(), False
-        self._is_known = False
-        self._failures, self._met = 0, ""
+        #: When a password wasn't accepted last, by the monotonic clock.
+        self._signed_out: Optional[float] = None
 
     def __enter__(self) -> "Counter":
         return self
@@ -119,10 +85,8 @@ class Counter:
 
     def close(self) -> None:
         """Gives the journal back. A second call does nothing. It waits for a call of another thread."""
-        if self._is_closed or os.getpid() != self._process:
-            return
-        with self._lock:
-            if not self._is_closed:
+        if os.getpid() == self._process:
+            with self._lock:
                 self._is_closed = True
                 self._journal.close()
                 if self._archive is not None:
@@ -136,19 +100,19 @@ class Counter:
     @property
     def open_request(self) -> Optional[Request]:
         """The request that has no reply yet. None if there is none."""
-        still = self._journal.record["open"]
+        still = self._journal.settled()["open"]
         return None if still is None else self._journal.request_of(still)
 
     @property
     def last(self) -> Optional[Finished]:
         """The last request that got its reply, with that reply."""
-        last = self._journal.record["last"]
+        last = self._journal.settled()["last"]
         return None if last is None else Finished(self._journal.request_of(last), last["reply"])
 
     @property
     def bookmark(self) -> Any:
         """The `bookmark` of the last request that was done and had one."""
-        return self._journal.record["bookmark"]
+        return self._journal.settled()["bookmark"]
 
     @property
     def abandoned(self) -> Tuple[Abandoned, ...]:
@@ -162,11 +126,11 @@ class Counter:
 
     # Acts. Each returns the counter's reply, or raises Refused, Fault, Forbidden or NoReply, or an error of the set-up.
 
-    def add_rates(self, rates: Sequence[Union[Rates, Mapping[str, Any]]], *, bookmark: Any = None, key: Optional[str] = None) -> Added:
+    def add_rates(self, rates: ListOf[Union[Rates, Mapping[str, Any]]], *, bookmark: Any = None, key: Optional[str] = None) -> Added:
         """Enters up to 500 rows of rates: Rates, or mappings with the keys `from`, `rate` and perhaps `extension`. Rates are in percent."""
         return self._act("/rates", {"rates": [rate_row_of(row) for row in list_of(rates, MOST_ROWS, "rates")]}, bookmark, key, Added)
 
-    def add_bonds(self, bonds: Sequence[Union[Bond, Mapping[str, Any]]], *, bookmark: Any = None, key: Optional[str] = None) -> Added:
+    def add_bonds(self, bonds: ListOf[Union[Bond, Mapping[str, Any]]], *, bookmark: Any = None, key: Optional[str] = None) -> Added:
         """Registers up to 500 bonds: Bond, or mappings with the keys `serial`, `denom` (dollars), `issued`, `owner` and perhaps `coowner`."""
         return self._act("/bonds", {"bonds": [bond_of(bond) for bond in list_of(bonds, MOST_ROWS, "bonds")]}, bookmark, key, Added)
 
@@ -178,7 +142,7 @@ class Counter:
         """Closes the open day, and returns its batch. Refused as NoOpenDay or DayIsOther."""
         return self._act("/day/close", {"day": day_of(day)}, bookmark, key, Batch)
 
-    def redeem(self, day: DayLike, payee: int, serials: Sequence[str], *, bookmark: Any = None, key: Optional[str] = None) -> Ticket:
+    def redeem(self, day: DayLike, payee: int, serials: ListOf[str], *, bookmark: Any = None, key: Optional[str] = None) -> Ticket:
         """Pays up to 100 bonds to their owner or coowner on the open day: all of them, or none.
 
         With a `key` of the caller's own, the same call made again returns the same ticket, also in a later run. A refusal leaves the key free. Refused as AlreadyPaid (with its ticket), NotPayee,
@@ -189,6 +153,7 @@ class Counter:
     def finish(self) -> Optional[Result]:
         """Sends the open request until its reply has come, and returns it. None if no request is open."""
         with self._turn() as deadline:
+            self._journal.mend()
             if self._journal.record["open"] is None:
                 return None
             self._try_the_way(deadline)
@@ -201,6 +166,7 @@ class Counter:
         if not isinstance(reason, str) or not 1 <= len(reason) <= 500:
             raise BadValue("a reason is a text of 1 to 500 characters")
         with self._turn():
+            self._journal.mend()
             still = self._journal.record["open"]
             if still is None:
                 return None
@@ -210,32 +176,6 @@ class Counter:
             given_up = abandoned_of(self._journal, kept)
             LOG.warning("%s was given up (%s): %s", given_up.request, reason, given_up.outcome)
             return given_up
-
-    # Look-ups. They change nothing, and have no numbers.
-
-    def inventory(self, customer: int, month: MonthLike) -> Sheet:
-        """Returns the sheet of the unpaid bonds that a customer owns, at their values in a month."""
-        found = self._asked(f"/inventory/{customer_of(customer)}/{month_of(month)}", sheet_in)
-        assert isinstance(found, Sheet)
-        return found
-
-    def ticket(self, number: int) -> Optional[Ticket]:
-        """Returns a ticket by its number. None if there is none."""
-        wanted = whole(number, 1, MOST_NUMBER, "a ticket")
-        found = self._asked(f"/ticket/{wanted}", lambda text: with_its(ticket_in(text), ticket=wanted))
-        return None if found is None else ticket_of(found, compact(found))
-
-    def batch(self, day: DayLike) -> Optional[Batch]:
-        """Returns the batch of a closed day. None if the day isn't closed."""
-        wanted = day_of(day)
-        found = self._asked(f"/batch/{wanted}", lambda text: with_its(batch_in(text), day=wanted))
-        return None if found is None else batch_of(found, compact(found))
-
-    def value(self, denom: int, issued: MonthLike, month: MonthLike) -> Row:
-        """Returns the row of a bond that isn't registered, in a month. `denom` is in dollars. Refused as NoRate."""
-        wanted = {"denom": denom_of(denom), "issued": issue_of(issued)}
-        found = self._asked(f"/value/{wanted['denom']}/{wanted['issued']}/{month_of(month)}", lambda text: with_its(row_in(text), **wanted))
-        return row_of(found, compact(found))
 
     # The rules.
 
@@ -250,6 +190,8 @@ class Counter:
         try:
             self._test_is_open()
             yield deadline
+        except FileFailed as failure:
+            raise self._as_open(failure)
         finally:
             self._lock.release()
 
@@ -263,9 +205,10 @@ class Counter:
         """Sends a new request, or the same one that is still open, until its reply has come. An error of the set-up that is `final` ends it whenever it comes."""
         key, bookmark = key_of(key), bookmark_of(bookmark)
         with self._turn() as deadline:
+            self._journal.mend()
             result = self._kept(path, fields, key)
             if result is None:
-                self._test_nothing_else_is_open(path, fields, key)
+                self._finish_other(path, fields, key, deadline)
                 self._try_the_way(deadline)
                 self._opened(path, fields, bookmark, key)
                 result = self._settled(deadline, final)
@@ -281,14 +224,22 @@ class Counter:
             raise KeyReused(key, kept.number)
         return result_of(Request(self.desk, kept.number, kept.path, kept.fields, 0, key), kept.reply)
 
-    def _test_nothing_else_is_open(self, path: str, fields: Json, key: Optional[str]) -> None:
+    def _finish_other(self, path: str, fields: Json, key: Optional[str], deadline: Deadline) -> None:
+        """Finishes another open request that has a key, as an earlier run left it: its own call then finds its reply. StillOpen if it has none."""
         still = self._journal.record["open"]
         if still is None or (still["path"], still["fields"], still.get("key")) == (path, fields, key):
             return
-        if key is not None and still.get("key") == key:
-            raise KeyReused(key, still["number"])
         request = self._journal.request_of(still)
-        raise StillOpen(f"{request} has no reply yet", request)
+        if request.key is None:
+            raise StillOpen(f"{request} has no reply yet", request)
+        if request.key == key:
+            raise KeyReused(request.key, request.number)
+        LOG.warning("%s has no reply yet, and is finished first", request)
+        try:
+            self._try_the_way(deadline)
+            self._settled(deadline)
+        except (Refused, Fault, Forbidden) as answer:
+            LOG.warning("%s: %s", request, answer)
 
     def _opened(self, path: str, fields: Json, bookmark: Any, key: Optional[str]) -> None:
         """Writes a new request into the journal, unless it is open."""
@@ -301,20 +252,17 @@ class Counter:
     def _try_the_way(self, deadline: Deadline) -> None:
         """Before the first good exchange: asks for something that changes nothing. A wrong set-up ends the call before its request is in the journal. A counter that
         doesn't answer doesn't: the request is sent as often as the patience allows."""
+        self._wait_signed_out(Trials(deadline))
         if not self._is_known:
             answer = self._exchanged("GET", TRIAL, None, lambda text: with_its(batch_in(text), day=TRIAL[-10:]), deadline)
             if answer.setup is not None:
                 raise self._as_open(answer.setup)
             if not is_good(answer):
-                self._met = answer.met
                 LOG.info("the counter doesn't answer yet: %s", answer.met)
                 if deadline.is_over():
-                    raise self._over(deadline, self.open_request)
-
-    def _exchanged(self, method: str, path: str, value: Optional[Json], read: Reader, deadline: Deadline) -> Answer:
-        answer = self._way.exchange(method, path, value, read, deadline.within(self.time_limit))
-        self._is_known = self._is_known or is_good(answer)
-        return answer
+                    trials = Trials(deadline)
+                    trials.failed(answer)
+                    raise trials.over(self.open_request)
 
     def _as_open(self, error: CounterError) -> CounterError:
         """The error, which says whether a request may have been done."""
@@ -325,45 +273,35 @@ class Counter:
     def _settled(self, deadline: Deadline, final: Tuple[Type[CounterError], ...] = ()) -> Result:
         """Sends what is open until its reply has come. NumberReused means that another request of this desk has the number: this one was never done under it,
         and continues under a higher one. A fault, or Forbidden, ends only a request that was sent once."""
-        for _ in self._trials(deadline, True):
+        trials = Trials(deadline)
+        while True:
+            self._wait_signed_out(trials)
             answer = self._sent_once(deadline)
             if answer.kind == "reply" or (answer.kind == "refused" and answer.value["code"] != NUMBER_REUSED):
                 return self._replied(answer)
             if answer.kind == "refused":
                 self._renumber()
-            elif is_of_one_sending(answer) and self._journal.record["open"]["sent"] == 1:
+                continue
+            if is_of_one_sending(answer) and self._journal.record["open"]["sent"] == 1:
                 path = self._journal.record["open"]["path"]
                 self._journal.change(open=None)
                 raise error_of(answer, path)
-            elif answer.setup is not None and (not self._is_known or isinstance(answer.setup, final)):
+            if answer.setup is not None and (not self._is_known or isinstance(answer.setup, final)):
                 raise self._as_open(answer.setup)
-            else:
-                self._failed(answer)
-        raise AssertionError("trials end by an error")
+            self._signed_out = time.monotonic() if isinstance(answer.setup, SignInRefused) else None
+            trials.failed(answer)
+            LOG.warning("no reply: %s%s", trials.met, "; the request was sent before, and may have been done" if is_of_one_sending(answer) else "")
+            if not trials.pause():
+                raise trials.over(self.open_request)
 
-    def _trials(self, deadline: Deadline, is_act: bool) -> Iterator[None]:
-        """Yields once for each sending, with growing pauses after those that failed. Raises NoReply or NoAnswer when the patience is over."""
-        self._failures = 0
-        while True:
-            failures = self._failures
-            yield
-            if self._failures > failures:
-                pause = PAUSES[min(failures, len(PAUSES) - 1)] * random.uniform(0.5, 1)
-                left = deadline.left()
-                if left is not None and left <= pause:
-                    time.sleep(left)
-                    raise self._over(deadline, self.open_request if is_act else None)
-                time.sleep(pause)
-
-    def _over(self, deadline: Deadline, request: Optional[Request]) -> CounterError:
-        text = f"no reply within {deadline.seconds:g} seconds, and the patience is over: {self._met}"
-        return NoAnswer(text) if request is None else NoReply(text, request)
-
-    def _failed(self, answer: Answer) -> None:
-        self._failures += 1
-        self._met = answer.met or f"{answer.value['fault']} (code {answer.value['code']})"
-        is_later = is_of_one_sending(answer) and self._journal.record["open"] is not None
-        LOG.warning("no reply: %s%s", self._met, "; the request was sent before, and may have been done" if is_later else "")
+    def _wait_signed_out(self, trials: Trials) -> None:
+        """Waits after a password that wasn't accepted, also in the next call, so that no proxy locks the address out."""
+        rest = 0.0 if self._signed_out is None else self._signed_out + SIGN_IN_PAUSE - time.monotonic()
+        if rest > 0:
+            trials.met = trials.met or "the user and the password weren't accepted"
+            LOG.warning("the user and the password weren't accepted; the request is sent again in %.0f seconds", rest)
+            if not trials.wait(rest):
+                raise trials.over(self.open_request)
 
     def _sent_once(self, deadline: Deadline) -> Answer:
         if self._archive is not None and self._journal.record["open"]["sent"] == 0:
@@ -384,48 +322,16 @@ class Counter:
 
     def _replied(self, answer: Answer) -> Result:
         """Keeps the reply, and unless it is a refusal the bookmark, in one step. The line of a key is on the disk before. A refusal changed nothing, so its key is free."""
-        record = self._journal.record
-        request = record["open"]
+        request = self._journal.record["open"]
         if request["sent"] > 1:
             done = "it was done once" if answer.kind == "reply" else "no attempt changed anything"
             LOG.warning("request %d was sent %d times; %s", request["number"], request["sent"], done)
         if self._archive is not None:
             self._archive.add(self.desk, request, answer.value)
-        is_keyed = answer.kind == "reply" and request.get("key") is not None
-        keyed = self._journal.keys.add(request["key"], request, answer.value) if is_keyed else record["keyed"]
-        is_marked = answer.kind == "reply" and request["bookmark"] is not None
-        bookmark = request["bookmark"] if is_marked else record["bookmark"]
-        self._journal.change(open=None, last={**request, "reply": answer.value}, bookmark=bookmark, keyed=keyed)
+        if answer.kind == "reply" and request.get("key") is not None:
+            self._journal.keys.add(request["key"], request, answer.value)
+        self._journal.change(**self._journal.with_reply(request, answer.value))
         return result_of(self._journal.request_of(request), answer.value)
-
-    def _asked(self, path: str, read: Reader) -> Any:
-        """Asks until an answer has come. None if there is no such thing."""
-        with self._turn() as deadline:
-            for _ in self._trials(deadline, False):
-                answer = self._exchanged("GET", path, None, read, deadline)
-                if answer.kind == "reply":
-                    return answer.value
-                if answer.kind == "refused":
-                    raise refusal_of(answer.value)
-                if answer.kind == "fault" and answer.value["code"] == NOT_FOUND:
-                    return None
-                if is_of_one_sending(answer):
-                    raise error_of(answer, path)
-                if answer.setup is not None and not self._is_known:
-                    raise answer.setup
-                self._failed(answer)
-        raise AssertionError("trials end by an error")
-
-
-def path_of(value: object, name: str) -> str:
-    """Reads the path of a file."""
-    try:
-        path = os.fspath(value)  # type: ignore[call-overload]
-    except TypeError:
-        path = None
-    if not isinstance(path, str) or not path or "\0" in path:
-        raise BadValue(f"{name} is the path of a file, and not {value!r}")
-    return path
 
 
 def bookmark_of(value: Any) -> Any:

@@ -30,6 +30,20 @@ class CounterError(Exception):
     #: Whether a request that this call was to finish may have taken effect. If so, the journal keeps it open.
     may_be_done: bool = False
 
+    def __reduce__(self) -> Tuple[Any, ...]:
+        """Lets it be pickled, as for another process: a class made of its text, and its attributes."""
+        return unpickled, (type(self), self.args), self.__dict__
+
+
+def unpickled(kind: Type[CounterError], args: Tuple[Any, ...]) -> CounterError:
+    """Makes an error of a class whose attributes are set after it."""
+    return kind.__new__(kind, *args)
+
+
+def shown(text: str) -> str:
+    """A text of another program, as it may stand in a message or a log: without control characters, of 200 characters at most."""
+    return "".join(sign if sign.isprintable() else sign.encode("unicode_escape").decode() for sign in text[:200])
+
 
 def in_file(line: Optional[int], rows: Optional[Tuple[int, int]]) -> str:
     """Says where in a file it is: the line, and the rows that weren't registered with it."""
@@ -73,7 +87,7 @@ class Fault(BadCall):
     def __init__(self, answer: Mapping[str, Any]) -> None:
         self.answer, self.code, self.name, self.field = dict(answer), int(answer["code"]), str(answer["fault"]), answer.get("field")
         self.rows: Optional[Tuple[int, int]] = None
-        super().__init__(f"{self.name} (code {self.code})" + (f", field {self.field}" if self.field else ""))
+        super().__init__(f"{shown(self.name)} (code {self.code})" + (f", field {shown(str(self.field))}" if self.field else ""))
 
     def __str__(self) -> str:
         return super().__str__() + in_file(None, self.rows)
@@ -123,7 +137,7 @@ class BadArchive(WrongSetup):
 
 
 class FileFailed(WrongSetup):
-    """The journal or the archive can't be read or written, as on a full disk. Its cause is the OSError."""
+    """The journal or the archive can't be read or written, as on a full disk. Its cause is the OSError. If `may_be_done`, the same call sends the request again."""
 
 
 # ---- the same call may succeed later
@@ -171,7 +185,7 @@ class NoReply(UnknownOutcome):
 
 
 class StillOpen(UnknownOutcome):
-    """An earlier request has no reply yet, so this one wasn't sent. `finish` sends the earlier one again; `abandon` gives it up."""
+    """An earlier request, which has no key, has no reply yet. So this one wasn't sent. `finish` sends the earlier one again; `abandon` gives it up."""
 
 
 # ---- refusals
@@ -192,7 +206,7 @@ class Refused(CounterError):
         self.details = {key: value for key, value in reply.items() if key not in ("code", "refused")}
         self.rows: Optional[Tuple[int, int]] = None
         self.line: Optional[int] = None
-        super().__init__(f"{self.name} (code {self.code})" + "".join(f", {key} {value}" for key, value in self.details.items()))
+        super().__init__(f"{shown(self.name)} (code {self.code})" + "".join(f", {key} {shown(str(value))}" for key, value in self.details.items()))
 
     def __str__(self) -> str:
         return super().__str__() + in_file(self.line, self.rows)

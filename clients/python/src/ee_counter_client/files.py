@@ -8,13 +8,13 @@ import os
 from typing import Any, Callable, Dict, Iterator, List, NamedTuple, Optional, Sequence, Union
 
 from .answers import compact
-from .counter import Counter, path_of
+from .counter import Counter
 from .errors import BadFile, BadValue, Fault, Refused, SignInRefused
+from .lookups import Path, path_of
 from .results import Added
 from .spelling import MOST_ROWS, Json, bond_of, rate_row_of, serial_of
 
 LOG = logging.getLogger("ee_counter_client")
-Path = Union[str, "os.PathLike[str]"]
 
 
 class Registered(NamedTuple):

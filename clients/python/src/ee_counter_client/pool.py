@@ -6,12 +6,13 @@ import logging
 import os
 import threading
 from types import TracebackType
-from typing import Any, Dict, Iterable, Iterator, List, Mapping, Optional, Sequence, Tuple, Type, Union
+from typing import Any, Dict, Iterable, Iterator, List, Mapping, Optional, Tuple, Type, Union
 
-from .counter import Counter, path_of
+from .counter import Counter
 from .errors import BadValue, Busy, Closed, CounterError, Refused
+from .lookups import ADDRESS, PATIENCE, TIME_LIMIT, Path, path_of
 from .results import Added, Batch, Finished, Opened, Request, Row, Sheet, Ticket
-from .spelling import Bond, DayLike, MonthLike, Rates, key_of, list_of, seconds_of, whole
+from .spelling import Bond, DayLike, ListOf, MonthLike, Rates, key_of, list_of, seconds_of, whole
 from .way import Deadline
 
 LOG = logging.getLogger("ee_counter_client")
@@ -21,7 +22,7 @@ MOST_DESKS = 1000
 class Pool:
     """Several desks of one process. Its calls are those of a Counter; each takes a desk that is free, and waits if none is.
 
-    `folder` gets a journal for each desk, desk10.journal and so on. `options` are those of a Counter: `user`, `password`, `certificate`, `patience`, `time_limit`.
+    `folder` gets a journal for each desk, desk10.journal and so on. The other options are those of a Counter.
     With `archive=True` each desk has an archive beside its journal. Let no other program use these desks.
 
     A call with a `key` goes to the desk that knows the key, whichever worker makes it. A request that was left open by an earlier run, or by a call whose patience
@@ -29,7 +30,19 @@ class Pool:
 
     Raises the errors of a Counter; JournalInUse if another process has one of the journals."""
 
-    def __init__(self, folder: Union[str, "os.PathLike[str]"], address: str = "http://127.0.0.1:8377", *, desks: Iterable[int], archive: bool = False, patience: Optional[float] = None, **options: Any) -> None:
+    def __init__(
+        self,
+        folder: Path,
+        address: str = ADDRESS,
+        *,
+        desks: Iterable[int],
+        archive: bool = False,
+        user: Optional[str] = None,
+        password: Optional[str] = None,
+        certificate: Optional[Path] = None,
+        patience: Optional[float] = PATIENCE,
+        time_limit: float = TIME_LIMIT,
+    ) -> None:
         path = path_of(folder, "a folder")
         numbers = [whole(desk, 0, 999, "a desk") for desk in list_of(desks, MOST_DESKS, "desks")]
         if len(set(numbers)) != len(numbers):
@@ -42,10 +55,7 @@ class Pool:
             for desk in numbers:
                 journal = os.path.join(path, f"desk{desk}.journal")
                 beside = os.path.join(path, f"desk{desk}.archive") if archive else None
-                self._counters.append(Counter(journal, address, desk=desk, patience=patience, archive=beside, **options))
-        except TypeError as fault:
-            self.close()
-            raise BadValue(f"a pool takes the options of a Counter: {fault}") from None
+                self._counters.append(Counter(journal, address, desk=desk, user=user, password=password, certificate=certificate, patience=patience, time_limit=time_limit, archive=beside))
         except BaseException:
             self.close()
             raise
@@ -152,12 +162,12 @@ class Pool:
 
     # The calls of a Counter.
 
-    def add_rates(self, rates: Sequence[Union[Rates, Mapping[str, Any]]], *, key: Optional[str] = None) -> Added:
+    def add_rates(self, rates: ListOf[Union[Rates, Mapping[str, Any]]], *, key: Optional[str] = None) -> Added:
         """Enters up to 500 rows of rates, as Counter.add_rates does."""
         with self.desk(key) as counter:
             return counter.add_rates(rates, key=key)
 
-    def add_bonds(self, bonds: Sequence[Union[Bond, Mapping[str, Any]]], *, key: Optional[str] = None) -> Added:
+    def add_bonds(self, bonds: ListOf[Union[Bond, Mapping[str, Any]]], *, key: Optional[str] = None) -> Added:
         """Registers up to 500 bonds, as Counter.add_bonds does."""
         with self.desk(key) as counter:
             return counter.add_bonds(bonds, key=key)
@@ -172,7 +182,7 @@ class Pool:
         with self.desk(key) as counter:
             return counter.close_day(day, key=key)
 
-    def redeem(self, day: DayLike, payee: int, serials: Sequence[str], *, key: Optional[str] = None) -> Ticket:
+    def redeem(self, day: DayLike, payee: int, serials: ListOf[str], *, key: Optional[str] = None) -> Ticket:
         """Pays bonds, as Counter.redeem does."""
         with self.desk(key) as counter:
             return counter.redeem(day, payee, serials, key=key)

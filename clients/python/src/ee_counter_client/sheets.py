@@ -10,7 +10,7 @@ from .spelling import cents_of
 COLUMNS = (("serial", 13), ("series", 6), ("denom", -6), ("issued", 7), ("next", 7), ("final", 7), ("price", -12), ("interest", -14), ("rate", -6), ("value", -14))
 MONTH, MONEY = r"(?:0[1-9]|1[0-2])/[0-9]{4}", r"[0-9]+\.[0-9]{2}"
 ROW = re.compile(
-    rf"(?P<serial>[A-Z][1-9][0-9]{{0,9}}EE) +(?P<series>EE) +(?P<denom>[0-9]+) (?P<issued>{MONTH}) (?P<next>{MONTH}| {{7}}) (?P<final>{MONTH}| {{7}})"
+    rf"(?P<serial>[A-Z][1-9][0-9]{{0,9}}EE) +(?P<series>EE) +(?P<denom>[0-9]{{1,5}}) (?P<issued>{MONTH}) (?P<next>{MONTH}| {{7}}) (?P<final>{MONTH}| {{7}})"
     rf" +(?P<price>{MONEY}) +(?P<interest>{MONEY}) +(?P<rate>[0-9]{{1,2}}\.[0-9]{{2}}%)? *(?P<value>{MONEY})(?: (?P<note>NI|NE|P5|MA))?"
 )
 TOTALS = re.compile(rf"(?P<serial>Total) +(?P<price>{MONEY}) +(?P<interest>{MONEY}) +(?P<value>{MONEY})")

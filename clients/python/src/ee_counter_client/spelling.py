@@ -5,11 +5,27 @@ import datetime
 import re
 from dataclasses import dataclass
 from decimal import Decimal
-from typing import Any, Dict, Iterable, List, Mapping, Optional, Sequence, Union
+from typing import Any, Dict, Iterable, Iterator, List, Mapping, Optional, Protocol, Sequence, Tuple, TypeVar, Union
 
 from .errors import BadValue
 
 Json = Dict[str, Any]
+Item = TypeVar("Item", covariant=True)
+
+
+class Listed(Protocol[Item]):
+    """A list, a tuple, or another collection. For a type checker a text is none, though it is a sequence of texts: `in` of a text takes texts alone."""
+
+    def __contains__(self, __value: object) -> bool: ...
+
+    def __iter__(self) -> Iterator[Item]: ...
+
+    def __len__(self) -> int: ...
+
+
+Each = TypeVar("Each")
+#: A tuple is named by itself: mypy knows what a tuple of several types holds only so.
+ListOf = Union[Listed[Each], Tuple[Each, ...]]
 
 MOST_ROWS = 500
 MOST_SERIALS = 100
@@ -129,7 +145,7 @@ def rate_of(value: object) -> str:
 
 def cents_of(text: object) -> Optional[int]:
     """The cents of printed money. None for any other text."""
-    if not isinstance(text, str) or re.fullmatch(r"(0|[1-9][0-9]*)\.[0-9]{2}", text) is None:
+    if not isinstance(text, str) or re.fullmatch(r"(0|[1-9][0-9]{0,17})\.[0-9]{2}", text) is None:
         return None
     return int(text.replace(".", ""))
 

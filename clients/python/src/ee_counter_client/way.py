@@ -13,7 +13,7 @@ import urllib.parse
 from typing import Any, Dict, List, Optional, Tuple, Union, cast
 
 from .answers import Answer, Reader, answer_of, compact
-from .errors import BadValue, UnknownHost, UntrustedCertificate
+from .errors import BadValue, UnknownHost, UntrustedCertificate, shown
 from .spelling import Json
 
 #: A header that no page of another origin can send without asking first. The proxy demands it.
@@ -57,16 +57,20 @@ class TimedSocket(io.RawIOBase):
 
     def __init__(self, plain: socket.socket, deadline: Deadline) -> None:
         super().__init__()
-        self.socket, self.deadline = plain, deadline
+        self.socket, self.deadline, self.size = plain, deadline, 0
 
     def readable(self) -> bool:
         """Says that it can be read."""
         return True
 
     def readinto(self, buffer: Any) -> int:
-        """Reads what has come."""
+        """Reads what has come. HTTPException if a response doesn't end within its limit, whatever it says about its length."""
         self.socket.settimeout(self.deadline.for_socket())
-        return self.socket.recv_into(buffer)
+        count = self.socket.recv_into(buffer)
+        self.size += count
+        if self.size > 2 * MOST_BYTES:
+            raise http.client.HTTPException(f"a response of more than {MOST_BYTES} bytes")
+        return count
 
     def send_all(self, data: bytes) -> None:
         """Sends all of the bytes."""
@@ -102,8 +106,8 @@ class Way:
         except ssl.SSLCertVerificationError as failure:
             met = f"the certificate of {self.host!r} isn't trusted: {failure.verify_message}"
             return Answer("none", met=met, setup=UntrustedCertificate(met))
-        except (OSError, http.client.HTTPException) as failure:
-            return Answer("none", met=str(failure) or type(failure).__name__)
+        except (OSError, http.client.HTTPException, ValueError) as failure:  # http.client lets a ValueError out, as for a chunk of size -5
+            return Answer("none", met=shown(str(failure)) or type(failure).__name__)
         return answer_of(status, text, read)
 
     def sent(self, method: str, path: str, value: Optional[Json], deadline: Deadline) -> Tuple[int, str]:

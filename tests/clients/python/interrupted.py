@@ -1,0 +1,260 @@
+"""Interruptions of a process that lives on: Ctrl-C at a moment of a call's own code, and a call on a file that fails. Journal, keys and archive stay right."""
+import contextlib
+import errno
+import hashlib
+import json
+import os
+import random
+import shutil
+import subprocess
+import sys
+import threading
+from unittest import mock
+
+import ee_counter_client.archive as archive_module
+import ee_counter_client.journal as journal_module
+from bench import DAY, TOP, client, control, desks, folder, right, true_counter
+from ee_counter_client.testing import fake as fake_module
+
+#: How many moments are tried, spread over all of a call. 0 is each of them.
+MOMENTS = 100
+#: The modules whose code is interrupted: those that write the files, by each of their instructions, and the one that calls them, by each of its lines.
+BY_INSTRUCTION, BY_LINE = ("journal.py", "archive.py"), ("counter.py",)
+FILE_CALLS = ("open", "write", "pwrite", "ftruncate", "fsync", "replace", "close")
+
+
+# ---- Ctrl-C
+
+
+class Interrupt:
+    """Raises KeyboardInterrupt at the moment `at` of what is done within, in this thread. Without it, it counts the moments."""
+
+    def __init__(self, at=0):
+        self.at, self.count = at, 0
+
+    def __enter__(self):
+        self.hook, sys.unraisablehook = sys.unraisablehook, lambda _: None  # Python ignores what is raised in __del__
+        sys.settrace(self.entered)
+        return self
+
+    def __exit__(self, kind, *_):
+        sys.settrace(None)
+        sys.unraisablehook = self.hook
+        return kind is KeyboardInterrupt
+
+    def entered(self, frame, *_):
+        folder, name = os.path.split(frame.f_code.co_filename)
+        if not folder.endswith("ee_counter_client") or name not in BY_INSTRUCTION + BY_LINE:
+            return None
+        frame.f_trace_opcodes, frame.f_trace_lines = name in BY_INSTRUCTION, name in BY_LINE
+        return self.met
+
+    def met(self, frame, event, _):
+        if event in ("opcode", "line"):
+            self.count += 1
+            if self.count == self.at:
+                raise KeyboardInterrupt
+        return self.met
+
+
+def moments_of(call):
+    """The moments of a call to try."""
+    with Interrupt() as whole:
+        call()
+    count = whole.count
+    right(count > 100, f"a call has {count:,} moments")
+    return range(1, count + 1) if MOMENTS == 0 or MOMENTS >= count else sorted(random.Random(11).sample(range(1, count + 1), MOMENTS))
+
+
+def same_on_disk(counter, place, when):
+    """What a Counter knows is what another process would read of its files."""
+    copy = place / "copy"
+    shutil.rmtree(copy, ignore_errors=True)
+    copy.mkdir()
+    for file in place.glob("a.*"):
+        shutil.copy(file, copy)
+    known = counter.open_request, counter.last, counter.bookmark
+    with client.Counter(copy / "a.journal", archive=copy / "a.archive") as other:
+        found = other.open_request, other.last, other.bookmark
+    if known != found:
+        right(False, f"{when}: the Counter knows what its files say", f"{known}\n{found}")
+
+
+def interrupted_calls():
+    """Ctrl-C in a call, and the Counter is used further: the same call has its reply, each bond is paid once, and the files are right."""
+    check_interrupted("job")
+    check_interrupted(None)
+    control("a journal that doesn't take a reply from its keys", lambda: check_interrupted("job"), mock.patch.object(journal_module.Journal, "settled", lambda journal: journal.record))
+    control("a journal that leaves an interrupted change on the disk", lambda: check_interrupted(None), mock.patch.object(journal_module.Journal, "restore", lambda journal: None))
+    control("an archive that doesn't read back its last line", lambda: check_interrupted("job"), mock.patch.object(archive_module.Archive, "read_back", lambda archive: None))
+    interrupted_openings()
+
+
+def bonds_of(fake, count):
+    """Two more bonds."""
+    fake.bonds.update({serial: {"serial": serial, "denom": 50, "issued": "2010-11", "owner": 7} for serial in (f"A{count}EE", f"B{count}EE")})
+
+
+def check_interrupted(key):
+    """Each moment in turn. With keys, another call comes in between every second time."""
+    with desks("X1EE") as (place, fake, _), mock.patch.object(fake_module, "MOST_TICKETS", 10**6):
+        with client.Counter(place / "a.journal", fake.address, desk=3, archive=place / "a.archive", patience=60) as counter:
+            counter.ticket(1)
+            moments = moments_of(lambda: counter.redeem(DAY, 7, ["X1EE"], key=key and "first"))
+            for count, at in enumerate(moments, 1):
+                bonds_of(fake, count)
+                with Interrupt(at):
+                    counter.redeem(DAY, 7, [f"A{count}EE"], key=key and f"A{count}", bookmark=count)
+                made_again(counter, place, f"moment {at}", count, key, key and count % 2 == 0)
+        paid_once(place, fake)
+        right(True, f"{len(moments)} moments of a call {'with' if key else 'without'} a key were interrupted, and each bond is paid once")
+
+
+def made_again(counter, place, when, count, key, with_other=False):
+    """The call that was interrupted, made again."""
+    same_on_disk(counter, place, when)
+    if with_other:
+        counter.redeem(DAY, 7, [f"B{count}EE"], key=f"B{count}")
+    try:
+        is_right = counter.redeem(DAY, 7, [f"A{count}EE"], key=key and f"A{count}", bookmark=count).lines[0].serial == f"A{count}EE"
+    except client.AlreadyPaid as paid:
+        is_right = key is None and paid.serial == f"A{count}EE"
+    if not is_right or counter.open_request is not None:
+        right(False, f"{when}: the same call has its reply", counter.open_request)
+    same_on_disk(counter, place, when)
+
+
+def paid_once(place, fake):
+    """Each bond that was asked for is on one ticket; each reply that the archive has is the one that the counter gave, and each reply is in the archive."""
+    paid = [line["serial"] for ticket in fake.tickets for line in ticket["lines"]]
+    archived = {}
+    lines = (place / "a.archive").read_bytes().split(b"\n")
+    if lines.pop() != b"":
+        right(False, "the archive ends with a whole line")
+    for before, line in zip(lines, lines[1:]):
+        told = json.loads(line)
+        if told["before"] != hashlib.sha256(before).hexdigest():
+            right(False, "each line of the archive names the one before", line)
+        if "reply" in told and archived.setdefault(told["number"], told["reply"]) != told["reply"]:
+            right(False, "a request has one reply in the archive", line)
+    given = {number: reply for (desk, number), (_, reply) in fake.kept.items() if desk == 3}
+    right(len(set(paid)) == len(paid) == len(fake.paid) and archived == given, f"{len(paid)} bonds, each on one ticket; the archive has the {len(given)} replies, and is whole", (len(archived), len(given)))
+
+
+def interrupted_openings():
+    """Ctrl-C while a journal with an archive is opened, or closed: it can be opened again."""
+    with desks("L1EE") as (place, fake, _):
+
+        def opened():
+            with client.Counter(place / "a.journal", fake.address, desk=3, archive=place / "a.archive"):
+                pass
+
+        moments = moments_of(opened)
+        for at in moments:
+            for name in ("a.journal", "a.archive") if at % 2 else ():
+                (place / name).unlink(missing_ok=True)
+            with Interrupt(at):
+                opened()
+            opened()
+        right(True, f"{len(moments)} moments of opening and closing were interrupted, and the journal is opened again")
+
+
+# ---- calls that fail
+
+
+class Failing:
+    """The call number `at` on a file fails, before it is done or after. Without it, it counts the calls."""
+
+    def __init__(self, at=0, number=errno.EIO, is_after=False):
+        self.at, self.number, self.is_after, self.count = at, number, is_after, 0
+        self.patches = [mock.patch.object(os, name, self.wrapped(getattr(os, name))) for name in FILE_CALLS]
+
+    def wrapped(self, true):
+        def call(*words, **more):
+            if threading.current_thread() is not threading.main_thread():
+                return true(*words, **more)
+            self.count += 1
+            if self.count == self.at:
+                if self.is_after:
+                    true(*words, **more)
+                raise OSError(self.number, os.strerror(self.number))
+            return true(*words, **more)
+
+        return call
+
+    def __enter__(self):
+        for patch in self.patches:
+            patch.start()
+        return self
+
+    def __exit__(self, *_):
+        for patch in self.patches:
+            patch.stop()
+
+
+def failing_calls():
+    """EIO and ENOSPC of each call on the files, once, before it is done or after, and the Counter is used further."""
+    for key in ("job", None):
+        check_failing(key)
+    control("a journal that leaves a failed change on the disk", lambda: check_failing(None), mock.patch.object(journal_module.Journal, "restore", lambda journal: None))
+    control("an archive that doesn't read back its last line", lambda: check_failing(None), mock.patch.object(archive_module.Archive, "read_back", lambda archive: None))
+
+
+def check_failing(key):
+    with desks("X1EE") as (place, fake, _), client.Counter(place / "a.journal", fake.address, desk=3, archive=place / "a.archive", patience=60) as counter:
+        counter.ticket(1)
+        with Failing() as whole:
+            counter.redeem(DAY, 7, ["X1EE"], key=key and "first")
+        count = failed = 0
+        for number in (errno.EIO, errno.ENOSPC):
+            for at in range(2, 2 * whole.count + 2):
+                count += 1
+                bonds_of(fake, count)
+                try:
+                    with Failing(at // 2, number, is_after=at % 2 == 1):
+                        counter.redeem(DAY, 7, [f"A{count}EE"], key=key and f"A{count}", bookmark=count)
+                except client.FileFailed as failure:
+                    failed += 1
+                    if failure.may_be_done != (f"A{count}EE" in fake.paid):
+                        right(False, f"call {at // 2}: the error says whether the bond may have been paid", failure)
+                made_again(counter, place, f"call {at // 2}", count, key)
+        paid_once(place, fake)
+        right(failed > count / 2, f"{count} calls on files failed {'with' if key else 'without'} a key, {failed} times by FileFailed; then the same call has its reply")
+
+
+# ---- the archive restores a store
+
+PAYMENTS = 24
+
+
+def restored(program):
+    """A day over the program, each payment interrupted by Ctrl-C or a failed call: samples/restore/replay makes the store anew from the archive alone."""
+    chance = random.Random(3)
+    with folder() as place, true_counter(program, place) as port:
+        with client.Counter(place / "a.journal", f"http://127.0.0.1:{port}", desk=3, archive=place / "a.archive", patience=60) as counter:
+            counter.add_rates([client.Rates("2010-11", "0.60")])
+            counter.add_bonds([client.Bond(f"A{number}EE", 50, "2010-11", 7) for number in range(1, PAYMENTS + 1)])
+            counter.open_day(DAY)
+            tickets = [paid(counter, f"A{number}EE", chance) for number in range(1, PAYMENTS + 1)]
+            batch = counter.close_day(DAY)
+        right([ticket.number for ticket in tickets] == list(range(1, PAYMENTS + 1)) and batch.tickets == PAYMENTS, f"{PAYMENTS} payments, each interrupted three times: one ticket each")
+        line = [TOP / "samples" / "restore" / "replay", place / "new.db", place / "a.archive", "--program", program, "--by", "apply"]
+        ran = subprocess.run(line, capture_output=True, text=True, timeout=300)
+        right(ran.returncode == 0, "samples/restore/replay makes the store anew from its archive", ran)
+        again = subprocess.run([program, "export", "1", "--db", place / "new.db"], capture_output=True, text=True)
+        right(again.returncode == 0, "and the store is one", again)
+
+
+def paid(counter, serial, chance):
+    """A payment with a key, after three interruptions of it."""
+    for _ in range(3):
+        if chance.random() < 0.5:
+            with Interrupt(chance.randint(1, 1000)):
+                counter.redeem(DAY, 7, [serial], key=serial)
+        else:
+            with contextlib.suppress(client.FileFailed), Failing(chance.randint(1, 25), chance.choice((errno.EIO, errno.ENOSPC)), chance.random() < 0.5):
+                counter.redeem(DAY, 7, [serial], key=serial)
+    return counter.redeem(DAY, 7, [serial], key=serial)
+
+
+CASES = (interrupted_calls, failing_calls, restored)
