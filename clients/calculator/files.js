@@ -48,8 +48,8 @@ export function readRows(columns, list, first_row) {
   return { rows: faults.length > 0 ? [] : read.map((one) => one.values), faults };
 }
 
-function readFile(bytes, headers) {
-  if (bytes.length > MOST_BYTES) return { rows: [], faults: [{ row: 1, code: TOO_LONG }] };
+function readFile(bytes, headers, most) {
+  if (bytes.length > most) return { rows: [], faults: [{ row: 1, code: TOO_LONG }] };
   const [header, ...rest] = records(bytes);
   if (header === undefined) return { rows: [], faults: [] };
   const columns = headers.find((one) => isHeader(one, header));
@@ -57,13 +57,14 @@ function readFile(bytes, headers) {
   return readRows(columns, rest, 2);
 }
 
-export function readInventory(bytes) {
-  return readFile(bytes, [INVENTORY]);
+// `most` is the greatest length in bytes. An inventory that the page itself kept has none.
+export function readInventory(bytes, most = MOST_BYTES) {
+  return readFile(bytes, [INVENTORY], most);
 }
 
 // An empty extension, or none, is the fixed rate.
 export function readRates(bytes) {
-  const { rows, faults } = readFile(bytes, [RATES, EXTENDED]);
+  const { rows, faults } = readFile(bytes, [RATES, EXTENDED], MOST_BYTES);
   return { rows: rows.map((row) => ({ ...row, extension: row.extension ?? row.rate })), faults };
 }
 

@@ -2,17 +2,16 @@
 
 import { Chart } from "./chart.js";
 import { byId, element, options } from "./elements.js";
-import { readInventory } from "./files.js";
+import { beginKeeping, keepOn } from "./keeping.js";
 import { libraryOf } from "./modules.js";
 import { beginNotices, tellFault, tellNothing } from "./notices.js";
-import { keptTexts } from "./saving.js";
-import { readMonth } from "./spelling.js";
+import { LAST_MONTH } from "./spelling.js";
 import { change, state, watch } from "./state.js";
 import { TEXTS } from "./texts.js";
 import { inventoryCurve } from "./timeline.js";
-import { addRows, beginAdding } from "./view_add.js";
+import { beginAdding, showOne } from "./view_add.js";
 import { beginBond } from "./view_bond.js";
-import { beginRates, showRates, takeKept, takeShipped } from "./view_rates.js";
+import { beginRates, showRates, takeShipped } from "./view_rates.js";
 import { beginSummary, showSummary } from "./view_summary.js";
 import { beginTable, showTable } from "./view_table.js";
 
@@ -53,17 +52,18 @@ async function chooseModule() {
   if (bits !== wanted) tellFault(TEXTS.module_missing);
 }
 
-function thisMonth() {
+// The value month that the device's clock says. Before the last announcement that the page ships, and after 2199, the clock must be wrong.
+function takeClock() {
   const now = new Date();
-  return 12 * now.getFullYear() + now.getMonth();
+  const said = 12 * now.getFullYear() + now.getMonth();
+  const month = Math.min(Math.max(said, ...state.books.rates.keys()), LAST_MONTH);
+  change({ month });
+  if (month !== said) tellFault(TEXTS.clock_wrong(said, month));
 }
 
-// Shows what an earlier visit kept. Reports a text that can't be read any more, and leaves it.
-function takeUp(kept) {
-  change({ month: readMonth(kept.month) ?? state.month });
-  if (!takeKept(kept.rates)) return;
-  const read = readInventory(new TextEncoder().encode(kept.inventory));
-  if (read.rows.length > 0 || read.faults.length > 0) addRows(read);
+// On paper the sheet says when it was printed.
+function showDate() {
+  byId("printed").textContent = TEXTS.printed(new Date());
 }
 
 function installOffline() {
@@ -77,23 +77,25 @@ function begin() {
   for (const one of [beginNotices, beginSummary, beginAdding, beginTable, beginRates, beginBond]) one();
   options(byId("module"), Object.entries(TEXTS.modules).reverse(), state.bits);
   byId("module").addEventListener("input", chooseModule);
-  for (const one of [showSummary, showTable, showRates, showCurve, showModule]) watch(one);
+  addEventListener("beforeprint", showDate);
+  showDate();
+  for (const one of [showOne, showSummary, showTable, showRates, showCurve, showModule]) watch(one);
 }
 
 async function start() {
   writeTexts();
   try {
-    Object.assign(state, await libraryOf(64), { month: thisMonth() });
+    Object.assign(state, await libraryOf(64), { month: LAST_MONTH });
   } catch {
     tellFault(TEXTS.module_failed);
     return;
   }
   begin();
   takeShipped();
-  const kept = keptTexts();
-  byId("keep").checked = kept !== null;
   tellNothing();
-  if (kept !== null) takeUp(kept);
+  takeClock();
+  await beginKeeping();
+  watch(keepOn);
   document.documentElement.dataset.ready = "";
   installOffline();
 }

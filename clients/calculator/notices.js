@@ -24,11 +24,11 @@ export function tellFault(text) {
   show(text, "refused", []);
 }
 
-// The first fault is the one that the counter names.
-export function tellFaults(faults) {
+// The first fault is the one that the counter names. `hints` are said after it.
+export function tellFaults(faults, hints = []) {
   const more = faults.slice(1, MOST_FAULTS).map(TEXTS.fault);
   const rest = faults.length > MOST_FAULTS ? [TEXTS.more_faults(faults.length - MOST_FAULTS)] : [];
-  show(`${TEXTS.nothing_added} ${TEXTS.fault(faults[0])}`, "refused", [...more, ...rest]);
+  show(`${TEXTS.nothing_added} ${TEXTS.fault(faults[0])}`, "refused", [...hints, ...more, ...rest]);
 }
 
 // What takes the keyboard is scrolled to below the box, and not under it.

@@ -2,7 +2,7 @@
 // year 0, a rate hundredths of a percent, and money cents.
 
 const FIRST_MONTH = 12 * 2005 + 4;
-const LAST_MONTH = 12 * 2199 + 11;
+export const LAST_MONTH = 12 * 2199 + 11;
 const LAST_ISSUE = 12 * 2099 + 11;
 
 export const DENOMINATIONS = [50, 75, 100, 200, 500, 1000, 5000, 10000];
@@ -41,14 +41,20 @@ export function readCustomer(text) {
   return /^[0-9]{1,9}$/.test(text) ? inRange(Number(text), 1, 999_999_999) : null;
 }
 
-// The canonical text of a serial number, which is its identity.
+// The canonical text of a serial number, which is its identity. A bond without one is #1, #2 and so on: only this page writes and reads that.
 export function readSerial(text) {
+  if (/^#[1-9][0-9]{0,8}$/.test(text)) return text;
   const found = /^([A-Z])-?([0-9]{1,10})-?EE$/.exec(text);
   return found === null || Number(found[2]) === 0 ? null : `${found[1]}${Number(found[2])}EE`;
 }
 
-// A number by which serial numbers are in the counter's order: by letter, then by number.
+export function isUnnumbered(serial) {
+  return serial.startsWith("#");
+}
+
+// A number by which serial numbers are in the counter's order: by letter, then by number. Bonds without a serial number come last.
 export function serialOrder(serial) {
+  if (isUnnumbered(serial)) return 27 * 10_000_000_000 + Number(serial.slice(1));
   return (serial.charCodeAt(0) - 64) * 10_000_000_000 + Number(serial.slice(1, -2));
 }
 

@@ -40,14 +40,14 @@ export function change(changes) {
   for (const watcher of watchers) watcher();
 }
 
-// Takes over changes, or returns the serial number of a bond whose value the library can't settle.
+// Takes over changes. Returns null, or the library's failure, with the serial number of the bond that it has no value for.
 export function changeIfSettled(changes) {
   try {
     change(changes);
     return null;
   } catch (failure) {
     if (failure.serial === undefined) throw failure;
-    return failure.serial;
+    return failure;
   }
 }
 

@@ -69,7 +69,8 @@ export class BondTable {
     this.head.addEventListener("click", (event) => this.#pressed(event, "[data-column]", (button) => sorts(button.dataset.column)));
     table.addEventListener("click", (event) => this.#pressed(event, ".open", (button) => this.#opened(button, opens)));
     table.addEventListener("keydown", (event) => this.#moved(event));
-    addEventListener("beforeprint", () => this.#writeAll());
+    addEventListener("beforeprint", () => this.#print());
+    addEventListener("afterprint", () => this.#printed());
   }
 
   show(rows, totals, sort) {
@@ -111,6 +112,21 @@ export class BondTable {
 
   #writeAll() {
     for (const place of this.stale) this.#write(place);
+  }
+
+  // On paper the last row stands in one group with the total, which is so never alone on a page.
+  #print() {
+    this.#writeAll();
+    this.#printed();
+    const last = this.made[this.rows.length - 1]?.element;
+    if (last === undefined) return;
+    this.lent = { last, group: last.parentNode };
+    this.foot.prepend(last);
+  }
+
+  #printed() {
+    this.lent?.group.append(this.lent.last);
+    this.lent = undefined;
   }
 
   // Writes what is left, in turns.

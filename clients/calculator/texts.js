@@ -1,5 +1,6 @@
 // All texts of the page, in English. For another language, write an object with the same keys, and choose it at the end.
 
+import { UNSETTLED } from "../value/ee-value.js";
 import { dollarsText, monthText } from "./spelling.js";
 
 const MONTHS = ["January", "February", "March", "April", "May", "June", "July", "August", "September", "October", "November", "December"];
@@ -15,6 +16,7 @@ const SPELLINGS = {
   rate: "a rate from 0 to 20.00 %, as 3.50 or 3.50%",
   extension: "empty, or a rate from 0 to 20.00 %, as 4.00",
   serial: "a serial number: a letter from A to Z, a number of 1 to 10 digits, and EE, as C12EE or C-12-EE",
+  series: "EE: this page values no other series",
   denom: "50, 75, 100, 200, 500, 1000, 5000 or 10000",
   issued: "a month from 2005-05 to 2099-12, as 2010-05 or 05/2010",
   owner: "a customer number of 1 to 9 digits",
@@ -39,6 +41,8 @@ const REFUSALS = {
   31: (it) => `Bond ${it.serial} is in the inventory with a different denomination, issue month, owner or coowner.`,
 };
 
+const NOTES = { NI: "not issued yet", NE: "under 12 months: can't be cashed yet", P5: "under 5 years: less 3 months' interest", MA: "30 years old: earns no more interest", "": "" };
+
 const at = (row) => (row === undefined ? "" : `Row ${row}: `);
 
 export const EN = {
@@ -48,35 +52,57 @@ export const EN = {
   skip: "Skip to the content",
   close: "Close",
 
-  summary_title: "What the bonds are worth",
+  one_title: "The value of a bond",
+  one_hint: "Choose a denomination and write an issue month: the value is shown here.",
+  one_unrated: (issued) => `There is no rate for bonds issued in ${month(issued)}. Open a rate file that has it below.`,
+  one_says: ({ bond, cents, texts }, value) =>
+    `A $${bond.denom.toLocaleString("en-US")} bond issued in ${month(bond.issued)}, in ${month(value)}: price ${dollarsText(cents.price)}, interest ${dollarsText(cents.interest)}${texts.rate === "" ? "" : `, rate ${texts.rate}`}.${NOTES[texts.note] === "" ? "" : ` Note ${texts.note}: ${NOTES[texts.note]}.`}`,
+
+  summary_title: "What all bonds are worth",
   month_label: "Value month",
-  month_help: "Write a month from 2005-05 to 2199-12, as 2026-11 or 11/2026.",
+  month_help: "Write a month from May 2005 to December 2199, as 11/2026, Nov 2026 or 2026-11.",
   month_show: "Show",
   month_back: "Month before",
   month_on: "Month after",
   month_shown: (value) => `Values in ${month(value)}.`,
-  month_bad: (text) => `${quoted(text)} is no value month. Write a month from 2005-05 to 2199-12, as 2026-11 or 11/2026.`,
+  month_bad: (text) => `${quoted(text)} is no value month. Write a month from May 2005 to December 2199, as 11/2026, Nov 2026 or 2026-11.`,
   total_name: (count, value) => (count === 0 ? `No bonds yet. Values are for ${month(value)}.` : `Value of ${bonds(count)} in ${month(value)}`),
-  sums: { price: "Issue price", interest: "Interest", payable: "Payable now", next: (value) => `Value in ${month(value)}` },
+  sums: { price: "Issue price", interest: "Interest", year: (value) => `Interest of ${Math.floor(value / 12)}`, payable: "Payable now", next: (value) => `Value in ${month(value)}` },
   not_payable: (count) => (count === 0 ? "all bonds" : `all but ${bonds(count)} under 12 months or not issued yet`),
+  year_interest: (cents, value) => `${dollarsText(cents)}, ${value % 12 === 0 ? "in January" : `from January to ${MONTHS[value % 12]}`}`,
+  clock_wrong: (said, value) => `This device's clock says ${month(said)}, which can't be right. Values are for ${month(value)}: set the clock, or choose the value month.`,
+  printed: (now) => `Printed ${now.toLocaleDateString("en-US", { year: "numeric", month: "long", day: "numeric" })}`,
   more: (cents) => `${dollarsText(Math.abs(cents))} ${cents < 0 ? "less" : "more"}`,
 
-  add_title: "Add bonds",
-  serial_label: "Serial number",
+  add_title: "Add a list of bonds",
+  serial_label: "Serial number (optional)",
   denom_label: "Denomination",
   denom_choose: "Choose",
   issued_label: "Issue month",
   add_button: "Add the bond",
-  type_help: "Write the serial number with its letter and EE, as C12EE or C-12-EE, and the issue month as 2010-05 or 05/2010.",
+  type_help: "Write the issue month as May 2010, 5/2010 or 2010-05, and the serial number, if you want to keep it, with its letter and EE, as C12EE.",
   owners_summary: "Owner and coowner, for a bank's inventory",
   owner_label: "Owner (customer number)",
   coowner_label: "Coowner (customer number)",
   owners_help: "Only a bank's counter uses these numbers. Leave 1 if you aren't a bank. Pasted bonds without an owner take this owner.",
   inventory_label: "Open an inventory (CSV file)",
   paste_summary: "Paste from a spreadsheet",
-  paste_label: "Columns: serial number, denomination, issue month",
-  paste_help: "Copy the columns in a spreadsheet and paste them here. Owner and coowner may follow. With a line of headings the columns may have any order.",
-  paste_button: "Add the pasted bonds",
+  paste_label: "Columns of a spreadsheet, or lines",
+  paste_help: "Each line needs a denomination and an issue month; a serial number is optional. Columns may have any order. The page shows what it understood before anything is added.",
+  paste_button: "Show what is understood",
+  paste_add: (count) => (count === 1 ? "Add this bond" : `Add these ${count.toLocaleString("en-US")} bonds`),
+  understood_title: "What the page understood",
+  understood: (count) => (count === 0 ? "The page found no bonds in this text." : `${bonds(count)} understood. Compare ${count === 1 ? "it" : "them"} with your list below, then add ${count === 1 ? "it" : "them"}.`),
+  understood_columns: (has_owners) => ["Row", "Serial", "Denom", "Issued", ...(has_owners ? ["Owner"] : [])],
+  owners: (row) => `${row.owner}${row.coowner === undefined ? "" : `, coowner ${row.coowner}`}`,
+  no_serial: "none",
+  more_understood: (count) => `${counted(count, "bond", "bonds")} more.`,
+  headed: (row) => `Row ${row} names the columns.`,
+  ignored: (names) => `Not used: the ${names.length === 1 ? "column" : "columns"} ${names.join(", ")}.`,
+  left_out: ({ row, text }) => `Row ${row} is no bond: “${text.slice(0, 60)}”`,
+  more_left: (count) => `${counted(count, "more row is", "more rows are")} no bonds.`,
+  file_understood: "The page read the file as a list of a spreadsheet instead. Compare what it understood with your list, then add it.",
+  dollars: (count) => `$${count.toLocaleString("en-US")}`,
   added: (added, same, all) => `${bonds(added)} added.${same > 0 ? ` ${bonds(same)} already there.` : ""} ${all.toLocaleString("en-US")} in all.`,
   nothing_added: "Nothing was added.",
   removed: (serial) => `Bond ${serial} was removed.`,
@@ -87,7 +113,8 @@ export const EN = {
   typed_fault: (fault) => FAULTS[fault.code](fault),
   more_faults: (count) => `${counted(count, "more row has", "more rows have")} a fault.`,
   refusal: (it) => `${at(it.row)}${REFUSALS[it.code](it)} (code ${it.code}, ${it.name})`,
-  unsettled: (serial) => `The value of bond ${serial} is too close to a half cent for the library to settle (code 22, RateUnsettled).`,
+  unvalued: ({ serial, status, message }) =>
+    status === UNSETTLED ? `The value of bond ${serial} is too close to a half cent for the library to settle (code 22, RateUnsettled).` : `The library has no value for bond ${serial} in this value month: ${message} (status ${status}).`,
   unreadable: (name) => `The file ${name} can't be read.`,
 
   bonds_title: "Bonds",
@@ -103,7 +130,7 @@ export const EN = {
   sort_choice: (column, is_falling) => `${column}, ${is_falling ? "highest first" : "lowest first"}`,
   columns: { serial: "Serial", series: "Series", denom: "Denom", issued: "Issued", next: "Next", final: "Final", price: "Price", interest: "Interest", rate: "Rate", value: "Value", note: "Note" },
   column_names: { serial: "serial number", series: "series", denom: "denomination", issued: "issue date", next: "next accrual", final: "final maturity", price: "issue price", interest: "interest", rate: "interest rate", value: "value", note: "note" },
-  notes: { NI: "not issued yet", NE: "under 12 months: can't be cashed yet", P5: "under 5 years: less 3 months' interest", MA: "30 years old: earns no more interest", "": "" },
+  notes: NOTES,
   total_row: "Total",
   save_inventory: "Save the inventory",
   save_table: "Save this table (CSV)",
@@ -111,9 +138,21 @@ export const EN = {
   print: "Print",
   remove_all: "Remove all bonds",
   keep_label: "Keep the inventory, the rates and the month in this browser",
-  kept: "The inventory is kept in this browser, also when it is closed.",
+  kept: "The inventory is kept in this browser. A browser may delete what pages keep, so save it as a file too.",
+  keep_state: { kept: "Kept in this browser.", waiting: "Being kept .." },
   not_kept: "Nothing is kept any more. Save the inventory before you close the page.",
-  keep_failed: "This browser refuses to keep the inventory. Save it as a file.",
+  keep_failed: "This browser refuses to keep the inventory. What it kept before stays as it is. Save the inventory as a file.",
+  taken_up: (count) => `${bonds(count)}, kept by an earlier visit.`,
+  kept_unread: "This browser doesn't let the page read what an earlier visit kept. If anything was kept, it stays as it is.",
+  kept_unreadable: (why) => `The page can't read what an earlier visit kept, and leaves it as it is. ${why}`,
+  kept_incomplete: "The inventory, the rates or the month are missing.",
+  left_save: "Save what was kept as a file",
+  left_help: "An earlier visit kept something in this browser that the page can't read. It stays there until you keep the bonds of this page and agree to replace it.",
+  ask_replace: "What an earlier visit kept can't be read. Replace it by the bonds of this page?",
+  keep_ended: "Another tab of this page ended the keeping, so nothing is kept any more. Save the inventory before you close the page.",
+  keep_conflict: (why) => `Another tab of this page kept other bonds or rates, which stay as they are. What this tab changed isn't kept: save the inventory as a file. ${why}`,
+  save_unnumbered: "A bond without a serial number is saved as #1, #2 and so on, which only this page reads.",
+  save_long: "The file is longer than 1,048,576 bytes, so neither opens it: to read it here again, copy its text and paste it.",
   save_help: (count) => (count > 500 ? `The counter's import takes 500 bonds from one file. clients/counter.py registers all ${count.toLocaleString("en-US")} from this one.` : "The saved inventory opens here again, and the counter imports it."),
   saved: (name) => `Saved as ${name}.`,
   skip_table: "Skip the table",
@@ -175,7 +214,7 @@ export const EN = {
   module_missing: "This browser can't run the module of 64 bits. The one of 32 bits is in use.",
   module_failed: "The module can't be started in this browser, so there are no values.",
 
-  files: { inventory: "inventory.csv", table: (value) => `bonds-${monthText(value)}.csv`, sheet: (value) => `sheet-${monthText(value)}.txt`, rates: "rates.csv" },
+  files: { inventory: "inventory.csv", kept: "kept.txt", table: (value) => `bonds-${monthText(value)}.csv`, sheet: (value) => `sheet-${monthText(value)}.txt`, rates: "rates.csv" },
   month,
 };
 

@@ -2,12 +2,12 @@
 // bonds adds answers up.
 
 import { questionOf, rowsAt } from "./rows.js";
+import { LAST_MONTH } from "./spelling.js";
 
 export const FIRST_PAYABLE = 12;
 export const PENALTY_ENDS = 60;
 export const DOUBLES = 240;
 export const MATURES = 360;
-const LAST_MONTH = 12 * 2199 + 11;
 
 // The months after `month` in which something changes for a bond, in order, each with its row.
 export function milestonesOf(library, rates, bond, month) {

@@ -1,36 +1,57 @@
-// Adds bonds: typed, from an inventory file, or pasted.
+// The value of a bond as it is typed, and adding it; and bonds of an inventory file.
 
-import { withBonds } from "./books.js";
+import { addRows } from "./adding.js";
+import { termsOf } from "./books.js";
 import { byId, options } from "./elements.js";
-import { INVENTORY, readInventory, readRow } from "./files.js";
-import { tell, tellFault, tellFaults } from "./notices.js";
-import { readPasted } from "./paste.js";
-import { DENOMINATIONS, readCustomer } from "./spelling.js";
-import { changeIfSettled, state } from "./state.js";
+import { INVENTORY, MOST_BYTES, readInventory } from "./files.js";
+import { isNoSerial, looseDenom, looseIssue, looseSerial, plain } from "./loose.js";
+import { tellFault, tellFaults } from "./notices.js";
+import { rowsAt } from "./rows.js";
+import { DENOMINATIONS, dollarsText, readCustomer } from "./spelling.js";
+import { state } from "./state.js";
 import { TEXTS } from "./texts.js";
+import { beginPasting, understandFile } from "./view_paste.js";
 
-// Adds rows that were read. Whether they were added.
-export function addRows({ rows, faults }, is_saved = false) {
-  if (faults.length > 0) {
-    tellFaults(faults);
-    return false;
+const BAD_VALUE = 72;
+
+// By field: the value of what was typed, or null.
+const READERS = {
+  serial: (text) => (isNoSerial(text) ? undefined : looseSerial(text)),
+  denom: looseDenom,
+  issued: looseIssue,
+  owner: readCustomer,
+  coowner: (text) => (text === "" ? undefined : readCustomer(text)),
+};
+
+function typedBond() {
+  const values = {};
+  for (const column of INVENTORY) {
+    const text = plain(byId(column).value);
+    values[column] = READERS[column](text);
+    if (values[column] === null) return { fault: { code: BAD_VALUE, column, text } };
   }
-  const done = withBonds(state.books, rows);
-  if (done.refusal !== undefined) {
-    tellFault(`${TEXTS.nothing_added} ${TEXTS.refusal(done.refusal)}`);
-    return false;
-  }
-  const is_untouched = is_saved && state.books.bonds.size === 0;
-  const unsettled = changeIfSettled({ books: done.books, is_saved: done.added === 0 ? state.is_saved : is_untouched });
-  if (unsettled !== null) {
-    tellFault(`${TEXTS.nothing_added} ${TEXTS.unsettled(unsettled)}`);
-    return false;
-  }
-  tell(TEXTS.added(done.added, done.same, done.books.bonds.size));
-  return true;
+  return { values: { ...values, serial: values.serial ?? null } };
 }
 
-const typed = () => INVENTORY.map((name) => byId(name).value.trim());
+function rowOf(denom, issued) {
+  try {
+    return rowsAt(state.library, state.books.rates, [{ serial: "#1", denom, issued }], state.month)[0];
+  } catch (failure) {
+    if (failure.serial === undefined) throw failure;
+    return null;
+  }
+}
+
+// Shows what a bond of the typed denomination and issue month is worth in the value month.
+export function showOne() {
+  const [denom, issued] = [looseDenom(byId("denom").value), looseIssue(plain(byId("issued").value))];
+  const is_whole = denom !== null && issued !== null;
+  const is_rated = is_whole && termsOf(state.books.rates, issued) !== undefined;
+  const row = is_rated ? rowOf(denom, issued) : null;
+  const told = row !== null ? TEXTS.one_says(row, state.month) : is_whole && !is_rated ? TEXTS.one_unrated(issued) : TEXTS.one_hint;
+  byId("one-value").textContent = row === null ? "" : dollarsText(row.cents.value);
+  byId("one-words").textContent = told;
+}
 
 function markFault(fault) {
   for (const name of INVENTORY) byId(name).setAttribute("aria-invalid", String(fault?.column === name));
@@ -43,7 +64,7 @@ function markFault(fault) {
 
 function addTyped(event) {
   event.preventDefault();
-  const { values, fault } = readRow(INVENTORY, typed(), undefined);
+  const { values, fault } = typedBond();
   markFault(fault);
   if (fault !== undefined) {
     tellFault(TEXTS.typed_fault(fault));
@@ -54,11 +75,21 @@ function addTyped(event) {
   byId("serial").focus();
 }
 
+// Adds an inventory. A file with faults is read as pasted text too, since a spreadsheet may have written it.
+function addBytes(bytes) {
+  const read = readInventory(bytes);
+  if (read.faults.length > 0 && bytes.length <= MOST_BYTES && understandFile(new TextDecoder().decode(bytes))) {
+    tellFaults(read.faults, [TEXTS.file_understood]);
+    return;
+  }
+  addRows(read, true);
+}
+
 async function addFile(event) {
   const [file] = event.target.files;
   if (file === undefined) return;
   try {
-    addRows(readInventory(new Uint8Array(await file.arrayBuffer())), true);
+    addBytes(new Uint8Array(await file.arrayBuffer()));
   } catch (failure) {
     if (!(failure instanceof DOMException)) throw failure;
     tellFault(TEXTS.unreadable(file.name));
@@ -66,15 +97,10 @@ async function addFile(event) {
   event.target.value = "";
 }
 
-function addPasted(event) {
-  event.preventDefault();
-  const owner = readCustomer(byId("owner").value.trim()) ?? 1;
-  if (addRows(readPasted(byId("pasted").value, owner))) byId("pasted").value = "";
-}
-
 export function beginAdding() {
   options(byId("denom"), [["", TEXTS.denom_choose], ...DENOMINATIONS.map((dollars) => [dollars, `$${dollars.toLocaleString("en-US")}`])], "");
   byId("type-form").addEventListener("submit", addTyped);
+  for (const name of ["denom", "issued"]) byId(name).addEventListener("input", showOne);
   byId("inventory-file").addEventListener("change", addFile);
-  byId("paste-form").addEventListener("submit", addPasted);
+  beginPasting();
 }

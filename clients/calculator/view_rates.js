@@ -1,7 +1,7 @@
 // The rates by which bonds are valued: those that the page ships, or a file's.
 
 import shipped from "../../samples/rates.csv";
-import { withRates } from "./books.js";
+import { NO_BOOKS, withRates } from "./books.js";
 import { byId, table } from "./elements.js";
 import { readRates, writeRates } from "./files.js";
 import { tell, tellFault, tellFaults } from "./notices.js";
@@ -35,9 +35,9 @@ function take({ rows, faults }, alone, is_shipped) {
     tellFault(`${TEXTS.rates_kept} ${TEXTS.refusal(done.refusal)}`);
     return false;
   }
-  const unsettled = changeIfSettled({ books: done.books, is_shipped });
-  if (unsettled !== null) {
-    tellFault(`${TEXTS.rates_kept} ${TEXTS.unsettled(unsettled)}`);
+  const failure = changeIfSettled({ books: done.books, is_shipped });
+  if (failure !== null) {
+    tellFault(`${TEXTS.rates_kept} ${TEXTS.unvalued(failure)}`);
     return false;
   }
   tell(is_shipped ? TEXTS.rates_shipped : TEXTS.rates_added(done.added));
@@ -48,10 +48,9 @@ export function takeShipped() {
   return take(readRates(bytesOf(shipped)), true, true);
 }
 
-// Takes rates that the page kept.
-export function takeKept(text) {
-  const is_shipped = text === writeRates(withRates(state.books, readRates(bytesOf(shipped)).rows, true).books.rates);
-  return take(readRates(bytesOf(text)), true, is_shipped);
+// The shipped rates as `ratesText` writes rates.
+export function shippedText() {
+  return writeRates(withRates(NO_BOOKS, readRates(bytesOf(shipped)).rows, true).books.rates);
 }
 
 async function takeFile(event) {

@@ -1,18 +1,18 @@
 // The table of bonds, with its filter and order, and what is saved of it.
 
 import { byId, options } from "./elements.js";
-import { writeInventory } from "./files.js";
-import { tell, tellFault } from "./notices.js";
+import { MOST_BYTES, writeInventory } from "./files.js";
+import { isKept } from "./keeping.js";
+import { tell } from "./notices.js";
 import { COLUMNS, totalsOf } from "./rows.js";
-import { keepNothing, keepTexts, saveFile } from "./saving.js";
+import { saveFile } from "./saving.js";
 import { sheetCsv, sheetText } from "./sheet.js";
 import { allRows, change, shownRows, state } from "./state.js";
 import { BondTable } from "./table.js";
 import { TEXTS } from "./texts.js";
 import { openBond } from "./view_bond.js";
-import { ratesText } from "./view_rates.js";
 import { sortedBonds } from "./books.js";
-import { monthText } from "./spelling.js";
+import { isUnnumbered } from "./spelling.js";
 
 let table = null;
 const ANY = "any";
@@ -20,6 +20,13 @@ const PLAIN = "plain";
 
 function owners() {
   return [...new Set(allRows().map((row) => row.bond.owner))].sort((one, other) => one - other);
+}
+
+// Short inventories aren't written to see how long they are: a line has at most 48 characters.
+function saveHelp(count) {
+  const is_long = 48 * (count + 1) > MOST_BYTES && inventoryNow().length > MOST_BYTES;
+  const is_unnumbered = [...state.books.bonds.keys()].some(isUnnumbered);
+  return [TEXTS.save_help(count), ...(is_unnumbered ? [TEXTS.save_unnumbered] : []), ...(is_long ? [TEXTS.save_long] : [])].join(" ");
 }
 
 export function showTable() {
@@ -31,9 +38,8 @@ export function showTable() {
   byId("owner-field").hidden = owners().length < 2 && state.filter.owner === null;
   byId("sort").value = `${state.sort.column} ${state.sort.is_falling}`;
   byId("shown").textContent = `${TEXTS.shown(rows.length, count)} ${TEXTS.sorted(TEXTS.column_names[state.sort.column], state.sort.is_falling)}`;
-  byId("save-help").textContent = TEXTS.save_help(count);
+  byId("save-help").textContent = saveHelp(count);
   table.show(rows, totalsOf(rows), state.sort);
-  if (byId("keep").checked && !keepTexts(keptNow())) stopKeeping(TEXTS.keep_failed);
 }
 
 function sortBy(column) {
@@ -63,26 +69,6 @@ function saveRows(name, write, type) {
   saved(name(state.month), write(rows, totalsOf(rows)), type);
 }
 
-function keptNow() {
-  return { inventory: inventoryNow(), rates: ratesText(), month: monthText(state.month) };
-}
-
-function stopKeeping(text) {
-  byId("keep").checked = false;
-  keepNothing();
-  tellFault(text);
-}
-
-function keep() {
-  if (!byId("keep").checked) {
-    stopKeeping(TEXTS.not_kept);
-  } else if (keepTexts(keptNow())) {
-    tell(TEXTS.kept);
-  } else {
-    stopKeeping(TEXTS.keep_failed);
-  }
-}
-
 function removeAll() {
   const count = allRows().length;
   if (!confirm(TEXTS.ask_remove_all(count))) return;
@@ -94,7 +80,7 @@ function removeAll() {
 }
 
 function warnUnsaved(event) {
-  if (!state.is_saved && !byId("keep").checked) event.preventDefault();
+  if (!state.is_saved && !isKept()) event.preventDefault();
 }
 
 function choices() {
@@ -118,6 +104,5 @@ export function beginTable() {
   byId("save-sheet").addEventListener("click", () => saveRows(TEXTS.files.sheet, sheetText, "text/plain"));
   byId("print").addEventListener("click", () => print());
   byId("remove-all").addEventListener("click", removeAll);
-  byId("keep").addEventListener("change", keep);
   addEventListener("beforeunload", warnUnsaved);
 }

@@ -5,6 +5,7 @@ import { createInterface } from "node:readline";
 import { dollarsAndCents, load } from "../../../clients/value/ee-value.js";
 import { NO_BOOKS, sortedBonds, withBonds, withRates } from "../../../clients/calculator/books.js";
 import { faultText, readInventory, readRates, writeInventory } from "../../../clients/calculator/files.js";
+import { readPasted } from "../../../clients/calculator/paste.js";
 import { filteredRows, rowsAt, totalsOf } from "../../../clients/calculator/rows.js";
 import { sheetText } from "../../../clients/calculator/sheet.js";
 import { monthText, readMonth } from "../../../clients/calculator/spelling.js";
@@ -43,6 +44,10 @@ const TASKS = {
     const { books } = enterBonds(booksOf(rates), file);
     const rows = filteredRows(rowsAt(library, books.rates, sortedBonds(books.bonds), readMonth(month)), { words: "", note: null, owner });
     return sheetText(rows, totalsOf(rows));
+  },
+  pasted: ({ text }) => {
+    const { rows, faults } = readPasted(text, 1);
+    return faults.length > 0 ? faults.map(({ row, column }) => `${row} ${column}`) : rows.map(({ serial, denom, issued }) => [serial ?? "", denom, issued]);
   },
   values: ({ questions }) => library.rows(questions).map((row) => (row instanceof Error ? row.status : `${dollarsAndCents(row.valueCents)}${row.note && ` ${row.note}`}`)),
 };

@@ -120,6 +120,23 @@ class Chromium(Browser):
         chain = webdriver.common.action_chains.ActionChains(self.driver)
         chain.key_down(KEYS["Shift"]).send_keys(KEYS["Tab"]).key_up(KEYS["Shift"]).perform()
 
+    def tab(self):
+        return self.driver.current_window_handle
+
+    def new_tab(self):
+        self.driver.switch_to.new_window("tab")
+        return self.tab()
+
+    def to_tab(self, handle):
+        self.driver.switch_to.window(handle)
+
+    def close_tab(self, handle):
+        """Close another tab, and stay in this one."""
+        own = self.tab()
+        self.to_tab(handle)
+        self.driver.close()
+        self.to_tab(own)
+
     def size(self, width, height):
         self.driver.execute_cdp_cmd("Emulation.setDeviceMetricsOverride", {"width": width, "height": height, "deviceScaleFactor": 1, "mobile": False})
 
@@ -235,6 +252,24 @@ class Firefox(Browser):
     def shift_tab(self):
         shift, tab = KEYS["Shift"], KEYS["Tab"]
         self.press(("keyDown", shift), ("keyDown", tab), ("keyUp", tab), ("keyUp", shift))
+
+    def tab(self):
+        return self.call("WebDriver:GetWindowHandle")
+
+    def new_tab(self):
+        handle = self.call("WebDriver:NewWindow", {"type": "tab"})["handle"]
+        self.to_tab(handle)
+        return handle
+
+    def to_tab(self, handle):
+        self.call("WebDriver:SwitchToWindow", {"handle": handle})
+
+    def close_tab(self, handle):
+        """Close another tab, and stay in this one."""
+        own = self.tab()
+        self.to_tab(handle)
+        self.call("WebDriver:CloseWindow")
+        self.to_tab(own)
 
     def size(self, width, height):
         """Give the page this size within its window, whose own least width is 450 pixels."""

@@ -5,6 +5,7 @@ import tempfile
 from pathlib import Path
 
 import expected
+import lists
 from telling import right, wrong_is_seen
 
 TOP = expected.TOP
@@ -118,3 +119,28 @@ def sheets(words):
         assert {"NI", "NE", "P5", "MA"} <= notes
         right(f"{module}: {len(found)} rows beside `value`, {len(listed)} inventories beside `sheet`, byte for byte")
         wrong_is_seen("a sheet with one byte changed", lambda: same([text.replace("P5", "P6", 1) for text in printed], [one["sheet"] for one in listed], range(len(listed))))
+
+
+def misspelled(text, cell, other):
+    """Return a list with another text in a cell of its last bond, and the row of that bond."""
+    lines = text.splitlines()
+    lines[-1] = lines[-1].replace(cell, other, 1)
+    return "\n".join(lines), len(lines)
+
+
+def pasted_lists(words):
+    """Lists of spreadsheets and of TreasuryDirect's calculator: each bond is read, and one with a misspelled cell is a fault of its row."""
+    made = lists.made_lists(words.expected.dice("lists"))
+    found = answers([{"kind": "pasted", "text": text} for _, text, _ in made])
+    wanted = [[list(bond) for bond in bonds] for _, _, bonds in made]
+    same(found, wanted, [text for _, text, _ in made])
+    tables = [(text, bonds) for source, text, bonds in made if source == "TreasuryDirect" and len(bonds) > 2]
+    for cell, other, column in (("\t$", "\t$6", "denom"), ("/20", "/13/20", "issued"), ("\tEE\t", "\tI\t", "series")):
+        changed = [misspelled(text, cell, other) for text, _ in tables]
+        same(answers([{"kind": "pasted", "text": text} for text, _ in changed]), [[f"{row} {column}"] for _, row in changed], range(len(changed)))
+    sources = [source for source, _, _ in made]
+    told = f"{sources.count('LibreOffice')} as LibreOffice writes sheets, {sources.count('TreasuryDirect')} with TreasuryDirect's columns"
+    right(f"{len(made)} pasted lists with {sum(map(len, wanted))} bonds: {told}; {3 * len(tables)} misspelled cells are faults of their row")
+    if "LibreOffice" not in sources:
+        print("not run: lists of sheets, since LibreOffice isn't there", flush=True)
+    wrong_is_seen("a list with one bond more", lambda: same(found, [[*wanted[0], wanted[0][0]], *wanted[1:]], range(len(made))))

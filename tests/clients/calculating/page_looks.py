@@ -1,4 +1,5 @@
 """How the page looks and reads: 320 pixels, 200 % zoom, paper, names and contrast, and the pictures of docs/pictures."""
+import datetime
 import subprocess
 import tempfile
 import time
@@ -8,6 +9,7 @@ from PIL import Image
 
 import data
 from page import Page
+from page_uses import put
 from serving import on_disk, variant
 from telling import right, wrong_is_seen
 
@@ -35,11 +37,31 @@ CUT = """
 """
 
 
+# Words that are broken over two lines, in dialogs and in what the page understood of a pasted text.
+BROKEN = """
+    const texts = [];
+    for (const root of document.querySelectorAll("dialog[open], #understood-rows")) {
+        const walker = document.createTreeWalker(root, NodeFilter.SHOW_TEXT);
+        while (walker.nextNode()) if (walker.currentNode.parentNode.checkVisibility()) texts.push(walker.currentNode);
+    }
+    const lines = (node, start, end) => { const range = document.createRange(); range.setStart(node, start); range.setEnd(node, end); return new Set([...range.getClientRects()].map((box) => Math.round(box.top))).size; };
+    return texts.flatMap((node) => [...node.data.matchAll(/\\S+/g)].filter((word) => lines(node, word.index, word.index + word[0].length) > 1).map((word) => word[0]));
+"""
+
+
 def fits(browser):
+    broken = browser.run(BROKEN)
+    assert not broken, broken[:5]
     over, wide = browser.run(OVER)
     assert over <= 0 and not wide, (over, wide)
     cut = browser.run(CUT)
     assert not cut, cut[:5]
+
+
+VALUE_FIRST = """
+    const row = document.querySelector("#table tbody tr"), top = (name) => row.querySelector(`.${name}`).getBoundingClientRect().top;
+    return top("serial") < top("value") && ["denom", "issued", "next", "price"].every((name) => top("value") <= top(name));
+"""
 
 
 def widest(page):
@@ -55,12 +77,17 @@ def narrow(words, browser, site):
     page = Page(browser, site.url)
     page.open_inventory(FILE)
     page.choose_month("2012-02")
-    for width in (320, 640):
+    for width in (320, 360, 640):
         browser.size(width, 800)
         browser.until(lambda: browser.run("return innerWidth") == width, f"a window of {width} pixels", 10)
         browser.run("for (const one of document.querySelectorAll('details')) one.open = true")
+        put(browser, "Serial\tDenom\tIssued\tOwner\tCoowner\nW9999999999EE\t10000\tSeptember 2010\t999999999\t999999998\nC1EE\t50\t5/2010\t7\t\n")
         fits(browser)
+        put(browser, "W9999999999EE\t10000\tSeptember 2010\nC1EE\t50\t5/2010\n")
+        fits(browser)
+        put(browser, "")
         assert browser.run(SMALL) == []
+        assert browser.run(VALUE_FIRST)
         browser.run("document.querySelector('#table .open').click()")
         fits(browser)
         browser.run("document.querySelector('#bond').close()")
@@ -82,6 +109,11 @@ def narrow(words, browser, site):
         browser.size(320, 800)
         browser.until(lambda: browser.run("return innerWidth") <= 500, "a narrow window", 10)
         wrong_is_seen("a page that is 30 letters wide at least", lambda: fits(browser))
+        broken = variant(folder, "words", ("style.css", "  overflow-wrap: normal;", ""), ("style.css", "dialog .small td:last-child {", ".none {"))
+        wrong = Page(browser, on_disk(broken))
+        wrong.open_inventory(FILE)
+        browser.run("document.querySelector('#table .open').click()")
+        wrong_is_seen("a dialog that breaks words and sums", lambda: fits(browser))
     browser.size(1280, 900)
 
 
@@ -94,13 +126,29 @@ def paper(browser):
     return text.split("\f")[:-1]
 
 
+def last_pages(browser, page, counts):
+    """Print inventories of so many bonds. No page may begin with the total or have less than four lines, and the first one has the date."""
+    for count in counts:
+        page.remove_all()
+        page.open_inventory(data.INVENTORY + b"".join(f"C{place + 1}EE,50,2010-05,7,\n".encode() for place in range(count)))
+        page.choose_month("2026-11")
+        time.sleep(0.5)
+        pages = [[line for line in text.splitlines() if line.strip()] for text in paper(browser)]
+        today = datetime.date.today()
+        assert f"Printed {today:%B} {today.day}, {today.year}" in pages[0][2], pages[0][:3]
+        assert all(len(lines) > 3 for lines in pages), (count, [len(lines) for lines in pages])
+        alone = [lines for lines in pages if any(line.startswith("Total") for line in lines) and not any(line.startswith("C") and "EE" in line for line in lines)]
+        assert not alone, (count, alone[0][:4])
+        assert len(page.rows()) == count, "the table has its rows again"
+
+
 def reads_on_paper(browser, serials, total):
     pages = paper(browser)
     text = "\n".join(pages)
     missing = [serial for serial in serials if serial not in text]
     assert not missing, missing[:5]
     assert total in text and "Value of the inventory" in text and "What is proved" in text
-    assert not [word for word in ("Add bonds", "Save the inventory", "Open rates", "Filter", "Choose") if word in text]
+    assert not [word for word in ("Add a list of bonds", "The value of a bond", "Save the inventory", "Open rates", "Filter", "Choose") if word in text]
     with_rows = [page for page in pages if any(serial in page for serial in serials)]
     assert all("Denom" in page and "Final" in page for page in with_rows), "each page has the headings"
     return len(pages)
@@ -116,7 +164,12 @@ def printing(words, browser, site):
     time.sleep(1)
     count = reads_on_paper(browser, [bond[0] for bond in bonds], page.total()[9])
     right(f"{browser.name}: 150 bonds are printed on {count} pages, with headings on each page of rows")
+    counts = (1, 5, 11, 20, *range(27, 33))
+    last_pages(browser, page, counts)
+    right(f"{browser.name}: inventories of {', '.join(map(str, counts))} bonds have the date, and no page with a line or the total alone")
     with tempfile.TemporaryDirectory() as folder:
+        broken = variant(folder, "orphans", ("style.css", "#curve,\n  #about {\n    break-inside: avoid;", "#curve {\n    break-inside: avoid;"), ("calculator.js", "this.foot.prepend(last)", "last"))
+        wrong_is_seen("a page whose total may stand alone", lambda: last_pages(browser, Page(browser, on_disk(broken)), counts))
         broken = variant(folder, "paper", ("style.css", "@media print", "@media speech"))
         wrong = Page(browser, on_disk(broken))
         wrong.open_inventory(data.inventory_file(bonds))
@@ -137,7 +190,7 @@ NAMES = """
     const first = levels.filter((level) => level === 1).length;
     return { fields: fields.length, buttons: buttons.length, jumps: jumps.length, first, twice: ids.length - new Set(ids).size, live, ordered: ordered.length, svgs: svgs.length, untold: untold.map((one) => one.dataset.text), lang: document.documentElement.lang };
 """
-WANTED = {"fields": 0, "buttons": 0, "jumps": 0, "first": 1, "twice": 0, "live": ["told-text"], "ordered": 0, "svgs": 0, "untold": [], "lang": "en"}
+WANTED = {"fields": 0, "buttons": 0, "jumps": 0, "first": 1, "twice": 0, "live": ["told-text", "one-told"], "ordered": 0, "svgs": 0, "untold": [], "lang": "en"}
 CONTRAST = """
     const parts = (text) => text.match(/[0-9.]+/g).map(Number);
     const straight = (c) => (c <= 0.04045 ? c / 12.92 : ((c + 0.055) / 1.055) ** 2.4);
@@ -161,7 +214,7 @@ def least_contrast(browser):
 
 
 def reading(words, browser, site):
-    """Names, headings, one live region, contrast; in Chromium also what a screen reader is given, and the dark scheme."""
+    """Names, headings, live regions, contrast; in Chromium also what a screen reader is given, and the dark scheme."""
     page = Page(browser, site.url)
     page.open_inventory(FILE)
     page.choose_month("2012-02")
@@ -177,7 +230,7 @@ def reading(words, browser, site):
     browser.run("document.querySelector('#bond').close()")
     if browser.name == "Chromium":
         least = min(least, screen_reader(browser))
-    right(f"{browser.name}: each field, button and drawing has a name, headings are in order, one live region; the least contrast of a text is {least:.1f} to 1")
+    right(f"{browser.name}: each field, button and drawing has a name, headings are in order, two live regions; the least contrast of a text is {least:.1f} to 1")
     browser.run("document.querySelector('label[for=serial]').remove()")
     wrong_is_seen("a field without a label", lambda: equal(browser.run(NAMES), WANTED))
 

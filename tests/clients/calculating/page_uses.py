@@ -1,9 +1,11 @@
 """How the page is used: typing and pasting, sorting and filtering, what a bond will be worth, offline, from a disk, by the keyboard alone."""
+import csv
 import tempfile
 import time
 
 import data
 import expected
+import lists
 from page import Page
 from serving import Site, on_disk, variant
 from telling import right, wrong_is_seen
@@ -36,12 +38,15 @@ def typed(browser, url):
     type_bond(browser, "C-0012-EE", "50", "05/2010")
     browser.waits_for("1 bond added")
     assert [row[0] for row in page.rows()] == ["C12EE"] and page.rows()[0][3] == "05/2010"
-    type_bond(browser, "C12EE", "50", "2010-05")
-    browser.waits_for("1 bond already there")
+    for serial, issued in (("C12EE", "2010-05"), ("c12ee", "5/2010"), ("C 12 EE", "May 2010")):
+        type_bond(browser, serial, "50", issued)
+        browser.waits_for("1 bond already there")
+        browser.run("document.querySelector('#told-text').textContent = ''")
     for serial, denom, issued, wanted, field in (
-        ("c12EE", "50", "2010-05", "The column serial has “c12EE”", "serial"),
+        ("12EE", "50", "2010-05", "The column serial has “12EE”", "serial"),
         ("C13EE", "", "2010-05", "", "denom"),
-        ("C13EE", "50", "2010-5", "The column issued has “2010-5”", "issued"),
+        ("C13EE", "50", "5/10", "The column issued has “5/10”", "issued"),
+        ("C13EE", "50", "5/2/2010", "The column issued has “5/2/2010”", "issued"),
         ("C12EE", "75", "2010-05", "(code 31, SerialConflict)", None),
         ("C13EE", "50", "2021-05", "(code 30, NoRate)", None),
     ):
@@ -50,48 +55,133 @@ def typed(browser, url):
         if field is not None and wanted:
             assert browser.run("return document.activeElement.id + document.activeElement.getAttribute('aria-invalid')") == f"{field}true"
     assert len(page.rows()) == 1
+    for count in (1, 2):
+        type_bond(browser, "", "50", "2010-05")
+        browser.waits_for(f"1 bond added. {count + 1} in all")
+    assert [row[0] for row in page.rows()] == ["C12EE", "#1", "#2"], page.rows()
+    browser.click("#save-inventory")
+    saved = browser.saved("inventory.csv")
+    assert saved.endswith(b"#1,50,2010-05,1,\n#2,50,2010-05,1,\n"), saved
+    assert "0 bonds added. 3 bonds already there" in page.open_inventory(saved)
+    assert "1 bond added. 4 in all" in page.open_inventory(HEADER + b"#2,75,2010-05,1,\n")
+    assert [(row[0], row[2]) for row in page.rows()][1:] == [("#1", "50"), ("#2", "50"), ("#3", "75")], page.rows()
 
 
 def typing(words, browser, site):
     """Bonds that are typed: spellings, faults by field, and the register's refusals."""
     typed(browser, site.url)
-    right(f"{browser.name}: typed bonds are read by the counter's spellings; a fault takes the keyboard to its field; a bond is never there twice")
+    right(f"{browser.name}: typed bonds are read by the counter's spellings; a fault takes the keyboard to its field; a bond is never there twice; a bond needs no serial number")
     fails_broken(browser, "a page that takes a bond with another denomination", typed, "sameBond(books.bonds.get(row.serial), row)", "sameBond(row, row)")
 
 
+TREASURY_DIRECT = """Savings Bond Calculator
+Serial #\tSeries\tDenom\tIssue Date\tNext Accrual\tFinal Maturity\tIssue Price\tInterest\tInterest Rate\tValue\tNote
+C15EE\tEE\t$50\t05/2010\t12/2026\t05/2040\t$25.00\t$7.00\t1.40%\t$32.00\t
+NA\tEE\t$1,000\t11/2010\t12/2026\t11/2040\t$500.00\t$7.00\t1.40%\t$507.00\t
+Totals for 2 Bonds\t\t\t\t\t\t$525.00\t$14.00\t\t$539.00
+"""
+# What is pasted; the serial number (or none), dollars and month of each bond; and what the page says about the rest.
 PASTES = (
-    ("C1EE\t50\t2010-05\nC2EE\t75\t05/2011\n", ["C1EE", "C2EE"]),
-    ("Issue date\tSerial number\tDenomination\n2010-05\tC3EE\t50\n", ["C3EE"]),
-    ("serial,denom,issued,owner,coowner\nC4EE,50,2010-05,7,8\n", ["C4EE"]),
-    ("C5EE 50 2010-05\r\n\r\n  C6EE   75  05/2011  \r\n", ["C5EE", "C6EE"]),
-    ('"C7EE"\t" 50 "\t2010-05', ["C7EE"]),
-    ("C8EE;50;2010-05;7", ["C8EE"]),
+    ("C1EE\t50\t2010-05\nC2EE\t75\t05/2011\n", "C1EE 50 2010-05, C2EE 75 2011-05", ""),
+    ("Issue date\tSerial number\tDenomination\n2010-05\tC3EE\t50\n", "C3EE 50 2010-05", "Row 1 names the columns."),
+    ("serial,denom,issued,owner,coowner\nC4EE,50,2010-05,7,8\n", "C4EE 50 2010-05", "Row 1 names the columns."),
+    ("C5EE 50 2010-05\r\n\r\n  C6EE   75  05/2011  \r\n", "C5EE 50 2010-05, C6EE 75 2011-05", ""),
+    ('"C7EE"\t" 50 "\t2010-05', "C7EE 50 2010-05", ""),
+    ("C8EE;50;2010-05;7", "C8EE 50 2010-05", ""),
+    ("c10ee\t$50\tMay 2010\nC 11 EE\t1,000\t5/2010\nC-12-EE\t50.00\t2010-05-01\nTotal\t$1,100.00\n", "C10EE 50 2010-05, C11EE 1000 2010-05, C12EE 50 2010-05", "Row 4 is no bond: “Total $1,100.00”"),
+    ('Bonds of May\n\nIssue Date,Face Value,Serial No.\n"May 1, 2010","$1,000.00",C13EE\n05/01/10,"10,000",C14EE\n,"$11,000.00",\n', "C13EE 1000 2010-05, C14EE 10000 2010-05", "Row 1 is no bond: “Bonds of May”|Row 2 names the columns.|Row 5 is no bond: “$11,000.00”"),
+    (TREASURY_DIRECT, "C15EE 50 2010-05, none 1000 2010-11", "Row 1 is no bond: “Savings Bond Calculator”|Row 2 names the columns.|Row 5 is no bond: “Totals for 2 Bonds $525.00 $14.00 $539.00”|Not used: the columns Next Accrual, Final Maturity, Issue Price, Interest, Interest Rate, Value."),
+    ("May-10\t$50.00\n1-Nov-2010\t 75 USD\n", "none 50 2010-05, none 75 2010-11", ""),
+    ("1\tC16EE\t2010-05-01 00:00:00\t$ 50\n2\tC17EE\t2010-11-01 00:00:00\t75.\n", "C16EE 50 2010-05, C17EE 75 2010-11", "Not used: the column 1."),
+    ("Owner\tDenomination\tIssued\nMary\t$50\tSaturday, May 01, 2010\n", "none 50 2010-05", "Row 1 names the columns.|Not used: the column Owner."),
+    ("c 18 ee $50 May 2010\nC19EE 1,000 May 1, 2010", "C18EE 50 2010-05, C19EE 1000 2010-05", ""),
 )
-PASTE_FAULTS = (("C9EE\t$50\t2010-05", "(row 1 code 72)"), ("Serial\tDenom\tIssued\nC9EE\t50\t2010-05\nC10EE\t50\t5/2010", "(row 3 code 72)"), ("C9EE\t50", "(row 1 code 71)"), ("C9EE\t50\t2010-05\t7\t8\t9", "(row 1 code 71)"), ("C9EE\t50\t2010-05\nC-9-EE\t50\t2010-05", "(code 13, Repeated)"))
+PASTE_FAULTS = (
+    ("C9EE\t$60\t2010-05", "(row 1 code 72)"),
+    ("Serial\tDenom\tIssued\nC9EE\t50\t2010-05\nC10EE\t50\t5/10", "(row 3 code 72)"),
+    ("C9EE\t50", "The column issued has nothing"),
+    ("C9EE\t50\t05/02/2010", "The column issued has “05/02/2010”"),
+    ("C9EE\t1,0000\t2010-05", "The column denom has “1,0000”"),
+    ("Serial\tSeries\tDenom\tIssued\nC9EE\tI\t50\t2010-05", "must be EE: this page values no other series"),
+    ("C9EE\t50\t2010-05\nC-9-EE\t50\t2010-05", "(code 13, Repeated)"),
+)
+PREVIEW = "return [...document.querySelectorAll('#understood-rows tbody tr')].map((row) => [...row.children].slice(1, 4).map((cell) => cell.textContent));"
+NOTES = "return [...document.querySelectorAll('#understood-notes li')].map((line) => line.textContent);"
 
 
-def paste(browser, text):
-    browser.run("document.querySelector('#paste-form').closest('details').open = true; document.querySelector('#told-text').textContent = ''; document.querySelector('#pasted').value = arguments[0]; document.querySelector('#paste-form').requestSubmit()", text)
+def put(browser, text):
+    """Put a text into the field as pasting does. Return what the page tells."""
+    browser.run("document.querySelector('#paste-form').closest('details').open = true; document.querySelector('#pasted').value = arguments[0]; document.querySelector('#pasted').dispatchEvent(new InputEvent('input', { inputType: 'insertFromPaste' }))", text)
     return browser.told()
+
+
+def add_pasted(browser):
+    browser.run("document.querySelector('#paste-form').requestSubmit()")
+    return browser.told()
+
+
+def as_shown(bonds):
+    """Return what the page shows of bonds as they are written in PASTES."""
+    names = "January February March April May June July August September October November December".split()
+    found = [bond.split() for bond in bonds.split(", ")]
+    return [[serial, f"${int(dollars):,}", f"{names[int(issued[5:]) - 1]} {issued[:4]}"] for serial, dollars, issued in found]
 
 
 def pasted(browser, url):
     page = Page(browser, url)
-    for text, serials in PASTES:
-        told = paste(browser, text)
-        assert told.startswith(f"{len(serials)} bond"), (text, told)
-        assert set(serials) <= {row[0] for row in page.rows()}
-    count = len(page.rows())
+    count = 0
+    for text, bonds, said in PASTES:
+        told, wanted = put(browser, text), as_shown(bonds)
+        assert told.startswith(f"{len(wanted)} bond") and "understood" in told, (text, told)
+        assert browser.run(PREVIEW) == wanted, (text, browser.run(PREVIEW))
+        assert set(browser.run(NOTES)) == {line for line in said.split("|") if line}, (text, browser.run(NOTES))
+        assert len(page.rows()) == count, "nothing is added before it is shown"
+        assert browser.run("return document.querySelector('#paste-add').textContent") == ("Add this bond" if len(wanted) == 1 else f"Add these {len(wanted)} bonds")
+        assert add_pasted(browser).startswith(f"{len(wanted)} bond"), (text, browser.told())
+        count += len(wanted)
+        shown = [[row[2], f"{row[3][3:]}-{row[3][:2]}"] for row in page.rows()]
+        assert len(shown) == count and all(bond.split()[1:] in shown for bond in bonds.split(", ")), (text, page.rows())
+        assert browser.run("return document.querySelector('#pasted').value + document.querySelector('#understood').hidden") == "true"
     for text, wanted in PASTE_FAULTS:
-        told = paste(browser, text)
+        told = put(browser, text)
+        told = told if wanted in told else add_pasted(browser)
         assert wanted in told and len(page.rows()) == count, (text, told)
+    browser.run("document.querySelector('#pasted').value = 'C20EE 50 2010-05'")
+    assert "1 bond understood" in add_pasted(browser) and len(page.rows()) == count, "a text that isn't shown yet is shown first"
+    of_a_spreadsheet(page, browser, count)
+
+
+def of_a_spreadsheet(page, browser, count):
+    """A CSV file that a spreadsheet wrote: the fault that the counter names, and below it what the page understood."""
+    told = page.open_inventory(b'Serial,Denomination,Issue date\nC21EE,"$1,000.00",May-10\n')
+    assert "(row 1 code 70)" in told and browser.run(PREVIEW) == [["C21EE", "$1,000", "May 2010"]], told
+    assert "read the file as a list of a spreadsheet" in browser.run("return document.querySelector('#told-list').textContent")
+    assert add_pasted(browser).startswith("1 bond added") and len(page.rows()) == count + 1
 
 
 def pasting(words, browser, site):
-    """Columns of a spreadsheet: tabs, headings in any order, commas, spaces; faults by row."""
+    """Columns of a spreadsheet, in the spellings that spreadsheets write: what the page understands is shown before it is added."""
     pasted(browser, site.url)
-    right(f"{browser.name}: {len(PASTES)} ways of pasting are read, and {len(PASTE_FAULTS)} faults named by row and code")
-    fails_broken(browser, "a page that keeps spaces around cells", pasted, '(cell ?? "").trim()', '(cell ?? "")')
+    right(f"{browser.name}: {len(PASTES)} pasted lists are understood, shown and then added; {len(PASTE_FAULTS)} faults are named")
+    fails_broken(browser, "a page that adds without showing first", pasted, "return understand();", "{ understand(); addRows(shown.read); return undefined; }")
+
+
+def understood_lists(browser, url, made):
+    page = Page(browser, url)
+    for source, text, bonds in made:
+        page.remove_all()
+        assert put(browser, text).startswith(f"{len(bonds)} bond"), (source, text, browser.told())
+        add_pasted(browser)
+        shown = sorted((row[0] if row[0][0] != "#" else "", int(row[2]), row[3]) for row in page.rows())
+        assert shown == sorted((serial, dollars, f"{issued % 12 + 1:02}/{issued // 12}") for serial, dollars, issued in bonds), (source, text, shown)
+
+
+def lists_pasted(words, browser, site):
+    """Lists of sheets and of TreasuryDirect's calculator, pasted into the page: what it shows, and what it adds."""
+    made = lists.made_lists(words.expected.dice("lists pasted"), 20, 10)
+    understood_lists(browser, site.url, made)
+    right(f"{browser.name}: {len(made)} lists of sheets and of TreasuryDirect's calculator are understood and added")
+    fails_broken(browser, "a page that reads no cents of a denomination", lambda at, url: understood_lists(at, url, made), r"(?:\.0{0,2})?(?: ?USD", "(?: ?USD")
 
 
 def shown_serials(page):
@@ -148,6 +238,95 @@ def sorting(words, browser, site):
     sorted_and_filtered(browser, site.url, rates, bonds)
     right(f"{browser.name}: {len(bonds)} bonds sorted by 10 columns both ways, and by each note; totals are of the shown rows")
     fails_broken(browser, "a page that sorts one way alone", lambda at, url: sorted_and_filtered(at, url, rates, bonds), "is_falling ? -1 : 1", "is_falling ? 1 : 1")
+
+
+ONE = "return [document.querySelector('#one-value').textContent, document.querySelector('#one-words').textContent];"
+
+
+def set_field(browser, name, text):
+    browser.run("const field = document.querySelector(`#${arguments[0]}`); field.value = arguments[1]; field.dispatchEvent(new Event('input', { bubbles: true }))", name, text)
+
+
+def units():
+    """Return the published cents of a 25-dollar unit by issue month and month."""
+    with open(expected.PUBLISHED / "published-values.csv", newline="") as file:
+        return {(row["issued"], row["redeemed"]): int(row["unit_cents"]) for row in csv.DictReader(file)}
+
+
+def valued_at_once(browser, url):
+    page, published = Page(browser, url), units()
+    page.choose_month("2012-02")
+    assert browser.run(ONE)[0] == "" and "Choose a denomination" in browser.run(ONE)[1]
+    for denom, issued, text in ((500, "2010-05", "May 2010"), (50, "2006-03", "3/2006"), (10000, "2005-05", "2005-05-01")):
+        set_field(browser, "denom", str(denom))
+        set_field(browser, "issued", text)
+        cents = published[issued, "2012-02"] * denom // 25
+        value, words = browser.run(ONE)
+        assert value == f"${cents // 100:,}.{cents % 100:02}" and f"A ${denom:,} bond issued in" in words and "in February 2012" in words, (value, words)
+    page.choose_month("Nov 2011")
+    assert browser.run(ONE)[0] == f"${published['2005-05', '2011-11'] * 400 / 100:,.2f}"
+    set_field(browser, "issued", "May 2021")
+    assert browser.run(ONE)[0] == "" and "There is no rate for bonds issued in May 2021" in browser.run(ONE)[1]
+    set_field(browser, "issued", "May 2011")
+    assert "Note NE: under 12 months" in browser.run(ONE)[1] and page.rows() == []
+    above = "const top = (one) => one.getBoundingClientRect().top; const [first, ...others] = document.querySelectorAll('main > section'); return first.id === 'one' && others.every((one) => !one.checkVisibility() || top(one) > top(first)) && document.querySelector('#one-words').getBoundingClientRect().bottom < innerHeight;"
+    for width, height in ((1440, 900), (1024, 768), (768, 1024), (360, 640)):
+        browser.size(width, height)
+        browser.run("document.querySelector('#told-close').click(); scrollTo(0, 0)")
+        assert browser.run(above), f"the value is above everything else in a window of {width} by {height}"
+    browser.size(1280, 900)
+
+
+def at_once(words, browser, site):
+    """A value at once: the denomination and the issue month, above everything else, and nothing pressed."""
+    valued_at_once(browser, site.url)
+    right(f"{browser.name}: the published values of three bonds are shown as they are typed, above everything else from 360 to 1440 pixels")
+    fails_broken(browser, "a page that shows a value only when a bond is added", valued_at_once, 'addEventListener("input", showOne)', 'addEventListener("reset", showOne)')
+
+
+def earned(browser, url):
+    page, published = Page(browser, url), units()
+    page.open_inventory(HEADER + b"C1EE,500,2010-05,7,\nC2EE,50,2006-03,7,\nC3EE,100,2012-01,7,\n")
+    sums = "return Object.fromEntries([...document.querySelectorAll('#sums dt')].map((one) => [one.textContent, one.nextSibling.textContent]));"
+    for month, december, year, said in (("2012-02", "2011-12", 2012, "from January to February"), ("2011-12", "2010-12", 2011, "from January to December"), ("2012-01", "2011-12", 2012, "in January")):
+        page.choose_month(month)
+        cents = sum((published.get((issued, month), price) - published.get((issued, december), price)) * dollars // 25 for issued, dollars, price in (("2010-05", 500, 1250), ("2006-03", 50, 1250)))
+        assert browser.run(sums)[f"Interest of {year}"] == f"${cents / 100:,.2f}, {said}", (month, cents, browser.run(sums))
+
+
+def year(words, browser, site):
+    """The interest of the value month's year, by the published values."""
+    earned(browser, site.url)
+    right(f"{browser.name}: the interest of the year is what the published values say, for a bond that wasn't issued in December too")
+    fails_broken(browser, "a page that begins the year in January", earned, "Math.floor(state.month / 12) - 1", "Math.floor(state.month / 12)")
+
+
+def with_clock(folder, name, time, *changes):
+    """Return a copy of the page on a device whose clock says so."""
+    made = variant(folder, name, *changes, ("index.html", '<script src="calculator.js" defer>', '<script src="clock.js" defer></script><script src="calculator.js" defer>'))
+    script = f"const Real = Date; window.Date = class extends Real {{ constructor(...given) {{ super(...(given.length === 0 ? [{time!r}] : given)); }} }};"
+    (made / "clock.js").write_text(script)
+    return on_disk(made)
+
+
+def told_of_clocks(browser, make):
+    for clock, said, month in (("1970-01-01T12:00:00", "January 1970", "2020-11"), ("2004-03-01T12:00:00", "March 2004", "2020-11"), ("2205-07-01T12:00:00", "July 2205", "2199-12")):
+        page = Page(browser, make(clock))
+        assert f"clock says {said}, which can't be right" in browser.told(), browser.told()
+        assert browser.run("return document.querySelector('#month').value") == month
+        assert "1 bond added" in page.open_inventory(HEADER + b"C1EE,50,2010-05,7,\n"), browser.told()
+    Page(browser, make("2026-11-28T12:00:00"))
+    assert browser.told() == "" and browser.run("return document.querySelector('#month').value") == "2026-11"
+
+
+def clocks(words, browser, site):
+    """A device whose clock is wrong: the page says so, and bonds are valued."""
+    with tempfile.TemporaryDirectory() as folder:
+        told_of_clocks(browser, lambda time: with_clock(folder, time[:4], time))
+        right(f"{browser.name}: clocks of 1970, 2004 and 2205 are named as wrong, and that of 2026 isn't")
+        browser.patience = 8
+        change = ("calculator.js", "!== said)", "=== null)")
+        wrong_is_seen("a page that takes any clock", lambda: told_of_clocks(browser, lambda time: with_clock(folder, f"untold {time[:4]}", time, change)))
 
 
 def looked_ahead(browser, url):
@@ -234,33 +413,6 @@ def disk(words, browser, site):
         wrong_is_seen(f"a page whose script {fault}", starts)
 
 
-def keeps(browser, url):
-    page = Page(browser, url)
-    assert browser.run("return Object.keys(localStorage).length") == 0
-    page.open_rates(BY_HAND, alone=False)
-    page.open_inventory(HEADER + b"C1EE,50,2010-05,7,8\n")
-    page.choose_month("2030-06")
-    browser.reload()
-    browser.ready()
-    assert page.rows() == []
-    page.open_rates(BY_HAND, alone=False)
-    page.open_inventory(HEADER + b"C1EE,50,2010-05,7,8\n")
-    page.choose_month("2030-06")
-    browser.click("#keep")
-    browser.reload()
-    browser.ready()
-    assert page.rows()[0][9] == "50.14", page.rows()
-    browser.click("#keep")
-    assert browser.run("return Object.keys(localStorage).length") == 0
-
-
-def kept(words, browser, site):
-    """What the browser keeps, if it is asked to; and nothing else."""
-    keeps(browser, site.url)
-    right(f"{browser.name}: bonds, rates and month outlive a reload if the box is ticked, and leave the browser when it isn't")
-    fails_broken(browser, "a page that keeps them all the same", keeps, "localStorage.removeItem(KEY)", "localStorage.length")
-
-
 INTERACTIVE = """
     const shown = (one) => one.checkVisibility() && one.closest("details:not([open])") === null;
     const all = [...document.querySelectorAll("main a, main button, main input, main select, main textarea, main summary")];
@@ -299,13 +451,13 @@ def back_to(browser, selector, most=60):
 
 
 def typed_by_tabs(browser, serial):
-    """Add a 500-dollar bond of May 2010 from the field of the serial number on."""
+    """Add a 500-dollar bond of May 2010 from the denomination on; a second one from the serial number on."""
+    if browser.has_keyboard("#denom"):
+        browser.type_keys("$500")
+        browser.key("Tab")
+        browser.type_keys("May 2010")
+        browser.key("Tab")
     browser.type_keys(serial)
-    browser.key("Tab")
-    browser.type_keys("$500")
-    browser.key("Tab")
-    browser.run("document.activeElement.select()")
-    browser.type_keys("05/2010")
     browser.key("Enter")
     browser.waits_for("1 bond added")
     assert browser.has_keyboard("#serial")
@@ -329,10 +481,10 @@ def keyboard(words, browser, site):
     browser.key("Tab")
     assert browser.has_keyboard(".skip"), "the first Tab offers to skip"
     browser.key("Enter")
-    browser.tab_to("#serial")
+    browser.tab_to("#denom", 1 + 1)
     for serial in ("C-12-EE", "C13EE"):
         typed_by_tabs(browser, serial)
-    back_to(browser, "#month")
+    browser.tab_to("#month")
     browser.run("document.activeElement.select()")
     browser.type_keys("2012-02")
     browser.key("Enter")
