@@ -6,7 +6,7 @@
 
 ghost use Rattle.std.specs.Prelude.{◌≡◌, ◌+◌, ◌^◌, ◌%◌, ◌<◌, ◌≤◌, ◌↔◌, ◌≢◌, length, IsTrue, IfOk, IfErr, OnOk, MatchOption};
 ghost use Rattle.sqlite_wal.specs.Format.{part, be32, IsSigned};
-ghost use Rattle.sqlite_wal.specs.Recovery.{frame_at, frames_len as wal_len, header, AreFramesOf};
+ghost use Rattle.sqlite_wal.specs.Recovery.{frame_at, frames_len as wal_len, header};
 ghost use Rattle.sqlite_wal.specs.Reads.{IsClean, AreClean, OnlyReads};
 ghost use Rattle.sqlite_wal.specs.PageSize.{bytes_of};
 ghost use Rattle.sqlite_pool.specs.Stored.{sum_bytes};
@@ -80,7 +80,7 @@ fn read_header<D: Disk>(log: &mut D) -> io::Result<Option<[u8; 32]>>
     }
 }
 
-/// The length of so many frames.
+/// The length of `frames` frames with their headers.
 fn frames_len(page_size: usize, frames: usize) -> usize
     requires size { page_size ≤ 65536 }
     requires few { frames ≤ 0xffff_ffff }
@@ -241,7 +241,7 @@ fn is_replaced(numbers: &[u32], i: usize) -> bool
     false
 }
 
-/// The number of pages of the database after so many frames.
+/// The number of pages of the database after the first `frames` frames.
 fn size_after<D: Disk>(log: &mut D, size: PageSize, frames: usize) -> io::Result<u32>
     requires usable { IsTrue (D.Disk.is_usable log.old) }
     requires few { frames ≤ 0xffff_ffff }
