@@ -105,7 +105,7 @@ def leaves(browser, url):
 
 
 def unreadable(words, browser, site):
-    """What an earlier visit kept and can't be read: the page says so, leaves it, and replaces it only if it is told to."""
+    """What an earlier visit kept and can't be read: the page says so, leaves it, and replaces it only after a question."""
     leaves(browser, site.url)
     right(f"{browser.name}: three kept records that can't be read stay byte for byte, and are saved as a file, until the page may replace them")
     fails_broken(browser, "a page that keeps over what it can't read", leaves, "stop(TEXTS.kept_unreadable(failure.message))", "is_on = true, base = { ...base, version: record.version }, tellFault(TEXTS.kept_unreadable(failure.message))")

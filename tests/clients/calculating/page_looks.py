@@ -127,7 +127,7 @@ def paper(browser):
 
 
 def last_pages(browser, page, counts):
-    """Print inventories of so many bonds. No page may begin with the total or have less than four lines, and the first one has the date."""
+    """Prints inventories of different lengths. No page may begin with the total or have less than four lines, and the first one has the date."""
     for count in counts:
         page.remove_all()
         page.open_inventory(data.INVENTORY + b"".join(f"C{place + 1}EE,50,2010-05,7,\n".encode() for place in range(count)))

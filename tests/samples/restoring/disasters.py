@@ -298,7 +298,7 @@ def witness(place):
 
 
 def full_disk(place):
-    """The archive's disk fills up while requests come: the second folder goes on, and both are whole once there is room. A folder that isn't there is told once."""
+    """The archive's disk fills up while requests come: the second folder goes on, and both are whole once there is room. The archiver names a missing folder once."""
     store, archive = os.path.join(place.new("day"), "day.db"), place.new("archive")
     second, third = place.new("second"), place.new("third")
     run("mount", "-t", "tmpfs", "-o", "size=64k", "tmpfs", archive)
