@@ -16,7 +16,7 @@ use Rattle.ee_desk_model.specs.Sound.{IsSound, IsRightBond}
 use Rattle.ee_desk_model.specs.PlainBooks.{PlainBooks}
 use Rattle.ee_desk_model.specs.Queries.{PlainRow, shown_in_row, row_of, plain_row, is_open_bond, bonds_of}
 use Rattle.ee_desk_model.proofs.Lemmas.Maps.{serials_total, serials_exact}
-use Rattle.ee_desk_soundness.proofs.Lemmas.{all_entries}
+use Rattle.ee_desk_decide.proofs.Lemmas.{all_entries}
 
 abbrev IsRated : FinMap nat_cmp Rates → Bond → Type 0
 IsRated rates bond = IsSome (finite.get rates (period_start bond.issued))

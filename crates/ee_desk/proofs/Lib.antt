@@ -1,14 +1,11 @@
 mod Outcomes
 mod Added
 mod Registered
-mod Picked
+mod HeldBonds
 mod Counts
 mod Applied
-mod Deciding
 mod Ordered
 mod OwnBonds
 mod Batches
-mod SheetRows
 mod EveryRow
 mod AsParts
-pub mod Lemmas

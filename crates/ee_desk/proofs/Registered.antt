@@ -17,9 +17,10 @@ use Rattle.ee_desk_model.proofs.Lemmas.Maps.{serials_total, serials_exact, get_l
 use Rattle.std.proofs.lemmas.Map.Views.{tells_apart}
 use Rattle.ee_desk_soundness.proofs.Lemmas.{get_held_bond}
 use Rattle.ee_desk_soundness.specs.Marks.{bonds_held, held_at, AreMarked}
-use Rattle.ee_desk.specs.Kept.{held_in}
-use Rattle.ee_desk.specs.Added.{held_row, bond_row, with_row, with_changes, AreNew}
-use Rattle.ee_desk.specs.Applicable.{IsUnpaid}
+use Rattle.ee_desk_decide.specs.Noted.{held_in}
+use Rattle.ee_desk.specs.Added.{held_row, with_changes}
+use Rattle.ee_desk_decide.specs.NewRows.{bond_row, with_row, AreNew}
+use Rattle.ee_desk_decide.specs.Applicable.{IsUnpaid}
 
 abbrev bond_of : Held → Bond
 bond_of held = held.bond

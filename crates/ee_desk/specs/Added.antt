@@ -1,32 +1,15 @@
--- Rows that changes add to a map, and that are removed again.
-use Rattle.std.specs.Prelude.{◌≡◌, ◌||◌, ℕ, Bool, false, List, [], ◌∷◌, Option, Some, None, IfSome, ⊤}
+-- Rows of changes in a map in memory: added one after another or in two turns, and removed again.
+use Rattle.std.specs.Prelude.{◌≡◌, ◌||◌, Bool, false, List, [], ◌∷◌, Option, Some, None}
 use Rattle.std.specs.Option.{option_map_or}
 use Rattle.std.specs.Ordering.{eq_by_cmp}
 use Rattle.std.specs.declared.cmp.Ordering.{Ordering}
 use Rattle.std.specs.FinMap as finite
 use Rattle.std.specs.FinMap.{FinMap}
 use Rattle.ee_units.specs.Spelling.{SerialNumber}
-use Rattle.ee_value.specs.declared.rates.Rates.{Rates}
-use Rattle.ee_calculator.specs.declared.bonds.Bond.{Bond}
 use Rattle.ee_desk_model.specs.declared.changes.Held.{Held}
 use Rattle.ee_desk_model.specs.declared.changes.Change.{Change}
 use Rattle.ee_desk_model.specs.declared.changes.Change.TheVariants as change
-
--- the row that a change adds to the rates
-abbrev pub rate_row : Change → Option (ℕ × Rates)
-rate_row (change.Rates from rates) = Some (from, rates)
-rate_row (change.Bond bond) = None
-rate_row (change.Day day) = None
-rate_row (change.Ticket ticket) = None
-rate_row (change.Batch batch) = None
-
--- the row that a change adds to the bonds
-abbrev pub bond_row : Change → Option (SerialNumber × Bond)
-bond_row (change.Rates from rates) = None
-bond_row (change.Bond bond) = Some (bond.serial, bond)
-bond_row (change.Day day) = None
-bond_row (change.Ticket ticket) = None
-bond_row (change.Batch batch) = None
+use Rattle.ee_desk_decide.specs.NewRows.{with_row}
 
 -- the row that a change adds to the bonds in memory
 abbrev pub held_row : Change → Option (SerialNumber × Held)
@@ -35,10 +18,6 @@ held_row (change.Bond bond) = Some (bond.serial, record { bond = bond; ticket = 
 held_row (change.Day day) = None
 held_row (change.Ticket ticket) = None
 held_row (change.Batch batch) = None
-
-abbrev pub with_row : {K V : Type 0} {R : K → K → Ordering} → FinMap R V → Option (K × V) → FinMap R V
-with_row found None = found
-with_row found (Some row) = finite.insert found row.0 row.1
 
 abbrev pub without_row : {K V : Type 0} {R : K → K → Ordering} → FinMap R V → Option (K × V) → FinMap R V
 without_row found None = found
@@ -51,11 +30,6 @@ with_changes row found (c ∷ cs) = with_changes row (with_row found (row c)) cs
 abbrev pub without_changes : {K V : Type 0} {R : K → K → Ordering} → (Change → Option (K × V)) → FinMap R V → List Change → FinMap R V
 without_changes row found [] = found
 without_changes row found (c ∷ cs) = without_changes row (without_row found (row c)) cs
-
--- each key is new, also after the changes before it
-abbrev pub AreNew : {K V : Type 0} {R : K → K → Ordering} → (Change → Option (K × V)) → FinMap R V → List Change → Type 0
-AreNew row found [] = ⊤
-AreNew row found (c ∷ cs) = IfSome (row c) (λ r. finite.get found r.0 ≡ None) × AreNew row (with_row found (row c)) cs
 
 -- ---- in two turns
 

@@ -1,8 +1,9 @@
 //! Adding rows to a map, all or none.
 
 ghost use Rattle.std.specs.Prelude.{◌≡◌, drop, OnOk, OnErr};
-ghost use Rattle.ee_desk.specs.Kept.{rates_in, held_in};
-ghost use Rattle.ee_desk.specs.Added.{rate_row, held_row, with_row, without_row, with_changes, without_changes, every_second, AgreeBeside, AreNew};
+ghost use Rattle.ee_desk_decide.specs.Noted.{rates_in, held_in};
+ghost use Rattle.ee_desk_decide.specs.NewRows.{rate_row, with_row, AreNew};
+ghost use Rattle.ee_desk.specs.Added.{held_row, without_row, with_changes, without_changes, every_second, AgreeBeside};
 
 use ee_desk_model::{Change, Held, Terms, UnitTables};
 use ee_units::{IssueMonth, Serial};

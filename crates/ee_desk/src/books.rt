@@ -15,9 +15,8 @@ ghost use Rattle.ee_desk_soundness.specs.Parts.{parts_of, AreUnsound};
 
 use crate::ledger::Ledger;
 use crate::seeing;
-use crate::sheets::{quote, rows_of};
 use ee_calculator::{Bond, Row, Sheet, sheet};
-use ee_desk_decide::{View, decide};
+use ee_desk_decide::{View, decide, quote, rows_of};
 use ee_desk_model::{Act, Batch, Effects, Reply, Ticket, in_range};
 use ee_desk_soundness::{Parts, PartsFault, checked};
 use ee_units::calendar::period_of;

@@ -11,9 +11,11 @@ ghost use Rattle.ee_desk_model.specs.Queries.{ticket_numbered, batch_on, bonds_o
 ghost use Rattle.ee_desk_model.specs.declared.changes.Change.TheVariants as change;
 ghost use Rattle.ee_desk_soundness.specs.Parts.{parts_of};
 ghost use Rattle.ee_desk_soundness.specs.Marks.{AreMarked};
-ghost use Rattle.ee_desk.specs.Kept.{books_of, rates_in, AreCounts, AreKeyed};
-ghost use Rattle.ee_desk.specs.Added.{rate_row, bond_row, with_changes, AreNew};
-ghost use Rattle.ee_desk.specs.Applicable.{IsUnpaid, IsNextTicket, AreApplicable};
+ghost use Rattle.ee_desk.specs.Kept.{books_of, AreCounts, AreKeyed};
+ghost use Rattle.ee_desk_decide.specs.Noted.{rates_in};
+ghost use Rattle.ee_desk_decide.specs.NewRows.{rate_row, bond_row, AreNew};
+ghost use Rattle.ee_desk.specs.Added.{with_changes};
+ghost use Rattle.ee_desk_decide.specs.Applicable.{IsUnpaid, IsNextTicket, AreApplicable};
 
 use crate::additions::{add_bonds, add_rates};
 use crate::queries;

@@ -8,12 +8,13 @@ ghost use Rattle.ee_units.specs.Calendar.{period_start};
 ghost use Rattle.ee_desk_model.specs.Seen.{held_of};
 ghost use Rattle.ee_desk_model.specs.Views as is;
 ghost use Rattle.ee_desk_model.specs.Views.{picked, period_of_held};
-ghost use Rattle.ee_desk.specs.Kept.{rates_in, held_in, noted, noted_at, AreCounts};
+ghost use Rattle.ee_desk_decide.specs.Noted.{rates_in, held_in, noted, noted_at};
+ghost use Rattle.ee_desk.specs.Kept.{AreCounts};
 ghost use Rattle.ee_desk_model.specs.Limits.{highest_ticket};
 
 use crate::ledger::Ledger;
 use ee_calculator::Bond;
-use ee_desk_decide::{DayCounts, View, ViewParts, length_refusal};
+use ee_desk_decide::{DayCounts, View, ViewParts, length_refusal, note_bond};
 use ee_desk_model::{Act, Held, RateRow, Terms};
 use ee_units::calendar::period_of;
 use ee_units::{IssueMonth, Serial};
@@ -48,20 +49,6 @@ fn note_rate_of(
         Some(held) => note_rate(found, ledger, period_of(held.bond.issued)),
         None => Ok(()),
     }
-}
-
-/// Notes a registered bond, and the ticket that paid it. Fails only if memory is refused.
-pub fn note_bond(
-    found: &mut BTreeMap<Serial, Held>,
-    serial: Serial,
-    held: &Held,
-) -> Result<(), AllocError>
-    ensures { OnOk result (held_in found.new.entries ≡ finite.insert (held_in found.old.entries) serial held.now) }
-{
-    let bond = held.bond;
-    let ticket = held.ticket;
-    found.insert(serial, Held { bond, ticket })?;
-    Ok(())
 }
 
 /// Notes the entry of a serial number, if it is registered.

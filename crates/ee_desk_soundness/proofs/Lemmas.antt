@@ -1,9 +1,7 @@
 -- Lemmas that the proofs of crates above use.
-use Rattle.std.proofs.Common.{Bool, List, None, [], map, ℕ, ◌++◌, ◌||◌, ◌∷◌, ◌≡◌}
-use Rattle.std.specs.Prelude.{T}
+use Rattle.std.proofs.Common.{List, None, [], map, ℕ, ◌++◌, ◌∷◌, ◌≡◌}
 use Rattle.std.specs.Cmp.{IsTotalOrder}
-use Rattle.std.specs.FinMap.{FinMap, find}
-use Rattle.std.specs.FinMap.Entries.{below_all}
+use Rattle.std.specs.FinMap.{FinMap}
 use Rattle.std.specs.List.{AllByRecursion, list_any}
 use Rattle.std.specs.Option.{IfSome, option_map}
 use Rattle.std.specs.declared.cmp.Ordering.{Ordering}
@@ -23,7 +21,6 @@ use Rattle.std.specs.FinMap as finite
 use Rattle.ee_desk_soundness.proofs.PaidMarks
 use Rattle.ee_desk_soundness.proofs.SortedRows
 use Rattle.ee_desk_soundness.proofs.SoundParts
-use Rattle.ee_desk_soundness.proofs.Walks
 
 -- ---- bonds and their tickets
 -- the bond of a serial number is that which is held of it
@@ -49,25 +46,11 @@ pub books_of-made : (parts : Parts) (terms : List (ℕ × Rates)) (held : List (
     (record { rates = finite.from_entries terms; bonds = bonds_held held; day = parts.day; last_day = parts.last_day; tickets = parts.tickets; batches = parts.batches }) (books_of parts)
 books_of-made = SoundParts.books_made
 
--- ---- lists
--- one element more: the test finds it, or another
-pub list_any_push : {A : Type 0} (p : A → Bool) (xs : List A) (y : A) → list_any p (xs ++ y ∷ []) ≡ (p y || list_any p xs)
-list_any_push = Walks.any_push
-
 -- ---- finite maps
--- what each value has that is found, each entry has
-pub all_entries : {K V : Type 0} {R : K → K → Ordering} (o : IsTotalOrder R) (exact : CmpEqualImpliesEq R) (P : K → V → Type 0) (m : FinMap R V)
-    → ((q : K) → IfSome (finite.get m q) (P q)) → AllByRecursion (λ e. P e.0 e.1) (finite.entries m)
-all_entries = SortedRows.all_entries
-
 -- what each entry has, each value has that is found
 pub get_all : {K V : Type 0} {R : K → K → Ordering} (o : IsTotalOrder R) (exact : CmpEqualImpliesEq R) (P : K → V → Type 0) (es : List (K × V))
     → AllByRecursion (λ e. P e.0 e.1) es → (q : K) → IfSome (finite.get (finite.from_entries {R = R} es) q) (P q)
 get_all = SortedRows.get_all
-
--- if a key comes before all entries, nothing is found at it
-pub none_below : {K V : Type 0} (R : K → K → Ordering) (q : K) (es : List (K × V)) → T (below_all R q es) → find R q es ≡ None
-none_below = SortedRows.none_below
 
 -- the map of a map's entries is the map
 pub map_of_entries : {K V : Type 0} (R : K → K → Ordering) → IsTotalOrder R → CmpEqualImpliesEq R → (m : FinMap R V)

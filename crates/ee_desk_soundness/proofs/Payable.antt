@@ -11,7 +11,8 @@ use Rattle.ee_desk_model.specs.PlainBooks.{ticket_of}
 use Rattle.ee_desk_model.specs.Paid.{paid_lines}
 use Rattle.ee_desk_model.proofs.Lemmas.Maps.{same_serial-swap}
 use Rattle.ee_desk_soundness.specs.Marks.{held_at, marked, IsFree, ArePayable, AreMarked}
-use Rattle.ee_desk_soundness.proofs.Walks.{left_is, taken_is, any_push}
+use Rattle.ee_desk_decide.proofs.Lemmas.{list_any_push}
+use Rattle.ee_desk_soundness.proofs.Walks.{left_is, taken_is}
 use Rattle.ee_desk_soundness.proofs.PaidMarks.{ticket_kept}
 
 abbrev Entries : Type 0
@@ -113,4 +114,4 @@ marks_next start es fs lines i line n h is new old q =
     new q ∙ ap (option_map (marked (same_serial q line.serial) n)) (old q)
     ∙ marked_both (same_serial q line.serial) (list_any (λ l. same_serial q l.serial) (take i lines)) n (held_at start q)
     ∙ ap (λ b. option_map (marked b n) (held_at start q))
-    (sym (ap (list_any (λ l. same_serial q l.serial)) (taken_is lines i line h is) ∙ any_push (λ (l : Line). same_serial q l.serial) (take i lines) line))
+    (sym (ap (list_any (λ l. same_serial q l.serial)) (taken_is lines i line h is) ∙ list_any_push (λ (l : Line). same_serial q l.serial) (take i lines) line))

@@ -35,7 +35,8 @@ use Rattle.ee_desk_soundness.specs.Marks.{bonds_held, held_at, unpaid, IsFree, A
 use Rattle.ee_desk_soundness.specs.Days.{days_of, counts_at, counts_on, counts_in, no_counts, AreCounted, IsCounted, IsSmall}
 use Rattle.ee_desk_soundness.proofs.InOrder.{in_order_map}
 use Rattle.ee_desk_soundness.proofs.Entries.{less_is}
-use Rattle.ee_desk_soundness.proofs.SortedRows.{entries_rise, entries_are, map_of_entries, all_entries, all_rows, get_all, less_below}
+use Rattle.ee_desk_decide.proofs.Lemmas.{all_entries}
+use Rattle.ee_desk_soundness.proofs.SortedRows.{entries_rise, entries_are, map_of_entries, all_rows, get_all, less_below}
 
 -- ---- lists of keys
 keys_of_rows : (rows : List RateRow) → map (λ (e : ℕ × Rates). e.0) (map entry_of_row rows) ≡ map (λ (r : RateRow). r.from) rows

@@ -3,6 +3,8 @@
 //!
 //! It promises one text for each act and reply, and that each text is read back as what it was written for, and
 //! as nothing else. Begin with `specs/Data.antt` for the texts, and `specs/Reading.antt` for reading them.
+//!
+//! It doesn't promise to read other JSON: these texts alone are read, byte for byte.
 #![tactic(auto)]
 
 mod act_reading;

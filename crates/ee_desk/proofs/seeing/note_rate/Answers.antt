@@ -4,7 +4,7 @@ use Rattle.std.specs.FinMap as finite
 use Rattle.std.specs.FinMap.{nat_cmp-IsAntisymmetric}
 use Rattle.std.specs.Cmp.{nat_cmp_total}
 use Rattle.ee_desk_model.proofs.Lemmas.Maps.{map_with_one_more}
-use Rattle.ee_desk.specs.Kept.{rates_in}
+use Rattle.ee_desk_decide.specs.Noted.{rates_in}
 use Rattle.ee_desk.proofs.seeing.note_rate.Goals as goal
 
 pub returns-in_ok-insert : goal.returns-in_ok-insert

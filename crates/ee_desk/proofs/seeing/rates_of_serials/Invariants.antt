@@ -4,7 +4,7 @@ use Rattle.std.specs.List.{filter_map}
 use Rattle.std.specs.FinMap as finite
 use Rattle.ee_desk_model.specs.Seen.{held_of}
 use Rattle.ee_desk_model.specs.Views.{picked, period_of_held}
-use Rattle.ee_desk.specs.Kept.{rates_in}
+use Rattle.ee_desk_decide.specs.Noted.{rates_in}
 use Rattle.ee_desk.proofs.seeing.rates_of_serials.Given as goal
 
 abbrev pub invariant-loop-serial : goal.invariant-loop-serial

@@ -4,7 +4,7 @@ use Rattle.std.specs.Option.{option_map}
 use Rattle.ee_desk_model.specs.Serials.{same_serial}
 use Rattle.ee_desk_model.specs.PlainBooks.{PlainBooks}
 use Rattle.ee_desk_soundness.specs.Marks.{held_at, marked}
-use Rattle.ee_desk.specs.Applicable.{IsNextTicket}
+use Rattle.ee_desk_decide.specs.Applicable.{IsNextTicket}
 use Rattle.ee_desk_soundness.proofs.Lemmas.{marked_with_ticket}
 use Rattle.ee_desk.proofs.Counts.{counts_more}
 use Rattle.ee_desk.proofs.ledger.Ledger.add_ticket.Goals as goal

@@ -1,0 +1,248 @@
+//! A keeper in memory.
+
+ghost use Rattle.std.specs.Prelude.{◌≡◌, [], ◌∷◌, None, IfOk, IfErr, OnOk, OnErr};
+ghost use Rattle.std.specs.FinMap as finite;
+ghost use Rattle.ee_desk_model.specs.Numbers.{number_of};
+ghost use Rattle.ee_desk_model.specs.Outcomes.{act};
+ghost use Rattle.ee_desk_model.specs.Paid.{paid_lines, NoneTwice, ArePaidRight};
+ghost use Rattle.ee_desk_model.specs.Sound.{IsSound};
+ghost use Rattle.ee_desk_model.specs.Conserved.{IsConserved};
+ghost use Rattle.ee_desk_model.specs.Repeats.{nothing};
+ghost use Rattle.ee_desk_model.specs.Contents.{content_after};
+ghost use Rattle.ee_desk_model.specs.Answers.{answer, reply_again};
+ghost use Rattle.ee_desk_model.specs.Queries.{ticket_numbered, batch_on, bonds_of};
+ghost use Rattle.ee_desk.specs.Kept.{kept_in};
+ghost use Rattle.ee_keeper.specs.Keeping.{IsInventory, IsQuote};
+
+use crate::books::Books;
+use ee_calculator::{Bond, Row, Sheet};
+use ee_desk_model::{Act, Batch, Kept, Refusal, Reply, Request, RequestNumber, Ticket, Unserved};
+use ee_keeper::Keeper;
+use ee_units::{Customer, Day, Denom, IssueMonth, Month};
+use std::alloc::{AllocError, Global};
+use std::collections::BTreeMap;
+use std::marker::Model;
+
+/// Books, and the one reply kept for each desk and number, in memory. Never answers `StoreFailed`.
+#[derive(Drop)]
+pub struct ListKeeper {
+    books: Books,
+    kept: BTreeMap<RequestNumber, Kept>,
+}
+
+impl Model for ListKeeper {
+    ghost use Rattle.std.specs.Coded.{codes};
+    ghost use Rattle.std.specs.FinMap as finite;
+    ghost use Rattle.ee_desk_model.specs.Repeats.{Content};
+
+    ghost Value = { Content };
+
+    ghost coded = { Prim.hlevel (codes, finite.code) };
+
+    ghost view = { λ k. record { books = k.books; kept = finite.from_entries k.kept.entries } };
+}
+
+impl ListKeeper {
+    /// A keeper with empty books and no kept replies. Takes no memory.
+    pub fn empty(alloc: Global) -> ListKeeper
+        ensures empty { result ≡ nothing }
+        ensures sound { IsSound result.books }
+    {
+        let books = Books::empty(alloc);
+        books.known();
+        ListKeeper {
+            books,
+            kept: BTreeMap::new(alloc),
+        }
+    }
+
+    /// What holds for the keeper's books at all times: no serial number is paid twice, and each line pays the
+    /// value of its bond in the month of its ticket's day. The batches and the open day together add up to
+    /// what was paid.
+    pub fn known(&self)
+        ensures sound { IsSound self.now.books }
+        ensures once { NoneTwice (paid_lines self.now.books.tickets) }
+        ensures right { ArePaidRight self.now.books }
+        ensures conserved { IsConserved self.now.books }
+    {
+        self.books.known();
+    }
+
+    /// Answers a request, and keeps the reply to a new number together with the effects of its act. A number
+    /// with a kept reply gets that reply if the act is the same, and `NumberReused` otherwise. If memory is
+    /// refused, nothing has changed. Never answers `StoreFailed`.
+    pub fn deliver(&mut self, request: &Request) -> Result<Reply, Unserved>
+        ensures reply { IfOk result (λ r. r ≡ answer self.old [] request.now) }
+        ensures content { OnOk result (self.new ≡ content_after self.old (request.now ∷ [])) }
+        ensures err { OnErr result (self.new ≡ self.old) }
+        ensures memory { IfErr result (λ e. e ≡ Unserved.NoMemory) }
+    {
+        match self.answer(request) {
+            Ok(reply) => Ok(reply),
+            Err(_) => Err(Unserved::NoMemory),
+        }
+    }
+
+    fn answer(&mut self, request: &Request) -> Result<Reply, AllocError>
+        ensures reply { IfOk result (λ r. r ≡ answer self.old [] request.now) }
+        ensures content { OnOk result (self.new ≡ content_after self.old (request.now ∷ [])) }
+        ensures err { OnErr result (self.new ≡ self.old) }
+    {
+        if let Some(kept) = self.kept.get(&request.request_number()) {
+            let reply = reply_again(kept, &request.act)?;
+            return Ok(reply);
+        }
+        self.decide(request)
+    }
+
+    /// Decides a request with a new number, and keeps its reply.
+    fn decide(&mut self, request: &Request) -> Result<Reply, AllocError>
+        requires { finite.get self.old.kept (number_of request.now) ≡ None }
+        ensures reply { IfOk result (λ r. r ≡ (act self.old.books request.now.act).reply) }
+        ensures content { OnOk result (self.new ≡ content_after self.old (request.now ∷ [])) }
+        ensures err { OnErr result (self.new ≡ self.old) }
+    {
+        let effects = self.books.effects_of(&request.act)?;
+        let reply = effects.reply.copy()?;
+        let kept = kept_of(&request.act, &effects.reply)?;
+        let number = request.request_number();
+        keep(&mut self.kept, number, kept)?;
+        match self.books.apply(&effects) {
+            Ok(_) => Ok(reply),
+            Err(_) => {
+                forget(&mut self.kept, number);
+                Err(AllocError)
+            }
+        }
+    }
+}
+
+impl ListKeeper {
+    /// The sheet, in a month, of the unpaid bonds whose owner is this customer, in order of serial number.
+    pub fn inventory(&self, customer: Customer, month: Month) -> Result<Sheet, Unserved>
+        ensures sheet { IfOk result (λ sheet. IsInventory self.now.books customer month sheet) }
+        ensures memory { IfErr result (λ e. e ≡ Unserved.NoMemory) }
+    {
+        Ok(self.books.inventory(customer, month)?)
+    }
+
+    /// The unpaid bonds whose owner is this customer, in order of serial number.
+    pub fn bonds_of(&self, customer: Customer) -> Result<Vec<Bond>, Unserved>
+        ensures bonds { IfOk result (λ bonds. bonds.items ≡ bonds_of self.now.books customer) }
+        ensures memory { IfErr result (λ e. e ≡ Unserved.NoMemory) }
+    {
+        Ok(self.books.bonds_of(customer)?)
+    }
+
+    /// A copy of the ticket with this number, if there is one.
+    pub fn ticket(&self, number: u64) -> Result<Option<Ticket>, Unserved>
+        ensures ticket { IfOk result (λ ticket. ticket ≡ ticket_numbered self.now.books number) }
+        ensures memory { IfErr result (λ e. e ≡ Unserved.NoMemory) }
+    {
+        Ok(self.books.ticket(number)?)
+    }
+
+    /// The batch of a day, if that day is closed.
+    pub fn batch(&self, day: Day) -> Option<Batch>
+        ensures { result ≡ batch_on self.now.books day }
+    {
+        self.books.batch(day)
+    }
+
+    /// The row, in a month, of a bond of this denomination and issue month, registered or not; `None`
+    /// without rates for its issue period.
+    pub fn quote(
+        &self,
+        denom: Denom,
+        issued: IssueMonth,
+        month: Month,
+    ) -> Result<Option<Row>, Unserved>
+        ensures row { IfOk result (λ row. IsQuote self.now.books denom issued month row) }
+        ensures memory { IfErr result (λ e. e ≡ Unserved.NoMemory) }
+    {
+        Ok(self.books.quote(denom, issued, month)?)
+    }
+}
+
+impl Keeper for ListKeeper {
+    ghost use Rattle.std.specs.Prelude.{◌≡◌};
+    ghost use Rattle.ee_desk_model.specs.Sound.{IsSound};
+
+    ghost has = { λ k c. (k ≡ c) × IsSound c.books };
+
+    ghost is_clean = { λ _. Unit {0} };
+
+    ghost may_fail = { ⊥ };
+
+    ghost sound = { λ _ _ has. has.1 };
+
+    fn deliver(&mut self, request: &Request) -> Result<Reply, Unserved> {
+        let answer = ListKeeper::deliver(self, request);
+        self.known();
+        answer
+    }
+
+    fn inventory(&mut self, customer: Customer, month: Month) -> Result<Sheet, Unserved> {
+        ListKeeper::inventory(self, customer, month)
+    }
+
+    fn bonds_of(&mut self, customer: Customer) -> Result<Vec<Bond>, Unserved> {
+        ListKeeper::bonds_of(self, customer)
+    }
+
+    fn ticket(&mut self, number: u64) -> Result<Option<Ticket>, Unserved> {
+        ListKeeper::ticket(self, number)
+    }
+
+    fn batch(&mut self, day: Day) -> Result<Option<Batch>, Unserved> {
+        Ok(ListKeeper::batch(self, day))
+    }
+
+    fn quote(
+        &mut self,
+        denom: Denom,
+        issued: IssueMonth,
+        month: Month,
+    ) -> Result<Option<Row>, Unserved> {
+        ListKeeper::quote(self, denom, issued, month)
+    }
+}
+
+fn kept_of(act: &Act, reply: &Reply) -> Result<Kept, AllocError>
+    ensures { IfOk result (λ k. k ≡ record { act = act.now; reply = reply.now }) }
+{
+    let act = act.copy()?;
+    let reply = reply.copy()?;
+    Ok(Kept { act, reply })
+}
+
+/// Keeps an act and its reply under a number.
+fn keep(
+    kept: &mut BTreeMap<RequestNumber, Kept>,
+    number: RequestNumber,
+    entry: Kept,
+) -> Result<(), AllocError>
+    ensures ok { OnOk result (kept_in kept.new.entries ≡ finite.insert (kept_in kept.old.entries) number entry) }
+    ensures err { OnErr result (kept.new.entries ≡ kept.old.entries) }
+{
+    kept.insert(number, entry)?;
+    Ok(())
+}
+
+/// Removes the entry of a number.
+fn forget(kept: &mut BTreeMap<RequestNumber, Kept>, number: RequestNumber)
+    ensures { kept_in kept.new.entries ≡ finite.remove (kept_in kept.old.entries) number }
+{
+    let _ = kept.remove(&number);
+}
+
+/// The reply to a repeated number.
+fn reply_again(kept: &Kept, again: &Act) -> Result<Reply, AllocError>
+    ensures { IfOk result (λ r. r ≡ reply_again kept.now.act kept.now.reply again.now) }
+{
+    if kept.act.is_same(again) {
+        kept.reply.copy()
+    } else {
+        Ok(Reply::Refused(Refusal::NumberReused))
+    }
+}

@@ -1,5 +1,0 @@
-use Rattle.std.proofs.Common.{rules}
-use Rattle.ee_keeper.proofs.list.ListKeeperKeeper.bonds_of.Goals as goal
-
-pub returns-clause-shows : goal.returns-clause-shows
-returns-clause-shows c = search rules
