@@ -20,7 +20,7 @@ use Rattle.ee_store_load.specs.declared.whole.AllRows.{AllRows}
 use Rattle.ee_store_load.specs.Whole as whole
 use Rattle.ee_store_load.proofs.Lemmas.{one_rows}
 use Rattle.ee_store_books.specs.Standing.{rows_at, rows_of, StandAt}
-use Rattle.ee_store_books.proofs.Lemmas.Contents.{becomes}
+use Rattle.ee_store_contents.proofs.Lemmas.{becomes}
 use Rattle.ee_store_books.specs.Seen.{StandsFor}
 use Rattle.ee_store.proofs.Meeting.{LeavesPresent}
 use Rattle.ee_store.specs.Adopted.{HadContent, HadNone, HasSome, CanMigrate, IsMigrated, KeepsContent, LeavesAsBefore}

@@ -6,7 +6,7 @@ ghost use Rattle.sqlite.specs.State.{HasCleanDisk, IsLive, KeepsCommit, Survives
 ghost use Rattle.ee_desk_model.specs.Repeats.{Content, nothing};
 ghost use Rattle.ee_store_schema.specs.Making.{IsBlank};
 ghost use Rattle.ee_store_load.specs.Whole.{AreInOrder, AreRead};
-ghost use Rattle.ee_store_books.specs.Contents.{KeepsAnswer, tables_for};
+ghost use Rattle.ee_store_contents.specs.Contents.{KeepsAnswer, tables_for};
 ghost use Rattle.ee_store_books.specs.Standing.{StandAt};
 ghost use Rattle.ee_store_schema.specs.Forms.{version_of};
 ghost use Rattle.ee_store_tables.specs.Rows.{Rows};
@@ -31,7 +31,7 @@ ghost use Rattle.ee_store_delivery.specs.Known.{IsInformed};
 
 use crate::keeper::SqlKeeper;
 use ee_desk_model::UnitTables;
-use ee_store_books::{ContentFault, KeptReply, TestedContent, tables_of};
+use ee_store_contents::{ContentFault, KeptReply, TestedContent, tables_of};
 use ee_store_delivery::Known;
 use ee_store_load::{AllRows, is_blank, open_rows};
 use ee_store_schema::{OpenFault, make_tables, migrate};

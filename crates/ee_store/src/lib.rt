@@ -3,6 +3,9 @@
 //! It promises what every keeper promises, and that stops, lost replies and crashes leave books of requests
 //! that were sent, each acting once. Begin with `keeper.rt` and `opening.rt`; `specs/History.antt` has what
 //! holds from run to run.
+//!
+//! It doesn't promise anything once a disk gave wrong bytes as right ones, or while another program writes the
+//! file.
 #![tactic(auto)]
 
 mod adopting;

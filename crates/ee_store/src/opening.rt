@@ -1,6 +1,6 @@
 //! Opening a store in a file.
 
-ghost use Rattle.std.specs.Prelude.{◌≡◌, ◌⊎◌, true, false, IfOk, IfErr, IfSome};
+ghost use Rattle.std.specs.Prelude.{◌≡◌, ◌⊎◌, None, true, false, IfOk, IfErr, IfSome};
 ghost use Rattle.sqlite.specs.State.{HasCleanDisk};
 ghost use Rattle.sqlite.specs.Files.{file_state, IsCleanLeft};
 ghost use Rattle.sqlite.specs.Recovery.{Image};
@@ -8,13 +8,15 @@ ghost use Rattle.sqlite.specs.WalFiles.{image_at};
 ghost use Rattle.sqlite_std_file.specs.File.{IsFresh};
 ghost use Rattle.sqlite.specs.FileStore.{view};
 ghost use Rattle.sqlite.specs.View.{IsClean};
+ghost use Rattle.ee_store_schema.specs.Faults.{fault_of};
+ghost use Rattle.ee_store_files.specs.Causes.{error_of};
 ghost use Rattle.ee_store_files.specs.Files.{Leaves};
 ghost use Rattle.ee_store_delivery.specs.Known.{IsInformed};
 ghost use Rattle.ee_store.specs.Adopted.{IsOpenedFrom, IsRefusedFrom, IfConnection, IfFiles};
 ghost use Rattle.ee_store.specs.NextRun.{IsNumbered, LeavesStanding, FollowsOn};
 
 use crate::keeper::SqlKeeper;
-use ee_store_files::open_path;
+use ee_store_files::{OpenCause, Unopened, open_path};
 use ee_store_schema::OpenFault;
 use sqlite::{Alter, Connection, File, FileFrom, FileStore, Leftover, Start, Unknown};
 use sqlite_disk::Disk;
@@ -34,6 +36,8 @@ pub enum Rest<S: Alter, L> {
 pub struct NotOpened<S: Alter, L> {
     /// Why it wasn't opened.
     pub fault: OpenFault,
+    /// Why `sqlite` didn't open the file; `None` if it did, and the store was refused.
+    pub cause: Option<OpenCause>,
     /// What is left of it.
     pub rest: Rest<S, L>,
 }
@@ -47,6 +51,7 @@ pub struct NotOpened<S: Alter, L> {
 ///   stops and retries, the keeper has it and goes on from there. The law `next_run_law` joins both runs.
 /// - `refused`: for a connection that is refused the same is said: why, and what the call left.
 /// - `fault`: a file that `sqlite` doesn't open is neither `WrongVersion` nor `Unusable`.
+/// - `told`, `apart`: a cause is one of that fault, and is told only if `sqlite` didn't open the file.
 /// - `left`: what is left of that file recovers to what was there or, if there was no database, to none or an
 ///   empty one.
 ///
@@ -66,14 +71,17 @@ pub fn open_as<F: Start>(
     ensures follows { IfOk result (λ keeper. HasCleanDisk (file_state keeper.conn) → FollowsOn (image_at F.Start) keeper.conn) }
     ensures refused { IfErr result (λ not. IfConnection not.rest (λ conn. HasCleanDisk (file_state conn) → IsRefusedFrom (image_at F.Start) not.fault conn)) }
     ensures fault { IfErr result (λ not. IfFiles not.rest (λ _. (not.fault ≡ OpenFault.NoMemory) ⊎ (not.fault ≡ OpenFault.StoreFailed))) }
+    ensures told { IfErr result (λ not. IfSome not.cause (λ cause. not.fault ≡ fault_of (error_of cause))) }
+    ensures apart { IfErr result (λ not. IfConnection not.rest (λ _. not.cause ≡ None)) }
     ensures left { IfErr result (λ not. IfFiles not.rest (λ rest. IfSome rest (λ left. (files : _) × IsFresh true files.log × IsFresh false files.db
         × (IsCleanLeft left → Leaves files left)))) }
 {
     let conn = match open_path(rt, path, start) {
         Ok(conn) => conn,
-        Err((error, left)) => {
+        Err(Unopened { cause, left }) => {
             return Err(NotOpened {
-                fault: OpenFault::from(error),
+                fault: OpenFault::from(cause.error()),
+                cause: Some(cause),
                 rest: Rest::Files(left),
             });
         }
@@ -82,6 +90,7 @@ pub fn open_as<F: Start>(
         Ok(keeper) => Ok(keeper),
         Err(not) => Err(NotOpened {
             fault: not.fault,
+            cause: None,
             rest: Rest::Connection(not.conn),
         }),
     }
@@ -103,6 +112,8 @@ impl SqlKeeper<FileStore<File>> {
         ensures refused { IfErr result
             (λ not. IfConnection not.rest (λ conn. HasCleanDisk (file_state conn) → (start : Image) × IsRefusedFrom start not.fault conn)) }
         ensures fault { IfErr result (λ not. IfFiles not.rest (λ _. (not.fault ≡ OpenFault.NoMemory) ⊎ (not.fault ≡ OpenFault.StoreFailed))) }
+        ensures told { IfErr result (λ not. IfSome not.cause (λ cause. not.fault ≡ fault_of (error_of cause))) }
+        ensures apart { IfErr result (λ not. IfConnection not.rest (λ _. not.cause ≡ None)) }
         ensures left { IfErr result (λ not. IfFiles not.rest (λ rest. IfSome rest (λ left. (files : _) × IsFresh true files.log × IsFresh false files.db
             × (IsCleanLeft left → Leaves files left)))) }
     {

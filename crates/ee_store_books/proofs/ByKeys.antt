@@ -15,7 +15,7 @@ use Rattle.ee_desk_model.specs.declared.replies.Ticket.{Ticket}
 use Rattle.ee_desk_model.specs.Seen.{held_as, held_of}
 use Rattle.ee_desk_model.specs.Views.{picked}
 use Rattle.ee_desk_model.proofs.Lemmas.Books.{sound_keyed}
-use Rattle.ee_desk.proofs.Lemmas.{found_for_next}
+use Rattle.ee_desk_decide.proofs.Lemmas.{found_for_next}
 use Rattle.ee_desk_model.specs.Repeats.{Content}
 use Rattle.ee_desk_texts.specs.Ranges.{BondFits}
 use Rattle.ee_store_books.specs.Standing.{rows_of, bond_row, key_of, IsRight}

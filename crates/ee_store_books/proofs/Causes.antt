@@ -16,8 +16,7 @@ use Rattle.ee_store_tables.specs.declared.failures.Failure.TheVariants as failur
 use Rattle.ee_store_tables.specs.Rows.{Rows, IsInside, Sees}
 use Rattle.ee_store_tables.specs.Statements.{LeavesNoMore, HasCause, IsExcused}
 use Rattle.ee_store_tables.proofs.Lemmas.Transactions.{unchanged_sees, begun}
-use Rattle.ee_store_tables.proofs.Lemmas.Causes.{unchanged_room}
-use Rattle.ee_store_schema.proofs.Lemmas.Causes.{cause_then}
+use Rattle.ee_store_tables.proofs.Lemmas.Causes.{cause_then, unchanged_room}
 use Rattle.sqlite.proofs.StateLemmas.{survives_then}
 use Rattle.ee_store_books.specs.Seen.{StaysSeen}
 

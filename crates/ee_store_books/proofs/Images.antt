@@ -23,7 +23,7 @@ use Rattle.ee_desk_model.specs.Numbers.{RequestKey, number_cmp}
 use Rattle.ee_desk_model.specs.Seen.{held_as}
 use Rattle.ee_desk_model.proofs.Lemmas.Maps.{serials_total, serials_exact, numbers_total, numbers_exact}
 use Rattle.std.proofs.lemmas.Map.Views.{tells_apart}
-use Rattle.ee_desk_soundness.proofs.Lemmas.{none_below}
+use Rattle.ee_desk_decide.proofs.Lemmas.{none_below}
 use Rattle.ee_store_tables.specs.Keyed.{pair_cmp}
 use Rattle.ee_store_books.specs.Standing.{desk_rows, rate_rows, extension_entry, extension_rows, bond_rows, bond_row, key_of, reply_rows, reply_row}
 

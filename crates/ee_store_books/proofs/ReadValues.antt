@@ -2,14 +2,17 @@
 use Rattle.std.proofs.Common.{◌≡◌, ◌==◌, ◌≤◌, ℕ, Bool, true, false, cond, refl, sym, ap, ◌∙◌, subst}
 use Rattle.std.specs.Prelude.{Option, Some, None, IfSome, IsSome}
 use Rattle.std.proofs.lemmas.Bool.{eqb-true}
-use Rattle.ee_units.specs.Spelling.{SerialNumber, in_range, serial_at}
+use Rattle.ee_units.specs.Spelling.{SerialNumber, in_range, serial_at, ◌>>=◌}
 use Rattle.ee_units.specs.Denoms.{denom_with, dollars}
 use Rattle.ee_units.specs.declared.denoms.Denom.{Denom}
 use Rattle.ee_units.specs.declared.denoms.Denom.TheVariants as denom
 use Rattle.ee_units.proofs.Lemmas.{in_range-is, in_range_back}
-use Rattle.ee_store_books.proofs.ReadBack.{bind_is}
 use Rattle.std.proofs.lemmas.Option.{same_Some}
 use Rattle.ee_desk_texts.specs.Ranges.{IsSerial}
+
+pub bind_is : {A B : Type 0} (o : Option A) (f : A → Option B) (y : B) → (o >>= f) ≡ Some y → (x : A) × (o ≡ Some x) × (f x ≡ Some y)
+bind_is None f y e = absurd (cc)
+bind_is (Some x) f y e = (x, refl, e)
 
 pub number_read : (low high n : ℕ) (o : Option ℕ) → o ≡ in_range low high n → IfSome o (λ m. m ≡ n)
 number_read low high n None e = tt

@@ -7,8 +7,7 @@ use Rattle.ee_desk_model.specs.Repeats.{Content}
 use Rattle.ee_store_tables.proofs.Lemmas.Transactions.{begun, begun_inside, begun_sees, still_has, committed_has}
 use Rattle.ee_store_tables.specs.Rows.{IsInside, Stores}
 use Rattle.ee_store_tables.proofs.Lemmas.Meeting.{stored_has, stored_sees}
-use Rattle.ee_store_schema.specs.declared.forms.Form.TheVariants.{Current}
-use Rattle.ee_store_load.proofs.Lemmas.{one_rows}
+use Rattle.ee_store_tables.proofs.Lemmas.OneRows.{one_held}
 use Rattle.ee_store_books.specs.Standing.{rows_of}
 use Rattle.ee_store_books.proofs.Lemmas.Contents as contents
 use Rattle.ee_store_books.specs.Seen.{StandsFor, HasContent, SeesContent}
@@ -53,5 +52,5 @@ stands_committed s S has is_open sound db is = record { right = has.right; store
 -- a store that is open has one content at most
 pub one_content : (s : State) (one other : Content) → IsTrue s.is_open → HasContent s one → HasContent s other → one ≡ other
 one_content s one other is_open h k =
-    let same = one_rows Current s.committed.trees (rows_of one) (rows_of other) (h.rows is_open).1 (k.rows is_open).1 in
+    let same = one_held s.committed.trees (rows_of one) (rows_of other) (h.rows is_open).1 (k.rows is_open).1 in
     contents.one_content 2 (rows_of one) one other (record { are = refl; right = h.right }) (record { are = same; right = k.right })

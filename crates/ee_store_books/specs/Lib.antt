@@ -1,6 +1,5 @@
 pub mod Standing
-pub mod Reading
-pub mod Contents
+pub mod Lines
 pub mod Found
 pub mod Seen
 pub mod Causes

@@ -16,7 +16,7 @@ ghost use Rattle.ee_store_books.specs.Found.{bonds_found, with_found};
 ghost use Rattle.ee_store_books.specs.Seen.{FindsIn, OnlyReads};
 
 use ee_calculator::Bond;
-use ee_desk::note_bond;
+use ee_desk_decide::note_bond;
 use ee_desk_model::Held;
 use ee_store_tables as tables;
 use ee_store_tables::{BondRow, Failure, find_bond};

@@ -1,29 +1,20 @@
-//! The books that the rows of a store represent: the whole content when the store is opened, and look-ups in a
-//! transaction.
+//! The books that the rows of a store represent, and look-ups of them in a transaction.
 //!
-//! `tables_of` turns the rows of a store into books and kept replies, or says which row has no meaning. In a
-//! transaction, `terms_in`, `held_in` and `tickets_in` return terms of periods, registered bonds and counts of tickets:
-//! what the content has that the transaction sees. Begin with `contents.rt`; what rows stand for is in
-//! `specs/Standing.antt`.
+//! It promises that rows represent one content at most, and that `terms_in`, `held_in` and `tickets_in` return what
+//! the content has that the transaction sees, and change nothing. Begin with `specs/Standing.antt`, which says what
+//! rows stand for, then `held_bonds.rt`.
+//!
+//! It doesn't promise that a store has a content: what it promises is of a store that has one.
 #![tactic(auto)]
 
-mod answers;
-mod contents;
 mod held_bonds;
-mod invariants;
 mod laws;
-mod marks;
-mod rates;
-mod reading;
+mod lines;
 mod terms;
 mod ticket_counts;
-mod tickets;
-mod unit_tables;
 
-pub use answers::KeptReply;
-pub use contents::{ContentFault, TestedContent, tables_of};
 pub use held_bonds::{held_from, held_in};
 pub use laws::one_content_law;
+pub use lines::line_with;
 pub use terms::{find_terms, no_terms, note_terms, terms_in};
 pub use ticket_counts::{counted_in, tickets_in};
-pub use tickets::line_with;

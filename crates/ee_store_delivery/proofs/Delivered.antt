@@ -30,7 +30,7 @@ use Rattle.ee_desk_model.proofs.Lemmas.Maps.{serials_total, all_weaker, all_appe
 use Rattle.std.proofs.lemmas.Map.Views.{tells_apart}
 use Rattle.ee_desk_model.proofs.Lemmas.Requests.{content_after-new}
 use Rattle.ee_desk_model.proofs.Lemmas.Books.{seen_enough, applied_are_books_after, act_keeps_sound}
-use Rattle.ee_desk.proofs.Lemmas.{decided_are_applicable}
+use Rattle.ee_desk_decide.proofs.Lemmas.{decided_are_applicable}
 use Rattle.ee_desk_texts.specs.Ranges.{ActFits, ReplyFits, RateRowFits, BondFits, TicketFits, BatchFits}
 use Rattle.ee_store_tables.specs.Rows.{with_answer}
 use Rattle.ee_store_books.specs.Standing.{rows_of, reply_row, AreInRange, IsKept, IsRight}

@@ -41,8 +41,8 @@ use Rattle.ee_desk_model.specs.Repeats.{Content}
 use Rattle.ee_desk_model.specs.Sound.{IsSound, IsDay, IsRightTicket, NumberedFrom, day_of_batch, open_days, last_of}
 use Rattle.ee_desk_model.proofs.Lemmas.Books.{few_tickets, few_tickets_on, few_bonds_on, small_total_on, act_keeps_sound, applied_are_books_after, seen_enough, refused_by_length, none_from_cond, none_from_option_or, line_le, paid_lines_push}
 use Rattle.ee_desk_model.proofs.Lemmas.Maps.{all_weaker, all_append, all_mapped, rising_below, all_both}
-use Rattle.ee_desk.specs.Applicable.{IsRate, IsBond, AreApplicable}
-use Rattle.ee_desk.proofs.Lemmas.{decided_are_applicable}
+use Rattle.ee_desk_decide.specs.Applicable.{IsRate, IsBond, AreApplicable}
+use Rattle.ee_desk_decide.proofs.Lemmas.{decided_are_applicable}
 use Rattle.ee_desk_texts.specs.Ranges.{ActFits}
 use Rattle.ee_store_tables.specs.AsRows.{Fits}
 use Rattle.ee_store_tables.specs.Keyed.{pair_cmp}

@@ -26,9 +26,9 @@ use Rattle.ee_desk_model.specs.Lists.{Rising}
 use Rattle.ee_desk_model.specs.Repeats.{Content}
 use Rattle.ee_desk_model.proofs.Lemmas.Maps.{rising_below}
 use Rattle.ee_store_books.proofs.Lemmas.Contents.{get_rate_row, get_extension_row, get_bond_row, get_desk_row}
-use Rattle.ee_desk.specs.Added as added
-use Rattle.ee_desk.specs.Added.{AreNew}
-use Rattle.ee_desk.specs.Applicable.{IsRate, IsBond, IsUnpaid, AreApplicable}
+use Rattle.ee_desk_decide.specs.NewRows as added
+use Rattle.ee_desk_decide.specs.NewRows.{AreNew}
+use Rattle.ee_desk_decide.specs.Applicable.{IsRate, IsBond, IsUnpaid, AreApplicable}
 use Rattle.ee_store_tables.specs.Rows.{Rows, DeskRow, insert_new, day_set, with_rate, with_batch, with_ticket}
 use Rattle.ee_store_books.specs.Standing.{rate_rows, extension_rows, bond_rows, bond_row, key_of, ticket_row, batch_row, desk_rows, rows_of}
 use Rattle.ee_store_delivery.specs.Written.{with_named, applied_rows}

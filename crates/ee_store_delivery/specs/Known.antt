@@ -19,21 +19,21 @@ use Rattle.ee_store_delivery.specs.declared.known.DayState.{DayState}
 use Rattle.ee_store_delivery.specs.declared.known.Known.{Known}
 
 -- the days of the books, their number of tickets, and these counts of the open day
-pub record IsDesk (desk : DayState) (books : PlainBooks) (counts : Batch) : Type 0 where
-  pub day : desk.day ≡ books.day
-  pub last_day : desk.last_day ≡ books.last_day
-  pub tickets : desk.tickets ≡ length books.tickets
-  pub day_tickets : desk.counts.tickets ≡ counts.tickets
-  pub day_bonds : desk.counts.bonds ≡ counts.bonds
-  pub day_total : desk.counts.total.0 ≡ counts.total.0
+pub record IsDayState (day_state : DayState) (books : PlainBooks) (counts : Batch) : Type 0 where
+  pub day : day_state.day ≡ books.day
+  pub last_day : day_state.last_day ≡ books.last_day
+  pub tickets : day_state.tickets ≡ length books.tickets
+  pub day_tickets : day_state.counts.tickets ≡ counts.tickets
+  pub day_bonds : day_state.counts.bonds ≡ counts.bonds
+  pub day_total : day_state.counts.total.0 ≡ counts.total.0
 
 -- the counts of the open day that a redemption needs: the number of tickets, and not what they pay
 abbrev pub redeemed_counts : PlainBooks → Batch
 redeemed_counts books = record no_batch { tickets = (open_batch books).tickets }
 
--- the desk that the next redemption is decided on, after an act on the books
-abbrev pub IsDeskAfter : PlainBooks → Act → DayState → Type 0
-IsDeskAfter books asked desk = IsDesk desk (books_after books asked) (redeemed_counts (books_after books asked))
+-- the day state that the next redemption is decided on, after an act on the books
+abbrev pub IsDayStateAfter : PlainBooks → Act → DayState → Type 0
+IsDayStateAfter books asked day_state = IsDayState day_state (books_after books asked) (redeemed_counts (books_after books asked))
 
 -- terms of periods, as the books have them
 abbrev pub AreTermsOf : FinMap nat_cmp Rates → PlainBooks → Type 0
@@ -41,7 +41,7 @@ AreTermsOf terms books = (period : ℕ) → IfSome (finite.get terms period) (λ
 
 -- what is known is correct for these books
 pub record AreKnown (known : Known) (books : PlainBooks) : Type 0 where
-  pub desk : IfSome known.desk (λ desk. IsDesk desk books (redeemed_counts books))
+  pub day_state : IfSome known.day_state (λ day_state. IsDayState day_state books (redeemed_counts books))
   pub terms : AreTermsOf (terms_found known.terms.entries) books
 
 -- if the first held for the books that a transaction sees, the second holds for them now

@@ -9,7 +9,7 @@ ghost use Rattle.ee_desk_model.specs.declared.acts.Act.TheVariants as act;
 ghost use Rattle.ee_units.specs.Spelling.{SerialNumber};
 ghost use Rattle.ee_desk_model.specs.Views.{needed_counts};
 ghost use Rattle.ee_store_books.specs.Found.{terms_found, with_found};
-ghost use Rattle.ee_store_delivery.specs.Known.{IsDesk, IsDeskAfter, AreKnown, redeemed_counts};
+ghost use Rattle.ee_store_delivery.specs.Known.{IsDayState, IsDayStateAfter, AreKnown, redeemed_counts};
 
 use ee_desk_decide::DayCounts;
 use ee_desk_model::{Act, Reply, Terms};
@@ -27,14 +27,14 @@ pub struct DayState {
     pub(crate) counts: DayCounts,
 }
 
-/// What is known of the books of a store without reading it: the desk as a redemption counts it, and the
+/// What is known of the books of a store without reading it: the day state as a redemption counts it, and the
 /// terms of periods.
 ///
 /// A served redemption leaves it known for the next one. Any other act with a new number, and each failure,
 /// leaves nothing known, and the next redemption reads it again.
 #[derive(Drop)]
 pub struct Known {
-    pub(crate) desk: Option<DayState>,
+    pub(crate) day_state: Option<DayState>,
     pub(crate) terms: BTreeMap<IssueMonth, Terms>,
 }
 
@@ -78,10 +78,10 @@ pub fn learn_terms(
 }
 
 impl DayState {
-    /// The desk with one more ticket of the open day; `None` above 2^64 - 1.
+    /// The day state with one more ticket of the open day; `None` above 2^64 - 1.
     fn with_ticket(self) -> Option<DayState>
-        ensures { IfSome result (λ desk. (desk.day ≡ self.day) × (desk.last_day ≡ self.last_day) × (desk.tickets ≡ self.tickets + 1)
-            × (desk.counts.tickets ≡ self.counts.tickets + 1) × (desk.counts.bonds ≡ self.counts.bonds) × (desk.counts.total.0 ≡ self.counts.total.0)) }
+        ensures { IfSome result (λ day_state. (day_state.day ≡ self.day) × (day_state.last_day ≡ self.last_day) × (day_state.tickets ≡ self.tickets + 1)
+            × (day_state.counts.tickets ≡ self.counts.tickets + 1) × (day_state.counts.bonds ≡ self.counts.bonds) × (day_state.counts.total.0 ≡ self.counts.total.0)) }
     {
         let tickets = self.tickets.checked_add(1)?;
         let day_tickets = self.counts.tickets.checked_add(1)?;
@@ -98,15 +98,15 @@ impl DayState {
     }
 }
 
-/// A known desk, after a redemption with this reply.
-fn after_redemption(desk: Option<DayState>, reply: &Reply) -> Option<DayState>
-    ensures { (books : PlainBooks) (day payee : ℕ) (serials : List SerialNumber) → IfSome desk (λ desk. IsDesk desk books (redeemed_counts books))
-        → reply.now ≡ reply_to books (act.Redeem day payee serials) → IfSome result (IsDeskAfter books (act.Redeem day payee serials)) }
+/// A known day state, after a redemption with this reply.
+fn after_redemption(day_state: Option<DayState>, reply: &Reply) -> Option<DayState>
+    ensures { (books : PlainBooks) (day payee : ℕ) (serials : List SerialNumber) → IfSome day_state (λ day_state. IsDayState day_state books (redeemed_counts books))
+        → reply.now ≡ reply_to books (act.Redeem day payee serials) → IfSome result (IsDayStateAfter books (act.Redeem day payee serials)) }
 {
     match reply {
-        Reply::Refused(_) => desk,
-        Reply::Ticket(_) => match desk {
-            Some(desk) => desk.with_ticket(),
+        Reply::Refused(_) => day_state,
+        Reply::Ticket(_) => match day_state {
+            Some(day_state) => day_state.with_ticket(),
             None => None,
         },
         Reply::Added { .. } | Reply::Opened(_) | Reply::Batch(_) => None,
@@ -119,27 +119,27 @@ impl Known {
         ensures { (books : PlainBooks) → AreKnown result books }
     {
         Known {
-            desk: None,
+            day_state: None,
             terms: no_terms(alloc),
         }
     }
 
-    /// The desk, if it is known as this act counts it.
-    pub fn desk_for(&self, act: &Act) -> Option<DayState>
-        ensures { (books : PlainBooks) → AreKnown self.now books → IfSome result (λ desk. IsDesk desk books (needed_counts books act.now)) }
+    /// The day state, if it is known as this act counts it.
+    pub fn day_state_for(&self, act: &Act) -> Option<DayState>
+        ensures { (books : PlainBooks) → AreKnown self.now books → IfSome result (λ day_state. IsDayState day_state books (needed_counts books act.now)) }
     {
         match act {
-            Act::Redeem { .. } => self.desk,
+            Act::Redeem { .. } => self.day_state,
             Act::AddRates(_) | Act::AddBonds(_) | Act::OpenDay(_) | Act::CloseDay(_) => None,
         }
     }
 
-    /// Keeps the desk, if it is counted as for a redemption.
-    pub fn note_desk(&mut self, act: &Act, desk: &DayState)
-        ensures { (books : PlainBooks) → AreKnown self.old books → IsDesk desk.now books (needed_counts books act.now) → AreKnown self.new books }
+    /// Keeps the day state, if it is counted as for a redemption.
+    pub fn note_day_state(&mut self, act: &Act, day_state: &DayState)
+        ensures { (books : PlainBooks) → AreKnown self.old books → IsDayState day_state.now books (needed_counts books act.now) → AreKnown self.new books }
     {
         if matches!(act, Act::Redeem { .. }) {
-            self.desk = Some(*desk);
+            self.day_state = Some(*day_state);
         }
     }
 
@@ -149,7 +149,7 @@ impl Known {
         ensures { (books : PlainBooks) → AreKnown self.old books → reply.now ≡ reply_to books act.now → AreKnown self.new (books_after books act.now) }
     {
         match act {
-            Act::Redeem { .. } => self.desk = after_redemption(self.desk, reply),
+            Act::Redeem { .. } => self.day_state = after_redemption(self.day_state, reply),
             Act::AddRates(_) | Act::AddBonds(_) | Act::OpenDay(_) | Act::CloseDay(_) => {
                 *self = Known::nothing(alloc);
             }

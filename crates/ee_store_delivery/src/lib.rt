@@ -3,6 +3,8 @@
 //!
 //! It promises that a request takes effect with its reply in one transaction, or not at all, and that what is
 //! known of the books without reading them is right. Begin with `delivery.rt`; `known.rt` is the cache.
+//!
+//! It doesn't promise that a request is served, or that a disk keeps what it synced.
 #![tactic(auto)]
 
 mod delivery;

@@ -19,7 +19,7 @@ ghost use Rattle.ee_store_books.specs.Found.{terms_found, bonds_found};
 ghost use Rattle.ee_store_books.specs.Seen.{FindsIn, OnlyReads};
 ghost use Rattle.ee_store_delivery.specs.Delivered.{AreEffects};
 ghost use Rattle.ee_store_delivery.specs.Written.{all_added_rows};
-ghost use Rattle.ee_store_delivery.specs.Known.{IsDesk, AreTermsOf, AreKnown, LearnsIn};
+ghost use Rattle.ee_store_delivery.specs.Known.{IsDayState, AreTermsOf, AreKnown, LearnsIn};
 
 use crate::known::{DayState, Known, known_terms, learn_terms};
 use crate::named_by_act::{periods_of, serials_of};
@@ -199,7 +199,7 @@ fn counts_in<S: Alter>(
 }
 
 /// The days, and the counts of tickets for an act.
-fn desk_in<S: Alter>(
+fn day_state_in<S: Alter>(
     tx: &mut Transaction<'_, S>,
     alloc: Global,
     act: &Act,
@@ -207,7 +207,7 @@ fn desk_in<S: Alter>(
     ensures same_reference { tx.new.conn.ghost_name ≡ tx.old.conn.ghost_name }
     ensures only_reads { OnlyReads (state S.Store tx.old.conn.now) (state S.Store tx.new.conn.now) result }
     ensures found { FindsIn (state S.Store tx.old.conn.now) (state S.Store tx.new.conn.now) result
-        (λ content desk. IsDesk desk content.books (is.needed_counts content.books act.now)) }
+        (λ content day_state. IsDayState day_state content.books (is.needed_counts content.books act.now)) }
     ensures cause { FailsByCause (state S.Store tx.old.conn.now) (state S.Store tx.new.conn.now) result (λ _. ⊤) }
 {
     let days = days_in(tx)?;
@@ -221,7 +221,7 @@ fn desk_in<S: Alter>(
 }
 
 /// The same, known already or else read now.
-fn desk_for<S: Alter>(
+fn find_day_state<S: Alter>(
     tx: &mut Transaction<'_, S>,
     alloc: Global,
     known: &Known,
@@ -230,50 +230,50 @@ fn desk_for<S: Alter>(
     ensures same_reference { tx.new.conn.ghost_name ≡ tx.old.conn.ghost_name }
     ensures only_reads { OnlyReads (state S.Store tx.old.conn.now) (state S.Store tx.new.conn.now) result }
     ensures found { FindsIn (state S.Store tx.old.conn.now) (state S.Store tx.new.conn.now) result
-        (λ content desk. AreKnown known.now content.books → IsDesk desk content.books (is.needed_counts content.books act.now)) }
+        (λ content day_state. AreKnown known.now content.books → IsDayState day_state content.books (is.needed_counts content.books act.now)) }
     ensures cause { FailsByCause (state S.Store tx.old.conn.now) (state S.Store tx.new.conn.now) result (λ _. ⊤) }
 {
-    match known.desk_for(act) {
-        Some(desk) => Ok(desk),
-        None => desk_in(tx, alloc, act),
+    match known.day_state_for(act) {
+        Some(day_state) => Ok(day_state),
+        None => day_state_in(tx, alloc, act),
     }
 }
 
-fn view_from(keys: Keys, desk: &DayState) -> Result<View, Failure>
+fn view_from(keys: Keys, day_state: &DayState) -> Result<View, Failure>
     ensures fits { (books : PlainBooks) → IsSound books → (asked : Act)
         → record {
           rates = terms_found keys.terms.entries;
           bonds = bonds_found keys.bonds.entries;
-          day = desk.now.day;
-          last_day = desk.now.last_day;
-          tickets = desk.now.tickets;
-          day_tickets = desk.now.counts.tickets;
-          day_bonds = desk.now.counts.bonds;
-          day_total = desk.now.counts.total.0;
+          day = day_state.now.day;
+          last_day = day_state.now.last_day;
+          tickets = day_state.now.tickets;
+          day_tickets = day_state.now.counts.tickets;
+          day_bonds = day_state.now.counts.bonds;
+          day_total = day_state.now.counts.total.0;
         } ≡ is.needed_of books asked
         → IsOk result }
     ensures view { IfOk result
         (λ view. view ≡ record {
           rates = terms_found keys.terms.entries;
           bonds = bonds_found keys.bonds.entries;
-          day = desk.now.day;
-          last_day = desk.now.last_day;
-          tickets = desk.now.tickets;
-          day_tickets = desk.now.counts.tickets;
-          day_bonds = desk.now.counts.bonds;
-          day_total = desk.now.counts.total.0;
+          day = day_state.now.day;
+          last_day = day_state.now.last_day;
+          tickets = day_state.now.tickets;
+          day_tickets = day_state.now.counts.tickets;
+          day_bonds = day_state.now.counts.bonds;
+          day_total = day_state.now.counts.total.0;
         }) }
 {
     let Keys { terms, bonds } = keys;
     let parts = ViewParts {
         rates: terms,
         bonds,
-        day: desk.day,
-        last_day: desk.last_day,
-        tickets: desk.tickets,
-        day_tickets: desk.counts.tickets,
-        day_bonds: desk.counts.bonds,
-        day_total: desk.counts.total,
+        day: day_state.day,
+        last_day: day_state.last_day,
+        tickets: day_state.tickets,
+        day_tickets: day_state.counts.tickets,
+        day_bonds: day_state.counts.bonds,
+        day_total: day_state.counts.total,
     };
     match View::from_parts(parts) {
         Some(view) => Ok(view),
@@ -297,10 +297,10 @@ fn view_within<S: Alter>(
     ensures cause { FailsByCause (state S.Store tx.old.conn.now) (state S.Store tx.new.conn.now) result
         (λ content. AreKnown known.old content.books × (length_refusal act.now ≡ None)) }
 {
-    let desk = desk_for(tx, alloc, known, act)?;
+    let day_state = find_day_state(tx, alloc, known, act)?;
     let keys = keys_in(tx, alloc, tables, &mut known.terms, act)?;
-    known.note_desk(act, &desk);
-    view_from(keys, &desk)
+    known.note_day_state(act, &day_state);
+    view_from(keys, &day_state)
 }
 
 /// What an act depends on. If the length of its list refuses it, nothing is read.

@@ -5,6 +5,7 @@
 //! with `opening.rt` and `specs/Files.antt`.
 #![tactic(auto)]
 
+mod causes;
 mod creating;
 mod damage;
 mod errors;
@@ -12,6 +13,7 @@ mod laws;
 mod opening;
 mod path;
 
+pub use causes::OpenCause;
 pub use laws::spares_stopped_law;
 pub use opening::open_files;
-pub use path::open_path;
+pub use path::{Unopened, open_path};

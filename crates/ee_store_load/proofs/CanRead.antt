@@ -24,7 +24,7 @@ use Rattle.ee_store_schema.specs.declared.answers.StoredAnswer.{StoredAnswer}
 use Rattle.ee_store_schema.specs.Forms.{at_first_desk}
 use Rattle.ee_store_schema.specs.Migrating.{answer_entry}
 use Rattle.ee_store_load.proofs.QuestionLemmas.{by_key, by_pair, desk_terms, rate_terms, bond_terms, ticket_terms, line_terms, batch_terms, reply_terms, answer_terms, rowid_terms}
-use Rattle.ee_store_load.proofs.EachTable.{un_desk, back_desk, un_rates, back_rates, un_bonds, back_bonds, un_tickets, back_tickets, un_lines, back_lines, un_batches, back_batches, un_replies, back_replies}
+use Rattle.ee_store_tables.proofs.Lemmas.OneRows.{un_desk, back_desk, un_rates, back_rates, un_bonds, back_bonds, un_tickets, back_tickets, un_lines, back_lines, un_batches, back_batches, un_replies, back_replies}
 use Rattle.ee_store_load.proofs.UsableLemmas.{can_read_keyed, all_keyed, all_paired, all_replies, all_answers, can_read_pairs, can_read_rowids}
 
 desk_shows : (r : Row) (p : ℤ × (ℕ × DeskRow)) → ReadAlike r (row_of desk_columns (pos p.1.0, p.1)) → output (whole_table 0 desk_terms by_key) ([] ∷ r ∷ []) ≡ (Int (pos p.1.0) ∷ [], keyed_shown desk_columns p.1)

@@ -4,8 +4,7 @@ use Rattle.std.specs.Prelude.{IsPermutation, nat_lt, int_lt, drop}
 use Rattle.std.specs.List.{AllByRecursion}
 use Rattle.std.specs.FinMap.{entries, entries-from_sorted}
 use Rattle.std.proofs.lemmas.Cmp.{nat_cmp_total}
-use Rattle.sqlite.specs.declared.types.Value.{Value}
-use Rattle.sqlite.specs.declared.types.Value.TheVariants.{Int, Text}
+use Rattle.sqlite.specs.declared.types.Value.TheVariants.{Int}
 use Rattle.sqlite.specs.Effect.{Database, IsDatabase}
 use Rattle.sqlite.specs.Schema.{Schema}
 use Rattle.sqlite.specs.Table.{Table}
@@ -17,8 +16,9 @@ use Rattle.sqlite_keyed.proofs.ListLemmas.{map-map, all_weaker}
 use Rattle.sqlite_keyed.proofs.RuleLemmas.{first_of_both}
 use Rattle.ee_store_tables.specs.Tables.{counter_schema, desk, rates, bonds, tickets, paid, batches, extensions, answers}
 use Rattle.ee_store_tables.specs.Keyed.{pair_cmp, row_of, stored, ReadAlike, HoldsMap, HoldsPairs}
-use Rattle.ee_store_tables.specs.Rows.{DeskRow, BondRow, TicketRow, PaidRow, BatchRow, ReplyRow, optional, desk_columns, rate_columns, bond_columns, ticket_columns, paid_columns, batch_columns, reply_columns}
-use Rattle.ee_store_tables.proofs.Lemmas.Rows.{pair_total, number_in, optional_in, optional_back}
+use Rattle.ee_store_tables.specs.Rows.{DeskRow, BondRow, TicketRow, PaidRow, BatchRow, ReplyRow, desk_columns, rate_columns, bond_columns, ticket_columns, paid_columns, batch_columns, reply_columns}
+use Rattle.ee_store_tables.proofs.Lemmas.Rows.{pair_total}
+use Rattle.ee_store_tables.proofs.Lemmas.OneRows.{un_desk, back_desk, un_rates, back_rates, un_tickets, back_tickets, un_batches, back_batches, un_replies, back_replies, un_bonds, back_bonds, un_lines, back_lines}
 use Rattle.ee_store_load.specs.declared.entries.StoredDesk.{StoredDesk}
 use Rattle.ee_store_load.specs.declared.entries.StoredRate.{StoredRate}
 use Rattle.ee_store_load.specs.declared.entries.StoredBond.{StoredBond}
@@ -38,10 +38,6 @@ use Rattle.ee_store_load.specs.Shown.{pair_lt}
 use Rattle.ee_store_load.proofs.FoundLemmas.{sorted_if_rises, reads_alike}
 use Rattle.ee_store_load.proofs.TableLemmas.{rises_same, number_below, pair_below, short_row, key_empty, apart_if_rises, holds_keyed, holds_pairs}
 use Rattle.ee_store_load.proofs.QuestionLemmas.{desk_terms, rate_terms, bond_terms, ticket_terms, line_terms, batch_terms, reply_terms, answer_terms, rowid_terms}
-
-abbrev text_in : Value → List ℕ
-text_in (Text t) = t
-text_in _ = []
 
 -- ---- types
 
@@ -108,13 +104,6 @@ typed_extensions Earliest later db sound has = absurd (later refl)
 
 -- ---- desk
 
-pub un_desk : Row → DeskRow
-un_desk r = record { version = number_in (column r 0); day = optional_in (column r 1); last_day = optional_in (column r 2) }
-
-pub back_desk : (x : DeskRow) → un_desk (desk_columns x) ≡ x
-unfolding un_desk
-back_desk x = ap (λ d. record { version = x.version; day = d; last_day = optional_in (optional x.last_day) }) (optional_back x.day) ∙ ap (λ l. record { version = x.version; day = x.day; last_day = l }) (optional_back x.last_day)
-
 alike_desk : (r : Row) → are_typed desk.key 0 desk.columns (drop 1 r) ≡ true → (e : ℕ × DeskRow) → shown_by desk_terms r ≡ Int (pos e.0) ∷ desk_columns e.1 → ReadAlike r (row_of desk_columns (pos e.0, e))
 alike_desk r typed e is = reads_alike r (row_of desk_columns (pos e.0, e)) (ap (λ xs. column xs 0) is, (key_empty desk.columns r typed, (ap (λ xs. column xs 1) is, (ap (λ xs. column xs 2) is, (ap (λ xs. column xs 3) is, tt))))) (short_row desk.key desk.columns r typed)
 
@@ -127,13 +116,6 @@ holds_desk form db sound has all shows up =
     (all_weaker _ _ alike_desk (db.trees 0) (typed form db sound has).desk) sorted
 
 -- ---- rates
-
-pub un_rates : Row → ℕ
-un_rates r = number_in (column r 0)
-
-pub back_rates : (x : ℕ) → un_rates (rate_columns x) ≡ x
-unfolding un_rates
-back_rates x = refl
 
 alike_rates : (r : Row) → are_typed rates.key 0 rates.columns (drop 1 r) ≡ true → (e : ℕ × ℕ) → shown_by rate_terms r ≡ Int (pos e.0) ∷ rate_columns e.1 → ReadAlike r (row_of rate_columns (pos e.0, e))
 alike_rates r typed e is = reads_alike r (row_of rate_columns (pos e.0, e)) (ap (λ xs. column xs 0) is, (key_empty rates.columns r typed, (ap (λ xs. column xs 1) is, tt))) (short_row rates.key rates.columns r typed)
@@ -157,13 +139,6 @@ holds_extensions form later db sound has = held_rates (db.trees 12) (typed_exten
 
 -- ---- tickets
 
-pub un_tickets : Row → TicketRow
-un_tickets r = record { day = number_in (column r 0); payee = number_in (column r 1); bonds = number_in (column r 2); total = number_in (column r 3) }
-
-pub back_tickets : (x : TicketRow) → un_tickets (ticket_columns x) ≡ x
-unfolding un_tickets
-back_tickets x = refl
-
 alike_tickets : (r : Row) → are_typed tickets.key 0 tickets.columns (drop 1 r) ≡ true → (e : ℕ × TicketRow) → shown_by ticket_terms r ≡ Int (pos e.0) ∷ ticket_columns e.1 → ReadAlike r (row_of ticket_columns (pos e.0, e))
 alike_tickets r typed e is = reads_alike r (row_of ticket_columns (pos e.0, e)) (ap (λ xs. column xs 0) is, (key_empty tickets.columns r typed, (ap (λ xs. column xs 1) is, (ap (λ xs. column xs 2) is, (ap (λ xs. column xs 3) is, (ap (λ xs. column xs 4) is, tt)))))) (short_row tickets.key tickets.columns r typed)
 
@@ -177,13 +152,6 @@ holds_tickets form db sound has all shows up =
 
 -- ---- batches
 
-pub un_batches : Row → BatchRow
-un_batches r = record { tickets = number_in (column r 0); bonds = number_in (column r 1); total = number_in (column r 2) }
-
-pub back_batches : (x : BatchRow) → un_batches (batch_columns x) ≡ x
-unfolding un_batches
-back_batches x = refl
-
 alike_batches : (r : Row) → are_typed batches.key 0 batches.columns (drop 1 r) ≡ true → (e : ℕ × BatchRow) → shown_by batch_terms r ≡ Int (pos e.0) ∷ batch_columns e.1 → ReadAlike r (row_of batch_columns (pos e.0, e))
 alike_batches r typed e is = reads_alike r (row_of batch_columns (pos e.0, e)) (ap (λ xs. column xs 0) is, (key_empty batches.columns r typed, (ap (λ xs. column xs 1) is, (ap (λ xs. column xs 2) is, (ap (λ xs. column xs 3) is, tt))))) (short_row batches.key batches.columns r typed)
 
@@ -196,13 +164,6 @@ holds_batches form db sound has all shows up =
     (all_weaker _ _ alike_batches (db.trees 10) (typed form db sound has).batches) sorted
 
 -- ---- replies
-
-pub un_replies : Row → ReplyRow
-un_replies r = record { act = text_in (column r 0); reply = text_in (column r 1) }
-
-pub back_replies : (x : ReplyRow) → un_replies (reply_columns x) ≡ x
-unfolding un_replies
-back_replies x = refl
 
 alike_replies : (r : Row) → are_typed replies.key 0 replies.columns (drop 1 r) ≡ true → (e : ℕ × ReplyRow) → shown_by reply_terms r ≡ Int (pos e.0) ∷ reply_columns e.1 → ReadAlike r (row_of reply_columns (pos e.0, e))
 alike_replies r typed e is = reads_alike r (row_of reply_columns (pos e.0, e)) (ap (λ xs. column xs 0) is, (key_empty replies.columns r typed, (ap (λ xs. column xs 1) is, (ap (λ xs. column xs 2) is, tt)))) (short_row replies.key replies.columns r typed)
@@ -234,13 +195,6 @@ holds_answers db sound has all ids shows up numbers ids_up =
 
 -- ---- bonds
 
-pub un_bonds : Row → BondRow
-un_bonds r = record { denom = number_in (column r 0); issued = number_in (column r 1); owner = number_in (column r 2); coowner = optional_in (column r 3); ticket = optional_in (column r 4) }
-
-pub back_bonds : (x : BondRow) → un_bonds (bond_columns x) ≡ x
-unfolding un_bonds
-back_bonds x = ap (λ d. record { denom = x.denom; issued = x.issued; owner = x.owner; coowner = d; ticket = optional_in (optional x.ticket) }) (optional_back x.coowner) ∙ ap (λ l. record { denom = x.denom; issued = x.issued; owner = x.owner; coowner = x.coowner; ticket = l }) (optional_back x.ticket)
-
 alike_bonds : (r : Row) → are_typed bonds.key 0 bonds.columns (drop 1 r) ≡ true → (i : ℤ) (e : (ℕ × ℕ) × BondRow) → column r 0 ≡ Int i → shown_by bond_terms r ≡ Int (pos e.0.0) ∷ Int (pos e.0.1) ∷ bond_columns e.1
     → ReadAlike r (stored bond_columns (i, e))
 alike_bonds r typed i e first is = reads_alike r (stored bond_columns (i, e)) (first, (ap (λ xs. column xs 0) is, (ap (λ xs. column xs 1) is, (ap (λ xs. column xs 2) is, (ap (λ xs. column xs 3) is, (ap (λ xs. column xs 4) is, (ap (λ xs. column xs 5) is, (ap (λ xs. column xs 6) is, tt)))))))) (short_row bonds.key bonds.columns r typed)
@@ -256,13 +210,6 @@ holds_bonds form db sound has all ids shows up numbers ids_up =
     (all_weaker _ _ alike_bonds (db.trees 2) (typed form db sound has).bonds) (apart_if_rises (λ (it : Rowid). it.rowid) ids ids_up) sorted
 
 -- ---- lines
-
-pub un_lines : Row → PaidRow
-un_lines r = record { letter = number_in (column r 0); number = number_in (column r 1); cents = number_in (column r 2) }
-
-pub back_lines : (x : PaidRow) → un_lines (paid_columns x) ≡ x
-unfolding un_lines
-back_lines x = refl
 
 alike_lines : (r : Row) → are_typed paid.key 0 paid.columns (drop 1 r) ≡ true → (i : ℤ) (e : (ℕ × ℕ) × PaidRow) → column r 0 ≡ Int i → shown_by line_terms r ≡ Int (pos e.0.0) ∷ Int (pos e.0.1) ∷ paid_columns e.1
     → ReadAlike r (stored paid_columns (i, e))

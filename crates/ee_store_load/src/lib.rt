@@ -2,6 +2,9 @@
 //!
 //! It promises all rows of a store with the program's tables, or says why the store is refused, and changes
 //! nothing. Begin with `opening.rt`; `specs/Opening.antt` says which store is blank, ours or another's.
+//!
+//! It doesn't promise that rows stand for books, which ee_store_contents tests, or that a disk gave what was
+//! written.
 #![tactic(auto)]
 
 mod entries;

@@ -200,6 +200,7 @@ fn is_bonds(table: &Table) -> bool
     is_paired(table, "bonds", 2) && has_one_key(table) && has_bond_columns(table.columns.as_slice())
 }
 
+/// Tests all five with `&`, so that the proof has one result to decide.
 fn has_ticket_columns(columns: &[Column]) -> bool
     ensures { (result ≡ true) ↔ (columns.now ≡ tickets.columns) }
 {
@@ -219,6 +220,7 @@ fn is_tickets(table: &Table) -> bool
     is_keyed(table, "tickets", 5) && has_ticket_columns(table.columns.as_slice())
 }
 
+/// Tests all five with `&`, so that the proof has one result to decide.
 fn has_line_columns(columns: &[Column]) -> bool
     ensures { (result ≡ true) ↔ (columns.now ≡ paid.columns) }
 {

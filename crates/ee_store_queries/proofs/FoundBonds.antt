@@ -15,7 +15,7 @@ use Rattle.ee_desk_model.specs.Seen.{held_as}
 use Rattle.ee_desk_model.specs.Queries.{is_open_bond, bonds_of}
 use Rattle.ee_desk_model.specs.Repeats.{Content}
 use Rattle.ee_desk_model.proofs.Lemmas.Maps.{serials_total, serials_exact}
-use Rattle.ee_desk_soundness.proofs.Lemmas.{all_entries}
+use Rattle.ee_desk_decide.proofs.Lemmas.{all_entries}
 use Rattle.ee_store_tables.proofs.Lemmas.Rows.{pair_total, pair_same}
 use Rattle.ee_store_books.proofs.Lemmas.Contents.{sorted_entries, right_bond_is_keyed, head_of, tail_of}
 use Rattle.ee_store_tables.specs.declared.records.UnpaidBond.{UnpaidBond}

@@ -15,7 +15,7 @@ ghost use Rattle.ee_desk_model.specs.Limits.{highest_number};
 use crate::from_rows::{batch_shown, bonds_shown, ticket_shown};
 use crate::periods::periods_in;
 use ee_calculator::{Bond, Row, Sheet, sheet};
-use ee_desk::{quote, rows_of};
+use ee_desk_decide::{quote, rows_of};
 use ee_desk_model::{Batch, Ticket, UnitTables};
 use ee_store_books::{find_terms, terms_in, tickets_in};
 use ee_store_tables::{Failure, bonds_of_owner, find_batch, find_ticket, ticket_lines};

@@ -23,7 +23,7 @@ use Rattle.ee_store_schema.specs.declared.forms.Form.TheVariants.{Current, First
 use Rattle.ee_store_schema.specs.Making.{GainsTable, ReplacesReplies}
 use Rattle.ee_store_schema.specs.declared.answers.StoredAnswer.{StoredAnswer}
 use Rattle.ee_store_schema.specs.Migrating.{unanswered, migrated, become, HasPlace, Lists, AnswersFit, CanBecome}
-use Rattle.ee_store_schema.proofs.Lemmas.Causes.{cause_then}
+use Rattle.ee_store_tables.proofs.Lemmas.Causes.{cause_then}
 use Rattle.ee_store_schema.proofs.FirstLemmas.{no_map, no_rows}
 
 -- ---- the rows

@@ -2,6 +2,8 @@
 //!
 //! It promises the tables with no rows, or for a migration the same content in the tables of version 2, in one
 //! transaction. Begin with `specs/Forms.antt`, then `making.rt` and `migrating.rt`.
+//!
+//! It doesn't promise that rows stand for books: it copies those that it is given.
 #![tactic(auto)]
 
 mod answers;

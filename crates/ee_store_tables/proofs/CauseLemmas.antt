@@ -12,7 +12,7 @@ use Rattle.sqlite.specs.Command.TheVariants.{Select, Insert, InsertOr, Update, B
 use Rattle.sqlite.specs.Listing.{understood, reads_listing, IsSourceOf}
 use Rattle.sqlite.specs.Clock.{timed}
 use Rattle.sqlite.specs.State as store
-use Rattle.sqlite.specs.State.{State, Fails, IsNotRun, IsNoStatement, IsStatement, IsMisplaced, Escapes, EndsScope, RunsCommand, ExecutesIn, ExecutesInside, FailsToShow, FailsToQuery, IsTooLate, store_error, text_of, shows_rows, is_pragma}
+use Rattle.sqlite.specs.State.{State, HasCleanDisk, Survives, Fails, IsNotRun, IsNoStatement, IsStatement, IsMisplaced, Escapes, EndsScope, RunsCommand, ExecutesIn, ExecutesInside, FailsToShow, FailsToQuery, IsTooLate, store_error, text_of, shows_rows, is_pragma}
 use Rattle.sqlite.specs.Does.{Does}
 use Rattle.sqlite.specs.declared.run.Mode.{Mode}
 use Rattle.sqlite_schema.specs.declared.schema.Keys.TheVariants.{Enforced}
@@ -30,9 +30,10 @@ use Rattle.ee_store_tables.specs.Failures.{failure_of}
 use Rattle.sqlite_schema.specs.declared.schema.Constraint.TheVariants.{Unique}
 use Rattle.sqlite_schema.specs.Rules.{Keeps}
 use Rattle.ee_store_tables.specs.Rows.{Rows, Holds, IsInside, Sees, HasRoom, HasRoomIn}
-use Rattle.ee_store_tables.specs.Statements.{IsExcused}
+use Rattle.ee_store_tables.specs.Statements.{HasCause, IsExcused}
 use Rattle.ee_store_tables.specs.Tables.{counter_schema}
 use Rattle.ee_store_tables.proofs.Meaning.{IsWhole, returning_of}
+use Rattle.ee_store_tables.proofs.KeepLemmas.{clean_before}
 
 module _ (old new : State) where
   pub shut_before : old.is_open ≡ false → (failure : Failure) → IsExcused old new failure
@@ -260,3 +261,14 @@ pub excused_before : (old middle new : State) → middle.faults ≤ new.faults �
 excused_before old middle new counts NoMemory h = tt
 excused_before old middle new counts StoreFailed (inl more) = inl (omega (arith, counts, more))
 excused_before old middle new counts StoreFailed (inr shut) = inr shut
+
+-- a cause of a later call is one of both
+pub cause_then : (old middle new : State) {P Q : Trees → Type 0} → Survives old middle P → Survives middle new Q → HasCleanDisk new → HasCause middle new → HasCause old new
+cause_then old middle new first second clean (inl more) = let low = first.counts in inl (omega arith)
+cause_then old middle new first second clean (inr shut) = elim (cases_Bool old.is_open) [
+  | inl is_open ↦ elim (first.closes (clean_before middle new second clean) is_open) [
+    | inl still ↦ absurd (let e = sym still ∙ shut in cc)
+    | inr more ↦ let up = second.counts in inl (omega arith)
+  ]
+  | inr was_shut ↦ inr was_shut
+]

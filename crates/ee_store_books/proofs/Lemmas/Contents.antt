@@ -1,5 +1,5 @@
 -- Lemmas that the proofs of crates above use: the rows of contents.
-use Rattle.std.proofs.Common.{List, Option, Some, map, ℕ, ◌≡◌, ◌≤◌, IfSome}
+use Rattle.std.proofs.Common.{List, Option, Some, filter_map, map, ℕ, ◌++◌, ◌≡◌, ◌≤◌, IfSome}
 use Rattle.std.specs.Cmp.{IsTotalOrder}
 use Rattle.std.specs.FinMap.{FinMap, IsAntisymmetric, entries, from_entries, is_sorted}
 use Rattle.std.specs.Option.{option_and_then, option_map}
@@ -9,18 +9,15 @@ use Rattle.std.specs.declared.cmp.Ordering.{Ordering}
 use Rattle.ee_desk_model.specs.Numbers.{number_cmp, RequestKey}
 use Rattle.ee_desk_model.specs.Seen.{held_as}
 use Rattle.ee_desk_model.specs.Serials.{serial_cmp}
-use Rattle.ee_desk_model.specs.Sound.{IsRightBond, NumberedFrom}
+use Rattle.ee_desk_model.specs.Lists.{Rising}
+use Rattle.ee_desk_model.specs.PlainBooks.{PlainBooks}
+use Rattle.ee_desk_model.specs.Sound.{IsDay, IsRightBond, IsSound, NumberedFrom, day_of_batch}
 use Rattle.ee_desk_model.specs.declared.changes.Kept.{Kept}
+use Rattle.ee_desk_model.specs.declared.replies.Batch.{Batch}
 use Rattle.ee_desk_model.specs.declared.replies.Ticket.{Ticket}
 use Rattle.ee_calculator.specs.declared.bonds.Bond.{Bond}
-use Rattle.ee_store_books.specs.Contents.{PartsFit}
-use Rattle.ee_desk_soundness.specs.Parts.{parts_of}
 use Rattle.ee_desk_model.specs.Repeats.{Content}
-use Rattle.ee_store_books.specs.Standing.{bond_row, bond_rows, desk_rows, extension_rows, key_of, paid_rows, rate_rows, reply_row, reply_rows, ticket_rows, IsRight, StandAt, rows_at, rows_of}
-use Rattle.ee_store_schema.specs.declared.forms.Form.{Form}
-use Rattle.ee_store_schema.specs.Forms.{version_of}
-use Rattle.ee_store_schema.specs.Migrating.{become}
-use Rattle.ee_store_books.proofs.Becoming
+use Rattle.ee_store_books.specs.Standing.{batch_rows, bond_row, bond_rows, desk_rows, extension_entry, extension_rows, key_of, paid_rows, rate_rows, reply_row, reply_rows, ticket_rows, IsRight, StandAt, rows_of}
 use Rattle.ee_units.specs.Denoms.{dollars, denom_with}
 use Rattle.ee_units.specs.Spelling.{SerialNumber, ◌>>=◌, in_range, serial_at}
 use Rattle.ee_units.specs.declared.denoms.Denom.{Denom}
@@ -28,15 +25,13 @@ use Rattle.ee_value.specs.Chain.{rates_with, named_extension}
 use Rattle.ee_value.specs.declared.rates.Rates.{Rates}
 use Rattle.std.specs.FinMap as finite
 use Rattle.ee_desk_texts.specs.Ranges.{IsSerial}
-use Rattle.ee_store_tables.specs.Rows.{Rows, IsText}
-use Rattle.ee_store_load.specs.Opening.{AreReadable, IsOfForm}
+use Rattle.ee_store_tables.specs.Rows.{ReplyRow, Rows, IsText}
+use Rattle.ee_store_books.proofs.DaysInRange
 use Rattle.ee_store_books.proofs.Images
+use Rattle.ee_store_books.proofs.KeptTexts
 use Rattle.ee_store_books.proofs.OneContent
 use Rattle.ee_store_books.proofs.Orders
-use Rattle.ee_store_books.proofs.ReadBack
 use Rattle.ee_store_books.proofs.ReadValues
-use Rattle.ee_store_books.proofs.Readable
-use Rattle.ee_store_books.proofs.RowsOfBooks
 pub use Rattle.ee_store_books.proofs.Orders.{ticket_entry, ticket_lines, batch_entry}
 pub use Rattle.ee_store_books.proofs.OneContent.{head_of, tail_of}
 pub use Rattle.ee_units.proofs.Lemmas.{same_denom}
@@ -79,15 +74,27 @@ ticket_entries = Orders.ticket_entries
 pub paid_entries : (tickets : List Ticket) → NumberedFrom 1 tickets → entries (paid_rows tickets) ≡ flat_map ticket_lines tickets
 paid_entries = Orders.paid_entries
 
+-- the rows of extensions are those of the rates that have one
+pub extension_entries : (rates : FinMap nat_cmp Rates) → entries (extension_rows rates) ≡ filter_map extension_entry (entries rates)
+extension_entries = Images.extension_entries
+
+-- the rows of batches whose days rise are theirs, one after the other
+pub batch_entries : (batches : List Batch) → Rising (map day_of_batch batches) → entries (batch_rows batches) ≡ map batch_entry batches
+batch_entries = Orders.batch_entries
+
+-- the days of batches rise, whether a day is open or not
+pub rising_front : (xs ys : List ℕ) → Rising (xs ++ ys) → Rising xs
+rising_front = Orders.rising_front
+
 -- the entries of a map of sorted entries are these
 pub sorted_entries : {K X : Type 0} {R : K → K → Ordering} → IsTotalOrder R → IsAntisymmetric R → (es : List (K × X)) → T (is_sorted R es)
     → entries (from_entries {R = R} es) ≡ es
 sorted_entries = Images.sorted_entries
 
 -- ---- values
--- the parts of a right content are in range
-pub parts_in_range : (content : Content) → IsRight content → PartsFit (parts_of content.books)
-parts_in_range = RowsOfBooks.parts_in_range
+-- the days of sound books are in range
+pub days_in_range : (books : PlainBooks) → IsSound books → IfSome books.day IsDay × IfSome books.last_day IsDay
+days_in_range = DaysInRange.days_in_range
 
 -- a right bond has the serial number that it stands at
 pub right_bond_is_keyed : (rates : FinMap nat_cmp Rates) (s : SerialNumber) (o : Option Bond) → IfSome o (IsRightBond rates s)
@@ -96,7 +103,7 @@ right_bond_is_keyed = OneContent.keyed
 
 -- if one step after another gave a value, each step gave one
 pub some_from_bind : {A B : Type 0} (o : Option A) (f : A → Option B) (y : B) → (o >>= f) ≡ Some y → (x : A) × (o ≡ Some x) × (f x ≡ Some y)
-some_from_bind = ReadBack.bind_is
+some_from_bind = ReadValues.bind_is
 
 -- ---- plain numbers of rows are read
 -- a number that is read in a range is that number
@@ -123,24 +130,16 @@ denom_read = ReadValues.denom_read
 pub denom_fits : (d : Denom) → IsSome (denom_with (dollars d))
 denom_fits = ReadValues.denom_fits
 
--- ---- the rows of a content are read
--- the rows of a content can be read
-pub readable : (form : Form) (content : Content) → IsRight content → AreReadable form (rows_at (version_of form) content)
-readable = Readable.readable
+-- ---- the texts of a content
+-- a row of a kept reply has texts in UTF-8
+pub reply_texts : (content : Content) → IsRight content → (n : RequestKey) (row : ReplyRow) → finite.get (reply_rows content.kept) n ≡ Some row → IsText row
+reply_texts = KeptTexts.reply_texts
 
 -- the texts that a content keeps are UTF-8
 pub kept_texts : (content : Content) → IsRight content → (n : RequestKey) → IfSome (finite.get (rows_of content).answers n) IsText
-kept_texts = Readable.kept_texts
+kept_texts = KeptTexts.kept_texts
 
+-- ---- one content
 -- rows represent one content at most
 pub one_content : (version : ℕ) (rows : Rows) (one other : Content) → StandAt version rows one → StandAt version rows other → one ≡ other
 one_content = OneContent.one_content
-
--- ---- the rows of version 1
--- the rows of a content in some form become its rows of version 2
-pub becomes : (form : Form) (content : Content) → become form (rows_at (version_of form) content) ≡ rows_of content
-becomes = Becoming.becomes
-
--- rows of a form that become those of a content are its rows in that form
-pub is_at : (form : Form) (content : Content) → IsOfForm form (rows_at (version_of form) content)
-is_at = Becoming.is_at

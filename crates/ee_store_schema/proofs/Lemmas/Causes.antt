@@ -1,5 +1,5 @@
 -- Why a store is told to have failed.
-use Rattle.std.proofs.Common.{◌≡◌, ◌≢◌, inl, inr, ℕ, List, length, Bool, true, false, IsTrue, Some, None, Option, Ok, sym, ap, subst, ◌∙◌, append-nil, arith}
+use Rattle.std.proofs.Common.{◌≡◌, ◌≢◌, inl, inr, ℕ, List, length, Bool, true, false, IsTrue, Some, None, Option, Ok, sym, ap, subst, ◌∙◌, append-nil}
 use Rattle.std.proofs.lemmas.Bool.{cases_Bool}
 use Rattle.sqlite_trees.specs.declared.error.StoreError.{StoreError}
 use Rattle.sqlite_trees.specs.declared.error.StoreError.TheVariants.{OutOfMemory, Io, Corrupt, Full, Broken, Unstorable}
@@ -13,10 +13,9 @@ use Rattle.sqlite.specs.Listing.{understood, IsSourceOf}
 use Rattle.sqlite.specs.Clock.{timed}
 use Rattle.sqlite.specs.State.{State, store_error, HasCleanDisk, Survives, Fails, IsNoStatement, IsNotRun, FailsToShow, FailsToQuery, HasCause as Explains}
 use Rattle.sqlite.proofs.StateLemmas.{survives_then}
-use Rattle.ee_store_tables.proofs.Lemmas.Transactions.{clean_before}
+use Rattle.ee_store_tables.proofs.Lemmas.Causes.{cause_then}
 use Rattle.ee_store_schema.specs.declared.faults.OpenFault.{OpenFault}
 use Rattle.ee_store_schema.specs.declared.faults.OpenFault.TheVariants.{StoreFailed}
-use Rattle.ee_store_tables.specs.Statements.{HasCause}
 use Rattle.ee_store_schema.specs.Faults.{fault_of, IsExcused}
 use Rattle.ee_store_schema.specs.Asking.{IsOneStatement, NeverRefuses, IsNeverRefused}
 
@@ -25,18 +24,7 @@ never_both b on off = let e = sym on ∙ off in cc
 
 -- ---- from one call to the next
 
--- a cause of a later call is one of both
-pub cause_then : (old middle new : State) {P Q : Trees → Type 0} → Survives old middle P → Survives middle new Q → HasCleanDisk new → HasCause middle new → HasCause old new
-cause_then old middle new first second clean (inl more) = let low = first.counts in inl (omega arith)
-cause_then old middle new first second clean (inr shut) = elim (cases_Bool old.is_open) [
-  | inl is_open ↦ elim (first.closes (clean_before middle new second clean) is_open) [
-    | inl still ↦ absurd (never_both middle.is_open still shut)
-    | inr more ↦ let up = second.counts in inl (omega arith)
-  ]
-  | inr was_shut ↦ inr was_shut
-]
-
--- and so it is told
+-- a cause of a later call is told of both
 pub excused_then : (old middle new : State) {P Q : Trees → Type 0} → Survives old middle P → Survives middle new Q → HasCleanDisk new → (fault : OpenFault) → IsExcused middle new fault → IsExcused old new fault
 excused_then old middle new first second clean fault excuse told = cause_then old middle new first second clean (excuse told)
 

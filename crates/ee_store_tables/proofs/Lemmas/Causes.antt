@@ -1,14 +1,14 @@
 -- Why statements fail, and how much room they leave.
 use Rattle.std.proofs.Common.{ℕ, ◌+◌, ◌≤◌, ◌^◌, false, IsTrue, [], sym, subst, ◌≡◌}
 use Rattle.sqlite.specs.Effect.{Database, IsDatabase}
-use Rattle.sqlite.specs.State.{State, Shows, IsUnchanged}
+use Rattle.sqlite.specs.State.{State, HasCleanDisk, Shows, Survives, IsUnchanged}
 use Rattle.sqlite.specs.Tree.{Trees}
 use Rattle.sqlite_schema.specs.Rules.{Refers}
 use Rattle.sqlite_schema.specs.declared.schema.Among.{Among}
 use Rattle.ee_store_tables.specs.Tables.{counter_schema}
 use Rattle.ee_store_tables.specs.declared.failures.Failure.{Failure}
 use Rattle.ee_store_tables.specs.Rows.{Rises, HasRoomIn, HasRoom}
-use Rattle.ee_store_tables.specs.Statements.{IsExcused}
+use Rattle.ee_store_tables.specs.Statements.{HasCause, IsExcused}
 use Rattle.ee_store_tables.proofs.CauseLemmas
 use Rattle.ee_store_tables.proofs.RefusalLemmas
 use Rattle.ee_store_tables.proofs.RoomLemmas
@@ -26,6 +26,10 @@ excused_after = CauseLemmas.excused_after
 -- the cause of a failure that came before another statement
 pub excused_before : (old middle new : State) → middle.faults ≤ new.faults → (failure : Failure) → IsExcused old middle failure → IsExcused old new failure
 excused_before = CauseLemmas.excused_before
+
+-- a cause of a later call is one of both
+pub cause_then : (old middle new : State) {P Q : Trees → Type 0} → Survives old middle P → Survives middle new Q → HasCleanDisk new → HasCause middle new → HasCause old new
+cause_then = CauseLemmas.cause_then
 
 -- no table refers to another
 pub no_references : (among : Among) (db : Trees) → Refers among counter_schema db

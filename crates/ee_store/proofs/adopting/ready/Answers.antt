@@ -11,17 +11,18 @@ use Rattle.ee_store_schema.specs.Making.{first_rows}
 use Rattle.ee_store_load.specs.Whole as whole
 use Rattle.ee_store_load.specs.Opening.{AreReadable}
 use Rattle.ee_desk_model.specs.Repeats.{Content}
-use Rattle.ee_store_books.specs.Contents.{KeepsAnswer}
+use Rattle.ee_store_contents.specs.Contents.{KeepsAnswer}
 use Rattle.ee_store_books.specs.Standing.{rows_at, StandAt}
 use Rattle.ee_store_schema.proofs.Lemmas.Faults.{each_fault, two_faults, handed_on}
-use Rattle.ee_store_schema.proofs.Lemmas.Causes.{cause_then, excused_if_open}
+use Rattle.ee_store_schema.proofs.Lemmas.Causes.{excused_if_open}
+use Rattle.ee_store_tables.proofs.Lemmas.Causes.{cause_then}
 use Rattle.ee_store_schema.proofs.Lemmas.Forms.{not_blank}
 use Rattle.ee_store_load.proofs.Lemmas.{one_version}
 use Rattle.ee_store.specs.Adopted.{HadNone, HadOtherVersion, HadNoOtherVersion, FailsToAdopt}
 use Rattle.ee_store.proofs.Opened.{of_nothing, begun_survives, of_version, blank_had_none}
 use Rattle.ee_store.proofs.Migrated.{lists_all, made_of, fits_rows, keeps_content, has_some, stood_for_none, is_ours, not_begun, leaves_as_before, leaves_present, read_then}
 use Rattle.ee_store.proofs.Meeting.{goes_on, carries_world, begins_world, stays_stopped}
-use Rattle.ee_store_books.proofs.Lemmas.Contents.{readable}
+use Rattle.ee_store_contents.proofs.Lemmas.{readable}
 use Rattle.ee_store.proofs.OpenedRoom.{opened_room}
 use Rattle.ee_store.proofs.adopting.ready.Goals as goal
 

@@ -1,7 +1,7 @@
 use Rattle.std.proofs.Common.{rules, ◌∙◌}
 use Rattle.sqlite.specs.Held.{state}
 use Rattle.std.proofs.lemmas.Result.{IfOk-weaker}
-use Rattle.ee_store_books.proofs.Lemmas.Contents.{get_desk_row, parts_in_range}
+use Rattle.ee_store_books.proofs.Lemmas.Contents.{get_desk_row, days_in_range}
 use Rattle.ee_store_books.specs.Standing.{rows_of}
 use Rattle.ee_store_books.proofs.Lemmas.Lookups.{always, statement_failed, served, unchanged_rows}
 use Rattle.ee_store_delivery.proofs.view.days_in.Goals as goal
@@ -30,6 +30,6 @@ returns-in_err-found-clause-cause g c clean inside unlimited S sees any =
 
 pub returns-clause-cause : goal.returns-clause-cause
 returns-clause-cause g c clean inside unlimited S sees any =
-    let fits = parts_in_range S sees.right in
+    let fits = days_in_range S.books sees.right.sound in
     served _ c.days_shown.result
-    (c.days_shown.ensures.read (record { version = 2; day = S.books.day; last_day = S.books.last_day }) (c.in_ok-found.ensures.found clean (rows_of S) sees.rows ∙ get_desk_row 2 S.books.day S.books.last_day) fits.day fits.last_day)
+    (c.days_shown.ensures.read (record { version = 2; day = S.books.day; last_day = S.books.last_day }) (c.in_ok-found.ensures.found clean (rows_of S) sees.rows ∙ get_desk_row 2 S.books.day S.books.last_day) fits.0 fits.1)

@@ -11,7 +11,8 @@ use Rattle.ee_store_schema.specs.Faults.{IsExcused}
 use Rattle.ee_store_schema.specs.Asking.{IsNeverRefused}
 use Rattle.ee_store_schema.proofs.Lemmas.Faults.{query_usable, told_as, handed_on}
 use Rattle.ee_store_load.proofs.TestLemmas.{shown_more}
-use Rattle.ee_store_schema.proofs.Lemmas.Causes.{query_excused, cause_then}
+use Rattle.ee_store_schema.proofs.Lemmas.Causes.{query_excused}
+use Rattle.ee_store_tables.proofs.Lemmas.Causes.{cause_then}
 use Rattle.ee_store_load.proofs.AskLemmas.{commits_nothing, begun_asking, shown_after, begins_before, last_of}
 use Rattle.ee_store_load.proofs.reading.gather_rows.Goals as goal
 

@@ -2,7 +2,7 @@ use Rattle.std.proofs.Common.{rules, ◌≡◌, ap, ◌∙◌}
 use Rattle.std.specs.List.{filter_map}
 use Rattle.sqlite.specs.Held.{state}
 use Rattle.ee_desk_model.specs.Queries.{row_of, sheet_of}
-use Rattle.ee_desk.proofs.Lemmas.{sheet_shows_rows}
+use Rattle.ee_desk_decide.proofs.Lemmas.{sheet_shows_rows}
 use Rattle.ee_store_tables.proofs.Lemmas.Transactions.{clean_before}
 use Rattle.ee_store_books.specs.Standing.{rows_of}
 use Rattle.ee_store_books.specs.Seen.{SeesContent}

@@ -1,5 +1,0 @@
-use Rattle.std.proofs.Common.{rules}
-use Rattle.ee_store_books.proofs.rates.other_rate.Goals as goal
-
-pub returns-then-eq : goal.returns-then-eq
-returns-then-eq c = search rules

@@ -1,5 +1,0 @@
-use Rattle.std.proofs.Common.{rules}
-use Rattle.ee_store_books.proofs.tickets.line_at.Goals as goal
-
-pub returns-then-row-place : goal.returns-then-row-place
-returns-then-row-place c = search rules

@@ -1,0 +1,11 @@
+mod ReadBack
+mod RatesBack
+mod RowsOfBooks
+mod NotedMarks
+mod KeptRows
+mod Founded
+mod KeptTables
+mod FoundParts
+mod Readable
+mod Becoming
+pub mod Lemmas

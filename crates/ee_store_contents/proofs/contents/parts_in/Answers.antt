@@ -1,0 +1,67 @@
+use Rattle.std.proofs.Common.{rules, ◌≡◌, Some, ◌∙◌}
+use Rattle.ee_units.specs.Spelling.{SerialNumber}
+use Rattle.ee_desk_model.specs.PlainBooks.{ticket_of}
+use Rattle.ee_store_contents.specs.Reading.{each, days_in, rates_in, bond_in, tickets_in, batch_in, mark_at}
+use Rattle.ee_store_schema.specs.Forms.{version_of}
+use Rattle.ee_store_contents.proofs.FoundParts.{parts_found}
+use Rattle.ee_store_contents.proofs.contents.parts_in.Goals as goal
+
+pub returns-clause-value : goal.returns-clause-value
+returns-clause-value c =
+    let stored = c.args.stored.now in
+    let days : days_in (version_of stored.form) stored.desk.items ≡ Some c.in-Some.days = search rules in
+    let rates : rates_in stored.rates.items stored.extensions.items ≡ Some c.in-Some-2.rates.items = search rules in
+    let tickets : tickets_in stored.tickets.items stored.lines.items ≡ Some c.in-Some-3.tickets.items = search rules in
+    let marks : (q : SerialNumber) → mark_at c.in_ok-marks.marks.entries q ≡ ticket_of c.in-Some-3.tickets.items q = search rules in
+    let bonds : each (bond_in (mark_at c.in_ok-marks.marks.entries)) stored.bonds.items ≡ Some c.in-Some-4.bonds.items = search rules in
+    let batches : each batch_in stored.batches.items ≡ Some c.in-Some-5.batches.items = search rules in
+    (λ i. Some (record { rates = c.new.ensures i; bonds = c.new-2.ensures i; day = c.in-Some.days.day; last_day = c.in-Some.days.last_day; tickets = c.new-3.ensures i; batches = c.new-4.ensures i }))
+    ∙ parts_found stored c.in-Some.days c.in-Some-2.rates.items c.in-Some-3.tickets.items c.in_ok-marks.marks.entries c.in-Some-4.bonds.items c.in-Some-5.batches.items days rates tickets marks bonds batches
+
+pub returns-clause-fits : goal.returns-clause-fits
+returns-clause-fits c = search rules
+
+pub returns-in_default-2-clause-fits : goal.returns-in_default-2-clause-fits
+returns-in_default-2-clause-fits c = search rules
+
+pub returns-in_default-3-clause-fits : goal.returns-in_default-3-clause-fits
+returns-in_default-3-clause-fits c = search rules
+
+pub returns-in_default-4-clause-fits : goal.returns-in_default-4-clause-fits
+returns-in_default-4-clause-fits c = search rules
+
+pub returns-in_default-5-clause-fits : goal.returns-in_default-5-clause-fits
+returns-in_default-5-clause-fits c = search rules
+
+pub returns-in_default-clause-fits : goal.returns-in_default-clause-fits
+returns-in_default-clause-fits c = search rules
+
+pub returns-in_err-batches-clause-fits : goal.returns-in_err-batches-clause-fits
+returns-in_err-batches-clause-fits c = search rules
+
+pub returns-in_err-batches-clause-value : goal.returns-in_err-batches-clause-value
+returns-in_err-batches-clause-value c = search rules
+
+pub returns-in_err-bonds-clause-fits : goal.returns-in_err-bonds-clause-fits
+returns-in_err-bonds-clause-fits c = search rules
+
+pub returns-in_err-bonds-clause-value : goal.returns-in_err-bonds-clause-value
+returns-in_err-bonds-clause-value c = search rules
+
+pub returns-in_err-marks-clause-fits : goal.returns-in_err-marks-clause-fits
+returns-in_err-marks-clause-fits c = search rules
+
+pub returns-in_err-marks-clause-value : goal.returns-in_err-marks-clause-value
+returns-in_err-marks-clause-value c = search rules
+
+pub returns-in_err-rates-clause-fits : goal.returns-in_err-rates-clause-fits
+returns-in_err-rates-clause-fits c = search rules
+
+pub returns-in_err-rates-clause-value : goal.returns-in_err-rates-clause-value
+returns-in_err-rates-clause-value c = search rules
+
+pub returns-in_err-tickets-clause-fits : goal.returns-in_err-tickets-clause-fits
+returns-in_err-tickets-clause-fits c = search rules
+
+pub returns-in_err-tickets-clause-value : goal.returns-in_err-tickets-clause-value
+returns-in_err-tickets-clause-value c = search rules

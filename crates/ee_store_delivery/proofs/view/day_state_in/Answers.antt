@@ -1,0 +1,41 @@
+use Rattle.std.proofs.Common.{rules, ◌∙◌}
+use Rattle.sqlite.specs.Held.{state}
+use Rattle.ee_store_tables.proofs.Lemmas.Transactions.{clean_before}
+use Rattle.ee_store_books.specs.Standing.{rows_of}
+use Rattle.ee_store_books.specs.Seen.{SeesContent}
+use Rattle.ee_store_books.proofs.Lemmas.Lookups.{seen_then, excused_later, handed_on}
+use Rattle.ee_store_delivery.proofs.view.day_state_in.Goals as goal
+
+pub returns-clause-found : goal.returns-clause-found
+returns-clause-found g c clean inside S sees =
+    let middle = state g.S.Store c.days_in.new.tx.conn.now in
+    let new = state g.S.Store c.counts_in.new.tx.conn.now in
+    let before = clean_before middle new c.counts_in.ensures.only_reads.crash clean in
+    let still : SeesContent middle S = record { right = sees.right; rows = (c.in_ok-days.ensures.only_reads.rows before inside (rows_of S) sees.rows).0 } in
+    let d = c.in_ok-days.ensures.found before inside S sees in
+    let n = c.in_ok-counts.ensures.found clean (c.in_ok-days.ensures.only_reads.inside before inside) S still d.0 in
+    record { day = d.0; last_day = d.1; tickets = n.0; day_tickets = n.1; day_bonds = n.2; day_total = n.3 }
+
+pub returns-clause-only_reads : goal.returns-clause-only_reads
+returns-clause-only_reads g c = record {
+  still_open = search rules;
+  inside = search rules;
+  rows = λ clean inside rows sees.
+      let middle = state g.S.Store c.days_in.new.tx.conn.now in
+      let new = state g.S.Store c.counts_in.new.tx.conn.now in
+      let before = clean_before middle new c.counts_in.ensures.only_reads.crash clean in
+      seen_then (state g.S.Store c.args.tx.now.conn.now) middle new rows (c.in_ok-days.ensures.only_reads.rows before inside rows sees) (c.in_ok-counts.ensures.only_reads.rows clean (c.in_ok-days.ensures.only_reads.inside before inside) rows);
+  commit = search rules;
+  crash = search rules;
+}
+
+pub returns-in_err-counts-clause-cause : goal.returns-in_err-counts-clause-cause
+returns-in_err-counts-clause-cause g c clean inside unlimited S sees any =
+    let old = state g.S.Store c.args.tx.now.conn.now in
+    let middle = state g.S.Store c.days_in.new.tx.conn.now in
+    let new = state g.S.Store c.counts_in.new.tx.conn.now in
+    let before = clean_before middle new c.counts_in.ensures.only_reads.crash clean in
+    let still : SeesContent middle S = record { right = sees.right; rows = (c.in_ok-days.ensures.only_reads.rows before inside (rows_of S) sees.rows).0 } in
+    handed_on _ c.from_residual-in_err-counts.result c.in_err-counts.field-0.0 c.from_residual-in_err-counts.ensures.1
+    (excused_later old middle new clean c.days_in.ensures.only_reads.crash c.counts_in.ensures.only_reads.crash _
+    (c.in_err-counts.ensures.cause clean (c.in_ok-days.ensures.only_reads.inside before inside) (c.days_in.ensures.only_reads.crash.limit ∙ unlimited) S still tt))
