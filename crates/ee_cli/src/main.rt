@@ -1,9 +1,10 @@
 //! The counter of a paying agent for paper Series EE savings bonds: the program.
 #![tactic(auto)]
 
-use ee_cli_program::{refuse_words, run_words};
+use ee_cli_commands::read_help;
+use ee_cli_program::{REFUSED, refuse_words, run_words};
 use ee_cli_stores::{StoreFiles, Untold};
-use std::io;
+use std::io::{self, IsTerminal, Write};
 use std::process::ExitCode;
 
 fn main(rt: HostRuntime) -> ExitCode {
@@ -13,19 +14,35 @@ fn main(rt: HostRuntime) -> ExitCode {
     })
 }
 
-/// Runs the line of these words over stores in files, and gives its exit status.
+/// Runs the line of these words over stores in files, and gives its exit status. On a terminal faults are
+/// explained, and the answers of `apply`, which end without a line end, get one.
 fn run(rt: &HostRuntime, words: &[String]) -> u8 {
     let stores = StoreFiles { rt, start: Untold };
-    run_words(
+    let status = run_words(
         rt,
         &stores,
         words,
+        rt.stderr().is_terminal(),
         &mut rt.stdin(),
         &mut rt.stdout(),
         &mut rt.stderr(),
-    )
+    );
+    if status <= REFUSED && answers_messages(words) && rt.stdout().is_terminal() {
+        let _ended = writeln!(rt.stdout());
+    }
+    status
 }
 
+/// Whether the line is one of `apply`.
+fn answers_messages(words: &[String]) -> bool {
+    match words {
+        [_, command, ..] => command.as_str() == "apply",
+        _ => false,
+    }
+}
+
+/// The words of the line, `help` among them read as `--help`.
 fn words(rt: &HostRuntime) -> io::Result<Vec<String>> {
-    Ok(std::env::args(rt)?.collect(rt.alloc())?)
+    let words = std::env::args(rt)?.collect(rt.alloc())?;
+    Ok(read_help(rt.alloc(), words)?)
 }

@@ -7,6 +7,7 @@ use Rattle.std.specs.Str.Parse.{digits_value, without_leading_plus}
 use Rattle.clap.specs.Words.{App, Row, Rule, Text, first_of, one_of, new_app, new_rule, subcommand_of, with_rule, with_subcommand}
 use Rattle.clap.specs.ValueTests.{is_unsigned_in}
 use Rattle.clap.specs.declared.builder.ValueParser.TheVariants as parser
+use Rattle.clap.specs.declared.builder.ArgAction.TheVariants.{SetTrue}
 use Rattle.ee_units.specs.Spelling.{rate_of, month_of, issue_of, customer_of}
 use Rattle.ee_units.specs.Denoms.{denom_of}
 use Rattle.ee_units.specs.declared.denoms.Denom.{Denom}
@@ -39,6 +40,14 @@ number_option id most = record (option id) { parser = Some (parser.Unsigned 1 mo
 abbrev pub optional_number : Text → ℕ → Rule
 optional_number id most = record (number_option id most) { required = false }
 
+-- an optional flag `--id`
+abbrev pub flag : Text → Rule
+flag id = record (new_rule id) { long = Some id; action = Some SetTrue }
+
+-- a row, which takes `--explain` too
+abbrev pub explained : App → App
+explained row = with_rule row (flag (codes "explain"))
+
 -- the words for the kinds of files
 abbrev pub kind_words : List Text
 kind_words = codes "rates" ∷ codes "inventory" ∷ []
@@ -53,34 +62,34 @@ most_connections = 1000
 abbrev pub unlimited : ℕ
 unlimited = 18446744073709551615
 
--- value DENOM ISSUED MONTH RATE [EXTENSION]
+-- value DENOM ISSUED MONTH RATE [EXTENSION]; each row also takes --explain
 abbrev pub value_row : App
-value_row = with_rule (with_rule (with_rule (with_rule (with_rule (new_app (codes "value")) (positional (codes "denom")))
-    (positional (codes "issued"))) (positional (codes "month"))) (positional (codes "rate"))) (optional_positional (codes "extension"))
+value_row = explained (with_rule (with_rule (with_rule (with_rule (with_rule (new_app (codes "value")) (positional (codes "denom")))
+    (positional (codes "issued"))) (positional (codes "month"))) (positional (codes "rate"))) (optional_positional (codes "extension")))
 
 -- apply --db DB
 abbrev pub apply_row : App
-apply_row = with_rule (new_app (codes "apply")) (option (codes "db"))
+apply_row = explained (with_rule (new_app (codes "apply")) (option (codes "db")))
 
 -- import KIND FILE --db DB --number N [--desk K]
 abbrev pub import_row : Bor (List (Bor Text)) → App
-import_row kinds = with_rule (with_rule (with_rule (with_rule (with_rule (new_app (codes "import"))
+import_row kinds = explained (with_rule (with_rule (with_rule (with_rule (with_rule (new_app (codes "import"))
     (record (positional (codes "kind")) { parser = Some (parser.Names kinds) }))
-    (positional (codes "file"))) (option (codes "db"))) (number_option (codes "number") highest_number)) (optional_option (codes "desk"))
+    (positional (codes "file"))) (option (codes "db"))) (number_option (codes "number") highest_number)) (optional_option (codes "desk")))
 
 -- export CUSTOMER --db DB
 abbrev pub export_row : App
-export_row = with_rule (with_rule (new_app (codes "export")) (positional (codes "customer"))) (option (codes "db"))
+export_row = explained (with_rule (with_rule (new_app (codes "export")) (positional (codes "customer"))) (option (codes "db")))
 
 -- sheet CUSTOMER MONTH --db DB
 abbrev pub sheet_row : App
-sheet_row = with_rule (with_rule (with_rule (new_app (codes "sheet")) (positional (codes "customer")))
-    (positional (codes "month"))) (option (codes "db"))
+sheet_row = explained (with_rule (with_rule (with_rule (new_app (codes "sheet")) (positional (codes "customer")))
+    (positional (codes "month"))) (option (codes "db")))
 
 -- serve --db DB --port P [--connections N]
 abbrev pub serve_row : App
-serve_row = with_rule (with_rule (with_rule (new_app (codes "serve")) (option (codes "db")))
-    (number_option (codes "port") most_port)) (optional_number (codes "connections") most_connections)
+serve_row = explained (with_rule (with_rule (with_rule (new_app (codes "serve")) (option (codes "db")))
+    (number_option (codes "port") most_port)) (optional_number (codes "connections") most_connections))
 
 -- the program without a row: a line has to name one, only --help asks for help, and --version comes before any row
 abbrev pub no_row : App

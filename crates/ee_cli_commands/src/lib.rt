@@ -7,9 +7,11 @@
 mod commands;
 mod lines;
 mod meaning;
+mod options;
 mod rows;
 mod words;
 
 pub use commands::{Command, CommandFault, FileKind, read_command};
 pub use meaning::one_meaning;
+pub use options::{asks_to_explain, read_help};
 pub use rows::VERSION;

@@ -8,7 +8,7 @@ ghost use Rattle.clap.specs.declared.builder.ValueParser.TheVariants.{Names};
 ghost use Rattle.ee_cli_commands.specs.CommandLine as is;
 ghost use Rattle.ee_desk_model.specs.Limits.{highest_number};
 
-use clap::{Arg, Command, value_parser};
+use clap::{Arg, ArgAction, Command, value_parser};
 use std::alloc::{AllocError, Global};
 
 /// The version of the program.
@@ -17,6 +17,7 @@ pub const VERSION: &str = "1.0.0";
 // The notes below the commands in the program's help.
 const NOTES: &str = "\
 ee_cli COMMAND --help tells the words of a command, with an example.
+ee_cli COMMAND .. --explain says the cause of a fault, and what to do, on a second line.
 
 Exit status:
   0  done
@@ -103,7 +104,8 @@ fn value_command<'a>(alloc: Global) -> Result<Command<'a>, AllocError>
         row,
         positional(alloc, "rate", "Fixed rate in percent, as 3.50"),
     );
-    with(row, extension(alloc))
+    let row = with(row, extension(alloc));
+    with(row, explain(alloc))
 }
 
 fn apply_command<'a>(alloc: Global) -> Result<Command<'a>, AllocError>
@@ -116,7 +118,8 @@ fn apply_command<'a>(alloc: Global) -> Result<Command<'a>, AllocError>
         "Answer the messages of standard input",
         "Example:\n  ee_cli apply --db day.db < requests.http",
     );
-    with(Ok(row), store(alloc))
+    let row = with(Ok(row), store(alloc));
+    with(row, explain(alloc))
 }
 
 fn import_command<'a>(alloc: Global) -> Result<Command<'a>, AllocError>
@@ -133,7 +136,8 @@ fn import_command<'a>(alloc: Global) -> Result<Command<'a>, AllocError>
     let row = with(row, positional(alloc, "file", "The CSV file"));
     let row = with(row, store(alloc));
     let row = with(row, request_number(alloc));
-    with(row, desk(alloc))
+    let row = with(row, desk(alloc));
+    with(row, explain(alloc))
 }
 
 fn export_command<'a>(alloc: Global) -> Result<Command<'a>, AllocError>
@@ -147,7 +151,8 @@ fn export_command<'a>(alloc: Global) -> Result<Command<'a>, AllocError>
         "Example:\n  ee_cli export 7 --db day.db",
     );
     let row = with(Ok(row), customer(alloc));
-    with(row, store(alloc))
+    let row = with(row, store(alloc));
+    with(row, explain(alloc))
 }
 
 fn sheet_command<'a>(alloc: Global) -> Result<Command<'a>, AllocError>
@@ -165,7 +170,8 @@ fn sheet_command<'a>(alloc: Global) -> Result<Command<'a>, AllocError>
         row,
         positional(alloc, "month", "Month of the values, as 2015-05"),
     );
-    with(row, store(alloc))
+    let row = with(row, store(alloc));
+    with(row, explain(alloc))
 }
 
 fn serve_command<'a>(alloc: Global) -> Result<Command<'a>, AllocError>
@@ -180,7 +186,8 @@ fn serve_command<'a>(alloc: Global) -> Result<Command<'a>, AllocError>
     );
     let row = with(Ok(row), store(alloc));
     let row = with(row, port(alloc));
-    with(row, connections(alloc))
+    let row = with(row, connections(alloc));
+    with(row, explain(alloc))
 }
 
 // The row with this name, with one text above its words in its help, and one below them.
@@ -226,6 +233,18 @@ fn option<'a>(alloc: Global, id: &'a str, help: &'a str) -> Arg<'a>
     ensures local { result.global ≡ false }
 {
     Arg::new(alloc, id).long(id).required(true).help(help)
+}
+
+/// The flag that every row takes. The program's help names it; it is hidden in the usage of the rows, whose text
+/// belongs to the faults of a line.
+fn explain<'a>(alloc: Global) -> Arg<'a>
+    ensures rule { rule_of result ≡ is.flag (codes "explain") }
+    ensures local { result.global ≡ false }
+{
+    Arg::new(alloc, "explain")
+        .long("explain")
+        .action(ArgAction::SetTrue)
+        .hide(true)
 }
 
 fn customer<'a>(alloc: Global) -> Arg<'a>

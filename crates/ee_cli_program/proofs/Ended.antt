@@ -14,7 +14,7 @@ use Rattle.ee_cli_actions.specs.declared.faults.RunFault.{RunFault}
 use Rattle.ee_cli_commands.specs.CommandLine.{Asked, value}
 use Rattle.ee_cli_commands.specs.Answer.{IsAsked, IsRefused}
 use Rattle.ee_cli_commands.proofs.Lemmas.{asks_for_help_alone, asks_for_version_alone, asks_for_one, asks_unrefused}
-use Rattle.ee_cli_value.specs.Statuses.{IsStatusFor}
+use Rattle.ee_cli_value.specs.Statuses.{IsStatusFor, IsStatusOf}
 use Rattle.ee_cli_program.specs.Statuses.{AsksToShow, Carries, Ends, IsRun, ending_of_print}
 
 -- ---- the words determine what they ask for
@@ -102,12 +102,18 @@ is_refused words Carried asked status is w one = record {
 }
 
 -- a command was carried out
-pub concluded : (words : List Text) (Carried : Asked → Result Outcome RunFault → Type 0) (asked : Asked) (ended : Outcome) (status : ℕ)
+concluded : (words : List Text) (Carried : Asked → Result Outcome RunFault → Type 0) (asked : Asked) (ended : Outcome) (status : ℕ)
     → IsAsked words (Ok asked) → Carried asked (Ok ended) → IsStatusFor ended status → IsRun words Carried status
 concluded words Carried asked outcome.Done status is w h = is_done words Carried asked status is w h
 concluded words Carried asked outcome.Refused status is w h = is_refused words Carried asked status is (inl w) h
 concluded words Carried asked (outcome.Unsettled age) status is w (inl one) = is_refused words Carried asked status is (inr (age, w)) one
 concluded words Carried asked (outcome.Unsettled age) status is w (inr three) = is_failed words Carried status three
+
+-- a command was carried out, or failed
+pub settled : (words : List Text) (Carried : Asked → Result Outcome RunFault → Type 0) (asked : Asked) (ended : Result Outcome RunFault) (status : ℕ)
+    → IsAsked words (Ok asked) → Carried asked ended → IsStatusOf ended status → IsRun words Carried status
+settled words Carried asked (Ok ended) status is w h = concluded words Carried asked ended status is w h
+settled words Carried asked (Err cause) status is w h = is_failed words Carried status h
 
 -- help or the version was asked for
 shown_at_zero : (words : List Text) (Carried : Asked → Result Outcome RunFault → Type 0) (status : ℕ) → AsksToShow words → status ≡ 0 → IsRun words Carried status

@@ -1,36 +1,40 @@
 //! Carrying out a command.
 
-ghost use Rattle.std.specs.Prelude.{◌≡◌, IfOk, OnOk, None};
+ghost use Rattle.std.specs.Prelude.{◌≡◌, Err, IfOk, IfSome, OnOk, None};
 ghost use Rattle.clap.specs.Words.{Text};
 ghost use Rattle.ee_desk_model.specs.Repeats.{Content};
 ghost use Rattle.ee_cli_actions.specs.Actions.{Applies, ExportsFrom, ImportsInto, ShowsSheet};
 ghost use Rattle.ee_cli_actions.specs.Connections.{ServesAll};
 ghost use Rattle.ee_cli_commands.specs.Answer.{view_of};
-ghost use Rattle.ee_cli_program.specs.Statuses.{Carries};
+ghost use Rattle.ee_cli_program.specs.Statuses.{Carries, ShowsValue};
 ghost use Rattle.ee_cli_program.specs.Stores.{AreClean, CarriesOver, EndsAs, Over};
+ghost use Rattle.ee_cli_program.specs.Told.{TellsOnlyIf, fault_of_cause};
 
-use crate::opening::{import_path, serve_port};
-use crate::stores::Stores;
+use crate::explaining::Cause;
+use crate::opening::{Carried, import_path, serve_port};
+use crate::stores::{Stores, Unopened};
 use ee_cli_actions::{Outcome, RunFault, apply_to, export_from, sheet_of};
 use ee_cli_commands::{Command, FileKind};
 use ee_cli_value::print_value;
 use ee_desk_model::{Desk, Number};
 use ee_io::{Sink, Source};
-use ee_units::{Customer, Month};
+use ee_units::{Customer, Denom, IssueMonth, Month};
 use ee_value::Rates;
 
-/// Carries out a command. A store is opened before a file or a port is.
+/// Carries out a command. A store is opened before a file or a port is. `told`: a cause is told only of a command
+/// that failed for it.
 pub fn carry_out<O: Stores, R: Source, W: Sink>(
     rt: &HostRuntime,
     stores: &O,
     command: &Command,
     input: &mut R,
     output: &mut W,
-) -> Result<Outcome, RunFault>
-    ensures carries { Carries (W.contents output.old) (W.contents output.new) (view_of command.now) result }
+) -> Carried
+    ensures carries { Carries (W.contents output.old) (W.contents output.new) (view_of command.now) result.ended }
     ensures over { AreClean O.Store.is_clean → (contents : Text → Content) → ((path : Text) → O.holds stores.now path (contents path))
         → CarriesOver O.Store.has O.rests contents (R.remaining input.old) (R.remaining input.new) (W.contents output.old) (W.contents output.new)
-        (view_of command.now) result }
+        (view_of command.now) result.ended }
+    ensures told { TellsOnlyIf result.ended result.cause }
 {
     match *command {
         Command::Value {
@@ -41,7 +45,7 @@ pub fn carry_out<O: Stores, R: Source, W: Sink>(
             extension,
         } => {
             let rates = Rates::new(rate, extension);
-            Ok(print_value(rt.alloc(), denom, issued, month, rates, output)?)
+            without_cause(value(rt, denom, issued, month, rates, output))
         }
         Command::Apply(store) => apply(rt, stores, store, input, output),
         Command::Import {
@@ -71,17 +75,18 @@ fn apply<O: Stores, R: Source, W: Sink>(
     db: &str,
     input: &mut R,
     output: &mut W,
-) -> Result<Outcome, RunFault>
-    ensures { AreClean O.Store.is_clean → (c : Content) → O.holds stores.now db.now c
-        → Over O.rests (W.contents output.old) (W.contents output.new) result
+) -> Carried
+    ensures over { AreClean O.Store.is_clean → (c : Content) → O.holds stores.now db.now c
+        → Over O.rests (W.contents output.old) (W.contents output.new) result.ended
         (λ left ended. Applies (R.remaining input.old) (R.remaining input.new) (W.contents output.old) (W.contents output.new) c ended (O.Store.has left)) }
+    ensures told { TellsOnlyIf result.ended result.cause }
 {
     match stores.open(db) {
         Ok(mut store) => {
             let ended = apply_to(rt.alloc(), &mut store, input, output);
-            end(stores, store, ended)
+            without_cause(end(stores, store, ended))
         }
-        Err(fault) => Err(fault),
+        Err(not) => not_opened(not),
     }
 }
 
@@ -94,17 +99,22 @@ fn import<O: Stores, W: Sink>(
     desk: Desk,
     number: Number,
     output: &mut W,
-) -> Result<Outcome, RunFault>
-    ensures { AreClean O.Store.is_clean → (c : Content) → O.holds stores.now db.now c
-        → Over O.rests (W.contents output.old) (W.contents output.new) result
+) -> Carried
+    ensures over { AreClean O.Store.is_clean → (c : Content) → O.holds stores.now db.now c
+        → Over O.rests (W.contents output.old) (W.contents output.new) result.ended
         (λ left ended. ImportsInto kind None (W.contents output.old) (W.contents output.new) (desk, number) c ended (O.Store.has left)) }
+    ensures told { TellsOnlyIf result.ended result.cause }
 {
     match stores.open(db) {
         Ok(mut store) => {
-            let ended = import_path(rt, &mut store, kind, file, desk, number, output);
-            end(stores, store, ended)
+            let tried = import_path(rt, &mut store, kind, file, desk, number, output);
+            let ended = end(stores, store, tried.ended);
+            Carried {
+                ended,
+                cause: tried.cause,
+            }
         }
-        Err(fault) => Err(fault),
+        Err(not) => not_opened(not),
     }
 }
 
@@ -114,18 +124,19 @@ fn export<O: Stores, W: Sink>(
     customer: Customer,
     db: &str,
     output: &mut W,
-) -> Result<Outcome, RunFault>
+) -> Carried
     ensures over { AreClean O.Store.is_clean → (c : Content) → O.holds stores.now db.now c
-        → Over O.rests (W.contents output.old) (W.contents output.new) result
+        → Over O.rests (W.contents output.old) (W.contents output.new) result.ended
         (λ left ended. ExportsFrom (W.contents output.old) (W.contents output.new) customer c ended (O.Store.has left)) }
-    ensures done { IfOk result (λ outcome. outcome ≡ Outcome.Done) }
+    ensures done { IfOk result.ended (λ outcome. outcome ≡ Outcome.Done) }
+    ensures told { TellsOnlyIf result.ended result.cause }
 {
     match stores.open(db) {
         Ok(mut store) => {
             let ended = export_from(rt.alloc(), &mut store, customer, output);
-            end(stores, store, ended)
+            without_cause(end(stores, store, ended))
         }
-        Err(fault) => Err(fault),
+        Err(not) => not_opened(not),
     }
 }
 
@@ -135,18 +146,19 @@ fn sheet<O: Stores, W: Sink>(
     month: Month,
     db: &str,
     output: &mut W,
-) -> Result<Outcome, RunFault>
+) -> Carried
     ensures over { AreClean O.Store.is_clean → (c : Content) → O.holds stores.now db.now c
-        → Over O.rests (W.contents output.old) (W.contents output.new) result
+        → Over O.rests (W.contents output.old) (W.contents output.new) result.ended
         (λ left ended. ShowsSheet (W.contents output.old) (W.contents output.new) customer month c ended (O.Store.has left c)) }
-    ensures done { IfOk result (λ outcome. outcome ≡ Outcome.Done) }
+    ensures done { IfOk result.ended (λ outcome. outcome ≡ Outcome.Done) }
+    ensures told { TellsOnlyIf result.ended result.cause }
 {
     match stores.open(db) {
         Ok(mut store) => {
             let ended = sheet_of(&mut store, customer, month, output);
-            end(stores, store, ended)
+            without_cause(end(stores, store, ended))
         }
-        Err(fault) => Err(fault),
+        Err(not) => not_opened(not),
     }
 }
 
@@ -157,18 +169,56 @@ fn serve<O: Stores, W: Sink>(
     port: u16,
     connections: u64,
     output: &mut W,
-) -> Result<Outcome, RunFault>
+) -> Carried
     ensures over { AreClean O.Store.is_clean → (c : Content) → O.holds stores.now db.now c
-        → Over O.rests (W.contents output.old) (W.contents output.new) result
+        → Over O.rests (W.contents output.old) (W.contents output.new) result.ended
         (λ left ended. ServesAll connections (W.contents output.old) (W.contents output.new) c ended (O.Store.has left)) }
-    ensures done { IfOk result (λ outcome. outcome ≡ Outcome.Done) }
+    ensures done { IfOk result.ended (λ outcome. outcome ≡ Outcome.Done) }
+    ensures told { TellsOnlyIf result.ended result.cause }
 {
     match stores.open(db) {
         Ok(mut store) => {
-            let ended = serve_port(rt, &mut store, port, connections, output);
-            end(stores, store, ended)
+            let tried = serve_port(rt, &mut store, port, connections, output);
+            let ended = end(stores, store, tried.ended);
+            Carried {
+                ended,
+                cause: tried.cause,
+            }
         }
-        Err(fault) => Err(fault),
+        Err(not) => not_opened(not),
+    }
+}
+
+// Prints a value.
+fn value<W: Sink>(
+    rt: &HostRuntime,
+    denom: Denom,
+    issued: IssueMonth,
+    month: Month,
+    rates: Rates,
+    output: &mut W,
+) -> Result<Outcome, RunFault>
+    ensures { ShowsValue denom issued month rates (W.contents output.old) (W.contents output.new) result }
+{
+    Ok(print_value(rt.alloc(), denom, issued, month, rates, output)?)
+}
+
+// A command that ended so, and opened all that it needs.
+fn without_cause(ended: Result<Outcome, RunFault>) -> Carried
+    ensures { result ≡ record { ended = ended; cause = None } }
+{
+    Carried { ended, cause: None }
+}
+
+// A command whose store wasn't opened.
+fn not_opened(not: Unopened) -> Carried
+    requires { IfSome not.cause (λ cause. not.fault ≡ fault_of_cause cause) }
+    ensures ended { result.ended ≡ Err not.fault }
+    ensures told { TellsOnlyIf result.ended result.cause }
+{
+    Carried {
+        ended: Err(not.fault),
+        cause: not.cause.map(Cause::Store),
     }
 }
 

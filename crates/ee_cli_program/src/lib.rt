@@ -6,11 +6,18 @@
 #![tactic(auto)]
 
 mod carrying;
+mod explaining;
 mod opening;
 mod run;
+mod spellings;
 mod stores;
+mod system;
 
 pub use carrying::carry_out;
 pub use ee_cli_value::{BAD_LINE, DONE, FAILED, REFUSED};
+pub use explaining::{Cause, Explanation, explain, explain_argument};
+pub use opening::Carried;
 pub use run::{refuse_words, run_words};
-pub use stores::Stores;
+pub use spellings::{Spelling, spelling_of_argument, spelling_of_column};
+pub use stores::{Stores, Unopened};
+pub use system::SystemCause;

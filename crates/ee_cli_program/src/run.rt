@@ -6,6 +6,7 @@ ghost use Rattle.std.specs.IoError.{error_kind};
 ghost use Rattle.clap.specs.Words.{Text};
 ghost use Rattle.ee_desk_model.specs.Repeats.{Content};
 ghost use Rattle.ee_cli_value.specs.Printed.{value_line};
+ghost use Rattle.ee_cli_value.specs.Statuses.{IsStatusOf};
 ghost use Rattle.ee_cli_commands.specs.Answer.{AsksForVersion, IsAsked};
 ghost use Rattle.ee_cli_commands.specs.CommandLine.{value};
 ghost use Rattle.ee_units.specs.declared.denoms.Denom.{Denom};
@@ -14,9 +15,11 @@ ghost use Rattle.ee_cli_program.specs.Statuses.{Carries, IsRun, version_line};
 ghost use Rattle.ee_cli_program.specs.Stores.{AreClean, CarriesOver};
 
 use crate::carrying::carry_out;
+use crate::explaining::{Cause, Explanation, explain, explain_argument};
+use crate::opening::Carried;
 use crate::stores::Stores;
-use ee_cli_actions::{RunFault, print};
-use ee_cli_commands::{CommandFault, VERSION, read_command};
+use ee_cli_actions::{Outcome, RunFault, print};
+use ee_cli_commands::{Command, CommandFault, VERSION, asks_to_explain, read_command};
 use ee_cli_value::{BAD_LINE, DONE, FAILED, conclude, report};
 use ee_io::{Sink, Source};
 use ee_store_load::STORE_VERSION;
@@ -24,7 +27,9 @@ use std::alloc::{AllocError, Global};
 use std::io::{self, ErrorKind, Write};
 
 /// Runs the line of these words over these stores, and returns the exit status. The first word is the
-/// program's name. Faults are written to `faults`, everything else to `output`.
+/// program's name. Faults are written to `faults`, everything else to `output`. A fault is one line. If the words
+/// ask for it by `--explain`, or if it `explains` anyway, a second line says the cause, and what to do
+/// (`specs/Explained.antt`); that line changes no status.
 ///
 /// - `status`: what the words were, and how the command ended that they ask for. They ask for at most one
 ///   thing (`ee_cli_commands::one_meaning`).
@@ -35,6 +40,7 @@ pub fn run_words<O: Stores, R: Source, W: Sink, E: Write>(
     rt: &HostRuntime,
     stores: &O,
     words: &[String],
+    explains: bool,
     input: &mut R,
     output: &mut W,
     faults: &mut E,
@@ -49,16 +55,46 @@ pub fn run_words<O: Stores, R: Source, W: Sink, E: Write>(
         → IsRun (map (λ w. string_bytes w) words.now)
         (CarriesOver O.Store.has O.rests contents (R.remaining input.old) (R.remaining input.new) (W.contents output.old) (W.contents output.new)) result }
 {
+    let explains = explains || asks_to_explain(words);
     match read_command(rt.alloc(), words) {
-        Ok(command) => match carry_out(rt, stores, &command, input, output) {
-            Ok(outcome) => conclude(outcome, faults),
-            Err(fault) => report(&fault, faults),
-        },
+        Ok(command) => {
+            let Carried { ended, cause } = carry_out(rt, stores, &command, input, output);
+            settle(&command, ended, cause, explains, faults)
+        }
         Err(CommandFault::Help(text)) => show(&text, output, faults),
         Err(CommandFault::Version) => show_version(rt.alloc(), output, faults),
         Err(CommandFault::Line(text)) => refuse_line(&text, faults),
-        Err(CommandFault::Argument(name)) => refuse_argument(name, faults),
+        Err(CommandFault::Argument(name)) => refuse_argument(name, explains, faults),
         Err(CommandFault::NoMemory) => report(&RunFault::NoMemory, faults),
+    }
+}
+
+// Reports how a command ended, and explains a fault if that is asked for.
+fn settle<E: Write>(
+    command: &Command,
+    ended: Result<Outcome, RunFault>,
+    cause: Option<Cause>,
+    explains: bool,
+    faults: &mut E,
+) -> u8
+    ensures { IsStatusOf ended result }
+{
+    match ended {
+        Ok(outcome) => conclude(outcome, faults),
+        Err(fault) => {
+            let status = report(&fault, faults);
+            if explains {
+                tell(explain(command, fault, cause), faults);
+            }
+            status
+        }
+    }
+}
+
+// Writes the second line of a fault, if there is more to say.
+fn tell<E: Write>(explanation: Option<Explanation>, faults: &mut E) {
+    if let Some(explanation) = explanation {
+        let _told = writeln!(faults, "{explanation}");
     }
 }
 
@@ -116,10 +152,15 @@ fn refuse_line<E: Write>(text: &str, faults: &mut E) -> u8
     if told.is_ok() { BAD_LINE } else { FAILED }
 }
 
-// Reports which word spells no value.
-fn refuse_argument<E: Write>(name: &str, faults: &mut E) -> u8
+// Reports which word spells no value, and explains how it is spelled if that is asked for.
+fn refuse_argument<E: Write>(name: &str, explains: bool, faults: &mut E) -> u8
     ensures { (result ≡ 2) ⊎ (result ≡ 3) }
 {
-    let told = writeln!(faults, "bad argument: {name}");
-    if told.is_ok() { BAD_LINE } else { FAILED }
+    if writeln!(faults, "bad argument: {name}").is_err() {
+        return FAILED;
+    }
+    if explains {
+        tell(explain_argument(name), faults);
+    }
+    BAD_LINE
 }

@@ -7,7 +7,7 @@ ghost use Rattle.ee_store.specs.History.{RestsAfter};
 ghost use Rattle.ee_cli_stores.specs.Faults.{fault_of_opening};
 
 use ee_cli_actions::{RunFault, StoreFault};
-use ee_cli_program::Stores;
+use ee_cli_program::{Stores, Unopened};
 use ee_store::{OpenFault, SqlKeeper, open_as};
 use sqlite::{FileFrom, FileStore, Files, Start};
 
@@ -47,10 +47,13 @@ impl<F: Start + Copy> Stores for StoreFiles<'_, F> {
     // The files are at rest with what the store had, which is what its whole history led to.
     ghost rests = { λ store files. RestsIn store.conn files × RestsAfter store.conn files };
 
-    fn open(&self, path: &str) -> Result<SqlKeeper<FileStore<FileFrom<F>>>, RunFault> {
+    fn open(&self, path: &str) -> Result<SqlKeeper<FileStore<FileFrom<F>>>, Unopened> {
         match open_as(self.rt, path, self.start) {
             Ok(keeper) => Ok(keeper),
-            Err(not) => Err(fault_of(not.fault)),
+            Err(not) => Err(Unopened {
+                fault: fault_of(not.fault),
+                cause: not.cause,
+            }),
         }
     }
 

@@ -4,7 +4,7 @@ use crate::command_files::{assert_fault_over, forget_both};
 use crate::commands::{ANSWERS, STREAM};
 use crate::comparing::{add, assert_holds, assert_same};
 use ee_cli_actions::{Outcome, serve_on};
-use ee_keeper::ListKeeper;
+use ee_desk::ListKeeper;
 use std::io::{self, Write};
 use std::net::{Shutdown, TcpListener, TcpStream};
 use std::process::Abort;

@@ -2,9 +2,9 @@
 
 use crate::comparing::{assert_holds, assert_same};
 use ee_cli_actions::RunFault;
-use ee_cli_program::{Stores, run_words};
+use ee_cli_program::{Stores, Unopened, run_words};
 use ee_cli_stores::{StoreFiles, Untold};
-use ee_keeper::ListKeeper;
+use ee_desk::ListKeeper;
 use std::alloc::Global;
 use std::process::Abort;
 
@@ -43,7 +43,7 @@ fn run_given<O: Stores>(
     let mut bytes = input.as_bytes();
     let mut printed = Vec::new(rt.alloc());
     let mut got = Vec::new(rt.alloc());
-    let status = run_words(rt, stores, words, &mut bytes, &mut printed, &mut got);
+    let status = run_words(rt, stores, words, false, &mut bytes, &mut printed, &mut got);
     Ran {
         printed: String::from_utf8(printed).expect(abort, "what is printed"),
         got: String::from_utf8(got).expect(abort, "what is got"),
@@ -86,7 +86,7 @@ impl Stores for InMemory {
 
     ghost rests = { λ store rest. rest ≡ store };
 
-    fn open(&self, _path: &str) -> Result<ListKeeper, RunFault> {
+    fn open(&self, _path: &str) -> Result<ListKeeper, Unopened> {
         Ok(ListKeeper::empty(self.alloc))
     }
 

@@ -11,7 +11,7 @@ use crate::stops::{
     served_on,
 };
 use crate::talk::answers;
-use ee_keeper::ListKeeper;
+use ee_desk::ListKeeper;
 use ee_store::SqlKeeper;
 use sqlite::Files;
 use sqlite_disk::{Crash, Fuse, Memory};

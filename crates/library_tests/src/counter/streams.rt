@@ -4,7 +4,7 @@
 use super::devices::Source;
 use crate::comparing::{Cases, compare};
 use ee_counter::serve;
-use ee_keeper::ListKeeper;
+use ee_desk::ListKeeper;
 use std::alloc::Global;
 use std::test::Fail;
 

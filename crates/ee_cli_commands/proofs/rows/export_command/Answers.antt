@@ -3,4 +3,5 @@ use Rattle.ee_cli_commands.proofs.rows.export_command.Goals as goal
 pub returns-clause-shape : goal.returns-clause-shape
 returns-clause-shape c =
     let one = c.with-row.ensures.shape _ _ c.customer.ensures.rule c.named-row.ensures.shape in
-    c.with.ensures.shape _ _ c.store.ensures.rule one
+    let two = c.with-row-2.ensures.shape _ _ c.store.ensures.rule one in
+    c.with.ensures.shape _ _ c.explain.ensures.rule two

@@ -8,4 +8,5 @@ returns-clause-shape c =
     let two = c.with-row-2.ensures.shape _ _ c.positional.ensures.rule one in
     let three = c.with-row-3.ensures.shape _ _ c.store.ensures.rule two in
     let four = c.with-row-4.ensures.shape _ _ c.request_number.ensures.rule three in
-    IfOk-weaker c.with.result _ _ (λ row shape. (kinds, known, shape)) (c.with.ensures.shape _ _ c.desk.ensures.rule four)
+    let five = c.with-row-5.ensures.shape _ _ c.desk.ensures.rule four in
+    IfOk-weaker c.with.result _ _ (λ row shape. (kinds, known, shape)) (c.with.ensures.shape _ _ c.explain.ensures.rule five)

@@ -4,4 +4,5 @@ pub returns-clause-shape : goal.returns-clause-shape
 returns-clause-shape c =
     let one = c.with-row.ensures.shape _ _ c.customer.ensures.rule c.named-row.ensures.shape in
     let two = c.with-row-2.ensures.shape _ _ c.positional.ensures.rule one in
-    c.with.ensures.shape _ _ c.store.ensures.rule two
+    let three = c.with-row-3.ensures.shape _ _ c.store.ensures.rule two in
+    c.with.ensures.shape _ _ c.explain.ensures.rule three

@@ -1,10 +1,10 @@
 use Rattle.ee_cli_program.proofs.carrying.carry_out.Goals as goal
 
 pub returns-in-Apply-clause-over : goal.returns-in-Apply-clause-over
-returns-in-Apply-clause-over g c = λ clean contents holds. rw c.in-Apply.is (c.apply.ensures clean (contents c.in-Apply.store.now) (holds c.in-Apply.store.now))
+returns-in-Apply-clause-over g c = λ clean contents holds. rw c.in-Apply.is (c.apply.ensures.over clean (contents c.in-Apply.store.now) (holds c.in-Apply.store.now))
 
 pub returns-in-Import-clause-over : goal.returns-in-Import-clause-over
-returns-in-Import-clause-over g c = λ clean contents holds. rw c.in-Import.is (c.import.ensures clean (contents c.in-Import.store.now) (holds c.in-Import.store.now))
+returns-in-Import-clause-over g c = λ clean contents holds. rw c.in-Import.is (c.import.ensures.over clean (contents c.in-Import.store.now) (holds c.in-Import.store.now))
 
 pub returns-in-Export-clause-over : goal.returns-in-Export-clause-over
 returns-in-Export-clause-over g c = λ clean contents holds. rw c.in-Export.is (c.export.ensures.over clean (contents c.in-Export.store.now) (holds c.in-Export.store.now))

@@ -2,23 +2,22 @@ use Rattle.std.proofs.Common.{inl, inr}
 use Rattle.ee_cli_commands.specs.Answer.{view_of}
 use Rattle.ee_cli_commands.proofs.Lemmas.{asks_unrefused, never_asks_for_both}
 use Rattle.ee_cli_program.specs.Statuses.{Carries}
-use Rattle.ee_cli_program.proofs.Ended.{concluded, shown, refused_line, value_printed}
+use Rattle.ee_cli_program.proofs.Ended.{settled, shown, refused_line, value_printed}
 use Rattle.ee_cli_program.proofs.run.run_words.Goals as goal
 
-pub returns-in-Ok-carry_out-clause-status : goal.returns-in-Ok-carry_out-clause-status
-returns-in-Ok-carry_out-clause-status g c =
-    concluded _ _ (view_of c.in-Ok.command) c.in-Ok-carry_out.outcome c.conclude.result c.in-Ok.ensures c.in-Ok-carry_out.ensures.carries c.conclude.ensures
+pub returns-in-Ok-clause-status : goal.returns-in-Ok-clause-status
+returns-in-Ok-clause-status g c = settled _ _ (view_of c.in-Ok.command) _ _ c.in-Ok.ensures c.carry_out-ended.ensures.carries c.settle.ensures
 
-pub returns-in-Ok-carry_out-clause-printed : goal.returns-in-Ok-carry_out-clause-printed
-returns-in-Ok-carry_out-clause-printed g c =
+pub returns-in-Ok-clause-printed : goal.returns-in-Ok-clause-printed
+returns-in-Ok-clause-printed g c =
     let old = g.W.Write.contents c.args.output.now in
-    let new = g.W.Write.contents c.carry_out.new.output in
-    value_printed _ old new c.conclude.result
-    (concluded _ (Carries old new) (view_of c.in-Ok.command) c.in-Ok-carry_out.outcome c.conclude.result c.in-Ok.ensures c.in-Ok-carry_out.ensures.carries c.conclude.ensures)
+    let new = g.W.Write.contents c.carry_out-ended.new.output in
+    value_printed _ old new c.settle.result
+    (settled _ (Carries old new) (view_of c.in-Ok.command) _ _ c.in-Ok.ensures c.carry_out-ended.ensures.carries c.settle.ensures)
 
-pub returns-in-Ok-carry_out-clause-over : goal.returns-in-Ok-carry_out-clause-over
-returns-in-Ok-carry_out-clause-over g c = λ clean contents holds.
-    concluded _ _ (view_of c.in-Ok.command) c.in-Ok-carry_out.outcome c.conclude.result c.in-Ok.ensures (c.in-Ok-carry_out.ensures.over clean contents holds) c.conclude.ensures
+pub returns-in-Ok-clause-over : goal.returns-in-Ok-clause-over
+returns-in-Ok-clause-over g c = λ clean contents holds.
+    settled _ _ (view_of c.in-Ok.command) _ _ c.in-Ok.ensures (c.carry_out-ended.ensures.over clean contents holds) c.settle.ensures
 
 pub returns-in-Err-Help-clause-status : goal.returns-in-Err-Help-clause-status
 returns-in-Err-Help-clause-status g c = shown _ _ _ (inl (rw c.in-Err-Help.field-0-is at c.in-Err-Help.ensures)) c.show.ensures.status
@@ -43,8 +42,8 @@ pub returns-in-Err-Argument-clause-over : goal.returns-in-Err-Argument-clause-ov
 returns-in-Err-Argument-clause-over g c = λ clean contents holds.
     refused_line _ _ _ (inl (c.in-Err-Argument.name.now, rw c.in-Err-Argument.field-0-is at c.in-Err-Argument.ensures)) c.refuse_argument.ensures
 
-pub returns-in-Ok-carry_out-clause-version : goal.returns-in-Ok-carry_out-clause-version
-returns-in-Ok-carry_out-clause-version g c = λ version zero. absurd (asks_unrefused _ _ _ c.in-Ok.ensures version)
+pub returns-in-Ok-clause-version : goal.returns-in-Ok-clause-version
+returns-in-Ok-clause-version g c = λ version zero. absurd (asks_unrefused _ _ _ c.in-Ok.ensures version)
 
 pub returns-in-Err-Help-clause-version : goal.returns-in-Err-Help-clause-version
 returns-in-Err-Help-clause-version g c = λ version zero. absurd (never_asks_for_both _ (rw c.in-Err-Help.field-0-is at c.in-Err-Help.ensures) version)

@@ -1,4 +1,8 @@
+use Rattle.ee_cli_stores.proofs.Told.{is_told}
 use Rattle.ee_cli_stores.proofs.files.StoreFilesStores.open.Goals as goal
 
-pub returns-in-Ok : goal.returns-in-Ok
-returns-in-Ok g c clean content alone = ((c.in-Ok.ensures.opened clean).alone content alone, c.in-Ok.ensures.informed)
+pub returns-in-Ok-clause-opened : goal.returns-in-Ok-clause-opened
+returns-in-Ok-clause-opened g c clean content alone = ((c.in-Ok.ensures.opened clean).alone content alone, c.in-Ok.ensures.informed)
+
+pub returns-in-Err-clause-told : goal.returns-in-Err-clause-told
+returns-in-Err-clause-told g c = is_told c.in-Err.not.cause c.in-Err.not.fault c.fault_of.result c.fault_of.ensures c.in-Err.ensures.told

@@ -1,0 +1,132 @@
+-- What the second line of a fault says.
+use Rattle.std.specs.Prelude.{List, ℕ, Option, Some, None, ◌++◌, codes}
+use Rattle.std.specs.Borrow.{Bor}
+use Rattle.std.specs.Fmt.{decimal}
+use Rattle.std.specs.declared.io.ErrorKind.TheVariants.{Unsupported}
+use Rattle.ee_files.specs.Columns.{column_name}
+use Rattle.ee_files.specs.declared.faults.FileCode.{FileCode}
+use Rattle.ee_files.specs.declared.faults.FileCode.TheVariants as code
+use Rattle.ee_files.specs.declared.faults.FileFault.{FileFault}
+use Rattle.ee_store_files.specs.declared.causes.OpenCause.{OpenCause}
+use Rattle.ee_store_files.specs.declared.causes.OpenCause.TheVariants as opening
+use Rattle.ee_cli_actions.specs.declared.faults.RunFault.{RunFault}
+use Rattle.ee_cli_actions.specs.declared.faults.RunFault.TheVariants as fault
+use Rattle.ee_cli_actions.specs.declared.faults.StoreFault.{StoreFault}
+use Rattle.ee_cli_actions.specs.declared.faults.StoreFault.TheVariants as store
+use Rattle.ee_cli_commands.specs.declared.commands.Command.{Command}
+use Rattle.ee_cli_commands.specs.declared.commands.Command.TheVariants as command
+use Rattle.ee_cli_commands.specs.declared.commands.FileKind.{FileKind}
+use Rattle.ee_cli_commands.specs.declared.commands.FileKind.TheVariants as kind
+use Rattle.ee_cli_program.specs.Causes.{cause_of_kind, system_text}
+use Rattle.ee_cli_program.specs.Spellings.{spelling_text, spelling_of_column}
+use Rattle.ee_cli_program.specs.declared.system.SystemCause.{SystemCause}
+use Rattle.ee_cli_program.specs.declared.explaining.Cause.{Cause}
+use Rattle.ee_cli_program.specs.declared.explaining.Cause.TheVariants as cause
+use Rattle.ee_cli_program.specs.declared.explaining.Explanation.{Explanation}
+use Rattle.ee_cli_program.specs.declared.explaining.Explanation.TheVariants as says
+
+-- ---- its text
+
+-- the headers of a kind of file
+abbrev pub header_text : FileKind → List ℕ
+header_text kind.Rates = codes "from,rate or from,rate,extension"
+header_text kind.Inventory = codes "serial,denom,issued,owner,coowner"
+
+-- a cause of the system, or this text if none is known
+abbrev pub because : Option SystemCause → List ℕ → List ℕ
+because (Some why) otherwise = system_text why
+because None otherwise = otherwise
+
+-- why a store wasn't opened, and what to do
+abbrev pub opening_text : OpenCause → List ℕ
+opening_text opening.NoMemory = codes "memory was refused; run the line again"
+opening_text opening.NoFile = codes "SQLite takes it for no file; put ./ in front of it"
+opening_text opening.InUse = codes "another process uses it; send requests to that process, or end it first"
+opening_text opening.Journal = codes "a rollback journal of SQLite lies beside it; open it with sqlite3 first"
+opening_text (opening.System Unsupported) = codes "it is not one regular file with one name; correct the path, or remove the other name"
+opening_text (opening.System k) = because (cause_of_kind k) (codes "the system refused it") ++ codes "; look at the path, and at who may use the file and its folder"
+opening_text opening.NoRandom = codes "the system gave no random number; run the line again"
+opening_text opening.NoDatabase = codes "it is no SQLite database; correct the path"
+opening_text opening.Damaged = codes "it or its log is damaged, or a page's checksum is wrong; restore a copy"
+opening_text opening.Full = codes "no space left on the disk; make room, and run the line again"
+opening_text opening.Failed = codes "a read or a write of it failed; look at the disk, and run the line again"
+
+-- the line, without its end
+abbrev pub explanation_text : Explanation → List ℕ
+explanation_text (says.Argument spelling) = spelling_text spelling
+explanation_text (says.Header file k) = file.now ++ (codes ": the first row is not " ++ (header_text k ++ codes "; correct it, and send the file again"))
+explanation_text (says.FieldCount file row) = file.now ++ (codes ": row " ++ (decimal row ++ codes " has not one field for each column; correct it, and send the file again"))
+explanation_text (says.Field file row column) = file.now ++ (codes ": row " ++ (decimal row ++ (codes ", column " ++ (column_name column ++ (codes ": "
+    ++ (spelling_text (spelling_of_column column) ++ codes "; correct it, and send the file again"))))))
+explanation_text (says.Unread file why) = file.now ++ (codes ": " ++ (because why (codes "a read failed") ++ codes "; send the file again"))
+explanation_text (says.TooLong file) = file.now ++ codes ": it has more than 1048576 bytes; send it in parts, each under a number of its own"
+explanation_text (says.NoFile file why) = file.now ++ (codes ": " ++ (because why (codes "it was not opened") ++ codes "; correct the path, and send the file again"))
+explanation_text (says.NoPort port why) = codes "port " ++ (decimal port ++ (codes ": " ++ (because why (codes "it was not opened") ++ codes "; choose another port, or end what uses it")))
+explanation_text says.Output = codes "standard output failed; run the line again: what was decided gets its reply"
+explanation_text says.InputOrOutput = codes "standard input or output failed; send again: what was decided gets its reply"
+explanation_text says.Connections = codes "no connection was accepted, or standard output failed; start the server again"
+explanation_text (says.Unopened path why) = path.now ++ (codes ": " ++ opening_text why)
+explanation_text (says.StoreFailed path) = path.now ++ codes ": a read or a write of it failed; look at the disk, and send the same requests again"
+explanation_text (says.WrongVersion path) = path.now ++ codes ": its version is neither 2 nor 1; use the program that made it"
+explanation_text (says.Unusable path) = path.now ++ codes ": its tables or rows are not those of this program; restore a copy"
+explanation_text (says.NotWrittenBack path) = path.now ++ codes ": the work is done, and is kept in the file and its log together; look at the disk"
+explanation_text says.NoMemory = codes "memory was refused; run the line again"
+
+-- ---- which it is
+
+-- of a failed device: what wasn't opened, or the streams that the command uses
+abbrev pub of_device : Command → Option Cause → Explanation
+of_device (command.Import k file db desk number) (Some (cause.File why)) = says.NoFile file why
+of_device (command.Import k file db desk number) noted = says.Output
+of_device (command.Serve db port connections) (Some (cause.Port why)) = says.NoPort port why
+of_device (command.Serve db port connections) noted = says.Connections
+of_device (command.Apply db) noted = says.InputOrOutput
+of_device (command.Value denom issued month rate extension) noted = says.Output
+of_device (command.Export customer db) noted = says.Output
+of_device (command.Sheet customer month db) noted = says.Output
+
+-- why a file was not read
+abbrev pub of_reading : Option Cause → Option SystemCause
+of_reading (Some (cause.File why)) = why
+of_reading noted = None
+
+abbrev pub by_code : FileKind → Bor (List ℕ) → ℕ → FileCode → Option Cause → Explanation
+by_code k file row code.BadHeader noted = says.Header file k
+by_code k file row code.WrongFieldCount noted = says.FieldCount file row
+by_code k file row (code.BadValue column) noted = says.Field file row column
+by_code k file row code.ReadFailed noted = says.Unread file (of_reading noted)
+by_code k file row code.NoMemory noted = says.NoMemory
+by_code k file row code.FileTooLong noted = says.TooLong file
+
+-- of a fault in a file of this kind
+abbrev pub in_file : FileKind → Bor (List ℕ) → FileFault → Option Cause → Explanation
+in_file k file f noted = by_code k file f.row f.code noted
+
+-- of a fault in the file of an import
+abbrev pub of_file : Command → FileFault → Option Cause → Option Explanation
+of_file (command.Import k file db desk number) f noted = Some (in_file k file f noted)
+of_file _ f noted = None
+
+-- of a fault of this store
+abbrev pub in_store : Bor (List ℕ) → StoreFault → Option Cause → Explanation
+in_store path store.StoreFailed (Some (cause.Store why)) = says.Unopened path why
+in_store path store.StoreFailed noted = says.StoreFailed path
+in_store path store.WrongVersion noted = says.WrongVersion path
+in_store path store.Unusable noted = says.Unusable path
+in_store path store.NotWrittenBack noted = says.NotWrittenBack path
+
+-- of a fault of the store
+abbrev pub of_store : Command → StoreFault → Option Cause → Option Explanation
+of_store (command.Value denom issued month rate extension) f noted = None
+of_store (command.Apply db) f noted = Some (in_store db f noted)
+of_store (command.Import k file db desk number) f noted = Some (in_store db f noted)
+of_store (command.Export customer db) f noted = Some (in_store db f noted)
+of_store (command.Sheet customer month db) f noted = Some (in_store db f noted)
+of_store (command.Serve db port connections) f noted = Some (in_store db f noted)
+
+-- what the second line of a command's fault says
+abbrev pub explanation_of : Command → RunFault → Option Cause → Option Explanation
+explanation_of line fault.NoMemory noted = Some says.NoMemory
+explanation_of line fault.Device noted = Some (of_device line noted)
+explanation_of line (fault.File f) noted = of_file line f noted
+explanation_of line (fault.Store f) noted = of_store line f noted

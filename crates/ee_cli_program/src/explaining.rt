@@ -1,0 +1,397 @@
+//! The second line of a fault: where it arose, why, and what to do.
+
+ghost use Rattle.std.specs.Prelude.{◌≡◌, option_map};
+ghost use Rattle.ee_cli_program.specs.Spellings.{spelling_of_argument};
+ghost use Rattle.ee_cli_program.specs.Explained.{explanation_of, header_text, in_file, in_store, of_device, of_file, of_reading, of_store};
+
+use crate::spellings::{Spelling, spelling_of_argument, spelling_of_column};
+use crate::system::SystemCause;
+use ee_cli_actions::{RunFault, StoreFault};
+use ee_cli_commands::{Command, FileKind};
+use ee_files::{FileCode, FileColumn, FileFault};
+use ee_store_files::OpenCause;
+use std::fmt;
+use std::io::ErrorKind;
+
+/// What wasn't opened, and why, if that is known.
+#[derive(Clone, Copy, Debug, PartialEq, Eq)]
+pub enum Cause {
+    /// The file of an import.
+    File(Option<SystemCause>),
+    /// The port of a server.
+    Port(Option<SystemCause>),
+    /// The files of a store.
+    Store(OpenCause),
+}
+
+/// What the second line of a fault says.
+#[derive(Clone, Copy)]
+pub enum Explanation<'a> {
+    /// A word spells no value.
+    Argument(Spelling),
+    /// The first record of the file is no header.
+    Header {
+        file: &'a str,
+        kind: FileKind,
+    },
+    /// A record hasn't one field for each column.
+    FieldCount {
+        file: &'a str,
+        row: u64,
+    },
+    /// A field spells no value of its column.
+    Field {
+        file: &'a str,
+        row: u64,
+        column: FileColumn,
+    },
+    /// A read of the file failed.
+    Unread {
+        file: &'a str,
+        cause: Option<SystemCause>,
+    },
+    /// The file is too long.
+    TooLong {
+        file: &'a str,
+    },
+    /// The file wasn't opened.
+    NoFile {
+        file: &'a str,
+        cause: Option<SystemCause>,
+    },
+    /// The port wasn't bound.
+    NoPort {
+        port: u16,
+        cause: Option<SystemCause>,
+    },
+    /// Standard output failed.
+    Output,
+    /// Standard input or standard output failed.
+    InputOrOutput,
+    /// No connection was accepted, or standard output failed.
+    Connections,
+    /// The store wasn't opened.
+    Unopened {
+        store: &'a str,
+        cause: OpenCause,
+    },
+    /// The store failed.
+    StoreFailed {
+        store: &'a str,
+    },
+    /// The store has another version.
+    WrongVersion {
+        store: &'a str,
+    },
+    /// The store's tables or rows represent no books.
+    Unusable {
+        store: &'a str,
+    },
+    /// The log was not checkpointed.
+    NotWrittenBack {
+        store: &'a str,
+    },
+    /// Memory was refused.
+    NoMemory,
+}
+
+/// Prints the line, without its end.
+impl fmt::Display for Explanation<'_> {
+    ghost use Rattle.std.specs.Prelude.{Some};
+    ghost use Rattle.ee_cli_program.specs.Explained.{explanation_text};
+
+    ghost output = { λ explanation. Some (explanation_text explanation) };
+
+    fn fmt<W: fmt::Write>(&self, f: &mut fmt::Formatter<W>) -> fmt::Result {
+        match *self {
+            Explanation::Argument(spelling) => write!(f, "{spelling}"),
+            Explanation::Header { file, kind } => {
+                let header = header_text(kind);
+                write!(
+                    f,
+                    "{file}: the first row is not {header}; correct it, and send the file again"
+                )
+            }
+            Explanation::FieldCount { file, row } => write!(
+                f,
+                "{file}: row {row} has not one field for each column; correct it, and send the file again"
+            ),
+            Explanation::Field { file, row, column } => {
+                let spelling = spelling_of_column(column);
+                write!(
+                    f,
+                    "{file}: row {row}, column {column}: {spelling}; correct it, and send the file again"
+                )
+            }
+            Explanation::Unread { file, cause } => {
+                let cause = Because {
+                    cause,
+                    otherwise: "a read failed",
+                };
+                write!(f, "{file}: {cause}; send the file again")
+            }
+            Explanation::TooLong { file } => write!(
+                f,
+                "{file}: it has more than 1048576 bytes; send it in parts, each under a number of its own"
+            ),
+            Explanation::NoFile { file, cause } => {
+                let cause = Because {
+                    cause,
+                    otherwise: "it was not opened",
+                };
+                write!(
+                    f,
+                    "{file}: {cause}; correct the path, and send the file again"
+                )
+            }
+            Explanation::NoPort { port, cause } => {
+                let cause = Because {
+                    cause,
+                    otherwise: "it was not opened",
+                };
+                write!(
+                    f,
+                    "port {port}: {cause}; choose another port, or end what uses it"
+                )
+            }
+            Explanation::Output => f.write_str(
+                "standard output failed; run the line again: what was decided gets its reply",
+            ),
+            Explanation::InputOrOutput => f.write_str(
+                "standard input or output failed; send again: what was decided gets its reply",
+            ),
+            Explanation::Connections => f.write_str(
+                "no connection was accepted, or standard output failed; start the server again",
+            ),
+            Explanation::Unopened { store, cause } => {
+                let cause = Opening(cause);
+                write!(f, "{store}: {cause}")
+            }
+            Explanation::StoreFailed { store } => write!(
+                f,
+                "{store}: a read or a write of it failed; look at the disk, and send the same requests again"
+            ),
+            Explanation::WrongVersion { store } => write!(
+                f,
+                "{store}: its version is neither 2 nor 1; use the program that made it"
+            ),
+            Explanation::Unusable { store } => write!(
+                f,
+                "{store}: its tables or rows are not those of this program; restore a copy"
+            ),
+            Explanation::NotWrittenBack { store } => write!(
+                f,
+                "{store}: the work is done, and is kept in the file and its log together; look at the disk"
+            ),
+            Explanation::NoMemory => f.write_str("memory was refused; run the line again"),
+        }
+    }
+}
+
+// A cause of the system, or this text if none is known.
+#[derive(Clone, Copy)]
+struct Because {
+    cause: Option<SystemCause>,
+    otherwise: &'static str,
+}
+
+impl fmt::Display for Because {
+    ghost use Rattle.std.specs.Prelude.{Some};
+    ghost use Rattle.ee_cli_program.specs.Explained.{because};
+
+    ghost output = { λ it. Some (because it.cause it.otherwise.now) };
+
+    fn fmt<W: fmt::Write>(&self, f: &mut fmt::Formatter<W>) -> fmt::Result {
+        match self.cause {
+            Some(cause) => write!(f, "{cause}"),
+            None => f.write_str(self.otherwise),
+        }
+    }
+}
+
+// Why a store wasn't opened, and what to do.
+#[derive(Clone, Copy)]
+struct Opening(OpenCause);
+
+impl fmt::Display for Opening {
+    ghost use Rattle.std.specs.Prelude.{Some};
+    ghost use Rattle.ee_cli_program.specs.Explained.{opening_text};
+
+    ghost output = { λ opening. Some (opening_text opening.0) };
+
+    fn fmt<W: fmt::Write>(&self, f: &mut fmt::Formatter<W>) -> fmt::Result {
+        match self.0 {
+            OpenCause::NoMemory => f.write_str("memory was refused; run the line again"),
+            OpenCause::NoFile => f.write_str("SQLite takes it for no file; put ./ in front of it"),
+            OpenCause::InUse => f.write_str(
+                "another process uses it; send requests to that process, or end it first",
+            ),
+            OpenCause::Journal => f.write_str(
+                "a rollback journal of SQLite lies beside it; open it with sqlite3 first",
+            ),
+            OpenCause::System(ErrorKind::Unsupported) => f.write_str(
+                "it is not one regular file with one name; correct the path, or remove the other name",
+            ),
+            OpenCause::System(kind) => {
+                let cause = Because {
+                    cause: SystemCause::of(kind),
+                    otherwise: "the system refused it",
+                };
+                write!(
+                    f,
+                    "{cause}; look at the path, and at who may use the file and its folder"
+                )
+            }
+            OpenCause::NoRandom => f.write_str(
+                "the system gave no random number; run the line again",
+            ),
+            OpenCause::NoDatabase => f.write_str("it is no SQLite database; correct the path"),
+            OpenCause::Damaged => f.write_str(
+                "it or its log is damaged, or a page's checksum is wrong; restore a copy",
+            ),
+            OpenCause::Full => f.write_str(
+                "no space left on the disk; make room, and run the line again",
+            ),
+            OpenCause::Failed => f.write_str(
+                "a read or a write of it failed; look at the disk, and run the line again",
+            ),
+        }
+    }
+}
+
+// The headers of a kind of file.
+fn header_text(kind: FileKind) -> &'static str
+    ensures { result.now ≡ header_text kind }
+{
+    match kind {
+        FileKind::Rates => "from,rate or from,rate,extension",
+        FileKind::Inventory => "serial,denom,issued,owner,coowner",
+    }
+}
+
+/// What the second line of a bad argument says; `None` for a name that no line has.
+pub fn explain_argument(name: &str) -> Option<Explanation<'static>>
+    ensures { result ≡ option_map Explanation.Argument (spelling_of_argument name.now) }
+{
+    match spelling_of_argument(name) {
+        Some(spelling) => Some(Explanation::Argument(spelling)),
+        None => None,
+    }
+}
+
+/// What the second line of a fault of a command says. `cause` says what wasn't opened, if that was the fault.
+/// `None` for a fault that the command can't have.
+pub fn explain<'a>(
+    command: &Command<'a>,
+    fault: RunFault,
+    cause: Option<Cause>,
+) -> Option<Explanation<'a>>
+    ensures { result ≡ explanation_of command.now fault cause }
+{
+    match fault {
+        RunFault::NoMemory => Some(Explanation::NoMemory),
+        RunFault::Device => Some(of_device(command, cause)),
+        RunFault::File(fault) => of_file(command, fault, cause),
+        RunFault::Store(fault) => of_store(command, fault, cause),
+    }
+}
+
+// Of a failed device: what wasn't opened, or the streams that the command uses.
+fn of_device<'a>(command: &Command<'a>, cause: Option<Cause>) -> Explanation<'a>
+    ensures { result ≡ of_device command.now cause }
+{
+    match *command {
+        Command::Import { file, .. } => match cause {
+            Some(Cause::File(cause)) => Explanation::NoFile { file, cause },
+            _ => Explanation::Output,
+        },
+        Command::Serve { port, .. } => match cause {
+            Some(Cause::Port(cause)) => Explanation::NoPort { port, cause },
+            _ => Explanation::Connections,
+        },
+        Command::Apply(_) => Explanation::InputOrOutput,
+        Command::Value { .. } | Command::Export { .. } | Command::Sheet { .. } => {
+            Explanation::Output
+        }
+    }
+}
+
+// Of a fault in the file of an import.
+fn of_file<'a>(
+    command: &Command<'a>,
+    fault: FileFault,
+    cause: Option<Cause>,
+) -> Option<Explanation<'a>>
+    ensures { result ≡ of_file command.now fault cause }
+{
+    match *command {
+        Command::Import { kind, file, .. } => Some(in_file(kind, file, fault, cause)),
+        _ => None,
+    }
+}
+
+// Of a fault in a file of this kind.
+fn in_file<'a>(
+    kind: FileKind,
+    file: &'a str,
+    fault: FileFault,
+    cause: Option<Cause>,
+) -> Explanation<'a>
+    ensures { result ≡ in_file kind file.entry fault cause }
+{
+    let row = fault.row;
+    match fault.code {
+        FileCode::BadHeader => Explanation::Header { file, kind },
+        FileCode::WrongFieldCount => Explanation::FieldCount { file, row },
+        FileCode::BadValue(column) => Explanation::Field { file, row, column },
+        FileCode::ReadFailed => {
+            let cause = of_reading(cause);
+            Explanation::Unread { file, cause }
+        }
+        FileCode::NoMemory => Explanation::NoMemory,
+        FileCode::FileTooLong => Explanation::TooLong { file },
+    }
+}
+
+// Why a file was not read.
+fn of_reading(cause: Option<Cause>) -> Option<SystemCause>
+    ensures { result ≡ of_reading cause }
+{
+    match cause {
+        Some(Cause::File(cause)) => cause,
+        _ => None,
+    }
+}
+
+// Of a fault of the store.
+fn of_store<'a>(
+    command: &Command<'a>,
+    fault: StoreFault,
+    cause: Option<Cause>,
+) -> Option<Explanation<'a>>
+    ensures { result ≡ of_store command.now fault cause }
+{
+    match *command {
+        Command::Value { .. } => None,
+        Command::Apply(store)
+        | Command::Import { store, .. }
+        | Command::Export { store, .. }
+        | Command::Sheet { store, .. }
+        | Command::Serve { store, .. } => Some(in_store(store, fault, cause)),
+    }
+}
+
+// Of a fault of this store.
+fn in_store<'a>(store: &'a str, fault: StoreFault, cause: Option<Cause>) -> Explanation<'a>
+    ensures { result ≡ in_store store.entry fault cause }
+{
+    match fault {
+        StoreFault::StoreFailed => match cause {
+            Some(Cause::Store(cause)) => Explanation::Unopened { store, cause },
+            _ => Explanation::StoreFailed { store },
+        },
+        StoreFault::WrongVersion => Explanation::WrongVersion { store },
+        StoreFault::Unusable => Explanation::Unusable { store },
+        StoreFault::NotWrittenBack => Explanation::NotWrittenBack { store },
+    }
+}
