@@ -7,8 +7,11 @@ The program enters the rates and bonds by its own imports, and the file is copie
 stays, the one that comes first in turn, request after request. Each answer of one has to be that of the other, byte by byte. It prints, for each kind of answer,
 medians (least to most) over the rounds: microseconds from the first byte sent to the last received, at a client which takes some of them itself, and beside it
 microseconds of the server's processor (/proc/PID/schedstat), which other work on the machine disturbs less. A ratio is Python's median by the counter's."""
+from __future__ import annotations
+
 import json, os, shutil, socket, subprocess, sys, time
 from statistics import median
+from typing import Sequence
 
 program, folder, rounds = os.path.abspath(sys.argv[1]), sys.argv[2], int(sys.argv[3]) if len(sys.argv) > 3 else 9
 assert 1 <= rounds <= 9
@@ -17,25 +20,25 @@ ours, theirs = os.path.join(folder, "counter.db"), os.path.join(folder, "python.
 DAY, UNPAID, HALF_PAID, PAYEE, TICKETS = "2015-05-04", 1, 2, 3, 100
 
 
-def post(path, value):
+def post(path: str, value: object) -> bytes:
     body = json.dumps(value, separators=(",", ":")).encode()
     return b"POST %s HTTP/1.1\r\nContent-Length: %d\r\n\r\n%s" % (path.encode(), len(body), body)
 
 
-def get(path):
+def get(path: str) -> bytes:
     return b"GET %s HTTP/1.1\r\n\r\n" % path.encode()
 
 
-def redemption(number, payee, serials):
+def redemption(number: int, payee: int, serials: list[str]) -> bytes:
     return post("/redeem", {"number": number, "day": DAY, "payee": payee, "serials": serials})
 
 
-def bonds_of(owner, letter, count):
+def bonds_of(owner: int, letter: str, count: int) -> list[dict[str, str | int]]:
     issues, denoms = [f"{year}-{month:02}" for year in range(2006, 2014) for month in range(1, 13)], [50, 75, 100, 200, 500, 1000, 5000, 10000]
     return [{"serial": f"{letter}{n}EE", "denom": denoms[n % 8], "issued": issues[n % 96], "owner": owner} for n in range(1, count + 1)]
 
 
-def make():
+def make() -> None:
     """The store: rates, the bonds of three owners, an open day, and 2,000 bonds of the second owner paid on it."""
     rates = [{"from": f"{2005 + half // 2}-{5 + half % 2 * 6:02}", "rate": f"{1 + half % 4}.{half:02}"} for half in range(20)]
     bonds = bonds_of(UNPAID, "A", 100) + bonds_of(HALF_PAID, "B", 2020) + bonds_of(PAYEE, "C", rounds * TICKETS)
@@ -48,13 +51,13 @@ def make():
 
 
 class Server:
-    def __init__(self, words):
+    def __init__(self, words: list[str]) -> None:
         with socket.socket() as free:
             free.bind(("127.0.0.1", 0))
-            self.port = free.getsockname()[1]
+            self.port: int = free.getsockname()[1]
         self.process = subprocess.Popen([*words, str(self.port)], stdout=subprocess.DEVNULL)
 
-    def connected(self):
+    def connected(self) -> socket.socket:
         for _ in range(500):
             try:
                 client = socket.create_connection(("127.0.0.1", self.port))
@@ -64,12 +67,12 @@ class Server:
                 time.sleep(0.02)
         sys.exit("no server")
 
-    def busy(self):
+    def busy(self) -> float:
         """Microseconds of the processor so far."""
         with open(f"/proc/{self.process.pid}/schedstat") as told:
             return int(told.read().split()[0]) / 1000
 
-    def asked(self, messages):
+    def asked(self, messages: list[bytes]) -> tuple[list[bytes], float, float]:
         """The answers, and microseconds for each: at the client, and of the server's processor."""
         with self.connected() as client:
             answers = [whole_answer(client, VALUE)]  # the connection is taken before the clock starts
@@ -79,7 +82,7 @@ class Server:
         return answers, took / len(messages), busy / len(messages)
 
 
-def whole_answer(client, message):
+def whole_answer(client: socket.socket, message: bytes) -> bytes:
     client.sendall(message)
     text = client.recv(1 << 20)
     while (end := text.find(b"\r\n\r\n")) < 0 or len(text) < end + 4 + int(text[text.index(b"Length: ") + 8 : text.index(b"\r\n", text.index(b"Length: "))]):
@@ -89,14 +92,14 @@ def whole_answer(client, message):
     return text
 
 
-def told(figures):
+def told(figures: Sequence[float]) -> str:
     return f"{median(figures):,.0f} ({min(figures):,.0f} to {max(figures):,.0f})"
 
 
 VALUE = get("/value/50/2010-05/2015-05")
 
 
-def kinds(place):
+def kinds(place: int) -> dict[str, list[bytes]]:
     new = [redemption(100_000 + n, PAYEE, [f"C{n}EE"]) for n in range(place * TICKETS + 1, (place + 1) * TICKETS + 1)]
     values = [get(f"/value/{denom}/{year}-{month:02}/2015-05") for denom in (50, 1000, 10000) for year in range(2006, 2014) for month in range(1, 13)]
     return {
@@ -112,7 +115,7 @@ make()
 counter = Server([program, "serve", "--db", ours, "--port"])
 python = Server([sys.executable, os.path.join(os.path.dirname(os.path.abspath(__file__)), "server.py"), theirs])
 try:
-    figures = {}
+    figures: dict[str, list[tuple[float, float, float, float]]] = {}
     for place in range(rounds):
         for kind, messages in kinds(place).items():
             turn = (counter, python) if place % 2 == 0 else (python, counter)

@@ -2,13 +2,15 @@
 """Requests a second on one connection over loopback, of the program in crates/ee_cli/out.
 Usage: connection.py PROGRAM FOLDER [BONDS]. It makes a store in FOLDER, enters BONDS bonds (1,000 without the argument), and serves connections of
 900 messages each: redemptions of one bond, then values, then inventories. It waits for each answer before the next request."""
+from __future__ import annotations
+
 import json, os, socket, subprocess, sys, time
 
 program, folder, bonds = sys.argv[1], sys.argv[2], int(sys.argv[3]) if len(sys.argv) > 3 else 1000
 store, port, count = os.path.join(folder, "bench.db"), 8399, 900
 
 
-def connect():
+def connect() -> socket.socket:
     for _ in range(200):
         try:
             return socket.create_connection(("127.0.0.1", port))
@@ -17,7 +19,7 @@ def connect():
     sys.exit("no server")
 
 
-def ask(connection, message, first=b"HTTP/1.1 200"):
+def ask(connection: socket.socket, message: bytes, first: bytes = b"HTTP/1.1 200") -> bytes:
     connection.sendall(message)
     got = b""
     while b"\r\n\r\n" not in got:
@@ -27,20 +29,20 @@ def ask(connection, message, first=b"HTTP/1.1 200"):
     while len(body) < length:
         body += connection.recv(65536)
     if not head.startswith(first):
-        sys.exit(f"{head} {body}")
+        sys.exit(f"{head!r} {body!r}")
     return body
 
 
-def post(path, value):
+def post(path: str, value: object) -> bytes:
     body = json.dumps(value, separators=(",", ":")).encode()
     return b"POST %s HTTP/1.1\r\nContent-Length: %d\r\n\r\n%s" % (path.encode(), len(body), body)
 
 
-def get(path):
+def get(path: str) -> bytes:
     return b"GET %s HTTP/1.1\r\n\r\n" % path.encode()
 
 
-def served(name, messages):
+def served(name: str | None, messages: list[bytes]) -> None:
     connection = connect()
     connection.setsockopt(socket.IPPROTO_TCP, socket.TCP_NODELAY, 1)
     start = time.perf_counter()

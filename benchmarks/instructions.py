@@ -4,7 +4,10 @@ Usage: instructions.py PROGRAM FOLDER. It wants valgrind, makes FOLDER and remov
 
 Of each kind `apply` is run with fewer and with more messages on one connection, over copies of one store in a file, under `valgrind --tool=callgrind`. What is told of one answer
 is the difference of the two runs by that of the messages: of the instructions of all functions, and of each group of functions, themselves without what they call."""
+from __future__ import annotations
+
 import collections, json, os, re, shutil, subprocess, sys
+from typing import Callable
 
 program, folder = os.path.abspath(sys.argv[1]), sys.argv[2]
 os.makedirs(folder)
@@ -23,34 +26,34 @@ GROUPS = {
 }
 
 
-def post(path, value):
+def post(path: str, value: object) -> bytes:
     body = json.dumps(value, separators=(",", ":")).encode()
     return b"POST %s HTTP/1.1\r\nContent-Length: %d\r\n\r\n%s" % (path.encode(), len(body), body)
 
 
-def get(path):
+def get(path: str) -> bytes:
     return b"GET %s HTTP/1.1\r\n\r\n" % path.encode()
 
 
-def bonds_of(owner, letter, first, last):
+def bonds_of(owner: int, letter: str, first: int, last: int) -> list[dict[str, str | int]]:
     issues, denoms = [f"{year}-{month:02}" for year in range(2006, 2014) for month in range(1, 13)], [50, 75, 100, 200, 500, 1000, 5000, 10000]
     return [{"serial": f"{letter}{n}EE", "denom": denoms[n % 8], "issued": issues[n % 96], "owner": owner} for n in range(first, last + 1)]
 
 
-def entered(number, bonds):
+def entered(number: int, bonds: list[dict[str, str | int]]) -> list[bytes]:
     return [post("/bonds", {"number": number + at, "bonds": bonds[at : at + 500]}) for at in range(0, len(bonds), 500)]
 
 
-def redemption(number, letter, first, last, payee=PAYEE):
+def redemption(number: int, letter: str, first: int, last: int, payee: int = PAYEE) -> bytes:
     return post("/redeem", {"number": number, "day": DAY, "payee": payee, "serials": [f"{letter}{n}EE" for n in range(first, last + 1)]})
 
 
-def apply(file, stream, *before):
+def apply(file: str, stream: list[bytes], *before: str) -> None:
     ran = subprocess.run([*before, program, "apply", "--db", file], input=b"".join(stream), stdout=subprocess.PIPE, stderr=subprocess.PIPE, check=True)
     assert ran.stdout.count(b"HTTP/1.1 200 OK") == len(stream), ran.stdout
 
 
-def make():
+def make() -> None:
     """The store: rates, 100 bonds of one owner, 2,020 of another, of which 2,000 are paid, 3,000 of a third, and an open day with a ticket for each of the third's first 200."""
     rates = [{"from": f"{2005 + half // 2}-{5 + half % 2 * 6:02}", "rate": f"{1 + half % 4}.{half:02}"} for half in range(20)]
     stream = [post("/rates", {"number": 1, "rates": rates}), post("/day/open", {"number": 2, "day": DAY})]
@@ -59,18 +62,19 @@ def make():
     apply(store, stream + [redemption(100_000 + n, "C", n, n) for n in range(1, 201)])
 
 
-def counted(messages):
+def counted(messages: list[bytes]) -> collections.Counter[str]:
     """The instructions of each function, by its name."""
     shutil.copy(store, copy)
     apply(copy, messages, "valgrind", "--tool=callgrind", "--dump-line=no", f"--callgrind-out-file={profile}")
-    names, costs, name, called = {}, collections.Counter(), "", False
+    names: dict[str, str] = {}
+    costs: collections.Counter[str] = collections.Counter()
+    name, called = "", False
     with open(profile) as lines:
         for line in lines:
             if found := re.match(r"fn=\((\d+)\)(?: (.*))?", line):
                 name = names.setdefault(found[1], found[2])
-            elif line.startswith("cfn="):
-                number, spelled = re.match(r"cfn=\((\d+)\)(?: (.*))?", line).groups()
-                names.setdefault(number, spelled)
+            elif found := re.match(r"cfn=\((\d+)\)(?: (.*))?", line):
+                names.setdefault(found[1], found[2])
             elif line.startswith("calls="):
                 called = True
             elif re.match(r"[+*\-\d]", line):
@@ -80,14 +84,15 @@ def counted(messages):
     return costs
 
 
-def group_of(name):
+def group_of(name: str) -> str:
     return next(group for group, pattern in GROUPS.items() if re.search(pattern, name))
 
 
-def told(kind, message, few=20, more=120):
+def told(kind: str, message: Callable[[int], bytes], few: int = 20, more: int = 120) -> None:
     less, all_ = (counted([message(n) for n in range(1, count + 1)]) for count in (few, more))
     all_.subtract(less)
-    whole, parts = sum(all_.values()), collections.Counter()
+    whole = sum(all_.values())
+    parts: collections.Counter[str] = collections.Counter()
     for name, cost in all_.items():
         parts[group_of(name)] += cost
     shares = " | ".join(f"{100 * parts[group] / whole:.0f} %" for group in GROUPS)

@@ -4,7 +4,10 @@ Usage: make_version_one.py FILE [BONDS REPLIES [--without-extensions]]. FILE mus
 100,000 replies. With the last word it has no table of extensions, as a store from before these.
 
 Its history is one of a single desk: a rate, imports of 500 bonds, and days of up to 900 tickets of one bond each, from all over the register."""
+from __future__ import annotations
+
 import datetime, os, sqlite3, sys
+from typing import Iterator
 
 TABLES = """\
 CREATE TABLE desk (id INTEGER NOT NULL PRIMARY KEY, version INTEGER NOT NULL, day INTEGER, last_day INTEGER) STRICT
@@ -22,12 +25,14 @@ ROWS, A_DAY = 500, 900
 RATE = 350  # hundredths of a percent
 PERIOD = 60  # months from 2005-05 to 2010-05, in which each bond is issued
 FIRST_DAY = datetime.date(2015, 5, 4)
+#: The texts of an act and its reply.
+Texts = tuple[str, str]
 
 
-def grown(unit, months):
+def grown(unit: int, months: int) -> int:
     """unit (1 + RATE/20000)^(months/6), rounded to the nearest cent, half a cent up: sixth powers tell it exactly."""
     right = (2 * unit) ** 6 * (20000 + RATE) ** months
-    cents = round(unit * (1 + RATE / 20000) ** (months / 6))
+    cents: int = round(unit * (1 + RATE / 20000) ** (months / 6))
     while (2 * cents - 1) ** 6 * 20000**months > right:
         cents -= 1
     while (2 * cents + 1) ** 6 * 20000**months <= right:
@@ -35,7 +40,7 @@ def grown(unit, months):
     return cents
 
 
-def value(age):
+def value(age: int) -> int:
     """What a bond of 50 dollars pays at an age of 5 to 20 years, in months: two units of 12.50 dollars."""
     unit = 1250
     for _ in range(age // 6):
@@ -43,20 +48,20 @@ def value(age):
     return 2 * grown(unit, age % 6)
 
 
-def money(cents):
+def money(cents: int) -> str:
     return f"{cents // 100}.{cents % 100:02}"
 
 
-def owner(bond):
+def owner(bond: int) -> int:
     return bond // 100 + 1
 
 
-def import_of(first, end):
+def import_of(first: int, end: int) -> Texts:
     rows = ",".join(f'{{"denom":50,"issued":"2010-05","owner":{owner(bond)},"serial":"A{bond}EE"}}' for bond in range(first, end))
     return f'{{"act":"bonds","bonds":[{rows}]}}', f'{{"new":{end - first},"same":0}}'
 
 
-def entered(bonds):
+def entered(bonds: int) -> Iterator[Texts]:
     """The replies of the imports."""
     yield '{"act":"rates","rates":[{"from":"2010-05","rate":"3.50%"}]}', '{"new":1,"same":0}'
     for first in range(1, bonds + 1, ROWS):
@@ -66,13 +71,16 @@ def entered(bonds):
 class Books:
     """The rows of the days. The replies are written, the others are kept until then."""
 
-    def __init__(self, bonds, tickets):
+    def __init__(self, bonds: int, tickets: int) -> None:
         self.bonds, self.left = bonds, tickets
         self.step = bonds // max(tickets, 1)
-        self.tickets, self.paid, self.batches, self.marks = [], [], [], {}
-        self.day = None
+        self.tickets: list[tuple[int, int, int, int, int]] = []
+        self.paid: list[tuple[int, int, int, int, int]] = []
+        self.batches: list[tuple[int, int, int, int]] = []
+        self.marks: dict[int, int] = {}
+        self.day: int | None = None
 
-    def redeem(self, day, count, cents):
+    def redeem(self, day: datetime.date, count: int, cents: int) -> Texts:
         ticket = len(self.tickets) + 1
         bond = (ticket - 1) * self.step + 1
         self.tickets.append((ticket, count, owner(bond), 1, cents))
@@ -82,7 +90,7 @@ class Books:
         line = f'{{"paid":"{money(cents)}","serial":"A{bond}EE"}}'
         return act, f'{{"day":"{day}","lines":[{line}],"payee":{owner(bond)},"ticket":{ticket},"total":"{money(cents)}"}}'
 
-    def a_day(self, place):
+    def a_day(self, place: int) -> Iterator[Texts]:
         """The replies of the day of that place, from 0 on."""
         day = FIRST_DAY + datetime.timedelta(days=place)
         count = (day - datetime.date(1970, 1, 1)).days
@@ -100,7 +108,7 @@ class Books:
         yield f'{{"act":"close","day":"{day}"}}', f'{{"bonds":{today},"day":"{day}","tickets":{today},"total":"{money(total)}"}}'
 
 
-def history(books):
+def history(books: Books) -> Iterator[Texts]:
     yield from entered(books.bonds)
     place = 0
     while books.left > 0:
@@ -108,14 +116,14 @@ def history(books):
         place += 1
 
 
-def tickets_for(bonds, replies):
+def tickets_for(bonds: int, replies: int) -> int:
     """How many tickets so many replies have room for, beside the imports and the days."""
     room = replies - 1 - -(-bonds // ROWS)
     days = -(-room // (A_DAY + 2))
     return room - 2 * days
 
 
-def make(path, bonds, replies, with_extensions):
+def make(path: str, bonds: int, replies: int, with_extensions: bool) -> None:
     books = Books(bonds, tickets_for(bonds, replies))
     if not 0 < books.left <= bonds:
         sys.exit("no such history: the tickets would be none, or more than the bonds")
@@ -141,4 +149,5 @@ def make(path, bonds, replies, with_extensions):
 words = [word for word in sys.argv[1:] if word != "--without-extensions"]
 if len(words) not in (1, 3) or os.path.exists(words[0]):
     sys.exit(__doc__)
-make(words[0], *(map(int, words[1:]) if len(words) == 3 else (1_000_000, 100_000)), "--without-extensions" not in sys.argv)
+bonds, replies = map(int, words[1:]) if len(words) == 3 else (1_000_000, 100_000)
+make(words[0], bonds, replies, "--without-extensions" not in sys.argv)

@@ -7,10 +7,13 @@ A redemption does the reads and writes of the counter's, one after the other in 
 is left out favours Python: rows of the store are believed as they are, a request is believed to have the right fields, and of the rules only those are tested
 that need no more reading (what they refuse is a status of 500 here). Terms are read for each value, as the counter does; the values of a unit are made
 once for a pair of rates, by `decimal`, and then looked up, as the counter does too. An answer is one write, and nothing is logged."""
+from __future__ import annotations
+
 import decimal, json, sqlite3, sys
 from datetime import date
 from functools import cache
 from http.server import BaseHTTPRequestHandler, HTTPServer
+from typing import TypedDict
 
 HEAD = "HTTP/1.1 %s\r\nContent-Type: %s\r\nContent-Length: %d\r\n\r\n"
 HEADING = "Serial        Series  Denom Issued  Next    Final          Price       Interest   Rate          Value Note\n"
@@ -19,26 +22,41 @@ store.execute("PRAGMA journal_mode = WAL")
 store.execute("PRAGMA synchronous = FULL")
 
 
-def compact(value):
+#: Price, interest and value in cents, the rate, the months of the next accrual and of final maturity, and the note.
+Row = tuple[int, int, int, int | None, int | None, int | None, str]
+
+
+class Redemption(TypedDict, total=False):
+    """The body of a request."""
+
+    desk: int
+    number: int
+    day: str
+    payee: int
+    serials: list[str]
+
+
+def compact(value: object) -> str:
     return json.dumps(value, separators=(",", ":"), sort_keys=True)
 
 
-def month(text):
+def month(text: str) -> int:
     return int(text[:4]) * 12 + int(text[5:]) - 2005 * 12 - 5
 
 
-def dollars(cents):
+def dollars(cents: int) -> str:
     return f"{cents // 100}.{cents % 100:02}"
 
 
-def rounded(cents):
+def rounded(cents: decimal.Decimal) -> int:
     return int(cents.quantize(decimal.Decimal(1), decimal.ROUND_HALF_UP))
 
 
 @cache
-def unit_values(rate, extension):
+def unit_values(rate: int, extension: int) -> list[int]:
     """The cents of one unit at each age, 0 to 360: half-years are rounded to the cent and grow on, and at 20 years it has doubled."""
-    start, values = 1250, []
+    start = 1250
+    values: list[int] = []
     for half in range(60):
         growth = 1 + decimal.Decimal(rate if half < 40 else extension) / 20000
         *within, start = [rounded(start * growth ** (decimal.Decimal(months) / 6)) for months in range(7)]
@@ -48,7 +66,7 @@ def unit_values(rate, extension):
     return values + [start]
 
 
-def terms(issued):
+def terms(issued: int) -> tuple[int, int]:
     """The fixed rate and that of extended maturity of the bonds that are issued in a month."""
     period = issued - issued % 6
     found = store.execute("SELECT rate FROM rates WHERE period = ?", (period,)).fetchone()
@@ -56,7 +74,7 @@ def terms(issued):
     return found[0], named[0] if named else found[0]
 
 
-def row(denom, issued, now, rates):
+def row(denom: int, issued: int, now: int, rates: tuple[int, int]) -> Row:
     """What a sheet shows of a bond: its price, interest and value in cents, its rate, the months of its next accrual and final maturity, and its note."""
     age, price = now - issued, denom * 50
     if age < 0:
@@ -67,27 +85,28 @@ def row(denom, issued, now, rates):
     return price, value - price, value, rates[age >= 240], now + 1, issued + 360, "NE" if age < 12 else "P5" if age < 60 else ""
 
 
-def month_text(count):
+def month_text(count: int | None) -> str:
     return "" if count is None else f"{2005 + (count + 4) // 12}-{(count + 4) % 12 + 1:02}"
 
 
-def sheet_month(count):
+def sheet_month(count: int | None) -> str:
     return "" if count is None else f"{(count + 4) % 12 + 1:02}/{2005 + (count + 4) // 12}"
 
 
-def value(denom, issued, now):
+def value(denom: str, issued: str, now: str) -> str:
     price, interest, paid, rate, following, final, note = row(int(denom), month(issued), month(now), terms(month(issued)))
     return compact({"denom": int(denom), "final": month_text(final), "interest": dollars(interest), "issued": issued, "next": month_text(following), "note": note,
                     "price": dollars(price), "rate": "" if rate is None else dollars(rate) + "%", "value": dollars(paid)})
 
 
-def line(serial, series, denom, issued, following, final, price, interest, rate, paid, note):
+def line(serial: str, series: str, denom: int | str, issued: str, following: str, final: str, price: str, interest: str, rate: str, paid: str, note: str) -> str:
     text = f"{serial:13} {series:6} {denom:>6} {issued:7} {following:7} {final:7} {price:>12} {interest:>14} {rate:>6} {paid:>14}"
     return f"{text} {note}\n" if note else text + "\n"
 
 
-def inventory(customer, now):
-    now, rates, lines, sums = month(now), {}, [HEADING], [0, 0, 0]
+def inventory(customer: str, shown: str) -> str:
+    now, lines, sums = month(shown), [HEADING], [0, 0, 0]
+    rates: dict[int, tuple[int, int]] = {}
     bonds = store.execute("SELECT letter, number, denom, issued FROM bonds WHERE owner = ? AND ticket IS NULL ORDER BY letter, number", (int(customer),))
     for letter, number, denom, issued in bonds.fetchall():
         period = issued - issued % 6
@@ -101,13 +120,15 @@ def inventory(customer, now):
     return "".join(lines)
 
 
-def pay(request, act):
+def pay(request: Redemption, act: str) -> str:
     """A new redemption, within a transaction: its reply, which is kept."""
     day, payee, serials = (date.fromisoformat(request["day"]) - date(1970, 1, 1)).days, request["payee"], request["serials"]
     _, open_day, _ = store.execute("SELECT version, day, last_day FROM desk WHERE id = 1").fetchone()
     assert open_day == day and len(set(serials)) == len(serials) <= 100
     now = (int(request["day"][:4]) - 2005) * 12 + int(request["day"][5:7]) - 5
-    found, rates, lines = [], {}, []
+    found: list[tuple[tuple[int, int], str, int, int]] = []
+    rates: dict[int, tuple[int, int]] = {}
+    lines: list[tuple[tuple[int, int], str, int]] = []
     for serial in serials:
         key = ord(serial[0]) - 64, int(serial[1:-2])
         denom, issued, owner, coowner, ticket = store.execute("SELECT denom, issued, owner, coowner, ticket FROM bonds WHERE letter = ? AND number = ?", key).fetchone()
@@ -133,14 +154,14 @@ def pay(request, act):
     return reply
 
 
-def redeem(body):
-    request = json.loads(body)
+def redeem(body: bytes) -> str:
+    request: Redemption = json.loads(body)
     act = compact({"act": "redeem", "day": request["day"], "payee": request["payee"], "serials": request["serials"]})
     store.execute("BEGIN")
     try:
         kept = store.execute("SELECT act, reply FROM answers WHERE desk = ? AND number = ?", (request.get("desk", 0), request["number"])).fetchone()
         assert not kept or kept[0] == act
-        reply = kept[1] if kept else pay(request, act)
+        reply: str = kept[1] if kept else pay(request, act)
         store.execute("COMMIT")
         return reply
     except BaseException:
@@ -151,21 +172,21 @@ def redeem(body):
 class Counter(BaseHTTPRequestHandler):
     protocol_version, wbufsize, disable_nagle_algorithm = "HTTP/1.1", -1, True
 
-    def log_message(self, *_):
+    def log_message(self, format: str, *_: object) -> None:
         pass
 
-    def answer(self, text, kind="application/json", status="200 OK"):
+    def answer(self, text: str, kind: str = "application/json", status: str = "200 OK") -> None:
         body = text.encode()
         self.wfile.write((HEAD % (status, kind, len(body))).encode() + body)
 
-    def do_GET(self):
+    def do_GET(self) -> None:
         parts = self.path.split("/")[1:]
         if parts[0] == "value":
             self.answer(value(*parts[1:]))
         else:
             self.answer(inventory(*parts[1:]), "text/plain")
 
-    def do_POST(self):
+    def do_POST(self) -> None:
         try:
             self.answer(redeem(self.rfile.read(int(self.headers["Content-Length"]))))
         except (AssertionError, TypeError, ValueError, KeyError) as why:

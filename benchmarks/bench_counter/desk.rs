@@ -5,8 +5,8 @@ use crate::requests::{
 };
 use anyhow::Result;
 use ee_counter::run;
+use ee_desk::ListKeeper;
 use ee_desk_model::{Act, Reply, Request, Unserved};
-use ee_keeper::ListKeeper;
 use std::alloc::Global;
 use std::time::Instant;
 
