@@ -1,5 +1,5 @@
 #!/usr/bin/env python3
-"""The command of the counter's Python client: clients/counter.py --help lists what it does (docs/TELLERS.md). For scripts import the package ee_counter_client.
+"""The command of the counter's Python client: clients/counter.py --help lists what it does (docs/COUNTER_CLIENT.md). For scripts import the package ee_counter_client.
 
 It runs the package that stands in the folder python/src beside it, or else the one that is installed. A copy of this file alone needs the package to be installed.
 """

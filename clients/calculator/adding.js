@@ -2,6 +2,7 @@
 
 import { withBonds } from "./books.js";
 import { tell, tellFault, tellFaults } from "./notices.js";
+import { remarksOn } from "./remarks.js";
 import { changeIfSettled, state } from "./state.js";
 import { TEXTS } from "./texts.js";
 
@@ -22,6 +23,7 @@ export function addRows({ rows, faults }, is_saved = false) {
     tellFault(`${TEXTS.nothing_added} ${TEXTS.unvalued(failure)}`);
     return false;
   }
-  tell(TEXTS.added(done.added, done.same, done.books.bonds.size));
+  const { told, lines } = remarksOn(done.rows, (row) => TEXTS.bond_title(row.serial));
+  tell(`${TEXTS.added(done.added, done.same, done.books.bonds.size)} ${told}`.trimEnd(), lines);
   return true;
 }

@@ -46,7 +46,10 @@ function unratedOf(bonds, rates) {
   return unrated === undefined ? null : refusal(30, "NoRate", { serial: unrated.serial, month: unrated.issued });
 }
 
-// Adds the rates of a file. A month that the books have takes the file's rates; with `alone` the file's rates are the only ones.
+/**
+ * Adds the rates of a file. A month that the books have takes the file's rates; with `alone` the file's rates are the only ones.
+ * @returns {{refusal?: any, books?: any, added?: number}}
+ */
 export function withRates(books, rows, alone) {
   const refused = rateRefusal(rows);
   if (refused !== null) return refused;
@@ -75,7 +78,7 @@ function bondRefusal(books, rows) {
 
 const lastNumber = (serials) => serials.filter(isUnnumbered).reduce((last, serial) => Math.max(last, Number(serial.slice(1))), 0);
 
-// Rows with a name for each bond without a serial number: the next free one of #1, #2 ... A name that another bond has is replaced likewise.
+// Rows with a name for every bond without a serial number: the next free one of #1, #2 ... A name that another bond has is replaced likewise.
 function numbered(bonds, rows) {
   let last = lastNumber([...bonds.keys(), ...rows.map((row) => row.serial ?? "")]);
   const named = new Set();
@@ -87,7 +90,7 @@ function numbered(bonds, rows) {
   });
 }
 
-// Adds bonds, all or none. Counts those that are new, and those that the books have already.
+// Adds bonds, all or none. Returns them as `rows`, and counts those that are new and those that the books have already.
 export function withBonds(books, read) {
   const rows = numbered(books.bonds, read);
   const refused = bondRefusal(books, rows);
@@ -95,7 +98,7 @@ export function withBonds(books, read) {
   const bonds = new Map(books.bonds);
   for (const { serial, denom, issued, owner, coowner } of rows) bonds.set(serial, { serial, denom, issued, owner, coowner });
   const count = bonds.size - books.bonds.size;
-  return { books: { ...books, bonds }, added: count, same: rows.length - count };
+  return { books: { ...books, bonds }, rows, added: count, same: rows.length - count };
 }
 
 // What `own` changed of the bonds of `base`, done to those of `other`: what the two changed differently is refused.

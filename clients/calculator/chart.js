@@ -68,7 +68,7 @@ function drawing(points, { label, now, marked }, width) {
   return drawn("svg", { role: "img", "aria-label": label, viewBox: `0 0 ${width} ${HEIGHT}`, width, height: HEIGHT }, ...parts);
 }
 
-// A value for each year, and the last one.
+// A value for every year, and the last one.
 function yearly(points) {
   const first = points[0].month;
   return points.filter((point, place) => (point.month - first) % 12 === 0 || place === points.length - 1);
@@ -87,6 +87,7 @@ export class Chart {
     this.values = element("div");
     holder.replaceChildren(this.holder, this.values);
     this.points = [];
+    this.words = { label: "", now: undefined, marked: [] };
     new ResizeObserver(() => this.#draw()).observe(this.holder);
   }
 

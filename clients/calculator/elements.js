@@ -2,7 +2,11 @@
 
 const SVG = "http://www.w3.org/2000/svg";
 
-export const byId = (id) => document.getElementById(id);
+/**
+ * @param {string} id
+ * @returns {HTMLInputElement & HTMLDialogElement} which of them it is, and whether it is either, index.html says
+ */
+export const byId = (id) => /** @type {any} */ (document.getElementById(id));
 
 function filled(made, attributes, children) {
   for (const [name, value] of Object.entries(attributes)) made.setAttribute(name, value);
@@ -16,6 +20,11 @@ export function element(name, attributes = {}, ...children) {
 
 export function drawn(name, attributes = {}, ...children) {
   return filled(document.createElementNS(SVG, name), attributes, children);
+}
+
+/** Writes a text, if it isn't there already: a screen reader tells a live region that is written again. */
+export function write(made, text) {
+  if (made.textContent !== text) made.textContent = text;
 }
 
 export function options(select, pairs, chosen = select.value) {

@@ -44,7 +44,10 @@ function textOf(record) {
 
 const bytesOf = (text) => new TextEncoder().encode(text);
 
-// Reads one kept text by steps that each give `faults` or a `refusal`, and throws the text of what is wrong.
+/**
+ * Reads one kept text by steps that each give `faults` or a `refusal`, and throws the text of what is wrong.
+ * @param {{faults?: any[], refusal?: any, rows?: any[], books?: any}} given
+ */
 function sound({ faults = [], refusal, ...read }) {
   if (faults.length > 0) throw new Error(TEXTS.fault(faults[0]));
   if (refusal !== undefined) throw new Error(TEXTS.refusal(refusal));

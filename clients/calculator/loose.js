@@ -33,7 +33,10 @@ function monthNamed(name) {
   return wanted.length < 3 || place < 0 ? null : place + 1;
 }
 
-// Year, month and day of each spelling. A date without a day is its month; bonds are issued on the first day.
+/**
+ * Year, month and day of every spelling. A date without a day is its month; bonds are issued on the first day.
+ * @type {[RegExp, (parts: string[]) => any[]][]}
+ */
 const DATES = [
   [/^([0-9]{4})[-/.]([0-9]{1,2})(?:[-/.]([0-9]{1,2}))?$/, ([year, month, day]) => [year, month, day]],
   [/^([0-9]{1,2})[-/.]([0-9]{4})$/, ([month, year]) => [year, month]],

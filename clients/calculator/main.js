@@ -22,7 +22,7 @@ let waiting = 0;
 function writeTexts() {
   document.title = TEXTS.title;
   document.documentElement.lang = TEXTS.language;
-  for (const one of document.querySelectorAll("[data-text]")) one.textContent = TEXTS[one.dataset.text];
+  for (const one of /** @type {NodeListOf<HTMLElement>} */ (document.querySelectorAll("[data-text]"))) one.textContent = TEXTS[one.dataset.text];
   byId("about-list").replaceChildren(...TEXTS.about.map((text) => element("li", {}, text)));
 }
 
@@ -41,7 +41,7 @@ function showCurve() {
 }
 
 function showModule() {
-  byId("module").value = state.bits;
+  byId("module").value = String(state.bits);
   byId("module-told").textContent = TEXTS.module_told(state.bits, state.library.version);
 }
 

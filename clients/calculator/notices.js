@@ -1,4 +1,4 @@
-// What the page tells: one live region at the top of the window, with a list of faults below its sentence if there are any. The region is always
+// What the page tells: one live region at the top of the window, with a list of faults or remarks below its sentence if there are any. The region is always
 // there, since a screen reader tells only changes of one that it knows.
 
 import { byId, element } from "./elements.js";
@@ -16,8 +16,8 @@ export function tellNothing() {
   show("", "none", []);
 }
 
-export function tell(text) {
-  show(text, "done", []);
+export function tell(text, list = []) {
+  show(text, "done", list);
 }
 
 export function tellFault(text) {

@@ -1,5 +1,5 @@
 // Reads bonds that were pasted: columns of a spreadsheet, which tabs part, or lines with semicolons, commas or spaces. A line of headings names the
-// columns; without one, the cells tell which column is which. The spellings are those of loose.js. Lines that are no bonds, as titles and totals,
+// columns; of those that it doesn't name, the cells tell which column is which. The spellings are those of loose.js. Lines that are no bonds, as titles and totals,
 // are left out, and named.
 
 import { records } from "./csv.js";
@@ -15,6 +15,8 @@ const HEADINGS = {
   owner: /^(?:owner|customer|owner number|customer number)$/,
   coowner: /^co-?owner(?: number)?$/,
 };
+// Words of headings over what isn't read, though its cells look like denominations or issue months.
+const OTHERS = /price|cost|paid|interest|rate|value|worth|matur|final|next|accrual|redeem|cash/i;
 const TOTAL = /^(?:sub-?|grand |in )?(?:total|totals|sum|all)\b/i;
 
 // By column: the value of a cell, or null. `undefined` is an empty cell that may be empty.
@@ -50,10 +52,26 @@ function columnOf(heading) {
   return text === "" || text === "bond" ? undefined : Object.keys(HEADINGS).find((column) => HEADINGS[column].test(text));
 }
 
-// The columns that a line names, each once, or null if it isn't a line of headings.
-function headingsOf({ cells }) {
-  const columns = cells.map(columnOf).map((column, place, all) => (all.indexOf(column) === place ? column : undefined));
-  return columns.includes("denom") && columns.includes("issued") ? columns : null;
+// The columns that a line names, each once. An amount is the denomination only if no other heading is.
+function namedBy({ cells }) {
+  const columns = cells.map(columnOf);
+  const placeOfName = (column) => {
+    const places = [...columns.keys()].filter((place) => columns[place] === column);
+    return places.find((place) => !/^amount$/i.test(cells[place])) ?? places[0];
+  };
+  return columns.map((column, place) => (column !== undefined && placeOfName(column) === place ? column : undefined));
+}
+
+const readsAs = ({ cells }, column) => cells.some(has(column));
+
+// The place of the line of headings, or -1: the first one that names denomination and issue month, or else one before all bonds that names one of them.
+function topOf(table) {
+  const names = (line, column) => namedBy(line).includes(column);
+  const whole = table.findIndex((line) => names(line, "denom") && names(line, "issued"));
+  if (whole >= 0) return whole;
+  const bond = table.findIndex((line) => readsAs(line, "denom") && readsAs(line, "issued"));
+  const isHalf = (line) => filledOf(line).length > 1 && !readsAs(line, "denom") && !readsAs(line, "issued") && (names(line, "denom") || names(line, "issued"));
+  return table.slice(0, Math.max(bond, 0)).findIndex(isHalf);
 }
 
 const filledOf = ({ cells }) => cells.filter((cell) => cell !== "");
@@ -68,20 +86,54 @@ function isOther(line, before, is_last) {
   return is_sum || filled.length < 2 || !filled.some((cell) => /[0-9]/.test(cell));
 }
 
-// The columns of lines without headings. A column is the first one in which half the cells read as such; what isn't found so is the first one left.
-function guessed(lines) {
-  const columns = Array.from({ length: Math.max(0, ...lines.slice(0, 1000).map(({ cells }) => cells.length)) });
-  const counted = (column, place) => lines.filter(({ cells }) => has(column)(cells[place])).length;
-  const take = (column, fits) => {
-    const place = columns.findIndex((taken, at) => taken === undefined && fits(at));
-    if (place >= 0) columns[place] = column;
+// By column: which of two is the one. A maturity comes after the issue month, and a price is half of the denomination.
+const SIGNS = { issued: 1, denom: -1 };
+
+// The place among `free` in which half the cells read as a column. Of several it is the one with the earlier months or the larger amounts, in the lines
+// in which both read.
+function placeOf(column, lines, free) {
+  const valueAt = ({ cells }, place) => READERS[column](cells[place] ?? "") ?? null;
+  const isFull = (place) => 2 * lines.filter((line) => valueAt(line, place) !== null).length >= Math.max(1, lines.length);
+  const difference = (one, other) => {
+    const pairs = lines.map((line) => [valueAt(line, one), valueAt(line, other)]).filter((pair) => !pair.includes(null));
+    return pairs.reduce((sum, [mine, others]) => sum + mine - others, 0);
   };
-  for (const column of ["serial", "series", "issued", "denom"]) take(column, (place) => 2 * counted(column, place) >= Math.max(1, lines.length));
-  for (const column of ["issued", "denom"]) if (!columns.includes(column)) take(column, (place) => place > 0 || columns.includes("serial") || columns.length < 3);
+  const better = (best, place) => (column in SIGNS && SIGNS[column] * difference(place, best) < 0 ? place : best);
+  const found = free.filter(isFull);
+  return found.length === 0 ? undefined : found.reduce(better);
+}
+
+// The columns of lines: those that headings name, and of the others what their cells read as, first those whose heading names nothing else.
+function completed(headings, lines) {
+  const named = namedBy({ cells: headings });
+  const width = Math.max(headings.length, ...lines.slice(0, 1000).map(({ cells }) => cells.length));
+  const columns = Array.from({ length: width }, (_, place) => named[place]);
+  const free = () => [...columns.keys()].filter((place) => columns[place] === undefined);
+  const own = () => free().filter((place) => !OTHERS.test(headings[place] ?? ""));
+  const take = (column, place) => {
+    if (place !== undefined && !columns.includes(column)) columns[place] = column;
+  };
+  for (const column of ["serial", "series", "issued", "denom"]) take(column, placeOf(column, lines, own()) ?? placeOf(column, lines, free()));
+  // What isn't found so is the first one left, so that a fault names it.
+  for (const column of ["issued", "denom"]) take(column, own().find((place) => place > 0 || columns.includes("serial") || width < 3));
+  return headings.length > 0 ? columns : withSerialsAndOwners(columns, lines);
+}
+
+// Whether there are customer numbers at a place, and not the bonds' prices.
+function areOwners(place, denom, lines) {
+  const owned = lines.filter(({ cells }) => has("owner")(cells[place]));
+  return owned.some(({ cells }) => Number(cells[place]) !== Math.round((READERS.denom(cells[denom] ?? "") ?? 0) / 2));
+}
+
+// Without headings: misspelled serial numbers come first, and owners after the other columns.
+function withSerialsAndOwners(guessed, lines) {
+  const columns = [...guessed];
   const first = Math.min(columns.indexOf("denom"), columns.indexOf("issued"));
-  if (!columns.includes("serial")) take("serial", (place) => place < first && lines.some(({ cells }) => !/^[0-9]*\.?$/.test(cells[place] ?? "")));
+  const isWord = (place) => lines.some(({ cells }) => !/^(?:USD)?[-$0-9., ]*(?:USD)?$/i.test(cells[place] ?? "") && !has("issued")(cells[place]));
+  const place = columns.findIndex((column, at) => column === undefined && at < first && isWord(at));
+  if (!columns.includes("serial") && place >= 0) columns[place] = "serial";
   const after = 1 + Math.max(...["serial", "denom", "issued"].map((column) => columns.indexOf(column)));
-  if (columns.length > after && counted("owner", after) > 0) columns.splice(after, 2, "owner", ...(columns.length > after + 1 ? ["coowner"] : []));
+  if (columns.length > after && areOwners(after, columns.indexOf("denom"), lines)) columns.splice(after, 2, "owner", ...(columns.length > after + 1 ? ["coowner"] : []));
   return columns;
 }
 
@@ -111,12 +163,11 @@ function readLine(columns, { row, cells }, owner) {
  */
 export function readPasted(text, owner) {
   const table = split(text);
-  const top = table.findIndex((line) => headingsOf(line) !== null);
+  const top = topOf(table);
   const rest = table.slice(top + 1);
   const isLeft = (line, place) => isOther(line, rest[place - 1], place === rest.length - 1);
   const lines = rest.filter((line, place) => !isLeft(line, place));
-  const named = top < 0 ? guessed(lines) : headingsOf(table[top]);
-  const columns = withoutNames(named, lines);
+  const columns = withoutNames(completed(top < 0 ? [] : table[top].cells, lines), lines);
   const read = lines.map((line) => readLine(columns, line, owner));
   const faults = read.filter((one) => one.fault !== undefined).map((one) => one.fault);
   const isIgnored = (place) => columns[place] === undefined && lines.some(({ cells }) => (cells[place] ?? "") !== "");

@@ -1,4 +1,4 @@
-// The rows of the calculator: what the library answers for each bond in a month, as the texts of the eleven columns that the counter's sheet prints.
+// The rows of the calculator: what the library answers for every bond in a month, as the texts of the eleven columns that the counter's sheet prints.
 
 import { termsOf } from "./books.js";
 import { moneyText, monthNumber, monthOf, rateText, serialOrder, sheetMonthText } from "./spelling.js";

@@ -88,7 +88,7 @@ export function rateText(hundredths) {
   return `${moneyText(hundredths)}%`;
 }
 
-// Money as people read it: a dollar sign, and a comma before each three digits.
+// Money as people read it: a dollar sign, and a comma before every three digits.
 export function dollarsText(cents) {
   return `$${moneyText(cents).replace(/\B(?=([0-9]{3})+\.)/g, ",")}`;
 }

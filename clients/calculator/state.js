@@ -1,4 +1,4 @@
-// What the page works on, and its changes. Whoever shows it subscribes; after each change all of it is shown anew.
+// What the page works on, and its changes. Whoever shows it subscribes; after every change all of it is shown anew.
 
 import { NO_BOOKS, sortedBonds } from "./books.js";
 import { filteredRows, rowsAt, sortedRows, totalsOf } from "./rows.js";

@@ -75,7 +75,7 @@ export class BondTable {
 
   show(rows, totals, sort) {
     this.rows = rows;
-    const had_keyboard = this.head.contains(document.activeElement) ? document.activeElement.dataset.column : null;
+    const had_keyboard = this.head.contains(document.activeElement) ? /** @type {HTMLElement} */ (document.activeElement).dataset.column : null;
     this.head.replaceChildren(headings(sort));
     if (had_keyboard !== null) this.head.querySelector(`[data-column="${had_keyboard}"]`).focus();
     this.foot.replaceChildren(totalRow(totals));

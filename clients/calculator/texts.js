@@ -43,6 +43,12 @@ const REFUSALS = {
 
 const NOTES = { NI: "not issued yet", NE: "under 12 months: can't be cashed yet", P5: "under 5 years: less 3 months' interest", MA: "30 years old: earns no more interest", "": "" };
 
+// What to compare with a bond's paper.
+const DOUBTS = {
+  letter: ({ denom, letter }) => `Serial numbers of $${denom.toLocaleString("en-US")} bonds begin with ${letter}.`,
+  late: () => "Paper bonds were sold until December 2011.",
+};
+
 const at = (row) => (row === undefined ? "" : `Row ${row}: `);
 
 export const EN = {
@@ -88,7 +94,7 @@ export const EN = {
   inventory_label: "Open an inventory (CSV file)",
   paste_summary: "Paste from a spreadsheet",
   paste_label: "Columns of a spreadsheet, or lines",
-  paste_help: "Each line needs a denomination and an issue month; a serial number is optional. Columns may have any order. The page shows what it understood before anything is added.",
+  paste_help: "Every line needs a denomination and an issue month; a serial number is optional. Columns may have any order. The page shows what it understood before anything is added.",
   paste_button: "Show what is understood",
   paste_add: (count) => (count === 1 ? "Add this bond" : `Add these ${count.toLocaleString("en-US")} bonds`),
   understood_title: "What the page understood",
@@ -102,6 +108,10 @@ export const EN = {
   left_out: ({ row, text }) => `Row ${row} is no bond: “${text.slice(0, 60)}”`,
   more_left: (count) => `${counted(count, "more row is", "more rows are")} no bonds.`,
   file_understood: "The page read the file as a list of a spreadsheet instead. Compare what it understood with your list, then add it.",
+  doubts: DOUBTS,
+  to_check: (count) => `Compare ${bonds(count)} with the paper.`,
+  more_to_check: (count) => `Compare ${count.toLocaleString("en-US")} more with the paper.`,
+  row_name: ({ row }) => `Row ${row}`,
   dollars: (count) => `$${count.toLocaleString("en-US")}`,
   added: (added, same, all) => `${bonds(added)} added.${same > 0 ? ` ${bonds(same)} already there.` : ""} ${all.toLocaleString("en-US")} in all.`,
   nothing_added: "Nothing was added.",
@@ -158,7 +168,7 @@ export const EN = {
   skip_table: "Skip the table",
 
   curve_title: "Value of the inventory over the years",
-  curve_says: (points) => `The inventory's value from ${month(points[0].month)} to ${month(points.at(-1).month)}. It ends at ${dollarsText(points.at(-1).cents)}. The table has each year.`,
+  curve_says: (points) => `The inventory's value from ${month(points[0].month)} to ${month(points.at(-1).month)}. It ends at ${dollarsText(points.at(-1).cents)}. The table has every year.`,
   curve_table: "The same as a table",
   curve_month: "Month",
   curve_value: "Value",
@@ -181,7 +191,7 @@ export const EN = {
   facts: {
     bond: (it) => `$${it.denom.toLocaleString("en-US")}, issued ${month(it.issued)}`,
     value: (value, text, note) => `${text} in ${month(value)}${note === "" ? "" : `: ${note}`}`,
-    names: { bond: "Bond", value: "Value", rate: "Rate", owner: "Owner" },
+    names: { bond: "Bond", value: "Value", rate: "Rate", owner: "Owner", remark: "To check" },
     owner: (it) => `customer ${it.owner}${it.coowner === undefined ? "" : `, coowner ${it.coowner}`}`,
     rates: (fixed, extended) => (fixed === extended ? fixed : `${fixed}, and ${extended} in the years 21 to 30`),
   },
@@ -197,12 +207,12 @@ export const EN = {
   },
   ahead_none: "Nothing changes any more: the bond earns no more interest.",
   bond_curve_title: "Its value over 30 years",
-  bond_curve_says: (serial, points) => `The value of bond ${serial} from ${dollarsText(points[0].cents)} in ${month(points[0].month)} to ${dollarsText(points.at(-1).cents)} in ${month(points.at(-1).month)}. The table has each year.`,
+  bond_curve_says: (serial, points) => `The value of bond ${serial} from ${dollarsText(points[0].cents)} in ${month(points[0].month)} to ${dollarsText(points.at(-1).cents)} in ${month(points.at(-1).month)}. The table has every year.`,
   remove_bond: "Remove this bond",
 
   about_title: "What is proved, and what isn't",
   about: [
-    "Each value comes from a small program, the module, whose every function is proved: for each denomination, month and rate it answers what the rules of 31 CFR Part 351 give, to the cent.",
+    "Every value comes from a small program, the module, whose every function is proved: for every denomination, month and rate it answers what the rules of 31 CFR Part 351 give, to the cent.",
     "Not proved: this page, which reads what you type and prints what the module answers; the browser; and, with the module of 32 bits, the step that makes it from the proved one of 64 bits. All this is tested against the counter's program and the Treasury's published values.",
     "Nobody proves that the rates are the Treasury's. Compare them before you rely on a value.",
     "A value here is no promise of payment. The page doesn't know which bonds exist, were lost or were cashed.",

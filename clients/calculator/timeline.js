@@ -1,4 +1,4 @@
-// What bonds are worth over time: the months that matter to a bond, and curves. Each value is an answer of the library; a curve of several
+// What bonds are worth over time: the months that matter to a bond, and curves. Every value is an answer of the library; a curve of several
 // bonds adds answers up.
 
 import { questionOf, rowsAt } from "./rows.js";
@@ -24,7 +24,7 @@ export function milestonesOf(library, rates, bond, month) {
   return ahead.sort((one, other) => one[1] - other[1]).map(([name, at]) => ({ name, month: at, row: rowsAt(library, rates, [bond], at)[0] }));
 }
 
-// The value of one bond in each month of its 30 years.
+// The value of one bond in every month of its 30 years.
 export function curveOf(library, rates, bond) {
   const months = Array.from({ length: MATURES + 1 }, (_, age) => bond.issued + age);
   const answers = library.rows(months.map((month) => questionOf(rates, bond, month)));

@@ -2,10 +2,11 @@
 
 import { addRows } from "./adding.js";
 import { termsOf } from "./books.js";
-import { byId, options } from "./elements.js";
+import { byId, options, write } from "./elements.js";
 import { INVENTORY, MOST_BYTES, readInventory } from "./files.js";
 import { isNoSerial, looseDenom, looseIssue, looseSerial, plain } from "./loose.js";
 import { tellFault, tellFaults } from "./notices.js";
+import { remarkOn } from "./remarks.js";
 import { rowsAt } from "./rows.js";
 import { DENOMINATIONS, dollarsText, readCustomer } from "./spelling.js";
 import { state } from "./state.js";
@@ -42,15 +43,18 @@ function rowOf(denom, issued) {
   }
 }
 
-// Shows what a bond of the typed denomination and issue month is worth in the value month.
+const typedSerial = () => looseSerial(plain(byId("serial").value));
+
+// Shows what a bond of the typed denomination and issue month is worth in the value month, and what to compare with its paper.
 export function showOne() {
   const [denom, issued] = [looseDenom(byId("denom").value), looseIssue(plain(byId("issued").value))];
+  const remark = denom === null ? "" : remarkOn({ serial: typedSerial(), denom, issued });
   const is_whole = denom !== null && issued !== null;
   const is_rated = is_whole && termsOf(state.books.rates, issued) !== undefined;
   const row = is_rated ? rowOf(denom, issued) : null;
   const told = row !== null ? TEXTS.one_says(row, state.month) : is_whole && !is_rated ? TEXTS.one_unrated(issued) : TEXTS.one_hint;
-  byId("one-value").textContent = row === null ? "" : dollarsText(row.cents.value);
-  byId("one-words").textContent = told;
+  write(byId("one-value"), row === null ? "" : dollarsText(row.cents.value));
+  write(byId("one-words"), `${told} ${remark}`.trimEnd());
 }
 
 function markFault(fault) {
@@ -72,6 +76,7 @@ function addTyped(event) {
   }
   if (!addRows({ rows: [values], faults: [] })) return;
   byId("serial").value = "";
+  showOne();
   byId("serial").focus();
 }
 
@@ -100,7 +105,7 @@ async function addFile(event) {
 export function beginAdding() {
   options(byId("denom"), [["", TEXTS.denom_choose], ...DENOMINATIONS.map((dollars) => [dollars, `$${dollars.toLocaleString("en-US")}`])], "");
   byId("type-form").addEventListener("submit", addTyped);
-  for (const name of ["denom", "issued"]) byId(name).addEventListener("input", showOne);
+  for (const name of ["denom", "issued", "serial"]) byId(name).addEventListener("input", showOne);
   byId("inventory-file").addEventListener("change", addFile);
   beginPasting();
 }

@@ -4,6 +4,7 @@ import { termsOf, withoutBond } from "./books.js";
 import { Chart } from "./chart.js";
 import { byId, element, table } from "./elements.js";
 import { tell } from "./notices.js";
+import { remarkOn } from "./remarks.js";
 import { dollarsText, rateText } from "./spelling.js";
 import { change, state } from "./state.js";
 import { TEXTS } from "./texts.js";
@@ -20,15 +21,16 @@ function facts(row) {
     value: TEXTS.facts.value(state.month, dollarsText(row.cents.value), TEXTS.notes[texts.note]),
     rate: TEXTS.facts.rates(rateText(rate), rateText(extension)),
     owner: TEXTS.facts.owner(bond),
+    remark: remarkOn(bond),
   };
-  return Object.entries(told).flatMap(([name, text]) => [element("dt", {}, TEXTS.facts.names[name]), element("dd", {}, text)]);
+  return Object.entries(told).filter(([, text]) => text !== "").flatMap(([name, text]) => [element("dt", {}, TEXTS.facts.names[name]), element("dd", {}, text)]);
 }
 
 function ahead(bond) {
   const list = milestonesOf(state.library, state.books.rates, bond, state.month);
   if (list.length === 0) return element("p", {}, TEXTS.ahead_none);
   const rows = list.map((one) => [TEXTS.ahead[one.name], TEXTS.month(one.month), dollarsText(one.row.cents.value)]);
-  return element("table", { class: "small" }, ...table("", TEXTS.ahead_columns, rows));
+  return element("table", { class: "small", "aria-labelledby": "ahead-title" }, ...table("", TEXTS.ahead_columns, rows));
 }
 
 export function openBond(row) {

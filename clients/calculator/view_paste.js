@@ -4,6 +4,7 @@ import { addRows } from "./adding.js";
 import { byId, element, table } from "./elements.js";
 import { tell, tellFaults } from "./notices.js";
 import { readPasted } from "./paste.js";
+import { remarksOn } from "./remarks.js";
 import { readCustomer } from "./spelling.js";
 import { TEXTS } from "./texts.js";
 
@@ -19,13 +20,13 @@ function previewOf(rows) {
   return table("", TEXTS.understood_columns(has_owners), rows.slice(0, MOST_ROWS).map(cells));
 }
 
-function notesOf({ good, heading, ignored, left }) {
+function notesOf({ good, heading, ignored, left }, remarks) {
   const more = good.length > MOST_ROWS ? [TEXTS.more_understood(good.length - MOST_ROWS)] : [];
   const headed = heading === null ? [] : [TEXTS.headed(heading)];
   const unread = ignored.length === 0 ? [] : [TEXTS.ignored(ignored)];
   const lines = left.slice(0, MOST_LEFT).map(TEXTS.left_out);
   const rest = left.length > MOST_LEFT ? [TEXTS.more_left(left.length - MOST_LEFT)] : [];
-  return [...more, ...headed, ...unread, ...lines, ...rest];
+  return [...more, ...remarks, ...headed, ...unread, ...lines, ...rest];
 }
 
 function forget() {
@@ -39,13 +40,14 @@ function understand() {
   const text = byId("pasted").value;
   if (text.trim() === "") return forget();
   const read = readPasted(text, readCustomer(byId("owner").value.trim()) ?? 1);
+  const remarks = remarksOn(read.good, TEXTS.row_name);
   shown = { text, read };
   byId("understood").hidden = false;
   byId("understood-rows").replaceChildren(...(read.good.length === 0 ? [] : previewOf(read.good)));
-  byId("understood-notes").replaceChildren(...notesOf(read).map((line) => element("li", {}, line)));
+  byId("understood-notes").replaceChildren(...notesOf(read, remarks.lines).map((line) => element("li", {}, line)));
   byId("paste-add").textContent = read.rows.length === 0 ? TEXTS.paste_button : TEXTS.paste_add(read.rows.length);
   if (read.faults.length > 0) tellFaults(read.faults);
-  else tell(TEXTS.understood(read.rows.length));
+  else tell(`${TEXTS.understood(read.rows.length)} ${remarks.told}`.trimEnd());
 }
 
 // Adds what is shown. A text that isn't shown yet is shown first.

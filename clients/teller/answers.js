@@ -14,7 +14,10 @@ function parsed(text) {
   }
 }
 
-// The value, if its compact text with these keys in this order is the text.
+/**
+ * The value, if its compact text with these keys in this order is the text.
+ * @returns {Record<string, any> | null}
+ */
 function exactly(text, keys) {
   const value = parsed(text);
   if (value === null) return null;
@@ -63,6 +66,25 @@ function readOpened(text) {
   return value !== null && isDay(value.opened) ? { kind: "opened", day: value.opened } : null;
 }
 
+function readAdded(text) {
+  const value = exactly(text, ["new", "same"]);
+  return value !== null && isNumber(value.new) && isNumber(value.same) ? { kind: "added", new: value.new, same: value.same } : null;
+}
+
+const ROW_KEYS = ["denom", "final", "interest", "issued", "next", "note", "price", "rate", "value"];
+
+/**
+ * The row of a bond that isn't registered, with its money as cents.
+ * @returns {Record<string, any> | null}
+ */
+export function readRow(text) {
+  const row = exactly(text, ROW_KEYS);
+  if (row === null || ROW_KEYS.some((key) => !(key in row))) return null;
+  const [price, interest, value] = [row.price, row.interest, row.value].map(centsOf);
+  const is_spelled = price !== null && interest !== null && value !== null;
+  return is_spelled && price + interest === value ? { kind: "value", ...row, price, interest, value } : null;
+}
+
 function isTicketOf(ticket, { day, payee, serials }) {
   return ticket.day === day && ticket.payee === payee && ticket.lines.length === serials.length && ticket.lines.every((line, place) => line.serial === serials[place]);
 }
@@ -72,6 +94,10 @@ export function replyTo(path, fields, text) {
   if (path === "/redeem") {
     const ticket = readTicket(text);
     return ticket !== null && isTicketOf(ticket, fields) ? ticket : null;
+  }
+  if (path === "/bonds") {
+    const added = readAdded(text);
+    return added !== null && added.new + added.same === fields.bonds.length ? added : null;
   }
   const reply = path === "/day/open" ? readOpened(text) : readBatch(text);
   return reply !== null && reply.day === fields.day ? reply : null;

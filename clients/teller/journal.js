@@ -3,26 +3,28 @@
 // The record:
 //   desk    the number of this page's desk
 //   next    the least number that no request has had
-//   open    the request that has no reply yet: its number, path and fields, how often it was sent (`sent`), and the sum that the teller confirmed (`shown`, cents as a text)
+//   open    the request that has no reply yet: its number, path and fields, how often it was sent (`sent`), the sum that the teller confirmed (`shown`, cents as a text), its `teller`, and of a payment the
+//           `bonds`, as receipts.js makes them. `then` is the payment that follows a registration, and `registered` what the registration before a payment was answered. A journal of an earlier
+//           version lacks what follows `shown`
 //   day     the day that this page works on
 //   closed  the latest day that this page knows to be closed; a journal of an earlier version lacks it
 //   last    the number of the last ticket that this page was told
-//   paid    the tickets that this page was told on one day, { day, tickets }: of each its number, how many bonds, its sum (cents as a text), the number of its request, when, by whom, and whether
-//           it was printed. A journal of an earlier version lacks it, and `tally`
+//   paid    the tickets that this page was told on one day, { day, tickets }: of each its number, how many bonds, its sum (cents as a text), the number of its request, the server's time, by
+//           whom, and whether it was printed. A journal of an earlier version lacks it, and `tally`
 //   tally   how many tickets and bonds all desks had paid on one day, and their sum, up to the ticket `through`
-// Of bonds and customers the record has only what the open request names.
+// Of bonds and customers the record has only what the open request names. What is kept of payments is in receipts.js.
 
 const NAME = "ladwenpik-teller";
 const KEY = "journal";
 
-function answered(request) {
+export function answered(request) {
   return new Promise((resolve, reject) => {
     request.onsuccess = () => resolve(request.result);
     request.onerror = () => reject(request.error);
   });
 }
 
-function completed(transaction) {
+export function completed(transaction) {
   return new Promise((resolve, reject) => {
     transaction.oncomplete = () => resolve();
     transaction.onerror = () => reject(transaction.error);

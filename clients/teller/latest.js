@@ -2,6 +2,7 @@
 // tickets of a day stand together.
 
 import { askBatch, askTicket, isMissing } from "./queries.js";
+import { dayAfter } from "./spelling.js";
 
 // An answer that tells nothing of what was asked.
 export class Unanswered extends Error {
@@ -15,15 +16,29 @@ export class Unanswered extends Error {
 const known = new Map();
 let last = 0;
 
-// The number of look-ups at a time, and then the milliseconds between two, so that a long list stays below the proxy's limit for an address.
+// The tickets of this desk on its day, by number, as its journal has them.
+const own = new Map();
+
+// The number of look-ups at a time, and then the milliseconds between two, so that a long list stays below the proxy's limit for a user at an address, and leaves room for payments. If the proxy has had
+// too many requests all the same, as of the same user in another browser, the page asks more slowly.
 const AT_ONCE = 100;
 const SPACE = 125;
+const MOST_SPACE = 1000;
 
+// How many tickets are counted between two writings of the count.
+const KEPT_EACH = 50;
+
+let space = SPACE;
 let asked_from = 0;
+
+function askMoreSlowly() {
+  space = Math.min(2 * space, MOST_SPACE);
+  asked_from = Date.now();
+}
 
 async function paced() {
   const now = Date.now();
-  asked_from = Math.max(asked_from, now - AT_ONCE * SPACE) + SPACE;
+  asked_from = Math.max(asked_from, now - AT_ONCE * SPACE) + space;
   if (asked_from > now) await new Promise((resolve) => setTimeout(resolve, asked_from - now));
 }
 
@@ -42,12 +57,18 @@ export function startFrom(number) {
 
 export function forgetTickets() {
   known.clear();
+  own.clear();
+}
+
+// Takes over what the journal has of this desk's tickets: `paid` of its record, or nothing.
+export function knowOwn(paid) {
+  for (const { ticket, bonds, total } of paid?.tickets ?? []) own.set(ticket, { day: paid.day, bonds, total: BigInt(total) });
 }
 
 async function ticketAt(number, signal) {
   if (known.has(number)) return known.get(number);
   await paced();
-  const answer = await askTicket(number, signal);
+  const answer = await askTicket(number, signal, askMoreSlowly);
   if (answer.kind === "ticket") return remember(answer);
   if (isMissing(answer)) return null;
   throw new Unanswered(answer);
@@ -93,16 +114,17 @@ function added(tally, one) {
   return { ...tally, tickets: tally.tickets + 1, bonds: tally.bonds + one.bonds, total: tally.total + one.total };
 }
 
-// How many tickets and bonds were paid on a day, and their sum: { day, through, tickets, bonds, total }, up to the ticket `through`. It goes on from `tally`, if that is of the day. `told` is called
-// with the number of tickets so far.
-export async function countDay(day, tally, signal, told) {
+// How many tickets and bonds were paid on a day, and their sum: { day, through, tickets, bonds, total }, up to the ticket `through`. It continues from `tally`, if that is of the day. `told` is called
+// with the number of tickets so far, and now and then `keep` with the count so far, from which a later call continues.
+export async function countDay(day, tally, signal, told, keep) {
   const through = await lastTicket(signal);
   const is_of_day = tally !== null && tally.day === day && tally.through <= through;
   let sums = is_of_day ? tally : { day, tickets: 0, bonds: 0, total: 0n };
   for (let number = is_of_day ? tally.through + 1 : await firstFrom(day, through, signal); number <= through; number += 1) {
-    const one = await ticketAt(number, signal);
+    const one = own.get(number) ?? (await ticketAt(number, signal));
     if (one.day === day) sums = added(sums, one);
     told(sums.tickets);
+    if (number % KEPT_EACH === 0) await keep({ ...sums, through: number });
   }
   return { ...sums, through };
 }
@@ -138,4 +160,31 @@ export async function ticketsOf(batch, signal, told) {
     told(found.length);
   }
   return found;
+}
+
+// The numbers of the tickets of a span of days, from `first` to `last`; there are none if `last` is less than `first`.
+export async function numbersBetween(from, to, signal) {
+  const count = await lastTicket(signal);
+  const first = await firstFrom(from, count, signal);
+  return { first, last: (await firstFrom(dayAfter(to), count, signal)) - 1 };
+}
+
+// The tickets of these numbers with their lines, those of `payee` alone if that isn't null. `told` is called with how many numbers are done, of how many.
+export async function wholeTickets(numbers, payee, signal, told) {
+  const found = [];
+  for (const [place, number] of numbers.entries()) {
+    const is_other = payee !== null && known.has(number) && known.get(number).payee !== payee;
+    const ticket = is_other ? null : await wholeTicket(number, signal);
+    if (ticket !== null && (payee === null || ticket.payee === payee)) found.push(ticket);
+    told(place + 1, numbers.length);
+  }
+  return found;
+}
+
+async function wholeTicket(number, signal) {
+  await paced();
+  const answer = await askTicket(number, signal);
+  if (answer.kind !== "ticket") throw new Unanswered(answer);
+  remember(answer);
+  return answer;
 }

@@ -6,29 +6,35 @@ import { Journal, takeJournal } from "./journal.js";
 import { forgetTickets, startFrom, Unanswered } from "./latest.js";
 import { asking, clearNotices, earlierSendings, endSteps, giveFocusBack, keepFocus, notice, startNotices, tellFailed, tellForbidden, tellRefused, tellStep, tellUnanswered } from "./notices.js";
 import { startQuestions } from "./question.js";
+import { receiptOf, Receipts } from "./receipts.js";
 import { Sender } from "./sender.js";
 import { laterOf, readDesk } from "./spelling.js";
-import { askUser, onSignedIn, tellSignedIn } from "./user.js";
-import { dayReplied, deskSums, enterDay, showDay, startDayView } from "./view_day.js";
+import { askGroups, askUser, onSignedIn, tellSignedIn } from "./user.js";
+import { dayReplied, deskSums, enterDay, offerActs, showDay, startDayView } from "./view_day.js";
 import { clearPay, enterPay, followDay, hasGoneOn, markPaid, startPayView } from "./view_pay.js";
+import { clearInterest, enterInterest, startInterest } from "./view_interest.js";
+import { startRecords } from "./view_records.js";
 import { clearLookUps, enterBatches, enterTickets, lookUpTicket, showBatch, showTicket, startLookUps } from "./view_lookups.js";
+import { clearWalkIn, followWalkIn, offerWalkIn, startWalkIn } from "./view_walkin.js";
 import { currentView, showOther, startViews } from "./views.js";
-import { ENTER, HEAD, LANGUAGE, PAY, TEXTS, unkeptInWords } from "./words.js";
+import { ENTER, HEAD, LANGUAGE, PAY, TEXTS, unkeptInWords, WALK_IN } from "./words.js";
 
 const NOT_OPEN = [42, 43];
 const ALREADY_PAID = 52;
-const ENTERED = { day: enterDay, pay: enterPay, tickets: enterTickets, batches: enterBatches };
+const ENTERED = { day: enterDay, pay: enterPay, walkin: followWalkIn, tickets: enterTickets, batches: enterBatches, interest: enterInterest };
 
 // What the views know of the page.
 class Page {
   #journal;
+  #receipts;
   #sender;
   #look_up = null;
   #last_user = null;
   user = null;
 
-  constructor(journal) {
+  constructor(journal, receipts) {
     this.#journal = journal;
+    this.#receipts = receipts;
     this.#sender = new Sender(journal, tellStep);
     byId("send-now").addEventListener("click", () => {
       byId("progress-text").focus({ preventScroll: true });
@@ -47,6 +53,10 @@ class Page {
     return this.#sender.isOpen;
   }
 
+  get receipts() {
+    return this.#receipts;
+  }
+
   async keep(changes) {
     await this.#journal.change(changes);
     this.showState();
@@ -63,19 +73,31 @@ class Page {
     byId("state").textContent = HEAD.state(desk, day);
     showDay(this);
     followDay(this);
+    followWalkIn(this);
   }
 
   // Shows who is signed in, or nobody if the proxy doesn't say. What was shown for another user goes.
   showUser(name) {
     if (name !== null && this.#last_user !== null && name !== this.#last_user) {
       clearPay();
+      clearWalkIn();
       clearLookUps();
+      clearInterest();
       forgetTickets();
     }
     this.user = name;
     this.#last_user = name ?? this.#last_user;
+    this.#offer(name);
     show(byId("user"), name !== null);
     byId("user-name").textContent = name === null ? "" : HEAD.user(name);
+  }
+
+  // Offers what the groups of the user may do. Meanwhile another user may have signed in.
+  async #offer(name) {
+    const groups = name === null ? null : await askGroups();
+    if (name !== this.user) return;
+    offerActs(groups);
+    offerWalkIn(groups);
   }
 
   async #signedIn() {
@@ -143,10 +165,10 @@ class Page {
     return text === "" ? [] : [element("p", { class: "earlier" }, text)];
   }
 
-  // Sends a new request and shows its outcome. `shown` is the sum that the teller confirmed, in cents as a text, if there is one.
-  async act(path, fields, shown = null) {
+  // Sends a new request and shows its outcome. `more` stays with it in the journal (sender.js).
+  async act(path, fields, more) {
     clearNotices();
-    await this.#through(() => this.#sender.submit(path, fields, shown));
+    await this.#through(() => this.#sender.submit(path, fields, { ...more, teller: this.user }));
   }
 
   // Sends the request that an earlier life of this page left open, and shows its outcome.
@@ -160,7 +182,9 @@ class Page {
     this.#rest(true);
     try {
       const answer = await sent();
-      await this.#sender.forget(this.#shown(answer));
+      const receipt = answer.kind === "ticket" ? receiptOf(answer, this.record.desk, this.#payerOf(answer)) : null;
+      const changes = this.#shown(answer, receipt);
+      await this.#sender.forget(changes, async () => receipt !== null && this.#receipts.keep(receipt));
     } catch (error) {
       tellFailed(error);
     }
@@ -171,61 +195,74 @@ class Page {
 
   // While a request is open no other can be made.
   #rest(is_resting) {
-    for (const form of document.querySelectorAll("fieldset.acts")) form.disabled = is_resting;
+    for (const form of /** @type {NodeListOf<HTMLFieldSetElement>} */ (document.querySelectorAll("fieldset.acts"))) form.disabled = is_resting;
   }
 
-  // Shows an answer; returns what the journal then keeps.
-  #shown(answer) {
+  // Shows an answer, a ticket with its receipt; returns what the journal then keeps.
+  #shown(answer, receipt) {
     this.#stopLookUp();
-    if (answer.kind === "ticket") return this.#shownTicket(answer);
+    if (answer.kind === "ticket") return this.#shownTicket(answer, receipt);
     if (answer.kind === "opened" || answer.kind === "batch") return dayReplied(this, answer);
-    if (answer.kind === "forbidden") tellForbidden(answer, answer.request.path);
+    if (answer.kind === "forbidden") tellForbidden(answer, answer.request.path, ...registeredLines(answer.request));
     else this.#tellRefused(answer);
     return NOT_OPEN.includes(answer.code) ? { day: null } : {};
   }
 
-  #shownTicket(ticket) {
+  #shownTicket(ticket, receipt) {
     const { shown } = ticket.request;
     const paid = this.#paidWith(ticket);
-    const more = this.#showPaid(ticket, paid.tickets.at(-1));
+    const more = this.#showPaid(ticket, paid.tickets.at(-1), receipt);
     if (typeof shown === "string" && BigInt(shown) !== ticket.total) this.#tellOtherSum(ticket, BigInt(shown), ...more);
-    else notice("done", PAY.paid(ticket.ticket), PAY.desk_so_far(deskSums({ paid, day: ticket.day })), ...this.earlier(ticket), ...more);
+    else notice("done", PAY.paid(ticket.ticket), PAY.desk_so_far(deskSums({ paid, day: ticket.day })), ...this.earlier(ticket), ...registeredLines(ticket.request, true), ...more);
     return { last: ticket.ticket, paid };
   }
 
   // Shows the ticket, unless the teller has gone on to the next customer meanwhile: then what was typed stays, and the notice has the way to the ticket.
-  #showPaid(ticket, entry) {
+  #showPaid(ticket, entry, receipt) {
+    const is_walk_in = ticket.request.registered !== undefined;
+    if (is_walk_in) clearWalkIn();
     if (!hasGoneOn()) {
-      clearPay();
-      showTicket(this, ticket, entry);
+      if (!is_walk_in) clearPay();
+      showTicket(this, ticket, receipt, entry);
       return [];
     }
     markPaid(this, ticket.lines.map((line) => line.serial), ticket.ticket);
     return [element("p", {}, PAY.pay_out(ticket.total, ticket.payee)), this.#ticketButton(ticket.ticket)];
   }
 
+  // Who paid: by the time the reply comes, another user may be signed in, or the page may not know the user yet, as after a reload.
+  #payerOf(ticket) {
+    return ticket.request.teller ?? this.user;
+  }
+
   // What the journal keeps of this desk's tickets of the day, with this one last. A reply that comes again counts once.
   #paidWith(ticket) {
     const { paid } = this.record;
     const tickets = paid?.day === ticket.day ? paid.tickets : [];
-    const entry = { ticket: ticket.ticket, bonds: ticket.lines.length, total: ticket.total.toString(), number: ticket.request.number, at: Date.now(), teller: this.user, printed: false };
+    const entry = { ticket: ticket.ticket, bonds: ticket.lines.length, total: ticket.total.toString(), number: ticket.request.number, at: ticket.at, teller: this.#payerOf(ticket), printed: false };
     return { day: ticket.day, tickets: [...tickets.filter((one) => one.ticket !== entry.ticket), entry] };
   }
 
   #tellOtherSum(ticket, shown, ...more) {
-    notice("refused", PAY.other_sum(ticket.ticket), PAY.other_sum_help(ticket.total, shown), ...this.earlier(ticket), ...more);
+    notice("refused", PAY.other_sum(ticket.ticket), PAY.other_sum_help(ticket.total, shown), ...this.earlier(ticket), ...registeredLines(ticket.request, true), ...more);
   }
 
   #tellRefused(answer) {
     const is_paid = answer.code === ALREADY_PAID;
     if (is_paid) markPaid(this, [answer.serial], answer.ticket);
     const more = is_paid ? [this.#ticketButton(answer.ticket)] : [];
-    tellRefused(answer, ...this.earlier(answer), ...more);
+    tellRefused(answer, ...this.earlier(answer), ...registeredLines(answer.request), ...more);
   }
 
   #ticketButton(number) {
     return element("p", {}, button(PAY.show_ticket(number), () => lookUpTicket(this, number)));
   }
+}
+
+// What was registered before a payment, or that a registration without a reply of its own pays nothing.
+function registeredLines({ path, registered }, is_paid = false) {
+  if (path === "/bonds") return [element("p", {}, WALK_IN.nothing_paid)];
+  return registered === undefined ? [] : [element("p", {}, WALK_IN.registered(registered, is_paid))];
 }
 
 // The answer of a look-up among several that wasn't answered.
@@ -271,10 +308,13 @@ async function start() {
   journal.testKept(tellKept);
   startFrom(journal.record.last);
   startFrom(journal.record.tally?.through);
-  const page = new Page(journal);
+  const page = new Page(journal, await Receipts.open());
   startDayView(page);
   startPayView(page);
+  startWalkIn(page);
   startLookUps(page);
+  startInterest(page);
+  startRecords(page);
   page.showState();
   user.then((name) => page.showUser(name));
   const entered = (name) => ENTERED[name](page);

@@ -8,7 +8,30 @@ export const TIME_LIMIT = 40_000;
 // No page of another origin can send this header without asking first, so the proxy demands it. By its value the proxy knows the page, and doesn't have the browser ask for a password.
 export const OWN = { "X-Counter-Client": "teller-page" };
 
+/** @type {RequestInit} */
 export const SETTINGS = { cache: "no-store", credentials: "same-origin", redirect: "manual" };
+
+/**
+ * `timeout` and `any` are newer than the compiler that checks types.
+ * @type {any}
+ */
+const Signals = AbortSignal;
+
+// The server's time of the last response, and when that was by a clock that only counts up.
+let heard = null;
+
+// The server's time of a response in milliseconds; null if its header Date can't be read.
+function timeOf(response) {
+  const at = Date.parse(response.headers.get("Date") ?? "");
+  if (Number.isNaN(at)) return null;
+  heard = { at, since: performance.now() };
+  return at;
+}
+
+// The server's time now, in milliseconds; null before the first response. The machine's own clock may be wrong, and plays no part.
+export function serverTime() {
+  return heard === null ? null : Math.round(heard.at + performance.now() - heard.since);
+}
 
 function failed(error, cancel) {
   if (cancel?.aborted) return { kind: "cancelled" };
@@ -16,12 +39,13 @@ function failed(error, cancel) {
 }
 
 async function exchanged(path, options, read, cancel) {
-  const limit = AbortSignal.timeout(TIME_LIMIT);
-  const signal = cancel === undefined ? limit : AbortSignal.any([limit, cancel]);
+  const limit = Signals.timeout(TIME_LIMIT);
+  const signal = cancel === undefined ? limit : Signals.any([limit, cancel]);
   try {
     const response = await fetch(new URL(path, location.origin), { ...SETTINGS, signal, ...options });
     if (response.type === "opaqueredirect") return { kind: "none", why: "redirected" };
-    return { ...readAnswer(response.status, await response.text(), read), entry: readEntry(response.headers.get("X-Request-Id")) };
+    const at = timeOf(response);
+    return { ...readAnswer(response.status, await response.text(), read), at, entry: readEntry(response.headers.get("X-Request-Id")) };
   } catch (error) {
     return failed(error, cancel);
   }

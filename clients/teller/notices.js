@@ -36,11 +36,17 @@ function closeButton() {
   return button;
 }
 
-// Shows a notice in place of the one before, and returns it. `kind` is "done", "noted" or "refused"; a refused one takes the keyboard, so that it can't be missed.
+function isAct(part) {
+  return part instanceof Element && part.querySelector("button, a") !== null;
+}
+
+// Shows a notice in place of the one before, and returns it. `kind` is "done", "noted" or "refused"; a refused one takes the keyboard, so that it can't be missed. Its buttons stay in sight, however long
+// the text is.
 export function notice(kind, says, advises, ...more) {
   const lines = [element("p", { class: "says" }, says)];
   if (advises) lines.push(element("p", {}, advises));
-  const made = element("div", { class: `notice ${kind}`, tabindex: "-1" }, ...lines, ...more, closeButton());
+  const ends = element("div", { class: "ends" }, ...more.filter(isAct), closeButton());
+  const made = element("div", { class: `notice ${kind}`, tabindex: "-1" }, ...lines, ...more.filter((part) => !isAct(part)), ends);
   byId("notices").replaceChildren(made);
   byId("told").scrollTop = 0;
   announce([...made.querySelectorAll("p")].map((line) => line.textContent).join(" "));
@@ -98,16 +104,21 @@ function codeLine(answer, ...more) {
   return text === "" ? [] : [element("p", { class: "code" }, text)];
 }
 
+// Whether it answers a payment before which the page registered the bonds.
+function isAfterRegistration(answer) {
+  return answer.request?.registered !== undefined;
+}
+
 // A refusal or a fault, in words.
 export function tellRefused(answer, ...more) {
   const { says, advises } = inWords(answer);
-  notice("refused", says, advises, ...more, ...codeLine(answer, answer.kind === "refused" ? NOTICES.nothing_changed : ""));
+  notice("refused", says, advises, ...more, ...codeLine(answer, answer.kind === "refused" && !isAfterRegistration(answer) ? NOTICES.nothing_changed : ""));
 }
 
 // A request that this user may not make; `path` is null for a look-up.
-export function tellForbidden(answer, path) {
+export function tellForbidden(answer, path, ...more) {
   const { says, advises } = forbiddenInWords(path);
-  notice("refused", NOTICES.nothing_done(says), advises, ...codeLine(answer));
+  notice("refused", isAfterRegistration(answer) ? says : NOTICES.nothing_done(says), advises, ...more, ...codeLine(answer));
 }
 
 // A look-up that the counter didn't answer.
@@ -144,7 +155,7 @@ export function earlierSendings({ kind, request }) {
 let countdown = null;
 
 function countDown(milliseconds) {
-  const bar = byId("progress-bar");
+  const bar = /** @type {HTMLProgressElement} */ (document.getElementById("progress-bar"));
   const end = performance.now() + milliseconds;
   clearInterval(countdown);
   countdown = setInterval(() => {
@@ -196,7 +207,8 @@ function keepInSight(told, bar) {
   let is_pressed = false;
   addEventListener("pointerdown", () => (is_pressed = true), true);
   for (const name of ["pointerup", "pointercancel"]) addEventListener(name, () => (is_pressed = false), true);
-  document.body.addEventListener("focusin", ({ target }) => {
+  document.body.addEventListener("focusin", (event) => {
+    const target = /** @type {HTMLElement} */ (event.target);
     const is_over = told.contains(target) || bar.contains(target);
     if (!is_pressed && !is_over && target.matches(":focus-visible")) target.scrollIntoView({ block: "nearest", inline: "nearest" });
   });
@@ -215,6 +227,6 @@ export function startNotices() {
   observer.observe(bar);
   keepInSight(told, bar);
   told.addEventListener("keydown", (event) => {
-    if (event.key === "Escape") told.querySelector("#notices .close")?.click();
+    if (event.key === "Escape") /** @type {HTMLElement} */ (told.querySelector("#notices .close"))?.click();
   });
 }

@@ -3,7 +3,11 @@
 import { BANK, branchOf } from "./bank.js";
 import { element } from "./elements.js";
 import { button } from "./forms.js";
-import { amountInWords, dayInWords, moneyInWords, numberInWords, PAPER, timeInWords } from "./words.js";
+import { csvOf } from "./interest.js";
+import { serverTime } from "./messages.js";
+import { detailsOf } from "./receipts.js";
+import { saveText } from "./saving.js";
+import { amountInWords, dayInWords, INTEREST, moneyInWords, numberInWords, PAPER, serverTimeInWords } from "./words.js";
 
 // Rows of a table that a sheet of Letter or A4 has room for; and how many rows the head of the first sheet and the end of the last one take.
 const ROWS = 38;
@@ -29,38 +33,52 @@ function pairs(facts) {
   return facts.filter(([, value]) => value !== null).flatMap(([name, value]) => [element("dt", {}, name), element("dd", {}, value)]);
 }
 
-// A row of texts, of which the second names it and the last is money.
-function tableRow(cells, name_place) {
+// A row of a paper's table.
+function tableRow(cells, { columns, name_place, money }) {
   const cell = (text, place) => {
     if (place === name_place) return element("th", { scope: "row" }, text);
-    return element("td", place === cells.length - 1 ? { class: "money" } : {}, text);
+    return element("td", { "data-name": columns[place], ...(money.includes(place) ? { class: "money" } : {}) }, text);
   };
   return element("tr", {}, ...cells.map(cell));
 }
 
-function headRow(names) {
-  return element("thead", {}, element("tr", {}, ...names.map((name, place) => element("th", { scope: "col", ...(place === names.length - 1 ? { class: "money" } : {}) }, name))));
+function headRow({ columns, money }) {
+  return element("thead", {}, element("tr", {}, ...columns.map((name, place) => element("th", { scope: "col", ...(money.includes(place) ? { class: "money" } : {}) }, name))));
 }
 
-// `paper` is what a ticket and a batch have in common: title, running head, facts, caption, columns, rows, total, which cell of a row names it, the lines to sign, and whether it is a copy.
+// `paper` is what a ticket and a batch have in common: the line above its title (`series`, or null), title, running head, facts, what it says of what it lacks (`lacks`, or null), caption, the table's
+// class, its columns, rows and total, which cells of a row are `money` and which one names it, the lines to sign, whether it is a copy, and its
+// other buttons.
 function printedSheets(paper) {
   const sizes = rowsOfSheets(paper.rows.length);
   let done = 0;
   return sizes.map((size, place) => {
     const rows = paper.rows.slice(done, (done += size));
     const is_last = place === sizes.length - 1;
-    const total = is_last && paper.total !== null ? [tableRow(paper.total, paper.name_place)] : [];
-    const table = element("table", { class: "lines" }, headRow(paper.columns), element("tbody", {}, ...rows.map((row) => tableRow(row, paper.name_place)), ...total));
+    const total = is_last && paper.total !== null ? [tableRow(paper.total, paper)] : [];
+    const table = element("table", { class: paper.table }, headRow(paper), element("tbody", {}, ...rows.map((row) => tableRow(row, paper)), ...total));
     if (total.length > 0) table.querySelector("tbody tr:last-child").className = "total";
     return element(
       "section",
       { class: "leaf" },
       runningHead(paper, place + 1, sizes.length),
-      ...(place === 0 ? [element("p", { class: "title" }, paper.title), element("dl", {}, ...pairs(paper.printed_facts))] : []),
+      ...(place === 0 ? headOf(paper) : []),
       ...(rows.length + total.length > 0 ? [table] : []),
       ...(is_last ? [endOf(paper)] : []),
     );
   });
+}
+
+function seriesOf(paper) {
+  return paper.series === null ? [] : [element("p", { class: "series" }, paper.series)];
+}
+
+function lackOf(paper) {
+  return paper.lacks === null ? [] : [element("p", { class: "lacks" }, paper.lacks)];
+}
+
+function headOf(paper) {
+  return [...seriesOf(paper), element("p", { class: "title" }, paper.title), element("dl", {}, ...pairs(paper.printed_facts)), ...lackOf(paper)];
 }
 
 function runningHead(paper, page, pages) {
@@ -76,49 +94,69 @@ function endOf(paper) {
 
 function screenTable(paper) {
   if (paper.rows.length === 0) return [];
-  const total = paper.total === null ? [] : [element("tfoot", {}, tableRow(paper.total, paper.name_place))];
-  const rows = element("tbody", {}, ...paper.rows.map((row) => tableRow(row, paper.name_place)));
-  return [element("table", { class: "lines" }, element("caption", {}, paper.caption), headRow(paper.columns), rows, ...total)];
+  const total = paper.total === null ? [] : [element("tfoot", {}, tableRow(paper.total, paper))];
+  const rows = element("tbody", {}, ...paper.rows.map((row) => tableRow(row, paper)));
+  return [element("table", { class: paper.table }, element("caption", {}, paper.caption), headRow(paper), rows, ...total)];
 }
 
 // What is shown of a paper, and, for the printer alone, its sheets. `printing` is called by its button.
 function shownPaper(paper, id, printing, ...more) {
   const title = element("h2", { id, tabindex: "-1" }, paper.title, ...(paper.is_copy ? [" ", element("span", { class: "badge" }, PAPER.copy)] : []));
   const help = paper.is_copy ? [element("p", { class: "help" }, PAPER.copy_help)] : [];
-  const buttons = element("p", { class: "buttons" }, button(PAPER.print, printing, { class: paper.is_copy ? "plain print" : "print" }));
-  const shown = element("article", { class: "paper", "aria-labelledby": id }, title, element("dl", {}, ...pairs(paper.facts)), ...screenTable(paper), ...more, ...help, buttons);
+  const buttons = element("p", { class: "buttons" }, button(PAPER.print, printing, { class: paper.is_copy ? "plain print" : "print" }), ...paper.buttons);
+  const shown = element("article", { class: "paper", "aria-labelledby": id }, title, ...seriesOf(paper), element("dl", {}, ...pairs(paper.facts)), ...lackOf(paper), ...screenTable(paper), ...more, ...help, buttons);
   return [shown, element("div", { class: "printed" }, ...printedSheets(paper))];
 }
 
-// The lines on who paid: `entry` is what this desk's journal has of the ticket, or null; `app` knows the desk and the user.
-function originOf(app, entry, is_copy) {
+const timeOf = (moment) => (moment === null ? "" : serverTimeInWords(moment));
+
+// The lines on who paid: `own` is what this desk's journal or its receipts have of the ticket, or null; `app` knows the desk and the user.
+function originOf(app, own, is_copy) {
   const { desk } = app.record;
-  const own = entry === null ? [] : [[PAPER.desk, String(desk)], [PAPER.teller, entry.teller ?? ""], [PAPER.time, timeInWords(entry.at)], [PAPER.request, PAPER.request_number(desk, entry.number)]];
+  const payer = own === null ? [] : [[PAPER.desk, String(desk)], [PAPER.teller, own.teller ?? ""], [PAPER.time, timeOf(own.at)], [PAPER.request, PAPER.request_number(desk, own.number)]];
   const printed = is_copy ? [[PAPER.printed, printedBy(app)]] : [];
-  return [[PAPER.bank, BANK], [PAPER.branch, branchOf(desk)], ...own, ...printed];
+  return [[PAPER.bank, BANK], [PAPER.branch, branchOf(desk)], ...payer, ...printed];
 }
 
 function printedBy(app) {
-  return [timeInWords(Date.now()), app.user, `${PAPER.desk} ${app.record.desk}`].filter((one) => one !== null).join(", ");
+  return [timeOf(serverTime()), app.user, `${PAPER.desk} ${app.record.desk}`].filter((one) => one).join(", ");
 }
 
-// A ticket. It is a copy if this desk has printed it before, or didn't pay it.
-export function ticketPaper(app, ticket, entry, printing) {
+// The table of a ticket: each bond with what the receipt has of it. Without one there are serial numbers and values alone, and the paper says so.
+function linesOf(ticket, receipt) {
+  const details = detailsOf(receipt);
+  if (details === null) {
+    const rows = ticket.lines.map((line, place) => [String(place + 1), line.serial, moneyInWords(line.cents)]);
+    return { lacks: PAPER.lacks, table: "lines", columns: PAPER.columns, money: [2], rows, total: ["", PAPER.total, moneyInWords(ticket.total)] };
+  }
+  const rows = details.bonds.map((bond, place) => [String(place + 1), bond.serial, ...PAPER.bond(bond.denom, bond.issued), ...[bond.price, bond.interest, bond.value].map(moneyInWords)]);
+  const total = ["", PAPER.total, "", "", ...[details.price, details.interest, details.value].map(moneyInWords)];
+  return { lacks: null, table: "lines receipt", columns: PAPER.receipt_columns, money: [2, 4, 5, 6], rows, total };
+}
+
+// The interest of a ticket as a file, if it is known.
+function interestButtons(ticket, receipt) {
+  const details = detailsOf(receipt);
+  return details === null ? [] : [button(INTEREST.save, () => saveText(`interest-ticket-${ticket.ticket}.csv`, csvOf([{ ticket, details }])), { class: "plain save" })];
+}
+
+// A ticket, with what this browser keeps of its payment (`receipt`, or null). It is a copy if this desk has printed it before, or didn't pay it.
+export function ticketPaper(app, ticket, receipt, entry, printing) {
   const is_copy = entry === null || entry.printed;
   const facts = [[PAPER.day, dayInWords(ticket.day)], [PAPER.payee, PAPER.customer(ticket.payee)], [PAPER.bonds, numberInWords(ticket.lines.length)], [PAPER.sum, moneyInWords(ticket.total)]];
   const paper = {
+    series: PAPER.series,
     title: PAPER.ticket(ticket.ticket),
     running: PAPER.sheet(PAPER.ticket(ticket.ticket), ticket.day, ticket.payee),
     facts,
-    printed_facts: [...originOf(app, entry, is_copy), ...facts.slice(0, 3)],
+    printed_facts: [...originOf(app, entry ?? receipt, is_copy), ...facts.slice(0, 3)],
     caption: PAPER.lines(ticket.ticket),
-    columns: PAPER.columns,
-    rows: ticket.lines.map((line, place) => [String(place + 1), line.serial, moneyInWords(line.cents)]),
-    total: ["", PAPER.total, moneyInWords(ticket.total)],
+    ...linesOf(ticket, receipt),
     name_place: 1,
     amount: amountInWords(ticket.total),
     signed: [PAPER.received, PAPER.signature],
     is_copy,
+    buttons: interestButtons(ticket, receipt),
   };
   return shownPaper(paper, "paper-title", printing);
 }
@@ -127,18 +165,23 @@ export function ticketPaper(app, ticket, entry, printing) {
 export function batchPaper(app, batch, tickets, printing, ...more) {
   const facts = [[PAPER.tickets_paid, numberInWords(batch.tickets)], [PAPER.bonds_paid, numberInWords(batch.bonds)], [PAPER.sum_paid, moneyInWords(batch.total)]];
   const paper = {
+    series: null,
     title: PAPER.batch(batch.day),
     running: PAPER.batch(batch.day),
     facts,
     printed_facts: [[PAPER.bank, BANK], [PAPER.branch, branchOf(app.record.desk)], ...facts, [PAPER.printed, printedBy(app)]],
+    lacks: null,
     caption: PAPER.batch_lines(batch.day),
+    table: "lines",
     columns: PAPER.batch_columns,
+    money: [3],
     rows: (tickets ?? []).map((one) => [numberInWords(one.ticket), PAPER.customer(one.payee), numberInWords(one.bonds), moneyInWords(one.total)]),
     total: tickets === null ? null : [PAPER.total, "", numberInWords(batch.bonds), moneyInWords(batch.total)],
     name_place: 0,
     amount: amountInWords(batch.total),
     signed: [PAPER.settled, PAPER.signature],
     is_copy: false,
+    buttons: [],
   };
   return shownPaper(paper, "batch-title", printing, ...more);
 }

@@ -1,10 +1,13 @@
-// Look-ups, which change nothing. Each is asked again a few times if no answer comes; then the page says so. The signal `cancel` ends one, whose answer then is of the kind "cancelled".
+// Look-ups, which change nothing. Each is asked again a few times if no answer comes; then the page says so. If the proxy has had too many requests, a look-up waits until it takes it. The signal `cancel`
+// ends one, whose answer then is of the kind "cancelled".
 
-import { readBatch, readTicket } from "./answers.js";
+import { readBatch, readRow, readTicket } from "./answers.js";
 import { asked } from "./messages.js";
 import { readSheet } from "./sheet.js";
 
 const PAUSES = [500, 1000, 2000, 4000];
+const BUSY_PAUSE = 2000;
+const BUSY_TIMES = 90;
 const NOT_FOUND = 69;
 
 function isFinal(answer) {
@@ -19,21 +22,31 @@ function pause(milliseconds, cancel) {
   });
 }
 
-async function answered(path, read, cancel) {
-  for (const milliseconds of PAUSES) {
+// Calls `busy` each time that the proxy has had too many requests.
+async function askedWhenFree(path, read, cancel, busy) {
+  for (let times = 0; ; times += 1) {
     const answer = await asked(path, read, cancel);
+    if (answer.why !== "busy" || times === BUSY_TIMES) return answer;
+    busy();
+    await pause(BUSY_PAUSE, cancel);
+  }
+}
+
+async function answered(path, read, cancel, busy = () => {}) {
+  for (const milliseconds of PAUSES) {
+    const answer = await askedWhenFree(path, read, cancel, busy);
     if (isFinal(answer)) return answer;
     await pause(milliseconds, cancel);
   }
-  return asked(path, read, cancel);
+  return askedWhenFree(path, read, cancel, busy);
 }
 
-export function askTicket(number, cancel) {
+export function askTicket(number, cancel, busy) {
   const read = (text) => {
     const ticket = readTicket(text);
     return ticket !== null && ticket.ticket === number ? ticket : null;
   };
-  return answered(`/ticket/${number}`, read, cancel);
+  return answered(`/ticket/${number}`, read, cancel, busy);
 }
 
 export function askBatch(day, cancel) {
@@ -50,6 +63,15 @@ export function askSheet(customer, month, cancel) {
     return sheet === null ? null : { kind: "sheet", customer, month, ...sheet };
   };
   return answered(`/inventory/${customer}/${month}`, read, cancel);
+}
+
+// The row in a month of a bond of this denomination and issue month.
+export function askValue(denom, issued, month, cancel) {
+  const read = (text) => {
+    const row = readRow(text);
+    return row !== null && row.denom === denom && row.issued === issued ? row : null;
+  };
+  return answered(`/value/${denom}/${issued}/${month}`, read, cancel);
 }
 
 export function isMissing(answer) {

@@ -58,9 +58,9 @@ export function confirmed(title, lines, yes) {
 }
 
 export function startQuestions() {
-  for (const name of ["pointerdown", "pointermove"]) addEventListener(name, (event) => Object.assign(pointer, { x: event.clientX, y: event.clientY }), true);
+  for (const name of /** @type {const} */ (["pointerdown", "pointermove"])) addEventListener(name, (event) => Object.assign(pointer, { x: event.clientX, y: event.clientY }), true);
   byId("confirm-yes").addEventListener("click", (event) => {
-    if (!event.currentTarget.hasAttribute("aria-disabled")) return;
+    if (!byId("confirm-yes").hasAttribute("aria-disabled")) return;
     event.preventDefault();
     rest();
   });

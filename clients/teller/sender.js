@@ -7,6 +7,9 @@
 // A fault, or the proxy's word that this user may not do it, answers one sending. On the first sending it is final: nothing was done, and no other sending is on its way, since the proxy passes no repeat of
 // the browser's own on. On a later one it tells nothing about the sendings before it, so the request stays open.
 //
+// A registration may have a payment that follows it (`then`). When the registration's reply has come, the payment takes its place in the journal, in one step. So whenever the page is closed or
+// killed, it sends the one or the other, and a registration that was refused pays nothing.
+//
 // Nothing is sent that isn't written into the journal. If the browser can't write it, the page pauses and tries again. If the user isn't signed in, each further sending could count as a wrong
 // password: so the request waits until the user has signed in, or presses the button.
 
@@ -20,7 +23,7 @@ const NUMBER_REUSED = 10;
 const DAMAGED = [60, 61, 63, 68];
 
 function isReply(answer) {
-  return ["ticket", "batch", "opened", "refused"].includes(answer.kind);
+  return ["ticket", "batch", "opened", "added", "refused"].includes(answer.kind);
 }
 
 // An answer to this sending alone, which would be the same for the next one.
@@ -57,12 +60,13 @@ export class Sender {
     return this.#journal.record.open !== null;
   }
 
-  // Sends a new request until its reply has come. `shown` is the sum that the teller confirmed, in cents as a text, if there is one.
-  submit(path, fields, shown = null) {
+  // Sends a new request until its reply has come. `more` stays with it in the journal: `shown`, the sum that the teller confirmed, in cents as a text; the `teller`; `bonds`;
+  // and `then`, the request that follows it.
+  submit(path, fields, more = {}) {
     return this.#alone(async () => {
       if (this.isOpen) throw new Error("a request is open");
       const number = this.#journal.record.next;
-      await this.#journal.change({ next: number + 1, open: { number, step: 1, sent: 0, path, fields, shown } });
+      await this.#journal.change({ next: number + 1, open: { number, step: 1, sent: 0, path, fields, ...more } });
       return this.#finished();
     });
   }
@@ -85,7 +89,13 @@ export class Sender {
   async #finished() {
     for (let failures = 0; ; ) {
       const answer = await this.#sentOnce();
-      if (isFinal(answer, this.#journal.record.open.sent)) return { ...answer, request: this.#journal.record.open };
+      const { open } = this.#journal.record;
+      if (isFinal(answer, open.sent)) {
+        if (answer.kind !== "added" || open.then === undefined) return { ...answer, request: open };
+        await this.#followed(answer);
+        failures = 0;
+        continue;
+      }
       const missed = isReused(answer) ? await this.#renumbered() : answer;
       if (missed === null) continue;
       await this.#pause(missed, pauseAfter(missed, failures));
@@ -93,10 +103,21 @@ export class Sender {
     }
   }
 
-  // Drops the request from the journal, once its reply was shown.
-  async forget(changes) {
+  // Puts the request that follows a registration in its place. It keeps what was registered: how many bonds were new, how many were registered before, and how often that was sent.
+  async #followed(added) {
+    const { open, next } = this.#journal.record;
+    const registered = { new: added.new, same: added.same, sent: open.sent };
     for (let failures = 0; ; failures += 1) {
-      const missed = await this.#written({ ...changes, open: null });
+      const missed = await this.#written({ next: next + 1, open: { number: next, step: 1, sent: 0, teller: open.teller, ...open.then, registered } });
+      if (missed === null) return;
+      await this.#pause({ ...missed, is_replied: true }, pauseAfter(missed, failures));
+    }
+  }
+
+  // Drops the request from the journal, once its reply was shown, and `keep` has kept what there is to keep of it.
+  async forget(changes, keep) {
+    for (let failures = 0; ; failures += 1) {
+      const missed = await this.#written({ ...changes, open: null }, keep);
       if (missed === null) return;
       await this.#pause({ ...missed, is_replied: true }, pauseAfter(missed, failures));
     }
@@ -108,8 +129,9 @@ export class Sender {
   }
 
   // Null once the changes are in the journal, and else why not.
-  async #written(changes) {
+  async #written(changes, before = async () => {}) {
     try {
+      await before();
       await this.#journal.change(changes);
       return null;
     } catch (error) {

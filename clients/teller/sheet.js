@@ -23,11 +23,12 @@ const ROW = new RegExp(
 const TOTALS = new RegExp(`^(?<serial>Total) +(?<price>${MONEY}) +(?<interest>${MONEY}) +(?<value>${MONEY})$`);
 
 function line(cells) {
-  const columns = COLUMNS.map(([name, , width, side]) => {
-    const text = cells[name] ?? "";
-    return side === "left" ? text.padEnd(width) : text.padStart(width);
-  });
-  return columns.join(" ") + (cells.note ? ` ${cells.note}` : "");
+  let text = "";
+  for (const [name, , width, side] of COLUMNS) {
+    const cell = cells[name] ?? "";
+    text += `${text === "" ? "" : " "}${side === "left" ? cell.padEnd(width) : cell.padStart(width)}`;
+  }
+  return cells.note ? `${text} ${cells.note}` : text;
 }
 
 const HEADING = line({ ...Object.fromEntries(COLUMNS.map(([name, heading]) => [name, heading])), note: "Note" });
@@ -36,7 +37,8 @@ const HEADING = line({ ...Object.fromEntries(COLUMNS.map(([name, heading]) => [n
 function cellsOf(pattern, text) {
   const found = pattern.exec(text);
   if (found === null) return null;
-  const cells = Object.fromEntries(Object.entries(found.groups).map(([name, cell]) => [name, (cell ?? "").trim()]));
+  const cells = {};
+  for (const name of Object.keys(found.groups)) cells[name] = (found.groups[name] ?? "").trim();
   return line(cells) === text ? cells : null;
 }
 

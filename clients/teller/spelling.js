@@ -58,13 +58,17 @@ export function noonOf(day) {
 
 // The number of days from one day to a later one; negative if it is earlier.
 export function daysFrom(one, other) {
-  return Math.round((noonOf(other) - noonOf(one)) / 86_400_000);
+  return Math.round((noonOf(other).getTime() - noonOf(one).getTime()) / 86_400_000);
 }
 
 // The days before a day, nearest first.
 export function daysBefore(day, count) {
-  const before = (days) => new Date(noonOf(day) - days * 86_400_000).toISOString().slice(0, 10);
+  const before = (days) => new Date(noonOf(day).getTime() - days * 86_400_000).toISOString().slice(0, 10);
   return Array.from({ length: count }, (_, place) => before(place + 1)).filter((one) => readDay(one) !== null);
+}
+
+export function dayAfter(day) {
+  return new Date(Number(noonOf(day)) + 86_400_000).toISOString().slice(0, 10);
 }
 
 // The later of two days. Either may be null.
@@ -72,10 +76,15 @@ export function laterOf(one, other) {
   return (one ?? "") > (other ?? "") ? one : other;
 }
 
-export function today() {
-  const now = new Date();
+// The day of a moment in milliseconds, in this machine's time zone.
+export function dayOf(moment) {
+  const now = new Date(moment);
   const two = (number) => String(number).padStart(2, "0");
   return `${now.getFullYear()}-${two(now.getMonth() + 1)}-${two(now.getDate())}`;
+}
+
+export function today() {
+  return dayOf(Date.now());
 }
 
 // Cents, from the printed text of money.

@@ -1,4 +1,5 @@
-// Who is signed in, and signing in and out. The proxy of samples/nginx says the user's name under /user, and ends a sign-in under /sign-out. Without them the page has no name to show.
+// Who is signed in, and signing in and out. The proxy of samples/nginx says the user's name under /user, the user's groups under /groups, and ends a sign-in under /sign-out. Without them the page has
+// no name to show, and offers everything.
 
 import { OWN, SETTINGS } from "./messages.js";
 
@@ -9,8 +10,19 @@ const channel = new BroadcastChannel("ladwenpik-teller");
 export async function askUser() {
   try {
     const response = await fetch(new URL("/user", location.origin), { ...SETTINGS, headers: OWN });
-    const { user } = response.status === 200 ? await response.json() : {};
+    const { user } = response.status === 200 ? await response.json() : { user: null };
     return typeof user === "string" && NAME.test(user) ? user : null;
+  } catch {
+    return null;
+  }
+}
+
+// The groups of the user, or null if the proxy doesn't say.
+export async function askGroups() {
+  try {
+    const response = await fetch(new URL("/groups", location.origin), { ...SETTINGS, headers: OWN });
+    const { groups } = response.status === 200 ? await response.json() : { groups: null };
+    return typeof groups === "string" ? groups.split(" ") : null;
   } catch {
     return null;
   }

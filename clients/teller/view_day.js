@@ -3,16 +3,17 @@
 import { byId, element, show } from "./elements.js";
 import { button, onClick, onSubmit, readFields } from "./forms.js";
 import { Unstored } from "./journal.js";
-import { countDay } from "./latest.js";
+import { countDay, knowOwn } from "./latest.js";
 import { listTable, load, stopLoading } from "./lists.js";
+import { serverTime } from "./messages.js";
 import { notice } from "./notices.js";
 import { askBatch, askFirstBatch, isMissing } from "./queries.js";
 import { confirmed } from "./question.js";
-import { daysBefore, daysFrom, laterOf, readDay, today } from "./spelling.js";
+import { dayOf, daysBefore, daysFrom, laterOf, readDay, today } from "./spelling.js";
 import { lookUpTicket } from "./view_lookups.js";
 import { DAY, ENTER, LOOKUPS, moneyInWords, numberInWords } from "./words.js";
 
-// A day is usually opened within a week of the last closed one. From the next day on the page asks twice.
+// A day is usually opened within a week of the last closed one, and of today. From the next day on the page asks twice.
 const USUAL_DAYS = 7;
 
 // ---- what was paid so far
@@ -44,17 +45,34 @@ export function showDay(app) {
   byId("last-ticket").textContent = last === null ? "" : DAY.last(last);
 }
 
+// Puts the acts of a supervisor behind what a user who is none may do. If the groups aren't known, they come first.
+export function offerActs(groups) {
+  const may = groups === null || groups.includes("supervisor");
+  const forms = [byId("open-day"), byId("join-day")];
+  const [first, second] = may ? forms : forms.toReversed();
+  if (first.nextElementSibling !== second) first.after(second);
+  first.querySelector("button").classList.remove("plain");
+  second.querySelector("button").classList.add("plain");
+  for (const id of ["open-barred", "close-barred"]) show(byId(id), !may);
+}
+
 // Counts what all desks paid on the open day, from where the journal left it.
 async function counted(app, day, signal, told) {
-  const { tally } = app.record;
-  const found = await countDay(day, tally ? { ...tally, total: BigInt(tally.total) } : null, signal, (count) => told(DAY.counting(count)));
+  const { tally, paid } = app.record;
+  knowOwn(paid);
+  const keep = (count) => (signal.aborted ? null : keepTally(app, count));
+  const found = await countDay(day, tally ? { ...tally, total: BigInt(tally.total) } : null, signal, (count) => told(DAY.counting(count)), keep);
+  await keepTally(app, found);
+  return { kind: "tally", ...found };
+}
+
+async function keepTally(app, tally) {
   try {
-    await app.keep({ tally: { ...found, total: found.total.toString() } });
+    await app.keep({ tally: { ...tally, total: tally.total.toString() } });
   } catch (error) {
     // It can be counted again.
     if (!(error instanceof Unstored)) throw error;
   }
-  return { kind: "tally", ...found };
 }
 
 async function countAll(app) {
@@ -78,16 +96,23 @@ async function lastClosed(known, day, signal) {
   return found.kind === "batch" ? { day: laterOf(known, found.day) } : found;
 }
 
-async function isConfirmed(day, closed) {
-  const is_unusual = closed === null || daysFrom(closed, day) > USUAL_DAYS;
-  const distance = DAY.open_line(day, closed, USUAL_DAYS);
-  if (!(await confirmed(DAY.open_title(day), [distance], is_unusual ? DAY.continue : DAY.open))) return false;
-  return !is_unusual || (await isConfirmedAgain(day, distance));
+// Today by the server's clock, since this machine's may be wrong.
+function serverToday() {
+  return dayOf(serverTime() ?? Date.now());
 }
 
-async function isConfirmedAgain(day, distance) {
+async function isConfirmed(day, closed) {
+  const now = serverToday();
+  const is_far = Math.abs(daysFrom(now, day)) > USUAL_DAYS;
+  const is_unusual = is_far || closed === null || daysFrom(closed, day) > USUAL_DAYS;
+  const distances = [DAY.open_line(day, closed, USUAL_DAYS), ...(is_far ? [DAY.today_line(day, now)] : [])];
+  if (!(await confirmed(DAY.open_title(day), distances, is_unusual ? DAY.continue : DAY.open))) return false;
+  return !is_unusual || (await isConfirmedAgain(day, distances));
+}
+
+async function isConfirmedAgain(day, distances) {
   const year = day.slice(0, 4);
-  return confirmed(DAY.year_title(year), [distance, DAY.year_line(day), DAY.year_back], DAY.open_in(year));
+  return confirmed(DAY.year_title(year), [...distances, DAY.year_line(day), DAY.year_back], DAY.open_in(year));
 }
 
 async function open(app, day) {
@@ -128,7 +153,7 @@ async function close(app) {
     return;
   }
   byId("all-sum").replaceChildren(element("span", {}, DAY.all_sum(tally, Date.now())));
-  if (await confirmed(DAY.close_title(day, tally.total), [DAY.close_sums(tally), DAY.close_line], DAY.close(tally.total))) await app.act("/day/close", { day }, tally.total.toString());
+  if (await confirmed(DAY.close_title(day, tally.total), [DAY.close_sums(tally), DAY.close_line], DAY.close(tally.total))) await app.act("/day/close", { day }, { shown: tally.total.toString() });
 }
 
 // Shows the reply to an opening or a closing; returns what the journal then keeps.

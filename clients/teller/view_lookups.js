@@ -14,8 +14,8 @@ import { dayInWords, ENTER, LOOKUPS, moneyInWords, numberInWords, PAPER } from "
 // How many of the latest are listed, and how many more by the button.
 const LISTED = 10;
 
-// The ticket that is shown, and what the journal will have of it, if it was paid just now.
-const shown = { ticket: null, entry: null };
+// The ticket that is shown; what this browser keeps of its payment, if it does; and what the journal will have of it, if it was paid just now.
+const shown = { ticket: null, receipt: null, entry: null };
 
 // ---- tickets
 
@@ -25,9 +25,9 @@ function entryOf(app, number) {
 }
 
 function showPaper(app) {
-  const { ticket, entry } = shown;
+  const { ticket, receipt, entry } = shown;
   if (ticket === null) return;
-  byId("ticket").replaceChildren(...ticketPaper(app, ticket, entryOf(app, ticket.ticket) ?? entry, () => printTicket(app)));
+  byId("ticket").replaceChildren(...ticketPaper(app, ticket, receipt, entryOf(app, ticket.ticket) ?? entry, () => printTicket(app)));
 }
 
 // Writes down that a ticket is printed, if this desk paid it. What is being printed stays as it is until then.
@@ -49,10 +49,9 @@ async function printTicket(app) {
   print();
 }
 
-export function showTicket(app, ticket, entry = null) {
+export function showTicket(app, ticket, receipt, entry = null) {
   remember(ticket);
-  shown.ticket = ticket;
-  shown.entry = entry;
+  Object.assign(shown, { ticket, receipt, entry });
   goTo("tickets");
   byId("ticket-number").value = String(ticket.ticket);
   showPaper(app);
@@ -66,7 +65,7 @@ function focusLater(id) {
 
 export async function lookUpTicket(app, number) {
   const answer = await app.lookUp((signal) => askTicket(number, signal));
-  if (answer.kind === "ticket") showTicket(app, answer);
+  if (answer.kind === "ticket") showTicket(app, answer, await app.receipts.of(answer));
   else if (isMissing(answer)) notice("noted", LOOKUPS.no_ticket(number), LOOKUPS.check_number);
   else app.tellUnanswered(answer);
 }
@@ -97,7 +96,7 @@ export async function showBatch(app, batch) {
   const printing = () => print();
   const place = byId("batch");
   place.replaceChildren(...batchPaper(app, batch, null, printing));
-  place.querySelector(".print").disabled = batch.tickets > 0;
+  /** @type {HTMLButtonElement} */ (place.querySelector(".print")).disabled = batch.tickets > 0;
   focusLater("batch-title");
   const list = document.createElement("div");
   place.querySelector(".paper dl").after(list);
@@ -152,8 +151,7 @@ export function enterBatches(app) {
 
 // Leaves nothing of a customer in the views.
 export function clearLookUps() {
-  shown.ticket = null;
-  shown.entry = null;
+  Object.assign(shown, { ticket: null, receipt: null, entry: null });
   for (const id of ["ticket", "ticket-list", "batch", "batch-list"]) {
     stopLoading(byId(id));
     byId(id).replaceChildren();

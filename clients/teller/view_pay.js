@@ -3,21 +3,28 @@
 // A bond is paid at its value in the month of the day that the page works on. So bonds are chosen only on a sheet of that month, and when another month's day begins, or the day ends,
 // nothing that was chosen stays: the sum that the teller confirms is the sum that is paid.
 
+import { agreesWithPaper, doubtsOf } from "./doubts.js";
 import { byId, element, show } from "./elements.js";
+import { filtered } from "./filter.js";
 import { button, onSubmit, readFields, unmark } from "./forms.js";
 import { clearHand, found, miss, showHand, startHand } from "./hand.js";
 import { announce, clearNoted, notice } from "./notices.js";
 import { askSheet } from "./queries.js";
 import { confirmed } from "./question.js";
+import { bondsOf } from "./receipts.js";
 import { isPaid, isPayable } from "./sheet.js";
-import { sheetRegion, unpaidRows } from "./sheet_table.js";
+import { legend, SheetTable, unpaidRows } from "./sheet_table.js";
 import { monthOf, readCustomer, readMonth, readSerial, today } from "./spelling.js";
 import { ENTER, HAND, moneyInWords, PAY, SHEET, TEXTS } from "./words.js";
 
-const MOST_BONDS = 100;
+export const MOST_BONDS = 100;
 
-// The month in which bonds are paid now, or null; the sheet that is shown; and the bonds that are chosen, each once, by its serial number: the rows of the sheet, and (`is_added`) of other ones.
-const shown = { month: null, sheet: null, chosen: new Map() };
+// A screen reader hears of a filter once nothing was typed for this many milliseconds.
+const TYPED = 500;
+
+// The month in which bonds are paid now, or null; the sheet that is shown, its table, and its rows that the filter leaves; and the bonds that are chosen, each once, by its serial number: the rows of the
+// sheet, and (`is_added`) of other ones.
+const shown = { month: null, sheet: null, table: null, rows: [], chosen: new Map() };
 
 // What was chosen and typed when the last payment was sent.
 let sent = null;
@@ -90,25 +97,19 @@ function choose(row) {
   found(row.serial);
 }
 
-function chooser(row) {
-  const box = element("input", { type: "checkbox", "aria-label": PAY.box(row.serial), "data-serial": row.serial });
-  box.disabled = !canChoose() || !isPayable(row);
-  box.checked = shown.chosen.has(row.serial);
-  box.addEventListener("change", () => {
+// What the boxes of the table want.
+const ACTS = {
+  isChosen: (row) => shown.chosen.has(row.serial),
+  isBarred: (row) => !canChoose() || !isPayable(row),
+  choose: (row, is_chosen) => {
     clearNoted();
-    if (box.checked) choose(row);
+    if (is_chosen) choose(row);
     else shown.chosen.delete(row.serial);
     followBoxes();
     sayChosen();
-  });
-  box.addEventListener("keydown", (event) => {
-    if (event.key !== "Enter") return;
-    // Else it would press Pay, too.
-    event.preventDefault();
-    toPay();
-  });
-  return box;
-}
+  },
+  toPay,
+};
 
 function noDay() {
   return element("p", { class: "other-month" }, PAY.no_day_sheet);
@@ -125,52 +126,111 @@ function otherMonth(app) {
   return element("p", { class: "other-month" }, PAY.other_month(month), goes);
 }
 
-// How many bonds the button chooses: all that can be paid, as far as a ticket has room for them beside those of other owners.
-function roomForAll() {
-  return Math.min(payableRows().length, MOST_BONDS - addedBonds().length);
+// What the button chooses: all that is shown and can be paid, as far as a ticket has room for it beside what else is chosen.
+function payableShown() {
+  return canChoose() ? shown.rows.filter(isPayable) : [];
 }
 
-function areAllChosen() {
-  return chosenBonds().length - addedBonds().length >= roomForAll();
+function chosenOf(rows) {
+  return rows.filter(ACTS.isChosen).length;
+}
+
+function roomFor(rows) {
+  return Math.min(rows.length, MOST_BONDS - shown.chosen.size + chosenOf(rows));
 }
 
 function chooseAll() {
-  const are_all_chosen = areAllChosen();
-  for (const row of payableRows()) shown.chosen.delete(row.serial);
-  if (!are_all_chosen) payableRows().slice(0, roomForAll()).forEach(choose);
+  const rows = payableShown();
+  const are_all_chosen = chosenOf(rows) >= roomFor(rows);
+  for (const row of rows) shown.chosen.delete(row.serial);
+  if (!are_all_chosen) rows.slice(0, roomFor(rows)).forEach(choose);
   clearNoted();
   followBoxes();
   sayChosen();
 }
 
-function allButtonText() {
-  if (areAllChosen()) return SHEET.select_none;
-  return roomForAll() < payableRows().length ? SHEET.select_first(roomForAll()) : SHEET.select(payableRows().length);
+function isWhole() {
+  return shown.rows.length === shown.sheet.rows.length;
+}
+
+function allButtonText(rows) {
+  if (chosenOf(rows) >= roomFor(rows)) return SHEET.select_none;
+  if (roomFor(rows) < rows.length) return SHEET.select_first(roomFor(rows));
+  return isWhole() ? SHEET.select(rows.length) : SHEET.select_shown(rows.length);
+}
+
+function followAllButton() {
+  const rows = payableShown();
+  byId("choose-all").textContent = allButtonText(rows);
+  show(byId("choose-all"), chosenOf(rows) > 0 || roomFor(rows) > 0);
 }
 
 // What can be paid of the sheet, and the button that chooses all of it.
 function payableLine() {
+  return element("p", { class: "payable" }, element("strong", {}, payableInWords()), " ", button("", chooseAll, { id: "choose-all", class: "plain" }));
+}
+
+function payableInWords() {
   const payable = payableRows();
-  const line = element("p", { class: "payable" }, element("strong", {}, SHEET.payable(payable.length, unpaidRows(shown.sheet).length, sumOf(payable))));
-  if (roomForAll() > 0) line.append(" ", button(allButtonText(), chooseAll, { id: "choose-all", class: "plain" }));
-  return line;
+  return SHEET.payable(payable.length, unpaidRows(shown.sheet.rows).length, sumOf(payable));
 }
 
 // Shows in the boxes, the cards and the sum what is chosen.
 function followBoxes() {
-  for (const box of byId("sheet").querySelectorAll("input[type=checkbox]")) {
-    box.checked = shown.chosen.has(box.dataset.serial);
-    box.closest("tr").classList.toggle("chosen", box.checked);
-  }
-  if (byId("choose-all") !== null) byId("choose-all").textContent = allButtonText();
+  shown.table?.follow();
+  if (byId("choose-all") !== null) followAllButton();
+  showFiltered();
   showChosen();
 }
 
 function showSheet(app) {
   const { sheet } = shown;
-  const head = sheet.rows.length === 0 ? [] : [canChoose() ? payableLine() : otherMonth(app)];
-  byId("sheet").replaceChildren(...head, ...sheetRegion(sheet, chooser));
+  shown.table?.end();
+  shown.table = sheet.rows.length === 0 ? null : new SheetTable(sheet, ACTS);
+  const parts = [element("p", { class: "main-fact" }, SHEET.none(sheet.customer))];
+  if (shown.table !== null) parts.splice(0, 1, canChoose() ? payableLine() : otherMonth(app), shown.table.region, ...legend(sheet));
+  byId("sheet").replaceChildren(...parts);
+  showRows();
+}
+
+// What a screen reader hears of a sheet that came.
+function saySheet() {
+  const { customer, month, rows } = shown.sheet;
+  if (rows.length === 0) announce(SHEET.none(customer));
+  else announce(`${SHEET.caption(customer, month)}. ${canChoose() ? payableInWords() : byId("sheet").firstChild.firstChild.textContent}`);
+}
+
+// ---- the filter
+
+// Shows the rows of the sheet that the filter leaves.
+function showRows() {
+  shown.rows = filtered(shown.sheet.rows, byId("filter").value);
+  shown.table?.show(shown.rows, isWhole());
   followBoxes();
+}
+
+function filteredInWords() {
+  const hidden = chosenBonds().length - addedBonds().length - chosenOf(shown.rows);
+  return isWhole() ? "" : SHEET.filtered(shown.rows.length, shown.sheet.rows.length, hidden);
+}
+
+function showFiltered() {
+  show(byId("narrow"), shown.table !== null);
+  byId("filter-count").textContent = shown.table === null ? "" : filteredInWords();
+}
+
+function startFilter() {
+  let said = null;
+  byId("filter").addEventListener("input", () => {
+    showRows();
+    clearTimeout(said);
+    said = setTimeout(() => shown.table !== null && announce(filteredInWords() || payableInWords()), TYPED);
+  });
+  // Enter leads to the first bond that is left.
+  onSubmit(byId("narrow"), () => {
+    const first = payableShown()[0];
+    if (first !== undefined) shown.table.focus(first);
+  });
 }
 
 // The sheet that was there stays until the other has come.
@@ -178,6 +238,8 @@ async function ask(app) {
   const fields = readFields([byId("customer"), readCustomer, ENTER.customer], [byId("month"), readMonth, ENTER.month]);
   if (fields === null) return;
   const answer = await app.lookUp((signal) => askSheet(...fields, signal));
+  // A long sheet is read and shown in two turns.
+  await new Promise((resolve) => setTimeout(resolve));
   if (answer.kind !== "sheet") {
     app.tellUnanswered(answer);
     return;
@@ -186,6 +248,7 @@ async function ask(app) {
   shown.sheet = answer;
   byId("payee").value = String(answer.customer);
   showSheet(app);
+  saySheet();
   const begin = byId(canChoose() ? "hand" : "sheet");
   // In a low or narrow window the sheet would begin below what is seen.
   if (begin.getBoundingClientRect().top > innerHeight / 2) begin.scrollIntoView();
@@ -297,13 +360,14 @@ async function payTo(app, day, bonds) {
   const [payee] = fields;
   const sum = sumOf(bonds);
   const lines = [PAY.pay_lines(bonds.length, day), bondList(bonds)];
+  if (doubtsOf(bonds).length > 0 && !(await agreesWithPaper(bonds))) return;
   if (!(await confirmed(PAY.pay_title(sum, payee), lines, PAY.pay_to(sum, payee)))) return;
-  sent = asTyped();
-  await app.act("/redeem", { day, payee, serials: bonds.map((bond) => bond.serial) }, sum.toString());
+  noteSent();
+  await app.act("/redeem", { day, payee, serials: bonds.map((bond) => bond.serial) }, { shown: sum.toString(), bonds: bondsOf(bonds) });
 }
 
 // What one holds against the paper. The list has its name from the question's title, so that a screen reader says the bonds, and not the name, as it describes the question.
-function bondList(bonds) {
+export function bondList(bonds) {
   const item = (bond) => {
     const parts = PAY.bond_line(bond.serial, bond.denom, bond.issued, bond.value).map((text) => element("span", {}, text));
     return element("li", {}, ...parts.flatMap((part) => [part, " "]));
@@ -315,8 +379,13 @@ function bondList(bonds) {
 
 // What is chosen and typed, for a comparison.
 function asTyped() {
-  const fields = ["customer", "payee", "in-hand", "serial", "owner"].map((id) => byId(id).value);
+  const fields = ["customer", "payee", "in-hand", "filter", "serial", "owner"].map((id) => byId(id).value);
   return { sheet: shown.sheet, text: JSON.stringify([fields, [...shown.chosen.keys()]]) };
+}
+
+// Remembers what is chosen and typed as a payment is sent.
+export function noteSent() {
+  sent = asTyped();
 }
 
 // Whether the teller has gone on to other bonds: something is there that wasn't there when the last payment was sent.
@@ -346,14 +415,16 @@ function clearChosen() {
 
 // Leaves nothing of a customer's bonds in the view.
 export function clearPay() {
-  shown.sheet = null;
+  shown.table?.end();
+  Object.assign(shown, { sheet: null, table: null, rows: [] });
   clearChosen();
   clearHand();
   byId("sheet").replaceChildren();
-  for (const field of ["payee", "in-hand", "serial", "owner"]) {
+  for (const field of ["payee", "in-hand", "filter", "serial", "owner"]) {
     byId(field).value = "";
     unmark(byId(field));
   }
+  showFiltered();
   showChosen();
 }
 
@@ -384,5 +455,6 @@ export function startPayView(app) {
   onSubmit(byId("pay-bonds"), () => pay(app));
   byId("payee").addEventListener("input", showChosen);
   startHand({ take, toPay, sumInWords });
+  startFilter();
   showChosen();
 }

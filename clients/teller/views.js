@@ -3,13 +3,13 @@
 import { byId, show } from "./elements.js";
 import { HEAD } from "./words.js";
 
-const VIEWS = ["day", "pay", "tickets", "batches"];
+const VIEWS = ["day", "pay", "walkin", "tickets", "batches", "interest"];
 const OTHERS = ["start", "waiting"];
 
 function showOnly(name) {
   show(byId("starting"), false);
   for (const view of [...VIEWS, ...OTHERS]) show(byId(view), view === name);
-  for (const link of document.querySelectorAll("#views a")) {
+  for (const link of /** @type {NodeListOf<HTMLAnchorElement>} */ (document.querySelectorAll("#views a"))) {
     if (link.hash === `#${name}`) link.setAttribute("aria-current", "page");
     else link.removeAttribute("aria-current");
   }

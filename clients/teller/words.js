@@ -25,11 +25,23 @@ export function weekdayInWords(day) {
 
 const twoDigits = (number) => String(number).padStart(2, "0");
 
-// A moment of this machine's clock, in milliseconds: its day and time, as "February 6, 2012, 2:05 PM".
+// A moment in milliseconds, in this machine's time zone: its day and time, as "February 6, 2012, 2:05 PM".
 export function timeInWords(moment) {
   const date = new Date(moment);
   const day = `${MONTHS[date.getMonth()]} ${date.getDate()}, ${date.getFullYear()}`;
   return `${day}, ${date.getHours() % 12 || 12}:${twoDigits(date.getMinutes())} ${date.getHours() < 12 ? "AM" : "PM"}`;
+}
+
+// A moment of the server's clock, in this machine's time zone, which it names.
+export function serverTimeInWords(moment) {
+  const zone = new Intl.DateTimeFormat(LANGUAGE, { timeZoneName: "short" }).formatToParts(moment).find((part) => part.type === "timeZoneName").value;
+  return `${timeInWords(moment)} ${zone}`;
+}
+
+// The number of a month by its name, or by the first three letters or more of it; null if there is none.
+export function monthNamed(name) {
+  const place = MONTHS.findIndex((month) => month.toLowerCase().startsWith(name.toLowerCase()));
+  return place < 0 ? null : place + 1;
 }
 
 export function numberInWords(number) {
@@ -102,6 +114,7 @@ export const TEXTS = {
   count_day: "Count again",
   close_day: "Close the day",
   close_day_help: "Its tickets are settled into a batch. After that no desk can pay on this day.",
+  close_barred: "This user may not close the day: ask a supervisor.",
   another_day: "Another day",
   another_day_help: "If another desk has closed this day, continue with another one.",
   choose_another_day: "Choose another day",
@@ -111,6 +124,7 @@ export const TEXTS = {
   to_day: "Open or join a day",
   open_day_legend: "Open a day",
   open_day: "Open the day",
+  open_barred: "This user may not open a day: ask a supervisor.",
   join_day_legend: "Join the day that another desk opened",
   open_day_label: "Open day",
   join_day: "Join the day",
@@ -122,6 +136,8 @@ export const TEXTS = {
   in_hand: "Bonds in hand (serial numbers)",
   choose: "Choose",
   in_hand_help: "Type or scan serial numbers, each with Enter. Enter in the empty field, or on a bond below, leads to Pay.",
+  filter: "Show only",
+  filter_help: "Part of a serial number, a denomination, or an issue month. Enter leads to the first bond.",
   another_bond: "Another bond",
   another_bond_help: "For a bond of another owner whose coowner is paid here.",
   serial: "Serial number",
@@ -139,6 +155,29 @@ export const TEXTS = {
   closed_day: "Closed day",
   show_batch: "Show the batch",
   back: "Back",
+  interest: "Interest",
+  interest_help: "For the report of interest to a payee and to the IRS. The counter tells the value of a paid bond, and not its interest, so this page knows the interest of what this browser has paid.",
+  interest_day_legend: "Interest of a day",
+  interest_payee_legend: "Interest of a customer",
+  show_interest: "Show the interest",
+  payee_number: "Paid to customer",
+  from_day: "From",
+  to_day_of_span: "To",
+  records: "Records of this browser",
+  records_help: "This browser keeps a record of every payment that it made, for receipts and interest. Records stay until you delete them.",
+  records_to: "Delete the records up to",
+  delete_records: "Delete the records",
+  walkin: "Walk-in",
+  walkin_help: "For bonds that aren't registered yet: type them from the paper. The page registers them, and then pays them.",
+  walkin_barred: "This user may not both register and pay bonds: ask a user who may.",
+  walkin_bond: "A bond, as its paper has it",
+  denomination: "Denomination",
+  issue_month: "Issue month (MM/YYYY)",
+  walkin_customer: "Customers",
+  walkin_owner: "Owner (customer number)",
+  walkin_coowner: "Coowner, if the paper names one",
+  walkin_payee: "Pay to, if not the owner",
+  walkin_customer_help: "A registered bond can't be changed: compare the names on the paper with the customer numbers.",
 };
 
 // ---- fields
@@ -150,6 +189,12 @@ export const ENTER = {
   customer: "Enter a customer number (1 to 9 digits)",
   serial: "Enter a serial number (such as C12EE)",
   ticket: "Enter a ticket number",
+  denomination: "Enter a denomination: 50, 75, 100, 200, 500, 1,000, 5,000 or 10,000",
+  issue_month: "Enter an issue month from 05/2005 on (such as 05/2010)",
+  coowner: "Enter another customer number than the owner's (1 to 9 digits), or nothing",
+  walk_in_payee: "Enter the owner's number or the coowner's, or nothing",
+  last_day: "Enter a day that isn't before the first one",
+  day_before: (day) => `Enter a day before ${dayInWords(day)}: the records of that day are in use`,
 };
 
 // ---- the head of the page
@@ -180,7 +225,7 @@ const distance = (day, closed, usual_days) => {
 const sums = ({ tickets: count, bonds: lines, total }) => `${tickets(count)}, ${bonds(lines)}, ${moneyInWords(total)}`;
 
 export const DAY = {
-  name: (day) => `The page works on ${weekdayInWords(day)}.`,
+  name: (day) => `Business day: ${weekdayInWords(day)}`,
   last: (ticket) => `Show the last ticket of this page, ticket ${ticket}`,
   sums,
   all_sum: (tally, moment) => `${sums(tally)}, counted on ${timeInWords(moment)}`,
@@ -188,6 +233,10 @@ export const DAY = {
   desk_tickets: "Tickets of this desk",
   open_title: (day) => `Open ${dayInWords(day)}?`,
   open_line: (day, closed, usual_days) => `${weekdayInWords(day)}: ${distance(day, closed, usual_days)}`,
+  today_line: (day, today) => {
+    const days = daysFrom(today, day);
+    return `${counted(Math.abs(days), "day", "days")} ${days < 0 ? "before" : "after"} today, ${weekdayInWords(today)}.`;
+  },
   open: "Open the day",
   continue: "Continue",
   year_title: (year) => `Is the year ${year} right?`,
@@ -197,7 +246,7 @@ export const DAY = {
   is_open: (day) => `${dayInWords(day)} is open.`,
   is_closed: (day) => `${dayInWords(day)} is closed.`,
   is_closed_batch: (day) => `${dayInWords(day)} is closed. This is its batch.`,
-  joined: (day) => `The page works on ${dayInWords(day)}.`,
+  joined: (day) => `This desk joined ${dayInWords(day)}.`,
   joined_help: "If it isn't the open day, the first payment is refused, and nothing is changed.",
   close_title: (day, total) => `Close ${weekdayInWords(day)} with ${moneyInWords(total)}?`,
   close_sums: (tally) => `Paid so far, at all desks: ${sums(tally)}.`,
@@ -242,7 +291,7 @@ export const PAY = {
   pay_out: (total, payee) => `Pay out ${moneyInWords(total)} to customer ${payee}.`,
   desk_so_far: (desk_sums) => `This desk today: ${sums(desk_sums)}.`,
   other_sum: (ticket) => `Ticket ${ticket} is paid, but its total isn't the sum that was confirmed.`,
-  other_sum_help: (total, shown) => `The total, ${moneyInWords(total)}, is what was paid: pay out that. You confirmed ${moneyInWords(shown)}. Tell the people who maintain this page.`,
+  other_sum_help: (total, shown) => `The total, ${moneyInWords(total)}, is what was paid: pay out that. You confirmed ${moneyInWords(shown)}. Tell your administrator.`,
   show_ticket: (number) => `Show ticket ${number}`,
 };
 
@@ -273,9 +322,12 @@ export const SHEET = {
   caption: (customer, month) => `Unpaid bonds of customer ${customer} in ${monthInWords(month)}`,
   none: (customer) => `Customer ${customer} owns no unpaid bonds.`,
   total: "Total",
+  total_shown: "Total shown",
+  filtered: (count, all, hidden) => `${numberInWords(count)} of ${bonds(all)} shown.${hidden === 0 ? "" : ` Chosen, but not shown: ${numberInWords(hidden)}.`}`,
   payable: (count, all, sum) => (count === 0 ? `None of ${bonds(all)} can be paid in this month.` : `${numberInWords(count)} of ${bonds(all)} can be paid: ${moneyInWords(sum)} in all.`),
   payable_total: "Can be paid",
   select: (count) => (count === 1 ? "Select the one that can be paid" : `Select all ${numberInWords(count)} that can be paid`),
+  select_shown: (count) => (count === 1 ? "Select the one shown that can be paid" : `Select the ${numberInWords(count)} shown that can be paid`),
   select_first: (most) => `Select the first ${most}: a ticket holds no more`,
   select_none: "Select none",
   no_value: "–",
@@ -305,12 +357,13 @@ export const LOOKUPS = {
   desk_caption: "Tickets of this desk on this day",
   show_ticket: (number) => `Ticket ${number}`,
   payee: (number) => `customer ${number}`,
-  time: timeInWords,
+  time: (moment) => (moment === null ? SHEET.no_value : timeInWords(moment)),
 };
 
 // ---- paper
 
 export const PAPER = {
+  series: "United States Savings Bonds, Series EE",
   ticket: (number) => `Ticket ${number}`,
   batch: (day) => `Batch of ${dayInWords(day)}`,
   copy: "COPY",
@@ -320,17 +373,20 @@ export const PAPER = {
   branch: "Branch",
   desk: "Desk",
   teller: "Teller",
-  time: "Time of payment",
+  time: "Server's time",
   printed: "Printed",
   request: "Request",
   request_number: (desk, number) => `desk ${desk}, number ${number}`,
-  day: "Day",
+  day: "Business day",
   payee: "Paid to",
   customer: (number) => `customer ${number}`,
   bonds: "Bonds",
   sum: "Sum",
   amount: "Amount in words",
   columns: ["No.", "Bond", "Paid"],
+  receipt_columns: ["No.", "Bond", "Denomination", "Issued", "Price", "Interest", "Value"],
+  bond: (denom, issued) => [SHEET.denom(denom), `${issued.slice(5)}/${issued.slice(0, 4)}`],
+  lacks: "Without denominations, issue months, prices and interest: the counter doesn't tell them of bonds that are paid, and this browser has no record of this payment.",
   lines: (number) => `Bonds paid on ticket ${number}`,
   total: "Total",
   received: "Received by: the payee's name",
@@ -344,7 +400,7 @@ export const PAPER = {
   batch_lines: (day) => `Tickets of ${dayInWords(day)}`,
   sheet: (title, day, payee) => `${title}, ${dayInWords(day)}, customer ${payee}`,
   page: (page, pages) => `Page ${page} of ${pages}`,
-  other_list: "The tickets that were read don't add up to the batch. Tell the people who maintain this page.",
+  other_list: "The tickets that were read don't add up to the batch. Tell your administrator.",
 };
 
 // ---- a request under way
@@ -352,12 +408,14 @@ export const PAPER = {
 const requestInWords = ({ path, fields }) => {
   if (path === "/day/open") return `Opening ${dayInWords(fields.day)}`;
   if (path === "/day/close") return `Closing ${dayInWords(fields.day)}`;
+  if (path === "/bonds") return `Registering ${bonds(fields.bonds.length)} of customer ${fields.bonds[0].owner}`;
   return `Paying ${bonds(fields.serials.length)} to customer ${fields.payee}`;
 };
 
 // What an attempt without a reply may have done.
 const MAY_BE_DONE = {
   "/redeem": "Nothing may be paid out yet. The payment may have been made already.",
+  "/bonds": "Nothing may be paid out yet. The bonds may be registered already.",
   "/day/open": "The day may be open already.",
   "/day/close": "The day may be closed already.",
 };
@@ -434,7 +492,7 @@ const REFUSALS = {
   14: ["SameCoowner", (answer) => `${bondOf(answer)} has the same customer as owner and coowner.`, () => "Register it with another coowner, or with none."],
   20: ["NotAnnouncementMonth", (answer) => `A rate can't start in ${monthOfAnswer(answer)}. Rates start in May or November.`, () => "Enter it from the May or November in which it was announced."],
   21: ["RateConflict", (answer) => `Other rates are already entered from ${monthOfAnswer(answer)}.`, () => "Entered rates can't be changed. Compare them with the Treasury's announcement, and report any difference to the back office."],
-  22: ["RateUnsettled", (answer) => `Under this rate, the value at ${answer.month} months of age can't be settled to the cent.`, () => "Compare the rate with the Treasury's announcement. If it is right, tell the people who maintain the program."],
+  22: ["RateUnsettled", (answer) => `Under this rate, the value at ${answer.month} months of age can't be settled to the cent.`, () => "Compare the rate with the Treasury's announcement. If it is right, tell your administrator."],
   30: ["NoRate", (answer) => `No rate is entered for the month in which ${thatBond(answer)} was issued.`, () => "Have that rate entered first."],
   31: ["SerialConflict", (answer) => `${bondOf(answer)} is registered with a different denomination, issue month, owner or coowner.`, () => "Compare the paper with the register. A registered bond can't be changed."],
   40: ["DayOpen", () => "A business day is open already.", () => "If it is this day, join it. If it is an earlier day, close that day first."],
@@ -449,8 +507,8 @@ const REFUSALS = {
   54: ["NotEligible", (answer) => `${bondOf(answer)} is less than 12 months old.`, () => "It can be paid from 12 months after its issue month."],
 };
 
-const damaged = () => "The page sends the same request again. If this continues, tell the people who run the network.";
-const misfit = () => "Nothing was done. Tell the people who maintain this page: it doesn't match the program.";
+const damaged = () => "The page sends the same request again. If this continues, tell your administrator.";
+const misfit = () => "Nothing was done. Tell your administrator: it doesn't match the program.";
 
 const FAULTS = {
   60: ["BadHead", () => "The message reached the counter damaged: its head can't be read.", damaged],
@@ -458,7 +516,7 @@ const FAULTS = {
   62: ["BodyTooLong", () => "The message is too long for the counter.", misfit],
   63: ["BadLength", () => "The message reached the counter damaged: its length can't be read.", damaged],
   64: ["BadJson", () => "The counter can't read the request: it isn't JSON.", misfit],
-  65: ["BadField", (answer) => `The counter can't read the field “${answer.field}”, or its value is out of range.`, () => "Nothing was done. Check what you typed. If it is right, tell the people who maintain this page."],
+  65: ["BadField", (answer) => `The counter can't read the field “${answer.field}”, or its value is out of range.`, () => "Nothing was done. Check what you typed. If it is right, tell your administrator."],
   66: ["NoRoute", () => "The counter doesn't know this request.", misfit],
   67: ["BadMethod", () => "The counter doesn't take this request by this method.", misfit],
   68: ["Truncated", () => "The message reached the counter cut short.", damaged],
@@ -466,8 +524,8 @@ const FAULTS = {
 };
 
 const UNSERVED = {
-  1: ["NoMemory", () => "The counter had no memory for this request, so this attempt did nothing.", () => "The page sends the same request again. If this continues, tell the people who run the counter."],
-  2: ["StoreFailed", () => "The counter's store failed, so the request may or may not have been done.", () => "The page sends the same request again, which takes effect once at most. Tell the people who run the counter: it must be restarted."],
+  1: ["NoMemory", () => "The counter had no memory for this request, so this attempt did nothing.", () => "The page sends the same request again. If this continues, tell your administrator."],
+  2: ["StoreFailed", () => "The counter's store failed, so the request may or may not have been done.", () => "The page sends the same request again, which takes effect once at most. Tell your administrator: it must be restarted."],
 };
 
 const TABLES = { refused: REFUSALS, fault: FAULTS, unserved: UNSERVED };
@@ -475,6 +533,7 @@ const TABLES = { refused: REFUSALS, fault: FAULTS, unserved: UNSERVED };
 // What a user's group may not do, and whose group may.
 const RIGHTS = {
   "/redeem": ["pay bonds", "a teller"],
+  "/bonds": ["register bonds", "the back office"],
   "/day/open": ["open a day", "a supervisor"],
   "/day/close": ["close a day", "a supervisor"],
 };
@@ -497,12 +556,12 @@ const UNSTORED = {
 // Why an open payment might not be kept.
 export function unkeptInWords(why) {
   if (why !== "unkept") return UNSTORED[why].join(" ");
-  return "This browser may forget an open payment: it doesn't promise to keep the data of this page, as in a private window. Ask the people who maintain this machine to allow it persistent storage.";
+  return "This browser may forget an open payment: it doesn't promise to keep the data of this page, as in a private window. Ask your administrator to allow it persistent storage.";
 }
 
 const other = (answer) => ({
   says: `The counter answered ${answer.name} (code ${answer.code}), which this page doesn't know.`,
-  advises: "Don't pay anything out for this request. Tell the people who maintain this page.",
+  advises: "Don't pay anything out for this request. Tell your administrator.",
 });
 
 // The sentence of an answer that is no reply, and what to do. If the name isn't that of the code, the page knows neither.
@@ -520,3 +579,73 @@ export function forbiddenInWords(path) {
   const [act, who] = RIGHTS[path] ?? ["look this up", "a user who may"];
   return { says: `This user may not ${act}.`, advises: `Ask ${who}, or sign in as one.` };
 }
+
+// ---- interest
+
+const numbersInWords = (runs) => runs.map(({ first, last }) => (first === last ? String(first) : `${first} to ${last}`)).join(", ");
+
+export const INTEREST = {
+  csv_columns: ["Day", "Ticket", "Payee", "Serial number", "Denomination", "Issue month", "Price", "Interest", "Value"],
+  columns: ["Ticket", "Day", "Paid to", "Bonds", "Value", "Interest"],
+  caption: "Tickets and their interest",
+  day_title: (day) => `Interest paid on ${dayInWords(day)}`,
+  payee_title: (payee, from, to) => `Interest paid to customer ${payee} from ${dayInWords(from)} to ${dayInWords(to)}`,
+  known: (found) => (found.tickets === 0 ? "No interest is known here." : `${moneyInWords(found.interest)} of interest on ${tickets(found.tickets)} with ${bonds(found.bonds)}: price ${moneyInWords(found.price)}, value ${moneyInWords(found.value)}.`),
+  none: "No ticket was paid then.",
+  unknown: (count, runs, value) =>
+    `Not known here: the interest of ${tickets(count)} over ${moneyInWords(value)} (${count === 1 ? "number" : "numbers"} ${numbersInWords(runs)}): another browser paid, or this one before it kept records. In the file these bonds have empty columns for denomination, issue month, price and interest.`,
+  unread: (runs) => `The span has too many tickets to read all of them. This browser has no record of these, so the file lacks whatever they paid to this customer: ${numbersInWords(runs)}.`,
+  whole: "Nothing is missing: every ticket of this span was read.",
+  save: "Save as CSV",
+};
+
+// ---- records of payments
+
+const records = (count) => counted(count, "record", "records");
+
+export const RECORDS = {
+  kept: (count) => (count === 0 ? "There is no record." : `${records(count)} ${count === 1 ? "is" : "are"} kept.`),
+  none: (day) => `No record is of ${dayInWords(day)} or an earlier day.`,
+  title: (count) => `Delete ${records(count)}?`,
+  span: (first, last) => (first === last ? `Payments of this browser on ${dayInWords(first)}.` : `Payments of this browser from ${dayInWords(first)} to ${dayInWords(last)}.`),
+  lost: "After that the page no longer knows denominations, issue months, prices and interest of these payments. This can't be undone.",
+  save: "If their interest isn't reported yet, choose Back and save it as CSV first.",
+  act: (count) => `Delete ${records(count)}`,
+  deleted: (count) => `${records(count)} ${count === 1 ? "is" : "are"} deleted.`,
+};
+
+// ---- walk-ins
+
+export const WALK_IN = {
+  none: "No bond is typed.",
+  typed: "Bonds to register and pay",
+  bond_line: ({ serial, denom, issued, value }) => [serial, SHEET.denom(denom), SHEET.issued(issued), moneyInWords(value)],
+  already: (serial) => `Bond ${serial} is already in the list.`,
+  act: "Register and pay",
+  act_on: (sum) => `Register and pay ${moneyInWords(sum)}`,
+  act_to: (sum, payee) => `Register and pay ${moneyInWords(sum)} to customer ${payee}`,
+  title: (count, sum, payee) => `Register ${bonds(count)}, and pay ${moneyInWords(sum)} to customer ${payee}?`,
+  owners: (owner, coowner) => `Owner: customer ${owner}. ${coowner === 0 ? "No coowner" : `Coowner: customer ${coowner}`}. A registered bond can't be changed.`,
+  nothing_paid: "No bond was registered, and nothing was paid.",
+  registered: (registered, is_paid) => {
+    const again = registered.sent > 1 ? "The connection was interrupted while they were registered: that was done once. " : "";
+    const known = registered.same === 0 ? "" : `, and ${registered.same === 1 ? "1 was" : `${registered.same} were`} registered before`;
+    return `${again}${bonds(registered.new)} ${registered.new === 1 ? "was" : "were"} registered${known}.${is_paid ? "" : " None of them was paid."}`;
+  },
+};
+
+// ---- what may be mistyped
+
+const MOST_NAMED = 3;
+const named = (serials) => (serials.length <= MOST_NAMED ? serials.join(", ") : `${serials.slice(0, MOST_NAMED).join(", ")} and ${numberInWords(serials.length - MOST_NAMED)} more`);
+
+export const DOUBTS = {
+  title: "Do these bonds agree with the paper?",
+  letter: (serials, letter, denom_of_letter, denom) => {
+    const says = denom_of_letter === null ? `no denomination has the letter ${letter}` : `the letter ${letter} means ${SHEET.denom(denom_of_letter)}`;
+    return `${named(serials)}: ${says}, and the denomination here is ${SHEET.denom(denom)}.`;
+  },
+  month: (serials, issued) => `${named(serials)}: issued ${issued}, and paper was sold only until 12/2011.`,
+  back: "If anything differs from the paper, choose Back.",
+  agree: "They agree: continue",
+};

@@ -26,7 +26,7 @@ export const UNSETTLED = 8;
 /** The notes of a row by their number, as the Savings Bond Calculator prints them. */
 export const NOTES = Object.freeze(["", "NI", "NE", "P5", "MA"]);
 
-// A number that the library refuses in each place.
+// A number that the library refuses in every place.
 const NO_NUMBER = 2 ** 32 - 1;
 const QUESTION_BYTES = 20;
 const ROW_BYTES = 48;
@@ -120,7 +120,7 @@ class Value {
   }
 
   /**
-   * Returns the answer to each `[dollars, issued, month, rate]` or `[dollars, issued, month, rate, extension]` of a list: its row, or a
+   * Returns the answer to every `[dollars, issued, month, rate]` or `[dollars, issued, month, rate, extension]` of a list: its row, or a
    * Refused, which is not thrown. One call of the library answers them all.
    */
   rows(questions) {

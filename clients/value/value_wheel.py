@@ -20,7 +20,7 @@ import typing
 import zipfile
 
 HERE = pathlib.Path(__file__).resolve().parent
-SOURCES = ("ee_value/__init__.py", "ee_value/py.typed", "examples/inventory.py", "pyproject.toml", "value_wheel.py", "README.md")
+SOURCES = ("ee_value/__init__.py", "ee_value/py.typed", "examples/inventory.py", "pyproject.toml", "value_wheel.py", "README-python.md")
 #: Where `build` puts the library of a processor, and the number of that processor in an ELF file.
 LIBRARIES = {"x86_64": ("out", 62), "aarch64": ("out/aarch64", 183)}
 #: The least version of the C library of which an index knows a tag, by processor.
@@ -56,8 +56,8 @@ def version() -> str:
 
 
 def metadata() -> bytes:
-    """Returns the metadata, with README.md as its description."""
-    return (METADATA.format(version=version()) + (HERE / "README.md").read_text()).encode()
+    """Returns the metadata, with README-python.md as its description."""
+    return (METADATA.format(version=version()) + (HERE / "README-python.md").read_text()).encode()
 
 
 def moment() -> int:
@@ -81,7 +81,7 @@ def library_of(processor: str) -> bytes:
 
 
 def tag_of(data: bytes, processor: str) -> str:
-    """Returns the tag of a wheel with this library: for each Linux whose C library has the versions of symbols that it names, and no earlier one than an index knows."""
+    """Returns the tag of a wheel with this library: for every Linux whose C library has the versions of symbols that it names, and no earlier one than an index knows."""
     needed = max([int(minor) for minor in re.findall(rb"GLIBC_2\.([0-9]+)", data)] + [LEAST[processor]])
     legacy = {("x86_64", 5): ".manylinux1_x86_64", ("aarch64", 17): ".manylinux2014_aarch64"}.get((processor, needed), "")
     return f"py3-none-manylinux_2_{needed}_{processor}{legacy}"

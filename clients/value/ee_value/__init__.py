@@ -77,7 +77,7 @@ ROW = struct.Struct("=4Q4I")
 
 _TYPES: dict[str, type[ctypes.c_uint32] | type[ctypes.c_uint64]] = {"u4": ctypes.c_uint32, "u8": ctypes.c_uint64}
 
-# A number that the library refuses in each place.
+# A number that the library refuses in every place.
 _NO_NUMBER = 2**32 - 1
 
 #: What stands for a whole number: an int, or an integer of numpy.
@@ -289,14 +289,14 @@ def rows_into(questions: Buffer, answers: Buffer) -> int:
     """Answer many questions in one call, from a buffer to a buffer; refusals are rows with their status. Return how many rows were written.
 
     The questions are an array of QUESTION_FIELDS, as of numpy, or an array.array("I") with the five numbers of one after those of another;
-    the answers are an array of ROW_FIELDS, or a bytearray of ROW.size for each question. Neither has gaps.
+    the answers are an array of ROW_FIELDS, or a bytearray of ROW.size for every question. Neither has gaps.
     """
     asked, given = memoryview(questions), memoryview(answers)
     if not (asked.c_contiguous and given.c_contiguous) or given.readonly:
         raise ValueError("the buffers are without gaps, and the answers can be written")
     count, rest = divmod(asked.nbytes, ctypes.sizeof(_Question))
     if rest or given.nbytes != count * ctypes.sizeof(_Row):
-        raise ValueError("there is a place for each question, and no other")
+        raise ValueError("there is a place for every question, and no other")
     if not count:
         return 0
     if asked.itemsize not in (4, ctypes.sizeof(_Question)) or given.itemsize not in (1, ctypes.sizeof(_Row)):

@@ -1,7 +1,7 @@
        identification division.
        program-id. bond.
       *> The row of a 50-dollar bond of May 2010 at 3.40 % and then
-      *> 4.00 %, in each month that is read from standard input.
+      *> 4.00 %, in every month that is read from standard input.
        data division.
        working-storage section.
        01 question.

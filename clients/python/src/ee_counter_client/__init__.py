@@ -1,8 +1,8 @@
-"""A client of the counter of a savings bond paying agent, for scripts and back offices. Each request gets its one reply, whatever is stopped or lost.
+"""A client of the counter of a savings bond paying agent, for scripts and back offices. Every request gets its one reply, whatever is stopped or lost.
 
     >>> from ee_counter_client import Counter
     >>> with Counter("desk3.journal", "http://127.0.0.1:8377", desk=3) as counter:
-    ...     counter.open_day("2012-02-06")
+    ...     counter.open_day("2012-02-06", even_so=True)
     ...     ticket = counter.redeem("2012-02-06", 7, ["L1EE", "K2EE"])
     ...     print(ticket.number, ticket.total)
     1 63.23
@@ -12,8 +12,9 @@ under that number until its reply has come: after a lost connection, a timeout, 
 journal belongs to one desk, a desk has one journal, and one process at a time uses it.
 
 After a stop, the same call sends the open request again, under its own number. If the open request has a key, any other act finishes it first; if not, it raises
-StillOpen. `finish` sends what is open, and `abandon` gives it up. `Lookups` looks things up without a journal. A `bookmark` is a value of the script's own, kept in the journal in one step with the reply. A `key` is a name of the caller's own for a request, such as
-invoice-4711: the same call with the same key returns the same reply, also in a later run.
+StillOpen. `finish` sends what is open, and `abandon` gives it up. `Lookups` looks things up without a journal. An implausible bond or day raises Implausible,
+unless `even_so`. A `bookmark` is a value of the script's own, kept in the journal in one step with the reply. A `key` is a name of the caller's own for a request,
+such as invoice-4711: the same call with the same key returns the same reply, also in a later run.
 
 Errors are a tree (ee_counter_client.errors): BadCall, WrongSetup, Retryable, UnknownOutcome and Refused. The package logs to "ee_counter_client". It needs the standard
 library only, and a system with flock. `python3 -m ee_counter_client --help` lists the commands. Money is in dollars, as Decimal.
@@ -38,6 +39,8 @@ from .errors import (
     FileFailed,
     Forbidden,
     ForeignAnswer,
+    Implausible,
+    Incomplete,
     JournalInUse,
     KeyReused,
     NoAnswer,
@@ -66,9 +69,10 @@ from .errors import (
     WrongSetup,
 )
 from .files import Registered, bonds_in, rates_in, register
+from .interest import bonds_known, interest_of_day, interest_of_payee, interest_of_ticket
 from .lookups import Lookups
 from .pool import Pool
-from .results import Abandoned, Added, Batch, Finished, Line, Opened, Request, Row, Sheet, Ticket
+from .results import Abandoned, Added, Batch, Finished, Interest, Line, Opened, Paid, Request, Row, Sheet, Ticket
 from .spelling import Bond, Month, Rates
 from .version import __version__
 
@@ -97,6 +101,9 @@ __all__ = [
     "Finished",
     "Forbidden",
     "ForeignAnswer",
+    "Implausible",
+    "Incomplete",
+    "Interest",
     "JournalInUse",
     "KeyReused",
     "Line",
@@ -112,6 +119,7 @@ __all__ = [
     "NotPayee",
     "NotReady",
     "Opened",
+    "Paid",
     "Pool",
     "RateConflict",
     "RateUnsettled",
@@ -136,6 +144,10 @@ __all__ = [
     "WrongSetup",
     "__version__",
     "bonds_in",
+    "bonds_known",
+    "interest_of_day",
+    "interest_of_payee",
+    "interest_of_ticket",
     "rates_in",
     "register",
 ]

@@ -1,4 +1,4 @@
-"""The archive of a desk's requests: docs/FORMATS.md, "The archive of requests"."""
+"""The archive of a desk's requests: samples/restore/README.md, "The format of an archive"."""
 from __future__ import annotations
 
 import datetime
@@ -40,7 +40,7 @@ def act_text(path: str, fields: Json) -> str:
 
 
 class Archive:
-    """A file with each request before it is sent, and again with its reply. Each line names the checksum of the line before.
+    """A file with every request before it is sent, and again with its reply. Every line names the checksum of the line before.
 
     `end` is the size of the file and its last line, as far as the lines are known to be on the disk. After an interrupted write both are read back."""
 

@@ -8,15 +8,18 @@ from typing import Callable, Optional, Sequence, Tuple, Union
 
 from .answers import compact
 from .counter import Counter
-from .errors import BadCall, BadValue, CounterError, Fault, Forbidden, Refused
+from .errors import BadCall, BadValue, CounterError, Fault, Forbidden, Implausible, Incomplete, Refused, printable
 from .files import rates_in, register
+from .interest import bonds_known, interest_of_day, interest_of_payee, interest_of_ticket
 from .lookups import ADDRESS, PATIENCE, Lookups
-from .results import Added, Batch, Opened, Row, Ticket
+from .results import Added, Batch, Interest, Opened, Row, Ticket
 from .spelling import MOST_ROWS
 from .version import __version__
 
 #: Rows between two lines of progress that no terminal shows.
 PROGRESS = 20 * MOST_ROWS
+#: How many doubts are printed.
+MOST_LINES = 20
 
 
 def printed(value: Union[Ticket, Batch, Opened, Added, Row]) -> int:
@@ -44,13 +47,25 @@ def run_register(counter: Counter, words: argparse.Namespace) -> int:
             told_at = done
             print(f"{done:,} of {of:,} bonds", end="\r" if is_seen and done < of else "\n", file=sys.stderr, flush=True)
 
-    print(compact(register(counter, words.file, told)._asdict()), flush=True)
+    print(compact(register(counter, words.file, told, even_so=words.even_so)._asdict()), flush=True)
     return 0
 
 
 def run_sheet(counter: Lookups, words: argparse.Namespace) -> int:
     """Prints a sheet."""
-    sys.stdout.write(counter.inventory(words.customer, words.month).text)
+    print(counter.inventory(words.customer, words.month).text, end="", flush=True)
+    return 0
+
+
+def run_interest(ask: Callable[[], Interest]) -> int:
+    """Prints the CSV. What it lacks is named, with status 1."""
+    try:
+        found = ask()
+    except Incomplete as lack:
+        print(lack.interest.text, end="", flush=True)
+        print("\n".join(f"missing: {printable(sentence)}" for sentence in lack.missing), file=sys.stderr)
+        return 1
+    print(found.text, end="", flush=True)
     return 0
 
 
@@ -70,7 +85,7 @@ LookUp = Callable[[Lookups, argparse.Namespace], int]
 ACTS: Tuple[Tuple[str, str, Tuple[str, ...], Run], ...] = (
     ("rates", "enters the rates of a CSV file", ("rates file",), lambda counter, words: printed(counter.add_rates(rates_in(words.file)))),
     ("register", "registers the bonds of a CSV file in requests of 500; run it again after a stop", ("bonds file",), run_register),
-    ("open", "opens a day", ("day",), lambda counter, words: printed(counter.open_day(words.day, key=words.key))),
+    ("open", "opens a day", ("day",), lambda counter, words: printed(counter.open_day(words.day, key=words.key, even_so=words.even_so))),
     ("redeem", "pays bonds to their owner or coowner", ("day", "payee", "serials"), lambda counter, words: printed(counter.redeem(words.day, words.payee, words.serials, key=words.key))),
     ("close", "closes a day, and prints its batch", ("day",), lambda counter, words: printed(counter.close_day(words.day, key=words.key))),
     ("finish", "sends the open request until its reply has come", (), lambda counter, words: looked_up(counter.finish(), "no request is open")),
@@ -82,16 +97,31 @@ LOOK_UPS: Tuple[Tuple[str, str, Tuple[str, ...], LookUp], ...] = (
     ("ticket", "prints a ticket", ("number",), lambda counter, words: looked_up(counter.ticket(words.number), "there is no such ticket")),
     ("batch", "prints the batch of a closed day", ("day",), lambda counter, words: looked_up(counter.batch(words.day), "the day has no batch: it isn't closed")),
     ("value", "prints the row of a bond that isn't registered", ("denom", "issued", "month"), lambda counter, words: printed(counter.value(words.denom, words.issued, words.month))),
+    ("interest-ticket", "prints the interest of a ticket as CSV", ("number", "sources"), lambda counter, words: run_interest(lambda: interest_of_ticket(counter, words.number, bonds_known(*words.sources)))),
+    ("interest-day", "prints the interest of a closed day as CSV", ("day", "sources"), lambda counter, words: run_interest(lambda: interest_of_day(counter, words.day, bonds_known(*words.sources)))),
+    (
+        "interest-payee",
+        "prints the interest of what a customer was paid in a span of days as CSV",
+        ("customer", "first", "last", "sources"),
+        lambda counter, words: run_interest(lambda: interest_of_payee(counter, words.customer, words.first, words.last, bonds_known(*words.sources))),
+    ),
 )
 NEED_JOURNAL = tuple(name for name, _, _, _ in ACTS)
 #: The commands that take a key.
 KEYED = ("open", "redeem", "close")
-#: What each argument is, with an example.
+#: The commands that question implausible values, with what --even-so does there.
+QUESTIONED = {
+    "register": "registers bonds whose letter doesn't fit their denomination, or whose issue month is after 2011-12",
+    "open": "opens a day that is more than seven days from today, or after the last one that was opened",
+}
+#: The arguments of which there may be several.
+SEVERAL = ("serials", "sources")
+#: What every argument is, with an example.
 ARGUMENTS = {
     "rates file": ("a CSV file with the columns from,rate or from,rate,extension, rates in percent", "samples/rates.csv"),
     "bonds file": ("a CSV file with the columns serial,denom,issued,owner,coowner", "samples/inventory.csv"),
     "day": ("the business day, YYYY-MM-DD", "2012-02-06"),
-    "payee": ("the number of the customer who is paid, owner or coowner of each bond", "7"),
+    "payee": ("the number of the customer who is paid, owner or coowner of every bond", "7"),
     "serials": ("the serial numbers of the bonds, 1 to 100", "L1EE K2EE"),
     "reason": ("why it is given up, which the journal keeps", "'the counter was replaced'"),
     "customer": ("the number of the customer", "7"),
@@ -99,11 +129,14 @@ ARGUMENTS = {
     "number": ("the number of the ticket", "1"),
     "denom": ("the denomination in dollars", "50"),
     "issued": ("the issue month, YYYY-MM", "2010-11"),
+    "first": ("the first day of the span, YYYY-MM-DD", "2012-01-01"),
+    "last": ("its last day", "2012-12-31"),
+    "sources": ("files that say what every bond is: inventories, archives of a desk, folders of a store's archive", "samples/inventory.csv"),
 }
 STATUSES = """statuses:
   0  done
-  1  refused or forbidden, or there is no such thing
-  2  the command line, a value or a file is wrong, and nothing was sent
+  1  refused or forbidden, or there is no such thing, or not all of the interest can be given
+  2  the command line, a value or a file is wrong, or a value isn't plausible; nothing was sent
   3  no reply yet (the journal keeps the request open), the set-up is wrong, or the journal can't be used"""
 
 
@@ -118,7 +151,7 @@ def words_of(line: Optional[Sequence[str]]) -> argparse.Namespace:
     parser.add_argument("--user", help="the user, if a proxy asks for a password")
     parser.add_argument("--password-file", metavar="FILE", help="a file whose first line is the password")
     parser.add_argument("--certificate", metavar="FILE", help="a file with the certificate to trust, instead of the system's")
-    parser.add_argument("--archive", metavar="FILE", help="a file that gets each request before it is sent, and each reply; it is created if it doesn't exist")
+    parser.add_argument("--archive", metavar="FILE", help="a file that gets every request before it is sent, and every reply; it is created if it doesn't exist")
     parser.add_argument("--patience", type=float, default=PATIENCE, metavar="SECONDS", help="seconds until a request is left open without a reply (%(default)g)")
     commands = parser.add_subparsers(dest="command", required=True, metavar="COMMAND")
     for name, does, arguments, _ in (*ACTS, *LOOK_UPS):
@@ -127,9 +160,11 @@ def words_of(line: Optional[Sequence[str]]) -> argparse.Namespace:
         command = parser_of(commands.add_parser, does, f"example:\n  {parser.prog}{journal} {name} {shown}".rstrip() + "\n\n", name=name, help=does)
         if name in KEYED:
             command.add_argument("--key", help="a name of your own for the request: the same command again prints the same reply, and sends nothing")
+        if name in QUESTIONED:
+            command.add_argument("--even-so", action="store_true", help=QUESTIONED[name])
         for argument in arguments:
             text, sample = ARGUMENTS[argument]
-            several = {"nargs": "+"} if argument == "serials" else {}
+            several = {"nargs": "+"} if argument in SEVERAL else {}
             command.add_argument(argument.split()[-1], help=f"{text}; for example {sample}", **several)  # type: ignore[arg-type]
     words = parser.parse_args(line)
     if words.journal is None and words.command in NEED_JOURNAL:
@@ -182,11 +217,15 @@ def main(line: Optional[Sequence[str]] = None) -> int:
         print(compact(refusal.reply), flush=True)
         print(f"refused: {refusal}", file=sys.stderr)
         return 1
+    except Implausible as doubt:
+        more = len(doubt.doubts) - MOST_LINES
+        print(*map(printable, doubt.doubts[:MOST_LINES]), *([f"and {more:,} more"] if more > 0 else []), "nothing was sent; with --even-so it is", sep="\n", file=sys.stderr)
+        return 2
     except CounterError as error:
         print(error, file=sys.stderr)
         return status_of(error)
     except OSError as failure:
-        print(failure, file=sys.stderr)
+        print(printable(str(failure)), file=sys.stderr)
         return 3
     except KeyboardInterrupt:
         print("stopped; an open request is kept, and sent again by the same command or by finish", file=sys.stderr)

@@ -11,11 +11,12 @@ import time
 from types import TracebackType
 from typing import Any, Iterator, Mapping, Optional, Tuple, Type, TypeVar, Union
 
-from .answers import NUMBER_REUSED, Answer, batch_in, error_of, is_good, is_of_one_sending, reply_in, with_its
+from .answers import NUMBER_REUSED, Answer, batch_in, error_of, is_good, is_of_one_sending, reply_in, ticket_in, with_its
 from .archive import Archive
-from .errors import BadValue, Busy, Closed, CounterError, Fault, FileFailed, Forbidden, KeyReused, Refused, SignInRefused, StillOpen
+from .errors import BadValue, Busy, Closed, CounterError, Fault, FileFailed, Forbidden, Implausible, KeyReused, Refused, SignInRefused, StillOpen, printable
 from .journal import Journal
 from .lookups import ADDRESS, PATIENCE, TIME_LIMIT, Lookups, Path, Trials, path_of
+from .plausible import MOST_DAYS, days_before, doubts_of_bond, doubts_of_day, question
 from .results import Abandoned, Added, Batch, Finished, Opened, Request, Result, Ticket, result_of
 from .spelling import MOST_BOOKMARK, MOST_NUMBER, MOST_ROWS, MOST_SERIALS, Bond, DayLike, Json, ListOf, Rates, bond_of, customer_of, day_of, key_of, list_of, rate_row_of, serial_of, whole
 from .way import Deadline
@@ -39,11 +40,11 @@ OUTCOMES = {
 
 
 class Counter(Lookups):
-    """Sends requests to a counter, for the desk of a journal. Each request gets its one reply, whatever is stopped or lost.
+    """Sends requests to a counter, for the desk of a journal. Every request gets its one reply, whatever is stopped or lost.
 
     `journal` is the path of the journal, which is created if `desk` (0 to 999) is given. `address` is as http://127.0.0.1:8377, or https://.. with `user`, `password`
     and `certificate` (a file that is trusted instead of the system's). `patience` is how many seconds a call may take (300; None without an end); `time_limit` how many
-    seconds one sending may take. `archive` names a file for each request and its reply.
+    seconds one sending may take. `archive` names a file for every request and its reply.
 
     Threads may share it: their calls wait for one another. A process that is forked from this one may not use it (Closed).
 
@@ -130,13 +131,18 @@ class Counter(Lookups):
         """Enters up to 500 rows of rates: Rates, or mappings with the keys `from`, `rate` and perhaps `extension`. Rates are in percent."""
         return self._act("/rates", {"rates": [rate_row_of(row) for row in list_of(rates, MOST_ROWS, "rates")]}, bookmark, key, Added)
 
-    def add_bonds(self, bonds: ListOf[Union[Bond, Mapping[str, Any]]], *, bookmark: Any = None, key: Optional[str] = None) -> Added:
-        """Registers up to 500 bonds: Bond, or mappings with the keys `serial`, `denom` (dollars), `issued`, `owner` and perhaps `coowner`."""
-        return self._act("/bonds", {"bonds": [bond_of(bond) for bond in list_of(bonds, MOST_ROWS, "bonds")]}, bookmark, key, Added)
+    def add_bonds(self, bonds: ListOf[Union[Bond, Mapping[str, Any]]], *, bookmark: Any = None, key: Optional[str] = None, even_so: bool = False) -> Added:
+        """Registers up to 500 bonds: Bond, or mappings with the keys `serial`, `denom` (dollars), `issued`, `owner` and perhaps `coowner`.
 
-    def open_day(self, day: DayLike, *, bookmark: Any = None, key: Optional[str] = None) -> Opened:
-        """Opens a day. Refused as DayOpen or DayNotLater."""
-        return self._act("/day/open", {"day": day_of(day)}, bookmark, key, Opened)
+        Raises Implausible for a letter that doesn't fit the denomination, or an issue month after 2011-12, unless `even_so`."""
+        fields = {"bonds": [bond_of(bond) for bond in list_of(bonds, MOST_ROWS, "bonds")]}
+        return self._act("/bonds", fields, bookmark, key, Added, is_questioned=not even_so)
+
+    def open_day(self, day: DayLike, *, bookmark: Any = None, key: Optional[str] = None, even_so: bool = False) -> Opened:
+        """Opens a day. Refused as DayOpen or DayNotLater.
+
+        Raises Implausible if the day is more than seven days from today, or after the last one that was opened, unless `even_so`."""
+        return self._act("/day/open", {"day": day_of(day)}, bookmark, key, Opened, is_questioned=not even_so)
 
     def close_day(self, day: DayLike, *, bookmark: Any = None, key: Optional[str] = None) -> Batch:
         """Closes the open day, and returns its batch. Refused as NoOpenDay or DayIsOther."""
@@ -174,7 +180,7 @@ class Counter(Lookups):
             kept = {**still, "reason": reason, "time": now}
             self._journal.change(open=None, abandoned=[*self._journal.record["abandoned"], kept])
             given_up = abandoned_of(self._journal, kept)
-            LOG.warning("%s was given up (%s): %s", given_up.request, reason, given_up.outcome)
+            LOG.warning("%s was given up (%s): %s", given_up.request, printable(reason), given_up.outcome)
             return given_up
 
     # The rules.
@@ -201,19 +207,37 @@ class Counter(Lookups):
         if os.getpid() != self._process:
             raise Closed(f"the counter belongs to process {self._process}, and not to the one that was forked from it: open one of its own, on another journal")
 
-    def _act(self, path: str, fields: Json, bookmark: Any, key: Optional[str], kind: Type[Kind], final: Tuple[Type[CounterError], ...] = ()) -> Kind:
-        """Sends a new request, or the same one that is still open, until its reply has come. An error of the set-up that is `final` ends it whenever it comes."""
+    def _act(
+        self, path: str, fields: Json, bookmark: Any, key: Optional[str], kind: Type[Kind], final: Tuple[Type[CounterError], ...] = (), is_questioned: bool = False
+    ) -> Kind:
+        """Sends a new request, or the same one that is still open, until its reply has come. An error of the set-up that is `final` ends it whenever it comes. A new
+        request that `is_questioned` has to be plausible."""
         key, bookmark = key_of(key), bookmark_of(bookmark)
         with self._turn() as deadline:
             self._journal.mend()
             result = self._kept(path, fields, key)
             if result is None:
+                is_questioned = is_questioned and not self._is_open(path, fields, key)
+                if is_questioned:
+                    question(doubts_of(path, fields))
                 self._finish_other(path, fields, key, deadline)
                 self._try_the_way(deadline)
+                if is_questioned and path == "/day/open":
+                    self._question_gap(fields["day"], deadline)
                 self._opened(path, fields, bookmark, key)
                 result = self._settled(deadline, final)
             assert isinstance(result, kind)
             return result
+
+    def _question_gap(self, day: str, deadline: Deadline) -> None:
+        """Raises Implausible if none of the seven days before was closed, and the counter has a ticket: its last day is longer ago. No look-up names the last day."""
+        try:
+            is_near = any(self._asked_within(deadline, f"/batch/{before}", batch_in) for before in days_before(day))
+            if not is_near and self._asked_within(deadline, "/ticket/1", ticket_in) is not None:
+                raise Implausible([f"{day} is more than {MOST_DAYS} days after the last day that was opened: none of the {MOST_DAYS} days before it has a batch"])
+        except SignInRefused:
+            self._signed_out = time.monotonic()
+            raise
 
     def _kept(self, path: str, fields: Json, key: Optional[str]) -> Optional[Result]:
         """The result of a key whose request has its reply. None if there is none."""
@@ -224,10 +248,15 @@ class Counter(Lookups):
             raise KeyReused(key, kept.number)
         return result_of(Request(self.desk, kept.number, kept.path, kept.fields, 0, key), kept.reply)
 
+    def _is_open(self, path: str, fields: Json, key: Optional[str]) -> bool:
+        """Whether the open request is this one."""
+        still = self._journal.record["open"]
+        return still is not None and (still["path"], still["fields"], still.get("key")) == (path, fields, key)
+
     def _finish_other(self, path: str, fields: Json, key: Optional[str], deadline: Deadline) -> None:
         """Finishes another open request that has a key, as an earlier run left it: its own call then finds its reply. StillOpen if it has none."""
         still = self._journal.record["open"]
-        if still is None or (still["path"], still["fields"], still.get("key")) == (path, fields, key):
+        if still is None or self._is_open(path, fields, key):
             return
         request = self._journal.request_of(still)
         if request.key is None:
@@ -332,6 +361,14 @@ class Counter(Lookups):
             self._journal.keys.add(request["key"], request, answer.value)
         self._journal.change(**self._journal.with_reply(request, answer.value))
         return result_of(self._journal.request_of(request), answer.value)
+
+
+def doubts_of(path: str, fields: Json) -> Iterator[str]:
+    """Yields what is implausible about a request, as far as its fields tell."""
+    for bond in fields.get("bonds", ()):
+        yield from doubts_of_bond(bond)
+    if path == "/day/open":
+        yield from doubts_of_day(fields["day"])
 
 
 def bookmark_of(value: Any) -> Any:

@@ -2,7 +2,7 @@
 
     CounterError
       BadCall          the program or its data must be corrected; nothing was changed
-        BadValue, BadFile, KeyReused, Closed, Fault
+        BadValue, BadFile, Implausible, Incomplete, KeyReused, Closed, Fault
       WrongSetup       a person must correct the set-up
         UnknownHost, UntrustedCertificate, SignInRefused, Forbidden, ForeignAnswer, BadJournal, BadArchive, FileFailed
       Retryable        nothing was changed; the same call may succeed later
@@ -10,16 +10,16 @@
       UnknownOutcome   a request may have been done, and has no reply yet
         NoReply, StillOpen
       Refused          the counter refused the request; nothing was changed
-        AlreadyPaid, NotPayee, UnknownSerial, .. : one class for each code
+        AlreadyPaid, NotPayee, UnknownSerial, .. : one class for every code
 
-Two attributes of each error say the same to a program that doesn't know the class: `retryable`, and `may_be_done`.
+Two attributes of every error say the same to a program that doesn't know the class: `retryable`, and `may_be_done`.
 """
 from __future__ import annotations
 
-from typing import TYPE_CHECKING, Any, Dict, Mapping, Optional, Tuple, Type
+from typing import TYPE_CHECKING, Any, Dict, Mapping, Optional, Sequence, Tuple, Type
 
 if TYPE_CHECKING:
-    from .results import Request
+    from .results import Interest, Request
 
 
 class CounterError(Exception):
@@ -29,6 +29,10 @@ class CounterError(Exception):
     retryable: bool = False
     #: Whether a request that this call was to finish may have taken effect. If so, the journal keeps it open.
     may_be_done: bool = False
+
+    def __str__(self) -> str:
+        """The text. Control characters of what it quotes are escaped."""
+        return printable(super().__str__())
 
     def __reduce__(self) -> Tuple[Any, ...]:
         """Lets it be pickled, as for another process: a class made of its text, and its attributes."""
@@ -40,9 +44,14 @@ def unpickled(kind: Type[CounterError], args: Tuple[Any, ...]) -> CounterError:
     return kind.__new__(kind, *args)
 
 
+def printable(text: str) -> str:
+    """A text as it may stand in a message or a log: control characters are escaped."""
+    return "".join(sign if sign.isprintable() else sign.encode("unicode_escape").decode() for sign in text)
+
+
 def shown(text: str) -> str:
-    """A text of another program, as it may stand in a message or a log: without control characters, of 200 characters at most."""
-    return "".join(sign if sign.isprintable() else sign.encode("unicode_escape").decode() for sign in text[:200])
+    """A text of another program, as it may stand in a message or a log: of 200 characters at most."""
+    return printable(text[:200])
 
 
 def in_file(line: Optional[int], rows: Optional[Tuple[int, int]]) -> str:
@@ -67,6 +76,32 @@ class BadFile(BadCall):
     def __init__(self, row: int, fault: str) -> None:
         super().__init__(f"row {row}: {fault}")
         self.row, self.fault = row, fault
+
+
+#: How many sentences an error's text has.
+MOST_SENTENCES = 5
+
+
+def in_one(sentences: Sequence[str]) -> str:
+    """The first of several sentences, and how many more there are."""
+    more = len(sentences) - MOST_SENTENCES
+    return "; ".join(sentences[:MOST_SENTENCES]) + (f"; and {more:,} more" if more > 0 else "")
+
+
+class Implausible(BadCall):
+    """The counter would take it, and it isn't plausible. `doubts` has a sentence for every bond or day. Nothing was sent. The same call with `even_so=True` sends it."""
+
+    def __init__(self, doubts: Sequence[str]) -> None:
+        super().__init__(in_one(doubts))
+        self.doubts = tuple(doubts)
+
+
+class Incomplete(BadCall):
+    """The interest can't be given whole. `missing` has a sentence for what is missing, and `interest` is what there is, with empty cells for what is missing."""
+
+    def __init__(self, interest: "Interest") -> None:
+        super().__init__(in_one(interest.missing))
+        self.interest, self.missing = interest, interest.missing
 
 
 class KeyReused(BadCall):
@@ -325,7 +360,7 @@ class NotEligible(OfSerial):
     """Code 54: the bond is younger than 12 months."""
 
 
-#: The class of each code.
+#: The class of every code.
 REFUSALS: Dict[int, Type[Refused]] = {
     11: Empty,
     12: TooMany,

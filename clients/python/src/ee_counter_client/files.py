@@ -4,13 +4,13 @@ from __future__ import annotations
 import csv
 import hashlib
 import logging
-import os
-from typing import Any, Callable, Dict, Iterator, List, NamedTuple, Optional, Sequence, Union
+from typing import Any, Callable, Dict, Iterator, List, NamedTuple, Optional, Sequence
 
 from .answers import compact
 from .counter import Counter
 from .errors import BadFile, BadValue, Fault, Refused, SignInRefused
 from .lookups import Path, path_of
+from .plausible import doubts_of_bond, question
 from .results import Added
 from .spelling import MOST_ROWS, Json, bond_of, rate_row_of, serial_of
 
@@ -26,7 +26,7 @@ class Registered(NamedTuple):
 
 
 def records_of(path: Path, headers: Sequence[List[str]]) -> List[List[str]]:
-    """Reads the records of a CSV file, the header first. Each has a field for each column."""
+    """Reads the records of a CSV file, the header first. Each has a field for every column."""
     name = path_of(path, "a file")
     try:
         with open(name, encoding="utf-8-sig", newline="") as file:
@@ -59,7 +59,7 @@ def rates_in(path: Path) -> List[Json]:
 
 
 def bonds_in(path: Path) -> List[Json]:
-    """Reads the bonds of an inventory, with each serial number once."""
+    """Reads the bonds of an inventory, with every serial number once."""
     bonds = rows_of(path, [["serial", "denom", "issued", "owner", "coowner"]], bond_of)
     seen: Dict[str, int] = {}
     for row, bond in enumerate(bonds, 2):
@@ -70,7 +70,7 @@ def bonds_in(path: Path) -> List[Json]:
 
 
 def digests(rows: Sequence[Json]) -> Iterator[str]:
-    """Yields the digest of each front of the rows, from none to all."""
+    """Yields the digest of every front of the rows, from none to all."""
     digest = hashlib.sha256()
     yield digest.hexdigest()
     for row in rows:
@@ -85,12 +85,14 @@ def place_in(marks: Sequence[str], bookmark: Any) -> int:
     return int(bookmark["registered"]) if marks[bookmark["registered"]] == bookmark["digest"] else 0
 
 
-def register(counter: Counter, path: Path, progress: Callable[[int, int], None] = lambda done, of: None) -> Registered:
+def register(counter: Counter, path: Path, progress: Callable[[int, int], None] = lambda done, of: None, *, even_so: bool = False) -> Registered:
     """Registers the bonds of an inventory file in requests of 500, and continues where an earlier call was stopped. `progress` is called with the rows that are done,
-    and with all rows. A refusal names the rows of its request (`rows`), and the line of the bond (`line`). A password that isn't accepted ends it at once, also after a
-    good exchange: sent again and again, it would lock this address out."""
+    and with all rows. Raises Implausible, before a row is sent, for rows as Counter.add_bonds does, unless `even_so`. A refusal names the rows of its request (`rows`),
+    and the line of the bond (`line`). A password that isn't accepted ends it at once, also after a good exchange: sent again and again, it would lock this address out."""
     bonds = bonds_in(path)
     marks = list(digests(bonds))
+    if not even_so:
+        question(doubts_in(bonds, sent_of(counter, bonds, marks)))
     finish_other(counter, bonds, marks)
     begun = place = place_in(marks, counter.bookmark)
     new = same = 0
@@ -107,6 +109,21 @@ def register(counter: Counter, path: Path, progress: Callable[[int, int], None] 
         new, same, place = new + added.new, same + added.same, end
         progress(place, len(bonds))
     return Registered(new, same, begun)
+
+
+def sent_of(counter: Counter, bonds: Sequence[Json], marks: Sequence[str]) -> int:
+    """Counts the rows that an earlier run has sent: those that are done, and those of an open request."""
+    place = place_in(marks, counter.bookmark)
+    request = counter.open_request
+    rows = bonds[place : place + MOST_ROWS]
+    return place + len(rows) if request is not None and (request.path, request.fields) == ("/bonds", {"bonds": rows}) else place
+
+
+def doubts_in(bonds: Sequence[Json], sent: int) -> Iterator[str]:
+    """Yields what is implausible about the rows that are yet to be sent."""
+    for row, bond in enumerate(bonds[sent:], sent + 2):
+        for doubt in doubts_of_bond(bond):
+            yield f"row {row}: {doubt}"
 
 
 def line_of(path: Path, serial: object) -> Optional[int]:

@@ -16,7 +16,7 @@ from .spelling import Json, whole
 #: The names of a journal's record. Earlier journals have the first five.
 EARLIER = {"desk", "next", "open", "last", "bookmark"}
 NAMES = {*EARLIER, "abandoned", "keyed"}
-#: What each request in it has. One that was made by this version has a "key" too.
+#: What every request in it has. One that was made by this version has a "key" too.
 REQUEST = {"number", "sent", "path", "fields", "bookmark"}
 
 
@@ -29,7 +29,7 @@ def is_record(record: object) -> bool:
 
 
 class Journal:
-    """The file of a desk's numbers. Each change is a new file, which is whole on the disk before it takes the old one's name.
+    """The file of a desk's numbers. Every change is a new file, which is whole on the disk before it takes the old one's name.
 
     The path is resolved first, so that two paths to one journal have one lock. A journal with two names (a hard link) is refused: a change would part them.
 

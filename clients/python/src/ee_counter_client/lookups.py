@@ -9,7 +9,7 @@ import time
 from typing import Any, Iterator, Optional, Union
 
 from .answers import NOT_FOUND, Answer, Reader, batch_in, compact, error_of, is_good, is_of_one_sending, row_in, ticket_in, with_its
-from .errors import BadValue, CounterError, NoAnswer, NoReply, SignInRefused, refusal_of
+from .errors import BadValue, CounterError, NoAnswer, NoReply, SignInRefused, refusal_of, shown
 from .results import Batch, Request, Row, Sheet, Ticket, batch_of, row_of, ticket_of
 from .sheets import sheet_in
 from .spelling import MOST_NUMBER, DayLike, Json, MonthLike, customer_of, day_of, denom_of, issue_of, month_of, seconds_of, whole
@@ -37,7 +37,7 @@ class Trials:
     def failed(self, answer: Answer) -> None:
         """Counts a sending that failed."""
         self.failures += 1
-        self.met = answer.met or f"{answer.value['fault']} (code {answer.value['code']})"
+        self.met = answer.met or f"{shown(answer.value['fault'])} (code {answer.value['code']})"
 
     def pause(self) -> bool:
         """Waits after a sending that failed. Returns whether there is time for another one."""
@@ -117,25 +117,29 @@ class Lookups:
         return answer
 
     def _asked(self, path: str, read: Reader) -> Any:
-        """Asks until an answer has come. None if there is no such thing. A password that isn't accepted ends it at once: each attempt counts with a proxy that locks out."""
+        """Asks until an answer has come. None if there is no such thing."""
         with self._turn() as deadline:
-            trials = Trials(deadline)
-            while True:
-                answer = self._exchanged("GET", path, None, read, deadline)
-                if answer.kind == "reply":
-                    return answer.value
-                if answer.kind == "refused":
-                    raise refusal_of(answer.value)
-                if answer.kind == "fault" and answer.value["code"] == NOT_FOUND:
-                    return None
-                if is_of_one_sending(answer):
-                    raise error_of(answer, path)
-                if answer.setup is not None and (not self._is_known or isinstance(answer.setup, SignInRefused)):
-                    raise answer.setup
-                trials.failed(answer)
-                LOG.warning("no reply: %s", trials.met)
-                if not trials.pause():
-                    raise trials.over(None)
+            return self._asked_within(deadline, path, read)
+
+    def _asked_within(self, deadline: Deadline, path: str, read: Reader) -> Any:
+        """As `_asked`, in the turn of a call. A password that isn't accepted ends it at once: every attempt counts with a proxy that locks out."""
+        trials = Trials(deadline)
+        while True:
+            answer = self._exchanged("GET", path, None, read, deadline)
+            if answer.kind == "reply":
+                return answer.value
+            if answer.kind == "refused":
+                raise refusal_of(answer.value)
+            if answer.kind == "fault" and answer.value["code"] == NOT_FOUND:
+                return None
+            if is_of_one_sending(answer):
+                raise error_of(answer, path)
+            if answer.setup is not None and (not self._is_known or isinstance(answer.setup, SignInRefused)):
+                raise answer.setup
+            trials.failed(answer)
+            LOG.warning("no reply: %s", trials.met)
+            if not trials.pause():
+                raise trials.over(None)
 
 
 def path_of(value: object, name: str) -> str:

@@ -22,11 +22,11 @@ MOST_DESKS = 1000
 class Pool:
     """Several desks of one process. Its calls are those of a Counter; each takes a desk that is free, and waits if none is.
 
-    `folder` gets a journal for each desk, desk10.journal and so on. The other options are those of a Counter.
-    With `archive=True` each desk has an archive beside its journal. Let no other program use these desks.
+    `folder` gets a journal for every desk, desk10.journal and so on. The other options are those of a Counter.
+    With `archive=True` every desk has an archive beside its journal. Let no other program use these desks.
 
     A call with a `key` goes to the desk that knows the key, whichever worker makes it. A request that was left open by an earlier run, or by a call whose patience
-    ended, is finished before its desk takes another one. So give each request a key: the same call then finds its own reply.
+    ended, is finished before its desk takes another one. So give every request a key: the same call then finds its own reply.
 
     Raises the errors of a Counter; JournalInUse if another process has one of the journals."""
 
@@ -46,7 +46,7 @@ class Pool:
         path = path_of(folder, "a folder")
         numbers = [whole(desk, 0, 999, "a desk") for desk in list_of(desks, MOST_DESKS, "desks")]
         if len(set(numbers)) != len(numbers):
-            raise BadValue(f"each desk is named once, and not {numbers!r}")
+            raise BadValue(f"every desk is named once, and not {numbers!r}")
         self._patience = None if patience is None else seconds_of(patience, "patience")
         self._counters: List[Counter] = []
         self._changed, self._taken, self._is_closed = threading.Condition(), set[int](), False
@@ -167,15 +167,15 @@ class Pool:
         with self.desk(key) as counter:
             return counter.add_rates(rates, key=key)
 
-    def add_bonds(self, bonds: ListOf[Union[Bond, Mapping[str, Any]]], *, key: Optional[str] = None) -> Added:
+    def add_bonds(self, bonds: ListOf[Union[Bond, Mapping[str, Any]]], *, key: Optional[str] = None, even_so: bool = False) -> Added:
         """Registers up to 500 bonds, as Counter.add_bonds does."""
         with self.desk(key) as counter:
-            return counter.add_bonds(bonds, key=key)
+            return counter.add_bonds(bonds, key=key, even_so=even_so)
 
-    def open_day(self, day: DayLike, *, key: Optional[str] = None) -> Opened:
+    def open_day(self, day: DayLike, *, key: Optional[str] = None, even_so: bool = False) -> Opened:
         """Opens a day, as Counter.open_day does."""
         with self.desk(key) as counter:
-            return counter.open_day(day, key=key)
+            return counter.open_day(day, key=key, even_so=even_so)
 
     def close_day(self, day: DayLike, *, key: Optional[str] = None) -> Batch:
         """Closes the open day, as Counter.close_day does."""

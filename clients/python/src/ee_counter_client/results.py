@@ -116,6 +116,33 @@ class Sheet:
     text: str = field(default="", repr=False, compare=False)
 
 
+@dataclass(frozen=True)
+class Paid:
+    """A bond that was paid, with its interest: its value without its price. Money is in dollars. None stands for what isn't known."""
+
+    day: datetime.date
+    ticket: int
+    payee: int
+    serial: str
+    denom: Optional[int]
+    issued: Optional[Month]
+    price: Optional[Decimal]
+    interest: Optional[Decimal]
+    value: Decimal
+
+
+@dataclass(frozen=True)
+class Interest:
+    """The interest of paid bonds, with their sums in dollars. `text` is the CSV. `missing` is empty: otherwise it comes with Incomplete."""
+
+    rows: Tuple[Paid, ...]
+    price: Decimal
+    interest: Decimal
+    value: Decimal
+    missing: Tuple[str, ...] = ()
+    text: str = field(default="", repr=False, compare=False)
+
+
 Result = Union[Ticket, Batch, Opened, Added]
 
 

@@ -1,4 +1,4 @@
-"""Spellings of values. Each function returns the printed spelling, or raises BadValue. The ranges are those of docs/FORMATS.md, "Spellings that are read"."""
+"""Spellings of values. Every function returns the printed spelling, or raises BadValue. The ranges are those of docs/FORMATS.md, "Spellings that are read"."""
 from __future__ import annotations
 
 import datetime

@@ -8,7 +8,7 @@
         ticket = counter.redeem("2012-02-06", 7, ["L1EE"])
         assert ticket.request.sent == 2 and fake.tickets == 1
 
-The fake counter is no bank's books: it pays each bond its issue price, without interest, unless a test gives it values.
+The fake counter is no bank's books: it pays every bond its issue price, without interest, unless a test gives it values.
 """
 from .fake import FakeCounter
 from .gate import AFTER, BEFORE, FAULTS, OF_ONE_SENDING, Gate

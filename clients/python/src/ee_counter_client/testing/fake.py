@@ -1,6 +1,6 @@
 """A small counter in memory, over HTTP, for the tests of a program that uses this package.
 
-It answers as the counter does: the same routes, texts, refusals in their order, and one reply to each request number. What differs:
+It answers as the counter does: the same routes, texts, refusals in their order, and one reply to every request number. What differs:
 
 - Values are those of rates of 0.00 %, whatever rates are entered: a bond pays its issue price (half of its denomination), and from 20 years on its denomination.
   `values` gives bonds other values.
@@ -375,7 +375,7 @@ def number_in(value: object, least: int, most: int) -> int:
 
 
 def rows_in(read: Callable[[object], Any]) -> Callable[[object], List[Any]]:
-    """Reads each row of a JSON list."""
+    """Reads every row of a JSON list."""
 
     def rows(values: object) -> List[Any]:
         if not isinstance(values, list):

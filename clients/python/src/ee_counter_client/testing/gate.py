@@ -17,7 +17,7 @@ A fault is done to the next POST:
   no password     the message is dropped, and 401 is answered, as by a proxy that doesn't know the user
   damaged         the message is dropped, and answered as one that was cut
   silent          the counter has committed, and no answer comes until the client goes
-  dripping        the counter has committed, and its answer comes a byte in each `drip` seconds
+  dripping        the counter has committed, and its answer comes a byte in every `drip` seconds
 
 Two more answer one sending alone. They are final on the first sending of a request, and tell nothing on a later one:
 
@@ -127,7 +127,7 @@ class Gate:
         self.listener.close()
 
     def listen(self) -> None:
-        """Takes each connection, until it is closed."""
+        """Takes every connection, until it is closed."""
         while True:
             try:
                 client, _ = self.listener.accept()
