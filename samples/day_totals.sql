@@ -1,4 +1,4 @@
--- What each day paid, from its tickets and their lines, beside the batch that settled it. Run: sqlite3 day.db < samples/day_totals.sql
+-- What every day paid, from its tickets and their lines, beside the batch that settled it. Run: sqlite3 day.db < samples/day_totals.sql
 .mode column
 .headers on
 SELECT date(t.day * 86400, 'unixepoch') AS day,

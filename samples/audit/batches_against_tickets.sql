@@ -1,4 +1,4 @@
--- Each day's batch beside what its tickets and their lines add up to. Run: sqlite3 -readonly day-copy.db < samples/audit/batches_against_tickets.sql
+-- Every day's batch, and what its tickets and their lines add up to. Run: sqlite3 -readonly day-copy.db < samples/audit/batches_against_tickets.sql
 -- The column `agree` says `yes`, `open` for the day that has no batch yet, or `NO`.
 .mode column
 .headers on

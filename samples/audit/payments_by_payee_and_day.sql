@@ -1,4 +1,4 @@
--- What each payee was paid on each day, bond by bond. Run: sqlite3 -readonly day-copy.db < samples/audit/payments_by_payee_and_day.sql
+-- All payments by payee and day, bond by bond. Run: sqlite3 -readonly day-copy.db < samples/audit/payments_by_payee_and_day.sql
 .mode column
 .headers on
 SELECT t.payee,

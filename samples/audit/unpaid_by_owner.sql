@@ -1,4 +1,4 @@
--- Each owner's unpaid bonds, as many as there are of each denomination and issue month. Run: sqlite3 -readonly day-copy.db < samples/audit/unpaid_by_owner.sql
+-- Every owner's unpaid bonds, as many as there are of every denomination and issue month. Run: sqlite3 -readonly day-copy.db < samples/audit/unpaid_by_owner.sql
 .mode column
 .headers on
 SELECT owner,

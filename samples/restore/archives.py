@@ -1,4 +1,4 @@
-"""The archive of requests, as docs/FORMATS.md has it: reading and testing it, and reading a store without touching it.
+"""The archive of requests, as README.md has it: reading and testing it, and reading a store without touching it.
 
 The scripts beside this module share it. It needs Python's standard library alone, on Linux."""
 import collections
@@ -15,7 +15,7 @@ import sqlite3
 import struct
 import subprocess
 import tempfile
-from typing import Any, ContextManager, Dict, Iterator, List, NamedTuple, Optional, Sequence, Tuple
+from typing import IO, Any, ContextManager, Dict, Iterator, List, NamedTuple, Optional, Sequence, Tuple, TypedDict
 
 LINES, END, FIRST = "requests.jsonl", "end.json", "first.db"
 #: The two files of a copy of a store: the key of each one's checksum in an archive's first line, and the end of its name.
@@ -56,6 +56,25 @@ class Request(NamedTuple):
     time: str = ""
 
 
+class Head(TypedDict):
+    """The first line of an archive. `first` has the checksums of the two files of its first copy, if it has one."""
+
+    archive: int
+    of: str
+    id: str
+    time: str
+    row: int
+    first: Optional[Dict[str, Optional[str]]]
+
+
+class End(TypedDict):
+    """What an end.json says: the last row, the checksum of its line, and until when the store was seen."""
+
+    row: int
+    checksum: str
+    time: str
+
+
 def now() -> str:
     return datetime.datetime.now(datetime.timezone.utc).strftime("%Y-%m-%dT%H:%M:%S.%f")[:-3] + "Z"
 
@@ -64,7 +83,7 @@ def checksum(line: bytes) -> str:
     return hashlib.sha256(line).hexdigest()
 
 
-def compact(value: Any) -> str:
+def compact(value: object) -> str:
     return json.dumps(value, separators=(",", ":"))
 
 
@@ -116,7 +135,7 @@ def sync_folder(folder: str) -> None:
 
 
 @contextlib.contextmanager
-def replacing(path: str) -> Iterator[Any]:
+def replacing(path: str) -> Iterator[IO[bytes]]:
     """A new file, which is whole on the disk before it takes the place of the old one. Until then its name ends with `.new`."""
     with open(path + ".new", "wb") as file:
         yield file
@@ -126,7 +145,7 @@ def replacing(path: str) -> Iterator[Any]:
     sync_folder(os.path.dirname(path) or ".")
 
 
-def copied(source: ContextManager[Any], target: str) -> str:
+def copied(source: ContextManager[IO[bytes]], target: str) -> str:
     """Copies a file that is read from, whole, and returns its checksum."""
     with source as read, replacing(target) as write:
         shutil.copyfileobj(read, write, BLOCK)
@@ -145,9 +164,9 @@ def is_begun(folder: str) -> bool:
     return LINES in names
 
 
-def head_in(line: bytes, where: str) -> Dict[str, Any]:
+def head_in(line: bytes, where: str) -> Head:
     try:
-        head = json.loads(line)
+        head: Head = json.loads(line)
         is_head = list(head) == ["archive", "of", "id", "time", "row", "first"] and head["archive"] == 1 and head["of"] == "store"
     except UNREADABLE:
         is_head = False
@@ -156,10 +175,9 @@ def head_in(line: bytes, where: str) -> Dict[str, Any]:
     return head
 
 
-def end_in(text: str, where: str) -> Dict[str, Any]:
-    """What an end.json says: the last row, the checksum of its line, and until when the store was seen."""
+def end_in(text: str, where: str) -> End:
     try:
-        end = json.loads(text)
+        end: End = json.loads(text)
         end["row"] + 0, end["checksum"] + "", end["time"] + ""
     except UNREADABLE:
         raise BadArchive(f"{where} is missing, or says nothing") from None
@@ -170,6 +188,13 @@ class Archive:
     """An archive in its folder. `head` is its first line, and `end` what end.json says: how far the archive reached when it was last written. As its lines are read,
     `last_row` and `last_checksum` become those of the last whole line, `sealed` and `whole` the bytes up to the line of `end` and up to the last whole one, and `cut`
     the bytes that stand behind it."""
+
+    last_row: int
+    last_checksum: str
+    sealed: Optional[int]
+    whole: int
+    cut: bytes
+    tail: List[Request]
 
     def __init__(self, folder: str) -> None:
         self.folder, self.path = folder, os.path.join(folder, LINES)
@@ -191,8 +216,10 @@ class Archive:
             raise FileNotFoundError(f"{folder} is away")
 
     def checked(self, marks: Optional[Marks] = None, near_end: bool = False) -> Iterator[Request]:
-        """Yields the request of each line, or of the last lines, and tests the chain. `marks` gets the checksum of each row that it names."""
-        before, row, marks = checksum(self.head_line[:-1]), self.head["row"], {} if marks is None else marks
+        """Yields the request of every line, or of the last lines, and tests the chain. `marks` gets the checksum of every row that it names."""
+        before: Optional[str] = checksum(self.head_line[:-1])
+        row: Optional[int] = self.head["row"]
+        marks = {} if marks is None else marks
         self.sealed, self.cut = None, b""
         with open(self.path, "rb") as file:
             at = len(file.readline())
@@ -207,12 +234,12 @@ class Archive:
                     self.cut = line
                     break
                 named, request = request_in(line[:-1])
-                if request is None or (before is not None and (named != before or request.row != row + 1)):
+                if request is None or (row is not None and before is not None and (named != before or request.row != row + 1)):
                     raise BadArchive(f"{self.folder}: the line behind {'byte ' + str(at) if row is None else 'row ' + str(row)} isn't the one that was written")
                 before, row, at = checksum(line[:-1]), request.row, at + len(line)
                 self.mark(marks, row, before, at)
                 yield request
-        if row is None:
+        if row is None or before is None:
             yield from self.checked(marks)
             return
         self.last_row, self.last_checksum, self.whole = row, before, at
@@ -228,7 +255,7 @@ class Archive:
                 raise BadArchive(f"{self.folder}: row {row} isn't the one that {END} names")
 
     def check(self) -> None:
-        """Tests each line, and the first copy."""
+        """Tests every line, and the first copy."""
         for _ in self.checked():
             pass
         self.first()
@@ -269,6 +296,7 @@ class Archive:
 
     def cut_back(self) -> None:
         """Takes off what stands behind the line that end.json names, as a stop or a full disk leaves it. Its requests are archived again."""
+        assert self.sealed is not None  # `last` found it
         if os.path.getsize(self.path) > self.sealed:
             os.truncate(self.path, self.sealed)
         self.last_row, self.last_checksum, self.whole, self.cut = self.end["row"], self.end["checksum"], self.sealed, b""
@@ -307,10 +335,11 @@ class Source:
         self.end = end_in(text, os.path.join(folder, END))
 
     @contextlib.contextmanager
-    def read(self, name: str, start: int = 0) -> Iterator[Any]:
+    def read(self, name: str, start: int = 0) -> Iterator[IO[bytes]]:
         """The bytes of a file from `start` on. Raises OSError if the command failed."""
         words = ["tail", "-c", f"+{start + 1}", os.path.join(self.folder, name)]
         process = subprocess.Popen([*self.over, shlex.join(words)] if self.over else words, stdin=subprocess.DEVNULL, stdout=subprocess.PIPE)
+        assert process.stdout is not None
         try:
             yield process.stdout
             is_read = not process.stdout.read(1)
@@ -379,10 +408,10 @@ class Store:
         rows, most = self.ask("SELECT count(*), ifnull(max(rowid), 0) FROM answers")[0] if self.has_table("answers") else (0, 0)
         if rows != most:
             raise BadStore(f"the store has {rows} requests, and its last row is {most}")
-        return rows
+        return int(rows)
 
     def last(self) -> int:
-        return self.ask("SELECT ifnull(max(rowid), 0) FROM answers")[0][0] if self.has_table("answers") else 0
+        return int(self.ask("SELECT ifnull(max(rowid), 0) FROM answers")[0][0]) if self.has_table("answers") else 0
 
     def has_table(self, name: str) -> bool:
         tables = [table for (table,) in self.ask("SELECT name FROM sqlite_schema WHERE type = 'table'")]

@@ -1,4 +1,7 @@
-"""Sends messages to the program, one after the other, and takes each answer before the next is sent: by `apply`, or by `serve` in a network of its own."""
+"""Sends messages to the program, one after the other, and takes every answer before the next is sent: by `apply`, or by `serve` in a network of its own."""
+from __future__ import annotations
+
+import abc
 import contextlib
 import ctypes
 import fcntl
@@ -7,10 +10,11 @@ import socket
 import struct
 import subprocess
 import time
+from typing import IO, Iterator
 
 #: A connection has at most 1,000 messages.
 MOST_MESSAGES = 1000
-#: From how many requests on `serve` is worth a network of its own: each start of `apply` reads the whole store.
+#: From how many requests on `serve` is worth a network of its own: every start of `apply` reads the whole store.
 MANY = 5000
 NEW_USER, NEW_NETWORK = 0x10000000, 0x40000000
 GET_FLAGS, SET_FLAGS, UP = 0x8913, 0x8914, 1
@@ -21,7 +25,13 @@ class Failed(Exception):
     """The program failed, or doesn't start."""
 
 
-def body_length(head):
+def piped(pipe: IO[bytes] | None) -> IO[bytes]:
+    """The end of a pipe to a process that was started with one."""
+    assert pipe is not None
+    return pipe
+
+
+def body_length(head: bytes) -> int:
     for line in head.split(b"\r\n")[1:]:
         name, _, value = line.partition(b":")
         if name.lower() == b"content-length":
@@ -29,14 +39,43 @@ def body_length(head):
     raise Failed(f"an answer without a length: {head.decode(errors='replace')}")
 
 
-class Carrier:
+class Carrier(abc.ABC):
     """What both ways share: reading answers, and counting messages."""
 
-    def __init__(self, program, store):
-        self.program, self.store = program, store
-        self.process, self.messages, self.held = None, 0, b""
+    name: str
 
-    def answer(self, message):
+    def __init__(self, program: str, store: str) -> None:
+        self.program, self.store = program, store
+        self.process: subprocess.Popen[bytes] | None = None
+        self.messages, self.held = 0, b""
+
+    @abc.abstractmethod
+    def is_open(self) -> bool: ...
+
+    @abc.abstractmethod
+    def open(self) -> None: ...
+
+    @abc.abstractmethod
+    def send(self, message: bytes) -> None: ...
+
+    @abc.abstractmethod
+    def receive(self) -> bytes: ...
+
+    @abc.abstractmethod
+    def next_connection(self) -> None: ...
+
+    @abc.abstractmethod
+    def rest(self) -> None: ...
+
+    @abc.abstractmethod
+    def end(self) -> None: ...
+
+    def running(self) -> subprocess.Popen[bytes]:
+        """The program, which was started."""
+        assert self.process is not None
+        return self.process
+
+    def answer(self, message: bytes) -> tuple[int, str]:
         """Status and body of the answer to one message."""
         if self.messages == MOST_MESSAGES:
             self.next_connection()
@@ -58,13 +97,13 @@ class Carrier:
             raise Failed(f"the program answers {body}")
         return status, body
 
-    def more(self):
+    def more(self) -> None:
         piece = self.receive()
         if not piece:
             raise self.failure()
         self.held += piece
 
-    def failure(self):
+    def failure(self) -> Failed:
         """Ends the program, and says what it said."""
         process, self.process = self.process, None
         if process is None:
@@ -76,7 +115,7 @@ class Carrier:
             process.wait(5)
         except subprocess.TimeoutExpired:
             process.kill()
-        said = process.stderr.read().decode(errors="replace").strip()
+        said = piped(process.stderr).read().decode(errors="replace").strip()
         return Failed(f"the program ended with status {process.wait()}: {said or 'it said nothing'}")
 
 
@@ -85,33 +124,33 @@ class Applied(Carrier):
 
     name = "apply"
 
-    def is_open(self):
+    def is_open(self) -> bool:
         return self.process is not None
 
-    def open(self):
+    def open(self) -> None:
         self.messages = 0
         self.process = subprocess.Popen([self.program, "apply", "--db", self.store], stdin=subprocess.PIPE, stdout=subprocess.PIPE, stderr=subprocess.PIPE, bufsize=0)
 
-    def send(self, message):
-        self.process.stdin.write(message)
+    def send(self, message: bytes) -> None:
+        piped(self.running().stdin).write(message)
 
-    def receive(self):
-        return os.read(self.process.stdout.fileno(), 65536)
+    def receive(self) -> bytes:
+        return os.read(piped(self.running().stdout).fileno(), 65536)
 
-    def next_connection(self):
+    def next_connection(self) -> None:
         self.rest()
 
-    def rest(self):
+    def rest(self) -> None:
         """Ends the program, which writes the log back."""
         if self.process is not None:
-            self.process.stdin.close()
+            piped(self.process.stdin).close()
             if self.process.wait() != 0:
                 raise self.failure()
-            self.process.stdout.close()
-            self.process.stderr.close()
+            piped(self.process.stdout).close()
+            piped(self.process.stderr).close()
             self.process = None
 
-    def end(self):
+    def end(self) -> None:
         if self.process is not None:
             self.process.kill()
             self.process.wait()
@@ -122,14 +161,19 @@ class Served(Carrier):
 
     name = "serve in a network of its own"
 
-    def __init__(self, program, store):
+    def __init__(self, program: str, store: str) -> None:
         super().__init__(program, store)
-        self.client = None
+        self.client: socket.socket | None = None
 
-    def is_open(self):
+    def connection(self) -> socket.socket:
+        """The connection, which was opened."""
+        assert self.client is not None
+        return self.client
+
+    def is_open(self) -> bool:
         return self.client is not None
 
-    def open(self):
+    def open(self) -> None:
         if self.process is None:
             self.process = subprocess.Popen([self.program, "serve", "--db", self.store, "--port", str(PORT)], stdin=subprocess.DEVNULL, stdout=subprocess.DEVNULL, stderr=subprocess.PIPE)
         while self.client is None:
@@ -142,17 +186,17 @@ class Served(Carrier):
         self.client.setsockopt(socket.IPPROTO_TCP, socket.TCP_NODELAY, 1)
         self.messages = 0
 
-    def send(self, message):
-        self.client.sendall(message)
+    def send(self, message: bytes) -> None:
+        self.connection().sendall(message)
 
-    def receive(self):
-        return self.client.recv(65536)
+    def receive(self) -> bytes:
+        return self.connection().recv(65536)
 
-    def next_connection(self):
-        self.client.close()
+    def next_connection(self) -> None:
+        self.connection().close()
         self.client = None
 
-    def rest(self):
+    def rest(self) -> None:
         """Ends the program, and lets another one write the log back."""
         self.end()
         if os.path.exists(self.store):
@@ -160,17 +204,17 @@ class Served(Carrier):
             if ran.returncode != 0:
                 raise Failed(f"the program ended with status {ran.returncode}: {ran.stderr.decode(errors='replace').strip()}")
 
-    def end(self):
+    def end(self) -> None:
         if self.client is not None:
             self.next_connection()
         if self.process is not None:
             self.process.terminate()
             self.process.wait()
-            self.process.stderr.close()
+            piped(self.process.stderr).close()
             self.process = None
 
 
-def into_own_network():
+def into_own_network() -> None:
     """Brings this process into a network of its own, with its loopback up."""
     user, group = os.getuid(), os.getgid()
     is_root = user == 0
@@ -186,7 +230,7 @@ def into_own_network():
         fcntl.ioctl(any_socket, SET_FLAGS, struct.pack("16sh14x", b"lo", flags | UP))
 
 
-def way_for(by, requests):
+def way_for(by: str | None, requests: int) -> type[Carrier]:
     """The way that was asked for; or `serve` for many requests, if there can be a network for it."""
     if by == "apply" or (by is None and requests <= MANY):
         return Applied
@@ -200,7 +244,7 @@ def way_for(by, requests):
 
 
 @contextlib.contextmanager
-def carrier(program, store, by, requests):
+def carrier(program: str, store: str, by: str | None, requests: int) -> Iterator[Carrier]:
     carrying = way_for(by, requests)(program, store)
     try:
         yield carrying

@@ -1,10 +1,10 @@
-"""Requests from logs: what a proxy wrote of each POST (samples/nginx), and the archive of the Python client."""
+"""Requests from logs: what a proxy wrote of every POST (samples/nginx), and the archive of the Python client."""
 import bisect
 import datetime
 import gzip
 import json
 import re
-from typing import Any, Dict, List, NamedTuple, Optional, Tuple
+from typing import IO, Any, Dict, List, NamedTuple, Optional, Tuple
 
 from archives import SENT, UNREADABLE, BadArchive, checksum
 
@@ -53,7 +53,9 @@ def message(path: str, body: str) -> bytes:
 
 def body_of_act(desk: int, number: int, act: str) -> Tuple[str, str]:
     """Path and body that ask for a canonical act. The body is no longer than any other that asks for it."""
-    kind, rest = ACT.fullmatch(act).groups()
+    found_act = ACT.fullmatch(act)
+    assert found_act is not None
+    kind, rest = found_act.groups()
     if kind == "rates":
         rest = RATE.sub(lambda found: f'{found[1]}{found[2] or found[3] or ""}"', rest)
     named = f'"desk":{desk},' if desk else ""
@@ -67,8 +69,14 @@ def message_of_act(desk: int, number: int, act: str) -> bytes:
 # ---- reading
 
 
+def opened_log(path: str) -> IO[str]:
+    if path.endswith(".gz"):
+        return gzip.open(path, "rt", encoding="utf-8", errors="surrogateescape", newline="\n")
+    return open(path, encoding="utf-8", errors="surrogateescape", newline="\n")
+
+
 def lines_in(path: str) -> List[str]:
-    with (gzip.open if path.endswith(".gz") else open)(path, "rt", encoding="utf-8", errors="surrogateescape", newline="\n") as log:
+    with opened_log(path) as log:
         return log.read().split("\n")
 
 
@@ -147,7 +155,7 @@ def seconds_of(time: str) -> float:
 
 def of_proxy(path: str, lines: List[str], notes: List[str], cut: List[Tuple[str, str]]) -> List[Asked]:
     """The requests of a proxy's log that reached the counter. If an entry that the counter answered 200 or 409 can't be read as a request, the log
-    is refused: the store would lack what it did. `cut` gets each line that isn't whole, and where it stands."""
+    is refused: the store would lack what it did. `cut` gets every line that isn't whole, and where it stands."""
     found, others = [], 0
     for count, text in enumerate(lines, 1):
         entry: Any = None
@@ -220,8 +228,9 @@ def in_order(asked: List[Asked], next_ticket: int) -> Tuple[List[Asked], List[As
     """The answered requests in the order in which they act, and those without a reply. A request without a reply that a missing ticket must belong to is among the
     first."""
     answered = [(one, json.loads(one.reply) if one.reply else {}) for one in asked if one.status is not None]
-    placed = sorted(((place_of(reply), one) for one, reply in answered if place_of(reply)), key=lambda pair: pair[0])
-    times, tickets = [], {}
+    placed = sorted(((place, one) for one, reply in answered for place in [place_of(reply)] if place is not None), key=lambda pair: pair[0])
+    times: List[Tuple[float, int]] = []
+    tickets: Dict[int, int] = {}
     for index, (place, one) in enumerate(placed):
         times.append(max(one.when, times[-1] if times else one.when))
         if place[1] == 1:

@@ -1,4 +1,4 @@
-"""The tests of the tables alone: what docs/MODEL.md calls sound books, each part by SQL and by the
+"""The tests of the tables alone: what docs/MODEL.md calls sound books, every part by SQL and by the
 arithmetic of values.py. The kept requests are replayed in replay.py.
 
 A test takes the store and the findings that it adds to. `TESTS` has all of them in order."""
@@ -8,13 +8,15 @@ import itertools
 import operator
 import sqlite3
 import sys
-from typing import NamedTuple
+from typing import Callable, NamedTuple
 
 from . import texts, values
 from .findings import Findings
 from .store import FORMS, Store
 
 MOST_TICKETS_OF_A_DAY, MOST_BONDS_OF_A_TICKET = 1000, 100
+#: The columns that name a row.
+Key = tuple[int, ...]
 
 
 class Range(NamedTuple):
@@ -30,7 +32,7 @@ CUSTOMER, LETTER, SERIAL = Range(1, texts.LAST_CUSTOMER), Range(1, 26), Range(1,
 MONTH, RATE, SUM = Range(0, texts.LAST_ISSUE), Range(0, values.MOST_RATE), Range(0, texts.LAST_NUMBER)
 PLACE = Range(1, MOST_BONDS_OF_A_TICKET)
 
-# Of each table: the columns that name a row, and the range of each column.
+# Of every table: the columns that name a row, and the range of every column.
 RANGES = {
     "desk": (("id",), {"id": Range(1, 1), "version": Range(1, 2), "day": Range(*DAY[:2], True), "last_day": Range(*DAY[:2], True)}),
     "rates": (("period",), {"period": MONTH, "rate": RATE}),
@@ -43,10 +45,10 @@ RANGES = {
 }
 
 
-def name_of(table: str, key: tuple) -> str:
+def name_of(table: str, key: Key) -> str:
     """How a report names a row."""
     if table == "bonds":
-        return texts.serial_text(*key) if 1 <= key[0] <= 26 else f"letter {key[0]} number {key[1]}"
+        return texts.serial_text(key[0], key[1]) if 1 <= key[0] <= 26 else f"letter {key[0]} number {key[1]}"
     if table == "paid":
         return f"ticket {key[0]} place {key[1]}"
     if table in ("rates", "extensions", "named_extensions"):
@@ -74,11 +76,13 @@ def is_whole_file(store: Store, findings: Findings) -> None:
 
 
 def checksum_weights(words: int) -> tuple[list[int], list[int]]:
-    """By how much each word of a page counts in its two sums, modulo 2^32.
+    """By how much every word of a page counts in its two sums, modulo 2^32.
 
     SQLite's cksumvfs adds the words in turn: `s1 += word + s2`, then `s2 += word + s1`. So a word counts
     by a number that only its place decides."""
-    firsts, seconds, of_first, of_second = [], [], (1, 1), (0, 1)
+    firsts: list[int] = []
+    seconds: list[int] = []
+    of_first, of_second = (1, 1), (0, 1)
     for _ in range(words // 2):
         for weights, place in ((firsts, 0), (seconds, 1)):
             weights += [of_second[place], of_first[place]]
@@ -113,12 +117,14 @@ def page_checksums(store: Store, findings: Findings) -> None:
 
 
 def tables_are_those(store: Store, findings: Findings) -> None:
-    forms = FORMS.get(store.version, FORMS[2])
+    forms = FORMS[1 if store.version == 1 else 2]
     wanted = next((form for form in forms if form == store.statements), forms[0])
     findings.tested = len(wanted)
     for place, (found, right) in enumerate(itertools.zip_longest(store.statements, wanted), 1):
         findings.compare("sqlite_schema", f"statement {place}", "text", found, right)
     findings.compare("desk", "1", "rows", store.count("desk"), 1)
+    for mark in ("application_id", "user_version"):
+        findings.compare("file", "header", mark, store.one(f"PRAGMA {mark}")[0], 0)
 
 
 def values_are_in_range(store: Store, findings: Findings) -> None:
@@ -207,12 +213,12 @@ def payees_hold_the_bonds(store: Store, findings: Findings) -> None:
 
 
 def payments_are_the_values(store: Store, findings: Findings) -> None:
-    terms = {period: pair for period, *pair in store.rows("SELECT period, fixed, extension FROM terms")}
+    terms = {period: (fixed, extension) for period, fixed, extension in store.rows("SELECT period, fixed, extension FROM terms")}
     lines = "SELECT p.ticket, p.place, p.cents, t.day, b.denom, b.issued FROM paid AS p JOIN tickets AS t ON t.ticket = p.ticket JOIN bonds AS b ON b.letter = p.letter AND b.number = p.number"
     for ticket, place, cents, day, denomination, issued in store.rows(lines):
         findings.tested += 1
         age, pair = texts.month_of_day(day) - issued, terms.get(values.rate_period(issued))
-        wanted = None if pair is None else values.payable(denomination, age, tuple(pair))
+        wanted = None if pair is None else values.payable(denomination, age, pair)
         if cents != wanted:
             row = name_of("paid", (ticket, place))
             findings.differs("paid", row, f"cents at age {age}", texts.money(cents), "not payable" if wanted is None else texts.money(wanted))
@@ -248,33 +254,25 @@ def sums_are_conserved(store: Store, findings: Findings) -> None:
     findings.compare("batches", "all", "batches and the open day's tickets", texts.money(batches + today), texts.money(lines))
 
 
-def rates_are_those_announced(announced: dict[int, int], store: Store, findings: Findings) -> None:
-    """Each fixed rate is the one of a list that the auditor brings."""
-    for period, fixed in store.rows("SELECT period, rate FROM rates"):
-        findings.tested += 1
-        wanted = texts.rate_text(announced[period]) if period in announced else "no rate: the list has none"
-        findings.compare("rates", name_of("rates", (period,)), "rate", texts.rate_text(fixed), wanted)
-
-
 TESTS = (
     ("file", "The file is whole, as SQLite sees it", "FORMATS, The tables of a store", is_whole_file),
-    ("checksums", "Each page ends in its checksum", "FORMATS, The tables of a store", page_checksums),
+    ("checksums", "Every page ends in its checksum", "FORMATS, The tables of a store", page_checksums),
     ("tables", "The tables are those of the program, and the desk has its one row", "FORMATS, The tables of a store", tables_are_those),
-    ("ranges", "Each value is in its range", "FORMATS, Spellings that are read", values_are_in_range),
+    ("ranges", "Every value is in its range", "FORMATS, Spellings that are read", values_are_in_range),
     ("rates", "Rates stand at a May or November, and an extension differs from its fixed rate", "MODEL, Sound books; 31 CFR Part 351", rates_are_announced),
-    ("bonds", "Each bond has rates for its issue month, and a coowner is another customer", "MODEL, Sound books", bonds_have_terms),
+    ("bonds", "Every bond has rates for its issue month, and a coowner is another customer", "MODEL, Sound books", bonds_have_terms),
     ("tickets", "Tickets are numbered 1, 2, 3 and on, and their days never fall", "MODEL, Sound books", tickets_are_in_order),
-    ("lines", "Each ticket has as many bonds, and the total, as its lines", "MODEL, Sound books", tickets_are_their_lines),
-    ("once", "Each bond is paid once, and names the ticket that paid it", "MODEL, Paid pairs", bonds_are_paid_once),
-    ("payees", "Each bond was paid to its owner or its coowner", "MODEL, Refusals; 31 CFR Part 353", payees_hold_the_bonds),
-    ("values", "Each payment is the value of its bond in its month, 12 months after issue at the earliest", "MODEL, Value; 31 CFR Part 351", payments_are_the_values),
-    ("batches", "Each batch is the sums of its day's tickets and lines", "MODEL, Sound books", batches_are_their_tickets),
+    ("lines", "Every ticket has as many bonds, and the total, as its lines", "MODEL, Sound books", tickets_are_their_lines),
+    ("once", "Every bond is paid once, and names the ticket that paid it", "MODEL, Paid pairs", bonds_are_paid_once),
+    ("payees", "Every bond was paid to its owner or its coowner", "MODEL, Refusals; 31 CFR Part 353", payees_hold_the_bonds),
+    ("values", "Every payment is the value of its bond in its month, 12 months after issue at the earliest", "MODEL, Value; 31 CFR Part 351", payments_are_the_values),
+    ("batches", "Every batch is the sums of its day's tickets and lines", "MODEL, Sound books", batches_are_their_tickets),
     ("days", "The last closed day is the latest batch, and the open day is later", "MODEL, Sound books", days_follow),
     ("conservation", "All batches and the open day's tickets come to what was paid", "MODEL, Conservation", sums_are_conserved),
 )
 
 
-def ran(store: Store, name: str, title: str, source: str, test) -> Findings:
+def ran(store: Store, name: str, title: str, source: str, test: Callable[[Store, Findings], None]) -> Findings:
     """What one test found. A test that the store's rows stop is a difference too."""
     findings = Findings(name, title, source)
     try:

@@ -3,8 +3,11 @@ script and fetches nothing."""
 
 import html
 import json
+from typing import Literal, Sequence, TypedDict
 
 from . import pictures
+from .making import Report
+from .period import Figures, OfDay
 from .pictures import Bar
 
 MOST_DIFFERENCES, MOST_BARS, MOST_ROWS = 100, 40, 366
@@ -14,7 +17,7 @@ h1 { font-size: 1.6rem; line-height: 1.2; } h2 { font-size: 1.25rem; margin-top:
 table { border-collapse: collapse; } caption { text-align: left; font-weight: bold; padding: .3rem 0; }
 th, td { border-bottom: 1px solid #999; padding: .25rem 1.2rem .25rem 0; text-align: left; vertical-align: top; }
 td.s { white-space: nowrap; } td.n, th.n { text-align: right; font-variant-numeric: tabular-nums; white-space: nowrap; }
-.wide { overflow-x: auto; } code, .sum { overflow-wrap: anywhere; font-family: ui-monospace, monospace; font-size: .9em; }
+.wide { overflow-x: auto; } .wide + .wide { margin-top: 1rem; } code, .sum { overflow-wrap: anywhere; font-family: ui-monospace, monospace; font-size: .9em; }
 .good, .bad { border: 2px solid #111; padding: .6rem 1rem; font-weight: bold; } .good { border-color: #1b5e20; } .bad { border-color: #a10000; color: #a10000; }
 .pair { display: grid; gap: 0 2rem; grid-template-columns: repeat(auto-fit, minmax(min(17rem, 100%), 1fr)); align-items: start; } .pair > * { min-width: 0; }
 figure { margin: 0 0 1rem; max-width: 30rem; } figcaption { font-weight: bold; padding: .3rem 0; } svg { width: 100%; height: auto; }
@@ -24,32 +27,35 @@ small { color: #333; } @media (max-width: 30rem) { table { font-size: .8rem; } t
 @media print { body { max-width: none; font-size: 10pt; } h2, h3, caption { break-after: avoid; } tr, figure, .sign { break-inside: avoid; } .wide { overflow: visible; } }
 """
 
-NOT_SHOWN = (
-    "That a rate is Treasury's, that a bond is genuine, and that a payee is who they said: the store has what the bank entered.",
-    "That nothing is missing at the end: a store that was restored from an older copy stands for the requests up to that copy, and a bond that was paid later is unpaid in it.",
-    "That a change was made by the program, if all of it agrees: whoever rewrites a request, its reply, the books and what follows leaves nothing that differs. Compare the sums with those of earlier reports and copies.",
-    "Which desk and number a request had, and what a refused request asked for beyond what its refusal tells: the books don't depend on them. Only the checksums of the pages speak of them, and whoever wants to can write right ones.",
-    "How often a request was sent under its own number: it acts once, and a retry leaves no trace in the store.",
-)
+# What this can't show: always, and by what the store was compared with.
+ENTERED = "That a rate is Treasury's, that a bond is genuine, and that a payee is who they said: the store has what the bank entered."
+SENT_AGAIN = "How often a request was sent under its own number: it acts once, and a retry leaves no trace in the store."
+UNUSED = "The unused bytes of a page: no row has them, and the program doesn't read them."
+CONSISTENT = "taken out, added, moved or rewritten together with all that depends on it. Such a store is consistent, and so is one that was restored from an older copy."
+ALONE = f"That no request was {CONSISTENT} An archive of the requests shows it (--archive); an earlier report shows it for the requests that it had (--earlier)."
+SINCE = f"That no request since the earlier report was {CONSISTENT} An archive of the requests shows it (--archive)."
+BEHIND = "Requests after the end of the archive: the test archive names those rows in a remark, and nothing vouches for them."
+WRITTEN_ANEW = "That the archive is the one that was written: whoever can write its folder can make a right chain. Give the archive of a second machine too."
+SIGNED = "That the earlier report is the one that was signed: compare its sum with the signed page."
 
 
-def escaped(value) -> str:
+def escaped(value: object) -> str:
     return html.escape(str(value))
 
 
-def grouped_digits(value) -> str:
+def grouped_digits(value: object) -> str:
     """A number with a comma between thousands; a sum of money keeps its cents."""
     whole, point, rest = str(value).partition(".")
     return f"{int(whole):,}{point}{rest}"
 
 
-def kind_of(cell, is_number: bool) -> str:
+def kind_of(cell: object, is_number: bool) -> str:
     """The class of a cell: a number, a short word or date that stays on one line, or nothing."""
     is_short = len(str(cell)) <= 17 and "<" not in str(cell)
     return ' class="n"' if is_number else ' class="s"' if is_short else ""
 
 
-def table(caption: str, heads: list[str], rows: list[list], numbers: set[int]) -> str:
+def table(caption: str, heads: list[str], rows: Sequence[Sequence[object]], numbers: set[int]) -> str:
     """A table, or a line without rows; the columns whose places are in `numbers` hold numbers."""
     if not rows:
         return f"<p>{escaped(caption)}: none.</p>\n"
@@ -74,31 +80,31 @@ def dollars(money: str) -> int:
 # ---- what was tested
 
 
-def verdict(report: dict) -> str:
+def verdict(report: Report) -> str:
     tests, differing = report["tests"], report["differing"]
     told = f"{len(tests)} tests of {grouped_digits(report['tested'])} rows: {grouped_digits(differing)} differing."
     if differing:
-        names = ", ".join(test["name"] for test in tests if test["differing"])
-        return f'<p class="bad">{told} See the tests {escaped(names)}.</p>\n'
+        names = [test["name"] for test in tests if test["differing"]]
+        return f'<p class="bad">{told} See the test{"s" if len(names) > 1 else ""} {escaped(", ".join(names))}.</p>\n'
     return f'<p class="good">{told}</p>\n'
 
 
-def what_was_read(report: dict) -> str:
+def what_was_read(report: Report) -> str:
     files = table("Files", ["File", "Bytes", "SHA-256"], [[f"<code>{escaped(one['name'])}</code>", grouped_digits(one["bytes"]), f'<span class="sum">{one["sha256"]}</span>'] for one in report["files"]], {1})
     store = report["store"]
     days = f"{store['first_day']} to {store['last_day']}" if store["first_day"] else "none"
     counts = ", ".join(f"{grouped_digits(count)} {name}" for name, count in store["rows"].items())
     opened = f"; {store['open_day']} is open" if store["open_day"] else ""
-    return f"<h2>What was read</h2>\n{files}<p>A store of version {escaped(store['version'])}. Days: {days}{opened}. Rows: {counts}.</p>\n"
+    return f"<h2>What was read</h2>\n{files}<p>A store of version {escaped(store['version'])}, as of {report['as_of']}. Days: {days}{opened}. Rows: {counts}.</p>\n"
 
 
-def tests_table(report: dict) -> str:
+def tests_table(report: Report) -> str:
     rows = [[escaped(test["name"]), f"{escaped(test['title'])}. <small>{escaped(test['source'])}</small>", grouped_digits(test["tested"]), grouped_digits(test["differing"])] for test in report["tests"]]
     remarks = "".join(f"<p>{escaped(test['name'])}: {escaped(remark)}</p>\n" for test in report["tests"] for remark in test["remarks"])
     return "<h2>What was tested</h2>\n" + table("Tests", ["Test", "What it shows, and its rule", "Rows", "Differing"], rows, {2, 3}) + remarks
 
 
-def differences(report: dict) -> str:
+def differences(report: Report) -> str:
     parts = []
     for test in report["tests"]:
         if test["differing"]:
@@ -110,19 +116,61 @@ def differences(report: dict) -> str:
     return "<h2>What differs</h2>\n" + ("".join(parts) or "<p>Nothing.</p>\n")
 
 
-def not_shown() -> str:
-    return "<h2>What this can't show</h2>\n<ul>\n" + "".join(f"<li>{escaped(line)}</li>\n" for line in NOT_SHOWN) + "</ul>\n"
+def remarks_part(report: Report) -> str:
+    parts = []
+    for kind in report["remarks"]:
+        if kind["count"]:
+            shown = kind["rows"][:MOST_DIFFERENCES]
+            left = kind["count"] - len(shown)
+            more = f"<p>And {grouped_digits(left)} more.</p>\n" if left else ""
+            parts.append(table(f"{kind['title']}: {grouped_digits(kind['count'])}", ["Row", "What"], [[escaped(one["row"]), escaped(one["what"])] for one in shown], set()) + more)
+    told = "<p>Nothing here is against the rules. Ask the bank about each.</p>\n" if parts else "<p>None.</p>\n"
+    return "<h2>Remarks</h2>\n" + told + "".join(parts)
 
 
-def rates_table(report: dict) -> str:
+def not_shown(report: Report) -> str:
+    names = {test["name"] for test in report["tests"]}
+    lines = [ENTERED, *((BEHIND, WRITTEN_ANEW) if "archive" in names else (SINCE,) if "earlier" in names else (ALONE,))]
+    lines += [*((SIGNED,) if "earlier" in names else ()), SENT_AGAIN, UNUSED]
+    return "<h2>What this can't show</h2>\n<ul>\n" + "".join(f"<li>{escaped(line)}</li>\n" for line in lines) + "</ul>\n"
+
+
+def digests_part(report: Report) -> str:
+    found = report["digests"]
+    shown = found[-MOST_ROWS:]
+    left = len(found) - len(shown)
+    rows = [[one["day"] or "since then", grouped_digits(one["requests"]), f'<span class="sum">{escaped(one["sha256"])}</span>'] for one in shown]
+    told = "<p>Every digest is over the kept requests of its day, and over the digest before it. docs/AUDIT.md defines it. A later report compares its store with these (--earlier).</p>\n"
+    more = f"<p>The {grouped_digits(left)} before stand in report.json.</p>\n" if left else ""
+    return "<h2>Digests of closed days</h2>\n" + told + table("Digests", ["Day", "Requests so far", "SHA-256"], rows, {1}) + more
+
+
+def rates_table(report: Report) -> str:
     rows = [[one["from"], one["rate"], one["extension"], grouped_digits(one["bonds"])] for one in report["rates"]]
-    return "<h2>Rates that were entered</h2>\n<p>The fixed rate, and the rate of extended maturity. Compare each with Treasury's announcement.</p>\n" + table("Rates", ["Issued from", "Fixed", "Extension", "Bonds"], rows, {1, 2, 3})
+    return "<h2>Rates that were entered</h2>\n<p>The fixed rate, and the rate of extended maturity. Compare each with Treasury's announcement (--announced).</p>\n" + table("Rates", ["Issued from", "Fixed", "Extension", "Bonds"], rows, {1, 2, 3})
+
+
+# ---- a year's interest
+
+
+def interest_part(report: Report) -> str:
+    found = report["interest"]
+    if found is None:
+        return ""
+    heads = ["Payee", "Bonds", "Paid", "Price", "Interest"]
+    shown = found["payees"][:MOST_ROWS]
+    rows = [[one["payee"], *(grouped_digits(one[name]) for name in ("bonds", "paid", "price", "interest"))] for one in shown]
+    sums = [["all", *(grouped_digits(found["sums"][name]) for name in ("bonds", "paid", "price", "interest"))]] if rows else []
+    left = len(found["payees"]) - len(shown)
+    more = f"<p>{grouped_digits(left)} more payees stand in interest-{found['year']}.csv.</p>\n" if left else ""
+    told = "<p>What every payee was paid on the days of the year, the issue prices of those bonds, and the interest between the two. Customers are numbers here: the bank has their names.</p>\n"
+    return f"<h2>Interest paid in {found['year']}</h2>\n{told}" + table("By payee", heads, [*rows, *sums], set(range(5))) + more
 
 
 # ---- the period
 
 
-def period_part(report: dict) -> str:
+def period_part(report: Report) -> str:
     figures = report["period"]
     name = report["month"] or "all days"
     if figures is None:
@@ -133,10 +181,18 @@ def period_part(report: dict) -> str:
     return f"<h2>The period: {name}</h2>\n{told}" + "".join(part(figures) for part in parts)
 
 
-def merged(days: list[dict]) -> tuple[str, list[dict]]:
+class Merged(TypedDict):
+    """A day, a month or a year, with its whole dollars."""
+
+    day: str
+    bonds: int
+    total: int
+
+
+def merged(days: list[OfDay]) -> tuple[str, list[Merged]]:
     """The days, or their months or years if there are more than a picture has room for."""
     for name, length in (("day", 10), ("month", 7), ("year", 4)):
-        groups: dict[str, list[dict]] = {}
+        groups: dict[str, list[OfDay]] = {}
         for day in days:
             groups.setdefault(day["day"][:length], []).append(day)
         if len(groups) <= MOST_BARS:
@@ -144,7 +200,7 @@ def merged(days: list[dict]) -> tuple[str, list[dict]]:
     return name, [{"day": key, "bonds": sum(one["bonds"] for one in group), "total": sum(dollars(one["total"]) for one in group)} for key, group in groups.items()]
 
 
-def days_part(figures: dict) -> str:
+def days_part(figures: Figures) -> str:
     name, groups = merged(figures["days"])
     if not groups:
         return "<h3>By day</h3>\n<p>No day was opened.</p>\n"
@@ -158,7 +214,7 @@ def days_part(figures: dict) -> str:
     return "<h3>By day</h3>\n" + pair(drawn) + table("Days", ["Day", "Tickets", "Bonds", "Dollars"], rows, {1, 2, 3}) + more
 
 
-def of_groups(figures: dict, key: str, name: str, heading: str, column: str) -> str:
+def of_groups(figures: Figures, key: Literal["issue_periods", "denominations"], name: str, heading: str, column: str) -> str:
     groups = figures[key]
     if not groups:
         return ""
@@ -169,15 +225,15 @@ def of_groups(figures: dict, key: str, name: str, heading: str, column: str) -> 
     return f"<h3>{heading}</h3>\n" + pair(figure(caption, pictures.rows(caption, bars, [f"{bar.size:,}" for bar in bars])), shown)
 
 
-def issues_part(figures: dict) -> str:
+def issues_part(figures: Figures) -> str:
     return of_groups(figures, "issue_periods", "period", "By issue period", "Period from")
 
 
-def denominations_part(figures: dict) -> str:
+def denominations_part(figures: Figures) -> str:
     return of_groups(figures, "denominations", "denom", "By denomination", "Denomination")
 
 
-def ages_part(figures: dict) -> str:
+def ages_part(figures: Figures) -> str:
     ages = figures["ages"]
     if not ages:
         return ""
@@ -189,7 +245,7 @@ def ages_part(figures: dict) -> str:
     return "<h3>By age</h3>\n" + pair(figure(caption, pictures.columns(caption, bars)), table("Ages", ["Years", "Note", "Bonds", "Dollars"], rows, {0, 2, 3}))
 
 
-def refusals_part(figures: dict) -> str:
+def refusals_part(figures: Figures) -> str:
     refusals = figures["refusals"]
     if not refusals:
         return "<h3>Refusals</h3>\n<p>No request was refused.</p>\n"
@@ -199,7 +255,7 @@ def refusals_part(figures: dict) -> str:
     return "<h3>Refusals</h3>\n" + pair(drawn, table("Refusals", ["Code", "Name", "Requests"], rows, {0, 2}))
 
 
-def desks_part(figures: dict) -> str:
+def desks_part(figures: Figures) -> str:
     desks = figures["desks"]
     if not desks:
         return ""
@@ -212,43 +268,44 @@ def desks_part(figures: dict) -> str:
     return "<h3>Desks and retries</h3>\n" + told + pair(drawn, table("Desks", ["Desk", "Requests", "Refused", "Again"], rows, {0, 1, 2, 3}))
 
 
-def largest_part(figures: dict) -> str:
+def largest_part(figures: Figures) -> str:
     rows = [[one["ticket"], one["day"], one["payee"], one["bonds"], grouped_digits(one["total"])] for one in figures["largest"]]
     return "<h3>The largest tickets</h3>\n" + table("Tickets", ["Ticket", "Day", "Payee", "Bonds", "Dollars"], rows, {0, 2, 3, 4})
 
 
-def outlook_part(figures: dict) -> str:
+def outlook_part(figures: Figures) -> str:
     outlook = figures["outlook"]
     if outlook is None:
         return "<h3>Outlook</h3>\n<p>No bond is unpaid, or no day was opened.</p>\n"
     months = outlook["months"]
-    told = f"<p>{grouped_digits(outlook['bonds'])} bonds, bought for {grouped_digits(outlook['price'])} dollars, are unpaid at the end of this store. This is what they are worth in each month until the last one matures, if none is paid before. Below 12 months after issue a bond counts at its price, and before issue at nothing. report.json has each month.</p>\n"
+    told = f"<p>{grouped_digits(outlook['bonds'])} bonds, bought for {grouped_digits(outlook['price'])} dollars, are unpaid at the end of this store. This is what they are worth in every month until the last one matures, if none is paid before. Below 12 months after issue a bond counts at its price, and before issue at nothing. report.json has every month.</p>\n"
     caption = "Dollars that the unpaid bonds are worth, by month"
     drawn = figure(caption, pictures.area(caption, [Bar(one["month"], dollars(one["worth"])) for one in months]))
     shown = [one for place, one in enumerate(months) if place in (0, len(months) - 1) or one["month"].endswith("-01")]
     rows = [[one["month"], grouped_digits(one["worth"]), grouped_digits(one["earning"])] for one in shown]
-    return "<h3>Outlook</h3>\n" + told + pair(drawn, table("Worth in the first month, each January, and the last month", ["Month", "Dollars", "Bonds that earn"], rows, {1, 2}))
+    return "<h3>Outlook</h3>\n" + told + pair(drawn, table("Worth in the first month, every January, and the last month", ["Month", "Dollars", "Bonds that earn"], rows, {1, 2}))
 
 
 # ---- the page
 
 
-def sign_part(report: dict, json_sum: str) -> str:
+def sign_part(report: Report, of_files: dict[str, str]) -> str:
     sums = [[f"<code>{escaped(one['name'])}</code>", f'<span class="sum">{one["sha256"]}</span>'] for one in report["files"]]
-    sums.append(["<code>report.json</code>", f'<span class="sum">{json_sum}</span>'])
+    sums += [[f"<code>{name}</code>", f'<span class="sum">{one}</span>'] for name, one in of_files.items()]
     lines = "".join(f"<dt>{name}</dt>\n<dd>&nbsp;</dd>\n" for name in ("Name", "Organisation", "Place and date", "Signature"))
     told = "<h2>To sign</h2>\n<p>I read this report, and compared the sums below with the files.</p>\n"
     return f'<section class="sign">\n{told}{table("Sums", ["File", "SHA-256"], sums, set())}<dl>\n{lines}</dl>\n</section>\n'
 
 
-def page(report: dict, json_sum: str) -> str:
+def page(report: Report, of_files: dict[str, str]) -> str:
+    """The page, with the SHA-256 of every file next to it."""
     title = f"Audit of {escaped(report['files'][0]['name'])}"
-    parts = [verdict, what_was_read, tests_table, differences, lambda _: not_shown(), rates_table, period_part]
-    body = "".join(part(report) for part in parts) + sign_part(report, json_sum)
+    parts = [verdict, what_was_read, tests_table, differences, remarks_part, not_shown, digests_part, rates_table, interest_part, period_part]
+    body = "".join(part(report) for part in parts) + sign_part(report, of_files)
     head = f'<meta charset="utf-8">\n<meta name="viewport" content="width=device-width, initial-scale=1">\n<title>{title}</title>\n<style>{STYLE}</style>'
-    about = "<p>Worked out from the rows of the store by rules and arithmetic that share no code with the program that made it. The same store gives the same report, byte for byte.</p>"
+    about = "<p>Worked out from the rows of the store by rules and arithmetic that share no code with the program that made it. The same store gives the same report on the same day, byte for byte.</p>"
     return f'<!DOCTYPE html>\n<html lang="en">\n<head>\n{head}\n</head>\n<body>\n<main>\n<h1>{title}</h1>\n{about}\n{body}</main>\n</body>\n</html>\n'
 
 
-def json_text(report: dict) -> str:
+def json_text(report: Report) -> str:
     return json.dumps(report, indent=1, sort_keys=True) + "\n"

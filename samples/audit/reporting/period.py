@@ -2,7 +2,7 @@
 Sums of money are whole cents here, and texts in the report."""
 
 import collections
-from typing import Iterable
+from typing import Any, Iterable, TypedDict, TypeVar
 
 from . import texts, values
 from .replay import Entry
@@ -17,7 +17,75 @@ UNPAID = """SELECT b.issued, count(*), sum(b.denom / 25), sum(b.denom), r.fixed,
   FROM bonds AS b JOIN terms AS r ON r.period = b.issued - b.issued % 6 WHERE b.ticket IS NULL GROUP BY b.issued ORDER BY b.issued"""
 
 
-def figures_of(store: Store, entries: list[Entry], month: int | None) -> dict:
+#: A row of PAYMENTS: day, denomination, issue month, bonds, cents.
+Payments = tuple[int, int, int, int, int]
+#: A row of UNPAID: issue month, bonds, units, dollars, and both rates.
+Unpaid = tuple[int, int, int, int, int, int]
+#: The key of a group.
+K = TypeVar("K", int, str, tuple[int, str])
+
+
+class Sums(TypedDict):
+    bonds: int
+    total: str
+    price: str
+    interest: str
+
+
+class OfDay(TypedDict):
+    day: str
+    is_closed: bool
+    tickets: int
+    bonds: int
+    total: str
+
+
+class OfAge(TypedDict):
+    years: int
+    note: str
+    bonds: int
+    total: str
+
+
+class OfCode(TypedDict):
+    code: int
+    name: str
+    requests: int
+
+
+class OfTicket(TypedDict):
+    ticket: int
+    day: str
+    payee: int
+    bonds: int
+    total: str
+
+
+class Worth(TypedDict):
+    month: str
+    worth: str
+    earning: int
+
+
+class Outlook(TypedDict):
+    bonds: int
+    price: str
+    months: list[Worth]
+
+
+class Figures(TypedDict):
+    sums: Sums
+    days: list[OfDay]
+    issue_periods: list[dict[str, Any]]
+    denominations: list[dict[str, Any]]
+    ages: list[OfAge]
+    refusals: list[OfCode]
+    desks: list[dict[str, int]]
+    largest: list[OfTicket]
+    outlook: Outlook | None
+
+
+def figures_of(store: Store, entries: list[Entry], month: int | None) -> Figures:
     """The figures of a month, or of all days."""
     payments = [row for row in store.rows(PAYMENTS) if month is None or texts.month_of_day(row[0]) == month]
     asked = [entry for entry in entries if month is None or (entry.day is not None and texts.month_of_day(entry.day) == month)]
@@ -34,17 +102,17 @@ def figures_of(store: Store, entries: list[Entry], month: int | None) -> dict:
     }
 
 
-def sums_of(payments: list[tuple]) -> dict:
+def sums_of(payments: list[Payments]) -> Sums:
     bonds, cents = sum(row[3] for row in payments), sum(row[4] for row in payments)
     price = sum(50 * row[1] * row[3] for row in payments)
     return {"bonds": bonds, "total": texts.money(cents), "price": texts.money(price), "interest": texts.money(cents - price)}
 
 
-def by_day(store: Store, month: int | None) -> list[dict]:
+def by_day(store: Store, month: int | None) -> list[OfDay]:
     days = "SELECT day FROM batches UNION SELECT day FROM tickets UNION SELECT day FROM desk WHERE day IS NOT NULL ORDER BY day"
     sums = {day: rest for day, *rest in store.rows("SELECT day, count(*), sum(bonds), sum(total) FROM tickets GROUP BY day")}
     closed = {day for (day,) in store.rows("SELECT day FROM batches")}
-    found = []
+    found: list[OfDay] = []
     for (day,) in store.rows(days).fetchall():
         if month is None or texts.month_of_day(day) == month:
             tickets, bonds, total = sums.get(day, (0, 0, 0))
@@ -52,16 +120,17 @@ def by_day(store: Store, month: int | None) -> list[dict]:
     return found
 
 
-def grouped(name: str, keyed: Iterable[tuple]) -> list[dict]:
-    """Bonds and dollars of each key, in order of keys."""
-    bonds, cents = collections.Counter(), collections.Counter()
+def grouped(name: str, keyed: Iterable[tuple[K, Payments]]) -> list[dict[str, Any]]:
+    """Bonds and dollars of every key, in order of keys."""
+    bonds: collections.Counter[K] = collections.Counter()
+    cents: collections.Counter[K] = collections.Counter()
     for key, (_, _, _, count, total) in keyed:
         bonds[key] += count
         cents[key] += total
     return [{name: key, "bonds": bonds[key], "total": texts.money(cents[key])} for key in sorted(bonds)]
 
 
-def by_age(payments: list[tuple]) -> list[dict]:
+def by_age(payments: list[Payments]) -> list[OfAge]:
     """Bonds and dollars by age in whole years and by note: P5 is the three months' penalty, MA is matured."""
     keyed = []
     for row in payments:
@@ -71,13 +140,13 @@ def by_age(payments: list[tuple]) -> list[dict]:
     return [{"years": one["age"][0], "note": one["age"][1], "bonds": one["bonds"], "total": one["total"]} for one in found]
 
 
-def by_code(entries: list[Entry]) -> list[dict]:
+def by_code(entries: list[Entry]) -> list[OfCode]:
     counts = collections.Counter(entry.code for entry in entries if entry.code)
     return [{"code": code, "name": texts.REFUSALS[code][0] if code in texts.REFUSALS else "", "requests": counts[code]} for code in sorted(counts)]
 
 
-def by_desk(entries: list[Entry]) -> list[dict]:
-    """Of each desk: its requests, those that were refused, and those that ask for the same act as an
+def by_desk(entries: list[Entry]) -> list[dict[str, int]]:
+    """Of every desk: its requests, those that were refused, and those that ask for the same act as an
     earlier one of that desk. A request that was sent again under its own number leaves no trace."""
     desks: dict[int, list[int]] = collections.defaultdict(lambda: [0, 0, 0])
     for entry in entries:
@@ -88,8 +157,8 @@ def by_desk(entries: list[Entry]) -> list[dict]:
     return [{"desk": desk, "requests": one[0], "refused": one[1], "again": one[2]} for desk, one in sorted(desks.items())]
 
 
-def largest(store: Store, month: int | None) -> list[dict]:
-    found = []
+def largest(store: Store, month: int | None) -> list[OfTicket]:
+    found: list[OfTicket] = []
     for ticket, day, payee, bonds, total in store.rows("SELECT ticket, day, payee, bonds, total FROM tickets ORDER BY total DESC, ticket"):
         if month is None or texts.month_of_day(day) == month:
             found.append({"ticket": ticket, "day": texts.day_text(day), "payee": payee, "bonds": bonds, "total": texts.money(total)})
@@ -98,8 +167,8 @@ def largest(store: Store, month: int | None) -> list[dict]:
     return found
 
 
-def outlook(store: Store, month: int | None) -> dict | None:
-    """What the bonds that are unpaid in the store will be worth in each month, from the month of the
+def outlook(store: Store, month: int | None) -> Outlook | None:
+    """What the bonds that are unpaid in the store will be worth in every month, from the month of the
     report, or of the store's latest day, until the last one matures: the values that a calculator shows."""
     groups = store.rows(UNPAID).fetchall()
     (latest,) = store.one("SELECT max(day) FROM (SELECT day FROM desk UNION SELECT last_day FROM desk UNION SELECT day FROM tickets)")
@@ -112,7 +181,7 @@ def outlook(store: Store, month: int | None) -> dict | None:
     return {"bonds": sum(group[1] for group in groups), "price": texts.money(price), "months": months}
 
 
-def worth_in(groups: list[tuple], month: int) -> dict:
+def worth_in(groups: list[Unpaid], month: int) -> Worth:
     """The worth of groups of bonds of one issue month each; a group counts 25-dollar units."""
     worth = earning = 0
     for issued, bonds, units, _, fixed, extension in groups:

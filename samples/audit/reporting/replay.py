@@ -1,4 +1,4 @@
-"""The kept requests, from nothing: each act is answered by the rules of desk.py, in the order in which
+"""The kept requests, from nothing: every act is answered by the rules of desk.py, in the order in which
 the requests were kept, and the replies and the books are compared with those of the store.
 
 The number of a row of `answers` gives that order, since a new row gets the number after the last one.
@@ -7,14 +7,16 @@ time isn't kept. `replay_of` says which of them are replayed."""
 
 import dataclasses
 import hashlib
-from typing import Iterable, Iterator, NamedTuple
+from typing import Iterable, Iterator, NamedTuple, Sequence
 
 from . import desk, texts
-from .checks import name_of
+from .checks import Key, name_of
 from .findings import Findings
 from .store import Store
 
-UNREADABLE = {"act": ""}
+UNREADABLE: texts.UnreadableAct = {"act": ""}
+#: A ticket or a batch: which of the two, and its number or its day.
+Told = tuple[str, int]
 IN_ORDER = "SELECT place, desk, number, act, reply FROM kept ORDER BY place"
 
 
@@ -59,7 +61,7 @@ def kept_requests(store: Store) -> Iterator[Kept]:
 
 
 def texts_are_canonical(store: Store, findings: Findings) -> None:
-    """Each kept text is that of an act or a reply, and no row is missing between two others."""
+    """Every kept text is that of an act or a reply, and the numbers of the rows have no gap."""
     last = 0
     for kept in kept_requests(store):
         findings.tested += 1
@@ -73,29 +75,29 @@ def texts_are_canonical(store: Store, findings: Findings) -> None:
 
 
 def replies_are_told_by_the_tables(store: Store, findings: Findings) -> None:
-    """The ticket and the batch of each reply stand in the tables with just that content, and each ticket
+    """The ticket and the batch of every reply stand in the tables with just that content, and every ticket
     and batch of the tables is the reply of one request. This needs no order."""
-    told: dict[tuple[str, int], Kept] = {}
+    told: dict[Told, Kept] = {}
     for kept in kept_requests(store):
         reply = texts.read_reply(kept.reply) or {}
-        key = ("ticket", reply["ticket"]) if "lines" in reply else ("batch", texts.read_day(reply["day"])) if "tickets" in reply else None
-        if key in told:
+        key: Told | None = ("ticket", reply["ticket"]) if "lines" in reply else ("batch", texts.day_in(reply["day"])) if "tickets" in reply else None
+        if key is not None and key in told:
             findings.differs("answers", kept.row(), "reply", f"{key[0]} {key[1]}", f"a {key[0]} that no other reply tells")
-        elif key:
+        elif key is not None:
             told[key] = kept
     for key, table, row, text in held(store):
         findings.tested += 1
-        kept = told.pop(key, None)
-        if kept is None:
+        teller = told.pop(key, None)
+        if teller is None:
             findings.differs(table, row, "reply", "no request", text)
         else:
-            findings.compare("answers", kept.row(), f"reply of {row}", kept.reply, text)
+            findings.compare("answers", teller.row(), f"reply of {row}", teller.reply, text)
     for (kind, number), kept in told.items():
         findings.differs("answers", kept.row(), "reply", kept.reply, f"a {kind} of the tables")
 
 
-def held(store: Store) -> Iterator[tuple[tuple[str, int], str, str, str]]:
-    """Each ticket and batch of the tables: its key, table and row, and the text of its reply."""
+def held(store: Store) -> Iterator[tuple[Told, str, str, str]]:
+    """Every ticket and batch of the tables: its key, table and row, and the text of its reply."""
     lines: dict[int, list[tuple[str, int]]] = {}
     for ticket, letter, number, cents in store.rows("SELECT ticket, letter, number, cents FROM paid ORDER BY ticket, place"):
         lines.setdefault(ticket, []).append((texts.serial_text(letter, number), cents))
@@ -109,7 +111,7 @@ def held(store: Store) -> Iterator[tuple[tuple[str, int], str, str, str]]:
 # ---- the replay
 
 
-def is_that_reply(act: dict, own: dict, kept: str) -> bool:
+def is_that_reply(act: texts.Act, own: texts.Reply, kept: str) -> bool:
     """Whether a kept reply is the one of the rules. Code 22 is allowed for terms with a value so close
     to half a cent that the program may refuse it."""
     if texts.compact(own) == kept:
@@ -123,9 +125,9 @@ def is_that_reply(act: dict, own: dict, kept: str) -> bool:
 def next_of(replay: Replay, store: Store, kept: Kept) -> None:
     """Answer one request by the rules, compare its reply, and do what it did."""
     act, reply = texts.read_act(kept.act) or UNREADABLE, texts.read_reply(kept.reply)
-    own = desk.decide(replay.books, act) if act is not UNREADABLE else None
+    own = desk.decide(replay.books, act) if act["act"] != "" else None
     done = reply
-    if own is None or not is_that_reply(act, own, kept.reply):
+    if own is None or act["act"] == "" or not is_that_reply(act, own, kept.reply):
         replay.findings.differs("answers", kept.row(), f"reply to {kept.act}", kept.reply, "no reply: the act can't be read" if own is None else texts.compact(own))
         replay.differing.add((kept.desk, kept.number))
         done = the_one_that_was_done(store, act, own, reply)
@@ -135,7 +137,7 @@ def next_of(replay: Replay, store: Store, kept: Kept) -> None:
         desk.take(replay.books, act, done)
 
 
-def the_one_that_was_done(store: Store, act: dict, own: dict | None, kept: dict | None) -> dict | None:
+def the_one_that_was_done(store: Store, act: texts.Act | texts.UnreadableAct, own: texts.Reply | None, kept: texts.Reply | None) -> texts.Reply | None:
     """Of the reply by the rules and the kept one, the one that the tables bear out, so that one changed
     text doesn't make all later replies differ. None if neither changed the books."""
     accepted = [reply for reply in (own, kept) if reply and not desk.is_refused(reply)]
@@ -143,29 +145,29 @@ def the_one_that_was_done(store: Store, act: dict, own: dict | None, kept: dict 
     return next(iter(borne_out), accepted[0] if len(accepted) == 2 else None)
 
 
-def tables_bear_out(store: Store, act: dict, reply: dict) -> bool:
+def tables_bear_out(store: Store, act: texts.Act | texts.UnreadableAct, reply: texts.Reply) -> bool:
     if "lines" in reply:
-        found = store.one("SELECT day, payee, total FROM tickets WHERE ticket = ?", reply["ticket"])
-        return found == (texts.read_day(reply["day"]), reply["payee"], texts.read_money(reply["total"]))
+        ticket: Key | None = store.one("SELECT day, payee, total FROM tickets WHERE ticket = ?", reply["ticket"])
+        return ticket == (texts.read_day(reply["day"]), reply["payee"], texts.read_money(reply["total"]))
     if "tickets" in reply:
-        found = store.one("SELECT tickets, bonds, total FROM batches WHERE day = ?", texts.read_day(reply["day"]))
-        return found == (reply["tickets"], reply["bonds"], texts.read_money(reply["total"]))
+        batch: Key | None = store.one("SELECT tickets, bonds, total FROM batches WHERE day = ?", texts.read_day(reply["day"]))
+        return batch == (reply["tickets"], reply["bonds"], texts.read_money(reply["total"]))
     if "opened" in reply:
         day = texts.read_day(reply["opened"])
         return store.one("SELECT 1 FROM batches WHERE day = ? UNION SELECT 1 FROM desk WHERE day = ?", day, day) is not None
-    return act["act"] in ("rates", "bonds") and rows_are_held(store, act)
+    return (act["act"] == "rates" or act["act"] == "bonds") and rows_are_held(store, act)
 
 
-def rows_are_held(store: Store, act: dict) -> bool:
+def rows_are_held(store: Store, act: texts.RatesAct | texts.BondsAct) -> bool:
     if act["act"] == "rates":
         return all(store.one("SELECT 1 FROM rates WHERE period = ?", texts.MONTHS[row["from"]]) for row in act["rates"])
     return all(store.one("SELECT 1 FROM bonds WHERE letter = ? AND number = ?", ord(row["serial"][0]) - 64, int(row["serial"][1:-2])) for row in act["bonds"])
 
 
-def note_entry(replay: Replay, kept: Kept, act: dict, reply: dict | None) -> None:
+def note_entry(replay: Replay, kept: Kept, act: texts.Act | texts.UnreadableAct, reply: texts.Reply | None) -> None:
     """A request belongs to the day that it names; one that names none, to the last day that was opened."""
     books = replay.books
-    day = texts.read_day(act["day"]) if "day" in act else books.day if books.day is not None else books.last_day
+    day = texts.read_day(act["day"]) if act["act"] == "open" or act["act"] == "close" or act["act"] == "redeem" else books.day if books.day is not None else books.last_day
     mark = hashlib.blake2b(f"{kept.desk} {kept.act}".encode("utf-8", "replace"), digest_size=12).digest()
     replay.entries.append(Entry(kept.desk, act["act"], (reply or {}).get("code", 0), day, mark in replay.told_before))
     replay.told_before.add(mark)
@@ -197,7 +199,7 @@ def migrated_at_most(store: Store, has_checksums: bool) -> list[Kept]:
 
 def order_shown(requests: list[Kept]) -> list[Kept]:
     """Accepted requests in the order that their replies show: rates and bonds first, as their counts
-    allow, then each day's opening, its tickets by number, and its closing."""
+    allow, then every day's opening, its tickets by number, and its closing."""
     adds, others = [], []
     for kept in requests:
         reply = texts.read_reply(kept.reply) or {}
@@ -219,7 +221,7 @@ def adds_in_order(adds: list[Kept]) -> list[Kept]:
         for kept in left:
             act = texts.read_act(kept.act)
             own = desk.decide(books, act) if act else None
-            if own is not None and is_that_reply(act, own, kept.reply):
+            if act is not None and own is not None and is_that_reply(act, own, kept.reply):
                 desk.take(books, act, own)
                 order.append(kept)
             else:
@@ -255,7 +257,7 @@ def replay_of(store: Store, name: str, title: str, source: str, has_checksums: b
 
 
 def books_are_the_replays(store: Store, books: desk.Books, findings: Findings) -> None:
-    """Each row of the tables is what the replay has, and each row of the replay stands in the tables."""
+    """Every row of the tables is what the replay has, and every row of the replay stands in the tables."""
     compare_maps(findings, "rates", {period: rates[0] for period, rates in books.rates.items()}, store.rows("SELECT period, rate FROM rates"))
     extensions = {period: rates[1] for period, rates in books.rates.items() if rates[0] != rates[1]}
     compare_maps(findings, "extensions", extensions, store.rows("SELECT period, rate FROM named_extensions"))
@@ -270,7 +272,7 @@ def books_are_the_replays(store: Store, books: desk.Books, findings: Findings) -
     compare_row(findings, "desk", (1,), ("day", "last_day"), store.one("SELECT day, last_day FROM desk"), (books.day, books.last_day))
 
 
-def compare_row(findings: Findings, table: str, key: tuple, columns: tuple[str, ...], found, wanted) -> None:
+def compare_row(findings: Findings, table: str, key: Key, columns: tuple[str, ...], found: Sequence[object], wanted: Sequence[object] | None) -> None:
     if wanted is None:
         findings.differs(table, name_of(table, key), "row", ", ".join(f"{column} {value}" for column, value in zip(columns, found)), "no such row")
         return
@@ -278,7 +280,7 @@ def compare_row(findings: Findings, table: str, key: tuple, columns: tuple[str, 
         findings.compare(table, name_of(table, key), column, one, other)
 
 
-def compare_maps(findings: Findings, table: str, wanted: dict[int, int], rows) -> None:
+def compare_maps(findings: Findings, table: str, wanted: dict[int, int], rows: Iterable[tuple[int, int]]) -> None:
     for period, found in rows:
         findings.tested += 1
         compare_row(findings, table, (period,), ("rate",), (found,), (wanted.pop(period),) if period in wanted else None)
@@ -302,7 +304,7 @@ def compare_bonds(store: Store, books: desk.Books, findings: Findings) -> None:
 
 
 def compare_tickets(store: Store, books: desk.Books, findings: Findings) -> None:
-    lines: dict[int, list[tuple]] = {}
+    lines: dict[int, list[tuple[int, str, int]]] = {}
     for ticket, place, letter, number, cents in store.rows("SELECT ticket, place, letter, number, cents FROM paid ORDER BY ticket, place"):
         findings.tested += 1
         lines.setdefault(ticket, []).append((place, texts.serial_text(letter, number), cents))
@@ -321,7 +323,7 @@ def compare_tickets(store: Store, books: desk.Books, findings: Findings) -> None
         compare_lines(findings, ticket, found, ())
 
 
-def compare_lines(findings: Findings, ticket: int, found: list[tuple], own: tuple) -> None:
+def compare_lines(findings: Findings, ticket: int, found: list[tuple[int, str, int]], own: desk.Lines) -> None:
     wanted = {place: line for place, line in enumerate(own, 1)}
     for place, serial, cents in found:
         compare_row(findings, "paid", (ticket, place), ("serial number", "cents"), (serial, cents), wanted.pop(place, None))

@@ -9,6 +9,7 @@ import hashlib
 import os
 import sqlite3
 import struct
+from typing import Any
 
 CHUNK = 1 << 20
 LOCKED_FROM, LOCKED_BYTES = 0x40000000, 512  # the bytes that SQLite and the program lock
@@ -28,7 +29,7 @@ COMMON = (
 EXTENSIONS = "CREATE TABLE extensions (period INTEGER NOT NULL PRIMARY KEY, rate INTEGER NOT NULL) STRICT"
 ANSWERS = "CREATE TABLE answers (desk INTEGER NOT NULL, number INTEGER NOT NULL, act TEXT NOT NULL, reply TEXT NOT NULL, PRIMARY KEY (desk, number)) STRICT"
 REPLIES = "CREATE TABLE replies (number INTEGER NOT NULL PRIMARY KEY, act TEXT NOT NULL, reply TEXT NOT NULL) STRICT"
-FORMS = {2: [(*COMMON, EXTENSIONS, ANSWERS)], 1: [(*COMMON, REPLIES), (*COMMON, REPLIES, EXTENSIONS)]}
+FORMS: dict[int, list[tuple[str, ...]]] = {2: [(*COMMON, EXTENSIONS, ANSWERS)], 1: [(*COMMON, REPLIES), (*COMMON, REPLIES, EXTENSIONS)]}
 TABLES = ("desk", "rates", "extensions", "bonds", "tickets", "paid", "batches", "answers")
 
 
@@ -55,35 +56,33 @@ class Store:
     version: int | None
     statements: tuple[str, ...]
 
-    def rows(self, statement: str, *values):
+    def rows(self, statement: str, *values: Any) -> sqlite3.Cursor:
         return self.base.execute(statement, values)
 
-    def one(self, statement: str, *values):
+    def one(self, statement: str, *values: Any) -> Any:
         return self.base.execute(statement, values).fetchone()
 
     def count(self, table: str) -> int:
-        return self.one(f"SELECT count(*) FROM {table}")[0]
-
-    def has_form(self) -> bool:
-        return self.statements in FORMS.get(self.version, [])
+        (rows,) = self.one(f"SELECT count(*) FROM {table}")
+        return int(rows)
 
 
 def is_locked(path: str) -> bool:
     """Whether a process holds the lock that the program holds while it serves a store."""
     with open(path, "rb") as file:
         asked = struct.pack("hhqqi", fcntl.F_WRLCK, os.SEEK_SET, LOCKED_FROM, LOCKED_BYTES, 0)
-        return struct.unpack("hhqqi", fcntl.fcntl(file, fcntl.F_GETLK, asked))[0] != fcntl.F_UNLCK
+        return bool(struct.unpack("hhqqi", fcntl.fcntl(file, fcntl.F_GETLK, asked))[0] != fcntl.F_UNLCK)
 
 
-def copied(path: str, to: str) -> Source:
-    """Copy a file, and say what it is."""
+def copied(path: str, to: str, kind: str = "") -> Source:
+    """Copy a file, and say what it is. `kind` is put before its name."""
     total, length = hashlib.sha256(), 0
     with open(path, "rb") as source, open(to, "wb") as target:
         while chunk := source.read(CHUNK):
             total.update(chunk)
             target.write(chunk)
             length += len(chunk)
-    return Source(os.path.basename(path), length, total.hexdigest())
+    return Source(kind + os.path.basename(path), length, total.hexdigest())
 
 
 def copy_of(path: str, folder: str) -> tuple[str, tuple[Source, ...]]:
@@ -125,7 +124,7 @@ def needed_tables_are_there(store: Store) -> bool:
 
 def make_views(store: Store) -> None:
     """Views of this connection alone, which show any version as version 2: `kept` has the kept requests
-    with the number of their row, `terms` both rates of each period."""
+    with the number of their row, `terms` both rates of every period."""
     base = store.base
     base.execute("PRAGMA query_only = OFF")
     has_extensions = store.one("SELECT 1 FROM sqlite_schema WHERE name = 'extensions'") is not None

@@ -7,6 +7,7 @@ import datetime
 import functools
 import json
 import re
+from typing import Callable, Literal, TypedDict, TypeGuard
 
 from .values import DENOMINATIONS, MOST_RATE
 
@@ -17,7 +18,7 @@ EPOCH = datetime.date(1970, 1, 1).toordinal()
 SERIAL = re.compile(r"[A-Z][1-9][0-9]{0,9}EE", re.ASCII)
 MONEY = re.compile(r"(0|[1-9][0-9]*)\.([0-9][0-9])", re.ASCII)
 
-# Each refusal by its code: its name, and what it names beside it (docs/FORMATS.md, "The text of a reply").
+# Every refusal by its code: its name, and what it names beside it (docs/FORMATS.md, "The text of a reply").
 REFUSALS = {
     10: ("NumberReused", ()),
     11: ("Empty", ()),
@@ -40,6 +41,87 @@ REFUSALS = {
     53: ("NotIssued", ("serial",)),
     54: ("NotEligible", ("serial",)),
 }
+
+# docs/FORMATS.md, "The canonical text of an act". A row names a rate of extended maturity and a coowner, or neither.
+NamedRate = TypedDict("NamedRate", {"from": str, "rate": str})
+
+
+class RateRow(NamedRate, total=False):
+    extension: str
+
+
+class OwnedBond(TypedDict):
+    serial: str
+    denom: int
+    issued: str
+    owner: int
+
+
+class BondRow(OwnedBond, total=False):
+    coowner: int
+
+
+class RatesAct(TypedDict):
+    act: Literal["rates"]
+    rates: list[RateRow]
+
+
+class BondsAct(TypedDict):
+    act: Literal["bonds"]
+    bonds: list[BondRow]
+
+
+class OpenAct(TypedDict):
+    act: Literal["open"]
+    day: str
+
+
+class CloseAct(TypedDict):
+    act: Literal["close"]
+    day: str
+
+
+class RedeemAct(TypedDict):
+    act: Literal["redeem"]
+    day: str
+    payee: int
+    serials: list[str]
+
+
+class UnreadableAct(TypedDict):
+    """Stands in for the act of a text that can't be read."""
+
+    act: Literal[""]
+
+
+Act = RatesAct | BondsAct | OpenAct | CloseAct | RedeemAct
+
+
+class Line(TypedDict):
+    """A line of a ticket."""
+
+    paid: str
+    serial: str
+
+
+class Reply(TypedDict, total=False):
+    """The keys of all replies (docs/FORMATS.md, "The text of a reply"). Each reply has those of its kind. The
+    month of code 22 is an age."""
+
+    code: int
+    refused: str
+    serial: str
+    ticket: int
+    month: str | int
+    new: int
+    same: int
+    opened: str
+    day: str
+    tickets: int
+    bonds: int
+    total: str
+    payee: int
+    lines: list[Line]
 
 
 def money(cents: int) -> str:
@@ -90,41 +172,57 @@ def read_day(text: str) -> int | None:
     return day if FIRST_DAY <= day <= LAST_DAY and day_text(day) == text else None
 
 
-def read_money(text) -> int | None:
+def day_in(text: str) -> int:
+    """The day that a text of an act or a reply spells."""
+    day = read_day(text)
+    if day is None:
+        raise ValueError(f"{text} is no day")
+    return day
+
+
+def read_money(text: object) -> int | None:
     found = MONEY.fullmatch(text) if isinstance(text, str) else None
     return 100 * int(found[1]) + int(found[2]) if found else None
 
 
-def compact(value) -> str:
+def cents_in(text: str) -> int:
+    """The cents that a text of a reply spells."""
+    cents = read_money(text)
+    if cents is None:
+        raise ValueError(f"{text} is no sum of money")
+    return cents
+
+
+def compact(value: object) -> str:
     """The text of a JSON value: compact, with its keys in the order of their bytes."""
     return json.dumps(value, separators=(",", ":"), sort_keys=True)
 
 
-def parsed(text: str):
+def parsed(text: str) -> object:
     """The JSON value of which a text is the compact text, or None."""
     try:
-        value = json.loads(text)
+        value: object = json.loads(text)
         return value if compact(value) == text else None
     except (ValueError, RecursionError):
         return None
 
 
-def is_whole(value, least: int, most: int) -> bool:
+def is_whole(value: object, least: int, most: int) -> bool:
     return type(value) is int and least <= value <= most
 
 
-def is_serial(value) -> bool:
+def is_serial(value: object) -> bool:
     return isinstance(value, str) and SERIAL.fullmatch(value) is not None
 
 
-def is_month(value, last: int = LAST_MONTH) -> bool:
+def is_month(value: object, last: int = LAST_MONTH) -> bool:
     return isinstance(value, str) and MONTHS.get(value, last + 1) <= last
 
 
 # ---- acts
 
 
-def is_rate_row(row) -> bool:
+def is_rate_row(row: object) -> bool:
     if not isinstance(row, dict) or row.keys() - {"extension"} != {"from", "rate"}:
         return False
     rates = [row["rate"], row.get("extension", row["rate"])]
@@ -132,7 +230,7 @@ def is_rate_row(row) -> bool:
     return is_month(row["from"], LAST_ISSUE) and all(isinstance(rate, str) and rate in RATES for rate in rates) and is_named_rightly
 
 
-def is_bond_row(row) -> bool:
+def is_bond_row(row: object) -> bool:
     if not isinstance(row, dict) or row.keys() - {"coowner"} != {"serial", "denom", "issued", "owner"}:
         return False
     customers = [row["owner"], row.get("coowner", 1)]
@@ -140,9 +238,11 @@ def is_bond_row(row) -> bool:
     return is_denomination and is_serial(row["serial"]) and is_month(row["issued"], LAST_ISSUE) and all(is_whole(one, 1, LAST_CUSTOMER) for one in customers)
 
 
-def is_act(act) -> bool:
+def is_act(act: object) -> TypeGuard[Act]:
     """Whether a value is that of an act (docs/FORMATS.md, "The canonical text of an act")."""
-    kind = act.get("act") if isinstance(act, dict) else None
+    if not isinstance(act, dict):
+        return False
+    kind = act.get("act")
     if kind in ("rates", "bonds"):
         is_row = is_rate_row if kind == "rates" else is_bond_row
         return act.keys() == {"act", kind} and isinstance(act[kind], list) and all(map(is_row, act[kind]))
@@ -154,7 +254,7 @@ def is_act(act) -> bool:
     return is_redemption and isinstance(act["serials"], list) and all(map(is_serial, act["serials"]))
 
 
-def read_act(text: str) -> dict | None:
+def read_act(text: str) -> Act | None:
     """The act of which a text is the canonical one, or None."""
     act = parsed(text)
     return act if is_act(act) else None
@@ -163,18 +263,18 @@ def read_act(text: str) -> dict | None:
 # ---- replies
 
 
-def is_refusal(reply: dict) -> bool:
+def is_refusal(reply: dict[str, object]) -> bool:
     code = reply.get("code")
     if type(code) is not int or code not in REFUSALS or code == 10:
         return False
     name, named = REFUSALS[code]
     if reply.keys() != {"code", "refused", *named} or reply["refused"] != name:
         return False
-    tests = {"serial": is_serial, "ticket": lambda one: is_whole(one, 1, LAST_NUMBER), "month": is_month if code != 22 else lambda one: is_whole(one, 0, 359)}
+    tests: dict[str, Callable[[object], bool]] = {"serial": is_serial, "ticket": lambda one: is_whole(one, 1, LAST_NUMBER), "month": lambda one: is_month(one) if code != 22 else is_whole(one, 0, 359)}
     return all(tests[field](reply[field]) for field in named)
 
 
-def is_ticket(reply: dict) -> bool:
+def is_ticket(reply: dict[str, object]) -> bool:
     if reply.keys() != {"day", "lines", "payee", "ticket", "total"} or not isinstance(reply["lines"], list):
         return False
     lines = reply["lines"]
@@ -183,7 +283,7 @@ def is_ticket(reply: dict) -> bool:
     return are_lines and are_numbers and read_day(reply["day"]) is not None and read_money(reply["total"]) is not None
 
 
-def is_reply(reply) -> bool:
+def is_reply(reply: object) -> TypeGuard[Reply]:
     """Whether a value is that of a reply other than `NumberReused` (docs/FORMATS.md, "The text of a reply")."""
     if not isinstance(reply, dict):
         return False
@@ -198,16 +298,16 @@ def is_reply(reply) -> bool:
     return is_refusal(reply) or is_ticket(reply)
 
 
-def read_reply(text: str) -> dict | None:
+def read_reply(text: str) -> Reply | None:
     """The reply of which a text is the one text, or None."""
     reply = parsed(text)
     return reply if is_reply(reply) else None
 
 
-def ticket_reply(number: int, day: int, payee: int, lines: list[tuple[str, int]], total: int) -> dict:
-    told = [{"paid": money(cents), "serial": serial} for serial, cents in lines]
+def ticket_reply(number: int, day: int, payee: int, lines: list[tuple[str, int]], total: int) -> Reply:
+    told: list[Line] = [{"paid": money(cents), "serial": serial} for serial, cents in lines]
     return {"day": day_text(day), "lines": told, "payee": payee, "ticket": number, "total": money(total)}
 
 
-def batch_reply(day: int, tickets: int, bonds: int, total: int) -> dict:
+def batch_reply(day: int, tickets: int, bonds: int, total: int) -> Reply:
     return {"bonds": bonds, "day": day_text(day), "tickets": tickets, "total": money(total)}

@@ -36,9 +36,9 @@ def grown(unit: int, rate: int, months: int) -> int:
 
 @functools.lru_cache(maxsize=None)
 def unit_values(fixed: int, extension: int) -> tuple[int, ...]:
-    """The accrued value of one unit at each age from 0 to 360.
+    """The accrued value of one unit at every age from 0 to 360.
 
-    Each half-year grows from the rounded value of the one before. At 20 years the unit is worth at
+    Every half-year grows from the rounded value of the one before. At 20 years the unit is worth at
     least twice its price; from then on the rate of extended maturity counts; at 30 years interest
     stops. (Model: "Chain", "Doubling", "Accrued value", "Final maturity".)"""
     values, start = [], ISSUE_PRICE
@@ -116,4 +116,4 @@ def is_close(start: int, rate: int, months: int, cents: int) -> bool:
     scale, value = 20000**months, (2 ** (PRECISION + 1) * start) ** 6 * (20000 + rate) ** months
     below = ((2 * cents - 1) * 2**PRECISION + 64 * start) ** 6 * scale
     above = ((2 * cents + 1) * 2**PRECISION - 64 * start) ** 6 * scale
-    return value <= below or above <= value
+    return bool(value <= below or above <= value)

@@ -1,11 +1,15 @@
 """What is counted of the proxy's log and of the service's lines. The counts are kept in a file from one run to the next, so a rotated log takes none away."""
+from __future__ import annotations
+
 import json
 import os
 import re
 import subprocess
 import time
+from typing import Any
 
 from . import exposition, proxy
+from .exposition import Metrics
 
 BOUNDS = (0.005, 0.01, 0.025, 0.05, 0.1, 0.25, 0.5, 1, 2.5, 5, 10, 30, 60)
 ENDING = re.compile(r"connection \d+: (\d+) messages, (Closed|Asked|Limit|Fault|ReadFailed|WriteFailed|NoMemory)\b")
@@ -18,31 +22,31 @@ USUAL = (("200", "counter"), ("404", "counter"), ("409", "counter"), ("503", "co
 class Counts:
     """Counters by family and labels, where the logs were read up to, and which requests and tickets were seen."""
 
-    def __init__(self, path):
+    def __init__(self, path: str) -> None:
         self.path = path
-        self.kept = {"counters": {}, "delays": {}, "log": {}, "journal": {}, "requests": {}, "tickets": []}
+        self.kept: dict[str, Any] = {"counters": {}, "delays": {}, "log": {}, "journal": {}, "requests": {}, "tickets": []}
         if os.path.exists(path):
             with open(path, encoding="utf-8") as file:
                 self.kept.update(json.load(file))
 
-    def save(self):
+    def save(self) -> None:
         exposition.replace_file(self.path, json.dumps(self.kept, separators=(",", ":")) + "\n", 0o600)
 
-    def count(self, family, amount=1, /, **labels):
+    def count(self, family: str, amount: int = 1, /, **labels: Any) -> None:
         found = self.kept["counters"].setdefault(family, {})
         key = json.dumps(labels)
         found[key] = found.get(key, 0) + amount
 
     # ---- the clock
 
-    def look_at_clock(self, now):
+    def look_at_clock(self, now: float) -> None:
         """Counts a clock that was set back since the last run."""
         self.count("clock_back", int(now < self.kept.get("time", 0) - 1))
         self.kept["time"] = now
 
     # ---- the proxy's log
 
-    def read_log(self, path):
+    def read_log(self, path: str) -> None:
         place = self.kept["log"]
         for line in proxy.follow(path, place):
             entry = proxy.entry_of(line)
@@ -51,10 +55,10 @@ class Counts:
             else:
                 self.count_entry(entry)
 
-    def count_entry(self, entry):
+    def count_entry(self, entry: proxy.Entry) -> None:
         self.count("requests", route=entry.route, status=entry.status, by=entry.by)
         if entry.took is not None and entry.route in proxy.WRITING + proxy.READING:
-            self.count_delay(entry)
+            self.count_delay(entry.route, entry.took)
         for family, names in (("refusals", proxy.REFUSALS), ("faults", proxy.FAULTS), ("unserved", proxy.UNSERVED)):
             if entry.code in names:
                 self.count(family, code=entry.code, name=names[entry.code])
@@ -65,14 +69,14 @@ class Counts:
             self.count("tickets")
             self.count("paid_cents", entry.total)
 
-    def count_delay(self, entry):
-        found = self.kept["delays"].setdefault(entry.route, {"counts": [0] * (len(BOUNDS) + 1), "sum": 0.0})
-        found["counts"][next((place for place, bound in enumerate(BOUNDS) if entry.took <= bound), len(BOUNDS))] += 1
-        found["sum"] += entry.took
+    def count_delay(self, route: str, took: float) -> None:
+        found = self.kept["delays"].setdefault(route, {"counts": [0] * (len(BOUNDS) + 1), "sum": 0.0})
+        found["counts"][next((place for place, bound in enumerate(BOUNDS) if took <= bound), len(BOUNDS))] += 1
+        found["sum"] += took
 
     # ---- the service's lines
 
-    def read_journal(self, unit):
+    def read_journal(self, unit: str) -> None:
         place = self.kept["journal"]
         place.setdefault("since", int(time.time()))
         since = ["--after-cursor", place["cursor"]] if "cursor" in place else ["--since", f"@{place['since']}"]
@@ -86,7 +90,7 @@ class Counts:
         for line in lines:
             self.count_line(line)
 
-    def count_line(self, line):
+    def count_line(self, line: str) -> None:
         ending = ENDING.fullmatch(line.strip()) or ENDING.match(line)
         if ending:
             self.count("connections", end=ending[2])
@@ -97,7 +101,7 @@ class Counts:
 
     # ---- the samples that are written
 
-    def tell(self, metrics, has_log, has_journal):
+    def tell(self, metrics: Metrics, has_log: bool, has_journal: bool) -> None:
         """Adds all counters, those that are 0 too: a series that begins with its first event would hide that event from `increase`."""
         metrics.add("ladwenpik_clock_back_total", "counter", "How often the clock was found set back.", self.of("clock_back").get("{}", 0))
         if has_log:
@@ -110,10 +114,11 @@ class Counts:
             for text in SAID:
                 metrics.add("ladwenpik_service_faults_total", "counter", "Faults that the service said in the journal, by their text.", self.of("said").get(json.dumps({"text": text}), 0), text=text)
 
-    def of(self, family):
-        return self.kept["counters"].get(family, {})
+    def of(self, family: str) -> dict[str, int]:
+        found: dict[str, int] = self.kept["counters"].get(family, {})
+        return found
 
-    def tell_log(self, metrics):
+    def tell_log(self, metrics: Metrics) -> None:
         usual = {json.dumps({"route": route, "status": status, "by": by}): 0 for route in proxy.WRITING + proxy.READING for status, by in USUAL}
         for key, value in {**usual, **self.of("requests")}.items():
             metrics.add("ladwenpik_requests_total", "counter", "Requests by route, status, and by who answered: the counter or nginx.", value, **json.loads(key))
@@ -126,7 +131,7 @@ class Counts:
         metrics.add("ladwenpik_log_gaps_total", "counter", "How often lines of the log were lost, since a rotated file was gone before it was read.", self.kept["log"].get("gaps", 0))
         metrics.add("ladwenpik_log_other_lines_total", "counter", "Lines of the log that are no entries.", self.of("other_lines").get("{}", 0))
 
-    def tell_replies(self, metrics):
+    def tell_replies(self, metrics: Metrics) -> None:
         told = (
             ("refusals", proxy.REFUSALS, "Requests that the counter refused, by code."),
             ("faults", proxy.FAULTS, "Messages that ask for nothing the counter knows, by code."),

@@ -1,21 +1,24 @@
 """Metrics in the text format of Prometheus, and files that are whole before they are seen."""
+from __future__ import annotations
+
 import json
 import os
+from typing import Sequence
 
 
 class Metrics:
     """Families of metrics by name, each with its type and its help."""
 
-    def __init__(self):
-        self.families = {}
+    def __init__(self) -> None:
+        self.families: dict[str, tuple[str, str, list[tuple[str, dict[str, object], object]]]] = {}
 
-    def add(self, name, kind, about, value, /, **labels):
+    def add(self, name: str, kind: str, about: str, value: object, /, **labels: object) -> None:
         """Adds a sample. A family has one type and one help: those of its first sample."""
         family = self.families.setdefault(name, (kind, about, []))
         family[2].append(("", labels, value))
 
-    def add_histogram(self, name, about, bounds, counts, total, /, **labels):
-        """Adds a histogram: how many values each bound has below it, and above the one before; the last count is of those above all bounds."""
+    def add_histogram(self, name: str, about: str, bounds: Sequence[float], counts: Sequence[int], total: float, /, **labels: object) -> None:
+        """Adds a histogram: how many values every bound has below it, and above the one before; the last count is of those above all bounds."""
         family = self.families.setdefault(name, ("histogram", about, []))
         below = 0
         for bound, count in zip([*(f"{bound:g}" for bound in bounds), "+Inf"], counts):
@@ -23,7 +26,7 @@ class Metrics:
             family[2].append(("_bucket", {**labels, "le": bound}, below))
         family[2].extend([("_sum", labels, round(total, 6)), ("_count", labels, below)])
 
-    def text(self):
+    def text(self) -> str:
         parts = []
         for name, (kind, about, samples) in sorted(self.families.items()):
             parts += [f"# HELP {name} {about}", f"# TYPE {name} {kind}"]
@@ -31,12 +34,12 @@ class Metrics:
         return "\n".join(parts) + "\n"
 
 
-def labels_text(labels):
+def labels_text(labels: dict[str, object]) -> str:
     quoted = ",".join(f"{name}={json.dumps(str(value), ensure_ascii=False)}" for name, value in labels.items())
     return f"{{{quoted}}}" if quoted else ""
 
 
-def replace_file(path, text, mode=0o644):
+def replace_file(path: str, text: str, mode: int = 0o644) -> None:
     """Writes a file that takes the place of the old one when it is whole on the disk. Until then its name doesn't end as the old one's."""
     new = f"{path}.new"
     try:

@@ -1,4 +1,6 @@
 """The machine around the counter: units, disks, sockets, copies, archives, the log of requests, and a probe."""
+from __future__ import annotations
+
 import contextlib
 import datetime
 import json
@@ -7,14 +9,16 @@ import re
 import shlex
 import subprocess
 import time
+from typing import Iterator
 
 from . import snapshot
+from .exposition import Metrics
 
 #: States of a socket in /proc/net/tcp: it listens, or it has asked for a connection that isn't accepted yet.
 LISTENS, ASKS = "0A", "02"
 
 
-def units(metrics, path):
+def units(metrics: Metrics, path: str) -> None:
     """What `systemctl show` wrote of units, in paragraphs."""
     with open(path, encoding="utf-8") as file:
         paragraphs = file.read().strip().split("\n\n")
@@ -27,27 +31,27 @@ def units(metrics, path):
             metrics.add("ladwenpik_unit_restarts_total", "counter", "How often systemd started the unit again by itself (NRestarts).", shown["NRestarts"], unit=name)
 
 
-def disk(metrics, path):
+def disk(metrics: Metrics, path: str) -> None:
     found = os.statvfs(path)
     metrics.add("ladwenpik_disk_free_bytes", "gauge", "Room on the disk of this path for a process without rights of its own.", found.f_bavail * found.f_frsize, path=path)
     metrics.add("ladwenpik_disk_size_bytes", "gauge", "Size of the disk of this path.", found.f_blocks * found.f_frsize, path=path)
 
 
-def store(metrics, path):
+def store(metrics: Metrics, path: str) -> None:
     """The sizes of the store's files. They aren't opened."""
     for name, end in (("store", ""), ("log", "-wal")):
         with contextlib.suppress(FileNotFoundError):
             metrics.add("ladwenpik_store_bytes", "gauge", "Size of the store's file and of the log beside it.", os.stat(path + end).st_size, file=name)
 
 
-def mounted(metrics, path):
+def mounted(metrics: Metrics, path: str) -> None:
     """A disk of its own. If it is away, its path lies on the disk of the folder above."""
     if os.stat(path).st_dev == os.stat(os.path.dirname(os.path.abspath(path))).st_dev:
         raise OSError(f"no disk is mounted at {path}")
     disk(metrics, path)
 
 
-def sockets(text, port):
+def sockets(text: str, port: int) -> Iterator[tuple[int, int, str, int]]:
     """The lines of /proc/net/tcp with this local or remote port: each one's local and remote port, its state, and how many connections wait at it."""
     for line in text.splitlines()[1:]:
         words = line.split()
@@ -56,7 +60,7 @@ def sockets(text, port):
             yield local, remote, words[3], int(words[4].rpartition(":")[2], 16)
 
 
-def strangers(metrics, port):
+def strangers(metrics: Metrics, port: int) -> None:
     """Whoever listens on the counter's port in the machine's own network. The counter doesn't: it has a network of its own."""
     text = "\n"
     for name in ("/proc/net/tcp", "/proc/net/tcp6"):
@@ -66,7 +70,7 @@ def strangers(metrics, port):
     metrics.add("ladwenpik_port_strangers", "gauge", "Sockets that listen on the counter's port in the machine's own network, where the counter doesn't.", count)
 
 
-def queue(metrics, folder, port):
+def queue(metrics: Metrics, folder: str, port: int) -> None:
     """Whether the counter listens in its network, and how many connections wait for it there and at its Unix socket, by what `prepare` wrote."""
     with open(os.path.join(folder, "tcp"), encoding="ascii") as file:
         found = list(sockets(file.read(), port))
@@ -79,7 +83,7 @@ def queue(metrics, folder, port):
         metrics.add("ladwenpik_waiting_connections", "gauge", "Connections that wait at the counter's port, of which it holds 128, and at its Unix socket.", waiting, at=at)
 
 
-def copies(metrics, folder):
+def copies(metrics: Metrics, folder: str) -> None:
     """Of copies. One that is named in the future, as by a clock that was wrong, doesn't hide that later ones are missing."""
     found = [taken for taken, path in snapshot.named_in(folder) if not os.path.basename(path).startswith("watch-")]
     known = [taken for taken in found if taken <= time.time()]
@@ -90,7 +94,7 @@ def copies(metrics, folder):
         metrics.add("ladwenpik_copy_timestamp_seconds", "gauge", "When the newest copy was taken, by a name that isn't later than now.", f"{max(known):.3f}")
 
 
-def archive(metrics, folder):
+def archive(metrics: Metrics, folder: str) -> None:
     """How far an archive reaches, by its end.json."""
     with open(os.path.join(folder, "end.json"), encoding="ascii") as file:
         end = json.load(file)
@@ -99,14 +103,14 @@ def archive(metrics, folder):
     metrics.add("ladwenpik_archive_requests", "gauge", "Requests that the archive has, with those of its first copy.", int(end["row"]), archive=folder)
 
 
-def requests_log(metrics, folder):
-    """How far the log of requests is behind nginx's log of posts, by what `prepare` wrote: the times of both logs' last entries. Both get each entry at once."""
+def requests_log(metrics: Metrics, folder: str) -> None:
+    """How far the log of requests is behind nginx's log of posts, by what `prepare` wrote: the times of both logs' last entries. Both get every entry at once."""
     with open(os.path.join(folder, "requests"), encoding="ascii") as file:
         posted, kept = (float(line) for line in file)
     metrics.add("ladwenpik_requests_log_behind_seconds", "gauge", "How much later the last entry of nginx's log of posts is than that of the log of requests.", f"{max(0.0, posted - kept):.3f}")
 
 
-def probe(metrics, command):
+def probe(metrics: Metrics, command: str) -> None:
     """A check as of Nagios, by its status: 0 and 1 mean that the counter answers. A check that can't be run or doesn't end has found no counter."""
     begun, status, said = time.monotonic(), 3, b""
     try:

@@ -1,6 +1,8 @@
 """Pictures as SVG for a page that is read on paper too: black, grey and hatched, each with its words and its table beside it."""
+from __future__ import annotations
+
 import html
-from typing import List, NamedTuple
+from typing import Any, List, NamedTuple
 
 WIDTH, HEIGHT, LEFT, RIGHT, TOP, BOTTOM = 720, 280, 64, 708, 34, 250
 HATCHED = '<defs><pattern id="NAME" width="6" height="6" patternUnits="userSpaceOnUse" patternTransform="rotate(45)"><rect width="6" height="6" fill="#fff"/><rect width="2" height="6" fill="#222"/></pattern></defs>'
@@ -8,30 +10,30 @@ FONT = "font-family:sans-serif;font-size:13px;fill:#111"
 
 
 class Group(NamedTuple):
-    """A label, and a value of each series, None for what isn't known."""
+    """A label, and a value of every series, None for what isn't known."""
 
     label: str
-    values: List
+    values: List[Any]
 
 
-def escaped(text):
+def escaped(text: object) -> str:
     return html.escape(str(text))
 
 
-def text_at(x, y, words, anchor="middle"):
+def text_at(x: float, y: float, words: str, anchor: str = "middle") -> str:
     return f'<text x="{x:.0f}" y="{y:.0f}" text-anchor="{anchor}" style="{FONT}">{escaped(words)}</text>'
 
 
-def name_of(title):
+def name_of(title: str) -> str:
     """The name of a picture's own pattern: a page has more pictures than one."""
     return "hatched-" + "".join(letter if letter.isalnum() else "-" for letter in title.lower())
 
 
-def fills(title):
+def fills(title: str) -> tuple[str, str]:
     return "#222", f"url(#{name_of(title)})"
 
 
-def step_of(most):
+def step_of(most: float) -> float:
     """The step of an axis: 1, 2 or 5 times a power of ten, five steps at most."""
     step = 0.001
     while True:
@@ -41,19 +43,19 @@ def step_of(most):
         step *= 10
 
 
-def number_text(value):
+def number_text(value: float | None) -> str:
     """A number as it stands on an axis and in a table."""
     if value is None:
         return "none"
     return f"{value:,.0f}" if value == int(value) else f"{value:,.3f}".rstrip("0")
 
 
-def svg(title, about, height, parts):
+def svg(title: str, about: str, height: int, parts: list[str]) -> str:
     inside = "\n".join([HATCHED.replace("NAME", name_of(title)), *parts])
     return f'<svg xmlns="http://www.w3.org/2000/svg" viewBox="0 0 {WIDTH} {height}" role="img" aria-label="{escaped(title)}. {escaped(about)}">\n<title>{escaped(title)}</title>\n<desc>{escaped(about)}</desc>\n{inside}\n</svg>'
 
 
-def axis(top, step):
+def axis(top: float, step: float) -> list[str]:
     parts, count = [], round(top / step)
     for nth in range(count + 1):
         y = BOTTOM - (BOTTOM - TOP) * nth / count
@@ -62,7 +64,7 @@ def axis(top, step):
     return parts
 
 
-def legend(title, series):
+def legend(title: str, series: list[str]) -> list[str]:
     parts, x = [], LEFT
     for place, name in enumerate(series):
         parts.append(f'<rect x="{x}" y="8" width="14" height="14" fill="{fills(title)[place]}" stroke="#222"/>')
@@ -71,8 +73,8 @@ def legend(title, series):
     return parts
 
 
-def columns(title, groups, series, limit=None):
-    """Upright bars by group, a bar for each series. `limit` draws a line that nothing should pass."""
+def columns(title: str, groups: list[Group], series: list[str], limit: float | None = None) -> str:
+    """Upright bars by group, a bar for every series. `limit` draws a line that nothing should pass."""
     known = [value for group in groups for value in group.values if value is not None]
     most = max([*known, limit or 0, 0.001])
     step = step_of(most)
@@ -93,7 +95,7 @@ def columns(title, groups, series, limit=None):
     return svg(title, said_of(groups, series), HEIGHT, [*legend(title, series), *parts])
 
 
-def rows(title, groups, series):
+def rows(title: str, groups: list[Group], series: list[str]) -> str:
     """Lying bars one below the other, of one series, each with its number."""
     most, left = max([group.values[0] for group in groups] + [1]), 190
     parts = []
@@ -105,7 +107,7 @@ def rows(title, groups, series):
     return svg(title, said_of(groups, series), 20 + 26 * len(groups), parts)
 
 
-def said_of(groups, series):
+def said_of(groups: list[Group], series: list[str]) -> str:
     """What a picture shows, in words: its extremes."""
     said = []
     for place, name in enumerate(series):
@@ -116,14 +118,14 @@ def said_of(groups, series):
     return "; ".join(said) or "No values"
 
 
-def cell_text(name, value):
+def cell_text(name: str, value: float | None) -> str:
     if value is not None and name == "Dollars":
         return f"{value:,.2f}"
     return f"{value:.3f}" if value is not None and name.endswith("seconds") else number_text(value)
 
 
-def table(caption, heads, groups):
-    """A table with a row for each group. A column of dollars has cents, one of seconds milliseconds."""
+def table(caption: str, heads: list[str], groups: list[Group]) -> str:
+    """A table with a row for every group. A column of dollars has cents, one of seconds milliseconds."""
     head = "".join(f'<th scope="col">{escaped(name)}</th>' for name in heads)
     lines = []
     for group in groups:

@@ -1,4 +1,6 @@
 """The proxy's log: entries of samples/watch/watch.conf, or of the logs of samples/nginx, followed through rotations."""
+from __future__ import annotations
+
 import bisect
 import glob
 import gzip
@@ -6,7 +8,7 @@ import hashlib
 import json
 import os
 import re
-from typing import NamedTuple, Optional
+from typing import Any, BinaryIO, Iterator, NamedTuple, Optional
 
 REFUSALS = {
     10: "NumberReused", 11: "Empty", 12: "TooMany", 13: "Repeated", 14: "SameCoowner", 20: "NotAnnouncementMonth", 21: "RateConflict", 22: "RateUnsettled",
@@ -43,30 +45,35 @@ class Entry(NamedTuple):
 # ---- following
 
 
-def mark_of(path):
+def opened(path: str) -> gzip.GzipFile | BinaryIO:
+    """A file of the log, which may be compressed."""
+    return gzip.GzipFile(path) if path.endswith(".gz") else open(path, "rb")
+
+
+def mark_of(path: str) -> str:
     """By what a file of the log is known again when it has another name: its first line. An empty text for a file without a whole line."""
-    with (gzip.open if path.endswith(".gz") else open)(path, "rb") as file:
+    with opened(path) as file:
         line = file.readline(MARK)
     return hashlib.sha256(line).hexdigest() if line.endswith(b"\n") or len(line) == MARK else ""
 
 
-def files_of(path):
+def files_of(path: str) -> list[str]:
     """The log and its rotated files, the newest first."""
     rotated = [other for end in (".[0-9]*", "-[0-9]*") for other in glob.glob(glob.escape(path) + end)]
     found = sorted(rotated, key=lambda other: os.stat(other).st_mtime, reverse=True)
     return [path, *found] if os.path.exists(path) else found
 
 
-def lines_from(path, offset):
+def lines_from(path: str, offset: int) -> Iterator[bytes]:
     """The whole lines behind an offset."""
-    with (gzip.open if path.endswith(".gz") else open)(path, "rb") as file:
+    with opened(path) as file:
         file.seek(offset)
         for line in file:
             if line.endswith(b"\n"):
                 yield line
 
 
-def follow(path, place):
+def follow(path: str, place: dict[str, Any]) -> Iterator[bytes]:
     """Yields the lines that came after `place`, each once, and brings it forward. Without a place it begins with the log as it is now. If the file of the place
     is gone, lines were lost: `place["gaps"]` counts it."""
     files = files_of(path)
@@ -89,7 +96,7 @@ def follow(path, place):
 # ---- entries
 
 
-def route_of(text):
+def route_of(text: str) -> str:
     """One of the counter's routes, without what follows in a path: a customer, a ticket or a day. So no such thing becomes a label."""
     if text in WRITING:
         return text
@@ -97,20 +104,20 @@ def route_of(text):
     return first if first in (*READING, "/teller") else "other"
 
 
-def number_in(text, most=19):
+def number_in(text: object, most: int = 19) -> int | None:
     return int(text) if isinstance(text, str) and re.fullmatch(rf"\d{{1,{most}}}", text) else None
 
 
-def seconds_in(text):
+def seconds_in(text: object) -> float | None:
     return float(text) if isinstance(text, str) and re.fullmatch(r"\d+(\.\d+)?", text) else None
 
 
-def cents_in(text):
+def cents_in(text: object) -> int | None:
     found = re.fullmatch(r"(\d+)\.(\d\d)", text) if isinstance(text, str) else None
     return int(found[1] + found[2]) if found else None
 
 
-def entry_of(line):
+def entry_of(line: bytes) -> Entry | None:
     """The entry of a line of watch.conf, or of a log with bodies and replies. None for any other line. Before the brace syslog writes what it likes."""
     start = line.find(b"{")
     try:
@@ -123,13 +130,13 @@ def entry_of(line):
     if "body" in read:
         read.update(of_texts(read["body"], read.get("reply", "")))
     by = "counter" if read.get("counter") == status and status not in ("502", "504") else "nginx"
-    numbers = [number_in(read.get(name)) for name in ("desk", "number", "code", "ticket")]
-    return Entry(at, route_of(str(read.get("route", ""))), status, by, seconds_in(read.get("took")), *numbers, cents_in(read.get("total")))
+    desk, number, code, ticket = (number_in(read.get(name)) for name in ("desk", "number", "code", "ticket"))
+    return Entry(at, route_of(str(read.get("route", ""))), status, by, seconds_in(read.get("took")), desk, number, code, ticket, cents_in(read.get("total")))
 
 
-def of_texts(body, reply):
+def of_texts(body: Any, reply: Any) -> dict[str, str]:
     """What watch.conf takes from a body and a reply."""
-    found = {}
+    found: dict[str, str] = {}
     for text, names in ((body, ("desk", "number")), (reply, ("code", "ticket", "total"))):
         try:
             read = json.loads(text)
@@ -144,7 +151,7 @@ def of_texts(body, reply):
 # ---- numbers that were seen
 
 
-def see(ranges, number):
+def see(ranges: list[list[int]], number: int) -> bool:
     """Adds a number to ranges that are in order and apart. True if it was there already. Beyond MOST_RANGES the lowest is forgotten."""
     place = bisect.bisect_right(ranges, [number, number])
     for held in ranges[max(0, place - 1) : place + 1]:

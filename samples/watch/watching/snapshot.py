@@ -1,4 +1,6 @@
 """The newest snapshot of a store, read by SQLite without a lock, a log or an index beside it: nothing is written, and the live store is never opened."""
+from __future__ import annotations
+
 import calendar
 import contextlib
 import os
@@ -6,6 +8,9 @@ import re
 import sqlite3
 import time
 import urllib.parse
+from typing import Any, Iterator
+
+from .exposition import Metrics
 
 #: The names that samples/snapshots/snapshot_copy gives, and those of samples/watch/prepare.
 NAME = re.compile(r"(?:watch-)?(\d{4}-\d\d-\d\dT\d\d-\d\d-\d\d)\.(\d{9})Z")
@@ -13,18 +18,19 @@ VERSION = 2
 UNPAID = "SELECT count(*), ifnull(sum(denom), 0) FROM bonds WHERE ticket IS NULL"
 
 
-def seconds_of(name):
+def seconds_of(name: str) -> float | None:
     """When a snapshot of this name was taken. None for any other name."""
     found = NAME.fullmatch(name)
     return calendar.timegm(time.strptime(found[1], "%Y-%m-%dT%H-%M-%S")) + int(found[2]) / 1e9 if found else None
 
 
-def named_in(folder):
+def named_in(folder: str) -> list[tuple[float, str]]:
     """The snapshots of a folder, with their seconds, the oldest first."""
-    return sorted((seconds_of(name), os.path.join(folder, name)) for name in os.listdir(folder) if NAME.fullmatch(name))
+    found = ((seconds_of(name), os.path.join(folder, name)) for name in os.listdir(folder))
+    return sorted((seconds, path) for seconds, path in found if seconds is not None)
 
 
-def newest(folders):
+def newest(folders: list[str]) -> tuple[float, str]:
     """The newest snapshot of all these folders, with its second."""
     found = []
     for folder in folders:
@@ -36,7 +42,7 @@ def newest(folders):
 
 
 @contextlib.contextmanager
-def opened(path):
+def opened(path: str) -> Iterator[sqlite3.Connection]:
     """Reads a store in a snapshot that nothing writes. With exclusive locking SQLite keeps its index of the log in memory, and `unix-none` takes no lock, so it
     works in a folder that can't be written. Never use this for a store that a process has open."""
     books = sqlite3.connect(f"file:{urllib.parse.quote(path)}?mode=ro&vfs=unix-none", uri=True)
@@ -47,10 +53,10 @@ def opened(path):
         books.close()
 
 
-def figures(path):
+def figures(path: str) -> dict[str, Any]:
     """What the store's tables tell. Money is in cents, a day is its number from 1970-01-01."""
     with opened(path) as books:
-        def ask(statement, *values):
+        def ask(statement: str, *values: object) -> Any:
             return books.execute(statement, values).fetchone()
 
         version, day, last_day = ask("SELECT version, day, last_day FROM desk WHERE id = 1")
@@ -69,15 +75,16 @@ def figures(path):
         }
 
 
-def day_starts(day):
+def day_starts(day: int) -> tuple[float, float]:
     """The second at which a day begins by the machine's clock, and the second at which it ends."""
     date = time.gmtime(day * 86400)
-    return tuple(time.mktime((date.tm_year, date.tm_mon, date.tm_mday + later, 0, 0, 0, 0, 0, -1)) for later in (0, 1))
+    start, end = (time.mktime((date.tm_year, date.tm_mon, date.tm_mday + later, 0, 0, 0, 0, 0, -1)) for later in (0, 1))
+    return start, end
 
 
-def tell(metrics, taken, found):
+def tell(metrics: Metrics, taken: float, found: dict[str, Any]) -> None:
     """Adds the metrics of a snapshot."""
-    def gauge(name, about, value):
+    def gauge(name: str, about: str, value: str | int) -> None:
         metrics.add(f"ladwenpik_{name}", "gauge", about, value)
 
     gauge("snapshot_timestamp_seconds", "When the snapshot was taken that the metrics of books are of.", f"{taken:.3f}")
