@@ -1,6 +1,9 @@
 """The list of materials in CycloneDX 1.6 (JSON), made from the one in SPDX: the same parts, sums and dependencies."""
+from __future__ import annotations
+
 import json
 import uuid
+from typing import Any
 
 from sbom import NO_LICENCE
 
@@ -11,11 +14,11 @@ NEEDS = ("DESCRIBES", "CONTAINS", "DEPENDS_ON")
 TOOLCHAIN, WHOLE = "toolchain", "DOCUMENT"
 
 
-def short(identity):
+def short(identity: str) -> str:
     return identity.removeprefix("SPDXRef-")
 
 
-def component(part):
+def component(part: dict[str, Any]) -> dict[str, Any]:
     """A part. A Debian package is named by its purl; of a crate the purl names what it was ported from, its ancestor."""
     found = {"type": TYPES[part["primaryPackagePurpose"]], "bom-ref": short(part["SPDXID"]), "name": part["name"], "version": part["versionInfo"]}
     if "comment" in part:
@@ -36,16 +39,16 @@ def component(part):
     return found
 
 
-def dependencies(listed, names):
-    """Each part with those that it needs."""
-    needed = {name: set() for name in names}
+def dependencies(listed: dict[str, Any], names: list[str]) -> list[dict[str, Any]]:
+    """Every part with those that it needs."""
+    needed: dict[str, set[str]] = {name: set() for name in names}
     for relation in listed["relationships"]:
         if relation["relationshipType"] in NEEDS:
             needed[short(relation["spdxElementId"])].add(short(relation["relatedSpdxElement"]))
     return [{"ref": name, "dependsOn": sorted(needed[name])} for name in names]
 
 
-def document(listed):
+def document(listed: dict[str, Any]) -> dict[str, Any]:
     """The document, from that of SPDX. Its serial number follows from the name of that one, so the same sources give the same bytes."""
     parts = [component(part) for part in listed["packages"]]
     tools = [{"type": "application", "name": "packaging/build"}, *(part for part in parts if part["bom-ref"] == TOOLCHAIN)]
@@ -67,5 +70,5 @@ def document(listed):
     }
 
 
-def text(listed):
+def text(listed: dict[str, Any]) -> str:
     return json.dumps(document(listed), indent=1, ensure_ascii=False) + "\n"

@@ -1,8 +1,10 @@
 """The evidence of a build: a text that names what the packages were made from, by what they were proved, and their sums."""
+from __future__ import annotations
+
 import datetime
 import re
 from pathlib import Path
-from typing import List, NamedTuple, Optional
+from typing import Iterator, List, NamedTuple, Optional
 
 import sources
 from sources import TOP, Unfit, sum_of
@@ -37,11 +39,11 @@ class Facts(NamedTuple):
     packages: List[Path]
 
 
-def time_text(seconds):
+def time_text(seconds: int) -> str:
     return datetime.datetime.fromtimestamp(seconds, datetime.timezone.utc).strftime("%Y-%m-%dT%H:%M:%SZ")
 
 
-def kit():
+def kit() -> str:
     """The toolchain's identity, as README names it."""
     found = re.search(r"`(rattle-kit-\S+ logic [0-9a-f]+)`", (TOP / "README.md").read_text())
     if not found:
@@ -52,7 +54,7 @@ def kit():
 # ---- the gate's log
 
 
-def section(lines, crate):
+def section(lines: list[str], crate: str) -> list[str]:
     """What the gate printed of a crate's own proof."""
     begin, end = f"== {crate}", f"rt: {crate} proved"
     if begin not in lines or end not in lines:
@@ -60,7 +62,7 @@ def section(lines, crate):
     return lines[lines.index(begin) : lines.index(end)]
 
 
-def verdict_of(lines, crate):
+def verdict_of(lines: list[str], crate: str) -> str:
     """The toolchain's last line on a crate, if it is a verdict from nothing by the toolchain that README names."""
     found = [line for line in section(lines, crate) if line.startswith("logic=")]
     if not found or not VERDICT.fullmatch(found[-1]) or f"sum={kit().split()[-1]} " not in found[-1]:
@@ -68,12 +70,12 @@ def verdict_of(lines, crate):
     return found[-1]
 
 
-def count_of_sources():
+def count_of_sources() -> int:
     """How many crates the gate proves, and how many must-fail edits it tries."""
     return len(sources.crates_file()) + len(list(TOP.glob("crates/*/must-fail/*.edit")))
 
 
-def tested_gate(log):
+def tested_gate(log: Path) -> list[str]:
     """The lines of a log of the gate, if it is of these sources and of the program in crates/ee_cli/out, and everything was
     done in that run. Unfit says what it isn't."""
     lines, own, count = log.read_text(errors="replace").splitlines(), sources.record_of_sources(), count_of_sources()
@@ -94,7 +96,7 @@ def tested_gate(log):
     return lines
 
 
-def kept_line():
+def kept_line() -> str | None:
     """The last line on the program's crate in the log of ./ee_cli. None if it isn't there."""
     log = sources.PROGRAM.with_suffix(".log")
     own = log.read_text(errors="replace").partition("\ncrate ee_cli: ")[2] if log.exists() else ""
@@ -105,7 +107,7 @@ def kept_line():
 # ---- the parts of the text
 
 
-def of_sources(facts):
+def of_sources(facts: Facts) -> Iterator[str]:
     yield f"commit     {facts.commit or 'not known: built outside a checkout of git'}"
     yield f"time       {time_text(facts.epoch)}"
     if facts.changed is not None:
@@ -115,15 +117,15 @@ def of_sources(facts):
     yield "           of crates.txt and the program's crates, as ./ee_cli computes it"
 
 
-def of_toolchain(facts):
+def of_toolchain(facts: Facts) -> Iterator[str]:
     yield f"kit        {kit()}"
     yield "           as README.md names it; `rt version` prints it"
     yield from of_verdict(facts)
 
 
-def of_verdict(facts):
+def of_verdict(facts: Facts) -> Iterator[str]:
     """Whether there is a verdict from nothing on the program, and the toolchain's own lines."""
-    if facts.origin == GATE:
+    if facts.origin == GATE and facts.ci_log is not None:
         lines = tested_gate(facts.ci_log)
         yield "verdict    from nothing"
         yield f"checker    {verdict_of(lines, 'ee_cli')}"
@@ -136,7 +138,7 @@ def of_verdict(facts):
         yield "           incremental=trusted: it rests on kept work"
 
 
-def of_files(facts):
+def of_files(facts: Facts) -> Iterator[str]:
     yield f"program    {sum_of(facts.program)}  usr/bin/ee_cli"
     yield f"           {facts.origin}"
     for name in sources.LIBRARY_FILES:
@@ -146,7 +148,7 @@ def of_files(facts):
     yield f"           {made if facts.is_library_built else named}"
 
 
-def of_gate(facts):
+def of_gate(facts: Facts) -> Iterator[str]:
     if facts.ci_log is None:
         yield "not given"
         return
@@ -156,7 +158,7 @@ def of_gate(facts):
     yield from (f"           {line}" for line in lines[-LINES:])
 
 
-def of_axioms():
+def of_axioms() -> Iterator[str]:
     """The section of docs/ASSUMPTIONS.md that lists what the checker's verdict assumes."""
     text = (TOP / "docs" / "ASSUMPTIONS.md").read_text()
     found = re.search(r"^The checker's verdict on the program .*?(?=^## )", text, re.M | re.S)
@@ -165,12 +167,12 @@ def of_axioms():
     yield from found[0].rstrip("\n").split("\n")
 
 
-def of_packages(facts, materials):
+def of_packages(facts: Facts, materials: list[Path]) -> Iterator[str]:
     for path in [*facts.packages, *materials]:
         yield f"{sum_of(path)}  {path.name}"
 
 
-def text(facts, materials):
+def text(facts: Facts, materials: list[Path]) -> str:
     """The whole text. `materials` are the files of the list of materials."""
     parts = {
         "Sources": of_sources(facts),

@@ -1,4 +1,6 @@
 """Lays out the source package that debhelper packs: what the repository has, with the paths of the packages in place of /opt/counter."""
+from __future__ import annotations
+
 import os
 import shutil
 from pathlib import Path
@@ -25,7 +27,7 @@ NAMED = (("samples/nginx/sign_in_password.conf", "samples/nginx/sign_in.conf"), 
 PAGES = (".md", ".json", ".png", ".a", ".1")
 
 
-def lay_out(tree, program, library, version, epoch):
+def lay_out(tree: Path, program: Path, library: Path, version: str, epoch: int) -> None:
     """Writes the source package into a folder that isn't there yet."""
     tree.mkdir()
     for name in TAKEN:
@@ -46,16 +48,16 @@ def lay_out(tree, program, library, version, epoch):
     settle(tree, epoch)
 
 
-def copy(old, new):
+def copy(old: Path, new: Path) -> None:
     ignored = shutil.ignore_patterns("out", "__pycache__")
     shutil.copytree(old, new, ignore=ignored) if old.is_dir() else shutil.copy(old, new)
 
 
-def files(tree):
+def files(tree: Path) -> list[Path]:
     return sorted(path for path in tree.rglob("*") if path.is_file())
 
 
-def write_pkgconfig(path, version):
+def write_pkgconfig(path: Path, version: str) -> None:
     path.write_text(
         "prefix=/usr\n"
         "includedir=${prefix}/include\n"
@@ -68,7 +70,7 @@ def write_pkgconfig(path, version):
     )
 
 
-def put_paths(path):
+def put_paths(path: Path) -> None:
     """Puts the packages' paths into a file of samples or clients."""
     if path.suffix in PAGES or path.parent.name in ("program", "debian", "man"):
         return
@@ -78,8 +80,8 @@ def put_paths(path):
     path.write_text(text)
 
 
-def settle(tree, epoch):
-    """Gives each file the rights that its executable bit says, and the one time, whatever this checkout has."""
+def settle(tree: Path, epoch: int) -> None:
+    """Gives every file the rights that its executable bit says, and the one time, whatever this checkout has."""
     for path in [tree, *tree.rglob("*")]:
         if not path.is_symlink():
             path.chmod(0o755 if path.is_dir() or path.stat().st_mode & 0o100 else 0o644)

@@ -1,7 +1,10 @@
-"""The list of what the packages are made of, in SPDX 2.3 (JSON): the program, the library, each crate that they stand on, and the packages that have them."""
+"""The list of what the packages are made of, in SPDX 2.3 (JSON): the program, the library, every crate that they stand on, and the packages that have them."""
+from __future__ import annotations
+
 import csv
 import json
 from pathlib import Path
+from typing import Any
 
 import evidence
 import sources
@@ -16,7 +19,7 @@ OWN_LICENCE = "No licence has been chosen. Only the owner can choose one."
 class Crates:
     """The crates of the repository that program and library stand on, and those of the toolchain, with what each was ported from."""
 
-    def __init__(self):
+    def __init__(self) -> None:
         self.uses = sources.crates_file()
         with open(TOP / "packaging" / "ported_crates.csv", newline="") as file:
             self.ported = {row["name"]: row for row in csv.DictReader(file)}
@@ -26,16 +29,16 @@ class Crates:
         if lacking:
             raise Unfit(f"packaging/ported_crates.csv lacks {', '.join(lacking)}")
 
-    def edges(self):
-        """Each crate of the repository with what crates.txt says that it uses."""
+    def edges(self) -> list[tuple[str, str]]:
+        """Every crate of the repository with what crates.txt says that it uses."""
         return [(name, used) for name in self.own for used in sorted(self.uses[name])]
 
 
-def spdx_id(kind, name):
+def spdx_id(kind: str, name: str) -> str:
     return f"SPDXRef-{kind}-{name.replace('_', '-')}"
 
 
-def package(identity, name, version, **more):
+def package(identity: str, name: str, version: str, **more: Any) -> dict[str, Any]:
     return {
         "SPDXID": identity,
         "name": name,
@@ -49,17 +52,17 @@ def package(identity, name, version, **more):
     }
 
 
-def sha256(path):
-    return [{"algorithm": "SHA256", "checksumValue": evidence.sum_of(path)}]
+def sha256(path: Path) -> list[dict[str, str]]:
+    return [{"algorithm": "SHA256", "checksumValue": sources.sum_of(path)}]
 
 
-def own_crate(name, version):
+def own_crate(name: str, version: str) -> dict[str, Any]:
     return package(spdx_id("crate", name), name, version, primaryPackagePurpose="LIBRARY", licenseComments=OWN_LICENCE)
 
 
-def ported_crate(row, kit):
+def ported_crate(row: dict[str, str], kit: str) -> dict[str, Any]:
     """A crate of the toolchain. Its version is the toolchain's; what it was ported from is named beside it, for whoever looks for known weaknesses."""
-    more = {"primaryPackagePurpose": "LIBRARY"}
+    more: dict[str, Any] = {"primaryPackagePurpose": "LIBRARY"}
     if row["ported_from"]:
         more["licenseDeclared"] = row["licence"]
         more["comment"] = f"After the Rust crate {row['ported_from']} {row['version']}, ported to Rattle. The toolchain's pages say what was taken over."
@@ -71,17 +74,17 @@ def ported_crate(row, kit):
     return package(spdx_id("crate", row["name"]), row["name"], kit, **more)
 
 
-def debian_package(path):
+def debian_package(path: Path) -> dict[str, Any]:
     name, version, architecture = path.stem.split("_")
     reference = {"referenceCategory": "PACKAGE-MANAGER", "referenceType": "purl", "referenceLocator": f"pkg:deb/{name}@{version}?arch={architecture}"}
     return package(spdx_id("deb", name), name, version, packageFileName=path.name, checksums=sha256(path), externalRefs=[reference], licenseComments=OWN_LICENCE, primaryPackagePurpose="INSTALL")
 
 
-def relation(one, kind, other):
+def relation(one: str, kind: str, other: str) -> dict[str, str]:
     return {"spdxElementId": one, "relationshipType": kind, "relatedSpdxElement": other}
 
 
-def document(facts, crates):
+def document(facts: evidence.Facts, crates: Crates) -> dict[str, Any]:
     kit, release = evidence.kit(), facts.version.rsplit("-", 1)[0]
     program = package(spdx_id("program", PROGRAM), PROGRAM, release, checksums=sha256(facts.program), licenseComments=OWN_LICENCE, primaryPackagePurpose="APPLICATION")
     shared = Path(facts.library) / "libee_value.so.1"
@@ -96,14 +99,14 @@ def document(facts, crates):
         "dataLicense": "CC0-1.0",
         "SPDXID": "SPDXRef-DOCUMENT",
         "name": f"ladwenpik-{facts.version}",
-        "documentNamespace": f"https://ladwenpik.example/spdx/{facts.version}/{evidence.sum_of(facts.program)}",
+        "documentNamespace": f"https://ladwenpik.example/spdx/{facts.version}/{sources.sum_of(facts.program)}",
         "creationInfo": {"created": evidence.time_text(facts.epoch), "creators": ["Tool: packaging/build", "Organization: Ladwenpik maintainers"]},
         "packages": made,
         "relationships": relations(crates, [deb["SPDXID"] for deb in debs]),
     }
 
 
-def relations(crates, debs):
+def relations(crates: Crates, debs: list[str]) -> list[dict[str, str]]:
     program, library = spdx_id("program", PROGRAM), spdx_id("library", "ee_value")
     contained = {"ladwenpik": program, "libee-value1": library, "libee-value-dev": library}
     yielded = [relation("SPDXRef-DOCUMENT", "DESCRIBES", deb) for deb in debs]
@@ -116,5 +119,5 @@ def relations(crates, debs):
     return yielded + [relation(program, "DEPENDS_ON", spdx_id("crate", name)) for name in below]
 
 
-def text(listed):
+def text(listed: dict[str, Any]) -> str:
     return json.dumps(listed, indent=1, ensure_ascii=False) + "\n"

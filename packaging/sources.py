@@ -1,4 +1,6 @@
 """What the packages are built from: the checkout, its commit, and whether the program and the library are those of the sources as they are."""
+from __future__ import annotations
+
 import hashlib
 import os
 import re
@@ -6,6 +8,7 @@ import shutil
 import subprocess
 import sys
 from pathlib import Path
+from typing import Iterable
 
 TOP = Path(__file__).resolve().parent.parent
 PROGRAM = TOP / "crates" / "ee_cli" / "out" / "ee_cli"
@@ -26,7 +29,7 @@ class Unfit(Exception):
     """The packages can't be built, and why."""
 
 
-def told(*words, cwd=TOP, env=None):
+def told(*words: str | Path, cwd: Path = TOP, env: dict[str, str] | None = None) -> str:
     """What a command printed; Unfit if it fails."""
     ran = subprocess.run(words, cwd=cwd, env=env, stdout=subprocess.PIPE, stderr=subprocess.STDOUT, text=True)
     if ran.returncode != 0:
@@ -34,22 +37,23 @@ def told(*words, cwd=TOP, env=None):
     return ran.stdout
 
 
-def sum_of(path):
+def sum_of(path: Path) -> str:
     return hashlib.sha256(Path(path).read_bytes()).hexdigest()
 
 
-def checksum(name, **env):
+def checksum(name: str, **env: str) -> str:
     """The checksum of the sources of a program or a library of this repository, as ./ee_cli computes it. That sorts names
     by the locale: LC_ALL=C gives a checksum that is the same everywhere."""
     script = (TOP / "ee_cli").read_text()
-    found = [re.search(rf"^{function}\(\) \{{\n.*?^\}}\n", script, re.M | re.S) for function in FUNCTIONS]
-    if None in found:
+    matches = [re.search(rf"^{function}\(\) \{{\n.*?^\}}\n", script, re.M | re.S) for function in FUNCTIONS]
+    found = [match[0] for match in matches if match is not None]
+    if len(found) != len(FUNCTIONS):
         raise Unfit("./ee_cli no longer has the functions that compute the checksum of sources")
-    script = f'top=$1\n{"".join(match[0] for match in found)}checksum "$2"'
+    script = f'top=$1\n{"".join(found)}checksum "$2"'
     return told("bash", "-c", script, "checksum", str(TOP), name, env={**os.environ, **env}).strip()
 
 
-def proved_program():
+def proved_program() -> Path:
     """The program, if ./ee_cli proved and built it from the sources as they are, and the toolchain's stamp names it."""
     name, record = PROGRAM.relative_to(TOP), PROGRAM.with_suffix(".sources")
     again = "run ./ee_cli --version, or name a program by --program"
@@ -63,16 +67,16 @@ def proved_program():
     return PROGRAM
 
 
-def record_of_sources():
+def record_of_sources() -> list[str]:
     """The lines of a log of the gate that say what it is of."""
     return [f"packaging: sources of {name} {checksum(name, LC_ALL='C').split()[0]}" for name in CRATES]
 
 
-def record_of_program():
+def record_of_program() -> str:
     return f"packaging: program {sum_of(PROGRAM)}"
 
 
-def prove(log):
+def prove(log: Path) -> None:
     """Proves everything from nothing by `rt ci --anew`, which leaves its program in crates/ee_cli/out. The log has what rt
     prints. Before it stand the checksums of the sources; after it these again, and the program's."""
     if shutil.which("rt") is None:
@@ -81,20 +85,20 @@ def prove(log):
     print(say, file=sys.stderr, flush=True)
     with open(log, "w") as file:
         print(*record_of_sources(), sep="\n", file=file, flush=True)
-        how = {"cwd": TOP, "stdin": subprocess.DEVNULL, "stdout": file, "stderr": subprocess.STDOUT}
-        status = subprocess.run(["rt", "ci", "--anew"], **how).returncode
+        words = ["rt", "ci", "--anew"]
+        status = subprocess.run(words, cwd=TOP, stdin=subprocess.DEVNULL, stdout=file, stderr=subprocess.STDOUT).returncode
         if status != 0:
             raise Unfit(f"rt ci --anew ended with status {status}: read {log}")
         print(*record_of_sources(), record_of_program(), sep="\n", file=file)
 
 
-def library_record():
+def library_record() -> str:
     """The checksums of all that the library is made from, its crates and the script that builds it, and of its files."""
     made = [f"{sum_of(LIBRARY / name)}  {name}\n" for name in LIBRARY_FILES]
     return f"{checksum('ee_value_c')}\n{told('sha256sum', 'clients/value/build').strip()}\n{''.join(made)}"
 
 
-def proved_library():
+def proved_library() -> Path:
     """The folder of the library. It is proved and built first, unless this was done from the sources as they are."""
     is_there = all((LIBRARY / name).exists() for name in LIBRARY_FILES)
     if is_there and LIBRARY_SOURCES.exists() and LIBRARY_SOURCES.read_text() == library_record():
@@ -108,7 +112,7 @@ def proved_library():
     return LIBRARY
 
 
-def commit():
+def commit() -> tuple[str | None, int | None, list[str] | None]:
     """The commit's hash, its time in seconds, and the files that differ from it; None for each if this is no checkout of git."""
     if not (TOP / ".git").exists() or shutil.which("git") is None:
         return None, None, None
@@ -117,21 +121,32 @@ def commit():
     return name, int(seconds), changed
 
 
-def moment(seconds):
+def check_tag(version: str) -> None:
+    """A release is of a commit that has its number as a tag, with nothing changed since."""
+    name, _, changed = commit()
+    if name is None or changed is None:
+        raise Unfit(f"a release is built in a clone at its tag v{version}, and this is no checkout of git")
+    if f"v{version}" not in told("git", "tag", "--points-at", "HEAD").split():
+        raise Unfit(f"a release is built at its tag: commit {name[:12]} has no tag v{version}")
+    if changed:
+        raise Unfit(f"a release is built at its tag, and these files differ from v{version}: {', '.join(changed)}")
+
+
+def moment(seconds: int | None) -> int:
     """The one time that all files of the packages have: SOURCE_DATE_EPOCH, or the commit's time."""
-    given = os.environ.get("SOURCE_DATE_EPOCH")
-    if given is None and seconds is None:
+    given = os.environ.get("SOURCE_DATE_EPOCH") or seconds
+    if given is None:
         raise Unfit("this is no checkout of git: say the time of the sources by SOURCE_DATE_EPOCH")
-    return int(given or seconds)
+    return int(given)
 
 
-def crates_file():
+def crates_file() -> dict[str, list[str]]:
     """The crates of crates.txt, each with what it stands on."""
     lines = [line for line in (TOP / "crates.txt").read_text().splitlines() if line and not line.startswith("#")]
     return {line.split(":")[0].split()[0]: line.split(":")[1].split() for line in lines}
 
 
-def closure(names, uses):
+def closure(names: Iterable[str], uses: dict[str, list[str]]) -> set[str]:
     """All crates that these stand on, with themselves."""
     seen, waiting = set(), list(names)
     while waiting:
