@@ -1,13 +1,17 @@
 """What the scripts of tests/ share: verdicts, other programs, messages and answers, servers, and a load whose answers the rules give."""
+from __future__ import annotations
+
 import contextlib, json, os, re, signal, socket, sqlite3, subprocess, sys, threading, time
+from pathlib import Path
+from typing import Any, AnyStr, Callable, IO, Iterable, Iterator, NoReturn, Sequence
 
 
-def stop(*_):
+def stop(*_: object) -> NoReturn:
     """A script that is stopped cleans up as one that ends."""
     sys.exit("stopped")
 
 
-def forget_stop():
+def forget_stop() -> None:
     """A process that a script forks ends at once when it is stopped, as the workers of a pool have to."""
     if signal.getsignal(signal.SIGTERM) is stop:
         signal.signal(signal.SIGTERM, signal.SIG_DFL)
@@ -15,6 +19,11 @@ def forget_stop():
 
 signal.signal(signal.SIGTERM, stop)
 os.register_at_fork(after_in_child=forget_stop)
+
+#: The status and the body of an answer.
+Answer = tuple[int, str]
+#: A request of a load: what it does, and its turn.
+Name = tuple[str, int]
 
 TOP = os.path.dirname(os.path.dirname(os.path.dirname(os.path.abspath(__file__))))
 TABLES = ("desk", "rates", "extensions", "bonds", "tickets", "paid", "batches", "answers")
@@ -33,34 +42,34 @@ BONDS = [
 ]
 
 
-def wrong(what, found=""):
+def wrong(what: str, found: object = "") -> NoReturn:
     sys.exit(f"WRONG: {what}\n{found}")
 
 
-def right_or_end(is_right, what, found=""):
+def right_or_end(is_right: object, what: str, found: object = "") -> None:
     """The same as `right`, for what is tested many times: only what is wrong is printed."""
     if not is_right:
         wrong(what, found)
 
 
-def right(is_right, what, found=""):
+def right(is_right: object, what: str, found: object = "") -> None:
     right_or_end(is_right, what, found)
     print(f"right: {what}", flush=True)
 
 
-def in_own(kind, *options):
+def in_own(kind: str, *options: str) -> None:
     """Run this script again in a namespace of its own of a kind that `unshare` knows: mount, net."""
     if os.environ.get("TEST_NAMESPACE") != kind:
         os.environ["TEST_NAMESPACE"] = kind
         os.execvp("unshare", ["unshare", f"--{kind}", *options, sys.executable, os.path.abspath(sys.argv[0]), *sys.argv[1:]])
 
 
-def run(*words, **more):
+def run(*words: str | Path, **more: Any) -> subprocess.CompletedProcess[str]:
     """How a command ended, with both of its outputs in one text."""
     return subprocess.run(words, stdout=subprocess.PIPE, stderr=subprocess.STDOUT, text=True, **more)
 
 
-def done(*words):
+def done(*words: str | Path) -> str:
     """What a command printed, which has to end with status 0."""
     ran = run(*words)
     if ran.returncode != 0:
@@ -68,7 +77,21 @@ def done(*words):
     return ran.stdout
 
 
-def replaced(text, changes):
+def matched(pattern: AnyStr, text: AnyStr) -> re.Match[AnyStr]:
+    """Where a pattern is first in a text, which has to have it."""
+    found = re.search(pattern, text)
+    if found is None:
+        wrong(f"nothing is like {pattern!r}", text)
+    return found
+
+
+def piped(pipe: IO[AnyStr] | None) -> IO[AnyStr]:
+    """The end of a pipe to a process that was begun with one."""
+    assert pipe is not None
+    return pipe
+
+
+def replaced(text: str, changes: Iterable[tuple[str, str]]) -> str:
     """The text of a sample with each old part replaced, which has to be there."""
     for old, new in changes:
         if old not in text:
@@ -77,36 +100,37 @@ def replaced(text, changes):
     return text
 
 
-def sql(store, text):
+def sql(store: str | Path, text: str) -> str:
     """What the command `sqlite3` prints."""
     return subprocess.run(["sqlite3", store, text], stdout=subprocess.PIPE, stderr=subprocess.PIPE, text=True, check=True).stdout
 
 
-def make_version_one(store, bonds, tickets, *words):
+def make_version_one(store: str | Path, bonds: int, tickets: int, *words: str) -> None:
     """A store of version 1, as an earlier program would have made it."""
     subprocess.run([os.path.join(TOP, "benchmarks/make_version_one.py"), store, str(bonds), str(tickets), *words], stdout=subprocess.DEVNULL, check=True)
 
 
-def free_port():
+def free_port() -> int:
     with socket.socket() as free:
         free.bind(("127.0.0.1", 0))
-        return free.getsockname()[1]
+        port: int = free.getsockname()[1]
+    return port
 
 
-def post(path, value, headers=b"Connection: close\r\n"):
+def post(path: str, value: object, headers: bytes = b"Connection: close\r\n") -> bytes:
     body = json.dumps(value, separators=(",", ":")).encode()
     return b"POST %s HTTP/1.1\r\n%sContent-Length: %d\r\n\r\n%s" % (path.encode(), headers, len(body), body)
 
 
-def redeem(desk, number, day, payee, *serials):
+def redeem(desk: int, number: int, day: str, payee: int, *serials: str) -> bytes:
     return post("/redeem", {"desk": desk, "number": number, "day": day, "payee": payee, "serials": serials}, b"")
 
 
-def get(path, headers=b"Connection: close\r\n"):
+def get(path: str, headers: bytes = b"Connection: close\r\n") -> bytes:
     return b"GET %s HTTP/1.1\r\n%s\r\n" % (path.encode(), headers)
 
 
-def read_answer(client):
+def read_answer(client: socket.socket) -> Answer | None:
     """Status and body of one answer; None where the connection ended before all of it came."""
     text = b""
     while b"\r\n\r\n" not in text:
@@ -115,7 +139,7 @@ def read_answer(client):
             return None
         text += more
     head, body = text.split(b"\r\n\r\n", 1)
-    length = int(re.search(rb"(?i)content-length: *(\d+)", head)[1])
+    length = int(matched(rb"(?i)content-length: *(\d+)", head)[1])
     while len(body) < length:
         more = client.recv(65536)
         if not more:
@@ -125,7 +149,7 @@ def read_answer(client):
 
 
 @contextlib.contextmanager
-def connected(place, patience):
+def connected(place: int | str, patience: float) -> Iterator[socket.socket]:
     """A connection to a port of this machine, or to the path of a Unix socket."""
     if isinstance(place, int):
         with socket.create_connection(("127.0.0.1", place), timeout=patience) as client:
@@ -137,7 +161,7 @@ def connected(place, patience):
         yield client
 
 
-def ask(place, message, patience=60):
+def ask(place: int | str, message: bytes, patience: float = 60) -> Answer | None:
     """The answer to one message on a connection of its own to a port or a Unix socket; None if none came."""
     try:
         with connected(place, patience) as client:
@@ -147,11 +171,11 @@ def ask(place, message, patience=60):
         return None
 
 
-def serve(program, store, port, before=()):
+def serve(program: str | Path, store: str | Path, port: int, before: Sequence[str] = ()) -> subprocess.Popen[str]:
     return subprocess.Popen([*before, program, "serve", "--db", store, "--port", str(port)], stdout=subprocess.DEVNULL, stderr=subprocess.PIPE, text=True)
 
 
-def wait_for(port, seconds=60):
+def wait_for(port: int, seconds: int = 60) -> None:
     for _ in range(seconds * 20):
         if ask(port, get("/ticket/1")) is not None:
             return
@@ -160,7 +184,7 @@ def wait_for(port, seconds=60):
 
 
 @contextlib.contextmanager
-def served(program, store):
+def served(program: str | Path, store: str | Path) -> Iterator[int]:
     """The port on which `serve` answers over a store, until it is killed at the end."""
     port = free_port()
     server = serve(program, store, port)
@@ -172,7 +196,7 @@ def served(program, store):
         server.wait()
 
 
-def apply(program, store, messages, most=900):
+def apply(program: str | Path, store: str | Path, messages: list[bytes], most: int = 900) -> list[Answer]:
     """The answers to these messages, by as many connections as it takes."""
     answers = []
     for first in range(0, len(messages), most):
@@ -185,35 +209,35 @@ def apply(program, store, messages, most=900):
     return answers
 
 
-def split_answers(text):
+def split_answers(text: bytes) -> list[Answer]:
     answers, at = [], 0
     while at < len(text):
         end = text.index(b"\r\n\r\n", at) + 4
         head = text[at:end]
-        length = int(re.search(rb"(?i)content-length: *(\d+)", head)[1])
+        length = int(matched(rb"(?i)content-length: *(\d+)", head)[1])
         answers.append((int(head.split(b" ")[1]), text[end : end + length].decode()))
         at = end + length
     return answers
 
 
-def rows(store, statement):
+def rows(store: str | Path, statement: str) -> list[tuple[Any, ...]]:
     """What SQLite reads. The file is closed at once: while another process has it open, the program doesn't open it."""
     with contextlib.closing(sqlite3.connect(store)) as books:
         return books.execute(statement).fetchall()
 
 
-def day_text(turn):
+def day_text(turn: int) -> str:
     """The day of the turn of this number: a day has so many turns. All are in February 2012 while there are at most 24."""
     year, month, day = FIRST_DAY
     return f"{year}-{month:02}-{day + turn // DAY_TICKETS:02}"
 
 
-def bond(turn):
+def bond(turn: int) -> dict[str, Any]:
     denom, issued, _ = KINDS[turn % 3]
     return {"serial": f"A{turn + 1}EE", "denom": denom, "issued": issued, "owner": 7}
 
 
-def beginning(bonds):
+def beginning(bonds: int) -> list[bytes]:
     """Messages that make a store with these rates and so many bonds of customer 7; desk 0."""
     imports = [post("/bonds", {"number": 2 + first // 500, "bonds": [bond(turn) for turn in range(first, min(first + 500, bonds))]}, b"") for first in range(0, bonds, 500)]
     return [post("/rates", {"number": 1, "rates": RATES}, b""), *imports]
@@ -223,20 +247,23 @@ class Load:
     """Clients that redeem one bond after another, each at a desk of its own, and send each request again until it has its reply. What was acknowledged is kept, with the time when its reply
     had come. Turn T is the redemption of bond T. The day is closed and the next opened after so many turns, while no redemption is under way."""
 
-    def __init__(self, ask_now, bonds, clients):
+    def __init__(self, ask_now: Callable[[bytes], Answer | None], bonds: int, clients: int) -> None:
         self.ask_now, self.bonds, self.clients = ask_now, bonds, clients
-        self.requests, self.replies, self.came, self.delays = {}, {}, {}, []
+        self.requests: dict[Name, bytes] = {}
+        self.replies: dict[Name, str] = {}
+        self.came: dict[Name, float] = {}
+        self.delays: list[float] = []
         self.turn, self.under_way, self.is_over, self.is_changing = 0, 0, False, False
         self.lock = threading.Condition()
-        self.wrong = None
+        self.wrong: str | None = None
 
-    def start(self):
+    def start(self) -> None:
         self.is_over = False
         self.threads = [threading.Thread(target=self.run, args=(desk,), daemon=True) for desk in range(1, self.clients + 1)]
         for thread in self.threads:
             thread.start()
 
-    def stop(self):
+    def stop(self) -> None:
         """Ends when each request that was sent has its reply."""
         self.is_over = True
         for thread in self.threads:
@@ -244,7 +271,7 @@ class Load:
         if self.wrong:
             sys.exit(f"WRONG: {self.wrong}")
 
-    def run(self, desk):
+    def run(self, desk: int) -> None:
         try:
             while not self.is_over and self.wrong is None:
                 turn = self.take_turn()
@@ -259,7 +286,7 @@ class Load:
                 self.wrong = f"{type(fault).__name__}: {fault}"
                 self.lock.notify_all()
 
-    def take_turn(self):
+    def take_turn(self) -> int | None:
         """The next turn; None where there is none. Who takes the first turn of a day changes the day, while the others wait."""
         with self.lock:
             self.lock.wait_for(lambda: not self.is_changing or self.wrong)
@@ -272,7 +299,7 @@ class Load:
             self.under_way += 1
             return turn
 
-    def change_day(self, turn):
+    def change_day(self, turn: int) -> None:
         self.is_changing = True
         try:
             self.lock.wait_for(lambda: self.under_way == 0 or self.wrong)
@@ -283,7 +310,7 @@ class Load:
             self.is_changing = False
             self.lock.notify_all()
 
-    def deliver(self, name, path, value):
+    def deliver(self, name: Name, path: str, value: dict[str, Any]) -> None:
         self.requests[name] = post(path, value)
         begun = time.time()
         while True:
@@ -299,13 +326,13 @@ class Load:
         if fault:
             raise ValueError(fault)
 
-    def in_order(self):
+    def in_order(self) -> list[Name]:
         """All requests that were sent, in an order in which each can be done."""
         order = {"close": 0, "open": 1, "redeem": 2}
         return sorted(self.requests, key=lambda name: (name[1], order[name[0]]))
 
 
-def fault_of(name, reply):
+def fault_of(name: Name, reply: str) -> str | None:
     """What is wrong with a reply by the rules; None where it is right, whatever its ticket's number is."""
     kind, turn = name
     if kind == "open":
@@ -318,17 +345,17 @@ def fault_of(name, reply):
     return None if reply == wanted else f"{name} was answered {reply}, and not {wanted}"
 
 
-def batch_of(day, turns):
+def batch_of(day: int, turns: int) -> str:
     """The batch of a day of which so many turns were taken."""
     first = day * DAY_TICKETS
     cents = sum(int(KINDS[turn % 3][2].replace(".", "")) for turn in range(first, first + turns))
     return '{"bonds":%d,"day":"%s","tickets":%d,"total":"%d.%02d"}' % (turns, day_text(first), turns, cents // 100, cents % 100)
 
 
-def fault_of_books(store, replies):
+def fault_of_books(store: str | Path, replies: dict[Name, str]) -> str | None:
     """Whether the books that SQLite reads have just these tickets, one for each bond; None where they do."""
     paid = {name[1]: reply for name, reply in replies.items() if name[0] == "redeem"}
-    told = sorted((int(re.search(r'"ticket":(\d+)', reply)[1]), turn + 1) for turn, reply in paid.items())
+    told = sorted((int(matched(r'"ticket":(\d+)', reply)[1]), turn + 1) for turn, reply in paid.items())
     if rows(store, "PRAGMA integrity_check") != [("ok",)]:
         return "SQLite doesn't find the file whole"
     held = rows(store, "SELECT ticket, number FROM paid ORDER BY ticket")
@@ -339,10 +366,10 @@ def fault_of_books(store, replies):
     return None
 
 
-def median(values):
+def median(values: Sequence[float]) -> float:
     values = sorted(values)
     return values[len(values) // 2]
 
 
-def milliseconds(values):
+def milliseconds(values: Sequence[float]) -> str:
     return f"{median(values) * 1000:.0f} milliseconds in the middle, {max(values) * 1000:.0f} at most"

@@ -1,19 +1,24 @@
 """What the library is to answer, by whole-number arithmetic of the tests' own: the rule of rounding by sixth powers, the chain of half-years, the
 calculator's notes. It shares nothing with the library."""
+from __future__ import annotations
+
 
 import functools
+import random
 
 DOLLARS = (50, 75, 100, 200, 500, 1000, 5000, 10000)
 DONE, BAD_DENOMINATION, BAD_ISSUE_MONTH, BAD_MONTH, BAD_RATE, BAD_EXTENSION, NOT_ISSUED, NOT_ELIGIBLE = range(8)
 PLAIN, NI, NE, P5, MA = range(5)
+#: What is payable, price, interest, value, status, note, next accrual and final maturity.
+Row = tuple[int, int, int, int, int, int, int, int]
 
 
 @functools.lru_cache(maxsize=None)
-def grown(unit, rate, months):
+def grown(unit: int, rate: int, months: int) -> int:
     """Return the unit after 0 to 6 months, rounded to the nearest cent, half a cent upwards."""
     have = (2 * unit) ** 6 * (20000 + rate) ** months
-    scale = 20000**months
-    c = round(unit * (1 + rate / 20000) ** (months / 6))
+    scale: int = 20000**months
+    c: int = round(unit * (1 + rate / 20000) ** (months / 6))
     while (2 * c - 1) ** 6 * scale > have:
         c -= 1
     while (2 * c + 1) ** 6 * scale <= have:
@@ -22,7 +27,7 @@ def grown(unit, rate, months):
 
 
 @functools.lru_cache(maxsize=None)
-def first_starts(rate):
+def first_starts(rate: int) -> list[int]:
     """Return the unit at the start of each half-year to 20 years."""
     starts = [1250]
     for _ in range(40):
@@ -30,7 +35,7 @@ def first_starts(rate):
     return [*starts[:40], max(starts[40], 2500)]
 
 
-def accrued(rate, extension, age):
+def accrued(rate: int, extension: int, age: int) -> int:
     """Return the accrued value of one unit in cents at an age in months, without penalty."""
     age = min(age, 360)
     half_year, months = divmod(age, 6)
@@ -42,17 +47,17 @@ def accrued(rate, extension, age):
     return grown(start, extension, months)
 
 
-def count_of(month, last):
+def count_of(month: int, last: int) -> int | None:
     """Return the months from year 0 to a number YYYYMM from 200505 to the last one, or None."""
     year, of_year = divmod(month, 100)
     return 12 * year + of_year - 1 if 1 <= of_year <= 12 and 200505 <= month <= last else None
 
 
-def number_of(count):
+def number_of(count: int) -> int:
     return 100 * (count // 12) + count % 12 + 1
 
 
-def refusal(dollars, issued, month, rate, extension):
+def refusal(dollars: int, issued: int, month: int, rate: int, extension: int) -> int:
     """Return the status of the first field that stands for nothing, or DONE."""
     if dollars not in DOLLARS:
         return BAD_DENOMINATION
@@ -65,12 +70,13 @@ def refusal(dollars, issued, month, rate, extension):
     return DONE if 0 <= extension <= 2000 else BAD_EXTENSION
 
 
-def row(dollars, issued, month, rate, extension):
+def row(dollars: int, issued: int, month: int, rate: int, extension: int) -> Row:
     """Return the fields of the row: what is payable, price, interest, value, status, note, next accrual and final maturity."""
     status = refusal(dollars, issued, month, rate, extension)
     if status:
         return (0, 0, 0, 0, status, 0, 0, 0)
     begun, at = count_of(issued, 209912), count_of(month, 219912)
+    assert begun is not None and at is not None
     age, price, units = at - begun, 50 * dollars, dollars // 25
     if age < 0:
         return (0, 0, 0, 0, DONE, NI, 0, 0)
@@ -82,7 +88,7 @@ def row(dollars, issued, month, rate, extension):
     return (value, price, value - price, value, DONE, note, after, last)
 
 
-def cents(dollars, issued, month, rate, extension):
+def cents(dollars: int, issued: int, month: int, rate: int, extension: int) -> int:
     """Return what is paid, or the status of a refusal below zero."""
     paid, _, _, _, status, note, _, _ = row(dollars, issued, month, rate, extension)
     if status:
@@ -90,7 +96,7 @@ def cents(dollars, issued, month, rate, extension):
     return -NOT_ISSUED if note == NI else -NOT_ELIGIBLE if note == NE else paid
 
 
-def random_question(dice):
+def random_question(dice: random.Random) -> tuple[int, ...]:
     """Return the numbers of a question of which some are senseless, now and then."""
     begun = dice.randrange(12 * 2005 + 4, 12 * 2100)
     at = begun + (dice.randrange(0, 400) if dice.random() < 0.9 else dice.randrange(-30, 1300))

@@ -17,12 +17,12 @@ globalThis.fetch = async (url, options) => {
   return { type: "basic", status: next.status, text: async () => next.text, headers: { get: () => null } };
 };
 
-const { readAnswer, readBatch, readTicket, replyTo } = await import(`${plan.modules}/answers.js`);
+const { readAnswer, readBatch, readRow, readTicket, replyTo } = await import(`${plan.modules}/answers.js`);
 const { readSheet } = await import(`${plan.modules}/sheet.js`);
-const { askBatch, askSheet, askTicket } = await import(`${plan.modules}/queries.js`);
+const { askBatch, askSheet, askTicket, askValue } = await import(`${plan.modules}/queries.js`);
 const { Sender } = await import(`${plan.modules}/sender.js`);
 
-const LOOK_UPS = { ticket: readTicket, batch: readBatch, inventory: readSheet };
+const LOOK_UPS = { ticket: readTicket, batch: readBatch, inventory: readSheet, value: readRow };
 
 function read({ path, fields, status, text }) {
   const name = path.split("/")[1];
@@ -42,6 +42,7 @@ async function asked({ path, fields, parts, answer }) {
   if (path.startsWith("/ticket")) return askTicket(parts[0]);
   if (path.startsWith("/batch")) return askBatch(parts[0]);
   if (path.startsWith("/inventory")) return askSheet(parts[0], parts[1]);
+  if (path.startsWith("/value")) return askValue(...parts);
   return new Sender(new Memory(), () => {}).submit(path, fields);
 }
 

@@ -120,6 +120,11 @@ class Chromium(Browser):
         chain = webdriver.common.action_chains.ActionChains(self.driver)
         chain.key_down(KEYS["Shift"]).send_keys(KEYS["Tab"]).key_up(KEYS["Shift"]).perform()
 
+    def accessible(self, selector):
+        """Return the role and the name that a screen reader is given of each element that is shown."""
+        found = [one for one in self.driver.find_elements("css selector", selector) if one.is_displayed()]
+        return [(one.aria_role, one.accessible_name) for one in found]
+
     def tab(self):
         return self.driver.current_window_handle
 
@@ -252,6 +257,12 @@ class Firefox(Browser):
     def shift_tab(self):
         shift, tab = KEYS["Shift"], KEYS["Tab"]
         self.press(("keyDown", shift), ("keyDown", tab), ("keyUp", tab), ("keyUp", shift))
+
+    def accessible(self, selector):
+        """Return the role and the name that a screen reader is given of each element that is shown."""
+        found = [one[ELEMENT] for one in self.call("WebDriver:FindElements", {"using": "css selector", "value": selector})]
+        shown = [one for one in found if self.call("WebDriver:IsElementDisplayed", {"id": one})]
+        return [(self.call("WebDriver:GetComputedRole", {"id": one}), self.call("WebDriver:GetComputedLabel", {"id": one})) for one in shown]
 
     def tab(self):
         return self.call("WebDriver:GetWindowHandle")

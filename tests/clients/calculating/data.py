@@ -1,4 +1,16 @@
 """Random rates, bonds and months, and files with each fault."""
+from __future__ import annotations
+
+import random
+from typing import Iterable, Iterator
+
+#: A fixed rate and an extension, in hundredths of a percent.
+Terms = tuple[int, int]
+#: The terms of each period.
+Rates = dict[int, Terms]
+#: Serial, dollars, issue month, owner, co-owner or None.
+Bond = tuple[str, int, int, int, int | None]
+
 DENOMINATIONS = (50, 75, 100, 200, 500, 1000, 5000, 10000)
 FIRST = 12 * 2005 + 4
 LAST_ISSUE = 12 * 2099 + 11
@@ -8,19 +20,19 @@ RATES = b"from,rate\n"
 EXTENDED = b"from,rate,extension\n"
 
 
-def month_text(month):
+def month_text(month: int) -> str:
     return f"{month // 12}-{month % 12 + 1:02}"
 
 
-def rate_text(hundredths):
+def rate_text(hundredths: int) -> str:
     return f"{hundredths // 100}.{hundredths % 100:02}"
 
 
-def period_of(month):
+def period_of(month: int) -> int:
     return month - (month - 4) % 6
 
 
-def random_rates(dice, count=190):
+def random_rates(dice: random.Random, count: int = 190) -> Rates:
     """Return terms of so many periods: a fixed rate and an extension, which is the fixed one now and then."""
     found = {}
     for period in sorted(dice.sample(range(FIRST, LAST_ISSUE + 1, 6), count)):
@@ -29,25 +41,25 @@ def random_rates(dice, count=190):
     return found
 
 
-def rates_file(rates):
+def rates_file(rates: Rates) -> bytes:
     lines = [f"{month_text(period)},{rate_text(rate)},{'' if extension == rate else rate_text(extension)}\n" for period, (rate, extension) in rates.items()]
     return EXTENDED + "".join(lines).encode()
 
 
-def random_month(dice, issued):
+def random_month(dice: random.Random, issued: int) -> int:
     """Return a value month, mostly one that some bond's notes turn at."""
     turns = (-1, 0, 11, 12, 59, 60, 239, 240, 359, 360)
     month = issued + (dice.choice(turns) if dice.random() < 0.5 else dice.randrange(-12, 400))
     return min(max(month, FIRST), LAST_MONTH)
 
 
-def random_issue(dice):
+def random_issue(dice: random.Random) -> int:
     return dice.randrange(FIRST, FIRST + 240) if dice.random() < 0.7 else dice.randrange(FIRST, LAST_ISSUE + 1)
 
 
-def random_bonds(dice, count, serials, owner):
+def random_bonds(dice: random.Random, count: int, serials: set[str], owner: int) -> list[Bond]:
     """Return bonds as tuples: serial, dollars, issue month, owner, coowner or None. Their serial numbers are new to `serials`."""
-    bonds = []
+    bonds: list[Bond] = []
     while len(bonds) < count:
         serial = f"{dice.choice('ABCDEFGHIJKLMNOPQRSTUVWXYZ')}{dice.randrange(1, 10 ** dice.randrange(1, 11))}EE"
         if serial not in serials:
@@ -57,7 +69,7 @@ def random_bonds(dice, count, serials, owner):
     return bonds
 
 
-def spelled(dice, bond):
+def spelled(dice: random.Random, bond: Bond) -> str:
     """Return a line of an inventory, spelled in one of the ways that are read."""
     serial, dollars, issued, owner, coowner = bond
     letter, number = serial[0], serial[1:-2]
@@ -68,19 +80,19 @@ def spelled(dice, bond):
     return ",".join(f'"{field}"' if dice.random() < 0.1 else field for field in fields)
 
 
-def rate_row(period, terms):
+def rate_row(period: int, terms: Terms) -> dict[str, object]:
     """Return a row of a message that adds rates."""
     rate, extension = terms
     return {"from": month_text(period), "rate": rate_text(rate), "extension": rate_text(extension)}
 
 
-def bond_row(bond):
+def bond_row(bond: Bond) -> dict[str, object]:
     """Return a row of a message that adds bonds."""
     serial, dollars, issued, owner, coowner = bond
     return {"serial": serial, "denom": dollars, "issued": month_text(issued), "owner": owner, "coowner": coowner}
 
 
-def inventory_file(bonds, dice=None):
+def inventory_file(bonds: Iterable[Bond], dice: random.Random | None = None) -> bytes:
     if dice is not None:
         ends = dice.choice(("\n", "\r\n", "\r"))
         return INVENTORY + "".join(spelled(dice, bond) + ends for bond in bonds).encode()
@@ -91,11 +103,11 @@ def inventory_file(bonds, dice=None):
 GOOD = b"L1EE,50,2010-11,7,\n"
 
 
-def bad_serials():
+def bad_serials() -> tuple[bytes, ...]:
     return (b"", b"L1", b"L0EE", b"l1EE", b"L1ee", b"LEE", b"L--1EE", b"L12345678901EE", b"L00000000000EE", b" L1EE", b"L1EE ", b"11EE", b"L1-2EE", b"L1EEE", b"LL1EE", b"\xffL1EE", b"L\xc2\xb9EE", b"L1EE\x00")
 
 
-def bad_fields():
+def bad_fields() -> Iterator[bytes]:
     """Return inventory lines whose first fault is in each column."""
     for serial in bad_serials():
         yield serial + b",50,2010-11,7,"
@@ -109,7 +121,7 @@ def bad_fields():
         yield b"L1EE,50,2010-11,7," + coowner
 
 
-def inventory_files():
+def inventory_files() -> Iterator[tuple[str, bytes]]:
     """Return files by name: each refusal of the reader and of the register, and spellings that are read all the same."""
     lines = list(bad_fields())
     yield from ((f"field {place}", INVENTORY + GOOD + line + b"\n") for place, line in enumerate(lines))
@@ -151,7 +163,7 @@ def inventory_files():
     yield "most of each", INVENTORY + b"Z9999999999EE,10000,2020-12,999999999,999999998\n"
 
 
-def rate_files():
+def rate_files() -> Iterator[tuple[str, bytes]]:
     """Return rate files by name, likewise."""
     for place, field in enumerate((b"", b"20.01", b"100", b"3.505", b"3,50", b"+3.50", b".50", b"3.", b"3.5%%", b"% 3", b"3 %", b"3.50 ", b"-0")):
         yield f"rate {place}", RATES + b'2010-05,"' + field + b'"\n'
@@ -174,11 +186,11 @@ def rate_files():
     yield "1,048,577 bytes", (RATES + b"2010-05,3.50\n").ljust(1_048_577, b"\n")
 
 
-def damaged(dice, content):
+def damaged(dice: random.Random, content: bytes) -> bytes:
     """Return a file with a few bytes changed, taken out or doubled."""
-    content = bytearray(content)
+    made = bytearray(content)
     for _ in range(dice.randrange(1, 4)):
-        place = dice.randrange(len(content))
+        place = dice.randrange(len(made))
         how = dice.randrange(3)
-        content[place : place + 1] = (b"", bytes([content[place]]) * 2, dice.choice((b'"', b",", b"\n", b"\r", b" ", b"0", b"E", b"-", b"\xff", b"\xc3\xa9")))[how]
-    return bytes(content)
+        made[place : place + 1] = (b"", bytes([made[place]]) * 2, dice.choice((b'"', b",", b"\n", b"\r", b" ", b"0", b"E", b"-", b"\xff", b"\xc3\xa9")))[how]
+    return bytes(made)

@@ -16,6 +16,9 @@ import exact  # noqa: E402
 
 PUBLISHED = TOP / "crates" / "published_values" / "data"
 SHIPPED = (TOP / "samples" / "rates.csv").read_bytes()
+#: The rate periods that the page ships, and the issue months from 2005-05 on that they cover.
+SHIPPED_PERIODS = SHIPPED.count(b"\n") - 1
+SHIPPED_MONTHS = 6 * SHIPPED_PERIODS
 STORES = 4
 
 
@@ -43,7 +46,7 @@ class Expected:
         """Refusals and spellings of inventories: (name, file, what the program says)."""
         dice = self.dice("inventories")
         bonds = data.random_bonds(dice, 6, set(), 7)
-        base = data.inventory_file([bond for bond in bonds if bond[2] < data.FIRST + 186], dice)
+        base = data.inventory_file([bond for bond in bonds if bond[2] < data.FIRST + SHIPPED_MONTHS], dice)
         files = [*data.inventory_files(), *((f"damaged {place}", data.damaged(dice, base)) for place in range(self.damages))]
         return counter.first_answers(self.program, SHIPPED, "inventory", files)
 

@@ -8,20 +8,26 @@ from pathlib import Path
 from xml.sax.saxutils import escape
 
 import data
+import expected
 
-MONEY = ("General", "0.00", "#,##0", "$#,##0", "$#,##0.00", '_($* #,##0.00_);_($* (#,##0.00);_($* "-"??_);_(@_)', '"USD" 0', '0" USD"')
-DATES = ("mmm-yy", "mmmm yyyy", "mmm yyyy", "m/d/yyyy", "mm/dd/yy", "m/yyyy", "mm/yyyy", "yyyy-mm", "yyyy-mm-dd", "yyyy-mm-dd hh:mm:ss", "mmmm d, yyyy", "dddd, mmmm dd, yyyy", "d-mmm-yyyy", "d mmmm yyyy", "dd.mm.yyyy")
+MONEY = ("General", "0.00", "#,##0", "$#,##0", "$#,##0.00", '_($* #,##0.00_);_($* (#,##0.00);_($* "-"??_);_(@_)', '"USD" 0', '0" USD"', "$#,##0_);($#,##0)", "[$$-409]#,##0.00")
+DATES = ("mmm-yy", "mmmm yyyy", "mmm yyyy", "m/d/yyyy", "mm/dd/yy", "m/yyyy", "mm/yyyy", "yyyy-mm", "yyyy-mm-dd", "yyyy-mm-dd hh:mm:ss", "mmmm d, yyyy", "dddd, mmmm dd, yyyy", "d-mmm-yyyy", "d mmmm yyyy", "dd.mm.yyyy", "[$-409]mmm-yy;@", "[$-409]mmmm d, yyyy;@", "m/d/yy h:mm")
 FORMATS = ("General", *MONEY[1:], *DATES)
 HEADINGS = {
     "serial": ("Serial", "Serial Number", "serial no.", "Serial #", "Bond Serial Number", "BOND NUMBER"),
-    "denom": ("Denom", "Denomination", "Face Value", "face amount", "Amount", "DENOM ($)"),
-    "issued": ("Issued", "Issue Date", "Issue month", "date of issue", "ISSUE DATE"),
+    "denom": ("Denom", "Denomination", "Face Value", "face amount", "Amount", "DENOM ($)", "Face", "Par Value"),
+    "issued": ("Issued", "Issue Date", "Issue month", "date of issue", "ISSUE DATE", "Date", "Purchase Date", "Bought"),
+    "price": ("Price", "Cost", "Purchase Price", "Amount Paid", "Issue Price"),
+    "matures": ("Maturity", "Matures", "Final Maturity", "Maturity Date"),
     "series": ("Series",),
     "note": ("Notes", "Where", "Comment"),
 }
 TOTALS = ("Total", "TOTAL:", "Totals", "Grand Total", "Sum")
-# Words of TreasuryDirect's table, as its page had them when it was last seen; the page itself isn't asked.
+# The denominations' letters, by which bonds of the lists are numbered.
+LETTERS = {50: "L", 75: "K", 100: "C", 200: "R", 500: "D", 1000: "M", 5000: "V", 10000: "X"}
+# Words of TreasuryDirect's table, as they are generally known; the page itself isn't asked. A browser copies a heading of two lines as two lines.
 TREASURY_DIRECT = ("Serial #", "Series", "Denom", "Issue Date", "Next Accrual", "Final Maturity", "Issue Price", "Interest", "Interest Rate", "Value", "Note")
+ABOVE = ("Savings Bond Calculator\n", "Calculator Results for Redemption Date 11/2026\nTotal Price\tTotal Value\tTotal Interest\tYTD Interest\n$525.00\t$539.00\t$14.00\t$1.28\n")
 TABS, COMMAS = 9, 44
 
 
@@ -42,16 +48,24 @@ def cell_of(dice, column, bond, formats):
         return (spelled_serial(dice, bond[0]) if bond[0] else dice.choice(("", "n/a", "none")), "General")
     if column == "denom":
         return (bond[1], formats["denom"])
-    if column == "issued":
-        return (day_number(bond[2]), formats["issued"])
+    if column == "price":
+        return (bond[1] / 2, formats["denom"])
+    if column in ("issued", "matures"):
+        return (day_number(bond[2] + (360 if column == "matures" else 0)), formats["issued"])
     return ("EE", "General") if column == "series" else (dice.choice(("", "safe", "desk, drawer", 'Mary "M"')), "General")
+
+
+def random_bond(dice, is_numbered):
+    dollars = dice.choice(data.DENOMINATIONS)
+    return f"{LETTERS[dollars]}{dice.randrange(1, 10**10)}EE" if is_numbered else "", dollars, data.FIRST + dice.randrange(expected.SHIPPED_MONTHS)
 
 
 def random_list(dice):
     """Return the rows of a sheet as cells (value, format), and the bonds: serial or "", dollars, month."""
     numbered = dice.random() < 0.75
-    bonds = [(f"{dice.choice('CLMRQVX')}{dice.randrange(1, 10**10)}EE" if numbered else "", dice.choice(data.DENOMINATIONS), data.FIRST + dice.randrange(186)) for _ in range(dice.randrange(1, 9))]
-    columns = ["denom", "issued", *(["serial"] if numbered else []), *(["series"] if dice.random() < 0.4 else [])]
+    bonds = [random_bond(dice, numbered) for _ in range(dice.randrange(1, 9))]
+    others = [column for column in ("series", "price", "matures") if dice.random() < 0.4]
+    columns = ["denom", "issued", *(["serial"] if numbered else []), *others]
     dice.shuffle(columns)
     columns += ["note"] if dice.random() < 0.4 else []
     formats = {"denom": dice.choice(MONEY), "issued": dice.choice(DATES)}
@@ -118,13 +132,19 @@ def as_text(sheets, delimiter):
 
 
 def treasury_direct(dice):
-    """Return a table as a browser copies it from TreasuryDirect's calculator, and its bonds."""
+    """Return a table as a browser copies it from TreasuryDirect's calculator, and its bonds: with its headings, perhaps with what stands around it, or rows alone."""
     _, bonds = random_list(dice)
     month = lambda count: f"{count % 12 + 1:02}/{count // 12}"  # noqa: E731
-    lines = [TREASURY_DIRECT] if dice.random() < 0.8 else []
+    is_headed = dice.random() < 0.8
+    lines = []
     for serial, dollars, issued in bonds:
         lines.append((serial or "NA", "EE", f"${dollars:,}", month(issued), "12/2026", month(issued + 360), f"${dollars / 2:,.2f}", f"${dice.randrange(9000) / 100:,.2f}", "1.40%", f"${dollars / 2 + 7:,.2f}", dice.choice(("", "P5"))))
-    return "".join("\t".join(line) + "\n" for line in lines), bonds
+    text = "".join("\t".join(line) + dice.choice(("\n", "\t\n")) for line in lines)
+    if is_headed:
+        headings = "\t".join(TREASURY_DIRECT) + "\n"
+        text = dice.choice(("", *ABOVE)) + dice.choice((headings, headings.replace(" ", "\n").replace("Serial\n", "Serial "))) + text
+        text += dice.choice(("", f"Totals for {len(bonds)} Bonds\t\t\t\t\t\t$525.00\t$14.00\t\t$539.00\n", f"Bonds: 1-{len(bonds)} of {len(bonds)}\n"))
+    return text, bonds
 
 
 def made_lists(dice, sheets=160, tables=40):
@@ -134,6 +154,6 @@ def made_lists(dice, sheets=160, tables=40):
         lists = [random_list(dice) for _ in range(sheets)]
         half = len(lists) // 2
         for delimiter, part in ((TABS, lists[:half]), (COMMAS, lists[half:])):
-            texts = as_text([rows for rows, _ in part], delimiter)
+            texts = [text.replace("\n", dice.choice(("\n", "\r\n"))) for text in as_text([rows for rows, _ in part], delimiter)]
             found += [("LibreOffice", text, bonds) for text, (_, bonds) in zip(texts, part, strict=True)]
     return found + [("TreasuryDirect", *treasury_direct(dice)) for _ in range(tables)]

@@ -1,5 +1,8 @@
 """The modules and the page's readers under Node, without a browser."""
 import json
+import os
+import re
+import shutil
 import subprocess
 import tempfile
 from pathlib import Path
@@ -78,6 +81,44 @@ def equal_folders(one, other):
     assert files[one] == files[other], "run clients/calculator/build first"
 
 
+PACKAGE_FILES = {"README.md", "ee-value.d.ts", "ee-value.js", "out/ee_value.wasm", "out/ee_value64.wasm", "package.json"}
+WITHOUT_NEWS = {**os.environ, "npm_config_update_notifier": "false", "npm_config_offline": "true"}
+
+
+def packed(sources, folder):
+    """Pack the npm package, and unpack it where Node finds it. Return its files."""
+    made = subprocess.run(["npm", "pack", "--silent", "--pack-destination", folder, sources], capture_output=True, text=True, check=True, env=WITHOUT_NEWS)
+    subprocess.run(["tar", "--extract", "--file", folder / made.stdout.strip(), "--directory", folder], check=True)
+    place = folder / "node_modules" / "ee-value"
+    place.parent.mkdir()
+    (folder / "package").rename(place)
+    return place
+
+
+def reads_and_runs(place):
+    """The package has its files and no others, and its README's example prints what the README says."""
+    found = {str(path.relative_to(place)) for path in place.rglob("*") if path.is_file()}
+    assert found == PACKAGE_FILES, found
+    text = (place / "README.md").read_text()
+    examples = re.findall(r"^```(\w*)\n(.*?)^```$", text, re.M | re.S)
+    assert text.startswith("# ee-value\n") and [language for language, _ in examples] == ["js"], examples
+    example = place.parents[1] / "example.mjs"
+    example.write_text(examples[0][1])
+    assert node(example).split() == re.findall(r"// ([0-9]+)$", examples[0][1], re.M) != [], example.read_text()
+
+
+def package(words):
+    """The npm package: its README is its own, and the README's example runs as it says."""
+    with tempfile.TemporaryDirectory() as name:
+        reads_and_runs(packed(TOP / "clients" / "value", Path(name)))
+        right("the npm package has its six files, and its README's example prints what it says")
+        sources = Path(name) / "sources"
+        shutil.copytree(TOP / "clients" / "value", sources)
+        shutil.copy(sources / "README-python.md", sources / "README.md")
+        (Path(name) / "other").mkdir()
+        wrong_is_seen("a package with the README of the Python module", lambda: reads_and_runs(packed(sources, Path(name) / "other")))
+
+
 def answers(tasks, module="the module of 32 bits"):
     path, flags = MODULES[module]
     text = "".join(json.dumps(task) + "\n" for task in tasks)
@@ -124,8 +165,9 @@ def sheets(words):
 def misspelled(text, cell, other):
     """Return a list with another text in a cell of its last bond, and the row of that bond."""
     lines = text.splitlines()
-    lines[-1] = lines[-1].replace(cell, other, 1)
-    return "\n".join(lines), len(lines)
+    place = max(at for at, line in enumerate(lines) if "\tEE\t" in line)
+    lines[place] = lines[place].replace(cell, other, 1)
+    return "\n".join(lines), place + 1
 
 
 def pasted_lists(words):

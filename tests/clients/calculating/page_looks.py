@@ -8,6 +8,7 @@ from pathlib import Path
 from PIL import Image
 
 import data
+import expected
 from page import Page
 from page_uses import put
 from serving import on_disk, variant
@@ -17,7 +18,7 @@ FILE = data.INVENTORY + b"".join(
     f"{serial},{dollars},{issued},7,{coowner}\n".encode()
     for serial, dollars, issued, coowner in (
         ("C1204415EE", 100, "2006-03", ""), ("C1204416EE", 100, "2006-03", ""), ("K20488EE", 75, "2010-10", "8"), ("L77031EE", 50, "2010-11", ""), ("L77032EE", 50, "2010-11", "8"),
-        ("M300519EE", 10000, "2011-02", ""), ("R9910EE", 500, "2005-05", ""), ("R9911EE", 500, "2007-12", ""), ("V4400127EE", 5000, "2009-06", ""), ("X801EE", 1000, "2019-08", ""), ("X802EE", 200, "2020-11", ""),
+        ("D9910EE", 500, "2005-05", ""), ("D9911EE", 500, "2007-12", ""), ("M801EE", 1000, "2011-08", ""), ("R802EE", 200, "2011-11", ""), ("V4400127EE", 5000, "2009-06", ""), ("X300519EE", 10000, "2011-02", ""),
     )
 )
 OVER = """
@@ -37,10 +38,10 @@ CUT = """
 """
 
 
-# Words that are broken over two lines, in dialogs and in what the page understood of a pasted text.
+# Words and sums that are broken over two lines, in dialogs, cards and sums, and in what the page understood of a pasted text.
 BROKEN = """
     const texts = [];
-    for (const root of document.querySelectorAll("dialog[open], #understood-rows")) {
+    for (const root of document.querySelectorAll("dialog[open], #understood-rows, #table, #total, #sums, #one-told")) {
         const walker = document.createTreeWalker(root, NodeFilter.SHOW_TEXT);
         while (walker.nextNode()) if (walker.currentNode.parentNode.checkVisibility()) texts.push(walker.currentNode);
     }
@@ -88,9 +89,6 @@ def narrow(words, browser, site):
         put(browser, "")
         assert browser.run(SMALL) == []
         assert browser.run(VALUE_FIRST)
-        browser.run("document.querySelector('#table .open').click()")
-        fits(browser)
-        browser.run("document.querySelector('#bond').close()")
         page.open_inventory(data.INVENTORY + b"x" * 200 + b",50,2010-05,7,\n")
         fits(browser)
     widest(page)
@@ -102,7 +100,7 @@ def narrow(words, browser, site):
     browser.run("document.documentElement.style.fontSize = '200%'")
     fits(browser)
     browser.run("document.documentElement.style.fontSize = ''")
-    right(f"{browser.name}: 320 pixels, 200 % zoom and letters of twice the size: nothing over the edge, the dialog, long faults and the longest rows too")
+    right(f"{browser.name}: 320 pixels, 200 % zoom and letters of twice the size: nothing over the edge, long faults and the longest rows too; no word and no sum broken in cards and sums")
     with tempfile.TemporaryDirectory() as folder:
         broken = variant(folder, "wide", ("style.css", "max-width: 84rem;", "min-width: 30rem;"))
         Page(browser, on_disk(broken))
@@ -114,7 +112,96 @@ def narrow(words, browser, site):
         wrong.open_inventory(FILE)
         browser.run("document.querySelector('#table .open').click()")
         wrong_is_seen("a dialog that breaks words and sums", lambda: fits(browser))
+        broken = variant(folder, "cards", ("style.css", "repeat(auto-fill, minmax(7rem, 1fr))", "repeat(auto-fill, minmax(1.8rem, 1fr))"), ("style.css", "  min-width: 0;\n", "  min-width: 0;\n  overflow-wrap: anywhere;\n"))
+        wrong = Page(browser, on_disk(broken))
+        wrong.open_inventory(FILE)
+        wrong_is_seen("cards that break words and sums", lambda: fits(browser))
     browser.size(1280, 900)
+
+
+WINDOWS = ((1440, 900), (1024, 768), (768, 1024), (360, 640), (320, 568))
+OPEN = "const button = [...document.querySelectorAll('#table .open')].find((one) => one.textContent === arguments[0]); button.focus(); button.click();"
+# Of the dialog of bond L77031EE in February 2012, with the chart's table open: what a screen reader is given, by role and name.
+DIALOG = [
+    ("dialog", "Bond L77031EE"),
+    ("heading", "Bond L77031EE"),
+    *(("term", name) for name in ("Bond", "Value", "Rate", "Owner")),
+    ("heading", "What it will be worth"),
+    ("table", "What it will be worth"),
+    *(("columnheader", name) for name in ("When", "Month", "Value")),
+    *(("rowheader", name) for name in ("Interest is next added", "The penalty ends, 5 years old", "It is worth twice its price at least, 20 years old", "Final maturity, 30 years old")),
+    ("heading", "Its value over 30 years"),
+    ("image", "The value of bond L77031EE from $25.00 in November 2010 to $53.20 in November 2040. The table has each year."),
+    ("table", "Bond L77031EE"),
+    *(("columnheader", name) for name in ("Month", "Value")),
+    *(("rowheader", f"November {year}") for year in range(2010, 2041)),
+    ("button", "Close"),
+    ("button", "Remove this bond"),
+]
+PARTS = "dialog[open], dialog h2, dialog h3, dialog dt, dialog table, dialog th, dialog svg, dialog button"
+# Where the dialog is scrolled to and what has the keyboard; what of it lies outside of the window.
+OPENED = "return [document.querySelector('#bond').scrollTop, document.activeElement.id];"
+OUTSIDE = """
+    const { left, right, top, bottom } = document.activeElement.getBoundingClientRect();
+    return left < 0 || top < 0 || right > innerWidth || bottom > innerHeight || !document.activeElement.matches("dialog *");
+"""
+
+
+def whole_dialog(browser, serial):
+    """The dialog of a bond: it opens at its title, and nothing is cut or broken; Tab reaches what it has, and shows it."""
+    browser.run(OPEN, serial)
+    browser.until(lambda: browser.run("return document.querySelector('#bond-figure svg') !== null"), "the chart")
+    assert browser.run(OPENED) == [0, "bond-title"], (serial, browser.run(OPENED))
+    fits(browser)
+    browser.run("document.querySelector('#bond details').open = true")
+    fits(browser)
+    for _ in range(3):
+        browser.key("Tab")
+        assert not browser.run(OUTSIDE), browser.run("return document.activeElement.outerHTML")
+    assert browser.has_keyboard("#bond-remove")
+    browser.key("Escape")
+    browser.until(lambda: browser.run("return document.activeElement.textContent") == serial, "Escape gives the keyboard back")
+
+
+def only_the_dialog(browser):
+    """In Chromium's tree there is the dialog alone, and it is modal."""
+    nodes = [node for node in browser.driver.execute_cdp_cmd("Accessibility.getFullAXTree", {})["nodes"] if not node.get("ignored")]
+    modal = [node["name"]["value"] for node in nodes if {"name": "modal", "value": {"type": "boolean", "value": True}} in node.get("properties", [])]
+    buttons = [node["name"]["value"] for node in nodes if node["role"]["value"] == "button"]
+    assert modal == ["Bond L77031EE"] and buttons == ["Close", "Remove this bond"], (modal, buttons)
+
+
+def shown_dialogs(browser, url):
+    page = Page(browser, url)
+    for width, height in WINDOWS:
+        browser.size(width, height)
+        browser.until(lambda: browser.run("return innerWidth") == width, f"a window of {width} pixels", 10)
+        page.remove_all()
+        page.run("document.querySelector('#shipped').click()")
+        page.open_inventory(FILE + b"C12EE,50,2012-05,7,\n")
+        page.choose_month("2012-02")
+        for serial in ("L77031EE", "C12EE", "K20488EE"):
+            whole_dialog(browser, serial)
+        browser.run(OPEN, "L77031EE")
+        assert browser.accessible(PARTS) == DIALOG, browser.accessible(PARTS)
+        if browser.name == "Chromium":
+            only_the_dialog(browser)
+        browser.run("document.querySelector('#bond').close()")
+        widest(page)
+        whole_dialog(browser, "W9999999999EE")
+    browser.size(1280, 900)
+
+
+def dialogs(words, browser, site):
+    """The dialog of a bond in five windows: it begins at its title, nothing is cut or broken, and a screen reader is given each part."""
+    shown_dialogs(browser, site.url)
+    right(f"{browser.name}: dialogs in windows from 1440 to 320 pixels begin at their title, break no word and no sum, and give a screen reader {len(DIALOG)} parts by role and name")
+    with tempfile.TemporaryDirectory() as folder:
+        browser.patience = 8
+        broken = variant(folder, "focus", ("index.html", ' tabindex="-1" autofocus', ""))
+        wrong_is_seen("a dialog that opens at its last button", lambda: shown_dialogs(browser, on_disk(broken)))
+        broken = variant(folder, "name", ("calculator.js", '"aria-labelledby": "ahead-title"', '"data-name": "ahead-title"'))
+        wrong_is_seen("a table without a name", lambda: shown_dialogs(browser, on_disk(broken)))
 
 
 def paper(browser):
@@ -157,7 +244,7 @@ def reads_on_paper(browser, serials, total):
 def printing(words, browser, site):
     """On paper: sums, all rows under headings on each page, the chart; no field and no button."""
     dice = words.expected.dice("print")
-    bonds = [(serial, dollars, data.FIRST + (issued - data.FIRST) % 186, owner, coowner) for serial, dollars, issued, owner, coowner in data.random_bonds(dice, 150, set(), 7)]
+    bonds = [(serial, dollars, data.FIRST + (issued - data.FIRST) % expected.SHIPPED_MONTHS, owner, coowner) for serial, dollars, issued, owner, coowner in data.random_bonds(dice, 150, set(), 7)]
     page = Page(browser, site.url)
     page.open_inventory(data.inventory_file(bonds))
     page.choose_month("2030-06")

@@ -15,6 +15,13 @@ HEADER = data.INVENTORY
 BY_HAND = b"from,rate,extension\n2010-05,3.40,\n"
 
 
+ONE = "return [document.querySelector('#one-value').textContent, document.querySelector('#one-words').textContent];"
+
+
+def set_field(browser, name, text):
+    browser.run("const field = document.querySelector(`#${arguments[0]}`); field.value = arguments[1]; field.dispatchEvent(new Event('input', { bubbles: true }))", name, text)
+
+
 def fails_broken(browser, what, check, *change):
     """A control: the check fails on a page whose script has another text in one place."""
     browser.patience = 8
@@ -76,30 +83,36 @@ def typing(words, browser, site):
 
 TREASURY_DIRECT = """Savings Bond Calculator
 Serial #\tSeries\tDenom\tIssue Date\tNext Accrual\tFinal Maturity\tIssue Price\tInterest\tInterest Rate\tValue\tNote
-C15EE\tEE\t$50\t05/2010\t12/2026\t05/2040\t$25.00\t$7.00\t1.40%\t$32.00\t
+L15EE\tEE\t$50\t05/2010\t12/2026\t05/2040\t$25.00\t$7.00\t1.40%\t$32.00\t
 NA\tEE\t$1,000\t11/2010\t12/2026\t11/2040\t$500.00\t$7.00\t1.40%\t$507.00\t
 Totals for 2 Bonds\t\t\t\t\t\t$525.00\t$14.00\t\t$539.00
 """
 # What is pasted; the serial number (or none), dollars and month of each bond; and what the page says about the rest.
 PASTES = (
-    ("C1EE\t50\t2010-05\nC2EE\t75\t05/2011\n", "C1EE 50 2010-05, C2EE 75 2011-05", ""),
-    ("Issue date\tSerial number\tDenomination\n2010-05\tC3EE\t50\n", "C3EE 50 2010-05", "Row 1 names the columns."),
-    ("serial,denom,issued,owner,coowner\nC4EE,50,2010-05,7,8\n", "C4EE 50 2010-05", "Row 1 names the columns."),
-    ("C5EE 50 2010-05\r\n\r\n  C6EE   75  05/2011  \r\n", "C5EE 50 2010-05, C6EE 75 2011-05", ""),
-    ('"C7EE"\t" 50 "\t2010-05', "C7EE 50 2010-05", ""),
-    ("C8EE;50;2010-05;7", "C8EE 50 2010-05", ""),
-    ("c10ee\t$50\tMay 2010\nC 11 EE\t1,000\t5/2010\nC-12-EE\t50.00\t2010-05-01\nTotal\t$1,100.00\n", "C10EE 50 2010-05, C11EE 1000 2010-05, C12EE 50 2010-05", "Row 4 is no bond: “Total $1,100.00”"),
-    ('Bonds of May\n\nIssue Date,Face Value,Serial No.\n"May 1, 2010","$1,000.00",C13EE\n05/01/10,"10,000",C14EE\n,"$11,000.00",\n', "C13EE 1000 2010-05, C14EE 10000 2010-05", "Row 1 is no bond: “Bonds of May”|Row 2 names the columns.|Row 5 is no bond: “$11,000.00”"),
-    (TREASURY_DIRECT, "C15EE 50 2010-05, none 1000 2010-11", "Row 1 is no bond: “Savings Bond Calculator”|Row 2 names the columns.|Row 5 is no bond: “Totals for 2 Bonds $525.00 $14.00 $539.00”|Not used: the columns Next Accrual, Final Maturity, Issue Price, Interest, Interest Rate, Value."),
+    ("L1EE\t50\t2010-05\nK2EE\t75\t05/2011\n", "L1EE 50 2010-05, K2EE 75 2011-05", ""),
+    ("Issue date\tSerial number\tDenomination\n2010-05\tL3EE\t50\n", "L3EE 50 2010-05", "Row 1 names the columns."),
+    ("serial,denom,issued,owner,coowner\nL4EE,50,2010-05,7,8\n", "L4EE 50 2010-05", "Row 1 names the columns."),
+    ("L5EE 50 2010-05\r\n\r\n  K6EE   75  05/2011  \r\n", "L5EE 50 2010-05, K6EE 75 2011-05", ""),
+    ('"L7EE"\t" 50 "\t2010-05', "L7EE 50 2010-05", ""),
+    ("L8EE;50;2010-05;7", "L8EE 50 2010-05", ""),
+    ("l10ee\t$50\tMay 2010\nM 11 EE\t1,000\t5/2010\nL-12-EE\t50.00\t2010-05-01\nTotal\t$1,100.00\n", "L10EE 50 2010-05, M11EE 1000 2010-05, L12EE 50 2010-05", "Row 4 is no bond: “Total $1,100.00”"),
+    ('Bonds of May\n\nIssue Date,Face Value,Serial No.\n"May 1, 2010","$1,000.00",M13EE\n05/01/10,"10,000",X14EE\n,"$11,000.00",\n', "M13EE 1000 2010-05, X14EE 10000 2010-05", "Row 1 is no bond: “Bonds of May”|Row 2 names the columns.|Row 5 is no bond: “$11,000.00”"),
+    (TREASURY_DIRECT, "L15EE 50 2010-05, none 1000 2010-11", "Row 1 is no bond: “Savings Bond Calculator”|Row 2 names the columns.|Row 5 is no bond: “Totals for 2 Bonds $525.00 $14.00 $539.00”|Not used: the columns Next Accrual, Final Maturity, Issue Price, Interest, Interest Rate, Value."),
     ("May-10\t$50.00\n1-Nov-2010\t 75 USD\n", "none 50 2010-05, none 75 2010-11", ""),
-    ("1\tC16EE\t2010-05-01 00:00:00\t$ 50\n2\tC17EE\t2010-11-01 00:00:00\t75.\n", "C16EE 50 2010-05, C17EE 75 2010-11", "Not used: the column 1."),
+    ("1\tL16EE\t2010-05-01 00:00:00\t$ 50\n2\tK17EE\t2010-11-01 00:00:00\t75.\n", "L16EE 50 2010-05, K17EE 75 2010-11", "Not used: the column 1."),
     ("Owner\tDenomination\tIssued\nMary\t$50\tSaturday, May 01, 2010\n", "none 50 2010-05", "Row 1 names the columns.|Not used: the column Owner."),
-    ("c 18 ee $50 May 2010\nC19EE 1,000 May 1, 2010", "C18EE 50 2010-05, C19EE 1000 2010-05", ""),
+    ("Serial\tPrice\tFace\tDate\nC20EE\t$50.00\t$100\tMay 2010\n", "C20EE 100 2010-05", "Row 1 names the columns.|Not used: the column Price."),
+    ("Maturity\tDate issued\tFace amt\n05/2040\t05/2010\t100\n", "none 100 2010-05", "Row 1 names the columns.|Not used: the column Maturity."),
+    ("$50.00\t$100\t5/2040\t5/2010\tC21EE\n", "C21EE 100 2010-05", "Not used: the columns 1, 3."),
+    ("C22EE\t100\t2010-05\t50\n", "C22EE 100 2010-05", "Not used: the column 4."),
+    ("l 18 ee $50 May 2010\nM19EE 1,000 May 1, 2010", "L18EE 50 2010-05, M19EE 1000 2010-05", ""),
 )
 PASTE_FAULTS = (
     ("C9EE\t$60\t2010-05", "(row 1 code 72)"),
     ("Serial\tDenom\tIssued\nC9EE\t50\t2010-05\nC10EE\t50\t5/10", "(row 3 code 72)"),
     ("C9EE\t50", "The column issued has nothing"),
+    ("C9EE\t$50\t########", "The column issued has “########”"),
+    ("C9EE\t$100\t5/2010\t$50\nX9EE\t$610,000\t5/2010\t$5,000", "The column denom has “$610,000”"),
     ("C9EE\t50\t05/02/2010", "The column issued has “05/02/2010”"),
     ("C9EE\t1,0000\t2010-05", "The column denom has “1,0000”"),
     ("Serial\tSeries\tDenom\tIssued\nC9EE\tI\t50\t2010-05", "must be EE: this page values no other series"),
@@ -153,8 +166,8 @@ def pasted(browser, url):
 
 def of_a_spreadsheet(page, browser, count):
     """A CSV file that a spreadsheet wrote: the fault that the counter names, and below it what the page understood."""
-    told = page.open_inventory(b'Serial,Denomination,Issue date\nC21EE,"$1,000.00",May-10\n')
-    assert "(row 1 code 70)" in told and browser.run(PREVIEW) == [["C21EE", "$1,000", "May 2010"]], told
+    told = page.open_inventory(b'\xef\xbb\xbf"Serial","Denomination","Issue date"\r\nM23EE,"$1,000.00 ",May-10\r\n')
+    assert "(row 1 code 70)" in told and browser.run(PREVIEW) == [["M23EE", "$1,000", "May 2010"]], told
     assert "read the file as a list of a spreadsheet" in browser.run("return document.querySelector('#told-list').textContent")
     assert add_pasted(browser).startswith("1 bond added") and len(page.rows()) == count + 1
 
@@ -164,6 +177,71 @@ def pasting(words, browser, site):
     pasted(browser, site.url)
     right(f"{browser.name}: {len(PASTES)} pasted lists are understood, shown and then added; {len(PASTE_FAULTS)} faults are named")
     fails_broken(browser, "a page that adds without showing first", pasted, "return understand();", "{ understand(); addRows(shown.read); return undefined; }")
+
+
+# The letter with which the serial numbers of each denomination begin, by the Treasury's numbering.
+LETTERS = {50: "L", 75: "K", 100: "C", 200: "R", 500: "D", 1000: "M", 5000: "V", 10000: "X"}
+LISTED = "return [...document.querySelectorAll('#told-list li')].map((line) => line.textContent);"
+SOLD = "Paper bonds were sold until December 2011."
+
+
+def bond_line(serial, dollars, issued):
+    return f"{serial},{dollars},{issued},7,\n".encode()
+
+
+def remarked(browser, url):
+    page = Page(browser, url)
+    fitting = b"".join(bond_line(f"{letter}{place + 1}EE", dollars, "2011-12") for place, (dollars, letter) in enumerate(LETTERS.items()))
+    assert page.open_inventory(HEADER + fitting) == "8 bonds added. 8 in all." and browser.run(LISTED) == []
+    letters = list(LETTERS.values())
+    wrong = [(f"{letters[(place + step) % 8]}{100 * place + step}EE", dollars) for place, dollars in enumerate(LETTERS) for step in range(1, 8)]
+    for first in range(0, 56, 20):
+        part = wrong[first : first + 20]
+        told = page.open_inventory(HEADER + b"".join(bond_line(serial, dollars, "2011-12") for serial, dollars in part))
+        assert told.startswith(f"{len(part)} bonds added.") and told.endswith(f"Compare {len(part)} bonds with the paper."), told
+        assert browser.run(LISTED) == [f"Bond {serial}: Serial numbers of ${dollars:,} bonds begin with {LETTERS[dollars]}." for serial, dollars in part], browser.run(LISTED)
+    remarked_as_typed(browser, page, 8 + 56)
+    remarked_in_lists(browser, page)
+
+
+def remarked_as_typed(browser, page, count):
+    """A typed bond has its remark as it is typed, and is added all the same; its dialog has the remark too."""
+    page.choose_month("2026-11")
+    for name, text in (("denom", "50"), ("issued", "May 2012"), ("serial", "c-12-ee")):
+        set_field(browser, name, text)
+    words = f"Serial numbers of $50 bonds begin with L. {SOLD}"
+    assert browser.run(ONE)[1].endswith(words) and browser.run(ONE)[0] != "", browser.run(ONE)
+    browser.run("document.querySelector('#type-form').requestSubmit()")
+    assert browser.told() == f"1 bond added. {count + 1} in all. Compare 1 bond with the paper." and browser.run(LISTED) == [f"Bond C12EE: {words}"], browser.told()
+    assert browser.run(ONE)[1].endswith(SOLD) and "begin with" not in browser.run(ONE)[1], "the next bond has no serial number yet"
+    browser.run("[...document.querySelectorAll('#table .open')].find((one) => one.textContent === 'C12EE').click()")
+    facts = "return [...document.querySelectorAll('#bond-facts dt')].map((one) => `${one.textContent}: ${one.nextSibling.textContent}`);"
+    assert browser.run(facts)[-1] == f"To check: {words}", browser.run(facts)
+    browser.run("document.querySelector('#bond').close(); [...document.querySelectorAll('#table .open')].find((one) => one.textContent === 'L1EE').click()")
+    assert not [line for line in browser.run(facts) if line.startswith("To check")]
+    browser.run("document.querySelector('#bond').close()")
+    set_field(browser, "issued", "Dec 2011")
+    assert not browser.run(ONE)[1].endswith(SOLD)
+
+
+def remarked_in_lists(browser, page):
+    """A pasted list has its remarks by row before it is added; of many bonds the first 20 are listed."""
+    page.remove_all()
+    assert put(browser, "Serial\tDenom\tIssued\nL1EE\t50\t12/2011\nL2EE\t75\t12/2011\n\t50\t1/2012\n").endswith("Compare 2 bonds with the paper.")
+    assert browser.run(NOTES) == ["Row 3: Serial numbers of $75 bonds begin with K.", f"Row 4: {SOLD}", "Row 1 names the columns."], browser.run(NOTES)
+    assert add_pasted(browser) == "3 bonds added. 3 in all. Compare 2 bonds with the paper."
+    assert browser.run(LISTED) == ["Bond L2EE: Serial numbers of $75 bonds begin with K.", f"Bond #1: {SOLD}"], browser.run(LISTED)
+    page.open_inventory(HEADER + b"".join(bond_line(f"C{place + 10}EE", 50, "2010-05") for place in range(23)))
+    listed = browser.run(LISTED)
+    assert len(listed) == 21 and listed[-1] == "Compare 3 more with the paper.", listed
+
+
+def remarks(words, browser, site):
+    """A serial number's letter and an issue month that no paper bond has: the page says so, and adds the bond all the same."""
+    remarked(browser, site.url)
+    right(f"{browser.name}: each of 56 letters of another denomination, and issue months after December 2011, are remarked as they are typed, pasted and opened; every bond is added")
+    fails_broken(browser, "a page with the letter of $1,000 bonds on $500 bonds", remarked, '500: "D"', '500: "M"')
+    fails_broken(browser, "a page that remarks a month late", remarked, "12 * 2011 + 11", "12 * 2012")
 
 
 def understood_lists(browser, url, made):
@@ -240,13 +318,6 @@ def sorting(words, browser, site):
     fails_broken(browser, "a page that sorts one way alone", lambda at, url: sorted_and_filtered(at, url, rates, bonds), "is_falling ? -1 : 1", "is_falling ? 1 : 1")
 
 
-ONE = "return [document.querySelector('#one-value').textContent, document.querySelector('#one-words').textContent];"
-
-
-def set_field(browser, name, text):
-    browser.run("const field = document.querySelector(`#${arguments[0]}`); field.value = arguments[1]; field.dispatchEvent(new Event('input', { bubbles: true }))", name, text)
-
-
 def units():
     """Return the published cents of a 25-dollar unit by issue month and month."""
     with open(expected.PUBLISHED / "published-values.csv", newline="") as file:
@@ -310,7 +381,8 @@ def with_clock(folder, name, time, *changes):
 
 
 def told_of_clocks(browser, make):
-    for clock, said, month in (("1970-01-01T12:00:00", "January 1970", "2020-11"), ("2004-03-01T12:00:00", "March 2004", "2020-11"), ("2205-07-01T12:00:00", "July 2205", "2199-12")):
+    last = expected.SHIPPED.decode().splitlines()[-1].partition(",")[0]
+    for clock, said, month in (("1970-01-01T12:00:00", "January 1970", last), ("2004-03-01T12:00:00", "March 2004", last), ("2205-07-01T12:00:00", "July 2205", "2199-12")):
         page = Page(browser, make(clock))
         assert f"clock says {said}, which can't be right" in browser.told(), browser.told()
         assert browser.run("return document.querySelector('#month').value") == month
@@ -373,8 +445,8 @@ def offline(words, browser, site):
         browser.until(lambda: browser.run("return document.documentElement.dataset.ready !== undefined"), "the page opens offline", 10)
         page = Page(browser, own.url)
         assert "3 bonds added" in page.open_inventory((expected.TOP / "samples" / "inventory.csv").read_bytes())
-        page.choose_month("2012-02")
-        assert page.total()[9] == "5087.23"
+        page.choose_month("2026-11")
+        assert page.total()[9] == "10262.51"
 
     opens_without(site.folder)
     right(f"{browser.name}: with the server gone the page opens again, and values the bonds of samples/")
@@ -561,7 +633,7 @@ TIMES = """
 def speed(words, browser, site):
     """Milliseconds for 10,000 bonds, and the frames of a scroll through them."""
     dice = words.expected.dice("speed")
-    bonds = [(serial, dollars, data.FIRST + (issued - data.FIRST) % 186, owner, coowner) for serial, dollars, issued, owner, coowner in data.random_bonds(dice, 10_000, set(), 7)]
+    bonds = [(serial, dollars, data.FIRST + (issued - data.FIRST) % expected.SHIPPED_MONTHS, owner, coowner) for serial, dollars, issued, owner, coowner in data.random_bonds(dice, 10_000, set(), 7)]
     page = Page(browser, site.url)
     begun = time.monotonic()
     assert "10,000 bonds added" in page.open_inventory(data.inventory_file(bonds))

@@ -153,8 +153,8 @@ def round_trip(words, browser, site):
     """An inventory that the program exported, opened, saved and imported again: the same bonds."""
     program, dice = Counter(words.program), words.expected.dice("round trip")
     try:
-        bonds = [bond for bond in data.random_bonds(dice, 300, set(), 7) if data.FIRST <= bond[2] < data.FIRST + 186]
-        assert program.enter("rates", expected.SHIPPED) == '{"new":32,"same":0}\n'
+        bonds = [bond for bond in data.random_bonds(dice, 300, set(), 7) if data.FIRST <= bond[2] < data.FIRST + expected.SHIPPED_MONTHS]
+        assert program.enter("rates", expected.SHIPPED) == f'{{"new":{expected.SHIPPED_PERIODS},"same":0}}\n'
         assert program.enter("inventory", data.inventory_file(bonds, dice)) == f'{{"new":{len(bonds)},"same":0}}\n'
         exported = program.export(7)
         page = Page(browser, site.url)

@@ -1,11 +1,14 @@
 """How the tests tell what they saw."""
+from __future__ import annotations
+
+from typing import Callable
 
 
-def right(what):
+def right(what: str) -> None:
     print(f"right: {what}", flush=True)
 
 
-def wrong_is_seen(what, check):
+def wrong_is_seen(what: str, check: Callable[[], object]) -> None:
     """A control: the check fails on something that is wrong."""
     try:
         check()

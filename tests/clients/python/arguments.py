@@ -8,18 +8,20 @@ import sys
 
 import ee_counter_client.errors as errors
 import ee_counter_client.spelling as spelling
-from bench import DAY, client, control, desks, folder, journal_text, own_environment, raises, right
+from bench import DAY, Told, client, control, desks, folder, journal_text, own_environment, raises, right
 from unittest import mock
 
-JUNK = (None, True, 1.5, -1, 10**30, b"bytes", "", "x" * 300, "\0", "caf\u00e9", [], {}, object(), float("nan"), datetime.time(8), lambda: None)
+JUNK = (None, True, 1.5, -1, 10**30, b"bytes", "", "x" * 300, "\0", "\x1b[2J\r", "caf\u00e9", [], {}, {"\x1b[2J": 7}, object(), float("nan"), datetime.time(8), lambda: None)
 BRANCHES = (client.BadCall, client.WrongSetup, client.Retryable, client.UnknownOutcome, client.Refused)
 
 
 def arguments():
-    """Sixteen kinds of junk in each place of each call."""
+    """Each kind of junk in each place of each call."""
     check_calls()
     control("a spelling that asks for a text's method raises another error", check_calls, mock.patch.object(spelling, "serial_of", str.upper), mock.patch("ee_counter_client.counter.serial_of", str.upper))
     check_openings()
+    check_texts()
+    control("the texts of errors as they were made", check_texts, mock.patch.object(client.CounterError, "__str__", Exception.__str__))
     named_arguments()
 
 
@@ -28,7 +30,7 @@ def is_own(call, what):
     try:
         call()
     except client.CounterError as error:
-        return isinstance(error, client.BadCall) or what in ("a journal", "an archive")
+        return str(error).isprintable() and (isinstance(error, client.BadCall) or what in ("a journal", "an archive"))
     except Exception as error:
         raise SystemExit(f"WRONG: {what}: {type(error).__name__}: {error}") from error
     return True
@@ -100,13 +102,44 @@ def check_openings():
         right(True, "certificates, pools, and places where no journal can be")
 
 
+def check_texts():
+    """No error's text, and none of the log, has a control character of what it quotes."""
+    sign = "\x1b[2J\x07\n\u202e"
+    told = Told()
+    with desks("L1EE") as (place, fake, gate), told.kept():
+        bad, journal = place / f"{sign}.csv", place / f"{sign}.journal"
+        bad.write_text(f"serial,denom,issued,owner,coowner\nL1EE,50,2010-11,{sign},\n")
+        with client.Counter(journal, gate.address, desk=3, patience=0.3) as counter:
+            counter.ticket(1)
+            errors_of = [
+                raises(client.JournalInUse, lambda: client.Counter(journal, desk=3)),
+                raises(client.BadFile, lambda: client.register(counter, bad)),
+                raises(client.BadFile, lambda: client.register(counter, place / sign)),
+                raises(client.BadFile, lambda: client.bonds_known(bad)),
+                raises(client.BadValue, lambda: counter.add_bonds([{sign: 7}])),
+                raises(client.BadValue, lambda: counter.redeem(sign, 7, ["L1EE"])),
+                raises(client.BadValue, lambda: client.Lookups(f"http://{sign}")),
+            ]
+            gate.faults = ["lost answer"] * 9
+            errors_of.append(raises(client.NoReply, lambda: counter.redeem(DAY, 7, ["L1EE"])))
+            counter.abandon(f"because of {sign}")
+        errors_of.append(raises(client.FileFailed, lambda: client.Counter(place / sign / "a.journal", desk=3)))
+        (place / f"{sign}.archive").write_text("no archive\n")
+        errors_of.append(raises(client.BadArchive, lambda: client.Counter(journal, archive=place / f"{sign}.archive")))
+        journal.write_text("{}")
+        errors_of.append(raises(client.BadJournal, lambda: client.Counter(journal)))
+    raw = [error for error in errors_of if not str(error).isprintable()]
+    right(raw == [] and any("\\x1b[2J" in str(error) for error in errors_of), f"{len(errors_of)} errors quote a control character escaped: {str(errors_of[0])[-50:]}", raw)
+    right(all(text.isprintable() for text in told.texts) and any("because of" in text for text in told.texts), f"and so do {len(told.texts)} texts of the log", told.texts)
+
+
 def named_arguments():
     """What is read in more than one way."""
     with desks("L1EE") as (place, fake, gate), client.Counter(str(place / "a.journal"), gate.address + "/", desk="3") as counter:
         fake.answered("POST", "/day/close", b'{"number":2,"day":"2012-02-06"}')
         counter.add_rates([client.Rates(client.Month(2010, 5), decimal.Decimal("3.5"), decimal.Decimal("4.00")), {"from": datetime.date(2010, 11, 1), "rate": "3.50%"}])
         counter.add_bonds([client.Bond("K-0002-EE", 75, "10/2010", 7, 8)])
-        counter.open_day(datetime.date(2012, 2, 7))
+        counter.open_day(datetime.date(2012, 2, 7), even_so=True)
         ticket = counter.redeem(datetime.date(2012, 2, 7), "7", ("K2EE", "L-1EE"))
         right([line.serial for line in ticket.lines] == ["K2EE", "L1EE"] and counter.inventory(7, client.Month(2012, 2)).rows == (), "dates, Months, Decimals and other spellings are read")
 

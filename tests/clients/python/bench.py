@@ -1,6 +1,7 @@
 """What the cases of the Python client share: verdicts, controls, folders, the true counter, and servers that aren't a counter."""
 import contextlib
 import io
+import logging
 import os
 import shutil
 import socket
@@ -11,11 +12,33 @@ import threading
 import time
 from pathlib import Path
 
-import ee_counter_client as client
+import ee_counter_client
 from ee_counter_client.testing import FakeCounter, Gate
+
+#: The package that is tested, for the modules beside this one.
+client = ee_counter_client
 
 TOP = Path(__file__).resolve().parents[3]
 DAY = "2012-02-06"
+
+
+class Told(logging.Handler):
+    """What the package logs while it is kept, as texts."""
+
+    def __init__(self):
+        super().__init__()
+        self.texts = []
+
+    def emit(self, record):
+        self.texts.append(record.getMessage())
+
+    @contextlib.contextmanager
+    def kept(self):
+        logging.getLogger("ee_counter_client").addHandler(self)
+        try:
+            yield self
+        finally:
+            logging.getLogger("ee_counter_client").removeHandler(self)
 
 
 def right(is_right, what, found=""):

@@ -1,4 +1,5 @@
 """Interruptions of a process that lives on: Ctrl-C at a moment of a call's own code, and a call on a file that fails. Journal, keys and archive stay right."""
+import collections
 import contextlib
 import errno
 import hashlib
@@ -16,7 +17,7 @@ import ee_counter_client.journal as journal_module
 from bench import DAY, TOP, client, control, desks, folder, right, true_counter
 from ee_counter_client.testing import fake as fake_module
 
-#: How many moments are tried, spread over all of a call. 0 is each of them.
+#: How many moments of a call are tried: one of each function, and others by chance. 0 is each of them.
 MOMENTS = 100
 #: The modules whose code is interrupted: those that write the files, by each of their instructions, and the one that calls them, by each of its lines.
 BY_INSTRUCTION, BY_LINE = ("journal.py", "archive.py"), ("counter.py",)
@@ -27,10 +28,12 @@ FILE_CALLS = ("open", "write", "pwrite", "ftruncate", "fsync", "replace", "close
 
 
 class Interrupt:
-    """Raises KeyboardInterrupt at the moment `at` of what is done within, in this thread. Without it, it counts the moments."""
+    """Raises KeyboardInterrupt in this thread, at one moment of what is done within: the `nth` in a function of the package, or in all of them if `function` is None. 0 is no
+    moment. It counts the moments of each function."""
 
-    def __init__(self, at=0):
-        self.at, self.count = at, 0
+    def __init__(self, function=None, nth=0):
+        self.function, self.nth = function, nth
+        self.counts = collections.Counter()
 
     def __enter__(self):
         self.hook, sys.unraisablehook = sys.unraisablehook, lambda _: None  # Python ignores what is raised in __del__
@@ -51,19 +54,34 @@ class Interrupt:
 
     def met(self, frame, event, _):
         if event in ("opcode", "line"):
-            self.count += 1
-            if self.count == self.at:
+            function = frame.f_code.co_qualname
+            self.counts[function] += 1
+            if self.function in (None, function) and self.nth == (self.counts[function] if self.function else self.counts.total()):
                 raise KeyboardInterrupt
         return self.met
 
 
-def moments_of(call):
-    """The moments of a call to try."""
+def all_moments(call):
+    """Each moment of a call, function by function."""
     with Interrupt() as whole:
         call()
-    count = whole.count
-    right(count > 100, f"a call has {count:,} moments")
-    return range(1, count + 1) if MOMENTS == 0 or MOMENTS >= count else sorted(random.Random(11).sample(range(1, count + 1), MOMENTS))
+    moments = [(function, nth) for function, count in whole.counts.items() for nth in range(1, count + 1)]
+    right(len(moments) > 100, f"a call has {len(moments):,} moments in {len(whole.counts)} functions")
+    return moments
+
+
+def moments_of(call, within=None):
+    """The moments of a call to try: each one in the function `within`, or MOMENTS of them."""
+    moments = all_moments(call)
+    if within is not None:
+        return [moment for moment in moments if moment[0] == within]
+    if MOMENTS == 0:
+        return moments
+    chance = random.Random(11)
+    chance.shuffle(moments)
+    first = list({function: (function, nth) for function, nth in moments}.values())
+    others = [moment for moment in moments if moment not in first]
+    return first + others[: max(0, MOMENTS - len(first))]
 
 
 def same_on_disk(counter, place, when):
@@ -80,13 +98,21 @@ def same_on_disk(counter, place, when):
         right(False, f"{when}: the Counter knows what its files say", f"{known}\n{found}")
 
 
+#: Parts of the package whose lack shows at a few moments of one function: what is said of it, the key, the function, the part, and what stands in for it.
+LACKS = (
+    ("a journal that doesn't take a reply from its keys", "job", "Journal.write", (journal_module.Journal, "settled", lambda journal: journal.record)),
+    ("a journal that leaves an interrupted change on the disk", None, "Journal.write", (journal_module.Journal, "restore", lambda journal: None)),
+    ("an archive that doesn't read back its last line", "job", "Archive.write", (archive_module.Archive, "read_back", lambda archive: None)),
+)
+
+
 def interrupted_calls():
     """Ctrl-C in a call, and the Counter is used further: the same call has its reply, each bond is paid once, and the files are right."""
     check_interrupted("job")
     check_interrupted(None)
-    control("a journal that doesn't take a reply from its keys", lambda: check_interrupted("job"), mock.patch.object(journal_module.Journal, "settled", lambda journal: journal.record))
-    control("a journal that leaves an interrupted change on the disk", lambda: check_interrupted(None), mock.patch.object(journal_module.Journal, "restore", lambda journal: None))
-    control("an archive that doesn't read back its last line", lambda: check_interrupted("job"), mock.patch.object(archive_module.Archive, "read_back", lambda archive: None))
+    for lack, key, function, broken in LACKS:
+        check_interrupted(key, function)
+        control(lack, lambda key=key, function=function: check_interrupted(key, function), mock.patch.object(*broken))
     interrupted_openings()
 
 
@@ -95,19 +121,19 @@ def bonds_of(fake, count):
     fake.bonds.update({serial: {"serial": serial, "denom": 50, "issued": "2010-11", "owner": 7} for serial in (f"A{count}EE", f"B{count}EE")})
 
 
-def check_interrupted(key):
-    """Each moment in turn. With keys, another call comes in between every second time."""
+def check_interrupted(key, within=None):
+    """Moment after moment: MOMENTS of them, or each one in the function `within`. With keys, another call comes in between every second time."""
     with desks("X1EE") as (place, fake, _), mock.patch.object(fake_module, "MOST_TICKETS", 10**6):
         with client.Counter(place / "a.journal", fake.address, desk=3, archive=place / "a.archive", patience=60) as counter:
             counter.ticket(1)
-            moments = moments_of(lambda: counter.redeem(DAY, 7, ["X1EE"], key=key and "first"))
-            for count, at in enumerate(moments, 1):
+            moments = moments_of(lambda: counter.redeem(DAY, 7, ["X1EE"], key=key and "first"), within)
+            for count, moment in enumerate(moments, 1):
                 bonds_of(fake, count)
-                with Interrupt(at):
+                with Interrupt(*moment):
                     counter.redeem(DAY, 7, [f"A{count}EE"], key=key and f"A{count}", bookmark=count)
-                made_again(counter, place, f"moment {at}", count, key, key and count % 2 == 0)
+                made_again(counter, place, f"moment {moment[1]} of {moment[0]}", count, key, key and count % 2 == 0)
         paid_once(place, fake)
-        right(True, f"{len(moments)} moments of a call {'with' if key else 'without'} a key were interrupted, and each bond is paid once")
+        right(True, f"{len(moments)} moments of {within or 'a call'} {'with' if key else 'without'} a key were interrupted, and each bond is paid once")
 
 
 def made_again(counter, place, when, count, key, with_other=False):
@@ -150,10 +176,10 @@ def interrupted_openings():
                 pass
 
         moments = moments_of(opened)
-        for at in moments:
-            for name in ("a.journal", "a.archive") if at % 2 else ():
+        for count, moment in enumerate(moments):
+            for name in ("a.journal", "a.archive") if count % 2 else ():
                 (place / name).unlink(missing_ok=True)
-            with Interrupt(at):
+            with Interrupt(*moment):
                 opened()
             opened()
         right(True, f"{len(moments)} moments of opening and closing were interrupted, and the journal is opened again")
@@ -233,8 +259,8 @@ def restored(program):
     with folder() as place, true_counter(program, place) as port:
         with client.Counter(place / "a.journal", f"http://127.0.0.1:{port}", desk=3, archive=place / "a.archive", patience=60) as counter:
             counter.add_rates([client.Rates("2010-11", "0.60")])
-            counter.add_bonds([client.Bond(f"A{number}EE", 50, "2010-11", 7) for number in range(1, PAYMENTS + 1)])
-            counter.open_day(DAY)
+            counter.add_bonds([client.Bond(f"A{number}EE", 50, "2010-11", 7) for number in range(1, PAYMENTS + 1)], even_so=True)
+            counter.open_day(DAY, even_so=True)
             tickets = [paid(counter, f"A{number}EE", chance) for number in range(1, PAYMENTS + 1)]
             batch = counter.close_day(DAY)
         right([ticket.number for ticket in tickets] == list(range(1, PAYMENTS + 1)) and batch.tickets == PAYMENTS, f"{PAYMENTS} payments, each interrupted three times: one ticket each")
@@ -249,7 +275,7 @@ def paid(counter, serial, chance):
     """A payment with a key, after three interruptions of it."""
     for _ in range(3):
         if chance.random() < 0.5:
-            with Interrupt(chance.randint(1, 1000)):
+            with Interrupt(nth=chance.randint(1, 1000)):
                 counter.redeem(DAY, 7, [serial], key=serial)
         else:
             with contextlib.suppress(client.FileFailed), Failing(chance.randint(1, 25), chance.choice((errno.EIO, errno.ENOSPC)), chance.random() < 0.5):

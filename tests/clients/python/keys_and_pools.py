@@ -198,8 +198,8 @@ def killed_pools(program):
     with folder() as place, true_counter(program, place) as port, Gate(port) as gate:
         with client.Counter(place / "a.journal", gate.address, desk=1) as counter:
             counter.add_rates([client.Rates("2010-11", "0.60")])
-            counter.add_bonds([client.Bond(f"A{job}EE", 50, "2010-11", 7) for job in range(1, count + 1)])
-            counter.open_day(DAY)
+            counter.add_bonds([client.Bond(f"A{job}EE", 50, "2010-11", 7) for job in range(1, count + 1)], even_so=True)
+            counter.open_day(DAY, even_so=True)
         line = [sys.executable, "-c", WORKER, place, gate.address, str(count)]
         for _ in range(KILLS):
             running = subprocess.Popen(line, env=own_environment(), stdout=subprocess.DEVNULL, stderr=subprocess.DEVNULL)

@@ -134,7 +134,7 @@ def worked_through(place, port, numbers, chance, told):
 def tried(trial, other, call, at, harm, told):
     """Harms a run and makes another one, in which nothing is harmed."""
     if trial.is_opened:
-        other.open_day(trial.day)
+        other.open_day(trial.day, even_so=True)
     harmed = trial.harmed(call, at, harm)
     is_killed = harmed.returncode in (-9, 137)
     told[harm] += 1

@@ -1,19 +1,21 @@
 """What reaches other programs: errors in other processes, look-ups without a desk, responses that are junk, and the command's help."""
 import concurrent.futures
 import copy
+import datetime
+import decimal
 import json
-import logging
 import multiprocessing
 import pickle
 import random
+import re
 import subprocess
 import sys
 from unittest import mock
 
-import ee_counter_client.answers as answers
 import ee_counter_client.errors as errors
+import ee_counter_client.lookups as lookups_module
 import ee_counter_client.way as way
-from bench import DAY, TOP, client, control, desks, folder, listener, own_environment, raises, right
+from bench import DAY, TOP, Told, client, control, desks, folder, listener, own_environment, raises, right
 from ee_counter_client.testing import FakeCounter
 
 JUNK = 600
@@ -56,8 +58,14 @@ def one_of(kind):
         error = kind({"code": code, "refused": kind.__name__, **{key: "L1EE" if form is str else 5 for key, form in kind.keys}}, request)
         error.rows, error.line = (2, 501), 17
         return error
-    made = {client.BadFile: (3, "no bond"), client.KeyReused: ("invoice-1", 17), client.Fault: ({"code": 65, "fault": "BadField", "field": "day"},), client.Forbidden: ("/redeem",), client.ForeignAnswer: (200, "a page")}
+    made = {client.BadFile: (3, "no bond"), client.KeyReused: ("invoice-1", 17), client.Fault: ({"code": 65, "fault": "BadField", "field": "day"},), client.Forbidden: ("/redeem",), client.ForeignAnswer: (200, "a page"), client.Implausible: (["a doubt"] * 9,), client.Incomplete: (lacking(),)}
     return kind(*made.get(kind, ("a text", request) if issubclass(kind, client.UnknownOutcome) else ("a text",)))
+
+
+def lacking():
+    """An interest of which something is missing."""
+    row = client.Paid(datetime.date(2012, 2, 6), 1, 7, "L1EE", None, None, None, None, decimal.Decimal("25.16"))
+    return client.Interest((row,), decimal.Decimal(0), decimal.Decimal(0), row.value, ("L1EE",), "a CSV")
 
 
 def check_pickled():
@@ -100,6 +108,8 @@ def look_ups():
 # ---- junk
 
 BODIES = ('{"code":52,"refused":"AlreadyPaid","serial":"L1EE","ticket":4}', '{"code":99,"refused":"\\u001b[31m\\ud800","serial":"\\u0000"}', '{"bonds":2,"day":"2012-02-06","tickets":1,"total":"63.23"}')
+#: A fault of the way that has another name: the request is sent again, and the log tells it.
+FAULT = '{"code":60,"fault":"\\u001b[31m"}'
 HEADS = (
     b"HTTP/1.1 200 OK\r\nTransfer-Encoding: chunked\r\n\r\n-5\r\nabcde\r\n0\r\n\r\n",
     b"HTTP/1.1 200 OK\r\nTransfer-Encoding: chunked\r\n\r\n-1\r\nabcde\r\n0\r\n\r\n",
@@ -133,62 +143,52 @@ def responses():
     """Junk: of HTTP, and of the counter's own texts."""
     chance = random.Random(5)
     yield from HEADS
+    yield from [response_of(409, BODIES[1])] * 4 + [response_of(400, FAULT)] * 4
     with FakeCounter() as fake:
         fake.bonds["L1EE"] = {"serial": "L1EE", "denom": 50, "issued": "2010-11", "owner": 7}
         texts = [*BODIES, fake.answered("GET", "/inventory/7/2012-02", b"")[1], fake.answered("GET", "/value/50/2010-11/2012-02", b"")[1], '{"day":"2012-02-06","lines":[{"paid":"25.00","serial":"L1EE"}],"payee":7,"ticket":1,"total":"25.00"}', '{"code":65,"fault":"BadField","field":"day"}', '{"code":2,"unserved":"StoreFailed"}']
     for _ in range(JUNK):
-        status, body = chance.choice((200, 200, 409, 503, 400, 404, 401, 403, 429)), changed(chance, chance.choice(texts)).encode("utf-8", "surrogatepass")
-        yield b"HTTP/1.1 %d X\r\nContent-Length: %d\r\n\r\n%s" % (status, len(body), body)
+        yield response_of(chance.choice((200, 200, 409, 503, 400, 404, 401, 403, 429)), changed(chance, chance.choice(texts)))
 
 
-class Told(logging.Handler):
-    """What the package logs."""
-
-    def __init__(self):
-        super().__init__()
-        self.texts = []
-
-    def emit(self, record):
-        self.texts.append(record.getMessage())
+def response_of(status, text):
+    body = text.encode("utf-8", "surrogatepass")
+    return b"HTTP/1.1 %d X\r\nContent-Length: %d\r\n\r\n%s" % (status, len(body), body)
 
 
 def junk():
     """Each response that is junk is answered, or raises an error of the package, whose text has no control characters."""
     check_junk(list(responses()))
     heads = list(HEADS)
-    true = way.Way.sent
-    assert true is not None
     control("what http.client lets out", lambda: check_junk(heads), mock.patch.object(way, "ValueError", UnicodeError, create=True))
     control("the texts of others as they came", lambda: check_junk(heads), mock.patch.object(way, "shown", str))
-    control("names of a refusal as they came", lambda: check_junk(list(responses())), mock.patch.object(errors, "shown", str), mock.patch.object(answers, "shown", str))
+    refusals = [response_of(409, BODIES[1])] * 4
+    control("names of a refusal as they came", lambda: check_junk(refusals), mock.patch.object(errors, "shown", str), mock.patch.object(client.CounterError, "__str__", Exception.__str__))
+    control("names of a fault of the way as they came", lambda: check_junk([response_of(400, FAULT)] * 4), mock.patch.object(lookups_module, "shown", str))
 
 
 def check_junk(kinds):
     told, ends, at = Told(), {}, iter(kinds)
-    logging.getLogger("ee_counter_client").addHandler(told)
     now = [b""]
 
     def serve(connection):
         connection.recv(65536)
         connection.sendall(now[0])
 
-    try:
-        with folder() as place, listener(serve) as port, client.Counter(place / "a.journal", f"http://127.0.0.1:{port}", desk=3, patience=0.05) as counter:
-            for count, now[0] in enumerate(at):
-                counter._is_known = count % 2 == 0
-                call = (lambda: counter.ticket(1), lambda: counter.inventory(7, "2012-02"), lambda: counter.value(50, "2010-11", "2012-02"), lambda: counter.redeem(DAY, 7, ["L1EE"]))[count // 2 % 4]
-                try:
-                    call()
-                    name, text = "answered", ""
-                except client.CounterError as error:
-                    name, text = type(error).__name__, str(error)
-                except Exception as error:
-                    right(False, f"junk {now[0][:200]!r}", repr(error))
-                if not text.isprintable():
-                    right(False, f"an error's text has no control characters: {text!r}", now[0][:200])
-                ends[name] = ends.get(name, 0) + 1
-    finally:
-        logging.getLogger("ee_counter_client").removeHandler(told)
+    with told.kept(), folder() as place, listener(serve) as port, client.Counter(place / "a.journal", f"http://127.0.0.1:{port}", desk=3, patience=0.05) as counter:
+        for count, now[0] in enumerate(at):
+            counter._is_known = count % 2 == 0
+            call = (lambda: counter.ticket(1), lambda: counter.inventory(7, "2012-02"), lambda: counter.value(50, "2010-11", "2012-02"), lambda: counter.redeem(DAY, 7, ["L1EE"]))[count // 2 % 4]
+            try:
+                call()
+                name, text = "answered", ""
+            except client.CounterError as error:
+                name, text = type(error).__name__, str(error)
+            except Exception as error:
+                right(False, f"junk {now[0][:200]!r}", repr(error))
+            if not text.isprintable():
+                right(False, f"an error's text has no control characters: {text!r}", now[0][:200])
+            ends[name] = ends.get(name, 0) + 1
     right(all(text.isprintable() for text in told.texts), f"{len(kinds)} kinds of junk: {ends}; and {len(told.texts)} texts of the log without control characters")
 
 
@@ -201,10 +201,10 @@ def command_line():
 
     for name, does, arguments, _ in (*ACTS, *LOOK_UPS):
         status, out, _ = ran(name, "--help")
-        lines = [line for line in out.splitlines() if line.startswith("  ") and "; for example " in " ".join(out.split())]
         named = [argument.split()[-1] for argument in arguments]
-        is_told = all(any(line.split()[0] == argument and len(line.split()) > 2 for line in lines) for argument in named)
-        right(status == 0 and does in " ".join(out.split()) and is_told and "\nexample:\n" in out and "\nstatuses:\n  0  done\n" in out, f"{name} --help: {', '.join(named) or 'no arguments'}", out)
+        right(status == 0 and is_help(out, does, named), f"{name} --help: {', '.join(named) or 'no arguments'}", out)
+    _, out, _ = ran("open", "--help")
+    right(all(part in out and not is_help(out.replace(part, ""), "opens a day", ["day"]) for part in ("the business day, YYYY-MM-DD", "; for example 2012-02-06", "\nexample:\n", "\nstatuses:\n", "  1  ")), "control: without one of its parts it isn't a help")
     with desks("L1EE") as (place, fake, gate):
         right(ran("--at", gate.address, "value", "50", "2010-11", "2012-02")[0] == 0 and ran("--at", gate.address, "sheet", "7", "2012-02")[0] == 0, "look-ups without a journal")
         status, out, told = ran("--at", gate.address, "ticket", "1")
@@ -217,8 +217,14 @@ def command_line():
         right(status == 0 and json.loads(out)["ticket"] == 1, "control: with one it pays", told)
 
 
-def ran(*words):
-    done = subprocess.run([sys.executable, "-B", TOP / "clients" / "counter.py", *map(str, words)], capture_output=True, text=True, env={**own_environment(), "COLUMNS": "200"}, timeout=120)
+def is_help(out, does, named):
+    """Whether a text of help says what the command does, what each argument is, with examples, and what the statuses mean."""
+    are_told = all(re.search(rf"^  {name} +\w.{{9,}}; for example \S", out, re.M) for name in named)
+    return does in " ".join(out.split()) and are_told and "\nexample:\n" in out and re.search(r"^statuses:\n  0  .*\n  1  .*\n  2  .*\n  3  ", out, re.M) is not None
+
+
+def ran(*words, into=subprocess.PIPE):
+    done = subprocess.run([sys.executable, "-B", TOP / "clients" / "counter.py", *map(str, words)], stdout=into, stderr=subprocess.PIPE, text=True, env={**own_environment(), "COLUMNS": "200"}, timeout=120)
     return done.returncode, done.stdout, done.stderr
 
 

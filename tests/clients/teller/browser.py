@@ -1,6 +1,7 @@
 """The page in a browser, as a teller sees it and a keyboard works it."""
 import tempfile
 import time
+from pathlib import Path
 
 from selenium.common.exceptions import StaleElementReferenceException, TimeoutException, WebDriverException
 from selenium.webdriver.common.action_chains import ActionChains
@@ -12,6 +13,7 @@ from bank import PASSWORD, USER
 from engines import ENGINES
 
 PATIENCE = 60
+DOUBT = "Do these bonds agree with the paper?"
 MONTHS = ("January", "February", "March", "April", "May", "June", "July", "August", "September", "October", "November", "December")
 
 
@@ -131,7 +133,7 @@ class Page:
         raise TimeoutException(f"{selector} is written anew again and again")
 
     def go(self, view):
-        self.until(lambda: self.find("nav").is_displayed(), "the page has started")
+        self.until(lambda: self.find(f"nav a[href='#{view}']").is_displayed(), f"the page has started, and offers the view {view}")
         self.press(f"nav a[href='#{view}']")
         self.until(lambda: self.find(f"#{view}").is_displayed(), f"the view {view}")
 
@@ -241,7 +243,14 @@ class Page:
         if payee is not None:
             self.type("#payee", str(payee))
         self.press("#pay-bonds button:not([type])")
+        return self.asked_without_doubt()
+
+    def asked_without_doubt(self):
+        """The texts of the page's question. Before it the page asks about letters that don't fit the denomination, as many here, and about issue months."""
         self.until(lambda: self.find("#confirm").is_displayed(), "the page asks once more")
+        if DOUBT in self.question():
+            self.press("#confirm-yes")
+            self.until(lambda: self.find("#confirm").is_displayed() and DOUBT not in self.question(), "the page asks again")
         return self.question()
 
     def pay(self, payee=None):
@@ -260,6 +269,27 @@ class Page:
             database.close();
             return record ?? null;
         """)
+
+    def receipts(self):
+        """What the browser keeps of payments, in the order of the tickets."""
+        return self.run_module("""
+            const request = indexedDB.open("ladwenpik-receipts");
+            const database = await new Promise((resolve) => { request.onsuccess = () => resolve(request.result); });
+            const get = database.transaction("payments").objectStore("payments").index("ticket").getAll();
+            const records = await new Promise((resolve) => { get.onsuccess = () => resolve(get.result); });
+            database.close();
+            return records;
+        """)
+
+    def pictured(self, name):
+        """Pictures of the window, 1440 and 360 pixels wide, in the folder for pictures."""
+        folder = Path(self.bank.pictures)
+        folder.mkdir(parents=True, exist_ok=True)
+        for width, height in ((1440, 900), (360, 740)):
+            self.resize(width, height)
+            self.sleep(0.3)
+            self.driver.save_screenshot(str(folder / f"{name}_{width}-{self.browser}.png"))
+        self.resize(1440, 900)
 
     def settled(self):
         """Nothing is open, and no step is shown."""

@@ -68,14 +68,14 @@ def a_day(bank):
     """By the command, through TLS and a password."""
     sheet = "Total" + " " * 52
     steps = (
-        (("rates", "samples/rates.csv"), '{"new":32,"same":0}\n'),
+        (("rates", "samples/rates.csv"), '{"new":14,"same":0}\n'),
         (("register", "samples/inventory.csv"), '{"new":3,"same":0,"before":0}\n'),
-        (("open", DAY), '{"opened":"2012-02-06"}\n'),
+        (("open", "--even-so", DAY), '{"opened":"2012-02-06"}\n'),
         (("redeem", DAY, "7", "L1EE", "K2EE"), '{"day":"2012-02-06","lines":[{"paid":"25.16","serial":"L1EE"},{"paid":"38.07","serial":"K2EE"}],"payee":7,"ticket":1,"total":"63.23"}\n'),
         (("ticket", "1"), '{"day":"2012-02-06","lines":[{"paid":"25.16","serial":"L1EE"},{"paid":"38.07","serial":"K2EE"}],"payee":7,"ticket":1,"total":"63.23"}\n'),
-        (("redeem", DAY, "7", "M3EE"), '{"day":"2012-02-06","lines":[{"paid":"5024.00","serial":"M3EE"}],"payee":7,"ticket":2,"total":"5024.00"}\n'),
-        (("close", DAY), '{"bonds":3,"day":"2012-02-06","tickets":2,"total":"5087.23"}\n'),
-        (("batch", DAY), '{"bonds":3,"day":"2012-02-06","tickets":2,"total":"5087.23"}\n'),
+        (("redeem", DAY, "7", "X3EE"), '{"day":"2012-02-06","lines":[{"paid":"6016.00","serial":"X3EE"}],"payee":7,"ticket":2,"total":"6016.00"}\n'),
+        (("close", DAY), '{"bonds":3,"day":"2012-02-06","tickets":2,"total":"6079.23"}\n'),
+        (("batch", DAY), '{"bonds":3,"day":"2012-02-06","tickets":2,"total":"6079.23"}\n'),
         (("value", "50", "2010-11", "2012-02"), '{"denom":50,"final":"2040-11","interest":"0.16","issued":"2010-11","next":"2012-03","note":"P5","price":"25.00","rate":"0.60%","value":"25.16"}\n'),
     )
     for words, wanted in steps:
@@ -85,10 +85,10 @@ def a_day(bank):
     right(status == 0 and out.startswith("Serial ") and out.splitlines()[-1].startswith(sheet[:20]), "the sheet is printed as the counter gave it")
     status, out, told = command(bank, "ticket", "9")
     right((status, out) == (1, "") and told == "there is no such ticket\n", "a ticket that isn't there has status 1", told)
-    status, out, told = command(bank, "redeem", DAY, "7", "M3EE")
+    status, out, told = command(bank, "redeem", DAY, "7", "X3EE")
     right((status, out) == (1, '{"code":42,"refused":"NoOpenDay"}\n') and told == "refused: NoOpenDay (code 42)\n", "a refusal has status 1", (out, told))
     right((bank.folder / "desk3.journal").stat().st_mode & 0o777 == 0o600, "the journal is its user's alone")
-    right(books_of(bank).rows("SELECT day, tickets, bonds, total FROM batches") == [(15376, 2, 3, SUM)], "the books have the day")
+    right(books_of(bank).rows("SELECT day, tickets, bonds, total FROM batches") == [(15376, 2, 3, 607923)], "the books have the day")
 
 
 def each_fault(bank):
@@ -102,8 +102,8 @@ def each_fault(bank):
             bonds = bonds_of(owner)
             serials = [bond["serial"] for bond in bonds]
             acts = (
-                (lambda: counter.add_bonds(bonds), client.Added(3, 0)),
-                (lambda: counter.open_day(day), client.Opened(datetime.date.fromisoformat(day))),
+                (lambda: counter.add_bonds(bonds, even_so=True), client.Added(3, 0)),
+                (lambda: counter.open_day(day, even_so=True), client.Opened(datetime.date.fromisoformat(day))),
                 (lambda: counter.redeem(day, owner, serials), ticket_of(1 + place, day, owner, serials)),
                 (lambda: counter.close_day(day), client.Batch(datetime.date.fromisoformat(day), 1, 3, printed(SUM))),
             )
@@ -194,7 +194,7 @@ def fault_on_resend(bank):
 
 def over_patience(bank):
     """Until the patience is over: then the journal keeps the request, also over a start of the script."""
-    with at_gate(bank, patience=0.5) as counter:
+    with at_gate(bank, patience=5) as counter:
         bank.gate.faults = ["lost answer"] + ["not json"] * 20
         try:
             right(False, "a fault on each resend", counter.redeem(DAY, 7, ["M7EE"]))
@@ -251,7 +251,7 @@ def commands_of(text):
 
 
 def document(bank):
-    """The commands of docs/TELLERS.md, run as written in one shell, in a folder that has the repository's files by links."""
+    """The commands of docs/COUNTER_CLIENT.md, run as written in one shell, in a folder that has the repository's files by links."""
     folder = bank.folder / "top"
     folder.mkdir()
     for name in ("clients", "samples"):
@@ -259,7 +259,7 @@ def document(bank):
     (folder / "ee_cli").symlink_to(bank.server.program)
     shell = subprocess.Popen(["bash"], stdin=subprocess.PIPE, stdout=subprocess.PIPE, stderr=subprocess.STDOUT, text=True, cwd=folder)
     try:
-        for line, wanted in commands_of((TOP / "docs" / "TELLERS.md").read_text()):
+        for line, wanted in commands_of((TOP / "docs" / "COUNTER_CLIENT.md").read_text()):
             printed_by(shell, line, wanted)
     finally:
         shell.stdin.write("kill $(jobs -p)\n")
@@ -301,12 +301,12 @@ def refusals(bank):
         counter.redeem(DAY, 7, ["M7EE"])
         wanted = (
             (13, "Repeated", {"serial": "L7EE"}, lambda: counter.redeem(DAY, 7, ["L7EE", "L-007-EE"])),
-            (14, "SameCoowner", {"serial": "A1EE"}, lambda: counter.add_bonds([{**bond, "coowner": 7}])),
+            (14, "SameCoowner", {"serial": "A1EE"}, lambda: counter.add_bonds([{**bond, "coowner": 7}], even_so=True)),
             (20, "NotAnnouncementMonth", {"month": "2010-06"}, lambda: counter.add_rates([{"from": "2010-06", "rate": "1.00"}])),
             (21, "RateConflict", {"month": "2010-05"}, lambda: counter.add_rates([{"from": "2010-05", "rate": "9.99"}])),
-            (30, "NoRate", {"serial": "A1EE"}, lambda: counter.add_bonds([{**bond, "issued": "2021-06"}])),
+            (30, "NoRate", {"serial": "A1EE"}, lambda: counter.add_bonds([{**bond, "issued": "2021-06"}], even_so=True)),
             (31, "SerialConflict", {"serial": "L7EE"}, lambda: counter.add_bonds([{**bond, "serial": "L7EE", "owner": 8}])),
-            (40, "DayOpen", {}, lambda: counter.open_day("2012-02-07")),
+            (40, "DayOpen", {}, lambda: counter.open_day("2012-02-07", even_so=True)),
             (43, "DayIsOther", {}, lambda: counter.close_day("2012-02-07")),
             (50, "UnknownSerial", {"serial": "A1EE"}, lambda: counter.redeem(DAY, 7, ["A1EE"])),
             (51, "NotPayee", {"serial": "L7EE"}, lambda: counter.redeem(DAY, 8, ["L7EE"])),
@@ -317,7 +317,7 @@ def refusals(bank):
         for code, name, details, act in wanted:
             is_refused(code, name, details, act)
         counter.close_day(DAY)
-        is_refused(41, "DayNotLater", {}, lambda: counter.open_day(DAY))
+        is_refused(41, "DayNotLater", {}, lambda: counter.open_day(DAY, even_so=True))
         is_refused(42, "NoOpenDay", {}, lambda: counter.close_day(DAY))
         is_refused(30, "NoRate", {}, lambda: counter.value(50, "2021-06", "2023-01"))
         misfits(counter)
@@ -389,7 +389,7 @@ def misspelt_keys(bank):
                 right(wanted in str(fault) and next_number(counter) == sent, f"nothing is sent: {fault}")
         right(bank.gate.bodies == [], "the counter heard nothing")
         counter.add_rates(rates())
-        counter.add_bonds([{**bond, "coowner": 8}])
+        counter.add_bonds([{**bond, "coowner": 8}], even_so=True)
     right(bank.gate.bodies[-1].endswith(b'"owner":7,"coowner":8}]}'), "control: spelled rightly, the coowner is sent")
     misspelt_columns(bank)
 
@@ -427,12 +427,12 @@ def refused_rows(bank):
     rows = [f"A{number}EE,50,2010-11,7," for number in range(1, 1801)]
     file = bank.folder / "bonds.csv"
     file.write_text("\n".join(["serial,denom,issued,owner,coowner", *rows[:1200], rows[1200].replace("2010-11", "2021-06"), *rows[1201:]]) + "\n")
-    status, out, told = command(bank, "register", str(file), proxied=False)
+    status, out, told = command(bank, "register", "--even-so", str(file), proxied=False)
     right(status == 1 and out == '{"code":30,"refused":"NoRate","serial":"A1201EE"}\n' and "rows 1002 to 1501 of the file" in told, "a row that is refused is told with its rows", (out, told))
     file.write_text("\n".join(["serial,denom,issued,owner,coowner", *rows]) + "\n")
-    status, out, told = command(bank, "register", str(file), proxied=False)
+    status, out, told = command(bank, "register", "--even-so", str(file), proxied=False)
     right((status, out) == (0, '{"new":800,"same":0,"before":1000}\n'), "with the row mended the rest is registered, and no row twice", (out, told))
-    status, out, told = command(bank, "register", str(file), proxied=False)
+    status, out, told = command(bank, "register", "--even-so", str(file), proxied=False)
     right((status, out) == (0, '{"new":0,"same":0,"before":1800}\n'), "run once more it sends nothing", (out, told))
     books = books_of(bank)
     refused = '{"code":30,"refused":"NoRate","serial":"A1201EE"}'

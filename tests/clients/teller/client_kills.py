@@ -31,9 +31,9 @@ def many_bonds(bank):
     for place in range(INTERRUPTIONS):
         kind = ("client", "counter", "answer")[place % 3]
         interrupt(bank, chance, file, kind, met)
-    status, out, told = command(bank, "register", str(file), proxied=False)
+    status, out, told = command(bank, "register", "--even-so", str(file), proxied=False)
     right(status == 0 and json.loads(out)["same"] == 0, f"{BONDS:,} bonds in {time.monotonic() - begun:.0f} seconds with {len(met)} interruptions ({', '.join(f'{met.count(kind)} of the {kind}' for kind in ('client', 'counter', 'answer'))}); the last run: {out.strip()}", told)
-    status, out, told = command(bank, "register", str(file), proxied=False)
+    status, out, told = command(bank, "register", "--even-so", str(file), proxied=False)
     right((status, out) == (0, f'{{"new":0,"same":0,"before":{BONDS}}}\n'), "run once more it sends nothing", (out, told))
     books = books_of(bank)
     right(books.one("SELECT count(*) FROM bonds") == BONDS, f"the books have {BONDS:,} bonds")
@@ -49,7 +49,7 @@ def write_bonds(file):
 
 def interrupt(bank, chance, file, kind, met):
     """One run that is stopped at a random moment of its work, after some of its requests."""
-    line = [sys.executable, "-B", TOP / "clients" / "counter.py", "--journal", bank.folder / "desk3.journal", "--desk", "3", "--at", f"http://127.0.0.1:{bank.gate.port}", "register", file]
+    line = [sys.executable, "-B", TOP / "clients" / "counter.py", "--journal", bank.folder / "desk3.journal", "--desk", "3", "--at", f"http://127.0.0.1:{bank.gate.port}", "register", "--even-so", file]
     running = subprocess.Popen(line, stdout=subprocess.DEVNULL, stderr=subprocess.PIPE, text=True)
     after_messages(bank, chance, 18)
     if kind == "answer":

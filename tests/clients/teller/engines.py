@@ -11,6 +11,20 @@ from selenium.webdriver.chrome.service import Service
 from marionette import Firefox as FirefoxProcess
 
 
+def told(node):
+    """The role and the name of a node of the accessibility tree."""
+    return node.get("role", {}).get("value"), node.get("name", {}).get("value", "")
+
+
+def below(nodes, node):
+    """The nodes below one, in order, without those that a screen reader isn't given."""
+    for name in node.get("childIds", ()):
+        if name in nodes:
+            if not nodes[name]["ignored"]:
+                yield nodes[name]
+            yield from below(nodes, nodes[name])
+
+
 class Chromium:
     name = "chromium"
 
@@ -30,6 +44,10 @@ class Chromium:
     def resize(self, width, height):
         self.driver.execute_cdp_cmd("Emulation.setDeviceMetricsOverride", {"width": width, "height": height, "deviceScaleFactor": 1, "mobile": False})
 
+    def downloads(self, folder):
+        """Where files are saved, without a question."""
+        self.driver.execute_cdp_cmd("Browser.setDownloadBehavior", {"behavior": "allow", "downloadPath": str(folder)})
+
     def media(self, name):
         self.driver.execute_cdp_cmd("Emulation.setEmulatedMedia", {"media": name})
 
@@ -48,6 +66,20 @@ class Chromium:
         """What a screen reader is given as the description of the open dialog, or None if the browser doesn't tell."""
         nodes = self.driver.execute_cdp_cmd("Accessibility.getFullAXTree", {})["nodes"]
         return next(node["description"]["value"] for node in nodes if node.get("role", {}).get("value") == "dialog" and "description" in node)
+
+    def dialog(self):
+        """What a screen reader is given of the open dialog: its name, its description, whether it is modal, and the roles and names of what is in it. And the names of all buttons of the page."""
+        nodes = {node["nodeId"]: node for node in self.driver.execute_cdp_cmd("Accessibility.getFullAXTree", {})["nodes"]}
+        open_one = next(node for node in nodes.values() if node.get("role", {}).get("value") == "dialog" and not node["ignored"])
+        within = [(kind, name) for kind, name in map(told, below(nodes, open_one)) if kind in ("heading", "list", "listitem", "button")]
+        modal = any(one["name"] == "modal" and one["value"]["value"] for one in open_one["properties"])
+        buttons = [told(node)[1] for node in nodes.values() if told(node)[0] == "button" and not node["ignored"]]
+        return told(open_one)[1], " ".join(open_one["description"]["value"].split()), modal, within, buttons
+
+    def rows(self):
+        """How many rows a screen reader is given, or None if the browser doesn't tell."""
+        nodes = self.driver.execute_cdp_cmd("Accessibility.getFullAXTree", {})["nodes"]
+        return sum(node.get("role", {}).get("value") == "row" for node in nodes)
 
     def leave_box(self):
         """Without a screen Chromium shows nobody its box for a password, and no test can press its buttons."""
@@ -110,6 +142,10 @@ class Firefox:
         # The page has the keyboard again, after what was done beside it.
         self.driver.switch_to.window(self.driver.current_window_handle)
 
+    def downloads(self, folder):
+        script = "Services.prefs.setIntPref('browser.download.folderList', 2); Services.prefs.setStringPref('browser.download.dir', arguments[0]); Services.prefs.setBoolPref('browser.download.alwaysOpenPanel', false);"
+        self.process.run_inside(script, str(folder))
+
     def media(self, name):
         self.process.run_inside("gBrowser.selectedBrowser.browsingContext.mediumOverride = arguments[0];", name)
 
@@ -126,6 +162,14 @@ class Firefox:
 
     def described(self):
         """Firefox's driver has no command for it."""
+        return None
+
+    def dialog(self):
+        """Nor for this."""
+        return None
+
+    def rows(self):
+        """Nor for this."""
         return None
 
     def leave_box(self):

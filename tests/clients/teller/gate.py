@@ -25,8 +25,11 @@ Two more answer one sending alone. They are final on the first sending of a requ
 
 A test that sets `changed` gets a function of each GET's path and answer, which returns the answer that the client is given.
 """
+from __future__ import annotations
+
 import socket
 import threading
+from typing import Callable, Protocol
 
 UNSERVED_MEMORY = b'{"code":1,"unserved":"NoMemory"}'
 UNSERVED_STORE = b'{"code":2,"unserved":"StoreFailed"}'
@@ -38,7 +41,7 @@ ENTRY = "0123456789abcdef" * 2
 PAGE = b"<html><body>Please sign in to this network.</body></html>"
 
 
-def answer(status, kind, body, more=b""):
+def answer(status: bytes, kind: bytes, body: bytes, more: bytes = b"") -> bytes:
     head = b"HTTP/1.1 %s\r\nContent-Type: %s\r\nContent-Length: %d\r\nConnection: close\r\nX-Request-Id: %s\r\n%s\r\n" % (status, kind, len(body), ENTRY.encode(), more)
     return head + body
 
@@ -63,7 +66,7 @@ BEFORE = ("lost request", "killed before", "failed before", "other page", "no ga
 OF_ONE_SENDING = ("not json", "forbidden")
 
 
-def whole_message(client):
+def whole_message(client: socket.socket) -> bytes:
     """One message, head and body; nothing where the client went before its end."""
     text = b""
     while b"\r\n\r\n" not in text:
@@ -81,7 +84,7 @@ def whole_message(client):
     return head + b"\r\n\r\n" + body
 
 
-def all_of(server):
+def all_of(server: socket.socket) -> bytes:
     text = b""
     while True:
         more = server.recv(65536)
@@ -90,28 +93,36 @@ def all_of(server):
         text += more
 
 
+class Counter(Protocol):
+    """The `serve` behind a gate."""
+
+    port: int
+
+    def kill(self) -> None: ...
+
+
 class Gate:
     """Listens on a port of its own; `counter` has the port of `serve` and a method `kill`."""
 
-    def __init__(self, counter):
+    def __init__(self, counter: Counter) -> None:
         self.counter = counter
-        self.faults = []
-        self.met = []
-        self.bodies = []
-        self.heads = []
-        self.changed = None
-        self.cut = lambda: None
+        self.faults: list[str] = []
+        self.met: list[str] = []
+        self.bodies: list[bytes] = []
+        self.heads: list[bytes] = []
+        self.changed: Callable[[str, bytes], bytes] | None = None
+        self.cut: Callable[[], object] = lambda: None
         self.lock = threading.Lock()
         self.listener = socket.create_server(("127.0.0.1", 0), backlog=2000)
         self.port = self.listener.getsockname()[1]
         threading.Thread(target=self.listen, daemon=True).start()
 
-    def listen(self):
+    def listen(self) -> None:
         while True:
             client, _ = self.listener.accept()
             threading.Thread(target=self.serve_one, args=(client,), daemon=True).start()
 
-    def serve_one(self, client):
+    def serve_one(self, client: socket.socket) -> None:
         with client:
             try:
                 message = whole_message(client)
@@ -120,7 +131,7 @@ class Gate:
             except OSError:
                 pass
 
-    def fault_of(self, message):
+    def fault_of(self, message: bytes) -> str | None:
         """The fault that this message meets."""
         with self.lock:
             head, _, body = message.partition(b"\r\n\r\n")
@@ -134,7 +145,7 @@ class Gate:
             self.met.append(fault)
             return fault
 
-    def pass_on(self, client, message):
+    def pass_on(self, client: socket.socket, message: bytes) -> None:
         fault = self.fault_of(message)
         if fault == "killed before":
             self.counter.kill()
@@ -150,11 +161,11 @@ class Gate:
             with self.lock:
                 self.faults.insert(0, self.met.pop())
 
-    def as_changed(self, message, text):
+    def as_changed(self, message: bytes, text: bytes) -> bytes:
         method, path, _ = message.split(b" ", 2)
         return text if self.changed is None or method != b"GET" else self.changed(path.decode(), text)
 
-    def harm(self, client, fault, text):
+    def harm(self, client: socket.socket, fault: str, text: bytes) -> None:
         """After the commit."""
         if fault == "killed after":
             self.counter.kill()
@@ -168,7 +179,7 @@ class Gate:
         elif fault == "reset":
             self.cut()
 
-    def answered(self, message):
+    def answered(self, message: bytes) -> bytes:
         """The counter's whole answer; nothing where it isn't there, or was killed."""
         try:
             with socket.create_connection(("127.0.0.1", self.counter.port)) as server:

@@ -1,5 +1,7 @@
 """Firefox for selenium, without geckodriver, which Debian lacks: a server of the WebDriver protocol over HTTP, which hands each command to Firefox's own Marionette. The two protocols name the
 same commands, so a table of paths is all that stands between them."""
+from __future__ import annotations
+
 import http.server
 import json
 import re
@@ -8,6 +10,10 @@ import subprocess
 import threading
 import time
 from pathlib import Path
+from typing import Any
+
+#: An object of the protocol.
+Json = dict[str, Any]
 
 #: Method, path after /session/ID, Marionette's command. A group of the path is a parameter.
 COMMANDS = [
@@ -73,14 +79,14 @@ PREFERENCES = {
 class Marionette:
     """One connection to a Firefox: a command and its answer, by turns. Each message is its length, a colon and JSON."""
 
-    def __init__(self, port):
+    def __init__(self, port: int) -> None:
         self.socket = socket.create_connection(("127.0.0.1", port))
         self.file = self.socket.makefile("rb")
         self.number = 0
         self.lock = threading.Lock()
         self.read()
 
-    def read(self):
+    def read(self) -> Any:
         digits = b""
         while (byte := self.file.read(1)) != b":":
             if not byte:
@@ -88,7 +94,7 @@ class Marionette:
             digits += byte
         return json.loads(self.file.read(int(digits)))
 
-    def ask(self, command, parameters):
+    def ask(self, command: str, parameters: Json) -> tuple[Json | None, Any]:
         """The error or None, and the result."""
         with self.lock:
             self.number += 1
@@ -99,16 +105,16 @@ class Marionette:
 
 
 class Server(http.server.ThreadingHTTPServer):
-    def handle_error(self, request, client_address):
+    def handle_error(self, request: object, client_address: object) -> None:
         """Selenium that has given up a command is told nothing."""
 
 
 class Firefox:
     """Debian's firefox-esr with a profile, and the server that selenium speaks to at `address`."""
 
-    def __init__(self, profile, scale=1):
+    def __init__(self, profile: str | Path, scale: float = 1) -> None:
         self.profile = Path(profile)
-        preferences = {**PREFERENCES, "layout.css.devPixelsPerPx": str(scale)}
+        preferences: dict[str, object] = {**PREFERENCES, "layout.css.devPixelsPerPx": str(scale)}
         lines = [f"user_pref({json.dumps(name)}, {json.dumps(value)});\n" for name, value in preferences.items()]
         (self.profile / "user.js").write_text("".join(lines))
         active = self.profile / "MarionetteActivePort"
@@ -121,20 +127,20 @@ class Firefox:
         threading.Thread(target=self.server.serve_forever, daemon=True).start()
 
     @staticmethod
-    def port_of(active):
+    def port_of(active: Path) -> int:
         for _ in range(600):
             if active.exists() and active.read_text().strip():
                 return int(active.read_text())
             time.sleep(0.1)
         raise SystemExit("WRONG: Firefox doesn't start")
 
-    def ask(self, command, parameters):
+    def ask(self, command: str, parameters: Json) -> Any:
         error, result = self.marionette.ask(command, parameters)
         if error:
             raise SystemExit(f"WRONG: Firefox: {error['message']}")
         return result.get("value")
 
-    def run_inside(self, script, *arguments):
+    def run_inside(self, script: str, *arguments: object) -> Any:
         """A script in the browser itself, beside its pages."""
         self.ask("Marionette:SetContext", {"value": "chrome"})
         try:
@@ -142,7 +148,7 @@ class Firefox:
         finally:
             self.ask("Marionette:SetContext", {"value": "content"})
 
-    def answer(self, method, path, body):
+    def answer(self, method: str, path: str, body: Json) -> tuple[int, Json]:
         """Status and JSON of the answer to one request of selenium's."""
         if path == "/session":
             wanted = body["capabilities"]["alwaysMatch"]
@@ -160,13 +166,13 @@ class Firefox:
                 return (404 if error["error"].startswith("no such") else 500, {"value": error}) if error else (200, result if isinstance(result, dict) and "value" in result else {"value": result})
         return 404, {"value": {"error": "unknown command", "message": f"{method} {inside}", "stacktrace": ""}}
 
-    def handler(self):
+    def handler(self) -> type[http.server.BaseHTTPRequestHandler]:
         firefox = self
 
         class Handler(http.server.BaseHTTPRequestHandler):
             protocol_version = "HTTP/1.1"
 
-            def asked(self):
+            def asked(self) -> None:
                 length = int(self.headers.get("Content-Length") or 0)
                 body = json.loads(self.rfile.read(length) or b"{}")
                 try:
@@ -182,12 +188,12 @@ class Firefox:
 
             do_GET = do_POST = do_DELETE = asked
 
-            def log_message(self, *_):
+            def log_message(self, *_: object) -> None:
                 pass
 
         return Handler
 
-    def end(self):
+    def end(self) -> None:
         if self.process.poll() is None:
             try:
                 self.marionette.ask("Marionette:Quit", {"flags": ["eForceQuit"]})

@@ -43,7 +43,7 @@ def kept_nothing(page, what):
         return JSON.stringify([Object.entries(localStorage), Object.entries(sessionStorage), names, document.cookie, databases, location.href]);
     """)
     *others, databases, address = json.loads(kept)
-    right(others == [[], [], [], ""] and databases == ["ladwenpik-teller"] and re.search(r"/teller/(#[a-z]+)?$", address), f"{what}: no other storage is used", kept)
+    right(others == [[], [], [], ""] and sorted(databases) == ["ladwenpik-receipts", "ladwenpik-teller"] and re.search(r"/teller/(#[a-z]+)?$", address), f"{what}: no other storage is used", kept)
     journal = page.journal()
     right(set(journal) == {"desk", "next", "open", "day", "closed", "last", "paid", "tally"} and journal["open"] is None, f"{what}: the journal has no open request", journal)
     entries = {name for entry in journal["paid"]["tickets"] for name in entry}
@@ -162,7 +162,7 @@ def browser_killed(bank):
     page = Page(bank)
     page.choose_desk(3)
     page.join_day("2012-02-06")
-    page.waits_for("The page works on February 6, 2012")
+    page.waits_for("This desk joined February 6, 2012")
     page.show_sheet(7)
     page.choose("L7EE")
     bank.gate.faults = ["lost answer", "lost request", "lost request", "lost request"]
@@ -185,7 +185,7 @@ def two_desks(bank):
     for desk, page in enumerate(pages, 1):
         page.choose_desk(desk)
         page.join_day("2012-02-06")
-        page.waits_for("The page works on February 6, 2012")
+        page.waits_for("This desk joined February 6, 2012")
         page.show_sheet(7)
         page.choose("L7EE")
     paying = [threading.Thread(target=page.pay) for page in pages]
@@ -230,7 +230,7 @@ def numbers_used(bank):
     page = Page(bank)
     page.choose_desk(5)
     page.join_day("2012-02-06")
-    page.waits_for("The page works on February 6, 2012")
+    page.waits_for("This desk joined February 6, 2012")
     number = page.journal()["next"]
     for used in range(number, number + 10):
         bank.expect(409, "/redeem", {"desk": 5, "number": used, "day": "2012-02-06", "payee": 7, "serials": ["A1EE"]})
@@ -328,7 +328,7 @@ def device_fails(bank):
     page = Page(bank)
     page.choose_desk(5)
     page.join_day("2012-02-06")
-    page.waits_for("The page works on February 6, 2012")
+    page.waits_for("This desk joined February 6, 2012")
     page.show_sheet(7)
     page.choose("L7EE")
     failing = ["strace", "-f", "-qq", "-e", "trace=fdatasync", "-e", "inject=fdatasync:error=EIO:when=1+", "-o", "/dev/null"]
@@ -418,11 +418,11 @@ def refused_days(bank, page):
     page.open_day("2012-02-07")
     told(page, "A business day is open already.", 40)
     page.join_day("2012-02-03")
-    page.waits_for("The page works on February 3, 2012")
+    page.waits_for("This desk joined February 3, 2012")
     page.close_day()
     told(page, "A different business day is open.", 43)
     page.join_day("2012-02-06")
-    page.waits_for("The page works on February 6, 2012")
+    page.waits_for("This desk joined February 6, 2012")
     page.close_day()
     page.waits_for("Batch of February 6, 2012", "#batch h2")
     page.open_day("2012-02-06")
@@ -430,7 +430,7 @@ def refused_days(bank, page):
     page.join_day("2012-02-06")
     page.waits_for("February 6, 2012 is closed. This is its batch.")
     page.join_day("2012-02-08")
-    page.waits_for("The page works on February 8, 2012")
+    page.waits_for("This desk joined February 8, 2012")
     page.close_day()
     told(page, "No business day is open.", 42)
 

@@ -7,8 +7,8 @@ from selenium.common.exceptions import WebDriverException
 from bank import PASSWORD, USER
 from browser import Page
 from page_cases import EARLIER, books_of, dollars, is_paid_on
-from page_guards import DAY, joined
-from samples import VALUES, begin, right
+from page_guards import joined
+from samples import VALUES, right
 
 #: The next `count` writings of the journal after `skipped` ones fail, as in a browser without room.
 FAILING = """

@@ -1,9 +1,12 @@
 """What keeps a teller from paying what wasn't seen: days by their distance, the confirmed sum, open requests after faults, users who may not, notices in sight."""
 import contextlib
 import json
+import signal
+import time
 
 from selenium.webdriver.common.keys import Keys
 
+from bank import USER
 from browser import Page
 from gate import ENTRY
 from nginx_sample import SAMPLE, Nginx, replaced
@@ -28,7 +31,7 @@ def joined(bank, owners=(7,), day=DAY, **more):
     page = Page(bank, **more)
     page.choose_desk(5)
     page.join_day(day)
-    page.waits_for("The page works on")
+    page.waits_for("This desk joined")
     return page
 
 
@@ -38,13 +41,21 @@ def question(page):
 
 # ---- days
 
+#: What the page reads as the server's time, from the next response on.
+SERVER_DATE = """
+    const [date, real] = [arguments[0], window.realGet ?? Headers.prototype.get];
+    window.realGet = real;
+    Headers.prototype.get = function (name) { return name === "Date" ? date : real.call(this, name); };
+"""
+
 
 def usual_day(bank):
-    """A day soon after the last closed one: its weekday, its distance, and one question."""
+    """A day soon after the last closed one, and near today: its weekday, its distance, and one question."""
     begin(bank, [7])
     closed_day(bank, "2012-02-03")
     page = Page(bank)
     page.choose_desk(5)
+    page.run(SERVER_DATE, "Mon, 06 Feb 2012 14:00:00 GMT")
     page.ask_to_open(DAY)
     wanted = f"Open February 6, 2012?\n{OF_DAY}: 3 days after the last closed day, Friday, February 3, 2012."
     right(question(page) == wanted, "a new page finds the last closed day, and shows weekday and distance", question(page))
@@ -69,6 +80,33 @@ def usual_day(bank):
     page.press("#confirm-no")
     learns_of_others(bank, page)
     unanswered(bank, page)
+    page.quit()
+
+
+def far_from_today(bank):
+    """A day soon after the last closed one, and more than seven days from today by the server's clock, which isn't the machine's."""
+    begin(bank, [7])
+    closed_day(bank, "2012-02-03")
+    page = Page(bank)
+    page.choose_desk(5)
+    for today, day, distance in (
+        ("Tue, 14 Feb 2012 14:00:00 GMT", DAY, "8 days before today, Tuesday, February 14, 2012."),
+        ("Sun, 29 Jan 2012 14:00:00 GMT", DAY, "8 days after today, Sunday, January 29, 2012."),
+        ("Sun, 06 Feb 2011 14:00:00 GMT", DAY, "365 days after today, Sunday, February 6, 2011."),
+    ):
+        page.run(SERVER_DATE, today)
+        page.ask_to_open(day)
+        right(distance in question(page) and page.find("#confirm-yes").text == "Continue", f"asked twice: {distance}", question(page))
+        page.press("#confirm-yes")
+        page.until(lambda: "Is the year 2012 right?" in question(page), "it asks again")
+        right(distance in question(page), "and again with the distance from today", question(page))
+        page.press("#confirm-no")
+    for today in ("Mon, 13 Feb 2012 14:00:00 GMT", "Mon, 30 Jan 2012 14:00:00 GMT"):
+        page.run(SERVER_DATE, today)
+        page.ask_to_open(DAY)
+        right("today" not in question(page) and page.find("#confirm-yes").text == "Open the day", f"control: seven days from today it asks once ({today})", question(page))
+        page.press("#confirm-no")
+    right(bank.gate.bodies == [], "nothing was sent")
     page.quit()
 
 
@@ -248,7 +286,7 @@ def reset_while_paying(bank, port, desk, serial, then):
     page = Page(bank)
     page.choose_desk(desk)
     page.join_day(DAY)
-    page.waits_for("The page works on")
+    page.waits_for("This desk joined")
     page.show_sheet(7)
     page.choose(serial)
     bank.gate.bodies.clear()
@@ -364,7 +402,7 @@ def changed_month(bank):
     bank.expect(200, "/day/open", {"desk": 900, "number": 100_001, "day": "2012-08-06"})
     page.show_sheet(7, "2012-02")
     page.join_day("2012-08-06")
-    page.waits_for("The page works on August 6, 2012")
+    page.waits_for("This desk joined August 6, 2012")
     page.go("pay")
     right(page.find("#sheet").text == "" and page.find("#month").get_attribute("value") == AUGUST, "as a day in August is joined, February's sheet goes", page.text())
     page.show_sheet(7, "2012-02")
@@ -468,8 +506,8 @@ def is_in_window(page, selector, what):
     right(0 <= top < bottom <= height and 0 <= left < right_edge <= width, f"{what}: its box is within the window", (top, bottom, left, right_edge, height, width, scrolled))
 
 
-def many_bonds(bank, owner, count):
-    bonds = [{"serial": f"S{place}EE", "denom": 50, "issued": "2010-11", "owner": owner} for place in range(1, count + 1)]
+def many_bonds(bank, owner, count, letter="S"):
+    bonds = [{"serial": f"{letter}{place}EE", "denom": 50, "issued": "2010-11", "owner": owner} for place in range(1, count + 1)]
     bank.expect(200, "/bonds", {"desk": 901, "number": owner, "bonds": bonds})
 
 
@@ -542,3 +580,46 @@ def walked(page):
             covered.append(page.run(COVERED))
             places += 1
     return [one for one in covered if one is not None], places
+
+
+# ---- who may
+
+
+def grouped(bank, groups):
+    """Gives the user other groups, in nginx."""
+    (bank.nginx.folder / "groups").write_text(f'{USER} "{groups}";\n')
+    bank.nginx.process.send_signal(signal.SIGHUP)
+    wanted = json.dumps({"groups": groups}, separators=(",", ":"))
+    for _ in range(600):
+        if bank.nginx.ask("GET", "/groups", user=USER)[2] == wanted:
+            return
+        time.sleep(0.1)
+    raise SystemExit(f"WRONG: nginx doesn't take the groups {groups} over")
+
+
+#: The buttons in the order of the page, each with whether it is a main one.
+DAY_BUTTONS = "return [...document.querySelectorAll('#day button')].filter((one) => one.checkVisibility()).map((one) => [one.textContent, !one.classList.contains('plain')])"
+
+
+def supervisors_acts(bank):
+    """What a teller may not do isn't the main button; the page learns the groups from nginx, and nginx still decides."""
+    begin(bank, [7])
+    page = Page(bank)
+    page.choose_desk(5)
+    page.go("day")
+    page.until(lambda: page.run(DAY_BUTTONS)[0] == ["Open the day", True], "to open the day is a supervisor's main act")
+    right(page.run(DAY_BUTTONS) == [["Open the day", True], ["Join the day", False]] and not page.find("#open-barred").is_displayed(), "to open the day is a supervisor's main act", page.run(DAY_BUTTONS))
+    grouped(bank, "teller")
+    page.reload()
+    page.until(lambda: page.run(DAY_BUTTONS) == [["Join the day", True], ["Open the day", False]], "to join it is a teller's")
+    right("This user may not open a day: ask a supervisor." in page.find("#open-day").text, "to join it is a teller's, and the page says who opens it")
+    right([head.split(b" ")[1] for head in bank.gate.heads if b"group" in head] == [], "the counter isn't asked")
+    page.open_day(DAY)
+    page.waits_for("This user may not open a day. Nothing was done.", "#notices")
+    page.settled()
+    right(bank.ask("POST", "/day/close", {"desk": 900, "number": 2_000_000, "day": DAY})[0] == 409, "nginx refuses it all the same, and no day is open")
+    bank.expect(200, "/day/open", {"desk": 900, "number": 2_000_001, "day": DAY})
+    page.join_day(DAY)
+    page.waits_for("This desk joined")
+    right("This user may not close the day: ask a supervisor." in page.find("#close-day").text and page.run(DAY_BUTTONS)[-2:] == [["Close the day", False], ["Choose another day", False]], "neither is closing it a main act", page.run(DAY_BUTTONS))
+    page.quit()

@@ -9,7 +9,7 @@ from samples import TOO_YOUNG, VALUES, right
 
 #: How people and scanners write S12EE.
 SPELLINGS = ("S12EE", "s12ee", "S 12 EE", "S-12-EE", "s-000012-ee", "S0000000012EE", " S12EE ", "S\u201112\u2013EE", "S.12.EE", "S 0,000,000,012 EE", "\uff3312\uff25\uff25", "S12EE,")
-SCANNED = ("S{}EE", "s{}ee", "S {} EE", "S-{}-EE", "S{:010}EE")
+SCANNED = ("L{}EE", "l{}ee", "L {} EE", "L-{}-EE", "L{:010}EE")
 #: What is no serial number of a Series EE bond.
 OTHERS = ("12EE", "S12", "S0EE", "S12E", "S12I", "XS12EE", "S12EEE", "SS12EE", "S12345678901EE", "?")
 LISTS = {
@@ -47,8 +47,8 @@ class Keyboard:
 
 def sixty_scanned(bank):
     """Sixty bonds by the scanner, and the rest by the keyboard alone in under 60 keystrokes."""
-    page = at_work(bank)
-    many_bonds(bank, 60, 80)
+    page = at_work(bank, owners=())
+    many_bonds(bank, 60, 80, "L")
     page.go("pay")
     page.run("document.querySelector('#pay h1').focus()")
     hand = Keyboard(page)
@@ -63,7 +63,7 @@ def sixty_scanned(bank):
     right(page.run("return document.activeElement.id") == "pay-button", "from the last bond to Pay is one key: Enter in the empty field")
     hand.press(Keys.ENTER)
     page.until(lambda: page.find("#confirm").is_displayed(), "the page asks")
-    wanted = [[f"S{place}EE", "$50", "issued 11/2010", dollars(VALUES["L"])] for place in range(1, 61)]
+    wanted = [[f"L{place}EE", "$50", "issued 11/2010", dollars(VALUES["L"])] for place in range(1, 61)]
     right(page.bonds_asked() == wanted, "the question has denomination and issue month beside each serial number")
     hand.press(Keys.TAB)
     page.until(lambda: page.find("#confirm-yes").get_attribute("aria-disabled") is None, "the button has rested")
@@ -173,6 +173,6 @@ def headings_seen(bank):
         page.tab(back=True)
         hidden.append(page.run("return document.activeElement.getBoundingClientRect().top < document.querySelector('#sheet thead th').getBoundingClientRect().bottom"))
     right(not any(hidden), "what has the keyboard isn't under them", hidden)
-    page.run("for (const e of document.querySelectorAll('#sheet thead th')) e.style.position = 'static'; scrollTo(0, 0.5 * document.documentElement.scrollHeight)")
+    page.run("for (const e of document.querySelectorAll('#sheet thead')) e.style.position = 'static'; scrollTo(0, 0.5 * document.documentElement.scrollHeight)")
     right(page.run(HEADINGS) == 0, "control: if they didn't stick, none would be in sight")
     page.quit()

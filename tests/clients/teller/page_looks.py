@@ -9,7 +9,7 @@ from page_cases import SUM, dollars, is_paid_on
 from rules import RULES, checked, controls, least_contrast
 from samples import OLDER, TOO_YOUNG, UNISSUED, VALUES, begin, right, samples_bonds
 
-VIEWS = ("day", "pay", "tickets", "batches")
+VIEWS = ("day", "pay", "walkin", "tickets", "batches", "interest")
 
 
 def at_work(bank, owners=(7,), desk=5):
@@ -17,7 +17,7 @@ def at_work(bank, owners=(7,), desk=5):
     page = Page(bank)
     page.choose_desk(desk)
     page.join_day("2012-02-06")
-    page.waits_for("The page works on February 6, 2012")
+    page.waits_for("This desk joined February 6, 2012")
     return page
 
 
@@ -31,7 +31,7 @@ def keyboard_alone(bank):
     page.waits_for("Desk 5,", "#state")
     page.tab_to("#join-date")
     page.keys("02", "06", "2012", Keys.ENTER)
-    page.waits_for("The page works on February 6, 2012")
+    page.waits_for("This desk joined February 6, 2012")
     page.tab_to("nav a[href='#pay']", back=True)
     page.keys(Keys.ENTER)
     page.until(lambda: page.find("#pay").is_displayed(), "the view of payments")
@@ -129,7 +129,7 @@ def accessible(bank):
     page.go("pay")
     checked(page, "no day to pay on")
     page.join_day("2012-02-06")
-    page.waits_for("The page works on February 6, 2012")
+    page.waits_for("This desk joined February 6, 2012")
     page.show_sheet(7)
     page.choose("L7EE")
     page.add(9, "K9EE")
@@ -222,7 +222,7 @@ def pictures(bank):
     page.go("pay")
     kept_picture(page, folder / "no_day.png", 960, 400)
     page.join_day("2012-02-06")
-    page.waits_for("The page works on February 6, 2012")
+    page.waits_for("This desk joined February 6, 2012")
     pictures_of_payment(bank, page, folder)
     pictures_of_day(page, folder)
     page.quit()
@@ -277,7 +277,7 @@ def picture_of_paper(bank, folder):
     page = Page(bank, size=(960, 900))
     page.choose_desk(6)
     page.join_day("2012-02-07")
-    page.waits_for("The page works on February 7, 2012")
+    page.waits_for("This desk joined February 7, 2012")
     page.show_sheet(60)
     page.press("#choose-all")
     page.pay()

@@ -54,7 +54,11 @@ UNGUARDED = (("const REST = 1500;", "const REST = 0;"), ("    if (isApart()) ret
 
 def double_click(page):
     """On Pay, where it is."""
-    button = page.find("#pay-button")
+    double_click_on(page, "#pay-button")
+
+
+def double_click_on(page, selector):
+    button = page.find(selector)
     page.run("arguments[0].scrollIntoView({ block: 'nearest' })", button)
     ActionChains(page.driver).double_click(button).perform()
 
@@ -63,7 +67,7 @@ def paying(bank, count):
     page = Page(bank)
     page.choose_desk(5)
     page.join_day(DAY)
-    page.waits_for("The page works on")
+    page.waits_for("This desk joined")
     chosen(page, count)
     return page
 
@@ -79,7 +83,7 @@ def lists(bank):
     """Owners of one bond and of many."""
     begin(bank, [], DAY)
     for count in COUNTS:
-        bonds = [{"serial": f"S{1000 * count + place}EE", "denom": 50, "issued": "2010-11", "owner": 1000 + count} for place in range(count)]
+        bonds = [{"serial": f"L{1000 * count + place}EE", "denom": 50, "issued": "2010-11", "owner": 1000 + count} for place in range(count)]
         bank.expect(200, "/bonds", {"desk": 901, "number": count, "bonds": bonds})
 
 
@@ -107,13 +111,20 @@ def double_clicks(bank):
     unguarded(bank)
 
 
+#: By the page's own clock, so that a busy machine puts off the presses and the rest alike.
+PRESSES = """
+    for (let count = 0; count < 8; count += 1) {
+        document.getElementById("confirm-yes").click();
+        await new Promise((resolve) => setTimeout(resolve, 400));
+    }
+"""
+
+
 def rests_anew(bank, page):
     """Presses on the button while it rests."""
     chosen(page, 1)
     page.ask_to_pay()
-    for _ in range(8):
-        page.run("document.getElementById('confirm-yes').click()")
-        page.sleep(0.4)
+    page.run_module(PRESSES)
     right(page.find("#confirm").is_displayed() and bank.gate.bodies == [], "eight presses on the button, one each 0.4 seconds, confirm nothing: each starts the rest anew")
     page.press("#confirm-yes")
     page.waits_for("Ticket 1 is paid.", "#notices")

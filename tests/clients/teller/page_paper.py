@@ -76,7 +76,7 @@ def hundred_bonds(bank):
     right(whole.count(total) == 1 and total in first[-1] and whole.count("Total") == 1, "the total stands once, on the last sheet", whole.count(total))
     right(sorted(re.findall(r"\bS(\d+)EE", whole), key=int) == [str(n) for n in range(1, 101)], "each of 100 bonds stands on one line")
     number = page.journal()["paid"]["tickets"][0]["number"]
-    wanted = (BANK, BRANCH, "Desk  5", f"Teller  {USER}", "Time of payment", f"desk 5, number {number}", "Paid to  customer 60")
+    wanted = (BANK, BRANCH, "Desk  5", f"Teller  {USER}", "Server's time", f"desk 5, number {number}", "Paid to  customer 60")
     flat = re.sub(r" {2,}", "  ", first[0])
     right(all(re.sub(" {2,}", "  ", words) in flat for words in wanted), "the first has bank, branch, desk, teller, time and request", flat[:900])
     right("Two thousand five hundred sixteen dollars and 00/100" in first[-1] and "Received by: the payee's name" in first[-1] and "Signature" in first[-1], "the last has the amount in words, and lines for name and signature", first[-1])

@@ -310,7 +310,7 @@ def words_in_one_file(bank):
     page.press("#start button")
     found = [*page.run(LOOSE)]
     page.join_day(DAY)
-    page.waits_for("The page works on")
+    page.waits_for("This desk joined")
     found += page.run(LOOSE)
     page.show_sheet(7)
     page.choose_by_serial("L7EE")
@@ -333,7 +333,24 @@ def words_in_one_file(bank):
     page.quit()
 
 
+def words_of_walk_in(page, found):
+    page.go("walkin")
+    for name, text in (("serial", "D12EE"), ("denom", "50"), ("issued", "11/2010")):
+        page.type(f"#walkin-{name}", text)
+    page.press("#add-walkin button:not([type])")
+    page.until(lambda: page.all("#walkin-bonds li") != [], "the bond is in the list")
+    page.type("#walkin-owner", "12")
+    page.press("#walkin-button")
+    page.until(lambda: page.find("#confirm").is_displayed(), "the page asks about its letter")
+    found += page.run(LOOSE)
+    page.asked_without_doubt()
+    found += page.run(LOOSE)
+    page.press("#confirm-no")
+    page.go("pay")
+
+
 def words_of_papers(page, found):
+    words_of_walk_in(page, found)
     page.press("#others button")
     page.pay(7)
     page.waits_for("Ticket 1", "#ticket h2")
@@ -347,3 +364,8 @@ def words_of_papers(page, found):
     page.ask_to_open("2121-02-06")
     found += page.run(LOOSE)
     page.press("#confirm-no")
+    page.go("interest")
+    page.type("#interest-day", DAY)
+    page.press("#ask-interest-day button")
+    page.until(lambda: page.all("#interest-of table") != [], "the interest of the day")
+    found += page.run(LOOSE)

@@ -1,17 +1,20 @@
 """A relay between a browser and nginx, which passes bytes on and can break every connection at once."""
+from __future__ import annotations
+
 import socket
 import struct
 import threading
 
 
 class Relay:
-    def __init__(self, port):
-        self.nginx, self.pairs, self.lock = port, [], threading.Lock()
+    def __init__(self, port: int) -> None:
+        self.nginx, self.lock = port, threading.Lock()
+        self.pairs: list[tuple[socket.socket, socket.socket]] = []
         self.listener = socket.create_server(("127.0.0.1", 0), backlog=100)
         self.port = self.listener.getsockname()[1]
         threading.Thread(target=self.listen, daemon=True).start()
 
-    def listen(self):
+    def listen(self) -> None:
         while True:
             client, _ = self.listener.accept()
             server = socket.create_connection(("127.0.0.1", self.nginx))
@@ -21,7 +24,7 @@ class Relay:
                 threading.Thread(target=self.pump, args=(one, other), daemon=True).start()
 
     @staticmethod
-    def pump(one, other):
+    def pump(one: socket.socket, other: socket.socket) -> None:
         try:
             while data := one.recv(65536):
                 other.sendall(data)
@@ -29,7 +32,7 @@ class Relay:
         except OSError:
             pass
 
-    def cut(self):
+    def cut(self) -> None:
         """Resets each connection of the browser, as a machine in between does that loses its memory of them."""
         with self.lock:
             pairs, self.pairs = self.pairs, []

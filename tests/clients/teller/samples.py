@@ -1,30 +1,35 @@
-"""Rates and bonds for the tests, and what they are worth by the samples of docs/FIRST_DAY.md: 25.16, 38.07 and 5024.00 in February 2012."""
+"""Rates and bonds for the tests, and what they are worth by the published rates: 25.16, 38.07 and 5024.00 in February 2012."""
+from __future__ import annotations
+
 import csv
+from typing import Iterable
 
-from bank import TOP
+from bank import TOP, Bank
 
-NUMBERS = ("denom", "owner", "coowner")
 VALUES = {"L": 2516, "K": 3807, "M": 502400}
 
 
-def right(is_right, what, found=""):
+def right(is_right: object, what: str, found: object = "") -> None:
     if not is_right:
         raise SystemExit(f"WRONG: {what}\n{found}")
     print(f"right: {what}", flush=True)
 
 
-def rates():
-    with open(TOP / "samples" / "rates.csv", encoding="utf-8", newline="") as file:
+def rates() -> list[dict[str, str]]:
+    with open(TOP / "crates" / "published_values" / "data" / "rates.csv", encoding="utf-8", newline="") as file:
         return [dict(row) for row in csv.DictReader(file)]
 
 
-def samples_bonds():
-    """Those of samples/inventory.csv."""
-    with open(TOP / "samples" / "inventory.csv", encoding="utf-8", newline="") as file:
-        return [{name: int(text) if name in NUMBERS else text for name, text in row.items() if text} for row in csv.DictReader(file)]
+def samples_bonds() -> list[dict[str, object]]:
+    """The three bonds of the pictures."""
+    return [
+        {"serial": "L1EE", "denom": 50, "issued": "2010-11", "owner": 7},
+        {"serial": "K2EE", "denom": 75, "issued": "2010-10", "owner": 7, "coowner": 8},
+        {"serial": "M3EE", "denom": 10000, "issued": "2011-02", "owner": 7},
+    ]
 
 
-def bonds_of(owner, coowner=8):
+def bonds_of(owner: int, coowner: int = 8) -> list[dict[str, object]]:
     """Three bonds: what the owner has in the samples, under serial numbers of his own."""
     return [
         {"serial": f"K{owner}EE", "denom": 75, "issued": "2010-10", "owner": owner, "coowner": coowner},
@@ -40,7 +45,7 @@ OLDER = {"serial": "P7EE", "denom": 1000, "issued": "2006-03", "owner": 7}
 OLDEST = {"serial": "A9999999999EE", "denom": 10000, "issued": "2005-05", "owner": 7}
 
 
-def begin(bank, owners, day=None):
+def begin(bank: Bank, owners: Iterable[int], day: str | None = None) -> None:
     """By desk 900: the rates, the bonds of these owners, and perhaps an open day."""
     bank.expect(200, "/rates", {"desk": 900, "number": 1, "rates": rates()})
     for place, owner in enumerate(owners):

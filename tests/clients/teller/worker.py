@@ -23,7 +23,7 @@ def result_of(counter, place):
     if path == "/bonds":
         return counter.add_bonds(fields["bonds"], bookmark=place + 1)
     if path == "/day/open":
-        return counter.open_day(fields["day"], bookmark=place + 1)
+        return counter.open_day(fields["day"], bookmark=place + 1, even_so=True)
     if path == "/day/close":
         return counter.close_day(fields["day"], bookmark=place + 1)
     return counter.redeem(fields["day"], fields["payee"], fields["serials"], bookmark=place + 1)

@@ -1,30 +1,36 @@
 """What a disk may hold after a power loss: all writes before the last flush, and of the later ones any, in any order, and of each any sectors."""
 
+from __future__ import annotations
+
 import os, zlib
+from random import Random
+from typing import Iterator
 
 from . import volumes
-from .recorder import FLUSH, WRITE
+from .recorder import FLUSH, WRITE, Step
 
 SECTOR = 512
 KINDS = ("lost", "kept", "some", "reordered", "torn", "last torn")
+#: From where on, and up to where.
+Range = tuple[int, int]
 
 
-def last_flush(steps, cut):
+def last_flush(steps: list[Step], cut: int) -> int:
     """The place of the last flush before a cut, 0 if there is none."""
     return next((at for at in range(cut - 1, -1, -1) if steps[at].kind == FLUSH), 0)
 
 
-def next_flush(steps, cut):
+def next_flush(steps: list[Step], cut: int) -> int:
     """The place of the first flush from a cut on, or the end."""
     return next((at for at in range(cut, len(steps)) if steps[at].kind == FLUSH), len(steps))
 
 
-def superblock_writes(base, steps, begin, end):
+def superblock_writes(base: str, steps: list[Step], begin: int, end: int) -> list[int]:
     """The places after each write of the superblock that changes more than one of its sectors, so that a tear may break it."""
     with open(base, "rb") as file:
         file.seek(begin)
         last = file.read(end - begin)
-    found = []
+    found: list[int] = []
     for place, step in enumerate(steps, 1):
         if step.kind == WRITE and step.at <= begin and end <= step.at + step.size:
             now = step.bytes_[begin - step.at : end - step.at]
@@ -34,7 +40,7 @@ def superblock_writes(base, steps, begin, end):
     return found
 
 
-def units(step, whole):
+def units(step: Step, whole: Range) -> Iterator[Range]:
     """The parts of a step that arrive or not: sectors, and the range `whole` in one."""
     at, end = step.at, step.at + step.size
     while at < end:
@@ -46,11 +52,11 @@ def units(step, whole):
 class Image:
     """A file that gets what a disk holds, and a checksum of which steps it got. What lies in the range `whole` isn't torn."""
 
-    def __init__(self, base, path, whole):
+    def __init__(self, base: str, path: str, whole: Range) -> None:
         volumes.copy(base, path)
         self.file, self.sum, self.whole = os.open(path, os.O_RDWR), 0, whole
 
-    def put(self, step, begin, end):
+    def put(self, step: Step, begin: int, end: int) -> None:
         """Do a range of a step."""
         if step.kind == FLUSH or begin >= end:
             return
@@ -60,7 +66,7 @@ class Image:
             volumes.punch(self.file, step.at + begin, end - begin)
         self.sum = zlib.crc32(b"%d %d %d" % (id(step), begin, end), self.sum)
 
-    def put_torn(self, step, dice):
+    def put_torn(self, step: Step, dice: Random) -> None:
         """Do a step for its first units, or for any."""
         if step.kind != WRITE:
             self.put(step, 0, SECTOR * dice.randint(0, step.size // SECTOR))
@@ -73,7 +79,7 @@ class Image:
         for begin, end in parts:
             self.put(step, begin, end)
 
-    def put_some(self, steps, kind, dice):
+    def put_some(self, steps: list[Step], kind: str, dice: Random) -> None:
         """Do what an image of a kind has of unflushed steps."""
         if kind == "lost":
             return
@@ -88,7 +94,7 @@ class Image:
                 self.put(step, 0, step.size)
 
 
-def write_image(base, steps, cut, kind, dice, path, whole, ignores_flushes=False):
+def write_image(base: str, steps: list[Step], cut: int, kind: str, dice: Random, path: str, whole: Range, ignores_flushes: bool = False) -> int:
     """Write what the disk may hold if power is lost before the step at a cut. The result tells images apart."""
     image = Image(base, path, whole)
     sure = 0 if ignores_flushes else last_flush(steps, cut)

@@ -3,7 +3,10 @@
 A loop device passes on each write as a write of its file, and each flush as an fsync. It offers no forced writes (FUA), so the kernel sends each of those as a write and a flush. The server records a
 step, does it and answers it before it takes the next one. So a flush covers exactly the writes before it in the record."""
 
+from __future__ import annotations
+
 import ctypes, dataclasses, mmap, os, signal, struct
+from typing import IO, NoReturn, Sequence
 
 from . import volumes
 
@@ -15,6 +18,8 @@ WRITE, ZEROS, FLUSH = 1, 2, 3
 MOST_BYTES = 1 << 20
 DIRECT_IO, BIG_WRITES, MAX_PAGES = 1, 1 << 5, 1 << 22
 DIES_WITH_PARENT = 1
+#: The parts of an answer.
+Parts = Sequence[bytes]
 libc = ctypes.CDLL(None, use_errno=True)
 
 
@@ -26,11 +31,12 @@ class Step:
     bytes_: bytes
 
 
-def read_record(path):
+def read_record(path: str) -> list[Step]:
     """The steps of a record."""
     with open(path, "rb") as file:
         text = file.read()
-    steps, place = [], 0
+    steps: list[Step] = []
+    place = 0
     while place < len(text):
         kind, at, size = STEP.unpack_from(text, place)
         place += STEP.size
@@ -43,13 +49,13 @@ def read_record(path):
 class Server:
     """Answers the kernel. The mounted root is the file itself, so there are no names."""
 
-    def __init__(self, device, image, record, count):
+    def __init__(self, device: int, image: str, record: IO[bytes], count: mmap.mmap) -> None:
         self.device, self.record, self.count = device, record, count
         self.size = os.path.getsize(image)
         with open(image, "r+b") as file:
             self.disk = mmap.mmap(file.fileno(), self.size)
 
-    def serve(self):
+    def serve(self) -> None:
         """Answer until the file is unmounted."""
         while True:
             try:
@@ -65,7 +71,7 @@ class Server:
             if kind == DESTROY:
                 return
 
-    def answer(self, kind, asked):
+    def answer(self, kind: int, asked: memoryview) -> Parts | None:
         """The parts of an answer; None for a request that a disk doesn't need."""
         if kind == INIT:
             _, _, ahead, flags = struct.unpack_from("=4I", asked)
@@ -83,7 +89,7 @@ class Server:
             return self.take_step(kind, asked)
         return [] if kind in (RELEASE, CLOSE, DESTROY) else None
 
-    def take_step(self, kind, asked):
+    def take_step(self, kind: int, asked: memoryview) -> Parts:
         """Record a step and do it. What is discarded becomes zeros."""
         if kind == FSYNC:
             self.note(FLUSH, 0, 0, b"")
@@ -98,7 +104,7 @@ class Server:
         self.disk[at : at + size] = bytes_
         return [struct.pack("=2I", size, 0)]
 
-    def note(self, kind, at, size, bytes_):
+    def note(self, kind: int, at: int, size: int, bytes_: bytes | memoryview) -> None:
         self.record.write(STEP.pack(kind, at, size))
         self.record.write(bytes_)
         struct.pack_into("=Q", self.count, 0, struct.unpack_from("=Q", self.count)[0] + 1)
@@ -107,7 +113,7 @@ class Server:
 class Recorder:
     """A disk that is served from an image, which keeps what is written."""
 
-    def __init__(self, folder, image):
+    def __init__(self, folder: str, image: str) -> None:
         self.file, self.record = os.path.join(folder, "disk"), os.path.join(folder, "record")
         open(self.file, "w").close()
         self.count = mmap.mmap(-1, 8)
@@ -120,7 +126,7 @@ class Recorder:
             self.serve(device, image)
         os.close(device)
 
-    def serve(self, device, image):
+    def serve(self, device: int, image: str) -> NoReturn:
         """Be the server, to its end."""
         try:
             libc.prctl(DIES_WITH_PARENT, signal.SIGKILL)
@@ -131,11 +137,12 @@ class Recorder:
         finally:
             os._exit(0)
 
-    def position(self):
+    def position(self) -> int:
         """How many steps are recorded by now."""
-        return struct.unpack_from("=Q", self.count)[0]
+        count: int = struct.unpack_from("=Q", self.count)[0]
+        return count
 
-    def stop(self):
+    def stop(self) -> list[Step]:
         """Unmount the disk, and read the steps."""
         volumes.patiently("umount", self.file)
         os.waitpid(self.server, 0)

@@ -1,5 +1,7 @@
 """File systems in files: creating, copying, mounting over a loop device, unmounting."""
 
+from __future__ import annotations
+
 import ctypes, os, shutil, subprocess, time
 
 MAKERS = {
@@ -27,23 +29,23 @@ class NotMounted(Exception):
     """The kernel refused to mount an image, even after a repair."""
 
 
-def command(*words):
+def command(*words: str) -> tuple[int, str]:
     ran = subprocess.run(words, stdout=subprocess.PIPE, stderr=subprocess.STDOUT, text=True, errors="replace", env={**os.environ, "PATH": PLACES})
     return ran.returncode, ran.stdout.strip()
 
 
-def done(*words):
+def done(*words: str) -> str:
     status, told = command(*words)
     if status:
         raise Failed(f"{' '.join(words)} ended with status {status}: {told}")
     return told
 
 
-def can_make(kind):
+def can_make(kind: str) -> bool:
     return shutil.which(MAKERS[kind][1][0], path=PLACES) is not None
 
 
-def make(kind, image):
+def make(kind: str, image: str) -> None:
     """Create a file system in a new file."""
     megabytes, words = MAKERS[kind]
     with open(image, "wb") as file:
@@ -51,7 +53,7 @@ def make(kind, image):
     done(*words, image)
 
 
-def copy(image, to):
+def copy(image: str, to: str) -> None:
     """Copy a file. A block of zeros becomes a hole."""
     with open(image, "rb") as source, open(to, "wb") as target:
         size, at = os.fstat(source.fileno()).st_size, 0
@@ -63,7 +65,7 @@ def copy(image, to):
             at += len(part)
 
 
-def next_data(file, at):
+def next_data(file: int, at: int) -> int:
     """The next block that isn't in a hole, or the size of the file."""
     try:
         return os.lseek(file, at, os.SEEK_DATA) // BLOCK * BLOCK
@@ -71,13 +73,13 @@ def next_data(file, at):
         return os.fstat(file).st_size
 
 
-def punch(file, at, size):
+def punch(file: int, at: int, size: int) -> None:
     """Set a range of a file to zeros."""
     if libc.fallocate(file, PUNCH_HOLE | KEEP_SIZE, at, size) != 0:
         raise OSError(ctypes.get_errno(), "fallocate")
 
 
-def patiently(*words):
+def patiently(*words: str) -> str:
     """Repeat a command until it succeeds: a probe of new devices may have them open for a moment."""
     until = time.time() + SECONDS
     while (ended := command(*words))[0]:
@@ -90,11 +92,12 @@ def patiently(*words):
 class Mounted:
     """An image that is mounted over a loop device, for a `with`. If the kernel refuses it, it is repaired first."""
 
-    def __init__(self, kind, image, folder, options):
-        self.kind, self.image, self.folder, self.refusal = kind, image, folder, None
+    def __init__(self, kind: str, image: str, folder: str, options: str) -> None:
+        self.kind, self.image, self.folder = kind, image, folder
+        self.refusal: str | None = None
         self.options = ["-o", options] if options else []
 
-    def __enter__(self):
+    def __enter__(self) -> Mounted:
         os.makedirs(self.folder, exist_ok=True)
         self.device = patiently("losetup", "--find", "--show", self.image)
         status, told = self.mount()
@@ -107,21 +110,21 @@ class Mounted:
             raise NotMounted(f"{told}; {' '.join(REPAIRS[self.kind])} told {repair}")
         return self
 
-    def mount(self):
+    def mount(self) -> tuple[int, str]:
         return command("mount", "-t", self.kind, *self.options, self.device, self.folder)
 
-    def __exit__(self, *_):
+    def __exit__(self, *_: object) -> None:
         patiently("umount", self.folder)
         self.detach()
 
-    def detach(self):
+    def detach(self) -> None:
         """Detach the loop device. btrfs remembers a device by the file system's name, and would refuse an older image of it elsewhere."""
         if self.kind == "btrfs":
             command("btrfs", "device", "scan", "--forget", self.device)
         patiently("losetup", "--detach", self.device)
 
 
-def release(folder):
+def release(folder: str) -> None:
     """Unmount and detach what an interrupted script may leave in a folder."""
     with open("/proc/self/mounts") as mounts:
         places = [line.split()[1] for line in mounts]

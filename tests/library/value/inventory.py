@@ -1,5 +1,7 @@
 """Writes an inventory of random bonds, and to standard error what its values in July 2026 add up to by whole-number arithmetic: inventory.py RATES.csv COUNT"""
 
+from __future__ import annotations
+
 import csv
 import random
 import sys
@@ -9,7 +11,7 @@ import exact
 MONTH = 202607
 
 
-def main(rates, count):
+def main(rates: str, count: int) -> None:
     with open(rates, newline="") as file:
         terms = [(int(it["from"].replace("-", "")), int(it["rate"].replace(".", ""))) for it in csv.DictReader(file)]
     dice = random.Random(7)

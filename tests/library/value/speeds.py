@@ -1,31 +1,38 @@
 """Times the module beside what one would write in Python oneself, in one run, and counts what the latter get wrong of the published values:
 speeds.py PUBLISHED-VALUES.csv RATES.csv. Each takes a bond's dollars, age in months and rate in hundredths of a percent, and gives cents."""
 
+from __future__ import annotations
+
 import csv
 import ctypes
 import decimal
 import sys
 import time
+from typing import Callable, Iterator
 
 import ee_value
 import exact
 
 D = decimal.Decimal
+#: The months of issue and of redemption, the age, the rate, and the cents of a unit.
+Published = tuple[int, int, int, int, int]
+#: From the dollars of a bond, its age in months and its rate to its cents.
+Form = Callable[[int, int, int], int]
 
 
-def by_integers(dollars, age, rate):
+def by_integers(dollars: int, age: int, rate: int) -> int:
     """Exact: whole-number sixth powers, half-year by half-year; nothing is kept between calls."""
     exact.grown.cache_clear()
     exact.first_starts.cache_clear()
     return by_kept_integers(dollars, age, rate)
 
 
-def by_kept_integers(dollars, age, rate):
+def by_kept_integers(dollars: int, age: int, rate: int) -> int:
     """The same, with what was grown before kept for each rate."""
     return dollars // 25 * exact.accrued(rate, rate, age - 3 if age < 60 else age)
 
 
-def by_decimal(dollars, age, rate, rounding=decimal.ROUND_HALF_UP):
+def by_decimal(dollars: int, age: int, rate: int, rounding: str = decimal.ROUND_HALF_UP) -> int:
     """28 digits, half-year by half-year."""
     age = min(age - 3 if age < 60 else age, 360)
     unit, growth, cent = D("12.50"), 1 + D(rate) / 20000, D("0.01")
@@ -37,12 +44,12 @@ def by_decimal(dollars, age, rate, rounding=decimal.ROUND_HALF_UP):
     return int(100 * unit) * (dollars // 25)
 
 
-def by_decimal_even(dollars, age, rate):
+def by_decimal_even(dollars: int, age: int, rate: int) -> int:
     """The same with decimal's own rounding, to even."""
     return by_decimal(dollars, age, rate, decimal.ROUND_HALF_EVEN)
 
 
-def by_floats(dollars, age, rate):
+def by_floats(dollars: int, age: int, rate: int) -> int:
     """Floats, half-year by half-year."""
     age = min(age - 3 if age < 60 else age, 360)
     unit, growth = 12.50, 1 + rate / 20000
@@ -54,22 +61,24 @@ def by_floats(dollars, age, rate):
     return round(100 * unit) * (dollars // 25)
 
 
-def by_one_power(dollars, age, rate):
+def by_one_power(dollars: int, age: int, rate: int) -> int:
     """Floats, one power of the price, rounded once for the bond."""
     age = min(age - 3 if age < 60 else age, 360)
-    return round(50 * dollars * (1 + rate / 20000) ** (age / 6))
+    cents: int = round(50 * dollars * (1 + rate / 20000) ** (age / 6))
+    return cents
 
 
-def by_one_power_of_a_unit(dollars, age, rate):
+def by_one_power_of_a_unit(dollars: int, age: int, rate: int) -> int:
     """Floats, one power of a unit, rounded once."""
     age = min(age - 3 if age < 60 else age, 360)
-    return round(1250 * (1 + rate / 20000) ** (age / 6)) * (dollars // 25)
+    cents: int = round(1250 * (1 + rate / 20000) ** (age / 6))
+    return cents * (dollars // 25)
 
 
-OWN = (by_integers, by_kept_integers, by_decimal, by_decimal_even, by_floats, by_one_power_of_a_unit, by_one_power)
+OWN: tuple[Form, ...] = (by_integers, by_kept_integers, by_decimal, by_decimal_even, by_floats, by_one_power_of_a_unit, by_one_power)
 
 
-def published(values, rates):
+def published(values: str, rates: str) -> Iterator[Published]:
     """Return the months of issue and of redemption, the age, the rate and the cents of a unit of each published value."""
     with open(rates, newline="") as file:
         steps = [(it["from"], int(it["rate"].replace(".", ""))) for it in csv.DictReader(file)]
@@ -81,31 +90,35 @@ def published(values, rates):
         yield 100 * y + m, 100 * ry + rm, 12 * (ry - y) + rm - m, rate, int(it["unit_cents"])
 
 
-def wrongs(table):
+def wrongs(table: list[Published]) -> None:
     for form in OWN:
         off = [abs(form(10000, age, rate) - 400 * unit) for _, _, age, rate, unit in table]
         print(f"{form.__name__}: {sum(map(bool, off))} of {len(table)} values of a 10,000-dollar bond wrong, by {sum(off)} cents in all and {max(off)} at most")
 
 
-def times(name, form, count, rounds=3):
+def times(name: str, form: Callable[[], object], count: int, rounds: int = 3) -> None:
     """Prints the least processor time of some rounds; a form answers all the questions."""
     best = min(timed(form) for _ in range(rounds)) / count
     print(f"{name}: {best * 1e9:.0f} nanoseconds a value, {1 / best:.0f} a second", flush=True)
 
 
-def timed(form):
+def over(table: list[Published], form: Form) -> Callable[[], object]:
+    return lambda: [form(10000, age, rate) for _, _, age, rate, _ in table]
+
+
+def timed(form: Callable[[], object]) -> float:
     begun = time.process_time()
     form()
     return time.process_time() - begun
 
 
-def main(values, rates):
+def main(values: str, rates: str) -> None:
     table = list(published(values, rates))
     wrongs(table)
     library, count = ee_value._library, len(table)
     numbers = [(10000, issued, month, rate, rate) for issued, month, _, rate, _ in table]
     texts = [(10000, f"{i // 100}-{i % 100:02}", f"{m // 100}-{m % 100:02}", f"{r // 100}.{r % 100:02}") for _, i, m, r, _ in numbers]
-    questions, answers = (ee_value._Question * count)(*numbers), (ee_value._Row * count)()
+    questions, answers = (ee_value._Question * count)(*(ee_value._Question(*it) for it in numbers)), (ee_value._Row * count)()
     cents, into, out = library.ee_value_cents, library.ee_value_row_into, ee_value._Row()
     pointer = ctypes.byref(out)
     times("the library's ee_value_cents, by ctypes", lambda: [cents(*it) for it in numbers], count)
@@ -117,7 +130,7 @@ def main(values, rates):
     times("rows(), numbers", lambda: ee_value.rows(numbers), count)
     times("rows_into()", lambda: ee_value.rows_into(questions, answers), count)
     for form in OWN:
-        times(form.__name__, lambda form=form: [form(10000, age, rate) for _, _, age, rate, _ in table], count)
+        times(form.__name__, over(table, form), count)
 
 
 if __name__ == "__main__":

@@ -1,20 +1,24 @@
 """Requests that may end in two places, each with another request inside or behind it."""
+from __future__ import annotations
+
+from typing import Iterable
+
 from wire import in_chunks
 
 
-def shaped(line, headers, body=b"", end=b"\r\n"):
+def shaped(line: bytes, headers: Iterable[bytes], body: bytes = b"", end: bytes = b"\r\n") -> bytes:
     """Returns a request with just these headers."""
     return end.join([line, *headers]) + end + end + body
 
 
-def shapes(common, inner):
+def shapes(common: Iterable[bytes], inner: bytes) -> dict[str, list[bytes]]:
     """Returns the pieces of each shape by its name. `common` has the headers of a client, `inner` is the request inside. The outer one is a redemption."""
     line, chunked, plain = b"POST /redeem HTTP/1.1", b"Transfer-Encoding: chunked", b'{"number":1}'
     hidden = b"0\r\n\r\n" + inner
     whole, short = b"Content-Length: %d" % len(hidden), b"Content-Length: 5"
     length = b"Content-Length: %d" % len(plain)
 
-    def by(*more, body=hidden, first=line):
+    def by(*more: bytes, body: bytes = hidden, first: bytes = line) -> list[bytes]:
         return [shaped(first, [*common, *more], body)]
 
     return {

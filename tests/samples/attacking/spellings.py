@@ -1,11 +1,12 @@
 """Ways to write the target of a request so that nginx and the counter may read it differently."""
+from __future__ import annotations
 
 
-def each_byte_encoded(path):
+def each_byte_encoded(path: bytes) -> bytes:
     return b"/" + b"".join(b"/" if byte == 0x2F else b"%%%02x" % byte for byte in path[1:])
 
 
-def spellings(path, port):
+def spellings(path: bytes, port: int) -> dict[str, bytes]:
     """Returns the targets by what was done to the path."""
     rest, last = path[1:], path[-1:]
     name = rest.rsplit(b"/", 1)[-1]

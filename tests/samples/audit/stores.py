@@ -6,7 +6,9 @@ from counter_calls import TOP, post
 from hostile import counter, desk, making
 
 sys.path.insert(0, os.path.join(TOP, "samples", "audit"))
-from reporting import making as reports, page, store as reading
+from reporting import making as reports, page, store as reading, texts
+
+AS_OF = texts.read_day("2199-12-31")
 
 FIRST = [
     ("/rates", {"number": 2**62, "rates": [{"from": "2010-05", "rate": "3.50", "extension": "4.00"}, {"from": "2010-11", "rate": "3.50"}, {"from": "2005-05", "rate": "1.40"}]}),
@@ -19,18 +21,18 @@ FIRST = [
 ]
 
 
-def reported(path, folder, month=None):
+def reported(path, folder, **asked):
     """The report of a store, made in this process."""
     copy, sources = reading.copy_of(path, folder)
     opened = reading.open_copy(copy, sources)
     try:
-        return reports.report_of(opened, month)
+        return reports.report_of(opened, reports.Asked(as_of=AS_OF, **asked))
     finally:
         opened.base.close()
 
 
 def page_of(found):
-    return page.page(found, "")
+    return page.page(found, {})
 
 
 def message(path, body):

@@ -1,4 +1,10 @@
 """The samples as they were before the counter had a network of its own: what a control puts back on a machine."""
+from __future__ import annotations
+
+from typing import TYPE_CHECKING
+
+if TYPE_CHECKING:
+    from fresh import Fresh
 
 #: Of all users only nginx's may connect to the counter's port on the machine.
 PORT_LOCK = """table inet counter_port
@@ -37,11 +43,11 @@ LIMITS = {
 }
 
 
-def write(machine, name, text):
+def write(machine: Fresh, name: str, text: str) -> None:
     machine.shell(f"install -D -m 644 /dev/stdin {name} <<'END'\n{text}END")
 
 
-def counter_at_the_port(machine):
+def counter_at_the_port(machine: Fresh) -> None:
     """The counter listens on the machine's 127.0.0.1:8377, which nginx reaches over the port, and no other user may connect to."""
     write(machine, "/etc/systemd/system/counter.service.d/before.conf", UNIT)
     write(machine, "/etc/counter/port.nft", PORT_LOCK)
@@ -52,17 +58,16 @@ def counter_at_the_port(machine):
     )
 
 
-def passwords_by_fail2ban(machine):
+def passwords_by_fail2ban(machine: Fresh) -> None:
     """A wrong password costs no time, and fail2ban counts them."""
     write(machine, "/etc/fail2ban/jail.d/counter.local", JAIL)
     machine.shell(
-        "sed -i '/auth_delay/d' /etc/counter/sign_in.conf\n"
-        "sed -i '/limit_conn/d' /etc/nginx/sites-available/counter.conf\n"
+        "sed -i '/limit_conn/d; /auth_request .late;/d' /etc/nginx/sites-available/counter.conf\n"
         "systemctl restart nginx.service fail2ban.service"
     )
 
 
-def handshakes_without_limit(machine):
+def handshakes_without_limit(machine: Fresh) -> None:
     """Debian's own 768 connections of each process, 30 seconds for a handshake, and no rule. Debian starts a process for each core; here there are two."""
     machine.shell(
         "sed -i 's/worker_connections .*;/worker_connections 768;/; /worker_rlimit_nofile/d; s/worker_processes .*;/worker_processes 2;/' /etc/nginx/nginx.conf\n"
@@ -71,12 +76,12 @@ def handshakes_without_limit(machine):
     )
 
 
-def systemds_limits(machine):
+def systemds_limits(machine: Fresh) -> None:
     for unit, text in LIMITS.items():
         write(machine, f"/etc/systemd/system/{unit}.d/limits.conf", text)
     machine.shell("systemctl daemon-reload && systemctl restart counter-http.socket counter.service")
 
 
-def without_limits(machine):
+def without_limits(machine: Fresh) -> None:
     removed = "".join(f"rm /etc/systemd/system/{unit}.d/limits.conf\n" for unit in LIMITS)
     machine.shell(f"{removed}systemctl daemon-reload\nsystemctl reset-failed\nsystemctl restart counter-http.socket counter.service")

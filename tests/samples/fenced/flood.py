@@ -2,6 +2,8 @@
 
 Holds COUNT sockets to port 443 for SECONDS seconds, each with the first three bytes of a handshake. Replaces each that
 ends, at most RATE a second. Prints how many sockets were opened and ended, and how many were held at most and at last."""
+from __future__ import annotations
+
 import collections
 import errno
 import json
@@ -16,12 +18,14 @@ BEGUN = b"\x16\x03\x01"
 
 
 class Flood:
-    def __init__(self, address, count):
+    def __init__(self, address: str, count: int) -> None:
         self.address, self.count = address, count
-        self.sockets, self.open, self.told = {}, set(), collections.Counter()
+        self.sockets: dict[int, socket.socket] = {}
+        self.open: set[int] = set()
+        self.told: collections.Counter[str] = collections.Counter()
         self.line = select.epoll()
 
-    def start(self):
+    def start(self) -> None:
         client = socket.socket()
         client.setblocking(False)
         ended = client.connect_ex((self.address, 443))
@@ -33,12 +37,12 @@ class Flood:
         self.sockets[client.fileno()] = client
         self.line.register(client, select.EPOLLOUT)
 
-    def end(self, number):
+    def end(self, number: int) -> None:
         self.told["ended"] += 1
         self.open.discard(number)
         self.sockets.pop(number).close()
 
-    def turn(self, number, event):
+    def turn(self, number: int, event: int) -> None:
         """What became of one socket: it is connected, or it has ended."""
         if event & (select.EPOLLERR | select.EPOLLHUP | select.EPOLLIN):
             self.end(number)
@@ -51,7 +55,7 @@ class Flood:
         self.open.add(number)
         self.line.modify(number, select.EPOLLIN)
 
-    def run(self, seconds):
+    def run(self, seconds: float) -> None:
         begun, allowed = time.monotonic(), 0
         while (passed := time.monotonic() - begun) < seconds:
             for _ in range(min(self.count - len(self.sockets), int(passed * RATE) - allowed)):

@@ -22,8 +22,8 @@ sys.path[:0] = [str(HERE.parent / "packages"), str(HERE.parent.parent / "shared"
 
 import using  # noqa: E402
 from building import Release, TOP, section  # noqa: E402
-from counter_calls import median, right, wrong  # noqa: E402
-from fresh import INCLUDED, Fresh, bootstrap, done  # noqa: E402
+from counter_calls import right, wrong  # noqa: E402
+from fresh import Fresh, bootstrap, done  # noqa: E402
 from nginx_sample import CLIENT, basic  # noqa: E402
 
 NAME = "counter.bank.example"
@@ -77,15 +77,17 @@ def released(folder, program):
 
 @contextlib.contextmanager
 def first_day(folder, release, base, bonds):
-    """A machine after the first day of docs/INSTALL.md, with more bonds. `base` is a root of debootstrap; if it is None, one is made."""
+    """A machine after the trial of docs/INSTALL.md and its end, with bonds and an open day. `base` is a root of debootstrap; if it is None, one is made."""
     machine = Fresh(base or bootstrap(str(folder / "fresh")), tempfile.mkdtemp(dir=folder))
     try:
         using.deliver(machine, release)
         using.prepare(machine)
         machine.shell(f"cd release\n{section('INSTALL', 'Install it')[0]}")
-        said = "".join(machine.shell(block) for block in section("INSTALL", "The first day"))
-        right(said.count(using.TICKET) == 2, "on a fresh Debian the commands of docs/INSTALL.md pay the first bond", said)
+        using.trial(machine)
+        using.trial_ended(machine)
         register(machine, bonds)
+        opened = User(machine, "bert", Network(machine.process)).ask("POST", "/day/open", {"number": 2, "day": DAY})
+        right(opened == (200, '{"opened":"%s"}' % DAY), "the bank's first day is open", opened)
         yield machine
     finally:
         machine.end()

@@ -1,4 +1,6 @@
 """The packages as files: built twice, tested by lintian, signed, and what is said of them."""
+from __future__ import annotations
+
 import copy
 import json
 import os
@@ -7,6 +9,7 @@ import shutil
 import subprocess
 import sys
 from pathlib import Path
+from typing import Any, Iterator, Sequence
 
 from fresh import done, run
 
@@ -16,7 +19,7 @@ OTHERWISE = {"TZ": "Asia/Tokyo", "LC_ALL": "C", "HOME": "/nonexistent"}
 
 #: The toolchain's last line on a crate that was proved from nothing, and on one that was checked over kept work.
 VERDICT = (
-    "logic=proved functions=9 axioms=62 target=x86_64-unknown-linux-gnu cpu=x86-64-v2 sum=dac8208d650f15bf"
+    "logic=proved functions=9 axioms=63 target=x86_64-unknown-linux-gnu cpu=x86-64-v2 sum=dac8208d650f15bf"
     " native=nat,char,string logic-built=trusted libraries-built=trusted statements=trusted"
 )
 KEPT = f"{VERDICT} incremental=trusted"
@@ -31,13 +34,13 @@ PROOF = (
 FIELDS = Path(__file__).resolve().parent / "spdx_fields.json"
 
 
-def right(is_right, what, found=""):
+def right(is_right: object, what: str, found: object = "") -> None:
     if not is_right:
         sys.exit(f"WRONG: {what}\n{found}")
     print(f"right: {what}", flush=True)
 
 
-def copy_of_repository(folder):
+def copy_of_repository(folder: Path) -> Path:
     """The files that git has or would take, without its own folder."""
     names = done("git", "-C", str(TOP), "ls-files", "-z", "--cached", "--others", "--exclude-standard").split("\0")
     for name in names:
@@ -47,7 +50,7 @@ def copy_of_repository(folder):
     return folder
 
 
-def change(path, old, new):
+def change(path: Path, old: str, new: str) -> None:
     text = path.read_text()
     if old not in text:
         sys.exit(f"WRONG: {path} has no {old}")
@@ -57,7 +60,7 @@ def change(path, old, new):
 class Release:
     """A folder of packages, built from a copy of the repository."""
 
-    def __init__(self, tree, to, words, **env):
+    def __init__(self, tree: Path, to: Path, words: Sequence[str | Path], **env: str) -> None:
         env = {**os.environ, "SOURCE_DATE_EPOCH": done("git", "-C", str(TOP), "log", "-1", "--format=%ct").strip(), **env}
         ran = run("sh", "-c", f'umask {env.pop("UMASK", "022")}; exec "$@"', "build", str(tree / "packaging" / "build"), "--to", str(to), *words, env=env)
         if ran.returncode != 0:
@@ -65,17 +68,17 @@ class Release:
         self.folder = to
         self.debs = sorted(to.glob("*.deb"))
 
-    def sums(self):
+    def sums(self) -> dict[str, str]:
         return {deb.name: done("sha256sum", str(deb)).split()[0] for deb in self.debs}
 
-    def deb(self, name):
+    def deb(self, name: str) -> Path:
         return next(deb for deb in self.debs if deb.name.startswith(f"{name}_"))
 
-    def file(self, ending):
+    def file(self, ending: str) -> Path:
         return next(self.folder.glob(f"*{ending}"))
 
 
-def built_twice(folder, words):
+def built_twice(folder: Path, words: Sequence[str | Path]) -> Release:
     """The packages of two folders of different depth, built under another umask, time zone, locale and home, are the same. Returns the first."""
     tree = copy_of_repository(folder / "one")
     other = shutil.copytree(tree, folder / "a" / "deeper" / "folder")
@@ -92,13 +95,13 @@ def built_twice(folder, words):
     return first
 
 
-def told_by(tree, expression):
+def told_by(tree: Path, expression: str) -> str:
     """What an expression over packaging/sources.py of a tree gives, as text."""
     script = f"import sys; sys.path.insert(0, 'packaging'); import sources; print({expression})"
     return done(sys.executable, "-B", "-c", script, cwd=tree).rstrip("\n")
 
 
-def as_built(tree, program):
+def as_built(tree: Path, program: str | Path) -> Path:
     """Puts a program into a tree as ./ee_cli leaves it: with the checksum of its sources, the toolchain's stamp and the log
     of its proof beside it."""
     out = tree / "crates" / "ee_cli" / "out"
@@ -110,7 +113,7 @@ def as_built(tree, program):
     return out
 
 
-def gate_log(tree, program, line=VERDICT):
+def gate_log(tree: Path, program: str | Path, line: str = VERDICT) -> str:
     """The log of a gate over a tree, as packaging/build --prove writes it, with one last line for all crates."""
     own = told_by(tree, "chr(10).join(sources.record_of_sources())")
     crates = told_by(tree, "*sources.crates_file()").split()
@@ -123,19 +126,19 @@ def gate_log(tree, program, line=VERDICT):
     return "\n".join([*lines, f"packaging: program {done('sha256sum', str(program)).split()[0]}\n"])
 
 
-def build_of(tree, to, *words):
+def build_of(tree: Path, to: Path, *words: str | Path) -> subprocess.CompletedProcess[str]:
     """How packaging/build of a tree ended."""
     env = {**os.environ, "SOURCE_DATE_EPOCH": "1"}
     return run(str(tree / "packaging" / "build"), "--to", str(to), *map(str, words), env=env)
 
 
-def refuses(tree, to, said, what, *words):
+def refuses(tree: Path, to: Path, said: str, what: str, *words: str | Path) -> None:
     """packaging/build ends with status 1 and says why, and makes nothing."""
     ran = build_of(tree, to, *words)
     right(ran.returncode == 1 and said in ran.stdout and not to.exists(), what, ran.stdout)
 
 
-def refuses_another_program(folder, program):
+def refuses_another_program(folder: Path, program: str | Path) -> None:
     """A program that isn't there is refused without --program, as is one of other sources, and one that the toolchain
     didn't build."""
     tree, none, library = folder / "one", folder / "none", ("--library", TOP / "clients" / "value" / "out")
@@ -162,7 +165,7 @@ def refuses_another_program(folder, program):
     shutil.rmtree(out)
 
 
-def linted(release):
+def linted(release: Release) -> None:
     """lintian has no error and no warning but those that an override explains."""
     words = ["lintian", "--allow-root", "--fail-on", "error,warning", "--tag-display-limit", "0"]
     ran = run(*words, *map(str, release.debs))
@@ -174,13 +177,15 @@ def linted(release):
         right(all(line.startswith("#") or lines[nth - 1].startswith("#") for nth, line in enumerate(lines)), f"each override of {path.name} has its reason", lines)
 
 
-def signed(folder, release):
+def signed(folder: Path, release: Release) -> None:
     """Signed by a throwaway key by the command of packaging/README.md, and checked by the commands of docs/INSTALL.md."""
     home = folder / "key"
     home.mkdir(mode=0o700)
     env = {**os.environ, "GNUPGHOME": str(home)}
     done("gpg", "--batch", "--quiet", "--passphrase", "", "--quick-generate-key", "release@bank.example", "ed25519", "sign", "1d", env=env)
-    sign = re.search(r"^(gpg --armor .*)$", (TOP / "packaging" / "README.md").read_text(), re.M)[1].replace("KEY", "release@bank.example")
+    found = re.search(r"^(gpg --armor .*)$", (TOP / "packaging" / "README.md").read_text(), re.M)
+    assert found is not None
+    sign = found[1].replace("KEY", "release@bank.example")
     checks = [line for line in section("INSTALL", "Check that it is the proved one")[0].splitlines()]
     right(len(checks) == 2, "docs/INSTALL.md has the two commands of a check", checks)
     done("sh", "-c", sign, cwd=release.folder, env=env)
@@ -199,7 +204,7 @@ def signed(folder, release):
     subprocess.run(["gpgconf", "--kill", "all"], env=env, check=False)
 
 
-def section(page, heading):
+def section(page: str, heading: str) -> list[str]:
     """The blocks of commands below a heading of a page in docs."""
     text = (TOP / "docs" / f"{page}.md").read_text()
     found = re.search(rf"^#+ {re.escape(heading)}\n(.*?)(?=^#+ |\Z)", text, re.M | re.S)
@@ -208,7 +213,7 @@ def section(page, heading):
     return re.findall(r"^```\n(.*?)^```$", found[1], re.M | re.S)
 
 
-def materials(release, schema):
+def materials(release: Release, schema: str | Path | None) -> None:
     """The list of materials names the packages with their sums, each crate of crates.txt that the program stands on, and is right by the schema of SPDX 2.3 if that is given."""
     listed = json.loads(release.file(".spdx.json").read_text())
     sums = {item["packageFileName"]: item["checksums"][0]["checksumValue"] for item in listed["packages"] if "packageFileName" in item}
@@ -224,7 +229,7 @@ def materials(release, schema):
         by_schema(listed, schema, "the schema that is given")
 
 
-def by_schema(listed, schema, what):
+def by_schema(listed: dict[str, Any], schema: str | Path, what: str) -> None:
     """Debian's jsonschema, whichever Python runs this, reads the list."""
     said = by_debian(listed, schema)
     right(said == "", f"the list of materials is right by {what}: {len(listed['packages'])} parts, {len(listed['relationships'])} relations", said)
@@ -233,12 +238,12 @@ def by_schema(listed, schema, what):
         right(said != "" and "Traceback" not in said, f"control: {wrong} is refused", said)
 
 
-def by_debian(listed, schema):
+def by_debian(listed: dict[str, Any], schema: str | Path) -> str:
     script = "import json, sys, jsonschema; schema = json.load(open(sys.argv[1])); kind = jsonschema.validators.validator_for(schema); kind.check_schema(schema); print(*(it.message for it in kind(schema).iter_errors(json.load(sys.stdin))), sep='\\n', end='')"
     return run("/usr/bin/python3", "-c", script, str(schema), input=json.dumps(listed)).stdout
 
 
-def wrong_lists(listed):
+def wrong_lists(listed: dict[str, Any]) -> Iterator[tuple[str, dict[str, Any]]]:
     wrong = copy.deepcopy(listed)
     del wrong["creationInfo"]
     yield "a list without its making", wrong
@@ -250,7 +255,7 @@ def wrong_lists(listed):
     yield "a sum without its value", wrong
 
 
-def evident(release, program):
+def evident(release: Release, program: str | Path) -> None:
     said = release.file("_evidence.txt").read_text()
     sums = {**release.sums(), "usr/bin/ee_cli": done("sha256sum", program).split()[0]}
     lacking = [name for name, value in sums.items() if f"{value}  {name}" not in said]
@@ -259,7 +264,7 @@ def evident(release, program):
     right(all(line in said for line in lines), "it names the toolchain and the axioms", said)
 
 
-def repacked(folder, release, name, old, new):
+def repacked(folder: Path, release: Release, name: str, old: str, new: str) -> Path:
     """A package with a changed maintainer script or file, for a control."""
     tree = folder / "repacked"
     done("dpkg-deb", "-R", str(release.deb("ladwenpik")), str(tree))
@@ -269,7 +274,7 @@ def repacked(folder, release, name, old, new):
     return folder / "wrong.deb"
 
 
-def release_before(folder, words):
+def release_before(folder: Path, words: Sequence[str | Path]) -> Release:
     """A release of a lower version, which differs in a file of settings too."""
     tree = folder / "before"
     change(tree / "packaging" / "debian" / "changelog", "(1.0.0-1)", "(1.0.0-0)")

@@ -1,11 +1,15 @@
 """A fresh Debian that runs under a systemd of its own: process 1 of namespaces (mounts, processes, network, cgroups), over a root of debootstrap that isn't written. All that it writes is in
 memory, and gone at its end. The way is that of the script that runs the units of samples/systemd."""
+from __future__ import annotations
+
 import os
 import re
 import stat
 import subprocess
 import sys
 import time
+from pathlib import Path
+from typing import Any, NoReturn
 
 SUITE = "bookworm"
 MIRROR = "http://deb.debian.org/debian"
@@ -16,18 +20,18 @@ DEVICES = ["null", "zero", "full", "random", "urandom", "tty"]
 WAIT = 120
 
 
-def run(*words, **more):
+def run(*words: str | Path, **more: Any) -> subprocess.CompletedProcess[str]:
     return subprocess.run(words, stdout=subprocess.PIPE, stderr=subprocess.STDOUT, text=True, **more)
 
 
-def done(*words, **more):
+def done(*words: str | Path, **more: Any) -> str:
     ran = run(*words, **more)
     if ran.returncode != 0:
         sys.exit(f"WRONG: {' '.join(map(str, words))} ended with status {ran.returncode}\n{ran.stdout}")
     return ran.stdout
 
 
-def bootstrap(folder, suite=SUITE, included=INCLUDED):
+def bootstrap(folder: str, suite: str = SUITE, included: str = INCLUDED) -> str:
     """Makes a root, which takes some minutes and Debian's mirror. Returns its folder."""
     done("debootstrap", "--variant=minbase", f"--include={included}", suite, folder, MIRROR)
     return folder
@@ -36,7 +40,7 @@ def bootstrap(folder, suite=SUITE, included=INCLUDED):
 # Within the namespaces, until systemd is process 1.
 
 
-def make_root(base, memory, root):
+def make_root(base: str, memory: str, root: str) -> None:
     done("mount", "--make-rprivate", "/")
     done("mount", "-t", "tmpfs", "-o", "mode=755", "memory", memory)
     for name in ("upper", "work"):
@@ -62,7 +66,7 @@ def make_root(base, memory, root):
     os.makedirs(f"{root}/before", exist_ok=True)
 
 
-def inside(base, memory):
+def inside(base: str, memory: str) -> NoReturn:
     root = f"{memory}/root"
     make_root(base, memory, root)
     done("ip", "link", "set", "lo", "up")
@@ -80,7 +84,7 @@ def inside(base, memory):
 class Fresh:
     """One such machine, over the root in `base`. `folder` is an empty one of this run's."""
 
-    def __init__(self, base, folder):
+    def __init__(self, base: str, folder: str) -> None:
         self.group = make_group()
         self.told = f"{folder}.told"
         words = ["unshare", "--mount", "--pid", "--fork", "--uts", "--ipc", "--net", "--cgroup", "--kill-child", sys.executable, os.path.abspath(__file__), base, folder]
@@ -93,7 +97,7 @@ class Fresh:
             self.end()
             raise
 
-    def first_process(self):
+    def first_process(self) -> int:
         for _ in range(WAIT * 10):
             children = f"/proc/{self.outer.pid}/task/{self.outer.pid}/children"
             found = open(children).read().split() if os.path.exists(children) else []
@@ -104,49 +108,49 @@ class Fresh:
             time.sleep(0.1)
         sys.exit(f"WRONG: systemd didn't become process 1\n{open(self.told).read()}")
 
-    def wait_until_up(self):
+    def wait_until_up(self) -> None:
         for _ in range(WAIT * 10):
             if self.on("systemctl", "is-system-running").stdout.strip() in ("running", "degraded"):
                 return
             time.sleep(0.1)
         sys.exit("WRONG: systemd doesn't come up")
 
-    def path(self, name):
+    def path(self, name: str) -> str:
         """A file of the machine, as it is seen from outside."""
         return f"/proc/{self.process}/root{name}"
 
-    def words(self, *words):
+    def words(self, *words: str | Path) -> list[str | Path]:
         """The words by which a command is run on the machine."""
         return ["nsenter", "-t", str(self.process), "--mount", "--pid", "--net", "--uts", "--ipc", "--cgroup", "--root", "--wd", *words]
 
-    def on(self, *words, **more):
+    def on(self, *words: str | Path, **more: Any) -> subprocess.CompletedProcess[str]:
         env = {"PATH": "/usr/sbin:/usr/bin:/sbin:/bin", "LC_ALL": "C.UTF-8", "DEBIAN_FRONTEND": "noninteractive", "HOME": "/root"}
         return run(*self.words(*words), env=env, **more)
 
-    def shell(self, text):
+    def shell(self, text: str) -> str:
         """What some lines of a shell print; the test ends if they fail."""
         ran = self.on("bash", "-euo", "pipefail", "-c", f"cd /root\n{text}")
         if ran.returncode != 0:
             sys.exit(f"WRONG: status {ran.returncode} after\n{text}\n{ran.stdout}")
         return ran.stdout
 
-    def shown(self, unit, name):
+    def shown(self, unit: str, name: str) -> str:
         return self.on("systemctl", "show", "--value", "-p", name, unit).stdout.strip()
 
-    def wait(self, unit, name, wanted, seconds=60):
+    def wait(self, unit: str, name: str, wanted: str, seconds: int = 60) -> bool:
         for _ in range(seconds * 10):
             if re.fullmatch(wanted, self.shown(unit, name)):
                 return True
             time.sleep(0.1)
         return False
 
-    def end(self):
+    def end(self) -> None:
         self.outer.kill()
         self.outer.wait()
         remove_group(self.group)
 
 
-def make_group():
+def make_group() -> str:
     top = next((line.split()[1] for line in open("/proc/mounts") if line.split()[2] == "cgroup2"), None)
     if top is None:
         sys.exit("no cgroup 2 is mounted")
@@ -155,7 +159,7 @@ def make_group():
     return group
 
 
-def remove_group(group):
+def remove_group(group: str) -> None:
     for _ in range(100):
         for path, _, _ in os.walk(group, topdown=False):
             try:

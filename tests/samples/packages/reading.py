@@ -1,4 +1,6 @@
 """Man pages as `man` renders them, and completion as bash and zsh do it, on the machine."""
+from __future__ import annotations
+
 import os
 import pty
 import re
@@ -8,6 +10,7 @@ import sys
 import time
 
 from building import right
+from fresh import Fresh
 
 PAGES = {"ee_cli.1": "One process at a time uses a store", "ee_store.5": "cksumvfs", "counter.service.8": "returns only then", "counter-selftest.8": "changes no store", "counter-client.1": "A journal belongs to one desk", "ladwenpik-verify.1": "checks the folder of a release, and changes nothing"}
 #: What is typed, and what stands in the line after a Tab.
@@ -27,7 +30,7 @@ SHELLS = {
 CONTROL = re.compile(r"\x1b\[[0-9;?]*[a-zA-Z]|\x1b\][^\x07]*\x07|\x1b[=>]|[\x00-\x09\x0b-\x1f]")
 
 
-def pages_render(machine):
+def pages_render(machine: Fresh) -> None:
     for name, sentence in PAGES.items():
         page, part = name.rsplit(".", 1)
         ran = machine.on("sh", "-c", f"MANWIDTH=80 MANROFFOPT=-ww man --warnings -P cat {part} {page} 2> told > page; cat told; echo ---; cat page")
@@ -40,7 +43,7 @@ def pages_render(machine):
 class Shell:
     """A shell on the machine at a terminal."""
 
-    def __init__(self, machine, name):
+    def __init__(self, machine: Fresh, name: str) -> None:
         words, begun = SHELLS[name]
         self.terminal, other = pty.openpty()
         env = {"PATH": "/usr/sbin:/usr/bin:/sbin:/bin", "TERM": "xterm", "LC_ALL": "C.UTF-8", "HOME": "/root", "COLUMNS": "120", "LINES": "40"}
@@ -49,17 +52,17 @@ class Shell:
         self.send(f"{begun}echo begun-$((40 + 2))\n")
         self.wait("begun-42")
 
-    def send(self, text):
+    def send(self, text: str) -> None:
         os.write(self.terminal, text.encode())
 
-    def read(self, seconds):
+    def read(self, seconds: float) -> str:
         """What came until the terminal was quiet for half a second, or for so long."""
         text, until = b"", time.time() + seconds
         while time.time() < until and select.select([self.terminal], [], [], 0.5 if text else seconds)[0]:
             text += os.read(self.terminal, 65536)
         return CONTROL.sub("", text.decode(errors="replace"))
 
-    def wait(self, wanted):
+    def wait(self, wanted: str) -> str:
         """What came up to and with this text."""
         text, until = "", time.time() + 60
         while wanted not in text:
@@ -68,7 +71,7 @@ class Shell:
             text += self.read(1)
         return text
 
-    def completed(self, typed):
+    def completed(self, typed: str) -> str:
         """The line after a Tab, which is sent once the shell has written what was typed. Control-U empties the line again."""
         self.send(typed)
         line = self.wait(typed)
@@ -78,13 +81,13 @@ class Shell:
         self.wait("emptied-42")
         return line
 
-    def end(self):
+    def end(self) -> None:
         self.process.kill()
         self.process.wait()
         os.close(self.terminal)
 
 
-def completes(machine, name):
+def completes(machine: Fresh, name: str) -> None:
     shell = Shell(machine, name)
     try:
         for typed, wanted in TYPED + ((CLIENT_TYPED,) if name == "bash" else ()):

@@ -1,40 +1,49 @@
 """The packages on a machine: installed, used for the first day, upgraded, rolled back, removed and purged, by the commands of docs/INSTALL.md and docs/UPGRADE.md."""
+from __future__ import annotations
+
 import os
 import re
 import shutil
 import sys
+from pathlib import Path
+from typing import Iterable
 
-from building import right, section
+from building import Release, right, section
+from fresh import Fresh
 
 STORE = "/var/lib/counter/day.db"
-#: Requests of the first day, their users and what README's transcript has for them.
-TICKET = '{"day":"2012-02-06","lines":[{"paid":"25.16","serial":"L1EE"}],"payee":7,"ticket":1,"total":"25.16"}'
-REDEEM = '{"number":4,"day":"2012-02-06","payee":7,"serials":["L1EE"]}'
+#: The ticket of the trial.
+TRIAL = '{"day":"2026-11-30","lines":[{"paid":"27.56","serial":"L1EE"}],"payee":7,"ticket":1,"total":"27.56"}'
+#: The bank's first day after the trial: a walk-in's bond is registered and paid. Requests, their users, and the replies. A 200-dollar bond of
+#: December 2011 at 0.60 % has eight units of 13.69 dollars each in November 2026 (tests/shared/exact.py).
+TICKET = '{"day":"2026-11-30","lines":[{"paid":"109.52","serial":"R6EE"}],"payee":9,"ticket":1,"total":"109.52"}'
+REDEEM = '{"number":4,"day":"2026-11-30","payee":9,"serials":["R6EE"]}'
 DAY = (
-    ("bert", "/day/open", '{"number":3,"day":"2012-02-06"}', '{"opened":"2012-02-06"}'),
+    ("cleo", "/bonds", '{"number":2,"bonds":[{"serial":"R6EE","denom":200,"issued":"2011-12","owner":9},{"serial":"D7EE","denom":500,"issued":"2006-11","owner":9}]}', '{"new":2,"same":0}'),
+    ("bert", "/day/open", '{"number":3,"day":"2026-11-30"}', '{"opened":"2026-11-30"}'),
     ("anna", "/redeem", REDEEM, TICKET),
     ("anna", "/redeem", REDEEM, TICKET),
-    ("anna", "/redeem", REDEEM.replace("4", "5", 1), '{"code":52,"refused":"AlreadyPaid","serial":"L1EE","ticket":1}'),
-    ("anna", "/day/close", '{"number":6,"day":"2012-02-06"}', '{"forbidden":"group"}'),
-    ("bert", "/day/close", '{"number":6,"day":"2012-02-06"}', '{"bonds":1,"day":"2012-02-06","tickets":1,"total":"25.16"}'),
+    ("anna", "/redeem", REDEEM.replace("4", "5", 1), '{"code":52,"refused":"AlreadyPaid","serial":"R6EE","ticket":1}'),
+    ("anna", "/day/close", '{"number":6,"day":"2026-11-30"}', '{"forbidden":"group"}'),
+    ("bert", "/day/close", '{"number":6,"day":"2026-11-30"}', '{"bonds":1,"day":"2026-11-30","tickets":1,"total":"109.52"}'),
 )
 #: What is asked again after an upgrade, a way back and a reinstallation.
 AGAIN = tuple(entry for entry in DAY if "group" not in entry[3])
 
 
-def prepare(machine):
+def prepare(machine: Fresh) -> None:
     """The name of the counter, and apt that doesn't ask."""
     machine.shell("echo 127.0.0.1 counter.bank.example >> /etc/hosts; echo 'APT::Get::Assume-Yes true;' > /etc/apt/apt.conf.d/yes")
 
 
-def deliver(machine, release, to="/root/release"):
+def deliver(machine: Fresh, release: Release, to: str = "/root/release") -> None:
     shutil.rmtree(machine.path(to), ignore_errors=True)
     os.makedirs(machine.path(to))
     for file in release.folder.iterdir():
         shutil.copy(file, machine.path(to))
 
 
-def installed(machine, release):
+def installed(machine: Fresh, release: Release) -> None:
     """As docs/INSTALL.md has it."""
     deliver(machine, release)
     prepare(machine)
@@ -49,17 +58,33 @@ def installed(machine, release):
     right(machine.shell("ls -A /var/lib/counter") == "", "which has no store")
 
 
-def first_day(machine):
-    """By the commands of the page; then README's transcript through nginx."""
-    blocks = section("INSTALL", "The first day")
-    said = "".join(machine.shell(block) for block in blocks)
-    right('{"new":32,"same":0}\n{"new":3,"same":0}' in said, "the commands of the first day enter rates and bonds", said)
-    right('{"opened":"2012-02-06"}' in said and said.count(TICKET) == 2, "start the counter, open a day, and pay a bond through nginx", said)
+def trial(machine: Fresh) -> None:
+    """By the commands of the page."""
+    said = "".join(machine.shell(block) for block in section("INSTALL", "The first day"))
+    right('{"new":14,"same":0}\n{"new":3,"same":0}' in said, "the commands of the trial enter rates and bonds", said)
+    right('{"opened":"2026-11-30"}' in said and said.count(TRIAL) == 2, "start the counter, open a day, and pay a bond through nginx", said)
+    right(machine.shell("ls /var/lib/counter").split()[0] == "trial.db", "in a store of its own", machine.shell("ls /var/lib/counter"))
+
+
+def trial_ended(machine: Fresh) -> None:
+    """By the commands of the page. Nothing of the trial is left: neither in the store that the unit serves, nor beside it."""
+    machine.shell(section("INSTALL", "End the trial")[0])
+    sheet = ask(machine, "anna", "/inventory/7/2026-11")
+    machine.shell(f"systemctl stop counter.service; cp {STORE} production.db; cp {STORE}-wal production.db-wal; systemctl start counter.service")
+    counts = machine.shell("sqlite3 production.db 'SELECT (SELECT count(*) FROM bonds), (SELECT count(*) FROM tickets), (SELECT count(*) FROM batches), (SELECT count(*) FROM answers), (SELECT count(*) FROM rates), (SELECT max(period) FROM rates)'").strip()
+    left = machine.shell("ls /var/lib/counter /run/systemd/system/counter.service.d")
+    right((len(sheet.splitlines()), counts) == (2, "0|0|0|1|14|78") and "trial" not in left, "the bank's store has the rates of the paper periods, and nothing of the trial", (sheet, counts, left))
+
+
+def first_day(machine: Fresh) -> None:
+    """The trial and its end by the commands of the page; then a day of the bank through nginx."""
+    trial(machine)
+    trial_ended(machine)
     state = [machine.shown("counter.service", name) for name in ("ActiveState", "UnitFileState", "NRestarts")]
     right(state == ["active", "enabled", "0"], "the counter's unit is active, and starts with the machine", state)
-    answered(machine, DAY, "README's day has its replies, and the group's rule holds")
-    sheet = ask(machine, "cleo", "/inventory/7/2012-02")
-    right([line.split()[0] for line in sheet.splitlines()] == ["Serial", "K2EE", "M3EE", "Total"], "the paid bond is gone from the sheet", sheet)
+    answered(machine, DAY, "a walk-in's bond is registered and paid, and the group's rule holds")
+    sheet = ask(machine, "cleo", "/inventory/9/2026-11")
+    right([line.split()[0] for line in sheet.splitlines()] == ["Serial", "D7EE", "Total"], "the paid bond is gone from the sheet", sheet)
     page = ask(machine, "anna", "/teller/")
     right("<!doctype html>" in page.lower(), "the page for tellers is there", page)
     refused = [machine.on("setpriv", "--reuid", user, "--clear-groups", "curl", "-s", "http://127.0.0.1:8377/ticket/1").returncode for user in ("65534", "0")]
@@ -68,21 +93,23 @@ def first_day(machine):
     right(logs.startswith("root:adm 640\n") and "Permission denied" in logs, "nginx's log of who asked isn't for all to read", logs)
 
 
-def asking():
+def asking() -> str:
     """The function `ask` of the page."""
-    return re.search(r"^ask\(\) \{\n.*?^\}\n", "".join(section("INSTALL", "The first day")), re.M | re.S)[0]
+    found = re.search(r"^ask\(\) \{\n.*?^\}\n", "".join(section("INSTALL", "The first day")), re.M | re.S)
+    assert found is not None
+    return found[0]
 
 
-def ask(machine, user, path, body=""):
+def ask(machine: Fresh, user: str, path: str, body: str = "") -> str:
     return machine.shell(f"{asking()}ask {user} {path} '{body}'").strip()
 
 
-def answered(machine, entries, what):
+def answered(machine: Fresh, entries: Iterable[tuple[str, str, str, str]], what: str) -> None:
     found = [(ask(machine, user, path, body), wanted) for user, path, body, wanted in entries]
     right(all(said == wanted for said, wanted in found), what, found)
 
 
-def clients_work(machine, release):
+def clients_work(machine: Fresh, release: Release) -> None:
     """The Python client through nginx, the module of values, and the audit's report and queries, as installed."""
     machine.shell("cd release && apt-get install --no-install-recommends ./ladwenpik-client_*.deb ./libee-value*.deb ./python3-ee-value_*.deb")
     client = "counter-client --journal desk9.journal --desk 9 --at https://counter.bank.example --certificate /etc/counter/certificate.pem --user anna --password-file anna.password"
@@ -93,12 +120,12 @@ def clients_work(machine, release):
     ran = machine.on("sh", "-c", "cd /root && /usr/share/ladwenpik/audit/report day-copy.db --to audit")
     right(ran.returncode == 0, "the auditor's report finds nothing wrong", ran.stdout)
     totals = machine.shell("sqlite3 day-copy.db < /usr/share/ladwenpik/day_totals.sql")
-    right("1 bonds on 1 tickets, 25.16" in totals, "and the queries run", totals)
+    right("1 bonds on 1 tickets, 109.52" in totals, "and the queries run", totals)
     asked = machine.shell("/usr/share/ladwenpik/audit/who_asked day-copy.db /var/log/nginx/counter.log || true")
-    right(re.search(r"anna.*25\.16|25\.16.*anna", asked) is not None, "the log names the teller of the ticket", asked)
+    right(re.search(r"anna.*109\.52|109\.52.*anna", asked) is not None, "the log names the teller of the ticket", asked)
 
 
-def upgraded(machine, release, before):
+def upgraded(machine: Fresh, release: Release, before: Release) -> None:
     """Stop, copy, install, try, go on, as docs/UPGRADE.md has it; before that, what an upgrade does that nobody prepared."""
     machine.shell("echo '# ours' >> /etc/counter/call_somebody")
     process = machine.shown("counter.service", "MainPID")
@@ -117,7 +144,7 @@ def upgraded(machine, release, before):
     right(kept == "# ours\n0\n", "a changed setting is kept, and one that wasn't changed is the new one", kept)
 
 
-def back(machine, before):
+def back(machine: Fresh, before: Release) -> None:
     """Rolled back to the packages from before, by the first block below the heading."""
     os.makedirs(machine.path("/root/release/before"), exist_ok=True)
     shutil.copy(before.deb("ladwenpik"), machine.path("/root/release/before"))
@@ -127,7 +154,7 @@ def back(machine, before):
     answered(machine, AGAIN, "and each request has its reply")
 
 
-def copy_put_back(machine, before):
+def copy_put_back(machine: Fresh, before: Release) -> None:
     """The way back over a copy: the second block below the heading, without an archive."""
     os.makedirs(machine.path("/root/release/before"), exist_ok=True)
     shutil.copy(before.deb("ladwenpik"), machine.path("/root/release/before"))
@@ -136,18 +163,18 @@ def copy_put_back(machine, before):
     answered(machine, AGAIN, "the copy is put back, and serves what it has under the program from before")
 
 
-def state_of_store(machine):
+def state_of_store(machine: Fresh) -> str:
     return machine.on("sh", "-c", f"sha256sum {STORE} {STORE}-wal; stat -c '%U %a %n' /var/lib/counter {STORE}; id -u counter").stdout
 
 
-def stays(machine, do):
+def stays(machine: Fresh, do: str) -> bool:
     """Whether the store, its log, their owner and his user are what they were before."""
     before = state_of_store(machine)
     machine.shell(do)
     return state_of_store(machine) == before
 
 
-def removed_and_purged(machine, release):
+def removed_and_purged(machine: Fresh, release: Release) -> None:
     machine.shell("systemctl stop counter.service")
     machine.shell("systemctl start counter.service")
     process = machine.shown("counter.service", "MainPID")
@@ -165,23 +192,23 @@ def removed_and_purged(machine, release):
     nginx_starts(machine, "purged")
     deliver(machine, release)
     machine.shell("cd release && apt-get install --no-install-recommends ./ladwenpik_*_amd64.deb")
-    users, _, nginx, _, start, _ = section("INSTALL", "The first day")
-    machine.shell(users + nginx + start)
+    users, _, nginx, *_ = section("INSTALL", "The first day")
+    machine.shell(users + nginx + "systemctl enable --now counter.service\n")
     answered(machine, AGAIN, "installed again, the counter serves the store as before")
 
 
-def nginx_starts(machine, when):
+def nginx_starts(machine: Fresh, when: str) -> None:
     """nginx and nftables start without the package, and nginx answers."""
     ran = machine.on("sh", "-c", "nginx -t && systemctl restart nginx.service nftables.service && systemctl is-active nginx.service nftables.service")
     right(ran.returncode == 0 and ran.stdout.endswith("active\nactive\n"), f"{when}: nginx and nftables start", ran.stdout)
 
 
-def removed_by_a_wrong_package(machine, wrong):
+def removed_by_a_wrong_package(machine: Fresh, wrong: Path) -> None:
     """Control: a package whose postrm removes the store, installed with a store of its own."""
     prepare(machine)
     shutil.copy(wrong, machine.path("/root/wrong.deb"))
     machine.shell("apt-get install --no-install-recommends ./wrong.deb")
-    machine.shell(section("INSTALL", "The first day")[3])
+    machine.shell("\n".join(line for line in section("INSTALL", "End the trial")[0].splitlines() if "ee_cli import" in line))
     if "No such file" in state_of_store(machine):
         sys.exit("WRONG: the control has no store")
     right(not stays(machine, "apt-get purge ladwenpik"), "control: a package whose postrm removes the store is caught")

@@ -1,8 +1,11 @@
 """The list of materials in CycloneDX, by the validator of the CycloneDX project. Debian 13 has it, and Debian 12 doesn't: so it runs in a root of Debian 13 that debootstrap made."""
+from __future__ import annotations
+
 import copy
 import json
+from typing import Any, Callable, Iterator
 
-from building import right
+from building import Release, right
 from fresh import run
 
 SUITE = "trixie"
@@ -37,13 +40,13 @@ for purl in values(json.loads(text), "purl"):
 """
 
 
-def validated(listed, root):
+def validated(listed: dict[str, Any], root: str) -> str:
     """What the validator says: nothing if it accepts the list."""
     ran = run("chroot", root, "python3", "-c", VALIDATE, input=json.dumps(listed))
     return ran.stdout if ran.returncode == 0 else f"Traceback {ran.stdout}"
 
 
-def materials(release, root):
+def materials(release: Release, root: str) -> None:
     """The list in CycloneDX has the parts, sums and dependencies of the one in SPDX, and the validator accepts it."""
     listed, other = (json.loads(release.file(ending).read_text()) for ending in (".cdx.json", ".spdx.json"))
     right(parts(listed) == sorted((part["name"], part["versionInfo"], *sums_of(part.get("checksums"), "checksumValue")) for part in other["packages"]), f"the list in CycloneDX has the {len(other['packages'])} parts of the one in SPDX, with their sums", parts(listed))
@@ -57,27 +60,27 @@ def materials(release, root):
         right(said != "" and "Traceback" not in said, f"control: {wrong} is refused", said)
 
 
-def sums_of(items, name):
+def sums_of(items: list[dict[str, str]] | None, name: str) -> list[str]:
     return [item[name] for item in items or []]
 
 
-def parts(listed):
+def parts(listed: dict[str, Any]) -> list[tuple[str, ...]]:
     """Each part, with those among the tools that have a version: the toolchain."""
     tools = [tool for tool in listed["metadata"]["tools"]["components"] if "version" in tool]
     return sorted((part["name"], part["version"], *sums_of(part.get("hashes"), "content")) for part in listed["components"] + tools)
 
 
-def ends(relation):
+def ends(relation: dict[str, str]) -> tuple[str, str, str]:
     return relation["spdxElementId"], relation["relationshipType"], relation["relatedSpdxElement"]
 
 
-def changed(listed, change):
+def changed(listed: dict[str, Any], change: Callable[[dict[str, Any]], object]) -> dict[str, Any]:
     made = copy.deepcopy(listed)
     change(made)
     return made
 
 
-def wrong_lists(listed):
+def wrong_lists(listed: dict[str, Any]) -> Iterator[tuple[str, dict[str, Any]]]:
     licensed = next(nth for nth, part in enumerate(listed["components"]) if "licenses" in part)
     yield "a part without a name", changed(listed, lambda made: made["components"][0].pop("name"))
     yield "a field that CycloneDX doesn't know", changed(listed, lambda made: made["components"][0].update(colour="red"))

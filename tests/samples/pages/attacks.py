@@ -1,4 +1,5 @@
 """Pages of another origin that try to make a teller's browser ask for something. Each is the text of a page; TARGET is the counter's origin, BODY what is asked, in the quotes of JavaScript."""
+from __future__ import annotations
 
 FORM = """<!doctype html><title>{name}</title><body><script>
 const body = {body};
@@ -46,7 +47,7 @@ WAYS = ("form", "form in a frame", "form in a window", "form of a sandbox", *SCR
 WITH_PASSWORD = {"another site": ("form", "form in a window"), "another port": WAYS}
 
 
-def page(way, target, path, body):
+def page(way: str, target: str, path: str, body: str) -> str:
     """The page that asks for `path` with `body` in this way."""
     quoted = '"' + body.replace("\\", "\\\\").replace('"', '\\"') + '"'
     if way in SCRIPTS:

@@ -323,7 +323,7 @@ def client_day(place, nginx):
     address = f"https://127.0.0.1:{nginx.port}"
     with client.Counter(place.path("desk5.journal"), address, **words) as desk:
         desk.add_rates([{"from": "2011-05", "rate": "1.1", "extension": "4"}, {"from": "2012-05", "rate": "2", "extension": "2.00"}])
-        desk.open_day("2012-02-06")
+        desk.open_day("2012-02-06", even_so=True)
         for turn in range(40):
             desk.redeem("2012-02-06", 7, [bond(turn)["serial"], bond(turn + 100)["serial"]])
     with open(path, "rb") as file:
@@ -344,7 +344,7 @@ def client_day(place, nginx):
         except client.AlreadyPaid as refusal:
             right(refusal.code == 52, "the Python client keeps an archive over two runs, takes off a line that a stop cut, and keeps a refusal")
         desk.close_day("2012-02-06")
-        desk.open_day("2012-02-07")
+        desk.open_day("2012-02-07", even_so=True)
         desk.redeem("2012-02-07", 7, [bond(50)["serial"]])
     return path
 

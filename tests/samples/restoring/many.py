@@ -76,7 +76,7 @@ def messages(count):
     """So many requests: rates, bonds in imports of 500, and redemptions of one bond each, 999 on a day."""
     bonds = int((count - 2) / (1 + 1 / 500 + 2 / DAY_TICKETS))
     yield from beginning(bonds)
-    sent, day = 1 + -(-bonds // 500), datetime.date(2012, 2, 6)
+    day = datetime.date(2012, 2, 6)
     for turn in range(bonds):
         if turn % DAY_TICKETS == 0:
             if turn:

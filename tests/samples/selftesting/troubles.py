@@ -47,9 +47,9 @@ IMPOSTOR, IMPOSTOR_NGINX = "an impostor on that port gets nothing from the socke
 CONNECT = "other users can't connect to the counter"
 TELLER, SUPERVISOR, OFFICE = (f"the {group} group has its routes alone" for group in ("teller", "supervisor", "office"))
 ORIGINS = "requests of other origins are refused"
-LOGGED = "each body is logged, with its user"
+LOGGED = "every body is logged, with its user"
 WAITS, LIMITED = "a wrong password waits two seconds", "wrong passwords at once are limited"
-HANDSHAKES, RULE = "handshakes of one address are limited", "the rule against handshakes is loaded at each start"
+HANDSHAKES, RULE = "handshakes of one address are limited", "the rule against handshakes is loaded at every start"
 FOLDERS, FILE_OF_PASSWORDS = "folders in which root writes belong to root", "the file of passwords is right"
 ONLY_NGINX, SHELLS = "nothing but nginx runs as www-data", "users with a shell have a password"
 ROTATED = "the log of posted requests is rotated"
@@ -254,13 +254,13 @@ ASKED_TROUBLES = (
         ("/etc/nginx/conf.d/0-counter-requests.conf", ("$request_body", "")),
         said="requests.log has the user 'anna' and 0 of 40016 bytes",
     ),
-    edit("wrong passwords cost no time", (WAITS, LIMITED), (SIGN_IN, ("auth_delay 2s;", ""))),
+    edit("wrong passwords cost no time", (WAITS, LIMITED), (SITE, ("        auth_request /late;\n", ""))),
     edit("any number of requests at once", (LIMITED,), (SITE, ("    limit_conn counter_users 8;", ""))),
     edit(
         "any number of requests",
-        ("requests of one address are limited",),
+        ("requests of one user are limited",),
         (SITE, ("    limit_req zone=counter_requests burst=200 nodelay;", "")),
-        said="16 more are answered 401",
+        said="16 more are answered 200",
     ),
     stand_in("fail2ban reads nginx's log", ("no text log locks users out",), "/usr/bin/fail2ban-client", "echo Jail list: nginx-http-auth"),
     run("the rule against handshakes is flushed", (HANDSHAKES, RULE), "nft delete table inet counter_handshakes", "systemctl restart nftables.service", "60 of 60"),

@@ -285,13 +285,23 @@ def back(m, path):
     m.follow(f"mount --bind /mnt/away {path}; umount /mnt/away")
 
 
+def sources_gone(w, wanted, seconds=60):
+    """What the alert `Gone` names, once it names these sources alone: a source of the trouble before may be named a while longer."""
+    for _ in range(seconds * 2):
+        if w.labels_of("Gone", "source") == wanted:
+            break
+        time.sleep(0.5)
+    return w.labels_of("Gone", "source")
+
+
 @trouble("Gone")
 def archive_gone(w):
     away(w.machine, "/srv/archive")
     yield
-    gone = w.labels_of("Gone", "source")
+    wanted = {"archive /srv/archive/counter", "disk /srv/archive"}
+    gone = sources_gone(w, wanted)
     back(w.machine, "/srv/archive")
-    right(gone == {"archive /srv/archive/counter", "disk /srv/archive"}, "it names the archive and its disk", gone)
+    right(gone == wanted, "it names the archive and its disk", gone)
 
 
 @trouble("Gone: the log of requests")
@@ -301,7 +311,7 @@ def requests_gone(w):
     away(m, "/srv/requests")
     m.follow("nginx -s reopen")
     yield
-    gone, below = w.labels_of("Gone", "source"), m.on("rm", "/srv/requests/requests.log")
+    gone, below = sources_gone(w, {"disk /srv/requests"}), m.on("rm", "/srv/requests/requests.log")
     back(m, "/srv/requests")
     m.follow("nginx -s reopen")
     right(gone == {"disk /srv/requests"} and below.returncode == 0, "it names the disk, though nginx writes a log on the disk below", gone)
@@ -311,9 +321,10 @@ def requests_gone(w):
 def witness_gone(w):
     w.drop_in("counter-witness.service", "zzz", "Environment=WITNESS=false")
     yield
-    gone = w.labels_of("Gone", "source")
+    wanted = {"archive /run/counter-witness"}
+    gone = sources_gone(w, wanted)
     w.drop_in("counter-witness.service", "zzz")
-    right(gone == {"archive /run/counter-witness"}, "it names the witness, which doesn't answer", gone)
+    right(gone == wanted, "it names the witness, which doesn't answer", gone)
 
 
 @trouble("RequestsLogBehind", "DiskFull")

@@ -1,21 +1,23 @@
 """Commands over a store, and whether what one told is right: a connection by `apply` or `serve`, an import, an export, a sheet."""
+from __future__ import annotations
 
 import subprocess, time
 import socket as sockets
+from typing import Any
 
 from counter_calls import free_port
 
 from . import desk, judging, spelling
 from .judging import Wrong
-from .program import SECONDS, Ran, read_counts
+from .program import SECONDS, Program, Ran, read_counts
 
 
-def rates_rows(file):
+def rates_rows(file: bytes) -> tuple[tuple[int | None, int | None, int | None], ...]:
     rows = [line.split(",") for line in file.decode().splitlines()[1:]]
     return tuple((spelling.issue(begins), spelling.rate(rate), spelling.rate(rest[0] if rest and rest[0] else rate)) for begins, rate, *rest in rows)
 
 
-def bond_rows(file):
+def bond_rows(file: bytes) -> tuple[tuple[spelling.Serial | None, int, int | None, int, int | None], ...]:
     rows = [line.split(",") for line in file.decode().splitlines()[1:]]
     return tuple((spelling.serial(s), int(d), spelling.issue(i), int(o), int(c) if c else None) for s, d, i, o, c in rows)
 
@@ -25,14 +27,14 @@ class Connection:
 
     name = "apply"
 
-    def __init__(self, stream):
+    def __init__(self, stream: bytes) -> None:
         self.stream = stream
         self.messages = judging.messages_of(stream)
 
-    def run(self, program, store, **hostile):
+    def run(self, program: Program, store: str, **hostile: Any) -> Ran:
         return program.apply(store, self.stream, **hostile)
 
-    def judge(self, ran, many):
+    def judge(self, ran: Ran, many: list[desk.Books]) -> list[desk.Books]:
         """The books that may stand after a run, whatever it met."""
         if not ran.told and ran.status == 3 and ran.faults.strip() == "store: StoreFailed":
             return many
@@ -40,7 +42,7 @@ class Connection:
         judging.ended_rightly(ran, heard, self.messages)
         return heard.books
 
-    def ample(self, ran, many):
+    def ample(self, ran: Ran, many: list[desk.Books]) -> list[desk.Books]:
         """The books after a run that met nothing."""
         heard = judging.follow(many, self.messages, ran.told)
         if ran.status != 0 or ran.faults or not judging.is_ample(heard, self.messages):
@@ -53,7 +55,7 @@ class Served(Connection):
 
     name = "serve"
 
-    def run(self, program, store, **hostile):
+    def run(self, program: Program, store: str, **hostile: Any) -> Ran:
         port = free_port()
         words = [program.path, "serve", "--db", store, "--port", str(port), "--connections", "1"]
         counts = store + ".counts"
@@ -72,7 +74,7 @@ class Served(Connection):
         return Ran(process.returncode, told, faults.decode(errors="replace"), read_counts(counts))
 
 
-def connected(process, port):
+def connected(process: subprocess.Popen[bytes], port: int) -> sockets.socket | None:
     """A connection to a server, or None where it ends before it listens."""
     until = time.time() + SECONDS
     while process.poll() is None and time.time() < until:
@@ -86,7 +88,7 @@ def connected(process, port):
     return None
 
 
-def rest_of(client):
+def rest_of(client: sockets.socket) -> bytes:
     client.settimeout(SECONDS)
     text = b""
     while more := client.recv(65536):
@@ -99,19 +101,19 @@ class Import:
 
     name = "import"
 
-    def __init__(self, kind, path, file, number, asked_of=0):
+    def __init__(self, kind: str, path: str, file: bytes, number: int, asked_of: int = 0) -> None:
         self.kind, self.path, self.number, self.desk = kind, path, number, asked_of
         self.act = (("rates", rates_rows(file)) if kind == "rates" else ("bonds", bond_rows(file)))
 
-    def run(self, program, store, **hostile):
+    def run(self, program: Program, store: str, **hostile: Any) -> Ran:
         return program.enter(store, self.kind, self.path, self.number, self.desk, file=self.path, **hostile)
 
-    def delivered(self, books):
+    def delivered(self, books: desk.Books) -> tuple[desk.Books, bytes, int]:
         after = books.copy()
         reply = after.deliver((self.desk, self.number), self.act)
         return after, (desk.compact(reply) + "\n").encode(), 1 if "refused" in reply else 0
 
-    def judge(self, ran, many):
+    def judge(self, ran: Ran, many: list[desk.Books]) -> list[desk.Books]:
         fault = ran.faults.strip()
         if ran.status in (0, 1) or fault == "store: NotWrittenBack":
             return self.replied(ran, many)
@@ -128,13 +130,13 @@ class Import:
             return judging.distinct(many + [self.delivered(books)[0] for books in many])
         raise Wrong(f"an import told {fault!r}")
 
-    def replied(self, ran, many):
+    def replied(self, ran: Ran, many: list[desk.Books]) -> list[desk.Books]:
         right = [after for after, told, status in map(self.delivered, many) if told == ran.told and ran.status in (status, 3)]
         if not right:
             raise Wrong(f"an import ended with {ran.status}, {ran.told!r} {ran.faults!r}")
         return right
 
-    def ample(self, ran, many):
+    def ample(self, ran: Ran, many: list[desk.Books]) -> list[desk.Books]:
         if ran.status == 3:
             raise Wrong(f"an import without a fault ended with {ran.faults!r}")
         return self.replied(ran, many)
@@ -143,19 +145,20 @@ class Import:
 class Shown:
     """An export, or the sheet of a month."""
 
-    def __init__(self, customer, month=None):
+    def __init__(self, customer: int, month: str | None = None) -> None:
         self.customer, self.month = customer, month
         self.name = "sheet" if month else "export"
 
-    def run(self, program, store, **hostile):
+    def run(self, program: Program, store: str, **hostile: Any) -> Ran:
         if self.month:
             return program.sheet(store, self.customer, self.month, **hostile)
         return program.export(store, self.customer, **hostile)
 
-    def text(self, books):
-        return (books.ask_inventory(self.customer, spelling.month(self.month)) if self.month else books.export(self.customer)).encode()
+    def text(self, books: desk.Books) -> bytes:
+        month = spelling.month(self.month) if self.month else None
+        return (books.export(self.customer) if month is None else books.ask_inventory(self.customer, month)).encode()
 
-    def judge(self, ran, many):
+    def judge(self, ran: Ran, many: list[desk.Books]) -> list[desk.Books]:
         if ran.status not in (0, 3) or (ran.status == 3 and ran.faults.strip() not in judging.FAULTS_TOLD) or (ran.status == 0 and ran.faults):
             raise Wrong(f"{self.name} ended with {ran.status} {ran.faults!r}")
         is_whole = ran.status == 0 or ran.faults.strip() == "store: NotWrittenBack"
@@ -164,7 +167,7 @@ class Shown:
             raise Wrong(f"{self.name} told {ran.told!r} with {ran.status} {ran.faults!r}")
         return right
 
-    def ample(self, ran, many):
+    def ample(self, ran: Ran, many: list[desk.Books]) -> list[desk.Books]:
         if ran.status:
             raise Wrong(f"{self.name} without a fault ended with {ran.faults!r}")
         return self.judge(ran, many)

@@ -1,4 +1,7 @@
 """What a connection is answered, byte for byte: the messages of its stream, what each asks for, and what the desk says to it."""
+from __future__ import annotations
+
+from typing import Any
 
 from . import decoding, desk, framing, talk
 
@@ -6,17 +9,17 @@ NO_MEMORY = talk.answer(503, b'{"code":1,"unserved":"NoMemory"}')
 STORE_FAILED = talk.answer(503, b'{"code":2,"unserved":"StoreFailed"}')
 
 
-def json_answer(status, value, closes):
+def json_answer(status: int, value: object, closes: bool) -> bytes:
     return talk.answer(status, desk.compact(value).encode(), closes)
 
 
-def fault_answer(code, closes, field=None):
+def fault_answer(code: int, closes: bool, field: str | None = None) -> bytes:
     name = framing.FAULTS.get(code) or decoding.NAMES[code]
     status = {61: 413, 62: 413, 66: 404, 67: 405}.get(code, 400)
     return json_answer(status, {"code": code, "fault": name, **({"field": field} if field else {})}, closes)
 
 
-def shown(books, asked, closes):
+def shown(books: desk.Books, asked: tuple[Any, ...], closes: bool) -> bytes:
     """The answer to a query."""
     found = getattr(books, "ask_" + asked[0])(*asked[1:])
     if asked[0] == "inventory":
@@ -28,7 +31,7 @@ def shown(books, asked, closes):
     return json_answer(404, {"code": 69, "fault": "NotFound"}, closes)
 
 
-def answer(books, message, closes=False):
+def answer(books: desk.Books, message: framing.Message, closes: bool = False) -> bytes:
     """The answer to a message at the books, which get what it does."""
     try:
         asked = decoding.call(message)
@@ -40,15 +43,15 @@ def answer(books, message, closes=False):
     return json_answer(409 if "refused" in reply else 200, reply, closes)
 
 
-def is_act(message):
+def is_act(message: framing.Message) -> bool:
     """Whether a message asks for an act, so that it may change the books."""
     try:
-        return decoding.call(message)[0] == "act"
+        return bool(decoding.call(message)[0] == "act")
     except decoding.Fault:
         return False
 
 
-def connection(books, stream):
+def connection(books: desk.Books, stream: bytes) -> tuple[bytes, int]:
     """All bytes that answer a stream, and the status with which `apply` ends."""
     messages, fault = framing.split(stream)
     answers = []

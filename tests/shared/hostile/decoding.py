@@ -1,11 +1,17 @@
 """What a message asks for, or its first fault, by the rules of docs/FORMATS.md, 'Requests': the route, the method, the body field by field."""
+from __future__ import annotations
 
 import re
+from typing import Any, Callable, Sequence, TypeVar
 
-from . import json_text, spelling
+from . import framing, json_text, spelling
+
+T = TypeVar("T")
+#: The members of a JSON object.
+Members = dict[str, Any]
 
 POSTS = ("/rates", "/bonds", "/day/open", "/day/close", "/redeem")
-GETS = {
+GETS: dict[str, tuple[tuple[str, Callable[[str], object]], ...]] = {
     "inventory": (("customer", spelling.customer), ("month", spelling.month)),
     "ticket": (("ticket", spelling.ticket),),
     "batch": (("day", spelling.day),),
@@ -18,61 +24,61 @@ class Fault(Exception):
     """The code of a fault, and the field that it names."""
 
 
-def bad(field):
+def bad(field: str) -> Fault:
     return Fault(65, field)
 
 
-def in_range(value, first, last):
+def in_range(value: object, first: int, last: int) -> int | None:
     return value if type(value) is int and first <= value <= last else None
 
 
-def number(value):
+def number(value: object) -> int | None:
     return in_range(value, 1, spelling.LAST_NUMBER)
 
 
-def desk(value):
+def desk(value: object) -> int | None:
     return in_range(value, 0, 999)
 
 
-def customer(value):
+def customer(value: object) -> int | None:
     return in_range(value, 1, 999_999_999)
 
 
-def denomination(value):
+def denomination(value: object) -> int | None:
     return value if type(value) is int and value in spelling.DENOMINATIONS else None
 
 
-def text(read):
+def text(read: Callable[[str], T | None]) -> Callable[[object], T | None]:
     return lambda value: read(value) if isinstance(value, str) else None
 
 
-def field(members, name, kind):
+def field(members: Members, name: str, kind: Callable[[object], T | None]) -> T:
     found = kind(members[name]) if name in members else None
     if found is None:
         raise bad(name)
     return found
 
 
-def optional(members, name, kind, other=None):
+def optional(members: Members, name: str, kind: Callable[[object], T | None], other: T | None = None) -> T | None:
     return other if members.get(name) is None else field(members, name, kind)
 
 
-def members_of(value, fault):
+def members_of(value: object, fault: str) -> Members:
     if not isinstance(value, dict):
         raise bad(fault)
     return value
 
 
-def only(members, names):
+def only(members: Members, names: Sequence[str]) -> None:
     if any(name not in names for name in members):
         raise bad("other")
 
 
-def rows_in(members, name, row):
+def rows_in(members: Members, name: str, row: Callable[[object], T]) -> tuple[T, ...]:
     return tuple(row(value) for value in field(members, name, lambda value: value if isinstance(value, list) else None))
 
 
-def rate_row(value):
+def rate_row(value: object) -> tuple[int, int, int | None]:
     members = members_of(value, "rates")
     begins = field(members, "from", text(spelling.issue))
     rate = field(members, "rate", text(spelling.rate))
@@ -81,7 +87,7 @@ def rate_row(value):
     return begins, rate, extension
 
 
-def bond_row(value):
+def bond_row(value: object) -> tuple[spelling.Serial, int, int, int, int | None]:
     members = members_of(value, "bonds")
     serial = field(members, "serial", text(spelling.serial))
     dollars = field(members, "denom", denomination)
@@ -92,14 +98,14 @@ def bond_row(value):
     return serial, dollars, issued, owner, coowner
 
 
-def serial_row(value):
+def serial_row(value: object) -> spelling.Serial:
     found = text(spelling.serial)(value)
     if found is None:
         raise bad("serials")
     return found
 
 
-def act_in(path, members):
+def act_in(path: str, members: Members) -> tuple[tuple[Any, ...], tuple[str, ...]]:
     """The act, and the names that its body has beside `desk` and `number`."""
     if path == "/rates":
         return ("rates", rows_in(members, "rates", rate_row)), ("rates",)
@@ -112,7 +118,7 @@ def act_in(path, members):
     return ("redeem", day, payee, rows_in(members, "serials", serial_row)), ("day", "payee", "serials")
 
 
-def posted(path, body):
+def posted(path: str, body: bytes) -> tuple[Any, ...]:
     try:
         value = json_text.read(body)
     except json_text.NoJson:
@@ -124,7 +130,7 @@ def posted(path, body):
     return "act", key, act
 
 
-def asked(name, parts):
+def asked(name: str, parts: Sequence[str]) -> tuple[Any, ...]:
     found = []
     for (field_name, kind), part in zip(GETS[name], parts):
         value = kind(part)
@@ -134,7 +140,7 @@ def asked(name, parts):
     return (name, *found)
 
 
-def call(message):
+def call(message: framing.Message) -> tuple[Any, ...]:
     """Of a request ("act", its desk and number, the act); of a query its name and parts. A Fault is raised where it asks for neither."""
     path = message.target.decode("utf-8")
     if path in POSTS:

@@ -1,11 +1,35 @@
 """The desk by its rules (docs/MODEL.md, docs/STATUSES.md): books, acts, replies, queries, and the rows that a store then has. Values are those of
 tests/shared/exact.py. It shares nothing with the program."""
+from __future__ import annotations
 
 import copy, json
+from typing import Any, Iterable, Mapping, Sequence, TypedDict
 
 import exact
 
 from . import spelling
+
+#: The desk and the number of a request.
+Key = tuple[int, int]
+#: The name of an act, and what `do_` of Books takes under that name.
+Act = tuple[Any, ...]
+Reply = dict[str, object]
+#: A rate and its extension, in hundredths of a percent.
+Terms = tuple[int, int]
+#: Denomination, issue month, owner and co-owner of a bond.
+Bond = tuple[int, int, int, int | None]
+#: A row of the calculator by the names of its columns.
+Columns = dict[str, Any]
+#: The rows of each table.
+Rows = dict[str, Any]
+
+
+class Ticket(TypedDict):
+    ticket: int
+    day: int
+    payee: int
+    lines: list[tuple[spelling.Serial, int]]
+
 
 MOST_ROWS, MOST_SERIALS, MOST_TICKETS = 500, 100, 1_000
 NAMES = {
@@ -21,29 +45,29 @@ HEADINGS = ("Serial", "Series", "Denom", "Issued", "Next", "Final", "Price", "In
 class Refused(Exception):
     """The code of a refusal, and what it names."""
 
-    def __init__(self, code, **named):
+    def __init__(self, code: int, **named: object) -> None:
         super().__init__(code)
         self.code, self.named = code, named
 
 
-def compact(value):
+def compact(value: object) -> str:
     return json.dumps(value, separators=(",", ":"), sort_keys=True)
 
 
-def period(issued):
+def period(issued: int) -> int:
     """The latest May or November not after a month."""
     return issued - (issued % 12 - 4) % 6
 
 
-def is_announced(month):
+def is_announced(month: int) -> bool:
     return month % 12 in (4, 10)
 
 
-def exact_row(dollars, issued, month, terms):
+def exact_row(dollars: int, issued: int, month: int, terms: Terms) -> exact.Row:
     return exact.row(dollars, exact.number_of(issued), exact.number_of(month), *terms)
 
 
-def first_twice(keys):
+def first_twice(keys: Iterable[spelling.Serial]) -> spelling.Serial | None:
     """The first key that stands earlier in the list, or None."""
     seen = set()
     for key in keys:
@@ -53,7 +77,7 @@ def first_twice(keys):
     return None
 
 
-def count_is_right(count, most):
+def count_is_right(count: int, most: int) -> None:
     if count == 0:
         raise Refused(11)
     if count > most:
@@ -61,20 +85,22 @@ def count_is_right(count, most):
 
 
 class Books:
-    def __init__(self):
-        self.rates = {}
-        self.bonds = {}
-        self.paid_on = {}
-        self.day = self.last_day = None
-        self.tickets, self.batches = [], {}
-        self.kept = {}
+    def __init__(self) -> None:
+        self.rates: dict[int, Terms] = {}
+        self.bonds: dict[spelling.Serial, Bond] = {}
+        self.paid_on: dict[spelling.Serial, int] = {}
+        self.day: int | None = None
+        self.last_day: int | None = None
+        self.tickets: list[Ticket] = []
+        self.batches: dict[int, tuple[int, int, int]] = {}
+        self.kept: dict[Key, tuple[Act, Reply]] = {}
 
-    def copy(self):
+    def copy(self) -> Books:
         return copy.deepcopy(self)
 
     # ---- acts
 
-    def deliver(self, key, act):
+    def deliver(self, key: Key, act: Act) -> Reply:
         """The reply to a request: the kept one, or that of its act, which is kept."""
         if key in self.kept:
             first, reply = self.kept[key]
@@ -86,23 +112,23 @@ class Books:
         self.kept[key] = (act, reply)
         return reply
 
-    def do_rates(self, rows):
+    def do_rates(self, rows: Sequence[tuple[int, int, int]]) -> Reply:
         count_is_right(len(rows), MOST_ROWS)
         for begins, *_ in rows:
             if not is_announced(begins):
                 raise Refused(20, month=spelling.month_text(begins))
         known = dict(self.rates)
-        for begins, *terms in rows:
-            if known.setdefault(begins, tuple(terms)) != tuple(terms):
+        for begins, rate, extension in rows:
+            if known.setdefault(begins, (rate, extension)) != (rate, extension):
                 raise Refused(21, month=spelling.month_text(begins))
         return self.added(known, "rates", len(rows))
 
-    def added(self, known, name, count):
+    def added(self, known: Mapping[Any, object], name: str, count: int) -> Reply:
         new = len(known) - len(getattr(self, name))
         setattr(self, name, known)
         return {"new": new, "same": count - new}
 
-    def do_bonds(self, rows):
+    def do_bonds(self, rows: Sequence[tuple[spelling.Serial, int, int, int, int | None]]) -> Reply:
         count_is_right(len(rows), MOST_ROWS)
         twice = first_twice(row[0] for row in rows)
         if twice:
@@ -114,12 +140,13 @@ class Books:
             if period(issued) not in self.rates:
                 raise Refused(30, serial=spelling.serial_text(serial))
         known = dict(self.bonds)
-        for serial, *bond in rows:
-            if known.setdefault(serial, tuple(bond)) != tuple(bond):
+        for serial, dollars, issued, owner, coowner in rows:
+            bond = (dollars, issued, owner, coowner)
+            if known.setdefault(serial, bond) != bond:
                 raise Refused(31, serial=spelling.serial_text(serial))
         return self.added(known, "bonds", len(rows))
 
-    def do_open(self, day):
+    def do_open(self, day: int) -> Reply:
         if self.day is not None:
             raise Refused(40)
         if self.last_day is not None and day <= self.last_day:
@@ -127,16 +154,16 @@ class Books:
         self.day = day
         return {"opened": spelling.day_text(day)}
 
-    def day_is(self, day):
+    def day_is(self, day: int) -> None:
         if self.day is None:
             raise Refused(42)
         if self.day != day:
             raise Refused(43)
 
-    def todays(self):
+    def todays(self) -> list[Ticket]:
         return [ticket for ticket in self.tickets if ticket["day"] == self.day]
 
-    def payment(self, serial, payee):
+    def payment(self, serial: spelling.Serial, payee: int) -> int:
         """What a bond pays on the open day."""
         named = {"serial": spelling.serial_text(serial)}
         if serial not in self.bonds:
@@ -146,6 +173,7 @@ class Books:
             raise Refused(51, **named)
         if serial in self.paid_on:
             raise Refused(52, ticket=self.paid_on[serial], **named)
+        assert self.day is not None
         month = spelling.month_of_day(self.day)
         if month < issued:
             raise Refused(53, **named)
@@ -153,7 +181,7 @@ class Books:
             raise Refused(54, **named)
         return exact_row(dollars, issued, month, self.rates[period(issued)])[0]
 
-    def do_redeem(self, day, payee, serials):
+    def do_redeem(self, day: int, payee: int, serials: Sequence[spelling.Serial]) -> Reply:
         count_is_right(len(serials), MOST_SERIALS)
         twice = first_twice(serials)
         if twice:
@@ -163,12 +191,12 @@ class Books:
             raise Refused(44)
         lines = [(serial, self.payment(serial, payee)) for serial in serials]
         number = len(self.tickets) + 1
-        ticket = {"ticket": number, "day": day, "payee": payee, "lines": lines}
+        ticket: Ticket = {"ticket": number, "day": day, "payee": payee, "lines": lines}
         self.tickets.append(ticket)
         self.paid_on.update((serial, number) for serial in serials)
         return ticket_told(ticket)
 
-    def do_close(self, day):
+    def do_close(self, day: int) -> Reply:
         self.day_is(day)
         today = self.todays()
         lines = [cents for ticket in today for _, cents in ticket["lines"]]
@@ -178,45 +206,45 @@ class Books:
 
     # ---- queries
 
-    def ask_ticket(self, number):
+    def ask_ticket(self, number: int) -> Reply | None:
         return ticket_told(self.tickets[number - 1]) if number <= len(self.tickets) else None
 
-    def ask_batch(self, day):
+    def ask_batch(self, day: int) -> Reply | None:
         return batch_told(day, self.batches[day]) if day in self.batches else None
 
-    def ask_value(self, dollars, issued, month):
+    def ask_value(self, dollars: int, issued: int, month: int) -> dict[str, object] | None:
         terms = self.rates.get(period(issued))
         return None if terms is None else row_told(columns(dollars, issued, month, terms))
 
-    def unpaid(self, owner):
+    def unpaid(self, owner: int) -> list[tuple[spelling.Serial, int, int, int, int | None]]:
         return sorted((serial, *bond) for serial, bond in self.bonds.items() if bond[2] == owner and serial not in self.paid_on)
 
-    def ask_inventory(self, owner, month):
+    def ask_inventory(self, owner: int, month: int) -> str:
         rows = [(serial, columns(dollars, issued, month, self.rates[period(issued)])) for serial, dollars, issued, *_ in self.unpaid(owner)]
         return sheet(rows)
 
-    def export(self, owner):
+    def export(self, owner: int) -> str:
         text = "serial,denom,issued,owner,coowner\n"
         for serial, dollars, issued, _, coowner in self.unpaid(owner):
             text += f"{spelling.serial_text(serial)},{dollars},{spelling.month_text(issued)},{owner},{coowner or ''}\n"
         return text
 
 
-def refusal(refused):
+def refusal(refused: Refused) -> Reply:
     return {"code": refused.code, "refused": NAMES[refused.code], **refused.named}
 
 
-def ticket_told(ticket):
+def ticket_told(ticket: Ticket) -> Reply:
     lines = [{"serial": spelling.serial_text(serial), "paid": spelling.money(cents)} for serial, cents in ticket["lines"]]
     total = spelling.money(sum(cents for _, cents in ticket["lines"]))
     return {"ticket": ticket["ticket"], "day": spelling.day_text(ticket["day"]), "payee": ticket["payee"], "lines": lines, "total": total}
 
 
-def batch_told(day, batch):
+def batch_told(day: int, batch: tuple[int, int, int]) -> Reply:
     return {"day": spelling.day_text(day), "tickets": batch[0], "bonds": batch[1], "total": spelling.money(batch[2])}
 
 
-def columns(dollars, issued, month, terms):
+def columns(dollars: int, issued: int, month: int, terms: Terms) -> Columns:
     """The row of the calculator: what a month shows of a bond."""
     _, price, interest, value, _, note, *_ = exact_row(dollars, issued, month, terms)
     age = month - issued
@@ -227,18 +255,18 @@ def columns(dollars, issued, month, terms):
     }
 
 
-def row_told(row):
+def row_told(row: Columns) -> dict[str, object]:
     months = {name: "" if row[name] is None else spelling.month_text(row[name]) for name in ("issued", "next", "final")}
     sums = {name: spelling.money(row[name]) for name in ("price", "interest", "value")}
     return {"denom": row["denom"], "note": row["note"], "rate": "" if row["rate"] is None else spelling.rate_text(row["rate"]), **months, **sums}
 
 
-def sheet_line(cells, note):
+def sheet_line(cells: Sequence[str], note: str) -> str:
     text = " ".join(format(cell, f"{side}{width}") for cell, (width, side) in zip(cells, COLUMNS))
     return text + (" " + note if note else "") + "\n"
 
 
-def sheet(rows):
+def sheet(rows: Sequence[tuple[spelling.Serial, Columns]]) -> str:
     text, totals = sheet_line(HEADINGS, "Note"), {"price": 0, "interest": 0, "value": 0}
     for serial, row in rows:
         months = ["" if row[name] is None else spelling.sheet_month_text(row[name]) for name in ("issued", "next", "final")]
@@ -254,19 +282,19 @@ def sheet(rows):
 # ---- the rows of a store
 
 
-def rate_named(row):
+def rate_named(row: tuple[int, int, int]) -> dict[str, object]:
     begins, rate, extension = row
     named = {} if rate == extension else {"extension": spelling.rate_text(extension)}
     return {"from": spelling.month_text(begins), "rate": spelling.rate_text(rate), **named}
 
 
-def bond_named(row):
+def bond_named(row: tuple[spelling.Serial, int, int, int, int | None]) -> dict[str, object]:
     serial, dollars, issued, owner, coowner = row
     named = {} if coowner is None else {"coowner": coowner}
     return {"serial": spelling.serial_text(serial), "denom": dollars, "issued": spelling.month_text(issued), "owner": owner, **named}
 
 
-def act_named(act):
+def act_named(act: Act) -> dict[str, object]:
     """The value whose compact text is the canonical text of an act."""
     name, *parts = act
     if name == "rates":
@@ -279,7 +307,7 @@ def act_named(act):
     return {"act": name, "day": spelling.day_text(day), "payee": payee, "serials": [spelling.serial_text(serial) for serial in serials]}
 
 
-def rows_of(books):
+def rows_of(books: Books) -> Rows:
     """The rows of each table of version 2, in order of key."""
     first = spelling.FIRST_MONTH
     total = {ticket["ticket"]: sum(cents for _, cents in ticket["lines"]) for ticket in books.tickets}

@@ -3,8 +3,10 @@
 After a crash each byte below the last synced length is the old one or one that was written since; synced bytes are kept; past the last synced length
 there may be anything; and the length is between the synced one and those that were reached since. The two files are independent of one another. A file that was
 made is there for sure once its folder was synced."""
+from __future__ import annotations
 
-import dataclasses, struct
+import dataclasses, random, struct
+from typing import Callable, Iterable, Iterator
 
 HEAD = struct.Struct("=IIQQ")
 OPEN, READ, WRITE, TRUNCATE, SYNC = range(5)
@@ -24,7 +26,13 @@ class Step:
     bytes_: bytes = b""
 
 
-def read_record(path):
+#: How a step is taken: it changes a content.
+Take = Callable[[bytearray, Step], None]
+#: The content of each file that a crash leaves; None: there is none.
+Image = tuple[bytes | None, ...]
+
+
+def read_record(path: str) -> list[Step]:
     with open(path, "rb") as file:
         text = file.read()
     steps, at = [], 0
@@ -37,21 +45,21 @@ def read_record(path):
     return steps
 
 
-def overwrite(content, at, bytes_):
+def overwrite(content: bytearray, at: int, bytes_: bytes) -> None:
     """Put bytes at a place; a hole is zeros."""
     if len(content) < at:
         content.extend(bytes(at - len(content)))
     content[at : at + len(bytes_)] = bytes_
 
 
-def resize(content, size):
+def resize(content: bytearray, size: int) -> None:
     if size < len(content):
         del content[size:]
     else:
         content.extend(bytes(size - len(content)))
 
 
-def kept(content, step):
+def kept(content: bytearray, step: Step) -> None:
     if step.kind == WRITE:
         overwrite(content, step.at, step.bytes_)
     else:
@@ -61,11 +69,13 @@ def kept(content, step):
 class File:
     """What is synced of a file (None where it may be missing), and the steps since."""
 
-    def __init__(self, content):
-        self.synced, self.steps, self.is_sure = content, [], content is not None
-        self.now, self.shown = bytearray(content or b""), None
+    def __init__(self, content: bytes | None) -> None:
+        self.synced, self.is_sure = content, content is not None
+        self.steps: list[Step] = []
+        self.now = bytearray(content or b"")
+        self.shown: bytes | None = None
 
-    def take(self, step):
+    def take(self, step: Step) -> None:
         if step.kind == OPEN:
             self.synced, self.steps = b"", []
         elif step.kind == SYNC:
@@ -75,7 +85,7 @@ class File:
             self.steps.append(step)
             self.shown = None
 
-    def seen(self):
+    def seen(self) -> bytes | None:
         """The content by all steps; None where there is no file."""
         if self.synced is None:
             return None
@@ -83,24 +93,24 @@ class File:
             self.shown = bytes(self.now)
         return self.shown
 
-    def outcome(self, takes):
+    def outcome(self, takes: Iterable[Take]) -> bytes:
         """The content where each step since the sync is taken so: a function that changes a content by a step."""
-        content = bytearray(self.synced)
+        content = bytearray(self.synced or b"")
         for step, take in zip(self.steps, takes):
             take(content, step)
         return bytes(content)
 
 
-def lost(content, step):
+def lost(content: bytearray, step: Step) -> None:
     """Nothing of a step arrived."""
 
 
-def torn_prefix(length):
+def torn_prefix(length: int) -> Take:
     """Only so many bytes of a write arrived."""
     return lambda content, step: overwrite(content, step.at, step.bytes_[:length])
 
 
-def mixed(dice, old, new, unit):
+def mixed(dice: random.Random, old: bytes | bytearray, new: bytes, unit: int) -> bytes:
     """Of each unit of bytes the old or the new ones."""
     count = -(-len(new) // unit)
     choice = dice.randbytes(count).translate(ALL_OR_NONE)
@@ -109,10 +119,10 @@ def mixed(dice, old, new, unit):
     return (before ^ ((before ^ after) & int.from_bytes(mask, "little"))).to_bytes(len(new), "little")
 
 
-def torn_mixed(dice, unit):
+def torn_mixed(dice: random.Random, unit: int) -> Take:
     """Of each unit of bytes of a write, old or new is there; where the file ended before, zeros may be."""
 
-    def take(content, step):
+    def take(content: bytearray, step: Step) -> None:
         length = len(content)
         if step.kind != WRITE:
             resize(content, dice.randint(*sorted((length, step.size))))
@@ -125,10 +135,10 @@ def torn_mixed(dice, unit):
     return take
 
 
-def torn_garbage(dice, synced_length):
+def torn_garbage(dice: random.Random, synced_length: int) -> Take:
     """Of a write, what lies past the synced length is anything."""
 
-    def take(content, step):
+    def take(content: bytearray, step: Step) -> None:
         kept(content, step)
         begins, ends = max(synced_length, step.at), step.at + step.size
         if step.kind == WRITE and ends > begins:
@@ -137,7 +147,7 @@ def torn_garbage(dice, synced_length):
     return take
 
 
-def subsets(count, most):
+def subsets(count: int, most: int) -> Iterator[list[bool]]:
     """Each choice of so many steps where there are at most `most`, and else of the last ones, with the earlier ones taken or not."""
     free = min(count, most)
     for mask in range(2**free):
@@ -147,25 +157,25 @@ def subsets(count, most):
             yield [False] * (count - free) + chosen
 
 
-def takes_of(chosen):
+def takes_of(chosen: list[bool]) -> list[Take]:
     return [kept if is_taken else lost for is_taken in chosen]
 
 
 class Disk:
-    def __init__(self, db, log):
+    def __init__(self, db: bytes | None, log: bytes | None) -> None:
         self.files = {DB: File(db), LOG: File(log)}
 
-    def take(self, step):
+    def take(self, step: Step) -> None:
         if step.file == FOLDER and step.kind == SYNC:
             for file in self.files.values():
                 file.is_sure = file.synced is not None
         elif step.file in self.files:
             self.files[step.file].take(step)
 
-    def whole(self, is_kept):
+    def whole(self, is_kept: dict[int, bool]) -> Image:
         return tuple(file.seen() if is_kept[on] else file.synced for on, file in self.files.items())
 
-    def plain_images(self):
+    def plain_images(self) -> list[Image]:
         """All unsynced steps of each file lost or kept, and files that may be missing."""
         found = [self.whole({DB: db, LOG: log}) for db in (True, False) for log in (True, False)]
         if not all(file.is_sure for file in self.files.values()):
@@ -175,7 +185,7 @@ class Disk:
             found.append(tuple(file.synced if file.is_sure else None for file in self.files.values()))
         return found
 
-    def subset_images(self):
+    def subset_images(self) -> Iterator[Image]:
         """Each subset of the last few steps of each file, beside the other file with all or nothing."""
         for on, file in self.files.items():
             if not file.steps:
@@ -186,16 +196,16 @@ class Disk:
                 for beside in (other.seen(), other.synced)[: 1 if other.seen() == other.synced else 2]:
                     yield (content, beside) if on == DB else (beside, content)
 
-    def torn_takes(self, file, dice):
+    def torn_takes(self, file: File, dice: random.Random) -> Iterator[Take]:
         """Ways in which the last step of a file is torn."""
         last = file.steps[-1]
         if last.kind == WRITE:
             edges = {1, last.size // 2, last.size - 1, SECTOR * (last.size // (2 * SECTOR)), dice.randrange(last.size + 1)}
             yield from (torn_prefix(edge) for edge in sorted(edges) if 0 < edge < last.size)
         yield from (torn_mixed(dice, unit) for unit in (SECTOR, SECTOR, 1, 24))
-        yield torn_garbage(dice, len(file.synced))
+        yield torn_garbage(dice, len(file.synced or b""))
 
-    def torn_images(self, dice):
+    def torn_images(self, dice: random.Random) -> Iterator[Image]:
         """The last step of each file torn, after all or some of the steps before it, beside the other file with all or nothing."""
         for on, file in self.files.items():
             if not file.steps:
@@ -207,7 +217,7 @@ class Disk:
                     beside = dice.choice((other.seen(), other.synced))
                     yield (content, beside) if on == DB else (beside, content)
 
-    def random_images(self, dice, count):
+    def random_images(self, dice: random.Random, count: int) -> Iterator[Image]:
         """Each unsynced step of each file taken, lost or torn by chance."""
         for _ in range(count):
             yield tuple(
@@ -215,7 +225,7 @@ class Disk:
                 for file in self.files.values()
             )
 
-    def images(self, dice):
+    def images(self, dice: random.Random) -> tuple[list[Image], list[Image]]:
         """Images that a crash now may leave: what is always tried, and what may be chosen from."""
         if any(file.synced is None for file in self.files.values()):
             return self.plain_images(), []

@@ -1,4 +1,5 @@
 """How a stream is split into messages, by the rules of docs/FORMATS.md, 'Framing': line by line over all bytes, and not as they come."""
+from __future__ import annotations
 
 import dataclasses, re
 
@@ -21,7 +22,7 @@ class Fault(Exception):
     """The code of what is no message."""
 
 
-def is_text(target):
+def is_text(target: bytes) -> bool:
     try:
         target.decode("utf-8")
     except UnicodeDecodeError:
@@ -29,7 +30,7 @@ def is_text(target):
     return True
 
 
-def line_at(stream, at, begun):
+def line_at(stream: bytes, at: int, begun: int) -> tuple[bytes, int]:
     """The line from a place on, without its end, and the place after it. Whether a head that began at `begun` has none is the code of the fault."""
     end = stream.find(b"\n", at, begun + MOST_HEAD)
     if end < 0:
@@ -38,7 +39,7 @@ def line_at(stream, at, begun):
     return line[:-1] if line.endswith(b"\r") else line, end + 1
 
 
-def head_at(stream, begun):
+def head_at(stream: bytes, begun: int) -> tuple[re.Match[bytes], list[tuple[bytes, bytes]], int]:
     """The request line, the fields, and the place after the head."""
     line, at = b"", begun
     while not line:
@@ -46,7 +47,7 @@ def head_at(stream, begun):
     request = REQUEST_LINE.fullmatch(line)
     if not request or not is_text(request[2]):
         raise Fault(60)
-    fields = []
+    fields: list[tuple[bytes, bytes]] = []
     while True:
         line, at = line_at(stream, at, begun)
         if not line:
@@ -57,11 +58,11 @@ def head_at(stream, begun):
         fields.append((field[1].lower(), field[2].strip(b" \t")))
 
 
-def values(fields, name):
+def values(fields: list[tuple[bytes, bytes]], name: bytes) -> list[bytes]:
     return [value for found, value in fields if found == name]
 
 
-def body_length(fields):
+def body_length(fields: list[tuple[bytes, bytes]]) -> int:
     if len(fields) > MOST_FIELDS:
         raise Fault(60)
     lengths = values(fields, b"content-length")
@@ -77,7 +78,7 @@ def body_length(fields):
     return int(digits or b"0")
 
 
-def message_at(stream, begun):
+def message_at(stream: bytes, begun: int) -> tuple[Message, int]:
     """The message that begins there, and the place after it."""
     request, fields, at = head_at(stream, begun)
     length = body_length(fields)
@@ -87,9 +88,10 @@ def message_at(stream, begun):
     return Message(request[1], request[2], stream[at : at + length], closes), at + length
 
 
-def split(stream):
+def split(stream: bytes) -> tuple[list[Message], int | None]:
     """The messages of a stream, as far as a connection takes them, and the code of the fault that ends it, or None."""
-    messages, at = [], 0
+    messages: list[Message] = []
+    at = 0
     while at < len(stream) and len(messages) < MOST_MESSAGES:
         try:
             message, at = message_at(stream, at)

@@ -1,7 +1,12 @@
 """JSON by RFC 8259, as strictly as docs/FORMATS.md wants it: UTF-8, arrays and objects at most 127 deep, no number beyond a float of 64 bits. A whole number
 that has neither sign, point nor exponent and fits 64 bits is an int, any other number None in a Number. Of a repeated key the last value stays."""
+from __future__ import annotations
 
 import re
+from typing import Union
+
+#: What a text stands for.
+Value = Union[None, bool, int, "Number", str, list["Value"], dict[str, "Value"]]
 
 DEEPEST = 127
 SPACE = " \t\n\r"
@@ -19,24 +24,25 @@ class Number:
 
 
 class Reader:
-    def __init__(self, text):
+    def __init__(self, text: str) -> None:
         self.text, self.at = text, 0
 
-    def space(self):
+    def space(self) -> None:
         while self.text[self.at : self.at + 1] and self.text[self.at] in SPACE:
             self.at += 1
 
-    def take(self, word):
+    def take(self, word: str) -> None:
         if not self.text.startswith(word, self.at):
             raise NoJson
         self.at += len(word)
 
-    def is_next(self, mark):
+    def is_next(self, mark: str) -> bool:
         return self.text[self.at : self.at + 1] == mark
 
-    def value(self, depth):
+    def value(self, depth: int) -> Value:
         self.space()
         next_ = self.text[self.at : self.at + 1]
+        found: Value
         if next_ == '"':
             found = self.string()
         elif next_ in ("{", "["):
@@ -48,14 +54,14 @@ class Reader:
         self.space()
         return found
 
-    def word(self):
+    def word(self) -> Value:
         for word, value in (("null", None), ("true", True), ("false", False)):
             if self.text.startswith(word, self.at):
                 self.at += len(word)
                 return value
         return self.number()
 
-    def number(self):
+    def number(self) -> int | Number:
         found = NUMBER.match(self.text, self.at)
         if not found:
             raise NoJson
@@ -68,11 +74,12 @@ class Reader:
             raise NoJson
         return Number()
 
-    def string(self):
+    def string(self) -> str:
         self.take('"')
         parts = []
         while True:
             plain = PLAIN.match(self.text, self.at)
+            assert plain is not None
             parts.append(plain[0])
             self.at = plain.end()
             if self.is_next('"'):
@@ -81,7 +88,7 @@ class Reader:
             self.take("\\")
             parts.append(self.escape())
 
-    def escape(self):
+    def escape(self) -> str:
         mark = self.text[self.at : self.at + 1]
         self.at += 1
         if mark in ESCAPES:
@@ -99,14 +106,14 @@ class Reader:
             unit = 0x10000 + (unit - 0xD800) * 0x400 + low - 0xDC00
         return chr(unit)
 
-    def unit(self):
+    def unit(self) -> int:
         digits = self.text[self.at : self.at + 4]
         if not re.fullmatch(r"[0-9a-fA-F]{4}", digits):
             raise NoJson
         self.at += 4
         return int(digits, 16)
 
-    def array(self, depth):
+    def array(self, depth: int) -> list[Value]:
         self.take("[")
         found = []
         self.space()
@@ -118,16 +125,16 @@ class Reader:
         self.take("]")
         return found
 
-    def member(self, found, depth):
+    def member(self, found: dict[str, Value], depth: int) -> None:
         self.space()
         key = self.string()
         self.space()
         self.take(":")
         found[key] = self.value(depth)
 
-    def object(self, depth):
+    def object(self, depth: int) -> dict[str, Value]:
         self.take("{")
-        found = {}
+        found: dict[str, Value] = {}
         self.space()
         if not self.is_next("}"):
             self.member(found, depth)
@@ -138,7 +145,7 @@ class Reader:
         return found
 
 
-def read(body):
+def read(body: bytes) -> Value:
     """The value of the bytes; NoJson is raised where they are none."""
     try:
         reader = Reader(body.decode("utf-8"))

@@ -1,8 +1,11 @@
 """Whether a run under faults is right: what it answered is followed by the desk's rules, with the books that may stand after each answer."""
+from __future__ import annotations
 
 import dataclasses, hashlib
+from typing import Iterable
 
 from . import counter, desk, framing, store, talk
+from .program import Ran
 
 FAULTS_TOLD = {"store: StoreFailed", "store: NotWrittenBack", "input or output failed", "no memory"}
 
@@ -15,34 +18,34 @@ class Wrong(Exception):
 class Heard:
     """What the answers of a run leave open: the books that may stand, how many messages were answered, and how many of these weren't served."""
 
-    books: list
+    books: list[desk.Books]
     answered: int
     store_failed: int = 0
     no_memory: int = 0
     is_cut: bool = False
 
     @property
-    def unserved(self):
+    def unserved(self) -> int:
         return self.store_failed + self.no_memory
 
 
-def key_of(books):
+def key_of(books: desk.Books) -> str:
     """What tells books from others: a digest of their rows."""
     return hashlib.blake2b(repr(desk.rows_of(books)).encode(), digest_size=12).hexdigest()
 
 
-def distinct(many):
+def distinct(many: Iterable[desk.Books]) -> list[desk.Books]:
     return list({key_of(books): books for books in many}.values())
 
 
-def messages_of(stream):
+def messages_of(stream: bytes) -> list[framing.Message]:
     messages, fault = framing.split(stream)
     if fault:
         raise ValueError("the stream has a fault")
     return messages
 
 
-def delivered(books, message):
+def delivered(books: desk.Books, message: framing.Message) -> tuple[desk.Books, bytes]:
     """The books after a message, and its answer."""
     if not counter.is_act(message):
         return books, counter.answer(books, message)
@@ -50,7 +53,7 @@ def delivered(books, message):
     return after, counter.answer(after, message)
 
 
-def step(many, message, told, at):
+def step(many: list[desk.Books], message: framing.Message, told: bytes, at: int) -> tuple[list[desk.Books], int]:
     """The books that may stand after the next answer, and its length: right at some of the books, or 503."""
     found, length = [], 0
     for books in many:
@@ -61,7 +64,7 @@ def step(many, message, told, at):
     return distinct(found) if len(found) > 1 else found, length
 
 
-def unserved(many, message, told, at):
+def unserved(many: list[desk.Books], message: framing.Message, told: bytes, at: int) -> tuple[str | None, list[desk.Books], int]:
     """The same where the next answer is a 503: which, and the books. A request that met a failed store may stand."""
     if told.startswith(counter.NO_MEMORY, at):
         return "no_memory", many, len(counter.NO_MEMORY)
@@ -70,13 +73,13 @@ def unserved(many, message, told, at):
     return None, many, 0
 
 
-def is_front(many, message, rest):
+def is_front(many: list[desk.Books], message: framing.Message, rest: bytes) -> bool:
     """Whether what is left is a front of the next answer, and not all of it."""
     rights = [delivered(books, message)[1] for books in many] + [counter.NO_MEMORY, counter.STORE_FAILED]
     return any(right.startswith(rest) and len(rest) < len(right) for right in rights)
 
 
-def follow(many, messages, told):
+def follow(many: Iterable[desk.Books], messages: list[framing.Message], told: bytes) -> Heard:
     """Follow the answers to messages from the books that may stand. Answers may end early: then the next message may have been decided."""
     heard, at = Heard(list(many), 0), 0
     for message in messages:
@@ -98,11 +101,11 @@ def follow(many, messages, told):
     return heard
 
 
-def is_ample(heard, messages):
+def is_ample(heard: Heard, messages: list[framing.Message]) -> bool:
     return heard.answered == len(messages) and heard.unserved == 0
 
 
-def ended_rightly(ran, heard, messages):
+def ended_rightly(ran: Ran, heard: Heard, messages: list[framing.Message]) -> None:
     """Compare the status and the told fault with what the answers say."""
     fault = ran.faults.strip()
     if ran.status == 0:
@@ -117,7 +120,7 @@ def ended_rightly(ran, heard, messages):
         raise Wrong(f"{fault!r} after {heard}")
 
 
-def shows_books(many, found_rows, what):
+def shows_books(many: list[desk.Books], found_rows: store.Rows, what: str) -> list[desk.Books]:
     """The books whose rows the store has, of those that may stand."""
     right = [books for books in many if desk.rows_of(books) == found_rows]
     if not right:
@@ -125,7 +128,7 @@ def shows_books(many, found_rows, what):
     return right
 
 
-def exports_one(many, ran, what):
+def exports_one(many: list[desk.Books], ran: Ran, what: str) -> list[desk.Books]:
     """The books of which an export of customer 7 is what was told."""
     if ran.status != 0 or ran.faults:
         raise Wrong(f"{what}: export ended with {ran.status} {ran.faults!r}")
@@ -135,7 +138,7 @@ def exports_one(many, ran, what):
     return right
 
 
-def start(transcripts):
+def start(transcripts: Iterable[str]) -> desk.Books:
     """The books after transcripts of messages."""
     books = desk.Books()
     for transcript in transcripts:

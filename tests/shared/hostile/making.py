@@ -1,8 +1,9 @@
 """Random days at the counter, and random harm to their bytes. What it makes knows nothing of what is right: that tell framing.py, decoding.py and desk.py."""
+from __future__ import annotations
 
-import json
+import json, random
 
-from . import spelling
+from . import desk as desks, spelling
 
 NUMBERS = [*range(1, 9), 2**63 - 1]
 DESKS = (None, None, 0, 1, 2, 999)
@@ -11,35 +12,35 @@ MONTHS = ("2005-05", "2010-05", "2010-11", "2011-05", "2011-11", "2012-05", "209
 ISSUED = ("2005-05", "2005-10", "2010-05", "2010-10", "2010-11", "2011-02", "2011-06", "2012-01", "2099-12")
 RATES = ("0", "0.00", "1.40", "2.00", "2", "3.5%", "3.50", "20.00")
 DAYS = ("2011-12-31", "2012-02-06", "2012-02-07", "2012-06-01", "2015-10-31", "2025-06-02", "2030-11-04")
-LAST_DAY = spelling.day("2199-01-01")
-WRONG = (None, True, 0, -1, 1.0, 10**30, "", "x", [], {}, "2010-13", "20.01", "A0EE", "2012-02-30", 51, 2**63, "-0", "9" * 400)
+LAST_DAY = spelling.day("2199-01-01") or 0
+WRONG: tuple[object, ...] = (None, True, 0, -1, 1.0, 10**30, "", "x", [], {}, "2010-13", "20.01", "A0EE", "2012-02-30", 51, 2**63, "-0", "9" * 400)
 
 
-def serials(dice):
+def serials(dice: random.Random) -> str:
     return f"{dice.choice('AKLZ')}{dice.choice((1, 2, 3, 4, 9_999_999_999, dice.randrange(5, 200)))}EE"
 
 
-def respelled_serial(dice, text):
+def respelled_serial(dice: random.Random, text: str) -> str:
     letter, digits = text[0], text[1:-2]
     return f"{letter}{dice.choice(('', '-'))}{digits.rjust(dice.choice((0, 4, 10)), '0')}{dice.choice(('', '-'))}EE"
 
 
-def respelled_month(dice, text):
+def respelled_month(dice: random.Random, text: str) -> str:
     return dice.choice((text, f"{text[5:]}/{text[:4]}"))
 
 
-def rate_rows(dice):
+def rate_rows(dice: random.Random) -> list[dict[str, object]]:
     rows = []
     for _ in range(dice.choice((0, 1, 1, 2, 2, 3, 4))):
         begins = dice.choice(MONTHS) if dice.random() < 0.9 else dice.choice(ISSUED)
-        row = {"from": respelled_month(dice, begins), "rate": dice.choice(RATES)}
+        row: dict[str, object] = {"from": respelled_month(dice, begins), "rate": dice.choice(RATES)}
         if dice.random() < 0.4:
             row["extension"] = dice.choice((*RATES, None))
         rows.append(row)
     return rows
 
 
-def bond_rows(dice):
+def bond_rows(dice: random.Random) -> list[dict[str, object]]:
     rows = []
     for _ in range(dice.choice((0, 1, 2, 3, 5, 8))):
         row = {"serial": respelled_serial(dice, serials(dice)), "denom": dice.choice(spelling.DENOMINATIONS), "issued": respelled_month(dice, dice.choice(ISSUED)), "owner": dice.choice(OWNERS)}
@@ -49,7 +50,7 @@ def bond_rows(dice):
     return rows
 
 
-def day_for(dice, books):
+def day_for(dice: random.Random, books: desks.Books) -> str:
     """Mostly the open day, or one that may be opened."""
     way = dice.random()
     if books.day is not None and way < 0.95:
@@ -59,7 +60,7 @@ def day_for(dice, books):
     return spelling.day_text(books.last_day + dice.choice((-1, 0, 1, 1, 1, 2, 30, 200)))
 
 
-def posted(dice, books):
+def posted(dice: random.Random, books: desks.Books) -> tuple[str, dict[str, object]]:
     """A path and a body, which is often one that the books take."""
     kind = dice.choice(("rates", "bonds", "bonds", "bonds", "day/open") + ("redeem",) * 7 + (("day/close",) if dice.random() < 0.5 else ()))
     if books.day is None and dice.random() < 0.4:
@@ -83,7 +84,7 @@ def posted(dice, books):
     return "/" + kind, body
 
 
-def asked(dice):
+def asked(dice: random.Random) -> str:
     month, issued = dice.choice(("2012-02", "06/2015", "2030-11", "2005-05", "2199-12", "2200-01", "x")), dice.choice((*ISSUED, "2010"))
     return dice.choice((
         f"/inventory/{dice.choice((*OWNERS, 0, '007', 'x'))}/{month}",
@@ -94,7 +95,7 @@ def asked(dice):
     ))
 
 
-def harmed(dice, value):
+def harmed(dice: random.Random, value: object) -> object:
     """The value with a field of it, or of a row, changed, taken out or added."""
     if isinstance(value, dict) and value:
         key = dice.choice(list(value))
@@ -108,9 +109,12 @@ def harmed(dice, value):
     return dice.choice(WRONG)
 
 
-def spaced(dice, value):
+def spaced(dice: random.Random, value: object) -> str:
     """A JSON text of the value, with spaces, escapes and repeated keys here and there."""
-    space = lambda: dice.choice(("", "", "", " ", "\n", "\t \r"))
+
+    def space() -> str:
+        return dice.choice(("", "", "", " ", "\n", "\t \r"))
+
     if isinstance(value, dict):
         names = list(value)
         dice.shuffle(names)
@@ -123,20 +127,20 @@ def spaced(dice, value):
     return escaped(dice, value) if isinstance(value, str) else json.dumps(value)
 
 
-def escaped(dice, text):
+def escaped(dice: random.Random, text: str) -> str:
     if dice.random() < 0.9:
         return json.dumps(text)
     return '"' + "".join(f"\\u{ord(mark):04X}" if dice.random() < 0.3 else json.dumps(mark)[1:-1] for mark in text) + '"'
 
 
-def body_of(dice, value):
+def body_of(dice: random.Random, value: object) -> bytes:
     text = spaced(dice, value) if dice.random() < 0.3 else json.dumps(value, separators=(",", ":"))
     if dice.random() < 0.06:
         text = dice.choice(("", "[", text + "x", text[:-1], "[" * 127 + "]" * 127, "[" * 128 + "]" * 128, '{"a":1e999}', '{"number":1e0}', '"\\ud800"', "\ufeff" + text, "nul", "01", "-", text + text))
     return text.encode("utf-8", "surrogatepass")
 
 
-def head_lines(dice, body):
+def head_lines(dice: random.Random, body: bytes) -> list[bytes]:
     """The fields of a head, mostly with the length of the body."""
     fields = [b"Content-Length: %d" % len(body)] if body or dice.random() < 0.5 else []
     way = dice.random()
@@ -158,7 +162,7 @@ def head_lines(dice, body):
     return fields
 
 
-def message(dice, method, path, body):
+def message(dice: random.Random, method: bytes, path: str, body: bytes) -> bytes:
     end = dice.choice((b"\r\n",) * 12 + (b"\n",))
     version = dice.choice((b"HTTP/1.1",) * 150 + (b"HTTP/1.0", b"HTTP/2.0", b"http/1.1", b"HTTP/1.1 "))
     space = b"  " if dice.random() < 0.003 else b" "
@@ -168,11 +172,12 @@ def message(dice, method, path, body):
     return front + b"".join(line + end for line in lines) + body
 
 
-def one_message(dice, books):
+def one_message(dice: random.Random, books: desks.Books) -> bytes:
     """A message that is often right, and the same again at times."""
     if dice.random() < 0.3:
         method = b"GET" if dice.random() < 0.97 else dice.choice((b"POST", b"HEAD", b"get", b"G T"))
         return message(dice, method, asked(dice), b"" if dice.random() < 0.9 else b"[")
+    value: object
     path, value = posted(dice, books)
     if dice.random() < 0.12:
         value = harmed(dice, value)
@@ -182,7 +187,7 @@ def one_message(dice, books):
     return message(dice, method, path, body_of(dice, value))
 
 
-def damaged(dice, stream):
+def damaged(dice: random.Random, stream: bytes) -> bytes:
     """The stream with some bytes changed, taken out, put in or doubled, or cut."""
     bytes_ = bytearray(stream)
     for _ in range(dice.choice((1, 1, 2, 3))):

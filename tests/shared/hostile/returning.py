@@ -1,25 +1,28 @@
 """What is asked of a store after a run that met faults: the next command shows books that the run allows, and the same requests again have their one reply."""
+from __future__ import annotations
 
 import os
 
-from . import judging, store
+from . import desk, judging, store
 from .judging import Wrong
+from .program import Program, Ran
+from .scenes import Scene
 
 
-def put(scene, path):
+def put(scene: Scene, path: str) -> None:
     """Lay the store of a scene at a path."""
     store.remove(path)
     if scene.base:
         store.copy(scene.base, path)
 
 
-def shows_ample(scene, ran, path):
+def shows_ample(scene: Scene, ran: Ran, path: str) -> None:
     """A run that met nothing has all its answers, and leaves the rows of the day."""
     many = scene.command.ample(ran, [scene.books])
     judging.shows_books(many, store.rows(path), "after a run that met nothing")
 
 
-def come_back(program, scene, path, many, is_at_rest, forgets=False):
+def come_back(program: Program, scene: Scene, path: str, many: list[desk.Books], is_at_rest: bool, forgets: bool = False) -> None:
     """What the store has, and then the same requests again. One that isn't at rest is brought to it by another command; `forgets` loses the log before that."""
     if forgets and os.path.exists(store.log_of(path)):
         os.remove(store.log_of(path))

@@ -1,8 +1,10 @@
 """What the scripts run over: stores in the states that a file can be in, and the commands that meet them."""
+from __future__ import annotations
 
 import dataclasses, os
 
 from . import commands, desk, judging, store, talk
+from .program import Program
 
 RATES_FILE = b"from,rate\n2010-05,2.00\n2010-11,3.50%\n"
 BONDS_FILE = b"serial,denom,issued,owner,coowner\nL1EE,50,2010-11,7,\nK-0002-EE,75,10/2010,7,8\nM3EE,10000,2011-02,7,\n"
@@ -13,12 +15,12 @@ class Scene:
     """A store that is copied for each run (None: no file), the books that it holds, and a command."""
 
     name: str
-    base: str
+    base: str | None
     books: desk.Books
-    command: object
+    command: commands.Connection | commands.Import | commands.Shown
 
 
-def made(program, name, stream, fault=None):
+def made(program: Program, name: str, stream: bytes, fault: str | None = None) -> str:
     """A store after a stream, at rest, or with its log not written back."""
     path = program.place(name)
     ran = program.apply(path, stream, fault=fault)
@@ -28,7 +30,7 @@ def made(program, name, stream, fault=None):
     return path
 
 
-def first_version(program, name, with_extensions):
+def first_version(program: Program, name: str, with_extensions: bool) -> tuple[str, desk.Books]:
     """A store of version 1, and its books."""
     path = program.place(name)
     store.make_version_one(path, with_extensions)
@@ -36,7 +38,7 @@ def first_version(program, name, with_extensions):
     return path, books
 
 
-def written(program, name, file):
+def written(program: Program, name: str, file: bytes) -> str:
     """A file of that name and content, beside the stores."""
     path = os.path.join(program.folder, name)
     with open(path, "wb") as to:
@@ -44,7 +46,7 @@ def written(program, name, file):
     return path
 
 
-def connections(program):
+def connections(program: Program) -> list[Scene]:
     """A connection over a new store, a store at rest, one with its log not written back, one of each kind of version 1, and one that is served."""
     days, earlier = talk.texts("BEGUN"), talk.texts("NAMED")
     day = talk.stream(days["DAY"])
@@ -61,7 +63,7 @@ def connections(program):
     return scenes
 
 
-def files(program):
+def files(program: Program) -> list[Scene]:
     """Imports into a new store and into one with rates, an export and a sheet."""
     days = talk.texts("BEGUN")
     rates, bonds = written(program, "rates.csv", RATES_FILE), written(program, "bonds.csv", BONDS_FILE)

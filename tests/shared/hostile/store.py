@@ -1,8 +1,13 @@
 """Stores on disk: their rows, read by SQLite; and stores of version 1, made by the statements of that version."""
+from __future__ import annotations
 
 import os, shutil, sqlite3
+from typing import Any, Mapping
 
 from . import talk
+
+#: The rows of each table; of an unreadable store what SQLite says.
+Rows = dict[str, Any]
 
 ORDERS = {
     "desk": "SELECT id, version, day, last_day FROM desk ORDER BY id",
@@ -17,11 +22,11 @@ ORDERS = {
 }
 
 
-def log_of(store):
+def log_of(store: str) -> str:
     return store + "-wal"
 
 
-def copy(store, to):
+def copy(store: str, to: str) -> None:
     """Copy both files of a store, as far as they are there."""
     for end in ("", "-wal"):
         if os.path.exists(store + end):
@@ -30,13 +35,13 @@ def copy(store, to):
             os.remove(to + end)
 
 
-def remove(store):
+def remove(store: str) -> None:
     for end in ("", "-wal", "-shm", ".counts", ".record"):
         if os.path.exists(store + end):
             os.remove(store + end)
 
 
-def rows(store, with_log=False):
+def rows(store: str, with_log: bool = False) -> Rows:
     """The rows of each table that is there, in order of key, read from a copy: of the one file, or of both."""
     looked_at = store + ".looked"
     remove(looked_at)
@@ -56,7 +61,7 @@ def rows(store, with_log=False):
         remove(looked_at)
 
 
-def is_whole(store):
+def is_whole(store: str) -> bool:
     """Whether SQLite finds the one file whole."""
     base = sqlite3.connect(f"file:{store}?mode=ro&immutable=1", uri=True)
     try:
@@ -67,7 +72,7 @@ def is_whole(store):
         base.close()
 
 
-def difference(found, wanted):
+def difference(found: Mapping[str, object], wanted: Mapping[str, object]) -> str | None:
     """The first table in which rows differ, and how; or None."""
     for table in sorted(set(found) | set(wanted)):
         if found.get(table) != wanted.get(table):
@@ -75,7 +80,7 @@ def difference(found, wanted):
     return None
 
 
-def make_version_one(store, with_extensions):
+def make_version_one(store: str, with_extensions: bool) -> None:
     """The store of five requests (and of a sixth, which enters an extension), as a program from before desks made it."""
     earlier = talk.texts("NAMED")
     remove(store)
@@ -88,7 +93,7 @@ def make_version_one(store, with_extensions):
         os.remove(log_of(store))
 
 
-def migrated(first):
+def migrated(first: Rows) -> Rows:
     """The rows of version 2 that rows of version 1 become."""
     others = {table: found for table, found in first.items() if table not in ("replies", "desk")}
     return {

@@ -1,7 +1,9 @@
 """Days at the counter that stand as transcripts in crates/store_tests, and those of earlier stores, with the answers that were
 worked by hand. Their little language is told in its talk.rt."""
+from __future__ import annotations
 
 import os, re
+from typing import Any, Iterator
 
 from counter_calls import TOP
 
@@ -9,7 +11,7 @@ SOURCES = os.path.join(TOP, "crates", "store_tests", "src")
 REASONS = {200: "OK", 400: "Bad Request", 404: "Not Found", 405: "Method Not Allowed", 409: "Conflict", 413: "Content Too Large", 503: "Service Unavailable"}
 
 
-def source_of(name):
+def source_of(name: str) -> str:
     """The text of the one source file that has a constant of this name."""
     texts = []
     for path in sorted(os.listdir(SOURCES)):
@@ -19,7 +21,7 @@ def source_of(name):
     return text
 
 
-def texts(constant):
+def texts(constant: str) -> dict[str, Any]:
     """The constant texts of the source file that has this one, by name: a text, or a list of texts."""
     text = source_of(constant)
     found = {}
@@ -35,12 +37,12 @@ def texts(constant):
     return found
 
 
-def items(count, item, between):
+def items(count: int, item: str, between: str) -> str:
     """So many items, in which the first `#` is the place, from 1 on."""
     return between.join(item.replace("#", str(place), 1) for place in range(1, count + 1))
 
 
-def written_out(line):
+def written_out(line: str) -> str:
     """The line with its list or its items written out."""
     listed = re.search(r"\[\*(\d+) (.*?)\*\]", line)
     if listed:
@@ -51,29 +53,30 @@ def written_out(line):
     return line
 
 
-def message(line):
+def message(line: str) -> bytes:
     """The HTTP text of a message `METHOD PATH BODY`."""
     method, path, *body = line.split(" ", 2)
     text = body[0].encode() if body else b""
     return f"{method} {path} HTTP/1.1\r\nContent-Length: {len(text)}\r\n\r\n".encode() + text
 
 
-def answer(status, body, closes=False, kind="application/json"):
+def answer(status: int, body: bytes, closes: bool = False, kind: str = "application/json") -> bytes:
     """The bytes of an answer."""
     end = "Connection: close\r\n" if closes else ""
     return f"HTTP/1.1 {status} {REASONS[status]}\r\nContent-Type: {kind}\r\nContent-Length: {len(body)}\r\n{end}\r\n".encode() + body
 
 
-def answer_told(text):
+def answer_told(text: str) -> bytes:
     """The bytes of an answer that stands as `STATUS BODY` in a transcript."""
     status, body = text.split(" ", 1)
     kind = "text/plain" if body.startswith("Serial ") else "application/json"
     return answer(int(status), body.encode(), kind=kind)
 
 
-def blocks(transcript):
+def blocks(transcript: str) -> Iterator[tuple[str, list[str]]]:
     """Each line that does something, with what is told below it."""
-    does, told = None, []
+    does: str | None = None
+    told: list[str] = []
     for line in map(written_out, transcript.split("\n")):
         if re.match(r"[>~+%-] ", line):
             if does is not None:
@@ -85,7 +88,7 @@ def blocks(transcript):
         yield does, told
 
 
-def exchanges(transcript):
+def exchanges(transcript: str) -> list[tuple[bytes, bytes]]:
     """Of a transcript of messages alone, each message and its answer, as bytes."""
     found = []
     for does, told in blocks(transcript):
@@ -98,11 +101,11 @@ def exchanges(transcript):
     return found
 
 
-def stream(transcript):
+def stream(transcript: str) -> bytes:
     return b"".join(sent for sent, _ in exchanges(transcript))
 
 
-def imports(transcript):
+def imports(transcript: str) -> list[tuple[str, int, int, bytes, str]]:
     """Of a transcript of imports, the kind, desk, number and bytes of each file, and what is told."""
     found = []
     for does, told in blocks(transcript):
