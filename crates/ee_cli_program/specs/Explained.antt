@@ -47,6 +47,7 @@ opening_text (opening.System Unsupported) = codes "it is not one regular file wi
 opening_text (opening.System k) = because (cause_of_kind k) (codes "the system refused it") ++ codes "; look at the path, and at who may use the file and its folder"
 opening_text opening.NoRandom = codes "the system gave no random number; run the line again"
 opening_text opening.NoDatabase = codes "it is no SQLite database; correct the path"
+opening_text opening.Orphaned = codes "it is missing or empty, and its log has changes; put the file back next to its log"
 opening_text opening.Damaged = codes "it or its log is damaged, or a page's checksum is wrong; restore a copy"
 opening_text opening.Full = codes "no space left on the disk; make room, and run the line again"
 opening_text opening.Failed = codes "a read or a write of it failed; look at the disk, and run the line again"

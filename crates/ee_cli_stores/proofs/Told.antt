@@ -17,6 +17,7 @@ same_fault opening.Journal = refl
 same_fault (opening.System kind) = refl
 same_fault opening.NoRandom = refl
 same_fault opening.NoDatabase = refl
+same_fault opening.Orphaned = refl
 same_fault opening.Damaged = refl
 same_fault opening.Full = refl
 same_fault opening.Failed = refl

@@ -1,3 +1,4 @@
 mod Frames
 mod Left
+mod Orphaned
 mod Stops

@@ -225,7 +225,7 @@ spares_summed size image pages summed it k replays (i, low, lacks) =
     let used : n - 8 ≡ size = rw eight (omega arith) in
     lacks.lacks (subst (λ (m : ℕ). page_at n log i ≡ sealed (take m (page_at n log i))) (sym used) (it.sealed number (page_at n log i) shown))
 
-named_size : (n m k : ℕ) (log : List ℕ) → IsLogFor n log → Replays m log k → n ≡ m
+pub named_size : (n m k : ℕ) (log : List ℕ) → IsLogFor n log → Replays m log k → n ≡ m
 named_size n m k log named (inl ignored) = absurd (named.0 ignored.0)
 named_size n m k log named (inr taken) = sym named.1 ∙ sym (be32-part log 0 32 8 (omega arith)) ∙ taken.0.head.size
 

@@ -16,6 +16,7 @@ cause_of_kind k = cause.System k
 abbrev pub cause_of_error : Error → OpenCause
 cause_of_error (SqliteFailure code.OutOfMemory) = cause.NoMemory
 cause_of_error (SqliteFailure code.NotADatabase) = cause.NoDatabase
+cause_of_error (SqliteFailure code.CannotOpen) = cause.Orphaned
 cause_of_error (SqliteFailure code.DatabaseCorrupt) = cause.Damaged
 cause_of_error (SqliteFailure code.DiskFull) = cause.Full
 cause_of_error e = cause.Failed
@@ -29,6 +30,7 @@ error_of cause.Journal = SqliteFailure code.CannotOpen
 error_of (cause.System k) = SqliteFailure code.CannotOpen
 error_of cause.NoRandom = SqliteFailure code.CannotOpen
 error_of cause.NoDatabase = SqliteFailure code.NotADatabase
+error_of cause.Orphaned = SqliteFailure code.CannotOpen
 error_of cause.Damaged = SqliteFailure code.DatabaseCorrupt
 error_of cause.Full = SqliteFailure code.DiskFull
 error_of cause.Failed = SqliteFailure code.SystemIoFailure

@@ -11,6 +11,7 @@ use Rattle.sqlite.specs.Files.{image_of, HoldsDatabase, AreFoundIn, IsEmpty, Lea
 use Rattle.sqlite_store.specs.Unopened.{state_of}
 use Rattle.sqlite_store.specs.FileStore.{recovers}
 use Rattle.ee_store_files.specs.Damage.{IsDamaged}
+use Rattle.ee_store_files.specs.Orphans.{IsOrphan}
 use Rattle.sqlite.specs.declared.file.Leftover.{Leftover}
 use Rattle.sqlite.specs.declared.file.Leftover.TheVariants as left
 
@@ -30,12 +31,15 @@ IsStray image = (length image.db ≡ 1) × (¬ IsMarked image.log)
 abbrev pub IsUncreated : Image → Type 0
 IsUncreated = IsBlankFile page_size
 
--- An open found the database that the files hold, whose log isn't damaged; or empty trees, if none was created yet.
+-- An open found the database that the files hold, whose log isn't damaged; or empty trees, if none was created yet. The log isn't
+-- one whose file is gone.
 pub record Finds (image : Image) (s : State) : Type 0 where
   pub holds : (db : Trees) → HoldsDatabase image db → s.committed.trees ≡ db
   pub reads : AreFoundIn image s.committed.trees ⊎ (IsUncreated image × IsEmpty s.committed.trees)
   pub taken : ¬ IsStray image
   pub intact : IsUncreated image ⊎ (¬ IsDamaged image)
+  pub with_its_file : ¬ IsOrphan image
+  pub blank : IsUncreated image → IsEmpty s.committed.trees
 
 -- what a crash leaves as a database is created: none yet, or an empty one
 abbrev pub IsOnTheWay : Image → Type 0

@@ -25,6 +25,8 @@ pub enum OpenCause {
     NoRandom,
     /// The file is no database.
     NoDatabase,
+    /// The file is missing or empty, and its log has changes that recovery takes.
+    Orphaned,
     /// The database or its log is damaged.
     Damaged,
     /// The disk is full.
@@ -51,6 +53,7 @@ impl OpenCause {
         match error {
             Error::SqliteFailure(ErrorCode::OutOfMemory) => OpenCause::NoMemory,
             Error::SqliteFailure(ErrorCode::NotADatabase) => OpenCause::NoDatabase,
+            Error::SqliteFailure(ErrorCode::CannotOpen) => OpenCause::Orphaned,
             Error::SqliteFailure(ErrorCode::DatabaseCorrupt) => OpenCause::Damaged,
             Error::SqliteFailure(ErrorCode::DiskFull) => OpenCause::Full,
             _ => OpenCause::Failed,
@@ -63,8 +66,11 @@ impl OpenCause {
     {
         match self {
             OpenCause::NoMemory => NO_MEMORY,
-            OpenCause::NoFile | OpenCause::Journal | OpenCause::System(_) | OpenCause::NoRandom =>
-                CANNOT_OPEN,
+            OpenCause::NoFile
+            | OpenCause::Journal
+            | OpenCause::System(_)
+            | OpenCause::NoRandom
+            | OpenCause::Orphaned => CANNOT_OPEN,
             OpenCause::InUse => Error::SqliteFailure(ErrorCode::DatabaseBusy),
             OpenCause::NoDatabase => NO_DATABASE,
             OpenCause::Damaged => DAMAGED,

@@ -1,15 +1,17 @@
 //! Creating a database in two files, and finding out whether that is still to be done.
 
-ghost use Rattle.std.specs.Prelude.{◌≡◌, ◌↔◌, [], true, IsTrue, IfOk, IfErr};
+ghost use Rattle.std.specs.Prelude.{◌≡◌, ◌↔◌, [], true, IsTrue, IfOk, IfErr, OnOk};
 ghost use Rattle.sqlite_wal.specs.Reads.{IsClean, AreClean, OnlyReads};
 ghost use Rattle.sqlite.specs.Opening.{is_open_error};
 ghost use Rattle.sqlite.specs.State.{HasCleanDisk};
 ghost use Rattle.sqlite.specs.Held.{IsNew};
 ghost use Rattle.sqlite.specs.Files.{file_state, image_of, IsOpened, IsEmpty, IsCleanLeft};
 ghost use Rattle.sqlite_store.specs.FileStore.{view, state, IsReady};
+ghost use Rattle.ee_store_files.specs.Orphans.{IsOrphan};
 ghost use Rattle.ee_store_files.specs.Files.{page_size, IsMarked, IsStray, IsUncreated, Leaves};
 
-use crate::errors::{IO, NO_DATABASE, NO_MEMORY, create_error, probe_error};
+use crate::errors::{CANNOT_OPEN, IO, NO_DATABASE, NO_MEMORY, create_error, probe_error};
+use crate::orphans::is_orphan;
 use sqlite::{Connection, Error, FileStore, Files, Leftover, Options};
 use sqlite_disk::Disk;
 use sqlite_pager::{PageSize, Pager};
@@ -56,18 +58,14 @@ fn is_stray<D: Disk>(files: &mut Files<D>) -> io::Result<bool>
     Ok(!is_marked)
 }
 
-/// Whether a database is still to be created: the file is empty, or a crash left it half created. Writes
-/// nothing.
-///
-/// # Errors
-///
-/// A file that is a single stray byte is refused, since it is no database.
-pub fn is_uncreated<D: Disk>(alloc: Global, files: &mut Files<D>) -> Result<bool, Error>
+/// Refuses a file that is a single stray byte, since it is no database, and an empty file whose log has commits.
+/// Writes nothing.
+fn refuse_strays<D: Disk>(alloc: Global, files: &mut Files<D>) -> Result<(), Error>
     requires log { IsTrue (D.Disk.is_usable files.old.log) }
     requires db { IsTrue (D.Disk.is_usable files.old.db) }
     ensures named { IfErr result (λ e. IsTrue (is_open_error e)) }
-    ensures ok { IfOk result (λ b. AreClean D.Disk files.new.log files.new.db → (IsTrue b ↔ IsUncreated (image_of D.Disk files.old))) }
-    ensures taken { IfOk result (λ _. AreClean D.Disk files.new.log files.new.db → ¬ IsStray (image_of D.Disk files.old)) }
+    ensures taken { OnOk result (AreClean D.Disk files.new.log files.new.db → ¬ IsStray (image_of D.Disk files.old)) }
+    ensures with_its_file { OnOk result (AreClean D.Disk files.new.log files.new.db → ¬ IsOrphan (image_of D.Disk files.old)) }
     ensures log { OnlyReads D.Disk files.old.log files.new.log }
     ensures db { OnlyReads D.Disk files.old.db files.new.db }
 {
@@ -76,6 +74,30 @@ pub fn is_uncreated<D: Disk>(alloc: Global, files: &mut Files<D>) -> Result<bool
         Ok(true) => return Err(NO_DATABASE),
         Err(_) => return Err(IO),
     }
+    match is_orphan(alloc, files) {
+        Ok(false) => Ok(()),
+        Ok(true) => Err(CANNOT_OPEN),
+        Err(error) => Err(error),
+    }
+}
+
+/// Whether a database is still to be created: the file is empty, or a crash left it half created. Writes
+/// nothing.
+///
+/// # Errors
+///
+/// A file that is a single stray byte, or an empty one whose log has commits, is refused.
+pub fn is_uncreated<D: Disk>(alloc: Global, files: &mut Files<D>) -> Result<bool, Error>
+    requires log { IsTrue (D.Disk.is_usable files.old.log) }
+    requires db { IsTrue (D.Disk.is_usable files.old.db) }
+    ensures named { IfErr result (λ e. IsTrue (is_open_error e)) }
+    ensures ok { IfOk result (λ b. AreClean D.Disk files.new.log files.new.db → (IsTrue b ↔ IsUncreated (image_of D.Disk files.old))) }
+    ensures taken { OnOk result (AreClean D.Disk files.new.log files.new.db → ¬ IsStray (image_of D.Disk files.old)) }
+    ensures with_its_file { OnOk result (AreClean D.Disk files.new.log files.new.db → ¬ IsOrphan (image_of D.Disk files.old)) }
+    ensures log { OnlyReads D.Disk files.old.log files.new.log }
+    ensures db { OnlyReads D.Disk files.old.db files.new.db }
+{
+    refuse_strays(alloc, files)?;
     let size = PageSize::new(NEW_PAGE).unwrap();
     match probe_blank(alloc, files, size, HAS_SUMS) {
         Ok(is_blank) => Ok(is_blank),

@@ -38,7 +38,7 @@ const GATE: usize = 8;
 const WITH_SUMS: u32 = 0x0840_2020;
 
 /// The four bytes at `at` as a number, the highest first.
-fn be32_at(bytes: &[u8], at: usize) -> u32
+pub fn be32_at(bytes: &[u8], at: usize) -> u32
     requires { at + 4 ≤ length bytes.now }
     ensures { result ≡ be32 bytes.now at }
 {
@@ -49,7 +49,7 @@ fn be32_at(bytes: &[u8], at: usize) -> u32
 }
 
 /// Whether the header passes its checksum.
-fn is_signed(head: &[u8; 32]) -> bool
+pub fn is_signed(head: &[u8; 32]) -> bool
     ensures { IsTrue result ↔ IsSigned head.now }
 {
     if head[0] != 0x37 || head[1] != 0x7f || head[2] != 0x06 {
@@ -62,7 +62,7 @@ fn is_signed(head: &[u8; 32]) -> bool
 }
 
 /// Reads the log's header, if the file begins as a log.
-fn read_header<D: Disk>(log: &mut D) -> io::Result<Option<[u8; 32]>>
+pub fn read_header<D: Disk>(log: &mut D) -> io::Result<Option<[u8; 32]>>
     requires { IsTrue (D.Disk.is_usable log.old) }
     ensures ok { IfOk result (λ r. IsClean D.Disk log.new → MatchOption r (¬ BeginsAsLog (D.Disk.seen log.old))
         (λ head. BeginsAsLog (D.Disk.seen log.old) × (head ≡ header (D.Disk.seen log.old)))) }

@@ -1,6 +1,7 @@
 //! Laws of what is refused.
 
 ghost use Rattle.ee_store_files.specs.Stops.{SparesStopped, SparesSummed, SparesStore, SparesOpen, SparesSynced, SparesOneSync};
+ghost use Rattle.ee_store_files.specs.Orphans.{SparesHeld, SparesPresent};
 
 use sqlite_disk::Disk;
 
@@ -19,4 +20,13 @@ pub const fn spares_stopped_law<D: Disk>()
     ensures between { SparesOpen D.Disk }
     ensures synced { SparesSynced D.Disk }
     ensures at_once { SparesOneSync D.Disk }
+{}
+
+/// Nothing that a stop leaves is refused for the lack of its file.
+///
+/// - `held`: nothing that holds a database.
+/// - `present`: nothing that a crash leaves of an open store.
+pub const fn spares_files_law<D: Disk>()
+    ensures held { SparesHeld }
+    ensures present { SparesPresent D.Disk }
 {}

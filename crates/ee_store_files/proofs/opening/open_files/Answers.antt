@@ -21,6 +21,8 @@ returns-in-Ok-true-clause-found g c = IfOk-weaker c.create.result _ _ (λ conn m
       reads = inr (uncreated, empty);
       taken = c.in-Ok-true.ensures.taken clean;
       intact = inl uncreated;
+      with_its_file = c.in-Ok-true.ensures.with_its_file clean;
+      blank = λ _. empty;
     }) c.create.ensures.made
 
 pub returns-in-Ok-true-clause-unharmed : goal.returns-in-Ok-true-clause-unharmed
@@ -37,6 +39,8 @@ returns-in-Ok-false-clause-found g c = IfOk-weaker c.open_intact.result _ _ (λ 
       reads = inl (subst (λ i. AreFoundIn i (file_state conn).committed.trees) same found.reads);
       taken = c.in-Ok-false.ensures.taken found.honest;
       intact = inr (λ damaged. whole (subst IsDamaged (sym same) damaged));
+      with_its_file = c.in-Ok-false.ensures.with_its_file found.honest;
+      blank = λ uncreated. let is = (c.in-Ok-false.ensures.ok found.honest).1 uncreated in let not = c.in-Ok-false.field-0-test in absurd (cc);
     }) c.open_intact.ensures.found
 
 pub returns-in-Ok-true-clause-sums : goal.returns-in-Ok-true-clause-sums
