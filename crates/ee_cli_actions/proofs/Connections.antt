@@ -1,14 +1,15 @@
 -- One connection more.
-use Rattle.std.proofs.Common.{◌≡◌, ◌⊎◌, ◌||◌, Bool, true, false, ℕ, ◌+◌, ◌≤◌, List, [], ◌∷◌, ◌++◌, length, Option, Some, None, Result, Err, refl, sym, ap, subst, ◌∙◌, arith, append_assoc, append-nil, length-append, inl, inr}
+use Rattle.std.proofs.Common.{◌≡◌, ◌⊎◌, ◌||◌, Bool, true, false, ℕ, ◌+◌, ◌≤◌, List, [], ◌∷◌, ◌++◌, length, Option, Some, None, Result, Ok, Err, is_ok, refl, sym, ap, subst, ◌∙◌, arith, append_assoc, append-nil, length-append, inl, inr}
 use Rattle.std.specs.Io.KnownBytes.{Appends}
-use Rattle.std.proofs.KnownBytes.{Appends-trans}
+use Rattle.std.proofs.KnownBytes.{Appends-nil, Appends-trans}
+use Rattle.ee_io.specs.Written.{WritesFront}
 use Rattle.std.proofs.Math.Bool.{or-false}
 use Rattle.ee_desk_model.specs.Repeats.{Content}
 use Rattle.ee_counter.specs.declared.connections.Ended.{Ended}
 use Rattle.ee_counter.specs.declared.connections.Why.{Why}
 use Rattle.ee_counter.specs.declared.connections.Why.TheVariants.{Closed, Asked, Limit, Fault, ReadFailed, WriteFailed, NoMemory}
 use Rattle.ee_counter.specs.Serving.{EndsBy, Told, left_by, left_by_all}
-use Rattle.ee_cli_actions.specs.Connections.{EndsWithFailure, PrintsLines, ServesEach, ServesSocket, WritesSome, any_failed}
+use Rattle.ee_cli_actions.specs.Connections.{BreaksOff, EndsWithFailure, PrintsLine, PrintsLines, ServesEach, ServesSocket, WritesNotAll, WritesSome, any_failed}
 use Rattle.ee_cli_value.specs.declared.endings.Outcome.{Outcome}
 use Rattle.ee_cli_actions.specs.declared.faults.RunFault.{RunFault}
 use Rattle.ee_cli_actions.specs.declared.faults.RunFault.TheVariants.{Device}
@@ -73,31 +74,52 @@ lines_more es e n is =
 pub count_more : (es : List Ended) (e : Ended) (n : ℕ) → length es ≡ n → length (es ++ e ∷ []) ≡ n + 1
 count_more es e n is = omega (arith, length-append es (e ∷ []), is)
 
+-- a line is printed, or its front
+pub printed_line : (old new : Option (List ℕ)) (text : List ℕ) (e : Ended) (n : ℕ) (r : Result (Unit {0}) RunFault)
+    → text ≡ connection_line n e → WritesFront old new text (is_ok r) → PrintsLine old new (connection_line n e) r
+printed_line old new text e n (Ok u) same w = subst (Appends old new) (w.whole refl ∙ same) w.written
+printed_line old new text e n (Err cause) same w = (record { front = w.front; rest = w.rest; parts = sym same ∙ w.parts; written = w.written }, w.cut refl)
+
+-- or nothing of it
+pub printed_none : (old : Option (List ℕ)) (e : Ended) (n : ℕ) (r : Result (Unit {0}) RunFault) (cause : RunFault)
+    → r ≡ Err cause → PrintsLine old old (connection_line n e) r
+printed_none old e n r cause is = subst (PrintsLine old old (connection_line n e)) (sym is) (
+  record { front = []; rest = connection_line n e; parts = refl; written = Appends-nil old },
+  λ none. absurd (cc),
+)
+
 -- one line more was printed
 pub printed_more : (old mid new : Option (List ℕ)) (es : List Ended) (e : Ended) (n : ℕ) → length es ≡ n
     → Appends old mid (connection_lines 0 es) → Appends mid new (connection_line (n + 1) e) → Appends old new (connection_lines 0 (es ++ e ∷ []))
 printed_more old mid new es e n is a b = subst (Appends old new) (sym (lines_more es e n is)) (Appends-trans old mid new _ _ a b)
 
+-- all of a text is a front of it
+some_of : (old new : Option (List ℕ)) (text : List ℕ) → Appends old new text → WritesSome old new text
+some_of old new text a = record { front = text; rest = []; parts = sym (append-nil text); written = a }
+
 -- and one that was cut
-pub printed_cut : (old mid new : Option (List ℕ)) (es : List Ended) (e : Ended) (n : ℕ) → length es ≡ n
-    → Appends old mid (connection_lines 0 es) → WritesSome mid new (connection_line (n + 1) e) → WritesSome old new (connection_lines 0 (es ++ e ∷ []))
-printed_cut old mid new es e n is a w = record {
-  front = connection_lines 0 es ++ w.front;
-  rest = w.rest;
-  parts = lines_more es e n is ∙ ap (λ x. connection_lines 0 es ++ x) w.parts ∙ sym (append_assoc (connection_lines 0 es) w.front w.rest);
-  written = Appends-trans old mid new _ _ a w.written;
-}
+pub broken_off : (old mid new : Option (List ℕ)) (es : List Ended) (e : Ended) (n : ℕ) → length es ≡ n
+    → Appends old mid (connection_lines 0 es) → WritesNotAll mid new (connection_line (n + 1) e) → BreaksOff old new (es ++ e ∷ [])
+broken_off old mid new es e n is a w = (
+  record {
+    front = connection_lines 0 es ++ w.0.front;
+    rest = w.0.rest;
+    parts = lines_more es e n is ∙ ap (λ x. connection_lines 0 es ++ x) w.0.parts ∙ sym (append_assoc (connection_lines 0 es) w.0.front w.0.rest);
+    written = Appends-trans old mid new _ _ a w.0.written;
+  },
+  λ failed. w.1,
+)
+
+-- no line more, if the store failed on no connection
+pub breaks_before : (old new : Option (List ℕ)) (es : List Ended) → any_failed es ≡ false → Appends old new (connection_lines 0 es) → BreaksOff old new es
+breaks_before old new es none a = (some_of old new (connection_lines 0 es) a, λ failed. let never : false ≡ true = sym none ∙ failed in absurd (cc))
 
 -- if a device or memory failed
 pub lines_failed : (most : ℕ) (old new : Option (List ℕ)) (es : List Ended) (r : Result Outcome RunFault) (cause told : RunFault)
     → r ≡ Err cause → cause ≡ told → (told ≡ Device) ⊎ (told ≡ fault.NoMemory)
-    → length es ≤ most → WritesSome old new (connection_lines 0 es) → PrintsLines most old new es r
+    → length es ≤ most → BreaksOff old new es → PrintsLines most old new es r
 lines_failed most old new es r cause told is same (inl device) few some = subst (PrintsLines most old new es) (sym (is ∙ ap Err (same ∙ device))) (few, some)
 lines_failed most old new es r cause told is same (inr memory) few some = subst (PrintsLines most old new es) (sym (is ∙ ap Err (same ∙ memory))) (few, some)
-
--- all of a text is a front of it
-pub some_of : (old new : Option (List ℕ)) (text : List ℕ) → Appends old new text → WritesSome old new text
-some_of old new text a = record { front = text; rest = []; parts = sym (append-nil text); written = a }
 
 -- ---- whether the store failed
 

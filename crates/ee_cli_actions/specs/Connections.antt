@@ -1,5 +1,5 @@
 -- Connections that are served in order.
-use Rattle.std.specs.Prelude.{◌≡◌, ℕ, ◌≤◌, Bool, true, false, List, [], ◌∷◌, ◌++◌, length, Option, None, Result, Ok, Err, ⊤}
+use Rattle.std.specs.Prelude.{◌≡◌, ◌≢◌, ℕ, ◌≤◌, Bool, true, false, List, [], ◌∷◌, ◌++◌, length, Option, None, Result, Ok, Err, ⊤}
 use Rattle.std.specs.List.{list_any}
 use Rattle.std.specs.Io.KnownBytes.{Appends}
 use Rattle.ee_desk_model.specs.Repeats.{Content}
@@ -34,10 +34,14 @@ pub record WritesSome (old new : Option (List ℕ)) (text : List ℕ) : Type 0 w
   pub parts : text ≡ front ++ rest
   pub written : Appends old new front
 
--- a line is printed, or only its front if a device or memory failed
+-- and not all of it
+abbrev pub WritesNotAll : Option (List ℕ) → Option (List ℕ) → List ℕ → Type 0
+WritesNotAll old new text = (some : WritesSome old new text) × (some.rest ≢ [])
+
+-- a line is printed, or not all of it if a device or memory failed
 abbrev pub PrintsLine : Option (List ℕ) → Option (List ℕ) → List ℕ → Result (Unit {0}) RunFault → Type 0
 PrintsLine old new line (Ok u) = Appends old new line
-PrintsLine old new line (Err cause) = WritesSome old new line
+PrintsLine old new line (Err cause) = WritesNotAll old new line
 
 -- on one of these connections an answer said that the store failed
 abbrev pub any_failed : List Ended → Bool
@@ -49,15 +53,20 @@ EndsWithFailure [] = ⊤
 EndsWithFailure (e ∷ []) = ⊤
 EndsWithFailure (e ∷ f ∷ es) = (e.store_failed ≡ false) × EndsWithFailure (f ∷ es)
 
--- a line is printed for each connection: for all of them, if the store failed on none; for fewer, if it failed on the last;
--- or for some, and possibly only the front of the last line, if a device or memory failed
+-- the lines of these connections were printed, or only a front of them; not all, if the store failed on one
+abbrev pub BreaksOff : Option (List ℕ) → Option (List ℕ) → List Ended → Type 0
+BreaksOff old new ended = (some : WritesSome old new (connection_lines 0 ended)) × (any_failed ended ≡ true → some.rest ≢ [])
+
+-- A line is printed for each connection: for all of them, if the store failed on none; for fewer, if it failed on the last;
+-- or for some, and possibly only the front of the last line, if a device or memory failed. That is told of a store that failed
+-- only if its line isn't whole.
 abbrev pub PrintsLines : ℕ → Option (List ℕ) → Option (List ℕ) → List Ended → Result Outcome RunFault → Type 0
 PrintsLines most old new ended (Ok outcome) =
     (outcome ≡ Done) × (length ended ≡ most) × (any_failed ended ≡ false) × Appends old new (connection_lines 0 ended)
 PrintsLines most old new ended (Err (Store cause)) =
     (cause ≡ StoreFailed) × (length ended ≤ most) × (any_failed ended ≡ true) × Appends old new (connection_lines 0 ended)
-PrintsLines most old new ended (Err Device) = (length ended ≤ most) × WritesSome old new (connection_lines 0 ended)
-PrintsLines most old new ended (Err NoMemory) = (length ended ≤ most) × WritesSome old new (connection_lines 0 ended)
+PrintsLines most old new ended (Err Device) = (length ended ≤ most) × BreaksOff old new ended
+PrintsLines most old new ended (Err NoMemory) = (length ended ≤ most) × BreaksOff old new ended
 PrintsLines most old new ended (Err (File cause)) = ⊥
 
 -- connections were served in order, and a line was printed for each that says how it ended

@@ -23,7 +23,8 @@ use std::time::{Clock, Duration};
 /// whole within `patience`, the connection ends by `ReadFailed`; if a response isn't taken within it, by
 /// `WriteFailed`. Serving ends early if no connection could be accepted or a line not be written (`Device`), if
 /// memory was refused to a line (`NoMemory`), or after a connection on which an answer said that the store
-/// failed (`StoreFailed`), whose line is printed.
+/// failed (`StoreFailed`), whose line is printed. If that line can't be printed whole, serving ends by `Device` or
+/// `NoMemory`.
 pub fn serve_on<C: Clock, K: Keeper, W: Sink>(
     clock: &C,
     alloc: Global,

@@ -1,6 +1,6 @@
 use Rattle.std.proofs.Common.{◌≡◌, ◌∙◌, ◌++◌, ◌∷◌, [], ◌≤◌, length, arith, refl, inl}
 use Rattle.std.proofs.lemmas.Result.{err_from_is_err_and}
-use Rattle.ee_cli_actions.proofs.Connections.{count_more, each_more, each_yet, failed_more, lines_failed, printed_cut, printed_more, some_of, until_more, until_none}
+use Rattle.ee_cli_actions.proofs.Connections.{breaks_before, broken_off, count_more, each_more, each_yet, failed_more, lines_failed, printed_more, until_more, until_none}
 use Rattle.ee_cli_actions.proofs.serving.serve_on.Goals as goal
 
 pub returns-in_err-ended-clause-serves : goal.returns-in_err-ended-clause-serves
@@ -13,7 +13,7 @@ returns-in_err-ended-clause-serves g c =
       each = each_yet d s.0 (g.K.Keeper.has c.loop-connection.keeper) (g.K.Keeper.has c.serve_next.new.keeper)
           (s.4 (c.serve_next.ensures.clean clean) d has) (λ left x. (c.in_err-ended.ensures.serves clean left x).1);
       until = until_none s.0 s.2;
-      printed = lines_failed c.args.connections _ _ s.0 c.from_residual.result p.0 c.in_err-ended.field-0.0 p.1 p.2 (inl c.in_err-ended.ensures.device) few (some_of _ _ _ s.3);
+      printed = lines_failed c.args.connections _ _ s.0 c.from_residual.result p.0 c.in_err-ended.field-0.0 p.1 p.2 (inl c.in_err-ended.ensures.device) few (breaks_before _ _ s.0 s.2 s.3);
     }
 
 pub returns-in_err-print_line-clause-serves : goal.returns-in_err-print_line-clause-serves
@@ -29,7 +29,7 @@ returns-in_err-print_line-clause-serves g c =
           (s.4 (c.serve_next.ensures.clean clean) d has) (c.in_ok-ended.ensures.serves clean);
       until = until_more s.0 e s.2;
       printed = lines_failed c.args.connections _ _ (s.0 ++ e ∷ []) c.from_residual-in_err-print_line.result p.0 c.in_err-print_line.field-0.0 p.1 p.2 c.in_err-print_line.ensures.fault few
-          (printed_cut _ _ _ s.0 e c.loop-connection.connection s.1 s.3 c.in_err-print_line.ensures.printed);
+          (broken_off _ _ _ s.0 e c.loop-connection.connection s.1 s.3 c.in_err-print_line.ensures.printed);
     }
 
 pub returns-then-ended-clause-serves : goal.returns-then-ended-clause-serves
