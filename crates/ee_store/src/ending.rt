@@ -3,16 +3,18 @@
 ghost use Rattle.std.specs.Prelude.{◌≡◌, IfOk, IfErr};
 ghost use Rattle.sqlite.specs.Tree.{Trees};
 ghost use Rattle.sqlite.specs.Files.{file_state};
-ghost use Rattle.sqlite.specs.FileStore.{recovers};
+ghost use Rattle.sqlite.specs.FileStore.{recovers, view};
+ghost use Rattle.sqlite.specs.View.{IsClean};
 ghost use Rattle.ee_desk_laws.specs.Events.{World};
 ghost use Rattle.ee_desk_laws.specs.Ties.{Leaves};
 ghost use Rattle.ee_store_books.specs.Seen.{StandsFor};
 ghost use Rattle.ee_store.specs.Served.{FollowsWorld};
-ghost use Rattle.ee_store.specs.Ended.{RestsIn};
+ghost use Rattle.ee_store.specs.Ended.{FailsToEnd, RestsIn};
 ghost use Rattle.ee_store.specs.History.{RestsAfter};
 
 use crate::keeper::SqlKeeper;
 use crate::laws::whole_history_law;
+use ee_store_tables::Failure;
 use sqlite::{Connection, FileStore, Files};
 use sqlite_disk::Disk;
 
@@ -39,22 +41,24 @@ impl<D: Disk + Drop> SqlKeeper<FileStore<D>> {
     ///   sent, each acting once, and each reply that was given is still the answer (`whole_history_law`).
     /// - `left`, `follows`: if it fails, a crash leaves what it could leave before, so what the next command finds
     ///   still follows the events.
+    /// - `cause`: it fails only if memory was refused, the device failed once more, or the store was shut before.
     ///
     /// # Errors
     ///
-    /// The store, if it was shut or the device fails.
-    pub fn close_files(self) -> Result<Files<D>, FileStore<D>>
+    /// Why, and the store.
+    pub fn close_files(self) -> Result<Files<D>, (Failure, FileStore<D>)>
         ensures at_rest { IfOk result (λ files. RestsIn self.conn files) }
         ensures history { IfOk result (λ files. RestsAfter self.conn files) }
-        ensures left { IfErr result (λ store. (db : Trees) → recovers store db → (file_state self.conn).may_leave db) }
-        ensures follows { IfErr result (λ store. (w : World) → FollowsWorld (file_state self.conn) w → Leaves StandsFor (recovers store) w) }
+        ensures left { IfErr result (λ e. (db : Trees) → recovers e.1 db → (file_state self.conn).may_leave db) }
+        ensures follows { IfErr result (λ e. (w : World) → FollowsWorld (file_state self.conn) w → Leaves StandsFor (recovers e.1) w) }
+        ensures cause { IfErr result (λ e. IsClean (view e.1) → FailsToEnd self.conn e.1 e.0) }
     {
         whole_history_law::<D, D>();
         // For the proof alone: a connection that has a schema sees a database, which `at_rest` needs.
         let _schema = self.conn.schema();
         match self.into_connection().close_files() {
             Ok(files) => Ok(files),
-            Err((_, store)) => Err(store),
+            Err((error, store)) => Err((Failure::from(error), store)),
         }
     }
 }

@@ -20,4 +20,4 @@ pub use adopting::NotAdopted;
 pub use ee_store_books::one_content_law;
 pub use ee_store_schema::OpenFault;
 pub use keeper::SqlKeeper;
-pub use opening::{NotOpened, Rest, open_as};
+pub use opening::{NotOpened, Rest, open_as, open_on};

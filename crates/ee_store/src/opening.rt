@@ -1,25 +1,28 @@
 //! Opening a store in a file.
 
-ghost use Rattle.std.specs.Prelude.{◌≡◌, ◌⊎◌, None, true, false, IfOk, IfErr, IfSome};
+ghost use Rattle.std.specs.Prelude.{◌≡◌, ◌⊎◌, None, true, false, IsTrue, IfOk, IfErr, IfSome, IsSomeAnd};
 ghost use Rattle.sqlite.specs.State.{HasCleanDisk};
-ghost use Rattle.sqlite.specs.Files.{file_state, IsCleanLeft};
+ghost use Rattle.sqlite.specs.Files.{file_state, image_of, IsCleanLeft};
 ghost use Rattle.sqlite.specs.Recovery.{Image};
 ghost use Rattle.sqlite.specs.WalFiles.{image_at};
 ghost use Rattle.sqlite_std_file.specs.File.{IsFresh};
 ghost use Rattle.sqlite.specs.FileStore.{view};
 ghost use Rattle.sqlite.specs.View.{IsClean};
 ghost use Rattle.ee_store_schema.specs.Faults.{fault_of};
-ghost use Rattle.ee_store_files.specs.Causes.{error_of};
+ghost use Rattle.ee_store_files.specs.Causes.{IsOfSystem, error_of};
 ghost use Rattle.ee_store_files.specs.Files.{Leaves};
 ghost use Rattle.ee_store_delivery.specs.Known.{IsInformed};
 ghost use Rattle.ee_store.specs.Adopted.{IsOpenedFrom, IsRefusedFrom, IfConnection, IfFiles};
 ghost use Rattle.ee_store.specs.NextRun.{IsNumbered, LeavesStanding, FollowsOn};
 
 use crate::keeper::SqlKeeper;
-use ee_store_files::{OpenCause, Unopened, open_path};
+use ee_store_files::{OpenCause, open_files, open_path};
 use ee_store_schema::OpenFault;
-use sqlite::{Alter, Connection, File, FileFrom, FileStore, Leftover, Start, Unknown};
+use sqlite::{
+    Alter, Connection, File, FileFrom, FileStore, Files, Leftover, Options, Start, Unknown,
+};
 use sqlite_disk::Disk;
+use std::alloc::Global;
 
 /// What is left if a store in a file isn't opened: a connection, or what `sqlite` leaves of files that it
 /// doesn't open (`L`).
@@ -42,7 +45,7 @@ pub struct NotOpened<S: Alter, L> {
     pub rest: Rest<S, L>,
 }
 
-/// Opens the store in the file at a path, or creates it there; `start` represents what the file held.
+/// Opens the store in two files, or creates it there.
 ///
 /// - `opened`: the keeper has what was found: the empty content if there was no store, and otherwise the
 ///   content that the store had, as `SqlKeeper::adopt` says.
@@ -52,12 +55,57 @@ pub struct NotOpened<S: Alter, L> {
 /// - `refused`: for a connection that is refused the same is said: why, and what the call left.
 /// - `fault`: a file that `sqlite` doesn't open is neither `WrongVersion` nor `Unusable`.
 /// - `told`, `apart`: a cause is one of that fault, and is told only if `sqlite` didn't open the file.
-/// - `left`: what is left of that file recovers to what was there or, if there was no database, to none or an
-///   empty one.
+/// - `left`: the files come back, and recover to what was there or, if there was no database, to none or an empty
+///   one.
 ///
 /// # Errors
 ///
-/// Those of `SqlKeeper::adopt`; `StoreFailed` also if `sqlite` doesn't open the file.
+/// Those of `SqlKeeper::adopt`; `StoreFailed` also if `sqlite` doesn't open the files.
+pub fn open_on<D: Disk + Drop>(
+    alloc: Global,
+    files: Files<D>,
+    options: Options,
+) -> Result<SqlKeeper<FileStore<D>>, NotOpened<FileStore<D>, Leftover<D>>>
+    requires log { IsTrue (D.Disk.is_usable files.log) }
+    requires db { IsTrue (D.Disk.is_usable files.db) }
+    ensures opened { IfOk result (λ keeper. HasCleanDisk (file_state keeper.conn) → IsOpenedFrom (image_of D.Disk files) keeper.conn) }
+    ensures informed { IfOk result (λ keeper. IsInformed (file_state keeper.conn) keeper.known) }
+    ensures follows { IfOk result (λ keeper. HasCleanDisk (file_state keeper.conn) → FollowsOn (image_of D.Disk files) keeper.conn) }
+    ensures refused { IfErr result (λ not. IfConnection not.rest (λ conn. HasCleanDisk (file_state conn) → IsRefusedFrom (image_of D.Disk files) not.fault conn)) }
+    ensures fault { IfErr result (λ not. IfFiles not.rest (λ _. (not.fault ≡ OpenFault.NoMemory) ⊎ (not.fault ≡ OpenFault.StoreFailed))) }
+    ensures told { IfErr result (λ not. IfSome not.cause (λ cause. not.fault ≡ fault_of (error_of cause))) }
+    ensures apart { IfErr result (λ not. IfConnection not.rest (λ _. not.cause ≡ None)) }
+    ensures left { IfErr result (λ not. IfFiles not.rest (λ rest. IsSomeAnd rest (λ left. IsCleanLeft left → Leaves files left))) }
+{
+    let conn = match open_files(alloc, files, options) {
+        Ok(conn) => conn,
+        Err((error, left)) => {
+            let cause = OpenCause::of_error(error);
+            return Err(NotOpened {
+                fault: OpenFault::from(cause.error()),
+                cause: Some(cause),
+                rest: Rest::Files(Some(left)),
+            });
+        }
+    };
+    match SqlKeeper::adopt(conn, alloc) {
+        Ok(keeper) => Ok(keeper),
+        Err(not) => Err(NotOpened {
+            fault: not.fault,
+            cause: None,
+            rest: Rest::Connection(not.conn),
+        }),
+    }
+}
+
+/// Opens the store in the file at a path, or creates it there; `start` represents what the file held. Each clause is
+/// one of `open_on`.
+///
+/// - `nothing`: if nothing comes back, the cause is the system's, which opened no file.
+///
+/// # Errors
+///
+/// Those of `open_on`; `StoreFailed` also if the system doesn't open the files.
 pub fn open_as<F: Start>(
     rt: &HostRuntime,
     path: &str,
@@ -75,23 +123,14 @@ pub fn open_as<F: Start>(
     ensures apart { IfErr result (λ not. IfConnection not.rest (λ _. not.cause ≡ None)) }
     ensures left { IfErr result (λ not. IfFiles not.rest (λ rest. IfSome rest (λ left. (files : _) × IsFresh true files.log × IsFresh false files.db
         × (IsCleanLeft left → Leaves files left)))) }
+    ensures nothing { IfErr result (λ not. IfFiles not.rest (λ rest. rest ≡ None → IsSomeAnd not.cause IsOfSystem)) }
 {
-    let conn = match open_path(rt, path, start) {
-        Ok(conn) => conn,
-        Err(Unopened { cause, left }) => {
-            return Err(NotOpened {
-                fault: OpenFault::from(cause.error()),
-                cause: Some(cause),
-                rest: Rest::Files(left),
-            });
-        }
-    };
-    match SqlKeeper::adopt(conn, rt.alloc()) {
-        Ok(keeper) => Ok(keeper),
-        Err(not) => Err(NotOpened {
-            fault: not.fault,
-            cause: None,
-            rest: Rest::Connection(not.conn),
+    match open_path(rt, path, start) {
+        Ok(found) => open_on(rt.alloc(), found.0, found.1),
+        Err(cause) => Err(NotOpened {
+            fault: OpenFault::from(cause.error()),
+            cause: Some(cause),
+            rest: Rest::Files(None),
         }),
     }
 }
@@ -116,6 +155,7 @@ impl SqlKeeper<FileStore<File>> {
         ensures apart { IfErr result (λ not. IfConnection not.rest (λ _. not.cause ≡ None)) }
         ensures left { IfErr result (λ not. IfFiles not.rest (λ rest. IfSome rest (λ left. (files : _) × IsFresh true files.log × IsFresh false files.db
             × (IsCleanLeft left → Leaves files left)))) }
+        ensures nothing { IfErr result (λ not. IfFiles not.rest (λ rest. rest ≡ None → IsSomeAnd not.cause IsOfSystem)) }
     {
         open_as(rt, path, Unknown)
     }

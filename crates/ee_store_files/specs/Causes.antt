@@ -1,4 +1,5 @@
 -- Why the files at a path aren't opened.
+use Rattle.std.specs.Prelude.{⊤}
 use Rattle.std.specs.declared.io.ErrorKind.{ErrorKind}
 use Rattle.std.specs.declared.io.ErrorKind.TheVariants as kind
 use Rattle.sqlite.specs.declared.error.Error.{Error}
@@ -34,3 +35,13 @@ error_of cause.Orphaned = SqliteFailure code.CannotOpen
 error_of cause.Damaged = SqliteFailure code.DatabaseCorrupt
 error_of cause.Full = SqliteFailure code.DiskFull
 error_of cause.Failed = SqliteFailure code.SystemIoFailure
+
+-- the system opened no file, so nothing of a file is said
+abbrev pub IsOfSystem : OpenCause → Type 0
+IsOfSystem cause.NoMemory = ⊤
+IsOfSystem cause.NoFile = ⊤
+IsOfSystem cause.InUse = ⊤
+IsOfSystem cause.Journal = ⊤
+IsOfSystem (cause.System k) = ⊤
+IsOfSystem cause.NoRandom = ⊤
+IsOfSystem _ = ⊥

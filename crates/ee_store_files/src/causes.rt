@@ -47,7 +47,7 @@ impl OpenCause {
     }
 
     /// The cause for an error of `sqlite`, which didn't open the files.
-    pub(crate) fn of_error(error: Error) -> OpenCause
+    pub fn of_error(error: Error) -> OpenCause
         ensures { result ≡ cause_of_error error }
     {
         match error {

@@ -17,4 +17,4 @@ mod path;
 pub use causes::OpenCause;
 pub use laws::{spares_files_law, spares_stopped_law};
 pub use opening::open_files;
-pub use path::{Unopened, open_path};
+pub use path::open_path;

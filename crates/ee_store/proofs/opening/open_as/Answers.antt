@@ -1,58 +1,63 @@
-use Rattle.std.proofs.Common.{rules, arith}
-use Rattle.sqlite.specs.State.{HasCleanDisk}
-use Rattle.sqlite.specs.Files.{file_state}
-use Rattle.ee_store.proofs.AtRest.{found_alone}
-use Rattle.ee_store.proofs.NextRun.{follows_on}
+use Rattle.std.proofs.Common.{Bool, cond, List, ℕ, ◌≡◌, Option, Some, None, true, false, sym, ap₂, subst, IfSome, IsSomeAnd}
+use Rattle.std.proofs.lemmas.Result.{IfOk-weaker, IfErr-weaker}
+use Rattle.sqlite_disk.specs.Events.{Event, replay}
+use Rattle.sqlite_std_file.specs.File.{IsFresh}
+use Rattle.sqlite.specs.Recovery.{Image}
+use Rattle.sqlite.specs.Held.{Held}
+use Rattle.sqlite.specs.Files.{file_state, IsCleanLeft}
+use Rattle.sqlite.specs.WalFiles.{image_at}
+use Rattle.ee_store_files.specs.Files.{Leaves}
+use Rattle.ee_store_files.specs.Causes.{IsOfSystem}
+use Rattle.ee_store.specs.declared.opening.Rest.{Rest}
+use Rattle.ee_store.specs.declared.opening.Rest.TheVariants.{Connection, Files}
+use Rattle.ee_store.specs.Adopted.{IsOpenedFrom, IsRefusedFrom, IfConnection, IfFiles}
+use Rattle.ee_store.specs.NextRun.{FollowsOn}
 use Rattle.ee_store.proofs.opening.open_as.Goals as goal
 
-pub returns-in-Err-clause-left : goal.returns-in-Err-clause-left
-returns-in-Err-clause-left g c = c.in-Err.ensures.left
+abbrev image : List ℕ → List ℕ → Image
+image log db = record { log = log; db = db }
 
-pub returns-in-Ok-adopt-clause-opened : goal.returns-in-Ok-adopt-clause-opened
-returns-in-Ok-adopt-clause-opened g c clean =
-    let was = c.in-Ok.conn in
-    let it = c.in-Ok-adopt.ensures in
-    let early : HasCleanDisk (file_state was) = omega (arith, it.crash.clean, clean) in
-    record {
-      was = was;
-      opened = c.in-Ok.ensures.opened early;
-      found = c.in-Ok.ensures.found early;
-      alone = λ content alone. found_alone _ (file_state was) _ content (c.in-Ok.ensures.found early) (it.goes_on clean) alone;
-      begins = it.begins clean;
-      begun = it.begun clean;
-      keeps = it.found clean;
-      some = it.stands clean;
-      follows = it.follows clean;
-      goes_on = it.goes_on clean;
-      crash = it.crash;
-      left = it.left clean;
-      ready = it.ready (c.in-Ok.ensures.fresh.autocommit, c.in-Ok.ensures.fresh.unlimited);
-      room = it.room clean;
-    }
+abbrev seen : List ℕ → List ℕ → Bool → List Event → List ℕ
+seen log db is_log history = (replay (cond is_log log db) history).seen
 
-pub returns-in-Err-adopt-clause-refused : goal.returns-in-Err-adopt-clause-refused
-returns-in-Err-adopt-clause-refused g c clean =
-    let was = c.in-Ok.conn in
-    let it = c.in-Err-adopt.ensures in
-    let early : HasCleanDisk (file_state was) = omega (arith, it.crash.clean, clean) in
-    record {
-      was = was;
-      opened = c.in-Ok.ensures.opened early;
-      found = c.in-Ok.ensures.found early;
-      kept = it.kept clean;
-      version = it.version clean;
-      other = it.other clean;
-      unusable = it.unusable clean;
-      tested = it.tested clean;
-      cause = it.cause clean;
-      waits = it.waits clean;
-      crash = it.crash;
-      left = it.left clean;
-      ready = it.ready (c.in-Ok.ensures.fresh.autocommit, c.in-Ok.ensures.fresh.unlimited);
-    }
+connection_weaker : {S L : Type 0} (rest : Rest S L) (P Q : Held S → Type 0) → ((conn : Held S) → P conn → Q conn) → IfConnection rest P → IfConnection rest Q
+connection_weaker (Connection conn) P Q f h = f conn h
+connection_weaker (Files left) P Q f h = tt
 
-pub returns-in-Err-clause-fault : goal.returns-in-Err-clause-fault
-returns-in-Err-clause-fault g c = search rules
+files_weaker : {S L : Type 0} (rest : Rest S L) (P Q : Option L → Type 0) → ((left : Option L) → P left → Q left) → IfFiles rest P → IfFiles rest Q
+files_weaker (Connection conn) P Q f h = tt
+files_weaker (Files left) P Q f h = f left h
 
-pub returns-in-Ok-adopt-clause-follows : goal.returns-in-Ok-adopt-clause-follows
-returns-in-Ok-adopt-clause-follows g c clean = follows_on _ c.in-Ok-adopt.keeper.conn (returns-in-Ok-adopt-clause-opened g c clean)
+is_left : {L : Type 0} (left : Option L) (P Q : L → Type 0) → ((x : L) → P x → Q x) → IsSomeAnd left P → IfSome left Q
+is_left None P Q f h = tt
+is_left (Some x) P Q f h = f x h
+
+is_there : {L X : Type 0} (left : Option L) (P : L → Type 0) → IsSomeAnd left P → left ≡ None → X
+is_there None P h none = absurd h
+is_there (Some x) P h none = absurd (cc)
+
+pub returns-in-Ok-clause-opened : goal.returns-in-Ok-clause-opened
+returns-in-Ok-clause-opened g c =
+    let (log, db) = c.in-Ok.ensures.fresh in
+    let same = ap₂ image (ap₂ (seen g.F.Start.log g.F.Start.db) log.0 log.1) (ap₂ (seen g.F.Start.log g.F.Start.db) db.0 db.1) in
+    IfOk-weaker c.open_on.result _ _ (λ keeper opened clean. subst (λ i. IsOpenedFrom i keeper.conn) same (opened clean)) c.open_on.ensures.opened
+
+pub returns-in-Ok-clause-follows : goal.returns-in-Ok-clause-follows
+returns-in-Ok-clause-follows g c =
+    let (log, db) = c.in-Ok.ensures.fresh in
+    let same = ap₂ image (ap₂ (seen g.F.Start.log g.F.Start.db) log.0 log.1) (ap₂ (seen g.F.Start.log g.F.Start.db) db.0 db.1) in
+    IfOk-weaker c.open_on.result _ _ (λ keeper follows clean. subst (λ i. FollowsOn i keeper.conn) same (follows clean)) c.open_on.ensures.follows
+
+pub returns-in-Ok-clause-refused : goal.returns-in-Ok-clause-refused
+returns-in-Ok-clause-refused g c =
+    let (log, db) = c.in-Ok.ensures.fresh in
+    let same = ap₂ image (ap₂ (seen g.F.Start.log g.F.Start.db) log.0 log.1) (ap₂ (seen g.F.Start.log g.F.Start.db) db.0 db.1) in
+    IfErr-weaker c.open_on.result _ _ (λ not. connection_weaker not.rest _ _ (λ conn refused clean. subst (λ i. IsRefusedFrom i not.fault conn) same (refused clean))) c.open_on.ensures.refused
+
+pub returns-in-Ok-clause-left : goal.returns-in-Ok-clause-left
+returns-in-Ok-clause-left g c =
+    let fresh = c.in-Ok.ensures.fresh in
+    IfErr-weaker c.open_on.result _ _ (λ not. files_weaker not.rest _ _ (λ left. is_left left _ _ (λ it leaves. (c.in-Ok.found.0, fresh.0, fresh.1, leaves)))) c.open_on.ensures.left
+
+pub returns-in-Ok-clause-nothing : goal.returns-in-Ok-clause-nothing
+returns-in-Ok-clause-nothing g c = IfErr-weaker c.open_on.result _ _ (λ not. files_weaker not.rest _ _ (λ left some none. is_there left _ some none)) c.open_on.ensures.left
