@@ -15,37 +15,49 @@ use Rattle.ee_cli_commands.specs.CommandLine.{Asked, value, apply, imports, expo
 abbrev pub AreClean : {S : Type 0} → (S → Type 0) → Type 0
 AreClean {S} is_clean = (store : S) → is_clean store
 
--- the command was carried out over the given store; or a file or a port was not opened, and nothing was printed
-abbrev pub Tries : Option (List ℕ) → Option (List ℕ) → Result Outcome RunFault → Type 0 → Type 0
-Tries old new result Carried = Carried ⊎ (IsErr result × (new ≡ old))
+-- the command was carried out over the given store; or a file or a port was not opened, nothing was printed, and the store has
+-- what it had
+abbrev pub Tries : Option (List ℕ) → Option (List ℕ) → Result Outcome RunFault → Type 0 → Type 0 → Type 0
+Tries old new result Carried Stays = Carried ⊎ (IsErr result × (new ≡ old) × Stays)
 
 -- a command ends as its work did; or its work was done, and the store was not written back
 abbrev pub EndsAs : Result Outcome RunFault → Result Outcome RunFault → Type 0
 EndsAs ended result = (result ≡ ended) ⊎ (IsOk ended × (result ≡ Err (Store NotWrittenBack)))
 
+-- the store was closed, and is at rest; or it could not be closed, and what is left of it has what was committed
+abbrev pub IsClosed : {S R L : Type 0} → (S → R → Type 0) → (S → L → Type 0) → S → Type 0
+IsClosed {R = R} {L = L} rests keeps store = ((rest : R) × rests store rest) ⊎ ((left : L) × keeps store left)
+
 -- the work ended so over a store, which was then closed; if the command did not fail, the store is at rest
-pub record Works {S R : Type 0} (rests : S → R → Type 0) (result : Result Outcome RunFault) (Carried : S → Result Outcome RunFault → Type 0) : Type 0 where
+pub record Works {S R L : Type 0} (rests : S → R → Type 0) (keeps : S → L → Type 0) (result : Result Outcome RunFault) (Carried : S → Result Outcome RunFault → Type 0) : Type 0 where
   pub left : S
   pub ended : Result Outcome RunFault
   pub carried : Carried left ended
   pub ends : EndsAs ended result
   pub at_rest : OnOk result ((rest : R) × rests left rest)
+  pub closed : IsClosed rests keeps left
 
--- the work was done over the store; or the store, a file or a port was not opened, and nothing was printed
-abbrev pub Over : {S R : Type 0} → (S → R → Type 0) → Option (List ℕ) → Option (List ℕ) → Result Outcome RunFault → (S → Result Outcome RunFault → Type 0) → Type 0
-Over rests old new result Carried = Works rests result Carried ⊎ (IsErr result × (new ≡ old))
+-- the store was not opened, for a fault of its own, and this is left of it
+abbrev pub IsUnopened : {Q : Type 0} → (RunFault → Q → Type 0) → Result Outcome RunFault → Type 0
+IsUnopened {Q} refuses result = (fault : RunFault) × (result ≡ Err fault) × ((rest : Q) × refuses fault rest)
+
+-- the work was done over the store; or the store was not opened, and nothing was printed
+abbrev pub Over : {S R L Q : Type 0} → (S → R → Type 0) → (S → L → Type 0) → (RunFault → Q → Type 0) → Option (List ℕ) → Option (List ℕ) → Result Outcome RunFault → (S → Result Outcome RunFault → Type 0) → Type 0
+Over rests keeps refuses old new result Carried = Works rests keeps result Carried ⊎ (IsUnopened refuses result × (new ≡ old))
 
 -- a command over the store that its line names; `contents` says what each store holds. The arguments are the input before and
 -- after, the output before and after, and how the command ended. The bytes of a file that is imported aren't known.
-abbrev pub CarriesOver : {S R : Type 0} → (S → Content → Type 0) → (S → R → Type 0) → (Text → Content) → Option (List ℕ) → Option (List ℕ) → Option (List ℕ) → Option (List ℕ) → Asked → Result Outcome RunFault → Type 0
-CarriesOver has rests contents input left old new (value denom issued month rate extension) result = ⊤
-CarriesOver has rests contents input left old new (apply db) result =
-    Over rests old new result (λ store ended. Applies input left old new (contents db) ended (has store))
-CarriesOver has rests contents input left old new (imports kind file db desk number) result =
-    Over rests old new result (λ store ended. ImportsInto kind None old new (desk, number) (contents db) ended (has store))
-CarriesOver has rests contents input left old new (export customer db) result =
-    Over rests old new result (λ store ended. ExportsFrom old new customer (contents db) ended (has store))
-CarriesOver has rests contents input left old new (sheet customer month db) result =
-    Over rests old new result (λ store ended. ShowsSheet old new customer month (contents db) ended (has store (contents db)))
-CarriesOver has rests contents input left old new (serve db port connections) result =
-    Over rests old new result (λ store ended. ServesAll connections old new (contents db) ended (has store))
+abbrev pub CarriesOver : {S R L Q : Type 0} → (S → Content → Type 0) → (S → R → Type 0) → (S → L → Type 0) → (Text → RunFault → Q → Type 0) → (Text → Content) → Option (List ℕ) → Option (List ℕ) → Option (List ℕ) → Option (List ℕ) → Asked → Result Outcome RunFault → Type 0
+CarriesOver has rests keeps refuses contents input left old new (value denom issued month rate extension) result = ⊤
+CarriesOver has rests keeps refuses contents input left old new (apply db) result =
+    Over rests keeps (refuses db) old new result (λ store ended. Applies input left old new (contents db) ended (has store))
+CarriesOver has rests keeps refuses contents input left old new (imports kind file db desk number) result =
+    Over rests keeps (refuses db) old new result
+    (λ store ended. Tries old new ended (ImportsInto kind None old new (desk, number) (contents db) ended (has store)) (has store (contents db)))
+CarriesOver has rests keeps refuses contents input left old new (export customer db) result =
+    Over rests keeps (refuses db) old new result (λ store ended. ExportsFrom old new customer (contents db) ended (has store))
+CarriesOver has rests keeps refuses contents input left old new (sheet customer month db) result =
+    Over rests keeps (refuses db) old new result (λ store ended. ShowsSheet old new customer month (contents db) ended (has store (contents db)))
+CarriesOver has rests keeps refuses contents input left old new (serve db port connections) result =
+    Over rests keeps (refuses db) old new result
+    (λ store ended. Tries old new ended (ServesAll connections old new (contents db) ended (has store)) (has store (contents db)))

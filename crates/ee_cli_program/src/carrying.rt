@@ -7,13 +7,13 @@ ghost use Rattle.ee_cli_actions.specs.Actions.{Applies, ExportsFrom, ImportsInto
 ghost use Rattle.ee_cli_actions.specs.Connections.{ServesAll};
 ghost use Rattle.ee_cli_commands.specs.Answer.{view_of};
 ghost use Rattle.ee_cli_program.specs.Statuses.{Carries, ShowsValue};
-ghost use Rattle.ee_cli_program.specs.Stores.{AreClean, CarriesOver, EndsAs, Over};
+ghost use Rattle.ee_cli_program.specs.Stores.{AreClean, CarriesOver, EndsAs, IsClosed, Over, Tries};
 ghost use Rattle.ee_cli_program.specs.Told.{TellsOnlyIf, fault_of_cause};
 
 use crate::explaining::Cause;
 use crate::opening::{Carried, import_path, serve_port};
 use crate::stores::{Stores, Unopened};
-use ee_cli_actions::{Outcome, RunFault, apply_to, export_from, sheet_of};
+use ee_cli_actions::{Outcome, RunFault, StoreFault, apply_to, export_from, sheet_of};
 use ee_cli_commands::{Command, FileKind};
 use ee_cli_value::print_value;
 use ee_desk_model::{Desk, Number};
@@ -32,7 +32,7 @@ pub fn carry_out<O: Stores, R: Source, W: Sink>(
 ) -> Carried
     ensures carries { Carries (W.contents output.old) (W.contents output.new) (view_of command.now) result.ended }
     ensures over { AreClean O.Store.is_clean → (contents : Text → Content) → ((path : Text) → O.holds stores.now path (contents path))
-        → CarriesOver O.Store.has O.rests contents (R.remaining input.old) (R.remaining input.new) (W.contents output.old) (W.contents output.new)
+        → CarriesOver O.Store.has O.rests O.keeps (O.refuses stores.now) contents (R.remaining input.old) (R.remaining input.new) (W.contents output.old) (W.contents output.new)
         (view_of command.now) result.ended }
     ensures told { TellsOnlyIf result.ended result.cause }
 {
@@ -77,7 +77,7 @@ fn apply<O: Stores, R: Source, W: Sink>(
     output: &mut W,
 ) -> Carried
     ensures over { AreClean O.Store.is_clean → (c : Content) → O.holds stores.now db.now c
-        → Over O.rests (W.contents output.old) (W.contents output.new) result.ended
+        → Over O.rests O.keeps (O.refuses stores.now db.now) (W.contents output.old) (W.contents output.new) result.ended
         (λ left ended. Applies (R.remaining input.old) (R.remaining input.new) (W.contents output.old) (W.contents output.new) c ended (O.Store.has left)) }
     ensures told { TellsOnlyIf result.ended result.cause }
 {
@@ -101,8 +101,9 @@ fn import<O: Stores, W: Sink>(
     output: &mut W,
 ) -> Carried
     ensures over { AreClean O.Store.is_clean → (c : Content) → O.holds stores.now db.now c
-        → Over O.rests (W.contents output.old) (W.contents output.new) result.ended
-        (λ left ended. ImportsInto kind None (W.contents output.old) (W.contents output.new) (desk, number) c ended (O.Store.has left)) }
+        → Over O.rests O.keeps (O.refuses stores.now db.now) (W.contents output.old) (W.contents output.new) result.ended
+        (λ left ended. Tries (W.contents output.old) (W.contents output.new) ended
+        (ImportsInto kind None (W.contents output.old) (W.contents output.new) (desk, number) c ended (O.Store.has left)) (O.Store.has left c)) }
     ensures told { TellsOnlyIf result.ended result.cause }
 {
     match stores.open(db) {
@@ -126,7 +127,7 @@ fn export<O: Stores, W: Sink>(
     output: &mut W,
 ) -> Carried
     ensures over { AreClean O.Store.is_clean → (c : Content) → O.holds stores.now db.now c
-        → Over O.rests (W.contents output.old) (W.contents output.new) result.ended
+        → Over O.rests O.keeps (O.refuses stores.now db.now) (W.contents output.old) (W.contents output.new) result.ended
         (λ left ended. ExportsFrom (W.contents output.old) (W.contents output.new) customer c ended (O.Store.has left)) }
     ensures done { IfOk result.ended (λ outcome. outcome ≡ Outcome.Done) }
     ensures told { TellsOnlyIf result.ended result.cause }
@@ -148,7 +149,7 @@ fn sheet<O: Stores, W: Sink>(
     output: &mut W,
 ) -> Carried
     ensures over { AreClean O.Store.is_clean → (c : Content) → O.holds stores.now db.now c
-        → Over O.rests (W.contents output.old) (W.contents output.new) result.ended
+        → Over O.rests O.keeps (O.refuses stores.now db.now) (W.contents output.old) (W.contents output.new) result.ended
         (λ left ended. ShowsSheet (W.contents output.old) (W.contents output.new) customer month c ended (O.Store.has left c)) }
     ensures done { IfOk result.ended (λ outcome. outcome ≡ Outcome.Done) }
     ensures told { TellsOnlyIf result.ended result.cause }
@@ -171,8 +172,9 @@ fn serve<O: Stores, W: Sink>(
     output: &mut W,
 ) -> Carried
     ensures over { AreClean O.Store.is_clean → (c : Content) → O.holds stores.now db.now c
-        → Over O.rests (W.contents output.old) (W.contents output.new) result.ended
-        (λ left ended. ServesAll connections (W.contents output.old) (W.contents output.new) c ended (O.Store.has left)) }
+        → Over O.rests O.keeps (O.refuses stores.now db.now) (W.contents output.old) (W.contents output.new) result.ended
+        (λ left ended. Tries (W.contents output.old) (W.contents output.new) ended
+        (ServesAll connections (W.contents output.old) (W.contents output.new) c ended (O.Store.has left)) (O.Store.has left c)) }
     ensures done { IfOk result.ended (λ outcome. outcome ≡ Outcome.Done) }
     ensures told { TellsOnlyIf result.ended result.cause }
 {
@@ -211,7 +213,7 @@ fn without_cause(ended: Result<Outcome, RunFault>) -> Carried
 }
 
 // A command whose store wasn't opened.
-fn not_opened(not: Unopened) -> Carried
+fn not_opened<R: Drop>(not: Unopened<R>) -> Carried
     requires { IfSome not.cause (λ cause. not.fault ≡ fault_of_cause cause) }
     ensures ended { result.ended ≡ Err not.fault }
     ensures told { TellsOnlyIf result.ended result.cause }
@@ -230,11 +232,12 @@ fn end<O: Stores>(
 ) -> Result<Outcome, RunFault>
     ensures ends { EndsAs ended result }
     ensures rests { OnOk result ((rest : O.Rest) × O.rests store rest) }
+    ensures kept { IsClosed O.rests O.keeps store }
 {
     match stores.close(store) {
         Ok(_rest) => ended,
-        Err(fault) => match ended {
-            Ok(_) => Err(fault),
+        Err(_left) => match ended {
+            Ok(_) => Err(RunFault::Store(StoreFault::NotWrittenBack)),
             Err(first) => Err(first),
         },
     }

@@ -37,7 +37,7 @@ pub fn import_path<K: Keeper, W: Sink>(
 ) -> Carried
     ensures imports { K.is_clean keeper.new → (c : Content) → K.has keeper.old c
         → Tries (W.contents output.old) (W.contents output.new) result.ended
-        (ImportsInto kind None (W.contents output.old) (W.contents output.new) (desk, number) c result.ended (K.has keeper.new)) }
+        (ImportsInto kind None (W.contents output.old) (W.contents output.new) (desk, number) c result.ended (K.has keeper.new)) (K.has keeper.new c) }
     ensures told { TellsOnlyIf result.ended result.cause }
 {
     match fs::open(rt, path) {
@@ -77,7 +77,7 @@ pub fn serve_port<K: Keeper, W: Sink>(
 ) -> Carried
     ensures over { K.is_clean keeper.new → (c : Content) → K.has keeper.old c
         → Tries (W.contents output.old) (W.contents output.new) result.ended
-        (ServesAll connections (W.contents output.old) (W.contents output.new) c result.ended (K.has keeper.new)) }
+        (ServesAll connections (W.contents output.old) (W.contents output.new) c result.ended (K.has keeper.new)) (K.has keeper.new c) }
     ensures done { IfOk result.ended (λ outcome. outcome ≡ Outcome.Done) }
     ensures told { TellsOnlyIf result.ended result.cause }
 {

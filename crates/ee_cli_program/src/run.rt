@@ -53,7 +53,7 @@ pub fn run_words<O: Stores, R: Source, W: Sink, E: Write>(
         → Appends (W.contents output.old) (W.contents output.new) version_line }
     ensures over { AreClean O.Store.is_clean → (contents : Text → Content) → ((path : Text) → O.holds stores.now path (contents path))
         → IsRun (map (λ w. string_bytes w) words.now)
-        (CarriesOver O.Store.has O.rests contents (R.remaining input.old) (R.remaining input.new) (W.contents output.old) (W.contents output.new)) result }
+        (CarriesOver O.Store.has O.rests O.keeps (O.refuses stores.now) contents (R.remaining input.old) (R.remaining input.new) (W.contents output.old) (W.contents output.new)) result }
 {
     let explains = explains || asks_to_explain(words);
     match read_command(rt.alloc(), words) {

@@ -1,15 +1,16 @@
 //! Stores in files.
 
-ghost use Rattle.std.specs.Prelude.{◌≡◌};
+ghost use Rattle.std.specs.Prelude.{◌≡◌, true, false};
+ghost use Rattle.sqlite_std_file.specs.File.{IsFresh};
 ghost use Rattle.sqlite.specs.WalFiles.{image_at};
 ghost use Rattle.ee_store.specs.Ended.{RestsIn, StandsAlone};
 ghost use Rattle.ee_store.specs.History.{RestsAfter};
-ghost use Rattle.ee_cli_stores.specs.Faults.{fault_of_opening};
+ghost use Rattle.ee_cli_stores.specs.Faults.{fault_of_opening, IsRefused, Keeps};
 
 use ee_cli_actions::{RunFault, StoreFault};
 use ee_cli_program::{Stores, Unopened};
-use ee_store::{OpenFault, SqlKeeper, open_as};
-use sqlite::{FileFrom, FileStore, Files, Start};
+use ee_store::{OpenFault, Rest, SqlKeeper, open_as};
+use sqlite::{FileFrom, FileStore, Files, Leftover, Start};
 
 /// A file whose earlier bytes aren't known. A torn write leaves each byte old or new.
 #[derive(Clone, Copy)]
@@ -41,18 +42,35 @@ impl<F: Start + Copy> Stores for StoreFiles<'_, F> {
 
     type Rest = Files<FileFrom<F>>;
 
+    type Refused = Rest<FileStore<FileFrom<F>>, Leftover<FileFrom<F>>>;
+
+    type Left = FileStore<FileFrom<F>>;
+
     // Each file held a store at rest with that content.
     ghost holds = { λ _ _ content. StandsAlone (image_at F.Start) content };
 
     // The files are at rest with what the store had, which is what its whole history led to.
     ghost rests = { λ store files. RestsIn store.conn files × RestsAfter store.conn files };
 
-    fn open(&self, path: &str) -> Result<SqlKeeper<FileStore<FileFrom<F>>>, Unopened> {
+    // What the files held was refused for this fault, and is still there.
+    ghost refuses = { λ _ _ fault rest. IsRefused (λ files. IsFresh true files.log) (λ files. IsFresh false files.db) (image_at F.Start) fault rest };
+
+    // A crash leaves of it what it could leave of the store, so it still follows the store's events.
+    ghost keeps = { λ store left. Keeps store.conn left };
+
+    fn open(
+        &self,
+        path: &str,
+    ) -> Result<
+        SqlKeeper<FileStore<FileFrom<F>>>,
+        Unopened<Rest<FileStore<FileFrom<F>>, Leftover<FileFrom<F>>>>,
+    > {
         match open_as(self.rt, path, self.start) {
             Ok(keeper) => Ok(keeper),
             Err(not) => Err(Unopened {
                 fault: fault_of(not.fault),
                 cause: not.cause,
+                rest: not.rest,
             }),
         }
     }
@@ -60,10 +78,10 @@ impl<F: Start + Copy> Stores for StoreFiles<'_, F> {
     fn close(
         &self,
         store: SqlKeeper<FileStore<FileFrom<F>>>,
-    ) -> Result<Files<FileFrom<F>>, RunFault> {
+    ) -> Result<Files<FileFrom<F>>, FileStore<FileFrom<F>>> {
         match store.close_files() {
             Ok(files) => Ok(files),
-            Err(_store) => Err(RunFault::Store(StoreFault::NotWrittenBack)),
+            Err((_failure, left)) => Err(left),
         }
     }
 }

@@ -1,7 +1,6 @@
 //! Running a command line, over files or over stores in memory, with its output and its faults.
 
 use crate::comparing::{assert_holds, assert_same};
-use ee_cli_actions::RunFault;
 use ee_cli_program::{Stores, Unopened, run_words};
 use ee_cli_stores::{StoreFiles, Untold};
 use ee_desk::ListKeeper;
@@ -82,15 +81,23 @@ impl Stores for InMemory {
 
     type Rest = ListKeeper;
 
+    type Refused = ();
+
+    type Left = ();
+
     ghost holds = { λ _ _ c. c ≡ nothing };
 
     ghost rests = { λ store rest. rest ≡ store };
 
-    fn open(&self, _path: &str) -> Result<ListKeeper, Unopened> {
+    ghost refuses = { λ _ _ _ _. ⊥ };
+
+    ghost keeps = { λ _ _. ⊥ };
+
+    fn open(&self, _path: &str) -> Result<ListKeeper, Unopened<()>> {
         Ok(ListKeeper::empty(self.alloc))
     }
 
-    fn close(&self, store: ListKeeper) -> Result<ListKeeper, RunFault> {
+    fn close(&self, store: ListKeeper) -> Result<ListKeeper, ()> {
         Ok(store)
     }
 }

@@ -6,3 +6,8 @@ returns-in-Ok-clause-opened g c clean content alone = ((c.in-Ok.ensures.opened c
 
 pub returns-in-Err-clause-told : goal.returns-in-Err-clause-told
 returns-in-Err-clause-told g c = is_told c.in-Err.not.cause c.in-Err.not.fault c.fault_of.result c.fault_of.ensures c.in-Err.ensures.told
+
+pub returns-in-Err-clause-refused : goal.returns-in-Err-clause-refused
+returns-in-Err-clause-refused g c =
+    let it = c.in-Err.ensures in
+    (c.in-Err.not.fault, c.fault_of.ensures, it.refused, it.fault, it.left)
