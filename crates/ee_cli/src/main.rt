@@ -2,7 +2,7 @@
 #![tactic(auto)]
 
 use ee_cli_commands::read_help;
-use ee_cli_program::{REFUSED, refuse_words, run_words};
+use ee_cli_program::{Noting, REFUSED, refuse_words, run_words};
 use ee_cli_stores::{StoreFiles, Untold};
 use std::io::{self, IsTerminal, Write};
 use std::process::ExitCode;
@@ -23,8 +23,8 @@ fn run(rt: &HostRuntime, words: &[String]) -> u8 {
         &stores,
         words,
         rt.stderr().is_terminal(),
-        &mut rt.stdin(),
-        &mut rt.stdout(),
+        &mut Noting::new(rt.stdin()),
+        &mut Noting::new(rt.stdout()),
         &mut rt.stderr(),
     );
     if status <= REFUSED && answers_messages(words) && rt.stdout().is_terminal() {

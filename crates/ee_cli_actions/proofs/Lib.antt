@@ -1,2 +1,3 @@
 pub mod Connections
 mod Devices
+pub mod Forgetting

@@ -1,7 +1,8 @@
 -- What the second line of a fault says.
-use Rattle.std.specs.Prelude.{List, ℕ, Option, Some, None, ◌++◌, codes}
+use Rattle.std.specs.Prelude.{List, [], ℕ, Option, Some, None, ◌++◌, codes, option_and_then}
 use Rattle.std.specs.Borrow.{Bor}
 use Rattle.std.specs.Fmt.{decimal}
+use Rattle.std.specs.declared.io.ErrorKind.{ErrorKind}
 use Rattle.std.specs.declared.io.ErrorKind.TheVariants.{Unsupported}
 use Rattle.ee_files.specs.Columns.{column_name}
 use Rattle.ee_files.specs.declared.faults.FileCode.{FileCode}
@@ -23,6 +24,7 @@ use Rattle.ee_cli_program.specs.declared.system.SystemCause.{SystemCause}
 use Rattle.ee_cli_program.specs.declared.explaining.Cause.{Cause}
 use Rattle.ee_cli_program.specs.declared.explaining.Cause.TheVariants as cause
 use Rattle.ee_cli_program.specs.declared.explaining.Explanation.{Explanation}
+use Rattle.ee_cli_program.specs.declared.explaining.Known.{Known}
 use Rattle.ee_cli_program.specs.declared.explaining.Explanation.TheVariants as says
 
 -- ---- its text
@@ -36,6 +38,11 @@ header_text kind.Inventory = codes "serial,denom,issued,owner,coowner"
 abbrev pub because : Option SystemCause → List ℕ → List ℕ
 because (Some why) otherwise = system_text why
 because None otherwise = otherwise
+
+-- what a field is, if that is known
+abbrev pub is_text : Option (Bor (List ℕ)) → List ℕ
+is_text (Some shown) = codes " is \"" ++ (shown.now ++ codes "\"")
+is_text None = []
 
 -- why a store wasn't opened, and what to do
 abbrev pub opening_text : OpenCause → List ℕ
@@ -57,13 +64,16 @@ abbrev pub explanation_text : Explanation → List ℕ
 explanation_text (says.Argument spelling) = spelling_text spelling
 explanation_text (says.Header file k) = file.now ++ (codes ": the first row is not " ++ (header_text k ++ codes "; correct it, and send the file again"))
 explanation_text (says.FieldCount file row) = file.now ++ (codes ": row " ++ (decimal row ++ codes " has not one field for each column; correct it, and send the file again"))
-explanation_text (says.Field file row column) = file.now ++ (codes ": row " ++ (decimal row ++ (codes ", column " ++ (column_name column ++ (codes ": "
-    ++ (spelling_text (spelling_of_column column) ++ codes "; correct it, and send the file again"))))))
+explanation_text (says.Field file row column shown) = file.now ++ (codes ": row " ++ (decimal row ++ (codes ", column " ++ (column_name column ++ (is_text shown ++ (codes ": "
+    ++ (spelling_text (spelling_of_column column) ++ codes "; correct it, and send the file again")))))))
 explanation_text (says.Unread file why) = file.now ++ (codes ": " ++ (because why (codes "a read failed") ++ codes "; send the file again"))
 explanation_text (says.TooLong file) = file.now ++ codes ": it has more than 1048576 bytes; send it in parts, each under a number of its own"
 explanation_text (says.NoFile file why) = file.now ++ (codes ": " ++ (because why (codes "it was not opened") ++ codes "; correct the path, and send the file again"))
 explanation_text (says.NoPort port why) = codes "port " ++ (decimal port ++ (codes ": " ++ (because why (codes "it was not opened") ++ codes "; choose another port, or end what uses it")))
-explanation_text says.Output = codes "standard output failed; run the line again: what was decided gets its reply"
+explanation_text (says.Output why) = codes "standard output: " ++ (because why (codes "a write failed") ++ codes "; run the line again: what was decided gets its reply")
+explanation_text (says.Answers why) = codes "standard output: " ++ (because why (codes "a write failed") ++ codes "; send again: what was decided gets its reply")
+explanation_text (says.Input why) = codes "standard input: " ++ (because why (codes "a read failed") ++ codes "; send again: what was decided gets its reply")
+explanation_text (says.Log why) = codes "standard output: " ++ (because why (codes "a write failed") ++ codes "; start the server again")
 explanation_text says.InputOrOutput = codes "standard input or output failed; send again: what was decided gets its reply"
 explanation_text says.Connections = codes "no connection was accepted, or standard output failed; start the server again"
 explanation_text (says.Unopened path why) = path.now ++ (codes ": " ++ opening_text why)
@@ -75,38 +85,61 @@ explanation_text says.NoMemory = codes "memory was refused; run the line again"
 
 -- ---- which it is
 
+-- the cause of an error of this kind, if there was one
+abbrev pub of_kind : Option ErrorKind → Option SystemCause
+of_kind kind = option_and_then cause_of_kind kind
+
+-- of a server that ended: its output failed, or it accepted no connection
+abbrev pub of_serving : Option ErrorKind → Explanation
+of_serving (Some kind) = says.Log (cause_of_kind kind)
+of_serving None = says.Connections
+
+-- of the two streams of a connection
+abbrev pub of_streams : Option ErrorKind → Option ErrorKind → Explanation
+of_streams input (Some kind) = says.Answers (cause_of_kind kind)
+of_streams (Some kind) None = says.Input (cause_of_kind kind)
+of_streams None None = says.InputOrOutput
+
+-- of a file that wasn't opened, or an output that failed
+abbrev pub of_importing : Bor (List ℕ) → Option Cause → Option ErrorKind → Explanation
+of_importing file (Some (cause.File why)) output = says.NoFile file why
+of_importing file noted output = says.Output (of_kind output)
+
+-- of a port that wasn't bound, or a server that ended
+abbrev pub of_port : ℕ → Option Cause → Option ErrorKind → Explanation
+of_port port (Some (cause.Port why)) output = says.NoPort port why
+of_port port noted output = of_serving output
+
 -- of a failed device: what wasn't opened, or the streams that the command uses
-abbrev pub of_device : Command → Option Cause → Explanation
-of_device (command.Import k file db desk number) (Some (cause.File why)) = says.NoFile file why
-of_device (command.Import k file db desk number) noted = says.Output
-of_device (command.Serve db port connections) (Some (cause.Port why)) = says.NoPort port why
-of_device (command.Serve db port connections) noted = says.Connections
-of_device (command.Apply db) noted = says.InputOrOutput
-of_device (command.Value denom issued month rate extension) noted = says.Output
-of_device (command.Export customer db) noted = says.Output
-of_device (command.Sheet customer month db) noted = says.Output
+abbrev pub of_device : Command → Known → Explanation
+of_device (command.Import k file db desk number) known = of_importing file known.cause known.output
+of_device (command.Serve db port connections) known = of_port port known.cause known.output
+of_device (command.Apply db) known = of_streams known.input known.output
+of_device (command.Value denom issued month rate extension) known = says.Output (of_kind known.output)
+of_device (command.Export customer db) known = says.Output (of_kind known.output)
+of_device (command.Sheet customer month db) known = says.Output (of_kind known.output)
 
 -- why a file was not read
 abbrev pub of_reading : Option Cause → Option SystemCause
 of_reading (Some (cause.File why)) = why
 of_reading noted = None
 
-abbrev pub by_code : FileKind → Bor (List ℕ) → ℕ → FileCode → Option Cause → Explanation
-by_code k file row code.BadHeader noted = says.Header file k
-by_code k file row code.WrongFieldCount noted = says.FieldCount file row
-by_code k file row (code.BadValue column) noted = says.Field file row column
-by_code k file row code.ReadFailed noted = says.Unread file (of_reading noted)
-by_code k file row code.NoMemory noted = says.NoMemory
-by_code k file row code.FileTooLong noted = says.TooLong file
+abbrev pub by_code : FileKind → Bor (List ℕ) → ℕ → FileCode → Option Cause → Option (Bor (List ℕ)) → Explanation
+by_code k file row code.BadHeader noted shown = says.Header file k
+by_code k file row code.WrongFieldCount noted shown = says.FieldCount file row
+by_code k file row (code.BadValue column) noted shown = says.Field file row column shown
+by_code k file row code.ReadFailed noted shown = says.Unread file (of_reading noted)
+by_code k file row code.NoMemory noted shown = says.NoMemory
+by_code k file row code.FileTooLong noted shown = says.TooLong file
 
 -- of a fault in a file of this kind
-abbrev pub in_file : FileKind → Bor (List ℕ) → FileFault → Option Cause → Explanation
-in_file k file f noted = by_code k file f.row f.code noted
+abbrev pub in_file : FileKind → Bor (List ℕ) → FileFault → Known → Explanation
+in_file k file f known = by_code k file f.row f.code known.cause known.field
 
 -- of a fault in the file of an import
-abbrev pub of_file : Command → FileFault → Option Cause → Option Explanation
-of_file (command.Import k file db desk number) f noted = Some (in_file k file f noted)
-of_file _ f noted = None
+abbrev pub of_file : Command → FileFault → Known → Option Explanation
+of_file (command.Import k file db desk number) f known = Some (in_file k file f known)
+of_file _ f known = None
 
 -- of a fault of this store
 abbrev pub in_store : Bor (List ℕ) → StoreFault → Option Cause → Explanation
@@ -126,8 +159,8 @@ of_store (command.Sheet customer month db) f noted = Some (in_store db f noted)
 of_store (command.Serve db port connections) f noted = Some (in_store db f noted)
 
 -- what the second line of a command's fault says
-abbrev pub explanation_of : Command → RunFault → Option Cause → Option Explanation
-explanation_of line fault.NoMemory noted = Some says.NoMemory
-explanation_of line fault.Device noted = Some (of_device line noted)
-explanation_of line (fault.File f) noted = of_file line f noted
-explanation_of line (fault.Store f) noted = of_store line f noted
+abbrev pub explanation_of : Command → RunFault → Known → Option Explanation
+explanation_of line fault.NoMemory known = Some says.NoMemory
+explanation_of line fault.Device known = Some (of_device line known)
+explanation_of line (fault.File f) known = of_file line f known
+explanation_of line (fault.Store f) known = of_store line f known.cause

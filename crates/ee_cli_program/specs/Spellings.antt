@@ -28,7 +28,7 @@ spelling_of_argument name = if bytes_eq name (codes "denom") then Some spelling.
 
 -- the spelling of a column
 abbrev pub spelling_of_column : FileColumn → Spelling
-spelling_of_column column.From = spelling.Month
+spelling_of_column column.From = spelling.Issue
 spelling_of_column column.Rate = spelling.Rate
 spelling_of_column column.Extension = spelling.Rate
 spelling_of_column column.Serial = spelling.Serial

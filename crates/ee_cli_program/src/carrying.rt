@@ -113,6 +113,7 @@ fn import<O: Stores, W: Sink>(
             Carried {
                 ended,
                 cause: tried.cause,
+                field: tried.field,
             }
         }
         Err(not) => not_opened(not),
@@ -185,6 +186,7 @@ fn serve<O: Stores, W: Sink>(
             Carried {
                 ended,
                 cause: tried.cause,
+                field: tried.field,
             }
         }
         Err(not) => not_opened(not),
@@ -207,9 +209,13 @@ fn value<W: Sink>(
 
 // A command that ended so, and opened all that it needs.
 fn without_cause(ended: Result<Outcome, RunFault>) -> Carried
-    ensures { result ≡ record { ended = ended; cause = None } }
+    ensures { result ≡ record { ended = ended; cause = None; field = None } }
 {
-    Carried { ended, cause: None }
+    Carried {
+        ended,
+        cause: None,
+        field: None,
+    }
 }
 
 // A command whose store wasn't opened.
@@ -221,6 +227,7 @@ fn not_opened<R: Drop>(not: Unopened<R>) -> Carried
     Carried {
         ended: Err(not.fault),
         cause: not.cause.map(Cause::Store),
+        field: None,
     }
 }
 

@@ -2,7 +2,7 @@
 
 ghost use Rattle.std.specs.Prelude.{◌≡◌, option_map};
 ghost use Rattle.ee_cli_program.specs.Spellings.{spelling_of_argument};
-ghost use Rattle.ee_cli_program.specs.Explained.{explanation_of, header_text, in_file, in_store, of_device, of_file, of_reading, of_store};
+ghost use Rattle.ee_cli_program.specs.Explained.{explanation_of, header_text, in_file, in_store, of_device, of_file, of_kind, of_reading, of_serving, of_store, of_streams};
 
 use crate::spellings::{Spelling, spelling_of_argument, spelling_of_column};
 use crate::system::SystemCause;
@@ -22,6 +22,19 @@ pub enum Cause {
     Port(Option<SystemCause>),
     /// The files of a store.
     Store(OpenCause),
+}
+
+/// What is known of why a command failed.
+#[derive(Clone, Copy)]
+pub struct Known<'a> {
+    /// What wasn't opened.
+    pub cause: Option<Cause>,
+    /// The field of a file that spells no value, as it is shown.
+    pub field: Option<&'a str>,
+    /// The kind of the last error of standard input.
+    pub input: Option<ErrorKind>,
+    /// The kind of the last error of standard output.
+    pub output: Option<ErrorKind>,
 }
 
 /// What the second line of a fault says.
@@ -44,6 +57,8 @@ pub enum Explanation<'a> {
         file: &'a str,
         row: u64,
         column: FileColumn,
+        /// The field, as it is shown, if it is known.
+        shown: Option<&'a str>,
     },
     /// A read of the file failed.
     Unread {
@@ -65,9 +80,15 @@ pub enum Explanation<'a> {
         cause: Option<SystemCause>,
     },
     /// Standard output failed.
-    Output,
+    Output(Option<SystemCause>),
+    /// Standard output failed under answers.
+    Answers(Option<SystemCause>),
+    /// Standard input failed.
+    Input(Option<SystemCause>),
     /// Standard input or standard output failed.
     InputOrOutput,
+    /// Standard output failed under a server.
+    Log(Option<SystemCause>),
     /// No connection was accepted, or standard output failed.
     Connections,
     /// The store wasn't opened.
@@ -116,11 +137,17 @@ impl fmt::Display for Explanation<'_> {
                 f,
                 "{file}: row {row} has not one field for each column; correct it, and send the file again"
             ),
-            Explanation::Field { file, row, column } => {
+            Explanation::Field {
+                file,
+                row,
+                column,
+                shown,
+            } => {
+                let shown = Is(shown);
                 let spelling = spelling_of_column(column);
                 write!(
                     f,
-                    "{file}: row {row}, column {column}: {spelling}; correct it, and send the file again"
+                    "{file}: row {row}, column {column}{shown}: {spelling}; correct it, and send the file again"
                 )
             }
             Explanation::Unread { file, cause } => {
@@ -154,12 +181,46 @@ impl fmt::Display for Explanation<'_> {
                     "port {port}: {cause}; choose another port, or end what uses it"
                 )
             }
-            Explanation::Output => f.write_str(
-                "standard output failed; run the line again: what was decided gets its reply",
-            ),
+            Explanation::Output(cause) => {
+                let cause = Because {
+                    cause,
+                    otherwise: "a write failed",
+                };
+                write!(
+                    f,
+                    "standard output: {cause}; run the line again: what was decided gets its reply"
+                )
+            }
+            Explanation::Answers(cause) => {
+                let cause = Because {
+                    cause,
+                    otherwise: "a write failed",
+                };
+                write!(
+                    f,
+                    "standard output: {cause}; send again: what was decided gets its reply"
+                )
+            }
+            Explanation::Input(cause) => {
+                let cause = Because {
+                    cause,
+                    otherwise: "a read failed",
+                };
+                write!(
+                    f,
+                    "standard input: {cause}; send again: what was decided gets its reply"
+                )
+            }
             Explanation::InputOrOutput => f.write_str(
                 "standard input or output failed; send again: what was decided gets its reply",
             ),
+            Explanation::Log(cause) => {
+                let cause = Because {
+                    cause,
+                    otherwise: "a write failed",
+                };
+                write!(f, "standard output: {cause}; start the server again")
+            }
             Explanation::Connections => f.write_str(
                 "no connection was accepted, or standard output failed; start the server again",
             ),
@@ -184,6 +245,24 @@ impl fmt::Display for Explanation<'_> {
                 "{store}: the work is done, and is kept in the file and its log together; look at the disk"
             ),
             Explanation::NoMemory => f.write_str("memory was refused; run the line again"),
+        }
+    }
+}
+
+// What a field is, if that is known.
+#[derive(Clone, Copy)]
+struct Is<'a>(Option<&'a str>);
+
+impl fmt::Display for Is<'_> {
+    ghost use Rattle.std.specs.Prelude.{Some};
+    ghost use Rattle.ee_cli_program.specs.Explained.{is_text};
+
+    ghost output = { λ it. Some (is_text it.0) };
+
+    fn fmt<W: fmt::Write>(&self, f: &mut fmt::Formatter<W>) -> fmt::Result {
+        match self.0 {
+            Some(shown) => write!(f, " is \"{shown}\""),
+            None => Ok(()),
         }
     }
 }
@@ -282,73 +361,97 @@ pub fn explain_argument(name: &str) -> Option<Explanation<'static>>
     }
 }
 
-/// What the second line of a fault of a command says. `cause` says what wasn't opened, if that was the fault.
-/// `None` for a fault that the command can't have.
+/// What the second line of a fault of a command says, by what is `known`. `None` for a fault that the command can't
+/// have.
 pub fn explain<'a>(
     command: &Command<'a>,
     fault: RunFault,
-    cause: Option<Cause>,
+    known: Known<'a>,
 ) -> Option<Explanation<'a>>
-    ensures { result ≡ explanation_of command.now fault cause }
+    ensures { result ≡ explanation_of command.now fault known.entry }
 {
     match fault {
         RunFault::NoMemory => Some(Explanation::NoMemory),
-        RunFault::Device => Some(of_device(command, cause)),
-        RunFault::File(fault) => of_file(command, fault, cause),
-        RunFault::Store(fault) => of_store(command, fault, cause),
+        RunFault::Device => Some(of_device(command, known)),
+        RunFault::File(fault) => of_file(command, fault, known),
+        RunFault::Store(fault) => of_store(command, fault, known.cause),
     }
 }
 
 // Of a failed device: what wasn't opened, or the streams that the command uses.
-fn of_device<'a>(command: &Command<'a>, cause: Option<Cause>) -> Explanation<'a>
-    ensures { result ≡ of_device command.now cause }
+fn of_device<'a>(command: &Command<'a>, known: Known<'a>) -> Explanation<'a>
+    ensures { result ≡ of_device command.now known.entry }
 {
     match *command {
-        Command::Import { file, .. } => match cause {
+        Command::Import { file, .. } => match known.cause {
             Some(Cause::File(cause)) => Explanation::NoFile { file, cause },
-            _ => Explanation::Output,
+            _ => Explanation::Output(of_kind(known.output)),
         },
-        Command::Serve { port, .. } => match cause {
+        Command::Serve { port, .. } => match known.cause {
             Some(Cause::Port(cause)) => Explanation::NoPort { port, cause },
-            _ => Explanation::Connections,
+            _ => of_serving(known.output),
         },
-        Command::Apply(_) => Explanation::InputOrOutput,
+        Command::Apply(_) => of_streams(known.input, known.output),
         Command::Value { .. } | Command::Export { .. } | Command::Sheet { .. } => {
-            Explanation::Output
+            Explanation::Output(of_kind(known.output))
         }
     }
 }
 
+// The cause of an error of this kind, if there was one.
+fn of_kind(kind: Option<ErrorKind>) -> Option<SystemCause>
+    ensures { result ≡ of_kind kind }
+{
+    SystemCause::of(kind?)
+}
+
+// Of a server that ended: its output failed, or it accepted no connection.
+fn of_serving(output: Option<ErrorKind>) -> Explanation<'static>
+    ensures { result ≡ of_serving output }
+{
+    match output {
+        Some(kind) => Explanation::Log(SystemCause::of(kind)),
+        None => Explanation::Connections,
+    }
+}
+
+// Of the two streams of a connection.
+fn of_streams(input: Option<ErrorKind>, output: Option<ErrorKind>) -> Explanation<'static>
+    ensures { result ≡ of_streams input output }
+{
+    match (output, input) {
+        (Some(kind), _) => Explanation::Answers(SystemCause::of(kind)),
+        (None, Some(kind)) => Explanation::Input(SystemCause::of(kind)),
+        (None, None) => Explanation::InputOrOutput,
+    }
+}
+
 // Of a fault in the file of an import.
-fn of_file<'a>(
-    command: &Command<'a>,
-    fault: FileFault,
-    cause: Option<Cause>,
-) -> Option<Explanation<'a>>
-    ensures { result ≡ of_file command.now fault cause }
+fn of_file<'a>(command: &Command<'a>, fault: FileFault, known: Known<'a>) -> Option<Explanation<'a>>
+    ensures { result ≡ of_file command.now fault known.entry }
 {
     match *command {
-        Command::Import { kind, file, .. } => Some(in_file(kind, file, fault, cause)),
+        Command::Import { kind, file, .. } => Some(in_file(kind, file, fault, known)),
         _ => None,
     }
 }
 
 // Of a fault in a file of this kind.
-fn in_file<'a>(
-    kind: FileKind,
-    file: &'a str,
-    fault: FileFault,
-    cause: Option<Cause>,
-) -> Explanation<'a>
-    ensures { result ≡ in_file kind file.entry fault cause }
+fn in_file<'a>(kind: FileKind, file: &'a str, fault: FileFault, known: Known<'a>) -> Explanation<'a>
+    ensures { result ≡ in_file kind file.entry fault known.entry }
 {
     let row = fault.row;
     match fault.code {
         FileCode::BadHeader => Explanation::Header { file, kind },
         FileCode::WrongFieldCount => Explanation::FieldCount { file, row },
-        FileCode::BadValue(column) => Explanation::Field { file, row, column },
+        FileCode::BadValue(column) => Explanation::Field {
+            file,
+            row,
+            column,
+            shown: known.field,
+        },
         FileCode::ReadFailed => {
-            let cause = of_reading(cause);
+            let cause = of_reading(known.cause);
             Explanation::Unread { file, cause }
         }
         FileCode::NoMemory => Explanation::NoMemory,

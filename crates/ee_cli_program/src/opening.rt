@@ -1,31 +1,38 @@
 //! Opening the file of an import, and the port of a server.
 
-ghost use Rattle.std.specs.Prelude.{◌≡◌, IfOk, None};
+ghost use Rattle.std.specs.Prelude.{◌≡◌, List, ℕ, Some, Err, IfOk, IfSome, None, string_bytes};
+ghost use Rattle.std.specs.Result.{IsErr};
 ghost use Rattle.ee_desk_model.specs.Repeats.{Content};
 ghost use Rattle.ee_cli_actions.specs.Actions.{ImportsInto};
 ghost use Rattle.ee_cli_actions.specs.Connections.{ServesAll};
 ghost use Rattle.ee_cli_program.specs.Stores.{Tries};
-ghost use Rattle.ee_cli_program.specs.Told.{TellsOnlyIf};
+ghost use Rattle.ee_cli_program.specs.Told.{ShowsField, TellsOnlyIf};
 
 use crate::explaining::Cause;
 use crate::system::SystemCause;
 use ee_cli_actions::{Outcome, RunFault, import_into, serve_on};
 use ee_cli_commands::FileKind;
 use ee_desk_model::{Desk, Number};
-use ee_io::Sink;
+use ee_files::{FileCode, FileFault, MOST_BYTES, show_field};
+use ee_io::{ReadFault, Sink, read_whole};
 use ee_keeper::Keeper;
+use std::alloc::Global;
 use std::fs;
 use std::net::TcpListener;
 use std::time::Duration;
 
-/// How a command ended, and what wasn't opened, if that is known to be why it failed.
-#[derive(Clone, Copy)]
+/// How a command ended, and what is known of why it failed.
+#[derive(Drop)]
 pub struct Carried {
     pub ended: Result<Outcome, RunFault>,
+    /// What wasn't opened.
     pub cause: Option<Cause>,
+    /// The field of the file that spells no value, as it is shown.
+    pub field: Option<String>,
 }
 
-/// Imports the file at this path. A file that can't be opened is `Device`.
+/// Imports the file at this path, which is read whole first. A file that can't be opened is `Device`. A field that
+/// is shown is that of the fault.
 pub fn import_path<K: Keeper, W: Sink>(
     rt: &HostRuntime,
     keeper: &mut K,
@@ -39,28 +46,86 @@ pub fn import_path<K: Keeper, W: Sink>(
         → Tries (W.contents output.old) (W.contents output.new) result.ended
         (ImportsInto kind None (W.contents output.old) (W.contents output.new) (desk, number) c result.ended (K.has keeper.new)) (K.has keeper.new c) }
     ensures told { TellsOnlyIf result.ended result.cause }
+    ensures shown { IfSome result.field (λ shown. (bytes : List ℕ) × ShowsField bytes result.ended (string_bytes shown)) }
 {
     match fs::open(rt, path) {
         Ok(mut file) => {
             let is_folder = file.metadata().is_ok_and(|found| found.is_dir());
-            let ended = import_into(rt.alloc(), keeper, kind, desk, number, &mut file, output);
-            let cause = folder_read(is_folder, &ended);
-            Carried { ended, cause }
+            match read_whole(rt.alloc(), &mut file, MOST_BYTES) {
+                Ok(bytes) => import_bytes(rt.alloc(), keeper, kind, desk, number, &bytes, output),
+                Err(fault) => not_read(is_folder, fault),
+            }
         }
         Err(error) => Carried {
             ended: Err(RunFault::Device),
             cause: Some(Cause::File(SystemCause::of(error.kind()))),
+            field: None,
         },
     }
 }
 
-// A folder is opened as a file is, and then not read.
-fn folder_read(is_folder: bool, ended: &Result<Outcome, RunFault>) -> Option<Cause>
-    ensures { TellsOnlyIf ended.now result }
+// Imports a file of these bytes.
+fn import_bytes<K: Keeper, W: Sink>(
+    alloc: Global,
+    keeper: &mut K,
+    kind: FileKind,
+    desk: Desk,
+    number: Number,
+    bytes: &[u8],
+    output: &mut W,
+) -> Carried
+    ensures imports { K.is_clean keeper.new → (c : Content) → K.has keeper.old c
+        → ImportsInto kind (Some bytes.now) (W.contents output.old) (W.contents output.new) (desk, number) c result.ended (K.has keeper.new) }
+    ensures told { result.cause ≡ None }
+    ensures shown { IfSome result.field (λ shown. ShowsField bytes.now result.ended (string_bytes shown)) }
+{
+    let mut source = bytes;
+    let ended = import_into(alloc, keeper, kind, desk, number, &mut source, output);
+    let field = field_at_fault(alloc, &ended, bytes);
+    Carried {
+        ended,
+        cause: None,
+        field,
+    }
+}
+
+// The field that spells no value, as it is shown; `None` if that isn't the fault, or memory was refused.
+fn field_at_fault(alloc: Global, ended: &Result<Outcome, RunFault>, bytes: &[u8]) -> Option<String>
+    ensures { IfSome result (λ shown. ShowsField bytes.now ended.now (string_bytes shown)) }
 {
     match *ended {
-        Err(RunFault::File(_)) if is_folder => Some(Cause::File(Some(SystemCause::Folder))),
+        Err(
+            RunFault::File(
+                FileFault {
+                    row,
+                    code: FileCode::BadValue(column),
+                },
+            ),
+        ) => show_field(alloc, bytes, row, column),
         _ => None,
+    }
+}
+
+// A file that was opened, and not read. A folder is opened as a file is.
+fn not_read(is_folder: bool, fault: ReadFault) -> Carried
+    ensures ended { IsErr result.ended }
+    ensures told { TellsOnlyIf result.ended result.cause }
+    ensures shown { result.field ≡ None }
+{
+    let cause = if is_folder {
+        Some(Cause::File(Some(SystemCause::Folder)))
+    } else {
+        None
+    };
+    let code = match fault {
+        ReadFault::TooLong => FileCode::FileTooLong,
+        ReadFault::ReadFailed => FileCode::ReadFailed,
+        ReadFault::NoMemory => FileCode::NoMemory,
+    };
+    Carried {
+        ended: Err(RunFault::File(FileFault { row: 1, code })),
+        cause,
+        field: None,
     }
 }
 
@@ -93,10 +158,12 @@ pub fn serve_port<K: Keeper, W: Sink>(
                 output,
             ),
             cause: None,
+            field: None,
         },
         Err(error) => Carried {
             ended: Err(RunFault::Device),
             cause: Some(Cause::Port(SystemCause::of(error.kind()))),
+            field: None,
         },
     }
 }

@@ -15,9 +15,10 @@ ghost use Rattle.ee_cli_program.specs.Statuses.{Carries, IsRun, version_line};
 ghost use Rattle.ee_cli_program.specs.Stores.{AreClean, CarriesOver};
 
 use crate::carrying::carry_out;
-use crate::explaining::{Cause, Explanation, explain, explain_argument};
+use crate::explaining::{Explanation, Known, explain, explain_argument};
 use crate::opening::Carried;
 use crate::stores::Stores;
+use crate::streams::Stream;
 use ee_cli_actions::{Outcome, RunFault, print};
 use ee_cli_commands::{Command, CommandFault, VERSION, asks_to_explain, read_command};
 use ee_cli_value::{BAD_LINE, DONE, FAILED, conclude, report};
@@ -36,7 +37,7 @@ use std::io::{self, ErrorKind, Write};
 /// - `printed`: if they ask for a value and the status is 0, the output gained exactly that value's line.
 /// - `version`: if they ask for the version and the status is 0, it gained exactly the line of the versions.
 /// - `over`: what a command over a store did and printed, by what the store held (`contents`).
-pub fn run_words<O: Stores, R: Source, W: Sink, E: Write>(
+pub fn run_words<O: Stores, R: Source + Stream, W: Sink + Stream, E: Write>(
     rt: &HostRuntime,
     stores: &O,
     words: &[String],
@@ -58,14 +59,24 @@ pub fn run_words<O: Stores, R: Source, W: Sink, E: Write>(
     let explains = explains || asks_to_explain(words);
     match read_command(rt.alloc(), words) {
         Ok(command) => {
-            let Carried { ended, cause } = carry_out(rt, stores, &command, input, output);
-            settle(&command, ended, cause, explains, faults)
+            let Carried {
+                ended,
+                cause,
+                field,
+            } = carry_out(rt, stores, &command, input, output);
+            let known = Known {
+                cause,
+                field: field.as_deref(),
+                input: input.failure(),
+                output: output.failure(),
+            };
+            settle(&command, ended, known, explains, faults)
         }
         Err(CommandFault::Help(text)) => show(&text, output, faults),
         Err(CommandFault::Version) => show_version(rt.alloc(), output, faults),
         Err(CommandFault::Line(text)) => refuse_line(&text, faults),
         Err(CommandFault::Argument(name)) => refuse_argument(name, explains, faults),
-        Err(CommandFault::NoMemory) => report(&RunFault::NoMemory, faults),
+        Err(CommandFault::NoMemory) => refuse_memory(explains, faults),
     }
 }
 
@@ -73,7 +84,7 @@ pub fn run_words<O: Stores, R: Source, W: Sink, E: Write>(
 fn settle<E: Write>(
     command: &Command,
     ended: Result<Outcome, RunFault>,
-    cause: Option<Cause>,
+    known: Known,
     explains: bool,
     faults: &mut E,
 ) -> u8
@@ -84,7 +95,7 @@ fn settle<E: Write>(
         Err(fault) => {
             let status = report(&fault, faults);
             if explains {
-                tell(explain(command, fault, cause), faults);
+                tell(explain(command, fault, known), faults);
             }
             status
         }
@@ -150,6 +161,17 @@ fn refuse_line<E: Write>(text: &str, faults: &mut E) -> u8
 {
     let told = write!(faults, "{text}");
     if told.is_ok() { BAD_LINE } else { FAILED }
+}
+
+// Reports that memory was refused to the words of a line, and explains it if that is asked for.
+fn refuse_memory<E: Write>(explains: bool, faults: &mut E) -> u8
+    ensures { result ≡ 3 }
+{
+    let status = report(&RunFault::NoMemory, faults);
+    if explains {
+        tell(Some(Explanation::NoMemory), faults);
+    }
+    status
 }
 
 // Reports which word spells no value, and explains how it is spelled if that is asked for.

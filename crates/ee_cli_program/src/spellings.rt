@@ -65,11 +65,10 @@ pub fn spelling_of_column(column: FileColumn) -> Spelling
     ensures { result ≡ spelling_of_column column }
 {
     match column {
-        FileColumn::From => Spelling::Month,
+        FileColumn::From | FileColumn::Issued => Spelling::Issue,
         FileColumn::Rate | FileColumn::Extension => Spelling::Rate,
         FileColumn::Serial => Spelling::Serial,
         FileColumn::Denom => Spelling::Denom,
-        FileColumn::Issued => Spelling::Issue,
         FileColumn::Owner | FileColumn::Coowner => Spelling::Customer,
     }
 }

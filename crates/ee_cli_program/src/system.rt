@@ -21,6 +21,12 @@ pub enum SystemCause {
     ReadOnly,
     /// The disk is full.
     Full,
+    /// A name of the path is too long.
+    LongName,
+    /// Symbolic links of the path lead in a circle.
+    Circle,
+    /// The other end of a pipe or a socket was closed.
+    Unread,
     /// The address is in use.
     AddressInUse,
 }
@@ -37,6 +43,9 @@ impl SystemCause {
             ErrorKind::NotADirectory => Some(SystemCause::NoFolder),
             ErrorKind::ReadOnlyFilesystem => Some(SystemCause::ReadOnly),
             ErrorKind::StorageFull => Some(SystemCause::Full),
+            ErrorKind::InvalidFilename => Some(SystemCause::LongName),
+            ErrorKind::FilesystemLoop => Some(SystemCause::Circle),
+            ErrorKind::BrokenPipe => Some(SystemCause::Unread),
             ErrorKind::AddrInUse => Some(SystemCause::AddressInUse),
             _ => None,
         }
@@ -58,6 +67,9 @@ impl fmt::Display for SystemCause {
             SystemCause::NoFolder => "a part of the path is no folder",
             SystemCause::ReadOnly => "the file system is read-only",
             SystemCause::Full => "no space left on the disk",
+            SystemCause::LongName => "a name of the path is too long",
+            SystemCause::Circle => "symbolic links lead in a circle",
+            SystemCause::Unread => "nothing reads it",
             SystemCause::AddressInUse => "address in use",
         })
     }

@@ -6,3 +6,4 @@ mod RowsRead
 mod InOrder
 mod BondsBack
 mod NamesInPlace
+mod Passed

@@ -1,6 +1,7 @@
 pub mod Columns
 pub mod Faults
 pub mod Fields
+pub mod Showing
 pub mod Rows
 pub mod RateFile
 pub mod BondFile

@@ -14,6 +14,7 @@ mod inventory;
 mod laws;
 mod rates;
 mod records;
+mod showing;
 
 pub use columns::FileColumn;
 pub use export::write_inventory;
@@ -22,3 +23,4 @@ pub use inventory::read_inventory;
 pub use laws::{header_law, inventory_law, rows_law};
 pub use rates::read_rates;
 pub use records::MOST_BYTES;
+pub use showing::show_field;

@@ -40,8 +40,8 @@ const fn unreadable(code: FileCode) -> FileFault
     FileFault { row: 1, code }
 }
 
-// The bytes are in memory, so an error is want of memory.
-fn next_record(records: &mut Reader<&[u8]>, fields: &mut ByteRecord) -> Result<bool, FileFault>
+/// Reads the next record. The bytes are in memory, so an error is want of memory.
+pub fn next_record(records: &mut Reader<&[u8]>, fields: &mut ByteRecord) -> Result<bool, FileFault>
     ensures ok { IfOk result (λ found. (rest : List (List (List ℕ))) → HasLeft records.old rest → TakesNext records.new rest found (fields_of fields.new)) }
     ensures err { IfErr result Unreadable }
     ensures read { IfErr result WasRead }
@@ -76,8 +76,8 @@ fn rows_under_header<T: FileRow>(
     Ok(rows)
 }
 
-// A reader over a text with all its records left.
-fn reader_of(alloc: Global, bytes: &[u8]) -> Reader<&[u8]>
+/// A reader over a text with all its records left.
+pub fn reader_of(alloc: Global, bytes: &[u8]) -> Reader<&[u8]>
     ensures { HasLeft result (records default_config (strip_bom bytes.entry.now)) }
 {
     ReaderBuilder::new()

@@ -1,11 +1,11 @@
 //! Lines that ask for values, for help or for nothing that the program does, and what is printed if the output
 //! fails. The values were worked out by hand from the rules of 31 CFR Part 351.
 
-ghost use Rattle.std.specs.Prelude.{⊤};
+ghost use Rattle.std.specs.Prelude.{None, ⊤};
 
 use crate::commands::{InMemory, assert_fault, prints, run, words};
 use crate::comparing::{assert_holds, assert_same, parts};
-use ee_cli_program::{refuse_words, run_words};
+use ee_cli_program::{Stream, refuse_words, run_words};
 use ee_io::Sink;
 use std::alloc::Global;
 use std::io::{self, ErrorKind, Write};
@@ -156,6 +156,14 @@ impl Write for Failing {
 
     fn flush(&mut self) -> io::Result<()> {
         Ok(())
+    }
+}
+
+impl Stream for Failing {
+    ghost failed = { λ _. None };
+
+    fn failure(&self) -> Option<ErrorKind> {
+        None
     }
 }
 
