@@ -2,6 +2,8 @@
 //!
 //! It promises the columns of each row under each note, sums that are those of the rows, and a text that is
 //! written whole or as a front. Begin with `specs/Rows.antt`, then `specs/Sheets.antt` and `writing.rt`.
+//!
+//! It doesn't promise that a row is the one that Treasury prints: `published_values` compares them.
 #![tactic(auto)]
 
 mod bonds;

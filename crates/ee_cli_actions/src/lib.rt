@@ -2,6 +2,8 @@
 //!
 //! It promises what each command prints, with which status it ends, and what the keeper has afterwards. Begin
 //! with `specs/Actions.antt`; each command has a file.
+//!
+//! It doesn't promise that a reply that was printed was read, nor who sent a request.
 #![tactic(auto)]
 
 mod applying;

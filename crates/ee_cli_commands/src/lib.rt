@@ -2,6 +2,8 @@
 //!
 //! It promises that words ask for at most one thing, and that a word at fault is named, the first in the row's
 //! order. Begin with `specs/CommandLine.antt`, then `commands.rt`.
+//!
+//! It doesn't promise that a path, a port or a file that a line names can be used.
 #![tactic(auto)]
 
 mod commands;

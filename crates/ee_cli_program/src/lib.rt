@@ -3,6 +3,9 @@
 //!
 //! It promises for every list of words what is printed, the exit status, and what the store at the path then
 //! has. Begin with `run.rt` and `carrying.rt`; `stores.rt` says what it asks of the stores.
+//!
+//! It doesn't promise that a text that standard output took was read, nor that bytes of a socket are a
+//! teller's.
 #![tactic(auto)]
 
 mod carrying;

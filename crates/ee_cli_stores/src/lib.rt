@@ -2,6 +2,8 @@
 //!
 //! It promises the fault of an opening under its printed name, and that a store is written back as it is
 //! closed. Begin with `files.rt`.
+//!
+//! It doesn't promise that the store at a path is the bank's own: any store there is opened.
 #![tactic(auto)]
 
 mod files;

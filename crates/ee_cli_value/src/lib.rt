@@ -2,6 +2,8 @@
 //!
 //! It promises the printed value, or a fault and its exit status, and that a line that isn't read is left to
 //! the whole program. Begin with `lines.rt` and `values.rt`.
+//!
+//! It doesn't promise that a text that standard output took was read.
 #![tactic(auto)]
 
 mod endings;

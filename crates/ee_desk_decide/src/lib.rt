@@ -2,6 +2,8 @@
 //!
 //! It promises the effects of an act on any books that the view shows, whatever else these have. Begin with
 //! `views.rt`, then `decisions.rt` and, for the tests in their order, `checks.rt`; `sheets.rt` has the rows.
+//!
+//! It doesn't promise anything about a view that no sound books show.
 #![tactic(auto)]
 
 mod checks;

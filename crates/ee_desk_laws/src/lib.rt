@@ -2,6 +2,8 @@
 //! of tellers changes, and what a keeper over a store must satisfy for the first of them.
 //!
 //! It promises theorems, and runs nothing. Begin with `specs/Events.antt` and `laws.rt`.
+//!
+//! It doesn't promise that a disk or a client does what its events say: a store has to show it.
 #![tactic(auto)]
 
 mod laws;

@@ -4,6 +4,8 @@
 //! It promises what later crates prove against: what an act changes and replies, which refusal comes first, and
 //! that acts keep books sound. Begin with `specs/PlainBooks.antt`, `specs/Refusals.antt` and `specs/Acts.antt`;
 //! `specs/Repeats.antt` has requests that are sent again.
+//!
+//! It doesn't promise who sent a request, nor that the paper of a bond was seen.
 #![tactic(auto)]
 
 mod acts;

@@ -2,6 +2,8 @@
 //!
 //! It promises that parts pass exactly if they are those of sound books, and that sound books have one list of
 //! parts. Begin with `specs/Checks.antt` and `checks.rt`.
+//!
+//! It doesn't promise a repair: parts that aren't sound are refused as a whole.
 #![tactic(auto)]
 
 mod checks;

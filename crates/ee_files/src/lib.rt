@@ -2,6 +2,8 @@
 //!
 //! It promises the rows of a file, or its first fault by row and code, and an export that is read back. Begin
 //! with `specs/Rows.antt`, then `specs/RateFile.antt` and `specs/BondFile.antt`.
+//!
+//! It doesn't promise that a row is true: every row that is spelled right is read.
 #![tactic(auto)]
 
 mod columns;

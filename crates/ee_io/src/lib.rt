@@ -2,6 +2,8 @@
 //!
 //! It promises the whole source or a cause, and a text of which the device has a front; over bytes in memory a
 //! call never fails by the device. Begin with the traits `Source` and `Sink`.
+//!
+//! It doesn't promise which bytes a device gives, nor that bytes that it took have arrived.
 #![tactic(auto)]
 
 ghost use Rattle.std.specs.Prelude.{◌≡◌, false};

@@ -3,6 +3,8 @@
 //!
 //! It promises that the bounds enclose the root and are the nearest ones that its products allow, and that a
 //! value is given only if both bounds round to it. Begin with `specs/Roots.antt` and `roots.rt`.
+//!
+//! It doesn't promise that two bounds give one value: at any precision they may round to different cents.
 #![tactic(auto)]
 
 mod amounts;

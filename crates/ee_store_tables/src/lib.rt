@@ -2,6 +2,9 @@
 //!
 //! It promises what each statement finds, changes and leaves of the rows, why it fails, and what a crash may
 //! then leave. Begin with `specs/Rows.antt` and `specs/Tables.antt`; `bonds.rt` is typical of the statements.
+//!
+//! It doesn't promise anything once a disk gave wrong bytes as right ones, or while another program writes
+//! the file.
 #![tactic(auto)]
 
 mod answers;

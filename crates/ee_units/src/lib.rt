@@ -4,6 +4,9 @@
 //! It promises that each reader takes the texts of a grammar and no others, and that each printed text is read
 //! back (`laws.rt`). Begin with `specs/Spelling.antt`, and for months and days with `specs/Calendar.antt`; the
 //! ranges are in `specs/Limits.antt`.
+//!
+//! It doesn't promise that a value exists in the world: that Treasury issued a bond with this serial number,
+//! or that a day was a business day.
 #![tactic(auto)]
 
 mod ages;

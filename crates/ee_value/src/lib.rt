@@ -5,6 +5,8 @@
 //! It promises the value that the rounding rule gives, to the cent, or names the least age at which the
 //! precision doesn't settle it. Begin with `specs/Rounding.antt` and `specs/Chain.antt`, then `tables.rt`;
 //! `laws.rt` has worked examples.
+//!
+//! It doesn't promise that two rates leave no age open: tests show that of all equal pairs of rates.
 #![tactic(auto)]
 
 mod accrual;

@@ -3,6 +3,9 @@
 //!
 //! It promises the same values as the counter's, and a status for each number that is out of range. Begin with
 //! `exports.rt` and `specs/Answers.antt`.
+//!
+//! It doesn't promise anything if a buffer is smaller than its caller says, or if another thread uses it
+//! during the call.
 #![tactic(auto)]
 
 mod answers;

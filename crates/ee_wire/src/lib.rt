@@ -2,6 +2,8 @@
 //!
 //! It promises the bytes of each response: its status, headers and body. Begin with `specs/Answers.antt`, then
 //! `answers.rt`.
+//!
+//! It doesn't promise that a response arrives.
 #![tactic(auto)]
 
 mod answers;

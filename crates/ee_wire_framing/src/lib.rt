@@ -3,6 +3,8 @@
 //!
 //! It promises the split of a stream into messages by its bytes alone, however they come in pieces, within
 //! fixed limits of memory. Begin with `specs/Framing.antt`, then `buffer.rt`.
+//!
+//! It doesn't promise that a client sends all of a message, nor when.
 #![tactic(auto)]
 
 mod buffer;
