@@ -6,8 +6,9 @@ import os
 import shutil
 import socket
 import subprocess
+import threading
 from collections.abc import Callable, Iterator
-from contextlib import AbstractContextManager, contextmanager
+from contextlib import AbstractContextManager, contextmanager, suppress
 from pathlib import Path
 
 from .bench import RATES, Counter, Streams, Use
@@ -93,14 +94,51 @@ def folder_input(it: Counter) -> Iterator[Streams]:
         os.close(folder)
 
 
+def visited(path: str, port: int) -> Callable[[Counter], AbstractContextManager[Streams]]:
+    """A server whose output is this file, and a client that asks it again and again."""
+
+    @contextmanager
+    def opened(it: Counter) -> Iterator[Streams]:
+        it.store()
+        output, is_over = os.open(path, os.O_WRONLY), threading.Event()
+
+        def ask() -> None:
+            while not is_over.wait(0.05):
+                with suppress(OSError), socket.create_connection(("127.0.0.1", port), timeout=10) as client:
+                    client.sendall(MESSAGE)
+                    client.shutdown(socket.SHUT_WR)
+                    client.recv(1)
+
+        client = threading.Thread(target=ask)
+        client.start()
+        try:
+            yield Streams(output=output)
+        finally:
+            is_over.set()
+            client.join()
+            os.close(output)
+
+    return opened
+
+
+def free_port() -> int:
+    with socket.socket() as free:
+        free.bind(("127.0.0.1", 0))
+        port: int = free.getsockname()[1]
+    return port
+
+
+FULL, UNREAD, NO_WRITE = ("standard output: no space left on the disk", "standard output: nothing reads it", "standard output: a write failed")
+SERVED = free_port()
 STREAMS = [
-    Use("a full disk behind the output", PRINTING, FAILED, f"standard output failed; {AGAIN}", during=output_to("/dev/full")),
-    Use("a full disk behind the answers", (APPLY,), FAILED, f"standard input or output failed; {SEND}", during=output_to("/dev/full")),
-    Use("an output that nothing reads", PRINTING, FAILED, f"standard output failed; {AGAIN}", during=unread_output),
-    Use("answers that nothing reads", (APPLY,), FAILED, f"standard input or output failed; {SEND}", during=unread_output),
-    Use("an output that is closed", PRINTING, FAILED, f"standard output failed; {AGAIN}", during=closed_output),
-    Use("answers to an output that is closed", (APPLY,), FAILED, f"standard input or output failed; {SEND}", during=closed_output),
-    Use("a folder for the input", (APPLY,), FAILED, f"standard input or output failed; {SEND}", during=folder_input),
+    Use("a full disk behind the output", PRINTING, FAILED, f"{FULL}; {AGAIN}", during=output_to("/dev/full")),
+    Use("a full disk behind the answers", (APPLY,), FAILED, f"{FULL}; {SEND}", during=output_to("/dev/full")),
+    Use("a full disk behind a server's log", (f"serve --db day.db --port {SERVED}",), FAILED, f"{FULL}; start the server again", during=visited("/dev/full", SERVED)),
+    Use("an output that nothing reads", PRINTING, FAILED, f"{UNREAD}; {AGAIN}", during=unread_output),
+    Use("answers that nothing reads", (APPLY,), FAILED, f"{UNREAD}; {SEND}", during=unread_output),
+    Use("an output that is closed", PRINTING, FAILED, f"{NO_WRITE}; {AGAIN}", during=closed_output),
+    Use("answers to an output that is closed", (APPLY,), FAILED, f"{NO_WRITE}; {SEND}", during=closed_output),
+    Use("a folder for the input", (APPLY,), FAILED, f"standard input: it is a folder; {SEND}", during=folder_input),
 ]
 
 

@@ -8,7 +8,7 @@ from collections.abc import Callable, Iterator
 from contextlib import contextmanager
 
 from .bench import FILE_OF, Counter, Streams, Use
-from .lines import CUSTOMER, DENOM, ISSUE, MONTH, RATE, SERIAL
+from .lines import CUSTOMER, DENOM, ISSUE, RATE, SERIAL
 
 FAILED = "input or output failed"
 PATH_AGAIN = "correct the path, and send the file again"
@@ -64,8 +64,8 @@ PATHS = [
     path("a file that may not be read", "rates.csv", "permission denied", closed_file),
     path("a file in a folder that may not be searched", "closed/rates.csv", "permission denied", closed_folder),
     path("a path through a file", "note/rates.csv", "a part of the path is no folder", lambda it: it.put("note", b"x")),
-    path("a name that is too long", LONG, "it was not opened"),
-    path("symbolic links in a circle", "one", "it was not opened", loop),
+    path("a name that is too long", LONG, "a name of the path is too long"),
+    path("symbolic links in a circle", "one", "symbolic links lead in a circle", loop),
     path("a socket", "rates.csv", "it was not opened", socket_file),
     unread("a folder", "rates.csv", "it is a folder", lambda it: it.path("rates.csv").mkdir()),
     unread("the folder where it runs", ".", "it is a folder"),
@@ -90,9 +90,9 @@ def row(kind: str, content: Content, fault: str, second: str) -> Use:
     return Use(kind, (importing(content[0], file),), f"file: {fault}", f"{file}: {second}", make=lambda it: it.put(file, content[1]))
 
 
-def field(kind: str, content: Content, at: int, column: str, spelling: str) -> Use:
-    """A field that spells no value of its column."""
-    return row(f"{column} of a row: {kind}", content, f"row {at} code 72", f"row {at}, column {column}: {spelling}; {AGAIN}")
+def field(kind: str, content: Content, at: int, column: str, shown: str, spelling: str) -> Use:
+    """A field that spells no value of its column, and how the second line shows it."""
+    return row(f"{column} of a row: {kind}", content, f"row {at} code 72", f'row {at}, column {column} is "{shown}": {spelling}; {AGAIN}')
 
 
 HEADERS = [
@@ -117,46 +117,46 @@ COUNTS = [
 ]
 EXTENDED = b"from,rate,extension"
 FIELDS = [
-    field("one digit of a month", rates(b"2010-5,2.00"), 2, "from", MONTH),
-    field("before bonds of this kind were sold", rates(b"2004-11,2.00"), 2, "from", MONTH),
-    field("a day", rates(b"2010-05-01,2.00"), 2, "from", MONTH),
-    field("a space", rates(b" 2010-05,2.00"), 2, "from", MONTH),
-    field("nothing", rates(b",2.00"), 2, "from", MONTH),
-    field("above 20 percent", rates(b"2010-05,2.00\n2010-11,21"), 3, "rate", RATE),
-    field("a comma in quotes", rates(b'2010-05,"2,00"'), 2, "rate", RATE),
-    field("below zero", rates(b"2010-05,-0.10"), 2, "rate", RATE),
-    field("nothing", rates(b"2010-05,"), 2, "rate", RATE),
-    field("a word", rates(b"2010-05,2.00,none", EXTENDED), 2, "extension", RATE),
-    field("above 20 percent", rates(b"2010-05,2.00,20.01", EXTENDED), 2, "extension", RATE),
-    field("the letter behind the number", bonds(b"1LEE,50,2010-11,7,"), 2, "serial", SERIAL),
-    field("a small letter", bonds(b"l1EE,50,2010-11,7,"), 2, "serial", SERIAL),
-    field("no series", bonds(b"L1,50,2010-11,7,"), 2, "serial", SERIAL),
-    field("series I", bonds(b"L1I,50,2010-11,7,"), 2, "serial", SERIAL),
-    field("number 0", bonds(b"L0EE,50,2010-11,7,"), 2, "serial", SERIAL),
-    field("eleven digits", bonds(b"L12345678901EE,50,2010-11,7,"), 2, "serial", SERIAL),
-    field("nothing", bonds(b",50,2010-11,7,"), 2, "serial", SERIAL),
-    field("a byte that isn't UTF-8", bonds(b"L\xff1EE,50,2010-11,7,"), 2, "serial", SERIAL),
-    field("a letter of another alphabet", bonds("Л1EE,50,2010-11,7,".encode()), 2, "serial", SERIAL),
-    field("bytes that would move a terminal's cursor", bonds(b"\x1b[2J\x07L1EE,50,2010-11,7,"), 2, "serial", SERIAL),
-    field("a line end in quotes", bonds(b'"L1\nEE",50,2010-11,7,'), 2, "serial", SERIAL),
-    field("40 bytes", bonds(b"L" * 40 + b",50,2010-11,7,"), 2, "serial", SERIAL),
-    field("41 bytes", bonds(b"L" * 41 + b",50,2010-11,7,"), 2, "serial", SERIAL),
-    field("a denomination of electronic bonds", bonds(b"L1EE,25,2010-11,7,"), 2, "denom", DENOM),
-    field("a sign of dollars", bonds(b"L1EE,$50,2010-11,7,"), 2, "denom", DENOM),
-    field("cents", bonds(b"L1EE,50.00,2010-11,7,"), 2, "denom", DENOM),
-    field("before bonds of this kind were sold", bonds(b"L1EE,50,2004-11,7,"), 2, "issued", ISSUE),
-    field("after the last issue month", bonds(b"L1EE,50,2100-01,7,"), 2, "issued", ISSUE),
-    field("a name of a month", bonds(b"L1EE,50,Nov 2010,7,"), 2, "issued", ISSUE),
-    field("0", bonds(b"L1EE,50,2010-11,0,"), 2, "owner", CUSTOMER),
-    field("a name", bonds(b"L1EE,50,2010-11,John Doe,"), 2, "owner", CUSTOMER),
-    field("nothing", bonds(b"L1EE,50,2010-11,,"), 2, "owner", CUSTOMER),
-    field("ten digits", bonds(b"L1EE,50,2010-11,7,1000000000"), 2, "coowner", CUSTOMER),
-    field("a word for nobody", bonds(b"L1EE,50,2010-11,7,none"), 2, "coowner", CUSTOMER),
-    field("the first of two in a row", bonds(b"L1EE,25,2004-11,7,"), 2, "denom", DENOM),
-    field("in the first of two rows", bonds(b"L1EE,50,2010-11,7,\nK2EE,50,2010-11,x,\nL1,50,2010-11,7,"), 3, "owner", CUSTOMER),
-    field("behind a row of two lines", bonds(b'"L1EE",50,2010-11,7,""\n\nK2EE,75,"2010-1\n0",7,'), 3, "issued", ISSUE),
-    field("behind a mark of the byte order", ("rates", b"\xef\xbb\xbffrom,rate\n2010-05,2.0.0\n"), 2, "rate", RATE),
-    field("a zero byte", bonds(b"L1EE,50,2010-11,7\x00,"), 2, "owner", CUSTOMER),
+    field("one digit of a month", rates(b"2010-5,2.00"), 2, "from", "2010-5", ISSUE),
+    field("before bonds of this kind were sold", rates(b"2004-11,2.00"), 2, "from", "2004-11", ISSUE),
+    field("a day", rates(b"2010-05-01,2.00"), 2, "from", "2010-05-01", ISSUE),
+    field("a space", rates(b" 2010-05,2.00"), 2, "from", " 2010-05", ISSUE),
+    field("nothing", rates(b",2.00"), 2, "from", "", ISSUE),
+    field("above 20 percent", rates(b"2010-05,2.00\n2010-11,21"), 3, "rate", "21", RATE),
+    field("a comma in quotes", rates(b'2010-05,"2,00"'), 2, "rate", "2,00", RATE),
+    field("below zero", rates(b"2010-05,-0.10"), 2, "rate", "-0.10", RATE),
+    field("nothing", rates(b"2010-05,"), 2, "rate", "", RATE),
+    field("a word", rates(b"2010-05,2.00,none", EXTENDED), 2, "extension", "none", RATE),
+    field("above 20 percent", rates(b"2010-05,2.00,20.01", EXTENDED), 2, "extension", "20.01", RATE),
+    field("the letter behind the number", bonds(b"1LEE,50,2010-11,7,"), 2, "serial", "1LEE", SERIAL),
+    field("a small letter", bonds(b"l1EE,50,2010-11,7,"), 2, "serial", "l1EE", SERIAL),
+    field("no series", bonds(b"L1,50,2010-11,7,"), 2, "serial", "L1", SERIAL),
+    field("series I", bonds(b"L1I,50,2010-11,7,"), 2, "serial", "L1I", SERIAL),
+    field("number 0", bonds(b"L0EE,50,2010-11,7,"), 2, "serial", "L0EE", SERIAL),
+    field("eleven digits", bonds(b"L12345678901EE,50,2010-11,7,"), 2, "serial", "L12345678901EE", SERIAL),
+    field("nothing", bonds(b",50,2010-11,7,"), 2, "serial", "", SERIAL),
+    field("a byte that isn't UTF-8", bonds(b"L\xff1EE,50,2010-11,7,"), 2, "serial", "L?1EE", SERIAL),
+    field("a letter of another alphabet", bonds("Л1EE,50,2010-11,7,".encode()), 2, "serial", "??1EE", SERIAL),
+    field("bytes that would move a terminal's cursor", bonds(b"\x1b[2J\x07L1EE,50,2010-11,7,"), 2, "serial", "?[2J?L1EE", SERIAL),
+    field("a line end in quotes", bonds(b'"L1\nEE",50,2010-11,7,'), 2, "serial", "L1?EE", SERIAL),
+    field("40 bytes", bonds(b"L" * 40 + b",50,2010-11,7,"), 2, "serial", "L" * 40, SERIAL),
+    field("41 bytes", bonds(b"L" * 41 + b",50,2010-11,7,"), 2, "serial", "L" * 40 + "..", SERIAL),
+    field("a denomination of electronic bonds", bonds(b"L1EE,25,2010-11,7,"), 2, "denom", "25", DENOM),
+    field("a sign of dollars", bonds(b"L1EE,$50,2010-11,7,"), 2, "denom", "$50", DENOM),
+    field("cents", bonds(b"L1EE,50.00,2010-11,7,"), 2, "denom", "50.00", DENOM),
+    field("before bonds of this kind were sold", bonds(b"L1EE,50,2004-11,7,"), 2, "issued", "2004-11", ISSUE),
+    field("after the last issue month", bonds(b"L1EE,50,2100-01,7,"), 2, "issued", "2100-01", ISSUE),
+    field("a name of a month", bonds(b"L1EE,50,Nov 2010,7,"), 2, "issued", "Nov 2010", ISSUE),
+    field("0", bonds(b"L1EE,50,2010-11,0,"), 2, "owner", "0", CUSTOMER),
+    field("a name", bonds(b"L1EE,50,2010-11,John Doe,"), 2, "owner", "John Doe", CUSTOMER),
+    field("nothing", bonds(b"L1EE,50,2010-11,,"), 2, "owner", "", CUSTOMER),
+    field("ten digits", bonds(b"L1EE,50,2010-11,7,1000000000"), 2, "coowner", "1000000000", CUSTOMER),
+    field("a word for nobody", bonds(b"L1EE,50,2010-11,7,none"), 2, "coowner", "none", CUSTOMER),
+    field("the first of two in a row", bonds(b"L1EE,25,2004-11,7,"), 2, "denom", "25", DENOM),
+    field("in the first of two rows", bonds(b"L1EE,50,2010-11,7,\nK2EE,50,2010-11,x,\nL1,50,2010-11,7,"), 3, "owner", "x", CUSTOMER),
+    field("behind a row of two lines", bonds(b'"L1EE",50,2010-11,7,""\n\nK2EE,75,"2010-1\n0",7,'), 3, "issued", "2010-1?0", ISSUE),
+    field("behind a mark of the byte order", ("rates", b"\xef\xbb\xbffrom,rate\n2010-05,2.0.0\n"), 2, "rate", "2.0.0", RATE),
+    field("a zero byte", bonds(b"L1EE,50,2010-11,7\x00,"), 2, "owner", "7?", CUSTOMER),
 ]
 LENGTHS = [
     row("a file above the limit", rates(b"2010-05,2.00\n" * 90_000), "row 1 code 75", PARTS),
