@@ -27,6 +27,7 @@ NO_FILE = "SQLite takes it for no file; put ./ in front of it"
 JOURNAL = "a rollback journal of SQLite lies beside it; open it with sqlite3 first"
 VERSION = "its version is neither 2 nor 1; use the program that made it"
 ROWS = "its tables or rows are not those of this program; restore a copy"
+ORPHANED = "it is missing or empty, and its log has changes; put the file back next to its log"
 FAILED = "a read or a write of it failed; look at the disk, and send the same requests again"
 
 
@@ -131,6 +132,22 @@ def unwritable_log(it: Counter) -> None:
     it.path("day.db-wal").chmod(0o444)
 
 
+def orphaned_log(it: Counter) -> None:
+    """A log with a commit of SQLite's, whose file was moved away."""
+    path = it.store("moved.db")
+    with closing(sqlite3.connect(path, isolation_level=None)) as base:
+        base.execute("PRAGMA journal_mode = WAL")
+        base.execute("PRAGMA wal_autocheckpoint = 0")
+        base.execute("UPDATE bonds SET coowner = 8")
+        log = it.path("moved.db-wal").read_bytes()
+    it.put("day.db-wal", log)
+
+
+def emptied(it: Counter) -> None:
+    orphaned_log(it)
+    it.put("day.db", b"")
+
+
 def pipe_file(it: Counter) -> None:
     os.mkfifo(it.path("day.db"))
     it.path("day.db").chmod(0o666)
@@ -150,8 +167,8 @@ PATHS = [
     store("a log that may not be written", "day.db", f"permission denied; {SYSTEM}", unwritable_log),
     store("a new one in a folder that may not be written", "day.db", f"permission denied; {SYSTEM}", lambda it: it.folder.chmod(0o555)),
     store("in a folder that may not be searched", "closed/day.db", f"permission denied; {SYSTEM}", closed_folder),
-    store("a name that is too long", "d" * 256, f"the system refused it; {SYSTEM}"),
-    store("symbolic links in a circle", "one", f"the system refused it; {SYSTEM}", loop),
+    store("a name that is too long", "d" * 256, f"a name of the path is too long; {SYSTEM}"),
+    store("symbolic links in a circle", "one", f"symbolic links lead in a circle; {SYSTEM}", loop),
     store("a name that SQLite takes for no file", ":memory:", NO_FILE),
     store("a URI", "file:day.db", NO_FILE),
 ]
@@ -164,6 +181,8 @@ FILES = [
     store("a changed byte of the first page", "day.db", DAMAGED, lambda it: change_byte(it.store(), 200)),
     store("half of its pages", "day.db", DAMAGED, lambda it: cut(it.store(), 5 * 1024)),
     store("a damaged log", "day.db", DAMAGED, damaged_log),
+    store("none next to a log with changes", "day.db", ORPHANED, orphaned_log),
+    store("an empty one next to a log with changes", "day.db", ORPHANED, emptied),
     store("one that another process has open", "day.db", IN_USE, during=locked),
     store("one that SQLite reads", "day.db", IN_USE, during=read_by_sqlite),
 ]
