@@ -2,7 +2,7 @@
 #![tactic(auto)]
 
 use ee_cli_commands::read_help;
-use ee_cli_program::{Noting, REFUSED, refuse_words, run_words};
+use ee_cli_program::{Noting, REFUSED, Stores, refuse_words, run_words};
 use ee_cli_stores::{StoreFiles, Untold};
 use std::io::{self, IsTerminal, Write};
 use std::process::ExitCode;
@@ -14,13 +14,17 @@ fn main(rt: HostRuntime) -> ExitCode {
     })
 }
 
-/// Runs the line of these words over stores in files, and gives its exit status. On a terminal faults are
-/// explained, and the answers of `apply`, which end without a line end, get one.
+/// Runs the line of these words over stores in files, and gives its exit status.
 fn run(rt: &HostRuntime, words: &[String]) -> u8 {
-    let stores = StoreFiles { rt, start: Untold };
+    run_over(rt, &StoreFiles { rt, start: Untold }, words)
+}
+
+/// Runs the line over these stores. On a terminal faults are explained, and the answers of `apply`, which end without a
+/// line end, get one.
+fn run_over<O: Stores>(rt: &HostRuntime, stores: &O, words: &[String]) -> u8 {
     let status = run_words(
         rt,
-        &stores,
+        stores,
         words,
         rt.stderr().is_terminal(),
         &mut Noting::new(rt.stdin()),
