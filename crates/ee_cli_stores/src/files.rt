@@ -11,6 +11,7 @@ use ee_cli_actions::{RunFault, StoreFault};
 use ee_cli_program::{Stores, Unopened};
 use ee_store::{OpenFault, Rest, SqlKeeper, open_as};
 use sqlite::{FileFrom, FileStore, Files, Leftover, Start};
+use sqlite_disk::Disk;
 
 /// A file whose earlier bytes aren't known. A torn write leaves each byte old or new.
 #[derive(Clone, Copy)]
@@ -37,14 +38,27 @@ pub struct StoreFiles<'a, F: Start> {
     pub start: F,
 }
 
+/// What is left of a store in files that wasn't opened. (A type of its own keeps the types of `Stores` short: the
+/// checker compares them part by part.)
+#[derive(Drop)]
+pub struct Refused<D: Disk> {
+    pub rest: Rest<FileStore<D>, Leftover<D>>,
+}
+
+/// What is left of a store in files that couldn't be closed.
+#[derive(Drop)]
+pub struct Unclosed<D: Disk> {
+    pub store: FileStore<D>,
+}
+
 impl<F: Start + Copy> Stores for StoreFiles<'_, F> {
     type Store = SqlKeeper<FileStore<FileFrom<F>>>;
 
     type Rest = Files<FileFrom<F>>;
 
-    type Refused = Rest<FileStore<FileFrom<F>>, Leftover<FileFrom<F>>>;
+    type Refused = Refused<FileFrom<F>>;
 
-    type Left = FileStore<FileFrom<F>>;
+    type Left = Unclosed<FileFrom<F>>;
 
     // Each file held a store at rest with that content.
     ghost holds = { λ _ _ content. StandsAlone (image_at F.Start) content };
@@ -53,24 +67,21 @@ impl<F: Start + Copy> Stores for StoreFiles<'_, F> {
     ghost rests = { λ store files. RestsIn store.conn files × RestsAfter store.conn files };
 
     // What the files held was refused for this fault, and is still there.
-    ghost refuses = { λ _ _ fault rest. IsRefused (λ files. IsFresh true files.log) (λ files. IsFresh false files.db) (image_at F.Start) fault rest };
+    ghost refuses = { λ _ _ fault refused. IsRefused (λ files. IsFresh true files.log) (λ files. IsFresh false files.db) (image_at F.Start) fault refused.rest };
 
     // A crash leaves of it what it could leave of the store, so it still follows the store's events.
-    ghost keeps = { λ store left. Keeps store.conn left };
+    ghost keeps = { λ store left. Keeps store.conn left.store };
 
     fn open(
         &self,
         path: &str,
-    ) -> Result<
-        SqlKeeper<FileStore<FileFrom<F>>>,
-        Unopened<Rest<FileStore<FileFrom<F>>, Leftover<FileFrom<F>>>>,
-    > {
+    ) -> Result<SqlKeeper<FileStore<FileFrom<F>>>, Unopened<Refused<FileFrom<F>>>> {
         match open_as(self.rt, path, self.start) {
             Ok(keeper) => Ok(keeper),
             Err(not) => Err(Unopened {
                 fault: fault_of(not.fault),
                 cause: not.cause,
-                rest: not.rest,
+                rest: Refused { rest: not.rest },
             }),
         }
     }
@@ -78,10 +89,10 @@ impl<F: Start + Copy> Stores for StoreFiles<'_, F> {
     fn close(
         &self,
         store: SqlKeeper<FileStore<FileFrom<F>>>,
-    ) -> Result<Files<FileFrom<F>>, FileStore<FileFrom<F>>> {
+    ) -> Result<Files<FileFrom<F>>, Unclosed<FileFrom<F>>> {
         match store.close_files() {
             Ok(files) => Ok(files),
-            Err((_failure, left)) => Err(left),
+            Err((_failure, store)) => Err(Unclosed { store }),
         }
     }
 }

@@ -8,4 +8,4 @@
 
 mod files;
 
-pub use files::{StoreFiles, Untold};
+pub use files::{Refused, StoreFiles, Unclosed, Untold};
