@@ -1,3 +1,3 @@
 pub mod Connections
 mod Devices
-pub mod Forgetting
+pub mod Lemmas

@@ -1,5 +1,5 @@
 use Rattle.std.proofs.Common.{inl}
-use Rattle.ee_cli_actions.proofs.Forgetting.{bytes_forgotten}
+use Rattle.ee_cli_actions.proofs.Lemmas.{bytes_forgotten}
 use Rattle.ee_cli_program.proofs.opening.import_path.Goals as goal
 
 pub returns-in-Ok-read_whole-clause-imports : goal.returns-in-Ok-read_whole-clause-imports
