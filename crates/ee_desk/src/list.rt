@@ -165,7 +165,8 @@ impl ListKeeper {
 }
 
 impl Keeper for ListKeeper {
-    ghost use Rattle.std.specs.Prelude.{◌≡◌};
+    ghost use Rattle.std.specs.Prelude.{◌≡◌, true};
+    ghost use Rattle.std.proofs.Common.{◌∙◌, sym};
     ghost use Rattle.ee_desk_model.specs.Sound.{IsSound};
 
     ghost has = { λ k c. (k ≡ c) × IsSound c.books };
@@ -174,7 +175,17 @@ impl Keeper for ListKeeper {
 
     ghost may_fail = { ⊥ };
 
+    ghost is_open = { λ _. true };
+
+    ghost faults = { λ _. 0 };
+
+    ghost takes = { λ _ _. Unit {0} };
+
+    ghost fits = { λ _ _. Unit {0} };
+
     ghost sound = { λ _ _ has. has.1 };
+
+    ghost one = { λ _ _ _ _ has other. sym has.0 ∙ other.0 };
 
     fn deliver(&mut self, request: &Request) -> Result<Reply, Unserved> {
         let answer = ListKeeper::deliver(self, request);

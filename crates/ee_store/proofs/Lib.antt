@@ -7,3 +7,4 @@ mod NextRun
 mod History
 mod OpenedRoom
 mod Asked
+mod Shut

@@ -1,6 +1,6 @@
 //! A keeper over the tables.
 
-ghost use Rattle.std.specs.Prelude.{◌≡◌, true, false, List, [], ◌∷◌, OnOk, OnErr, IfErr, MatchResult};
+ghost use Rattle.std.specs.Prelude.{◌≡◌, true, false, List, [], ◌∷◌, IsTrue, OnOk, OnErr, IfErr, MatchResult};
 ghost use Rattle.std.specs.FinMap as finite;
 ghost use Rattle.sqlite.specs.Held.{state};
 ghost use Rattle.sqlite.specs.Tree.{Trees};
@@ -45,6 +45,7 @@ impl<S: Alter> SqlKeeper<S> {
     /// - `informed`: the cache is correct (`IsInformed`), as in a new keeper (`SqlKeeper::adopt`) and after each
     ///   call. If a request isn't served, the cache is emptied. The clauses about the effects of a request assume
     ///   a correct cache.
+    /// - `opened`: after the reply to a number that wasn't kept, the store is open.
     /// - `crash`: whenever the keeper stops, a crash leaves what it could leave before, or the rows of the content
     ///   with this request decided.
     /// - `durable`: after the reply to a number that wasn't kept, a crash leaves only the new rows.
@@ -60,6 +61,9 @@ impl<S: Alter> SqlKeeper<S> {
         ensures delivers { HasCleanDisk (state S.Store self.new.conn) → IsInformed (state S.Store self.old.conn) self.old.known
             → (content : Content) → HasContent (state S.Store self.old.conn) content
             → Delivers content request.now result (HasContent (state S.Store self.new.conn)) }
+        ensures opened { HasCleanDisk (state S.Store self.new.conn) → OnOk result
+            ((content : Content) → HasContent (state S.Store self.old.conn) content → finite.contains_key content.kept (number_of request.now) ≡ false
+            → IsTrue (state S.Store self.new.conn).is_open) }
         ensures crash { Survives (state S.Store self.old.conn) (state S.Store self.new.conn) (λ db. IsInformed (state S.Store self.old.conn) self.old.known
             → (content : Content) → HasContent (state S.Store self.old.conn) content → StandsFor db (content_after content (request.now ∷ []))) }
         ensures durable { HasCleanDisk (state S.Store self.new.conn) → IsInformed (state S.Store self.old.conn) self.old.known → OnOk result

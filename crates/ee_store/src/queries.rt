@@ -156,6 +156,11 @@ impl<S: Alter> Keeper for SqlKeeper<S> {
     ghost use Rattle.sqlite.specs.State.{HasCleanDisk};
     ghost use Rattle.ee_store_books.specs.Seen.{HasContent};
     ghost use Rattle.ee_store_delivery.specs.Known.{IsInformed};
+    ghost use Rattle.std.specs.Prelude.{◌*◌};
+    ghost use Rattle.ee_store_books.specs.Causes.{IsReady};
+    ghost use Rattle.ee_store_books.proofs.Lemmas.Lookups.{one_content};
+    ghost use Rattle.ee_store_tables.specs.Rows.{HasRoom};
+    ghost use Rattle.ee_store_delivery.specs.Causes.{TextsFit};
 
     // The last commit left the content, and the cache is correct for its books.
     ghost has = { λ k content. HasContent (state S.Store k.conn) content × IsInformed (state S.Store k.conn) k.known };
@@ -164,7 +169,18 @@ impl<S: Alter> Keeper for SqlKeeper<S> {
 
     ghost may_fail = { Unit {0} };
 
+    ghost is_open = { λ k. (state S.Store k.conn).is_open };
+
+    ghost faults = { λ k. (state S.Store k.conn).faults };
+
+    // It is in no transaction, without a limit on steps, and has room for the rows of these requests.
+    ghost takes = { λ n k. IsReady (state S.Store k.conn) × HasRoom (501 * n) (state S.Store k.conn) };
+
+    ghost fits = { TextsFit };
+
     ghost sound = { λ _ _ has. has.0.right.sound };
+
+    ghost one = { λ k c d is_open has other. one_content _ c d is_open has.0 other.0 };
 
     fn deliver(&mut self, request: &Request) -> Result<Reply, Unserved> {
         SqlKeeper::deliver(self, request)

@@ -15,6 +15,9 @@ was_failed : (failure : Failure) → unserved_as failure ≡ unserved.StoreFaile
 was_failed NoMemory told = absurd (cc)
 was_failed StoreFailed told = refl
 
+pub returns-in-Ok-clause-opened : goal.returns-in-Ok-clause-opened
+returns-in-Ok-clause-opened g c clean = c.in-Ok.ensures.opened clean
+
 pub returns-in-Ok-clause-durable : goal.returns-in-Ok-clause-durable
 returns-in-Ok-clause-durable g c clean informed S has none db may =
     let new = state g.S.Store c.deliver_on.new.conn in

@@ -1,0 +1,13 @@
+use Rattle.std.proofs.Common.{ℕ, ◌*◌}
+use Rattle.sqlite.specs.Held.{state}
+use Rattle.ee_store.proofs.Shut.{shut_by_cause}
+use Rattle.ee_store.proofs.queries.SqlKeeperKeeper.bonds_of.Goals as goal
+
+pub returns-clause-shut : goal.returns-clause-shut
+returns-clause-shut g c clean = shut_by_cause (state g.S.Store c.args.self.now.conn) (state g.S.Store c.bonds_of.new.self.conn) (λ _. ⊥) c.bonds_of.ensures.crash clean
+
+pub returns-clause-cause : goal.returns-clause-cause
+returns-clause-cause g c clean content has n takes = c.bonds_of.ensures.cause clean takes.0 content has.0
+
+pub returns-clause-ready : goal.returns-clause-ready
+returns-clause-ready g c clean content has n takes = (c.bonds_of.ensures.ready takes.0, c.bonds_of.ensures.room clean content has.0 (501 * n) takes.1)

@@ -1,0 +1,26 @@
+use Rattle.std.proofs.Common.{◌≡◌, ℕ, ◌+◌, ◌*◌, [], ◌∷◌, arith, subst}
+use Rattle.sqlite.specs.Held.{state}
+use Rattle.ee_desk_model.specs.Repeats.{Content}
+use Rattle.ee_desk_model.specs.Contents.{content_after}
+use Rattle.ee_store_tables.specs.Rows.{HasRoom}
+use Rattle.ee_store_tables.proofs.Lemmas.Causes.{room_less}
+use Rattle.ee_store_books.specs.Seen.{StandsFor, HasContent}
+use Rattle.ee_store_delivery.specs.Known.{IsInformed}
+use Rattle.ee_store.proofs.Shut.{shut_by_cause}
+use Rattle.ee_store.proofs.queries.SqlKeeperKeeper.deliver.Goals as goal
+
+pub returns-clause-shut : goal.returns-clause-shut
+returns-clause-shut g c clean =
+    let old = state g.S.Store c.args.self.now.conn in
+    shut_by_cause old (state g.S.Store c.deliver.new.self.conn) (λ db. IsInformed old c.args.self.now.known
+    → (content : Content) → HasContent old content → StandsFor db (content_after content (c.args.request.now ∷ []))) c.deliver.ensures.crash clean
+
+pub returns-clause-cause : goal.returns-clause-cause
+returns-clause-cause g c clean content has n takes fits =
+    let old = state g.S.Store c.args.self.now.conn in
+    c.deliver.ensures.cause clean has.1 content (takes.0, has.0, fits, room_less old 501 (501 * (n + 1)) (omega arith) takes.1)
+
+pub returns-clause-ready : goal.returns-clause-ready
+returns-clause-ready g c clean content has n takes =
+    let one_more : 501 * (n + 1) ≡ 501 + 501 * n = omega arith in
+    (c.deliver.ensures.ready takes.0, c.deliver.ensures.room clean takes.0 content has.0 (501 * n) (subst (λ m. HasRoom m (state g.S.Store c.args.self.now.conn)) one_more takes.1))
