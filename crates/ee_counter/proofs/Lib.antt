@@ -1,4 +1,5 @@
 mod Runs
+mod Causes
 mod Right
 mod Turns
 mod Same

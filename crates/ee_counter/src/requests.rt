@@ -1,6 +1,6 @@
 //! Lists of requests, delivered one after another.
 
-ghost use Rattle.std.specs.Prelude.{◌≡◌, [], length, IfOk, OnErr};
+ghost use Rattle.std.specs.Prelude.{◌≡◌, ◌+◌, ℕ, [], length, IfOk, OnOk, OnErr};
 ghost use Rattle.std.specs.List.{AllByRecursion};
 ghost use Rattle.ee_desk_model.specs.Repeats.{Content};
 ghost use Rattle.ee_desk_model.specs.Paid.{paid_lines, NoneTwice, ArePaidRight};
@@ -8,7 +8,8 @@ ghost use Rattle.ee_desk_model.specs.Sound.{IsSound};
 ghost use Rattle.ee_desk_model.specs.Conserved.{IsConserved};
 ghost use Rattle.ee_desk_model.specs.Contents.{content_after, books_after};
 ghost use Rattle.ee_desk_model.specs.Answers.{served, AreAnswers};
-ghost use Rattle.ee_keeper.specs.Keeping.{FailsOnlyIf};
+ghost use Rattle.ee_keeper.specs.Keeping.{FailsOnlyIf, HasCause, IsShutByCause};
+ghost use Rattle.ee_counter.specs.Served.{FitInTurn};
 
 use crate::soundness::known;
 use ee_desk_model::{Reply, Request, Unserved};
@@ -46,6 +47,16 @@ pub fn run<K: Keeper>(
         → IfOk result (λ answers. IsConserved (books_after c (served requests.now answers.items))) }
     // If the store can't fail, no answer says that it failed.
     ensures failed { IfOk result (λ answers. AllByRecursion (FailsOnlyIf K.may_fail) answers.items) }
+    // If the keeper takes all these requests, and their texts fit, an answer says that the store failed only if a device
+    // failed during the run, or the store was shut before.
+    ensures cause { K.is_clean keeper.new → (c : Content) → K.has keeper.old c → K.takes (length requests.now) keeper.old
+        → IfOk result (λ answers. FitInTurn K.fits c [] requests.now answers.items
+        → AllByRecursion (FailsOnlyIf (HasCause (K.faults keeper.old) (K.faults keeper.new) (K.is_open keeper.old))) answers.items) }
+    ensures shut { K.is_clean keeper.new
+        → IsShutByCause (K.faults keeper.old) (K.faults keeper.new) (K.is_open keeper.old) (K.is_open keeper.new) }
+    // Each request leaves the keeper one less to take.
+    ensures ready { K.is_clean keeper.new → (c : Content) → K.has keeper.old c
+        → OnOk result ((n : ℕ) → K.takes (n + length requests.now) keeper.old → K.takes n keeper.new) }
     ensures clean { K.is_clean keeper.new → K.is_clean keeper.old }
     ensures err { OnErr result (keeper.new ≡ keeper.old) }
 {

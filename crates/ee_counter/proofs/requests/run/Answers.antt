@@ -1,12 +1,16 @@
-use Rattle.std.proofs.Common.{arith, rules, subst, sym, List, Result, take}
+use Rattle.std.proofs.Common.{◌≡◌, ℕ, ◌+◌, add-zero, arith, rules, subst, sym, List, [], Result, length, take}
 use Rattle.std.proofs.lemmas.Grind.{common_steps}
+use Rattle.std.proofs.lemmas.List.{take_all}
 use Rattle.std.specs.List.{AllByRecursion}
+use Rattle.ee_desk_model.specs.declared.acts.Request.{Request}
 use Rattle.ee_desk_model.specs.declared.replies.Reply.{Reply}
 use Rattle.ee_desk_model.specs.declared.refusals.Unserved.{Unserved}
 use Rattle.ee_keeper.specs.Keeping.{FailsOnlyIf}
 use Rattle.ee_desk_model.specs.Contents.{content_after}
 use Rattle.ee_desk_model.specs.Answers.{served}
+use Rattle.ee_counter.specs.Served.{FitInTurn}
 use Rattle.ee_counter.proofs.Runs.{all_more, one_more}
+use Rattle.ee_counter.proofs.Causes.{shut_then, nothing_shut, all_caused, fit_turn}
 use Rattle.ee_counter.proofs.requests.run.Goals as goal
 
 pub loop-request-preserved : goal.loop-request-preserved
@@ -23,13 +27,58 @@ loop-request-preserved g c =
           one_more S c.args.requests.now c.loop-request.request-index c.request-item.result c.loop-request.answers.items c.push_reserved.new.self.items c.deliver-answer.result (g.K.Keeper.has c.deliver-answer.new.self)
           c.loop-request-test.true c.request-item.is c.push_reserved.ensures.items before.0
           (c.deliver-answer.ensures.delivers clean (content_after S (served (take c.loop-request.request-index c.args.requests.now) c.loop-request.answers.items)) before.1);
+      shut = λ clean.
+          shut_then (g.K.Keeper.faults c.args.keeper.now) (g.K.Keeper.faults c.loop-request.keeper) (g.K.Keeper.faults c.deliver-answer.new.self)
+          (g.K.Keeper.is_open c.args.keeper.now) (g.K.Keeper.is_open c.loop-request.keeper) (g.K.Keeper.is_open c.deliver-answer.new.self)
+          (i.shut (c.deliver-answer.ensures.clean clean)) (c.deliver-answer.ensures.shut clean);
+      ready = λ clean S has n takes.
+          let before = c.deliver-answer.ensures.clean clean in
+          let one_less : n + (c.loop-request.request-index + 1) ≡ (n + 1) + c.loop-request.request-index = omega arith in
+          c.deliver-answer.ensures.ready clean (content_after S (served (take c.loop-request.request-index c.args.requests.now) c.loop-request.answers.items)) (i.told before S has).1 n
+          (i.ready before S has (n + 1) (subst (λ m. g.K.Keeper.takes m c.args.keeper.now) one_less takes));
+      cause = λ clean S has n takes fit.
+          let before = c.deliver-answer.ensures.clean clean in
+          let one_less : n + (c.loop-request.request-index + 1) ≡ (n + 1) + c.loop-request.request-index = omega arith in
+          let taken = subst (λ m. g.K.Keeper.takes m c.args.keeper.now) one_less takes in
+          let fits = fit_turn g.K.Keeper.fits S c.args.requests.now c.loop-request.request-index c.request-item.result c.loop-request.answers.items c.push_reserved.new.self.items c.deliver-answer.result
+          c.loop-request-test.true c.request-item.is c.push_reserved.ensures.items fit in
+          all_caused (g.K.Keeper.faults c.args.keeper.now) (g.K.Keeper.faults c.loop-request.keeper) (g.K.Keeper.faults c.deliver-answer.new.self)
+          (g.K.Keeper.is_open c.args.keeper.now) (g.K.Keeper.is_open c.loop-request.keeper) c.loop-request.answers.items c.push_reserved.new.self.items c.deliver-answer.result
+          c.push_reserved.ensures.items (i.shut before) (c.deliver-answer.ensures.shut clean).0 (i.cause before S has (n + 1) taken fits.0)
+          (c.deliver-answer.ensures.cause clean (content_after S (served (take c.loop-request.request-index c.args.requests.now) c.loop-request.answers.items)) (i.told before S has).1 n
+          (i.ready before S has (n + 1) taken) fits.1);
     }
 
 pub loop-request-init : goal.loop-request-init
-loop-request-init g c = search rules
+loop-request-init g c = record {
+  count = search rules;
+  room = search rules;
+  failed = search rules;
+  clean = λ clean. clean;
+  told = search rules;
+  shut = λ clean. nothing_shut (g.K.Keeper.faults c.args.keeper.now) (g.K.Keeper.is_open c.args.keeper.now);
+  ready = λ clean S has n takes. subst (λ m. g.K.Keeper.takes m c.args.keeper.now) (add-zero n) takes;
+  cause = λ clean S has n takes fit. search rules;
+}
 
 pub returns-clause-answers : goal.returns-clause-answers
 returns-clause-answers g c = grind (arith, common_steps)
+
+pub returns-clause-cause : goal.returns-clause-cause
+returns-clause-cause g c clean S has takes fit =
+    let qs = c.args.requests.now in
+    let at = c.loop-request.request-index in
+    let done : length qs ≡ 0 + at = omega arith in
+    c.loop-request.invariant.cause clean S has 0 (subst (λ m. g.K.Keeper.takes m c.args.keeper.now) done takes)
+    (subst (λ (l : List Request). FitInTurn g.K.Keeper.fits S [] l c.loop-request.answers.items) (sym (take_all at qs (omega arith))) fit)
+
+pub returns-clause-ready : goal.returns-clause-ready
+returns-clause-ready g c clean S has n takes =
+    let done : length c.args.requests.now ≡ c.loop-request.request-index = omega arith in
+    c.loop-request.invariant.ready clean S has n (subst (λ m. g.K.Keeper.takes (n + m) c.args.keeper.now) done takes)
+
+pub returns-clause-shut : goal.returns-clause-shut
+returns-clause-shut g c clean = c.loop-request.invariant.shut clean
 
 pub returns-clause-clean : goal.returns-clause-clean
 returns-clause-clean g c = search rules
@@ -87,3 +136,12 @@ returns-in_err-answers-clause-right g c = search rules
 
 pub returns-in_err-answers-clause-sound : goal.returns-in_err-answers-clause-sound
 returns-in_err-answers-clause-sound g c = search rules
+
+pub returns-in_err-answers-clause-cause : goal.returns-in_err-answers-clause-cause
+returns-in_err-answers-clause-cause g c = search rules
+
+pub returns-in_err-answers-clause-ready : goal.returns-in_err-answers-clause-ready
+returns-in_err-answers-clause-ready g c = search rules
+
+pub returns-in_err-answers-clause-shut : goal.returns-in_err-answers-clause-shut
+returns-in_err-answers-clause-shut g c clean = nothing_shut (g.K.Keeper.faults c.args.keeper.now) (g.K.Keeper.is_open c.args.keeper.now)

@@ -1,9 +1,10 @@
-use Rattle.std.proofs.Common.{◌≡◌, [], length, take, vec_len, vec_capacity}
+use Rattle.std.proofs.Common.{◌≡◌, ℕ, ◌+◌, [], length, take, vec_len, vec_capacity}
 use Rattle.std.specs.List.{AllByRecursion}
 use Rattle.ee_desk_model.specs.Repeats.{Content}
 use Rattle.ee_desk_model.specs.Contents.{content_after}
 use Rattle.ee_desk_model.specs.Answers.{served, AreAnswers}
-use Rattle.ee_keeper.specs.Keeping.{FailsOnlyIf}
+use Rattle.ee_keeper.specs.Keeping.{FailsOnlyIf, HasCause, IsShutByCause}
+use Rattle.ee_counter.specs.Served.{FitInTurn}
 use Rattle.ee_counter.proofs.requests.run.Given as goal
 
 abbrev pub invariant-loop-request : goal.invariant-loop-request
@@ -15,4 +16,10 @@ invariant-loop-request g l = record {
   told : g.K.Keeper.is_clean l.keeper → (c : Content) → g.K.Keeper.has l.fn.keeper c
       → AreAnswers c [] (take l.request-index l.requests) l.answers.items
       × g.K.Keeper.has l.keeper (content_after c (served (take l.request-index l.requests) l.answers.items));
+  shut : g.K.Keeper.is_clean l.keeper
+      → IsShutByCause (g.K.Keeper.faults l.fn.keeper) (g.K.Keeper.faults l.keeper) (g.K.Keeper.is_open l.fn.keeper) (g.K.Keeper.is_open l.keeper);
+  ready : g.K.Keeper.is_clean l.keeper → (c : Content) → g.K.Keeper.has l.fn.keeper c → (n : ℕ) → g.K.Keeper.takes (n + l.request-index) l.fn.keeper → g.K.Keeper.takes n l.keeper;
+  cause : g.K.Keeper.is_clean l.keeper → (c : Content) → g.K.Keeper.has l.fn.keeper c → (n : ℕ) → g.K.Keeper.takes (n + l.request-index) l.fn.keeper
+      → FitInTurn g.K.Keeper.fits c [] (take l.request-index l.requests) l.answers.items
+      → AllByRecursion (FailsOnlyIf (HasCause (g.K.Keeper.faults l.fn.keeper) (g.K.Keeper.faults l.keeper) (g.K.Keeper.is_open l.fn.keeper))) l.answers.items;
 }
