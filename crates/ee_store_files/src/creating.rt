@@ -6,7 +6,7 @@ ghost use Rattle.sqlite.specs.Opening.{is_open_error};
 ghost use Rattle.sqlite.specs.State.{HasCleanDisk};
 ghost use Rattle.sqlite.specs.Held.{IsNew};
 ghost use Rattle.sqlite.specs.Files.{file_state, image_of, IsOpened, IsEmpty, IsCleanLeft};
-ghost use Rattle.sqlite_store.specs.FileStore.{view, state, IsReady};
+ghost use Rattle.sqlite_store.specs.FileStore.{view, state, IsReady, is_shielded};
 ghost use Rattle.ee_store_files.specs.Orphans.{IsOrphan};
 ghost use Rattle.ee_store_files.specs.Files.{page_size, IsMarked, IsStray, IsUncreated, Leaves};
 
@@ -118,6 +118,7 @@ fn create_store<D: Disk>(
     ensures honest { IfOk result (λ store. IsTrue (view store).is_clean → AreClean D.Disk files.log files.db) }
     ensures ready { IfOk result IsReady }
     ensures numbered { IfOk result (λ store. IsTrue (view store).is_numbered) }
+    ensures guarded { IfOk result (λ store. IsTrue (view store).is_clean → is_shielded store) }
     ensures empty { IfOk result (λ store. IsTrue (view store).is_clean → IsEmpty (view store).committed) }
     ensures sums { IfOk result (λ store. IsTrue (view store).is_clean → (view store).has_sums ≡ true) }
     ensures size { IfOk result (λ store. IsTrue (view store).is_clean → (state store).page_size ≡ page_size) }
@@ -149,6 +150,7 @@ pub fn create<D: Disk + Drop>(
     requires uncreated { AreClean D.Disk files.log files.db → IsUncreated (image_of D.Disk files) }
     ensures named { IfErr result (λ e. IsTrue (is_open_error e.0)) }
     ensures opened { IfOk result (λ c. HasCleanDisk (file_state c) → IsOpened c) }
+    ensures guarded { IfOk result (λ c. HasCleanDisk (file_state c) → (file_state c).IsShielded) }
     ensures made { IfOk result (λ c. HasCleanDisk (file_state c) → AreClean D.Disk files.log files.db × IsEmpty (file_state c).committed.trees) }
     ensures sums { IfOk result (λ c. HasCleanDisk (file_state c) → (view c.store).has_sums ≡ true) }
     ensures fresh { IfOk result IsNew }

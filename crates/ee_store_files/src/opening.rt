@@ -32,6 +32,7 @@ fn open_intact<D: Disk + Drop>(
     ensures opened { IfOk result (λ c. HasCleanDisk (file_state c) → IsOpened c) }
     ensures found { IfOk result (λ c. HasCleanDisk (file_state c) → FindsIn files c × (¬ IsDamaged (image_of D.Disk files))) }
     ensures fresh { IfOk result IsNew }
+    ensures guarded { IfOk result (λ c. HasCleanDisk (file_state c) → (file_state c).IsShielded) }
     ensures unharmed { IfErr result (λ e. IsCleanLeft e.1 → LeavesFiles files e.1) }
 {
     match is_damaged(alloc, &mut files) {
@@ -61,6 +62,7 @@ pub fn open_files<D: Disk + Drop>(
     ensures found { IfOk result (λ c. HasCleanDisk (file_state c) → Finds (image_of D.Disk files) (file_state c)) }
     ensures sums { IfOk result (λ c. HasCleanDisk (file_state c) → IsUncreated (image_of D.Disk files) → (view c.store).has_sums ≡ true) }
     ensures fresh { IfOk result IsNew }
+    ensures guarded { IfOk result (λ c. HasCleanDisk (file_state c) → (file_state c).IsShielded) }
     ensures unharmed { IfErr result (λ e. IsCleanLeft e.1 → Leaves files e.1) }
 {
     match is_uncreated(alloc, &mut files) {

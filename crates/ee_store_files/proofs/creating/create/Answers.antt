@@ -1,4 +1,5 @@
 use Rattle.std.proofs.Common.{arith, ◌∙◌, inr, sym, ap, subst}
+use Rattle.std.proofs.lemmas.Result.{err_from_is_err_and}
 use Rattle.sqlite_trees.proofs.Doubt.{clean_of as sure, no_doubt}
 use Rattle.sqlite_store.specs.FileStore.{view as shown}
 use Rattle.sqlite_store.specs.Laws.{settled_at}
@@ -29,3 +30,12 @@ returns-in-Err-clause-unharmed g c =
 pub returns-in-Ok-clause-sums : goal.returns-in-Ok-clause-sums
 returns-in-Ok-clause-sums g c now =
     c.in-Ok.ensures.sums now ∙ c.in_ok-store.ensures.sums (sure (shown c.in_ok-store.store).is_clean (omega (arith, c.in-Ok.ensures.clean)))
+
+pub returns-in-Ok-clause-guarded : goal.returns-in-Ok-clause-guarded
+returns-in-Ok-clause-guarded g c now =
+    c.in-Ok.ensures.shield (c.in_ok-store.ensures.guarded (sure (shown c.in_ok-store.store).is_clean (omega (arith, c.in-Ok.ensures.clean))))
+
+pub returns-in_err-store-clause-unharmed : goal.returns-in_err-store-clause-unharmed
+returns-in_err-store-clause-unharmed g c =
+    let p = err_from_is_err_and c.from_residual.result c.from_residual.ensures.1 in
+    rw (p.1, p.2) c.in_err-store.ensures.unharmed
