@@ -4,6 +4,7 @@ mod Migrated
 mod AtRest
 mod Meeting
 mod NextRun
+mod Holding
 mod History
 mod OpenedRoom
 mod Asked

@@ -158,6 +158,8 @@ pub record IsOpenedFrom {D : Type 0} {g : Ghosts D} (start : Image) (now : Held 
   -- it takes requests, with the room that its trees have
   pub ready : IsReady (file_state now)
   pub room : OpensWithRoom (file_state was) (file_state now)
+  -- each later read is tested against the digest of what was read or written there
+  pub shielded : (file_state now).IsShielded
 
 -- the connection was refused with this fault, and is left as it was found in the files, which first held this
 pub record IsRefusedFrom {D : Type 0} {g : Ghosts D} (start : Image) (fault : OpenFault) (now : Held (FileStore D g)) : Type 0 where

@@ -3,3 +3,4 @@ pub mod Adopted
 pub mod Ended
 pub mod NextRun
 pub mod History
+pub mod Holding

@@ -13,9 +13,11 @@ ghost use Rattle.ee_store_files.specs.Causes.{IsOfSystem, error_of};
 ghost use Rattle.ee_store_files.specs.Files.{Leaves};
 ghost use Rattle.ee_store_delivery.specs.Known.{IsInformed};
 ghost use Rattle.ee_store.specs.Adopted.{IsOpenedFrom, IsRefusedFrom, IfConnection, IfFiles};
+ghost use Rattle.ee_store.specs.Holding.{AreSettled, KeepsHeld};
 ghost use Rattle.ee_store.specs.NextRun.{IsNumbered, LeavesStanding, FollowsOn};
 
 use crate::keeper::SqlKeeper;
+use crate::laws::holding_law;
 use ee_store_files::{OpenCause, open_files, open_path};
 use ee_store_schema::OpenFault;
 use sqlite::{
@@ -57,6 +59,8 @@ pub struct NotOpened<S: Alter, L> {
 /// - `told`, `apart`: a cause is one of that fault, and is told only if `sqlite` didn't open the file.
 /// - `left`: the files come back, and recover to what was there or, if there was no database, to none or an empty
 ///   one.
+/// - `held`: so they hold what they held, and the open was no event (`whole_history_law`, `waits`). This is said of
+///   files of which a crash leaves what they hold, as of those that were just opened.
 ///
 /// # Errors
 ///
@@ -76,7 +80,10 @@ pub fn open_on<D: Disk + Drop>(
     ensures told { IfErr result (λ not. IfSome not.cause (λ cause. not.fault ≡ fault_of (error_of cause))) }
     ensures apart { IfErr result (λ not. IfConnection not.rest (λ _. not.cause ≡ None)) }
     ensures left { IfErr result (λ not. IfFiles not.rest (λ rest. IsSomeAnd rest (λ left. IsCleanLeft left → Leaves files left))) }
+    ensures held { IfErr result (λ not. IfFiles not.rest (λ rest. IsSomeAnd rest (λ left. IsCleanLeft left → AreSettled D.Disk files
+        → KeepsHeld (image_of D.Disk files) left))) }
 {
+    holding_law::<D>();
     let conn = match open_files(alloc, files, options) {
         Ok(conn) => conn,
         Err((error, left)) => {
@@ -123,6 +130,7 @@ pub fn open_as<F: Start>(
     ensures apart { IfErr result (λ not. IfConnection not.rest (λ _. not.cause ≡ None)) }
     ensures left { IfErr result (λ not. IfFiles not.rest (λ rest. IfSome rest (λ left. (files : _) × IsFresh true files.log × IsFresh false files.db
         × (IsCleanLeft left → Leaves files left)))) }
+    ensures held { IfErr result (λ not. IfFiles not.rest (λ rest. IfSome rest (λ left. IsCleanLeft left → KeepsHeld (image_at F.Start) left))) }
     ensures nothing { IfErr result (λ not. IfFiles not.rest (λ rest. rest ≡ None → IsSomeAnd not.cause IsOfSystem)) }
 {
     match open_path(rt, path, start) {

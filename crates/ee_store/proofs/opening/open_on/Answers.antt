@@ -8,6 +8,9 @@ use Rattle.ee_store.proofs.opening.open_on.Goals as goal
 pub returns-in-Err-clause-left : goal.returns-in-Err-clause-left
 returns-in-Err-clause-left g c = c.in-Err.ensures.unharmed
 
+pub returns-in-Err-clause-held : goal.returns-in-Err-clause-held
+returns-in-Err-clause-held g c clean settled = c.holding_law.ensures.leaves c.args.files _ settled (c.in-Err.ensures.unharmed clean)
+
 pub returns-in-Ok-adopt-clause-opened : goal.returns-in-Ok-adopt-clause-opened
 returns-in-Ok-adopt-clause-opened g c clean =
     let was = c.in-Ok.conn in
@@ -28,6 +31,7 @@ returns-in-Ok-adopt-clause-opened g c clean =
       left = it.left clean;
       ready = it.ready (c.in-Ok.ensures.fresh.autocommit, c.in-Ok.ensures.fresh.unlimited);
       room = it.room clean;
+      shielded = it.crash.shield (c.in-Ok.ensures.guarded early);
     }
 
 pub returns-in-Err-adopt-clause-refused : goal.returns-in-Err-adopt-clause-refused
