@@ -1,14 +1,17 @@
--- Lemmas that the proofs of crates above use: what a disk may leave after each turn, and elements of lists.
-use Rattle.std.proofs.Common.{List, ◌∷◌, false, true, ◌≡◌, ◌⊎◌}
+-- Lemmas that the proofs of crates above use: what a disk may leave after each turn, attempts, and elements of lists.
+use Rattle.std.proofs.Common.{List, [], ◌∷◌, ◌++◌, false, true, ◌≡◌, ◌⊎◌}
 use Rattle.std.specs.List.{Contains}
 use Rattle.ee_desk_model.specs.Numbers.{number_of}
 use Rattle.ee_desk_model.specs.Repeats.{Content}
 use Rattle.ee_desk_model.specs.declared.acts.Request.{Request}
-use Rattle.ee_desk_laws.specs.Events.{Told, World, decided, one, unserved}
+use Rattle.ee_desk_laws.specs.Events.{Event, Told, World, begun, Happens, decided, one, unserved}
+use Rattle.ee_desk_laws.specs.Events.Event.{Deliver, Lose, Unserved}
+use Rattle.ee_desk_laws.specs.Attempts.{Attempt, LeadOn}
 use Rattle.ee_desk_laws.specs.Ties.{Leaves}
 use Rattle.std.specs.FinMap as finite
 use Rattle.ee_desk_laws.proofs.Elements
 use Rattle.ee_desk_laws.proofs.Leaving
+use Rattle.ee_desk_laws.proofs.Attempts
 
 -- ---- what may be left represents a content of the world
 -- if no disk may be left but those of before
@@ -32,6 +35,37 @@ leaves_kept = Leaving.leaves_kept
 pub leaves_unserved : {Disk : Type 0} (Stands : Disk → Content → Type 0) (old new : Disk → Type 0) (w : World) (q : Request)
     → ((disk : Disk) → new disk → old disk ⊎ Stands disk (one w.now q)) → Leaves Stands old w → Leaves Stands new (unserved w q)
 leaves_unserved = Leaving.leaves_unserved
+
+-- ---- attempts
+-- events, and others after them
+pub happens_onward : (earlier later : List Event) (w u v : World) → Happens w earlier u → Happens u later v → Happens w (earlier ++ later) v
+happens_onward = Attempts.happens_onward
+
+-- events, and a request that isn't served
+pub happens_missed : (start : Content) (events : List Event) (w : World) (q : Request) → Happens (begun start) events w → w.up ≡ true
+    → Happens (begun start) (events ++ Unserved q ∷ []) (unserved w q)
+happens_missed = Attempts.happens_missed
+
+-- no attempt changes nothing
+pub lead_nowhere : (Went : Content → List Event → Type 0) → LeadOn Went [] Went
+lead_nowhere = Attempts.lead_nowhere
+
+-- some attempts, and others after them
+pub lead_further : (Before Now After : Content → List Event → Type 0) (some others : List Attempt)
+    → LeadOn Before some Now → LeadOn Now others After → LeadOn Before (some ++ others) After
+lead_further = Attempts.lead_further
+
+-- a request that was served: its reply reached the sender, or was lost
+pub lead_by_reply : (Before Now : Content → List Event → Type 0) (q : Request)
+    → ((start : Content) (earlier : List Event) → Before start earlier → Now start (earlier ++ Deliver q ∷ []) × Now start (earlier ++ Lose q ∷ []))
+    → LeadOn Before (record { request = q; is_served = true } ∷ []) Now
+lead_by_reply = Attempts.lead_by_reply
+
+-- a request that wasn't served
+pub lead_unserved : (Before Now : Content → List Event → Type 0) (q : Request)
+    → ((start : Content) (earlier : List Event) → Before start earlier → Now start (earlier ++ Unserved q ∷ []))
+    → LeadOn Before (record { request = q; is_served = false } ∷ []) Now
+lead_unserved = Attempts.lead_unserved
 
 -- ---- elements
 -- an element of the rest is one of the list

@@ -2,6 +2,7 @@ mod Elements
 mod Survival
 mod Retries
 mod Leaving
+mod Attempts
 mod Served
 mod Lists
 mod Classes

@@ -1,4 +1,5 @@
 pub mod Events
+pub mod Attempts
 pub mod Stops
 pub mod Ties
 pub mod Tellers
