@@ -9,3 +9,4 @@ mod OwnBonds
 mod Batches
 mod EveryRow
 mod AsParts
+mod History

@@ -166,8 +166,13 @@ impl ListKeeper {
 
 impl Keeper for ListKeeper {
     ghost use Rattle.std.specs.Prelude.{◌≡◌, true};
-    ghost use Rattle.std.proofs.Common.{◌∙◌, sym};
+    ghost use Rattle.std.proofs.Common.{◌∙◌, sym, subst};
+    ghost use Rattle.std.proofs.Math.Logic.{∥∥₁_map};
+    ghost use Rattle.ee_desk_model.specs.Repeats.{Content};
     ghost use Rattle.ee_desk_model.specs.Sound.{IsSound};
+    ghost use Rattle.ee_desk.specs.History.{HasGone};
+    ghost use Rattle.ee_desk_laws.specs.Events.{unserved};
+    ghost use Rattle.ee_desk_laws.proofs.Lemmas.{happens_missed};
 
     ghost has = { λ k c. (k ≡ c) × IsSound c.books };
 
@@ -185,7 +190,17 @@ impl Keeper for ListKeeper {
 
     ghost sound = { λ _ _ has. has.1 };
 
+    ghost went = { λ k start events. IsSound k.books × HasGone k start events };
+
     ghost one = { λ _ _ _ _ has other. sym has.0 ∙ other.0 };
+
+    ghost missed = { λ _ start events request went. (
+      went.0,
+      ∥∥₁_map went.1 (λ (w, happened, up, is).
+          (unserved w request, happens_missed start events w request happened up, up, is)),
+    ) };
+
+    ghost gone = { λ _ _ _ went. ∥∥₁_map went.1 (λ (w, happened, up, is). (w, happened, (is, subst (λ (c : Content). IsSound c.books) is went.0))) };
 
     fn deliver(&mut self, request: &Request) -> Result<Reply, Unserved> {
         let answer = ListKeeper::deliver(self, request);
