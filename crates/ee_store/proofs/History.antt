@@ -1,5 +1,5 @@
 -- A store's history: one event after another, from run to run.
-use Rattle.std.proofs.Common.{◌≡◌, ◌⊎◌, ◌∙◌, inl, inr, zero, suc, Bool, true, false, cond, List, [], ◌∷◌, ◌++◌, arith, refl, sym, ap, subst}
+use Rattle.std.proofs.Common.{◌≡◌, ◌⊎◌, ◌∙◌, inl, inr, zero, suc, Bool, true, false, cond, List, [], ◌∷◌, arith, refl, sym, ap, subst}
 use Rattle.std.specs.List.{Contains, AllZip}
 use Rattle.std.specs.FinMap as finite
 use Rattle.std.proofs.Math.Logic.{∥∥₁_elim, ∥∥₁_map}
@@ -31,7 +31,7 @@ use Rattle.ee_desk_model.proofs.Lemmas.Requests.{content_after-known}
 use Rattle.ee_desk_laws.specs.Events.{stopped, Event, World, Told, begun, decided, unserved, one, Happens}
 use Rattle.ee_desk_laws.specs.Events.Event.{Deliver, Lose, Unserved, Stop_between, Reopen}
 use Rattle.ee_desk_laws.specs.Stops.{SurvivesStops, SettlesByRetries}
-use Rattle.ee_desk_laws.proofs.Lemmas.{in_tail}
+use Rattle.ee_desk_laws.proofs.Lemmas.{in_tail, happens_onward}
 use Rattle.ee_store_tables.specs.Tables.{counter_schema}
 use Rattle.ee_store_schema.specs.declared.faults.OpenFault.{OpenFault}
 use Rattle.ee_store_schema.specs.declared.forms.Form.{Form}
@@ -65,10 +65,6 @@ up_unserved w q is = record { up = is.up; among = in_tail (one w.now q) w.may w.
 up_again : (w v : World) → Happens w (Stop_between ∷ Reopen ∷ []) v → IsUp v
 up_again w v (u, (left, among, stops), (x, (down, opens), same)) =
     subst IsUp (sym (same ∙ opens ∙ ap (λ (y : World). record y { up = true }) stops)) (record { up = refl; among = (0, omega arith, refl) })
-
-happens_onward : (earlier later : List Event) (w u v : World) → Happens w earlier u → Happens u later v → Happens w (earlier ++ later) v
-happens_onward [] later w u v same rest = subst (λ x. Happens x later v) same rest
-happens_onward (event ∷ earlier) later w u v (x, leads, on) rest = (x, leads, happens_onward earlier later x u v on rest)
 
 -- ---- one event, or some
 

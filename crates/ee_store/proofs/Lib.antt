@@ -9,3 +9,4 @@ mod History
 mod OpenedRoom
 mod Asked
 mod Shut
+mod Going

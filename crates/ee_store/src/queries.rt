@@ -157,6 +157,12 @@ impl<S: Alter> Keeper for SqlKeeper<S> {
     ghost use Rattle.ee_store_books.specs.Seen.{HasContent};
     ghost use Rattle.ee_store_delivery.specs.Known.{IsInformed};
     ghost use Rattle.std.specs.Prelude.{◌*◌};
+    ghost use Rattle.std.proofs.Math.Logic.{∥∥₁_map};
+    ghost use Rattle.ee_store.specs.History.{HasCome};
+    ghost use Rattle.std.proofs.Common.{inl};
+    ghost use Rattle.ee_desk_laws.specs.Events.{one, unserved};
+    ghost use Rattle.ee_desk_laws.proofs.Lemmas.{happens_missed, in_tail, leaves_unserved};
+    ghost use Rattle.ee_store_books.specs.Seen.{StandsFor};
     ghost use Rattle.ee_store_books.specs.Causes.{IsReady};
     ghost use Rattle.ee_store_books.proofs.Lemmas.Lookups.{one_content};
     ghost use Rattle.ee_store_tables.specs.Rows.{HasRoom};
@@ -180,7 +186,21 @@ impl<S: Alter> Keeper for SqlKeeper<S> {
 
     ghost sound = { λ _ _ has. has.0.right.sound };
 
+    ghost went = { λ k start events. HasCome start events (state S.Store k.conn) × IsInformed (state S.Store k.conn) k.known };
+
     ghost one = { λ k c d is_open has other. one_content _ c d is_open has.0 other.0 };
+
+    ghost missed = { λ k start events request went. (
+      ∥∥₁_map went.0 (λ (w, happened, up, follows). (
+        unserved w request,
+        happens_missed start events w request happened up.up,
+        record { up = up.up; among = in_tail (one w.now request) w.may w.now up.among },
+        (follows.0, leaves_unserved StandsFor (state S.Store k.conn).may_leave (state S.Store k.conn).may_leave w request (λ _ may. inl may) follows.1),
+      )),
+      went.1,
+    ) };
+
+    ghost gone = { λ _ _ _ went. ∥∥₁_map went.0 (λ (w, happened, up, follows). (w, happened, (follows.0, went.1))) };
 
     fn deliver(&mut self, request: &Request) -> Result<Reply, Unserved> {
         SqlKeeper::deliver(self, request)

@@ -1,4 +1,4 @@
-use Rattle.std.proofs.Common.{◌≡◌, ℕ, ◌+◌, ◌*◌, [], ◌∷◌, arith, subst}
+use Rattle.std.proofs.Common.{◌≡◌, ◌+◌, ◌*◌, [], ◌∷◌, arith, subst}
 use Rattle.sqlite.specs.Held.{state}
 use Rattle.ee_desk_model.specs.Repeats.{Content}
 use Rattle.ee_desk_model.specs.Contents.{content_after}
@@ -7,6 +7,7 @@ use Rattle.ee_store_tables.proofs.Lemmas.Causes.{room_less}
 use Rattle.ee_store_books.specs.Seen.{StandsFor, HasContent}
 use Rattle.ee_store_delivery.specs.Known.{IsInformed}
 use Rattle.ee_store.proofs.Shut.{shut_by_cause}
+use Rattle.ee_store.proofs.Going.{goes_at}
 use Rattle.ee_store.proofs.queries.SqlKeeperKeeper.deliver.Goals as goal
 
 pub returns-clause-shut : goal.returns-clause-shut
@@ -24,3 +25,9 @@ pub returns-clause-ready : goal.returns-clause-ready
 returns-clause-ready g c clean content has n takes =
     let one_more : 501 * (n + 1) ≡ 501 + 501 * n = omega arith in
     (c.deliver.ensures.ready takes.0, c.deliver.ensures.room clean takes.0 content has.0 (501 * n) (subst (λ m. HasRoom m (state g.S.Store c.args.self.now.conn)) one_more takes.1))
+
+pub returns-clause-goes : goal.returns-clause-goes
+returns-clause-goes g c clean =
+    let old = state g.S.Store c.args.self.now.conn in
+    let new = state g.S.Store c.deliver.new.self.conn in
+    goes_at old new (IsInformed old c.args.self.now.known) (IsInformed new c.deliver.new.self.known) c.args.request.now c.deliver.result (c.deliver.ensures.goes clean) c.deliver.ensures.informed

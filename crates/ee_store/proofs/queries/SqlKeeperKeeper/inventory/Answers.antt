@@ -1,6 +1,8 @@
-use Rattle.std.proofs.Common.{ℕ, ◌*◌}
+use Rattle.std.proofs.Common.{◌*◌}
 use Rattle.sqlite.specs.Held.{state}
 use Rattle.ee_store.proofs.Shut.{shut_by_cause}
+use Rattle.ee_store_delivery.specs.Known.{IsInformed}
+use Rattle.ee_store.proofs.Going.{asks_at}
 use Rattle.ee_store.proofs.queries.SqlKeeperKeeper.inventory.Goals as goal
 
 pub returns-clause-shut : goal.returns-clause-shut
@@ -11,3 +13,9 @@ returns-clause-cause g c clean content has n takes = c.inventory.ensures.cause c
 
 pub returns-clause-ready : goal.returns-clause-ready
 returns-clause-ready g c clean content has n takes = (c.inventory.ensures.ready takes.0, c.inventory.ensures.room clean content has.0 (501 * n) takes.1)
+
+pub returns-clause-goes : goal.returns-clause-goes
+returns-clause-goes g c clean =
+    let old = state g.S.Store c.args.self.now.conn in
+    let new = state g.S.Store c.inventory.new.self.conn in
+    asks_at old new (IsInformed old c.args.self.now.known) (IsInformed new c.inventory.new.self.known) (c.inventory.ensures.follows clean) c.inventory.ensures.informed
