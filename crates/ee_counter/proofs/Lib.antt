@@ -5,3 +5,4 @@ mod Turns
 mod Same
 mod Texts
 mod Streams
+pub mod Lemmas

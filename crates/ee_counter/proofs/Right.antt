@@ -1,6 +1,7 @@
 -- Answers to a message.
-use Rattle.std.proofs.Common.{◌≡◌, ◌||◌, Bool, true, false, List, ℕ, refl, subst, Result, Ok, Err}
+use Rattle.std.proofs.Common.{◌≡◌, ◌||◌, Bool, true, false, List, [], ◌∷◌, ◌++◌, ℕ, refl, subst, Result, Ok, Err}
 use Rattle.ee_desk_model.specs.Repeats.{Content}
+use Rattle.ee_desk_model.specs.declared.acts.Request.{Request}
 use Rattle.ee_wire_framing.specs.Framing.{Message}
 use Rattle.ee_wire_calls.specs.Calls.{decoded}
 use Rattle.ee_wire_calls.specs.declared.calls.Call.{Call}
@@ -10,7 +11,11 @@ use Rattle.ee_wire_calls.specs.declared.faults.WireFault.{WireFault}
 use Rattle.ee_desk_model.specs.declared.refusals.Unserved.{Unserved}
 use Rattle.ee_wire.specs.declared.answers.Answer.{Answer}
 use Rattle.ee_wire.specs.declared.answers.Answer.TheVariants as told
-use Rattle.ee_counter.specs.Answering.{call_of, IsAnswer, after_call, Answers}
+use Rattle.ee_desk_laws.specs.Attempts.{Attempt, LeadOn}
+use Rattle.ee_desk_laws.specs.Events.{Event}
+use Rattle.ee_desk_laws.specs.Events.Event.{Unserved as NotServed}
+use Rattle.ee_desk_laws.proofs.Lemmas.{lead_nowhere, lead_unserved}
+use Rattle.ee_counter.specs.Answering.{call_of, IsAnswer, after_call, attempts_in, Answers}
 
 never_unserved : (c : Content) (asked : Result Call WireFault) (cause : Unserved) → IsAnswer c asked (told.Unserved cause) → ⊥
 never_unserved c (Ok (call.Request request)) cause is = is
@@ -21,8 +26,8 @@ never_unserved c (Ok (call.Query (ask.Value denom issued month))) cause is = is
 never_unserved c (Err fault) cause is = is
 
 -- an answer that isn't 503 is right, and the content has changed by it
-pub answered : (c : Content) (asked : Result Call WireFault) (answer : Answer) (Has : Content → Type 0)
-    → IsAnswer c asked answer → Has (after_call c asked) → Answers c asked answer Has
+pub answered : (c : Content) (asked : Result Call WireFault) (answer : Answer) (Has : Content → List Attempt → Type 0)
+    → IsAnswer c asked answer → Has (after_call c asked) (attempts_in asked answer) → Answers c asked answer Has
 answered c asked (told.Reply x) Has is has = (is, has)
 answered c asked (told.Sheet x) Has is has = (is, has)
 answered c asked (told.Row x) Has is has = (is, has)
@@ -31,8 +36,16 @@ answered c asked (told.Batch x) Has is has = (is, has)
 answered c asked (told.Fault x) Has is has = (is, has)
 answered c asked (told.Unserved x) Has is has = absurd (never_unserved c asked x is)
 
+-- a message that memory was refused to: its request isn't served
+pub starved : (Went : Content → List Event → Type 0) (asked : Result Call WireFault) (cause : Unserved)
+    → ((start : Content) (events : List Event) (request : Request) → Went start events → Went start (events ++ NotServed request ∷ []))
+    → LeadOn Went (attempts_in asked (told.Unserved cause)) Went
+starved Went (Ok (call.Request request)) cause missed = lead_unserved Went Went request (λ start events. missed start events request)
+starved Went (Ok (call.Query query)) cause missed = lead_nowhere Went
+starved Went (Err fault) cause missed = lead_nowhere Went
+
 -- the same of a message by its parts
-pub of_parts : (m : Message) (target method body : List ℕ) (c : Content) (answer : Answer) (Has : Content → Type 0)
+pub of_parts : (m : Message) (target method body : List ℕ) (c : Content) (answer : Answer) (Has : Content → List Attempt → Type 0)
     → target ≡ m.target → method ≡ m.method → body ≡ m.body
     → Answers c (decoded target method body) answer Has → Answers c (call_of m) answer Has
 of_parts m target method body c answer Has x y z =

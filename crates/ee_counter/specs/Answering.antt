@@ -1,11 +1,12 @@
 -- The answer to a message, given a content of books and kept replies.
-use Rattle.std.specs.Prelude.{◌≡◌, [], ◌∷◌, Result, Ok, Err, ⊤}
+use Rattle.std.specs.Prelude.{◌≡◌, true, false, List, [], ◌∷◌, Result, Ok, Err, ⊤}
 use Rattle.ee_desk_model.specs.PlainBooks.{PlainBooks}
 use Rattle.ee_desk_model.specs.Repeats.{Content}
 use Rattle.ee_desk_model.specs.Contents.{content_after}
 use Rattle.ee_desk_model.specs.Answers as desk
 use Rattle.ee_desk_model.specs.Queries.{ticket_numbered, batch_on}
 use Rattle.ee_desk_model.specs.declared.refusals.Unserved.{Unserved}
+use Rattle.ee_desk_laws.specs.Attempts.{Attempt}
 use Rattle.ee_keeper.specs.Keeping.{IsInventory, IsQuote}
 use Rattle.ee_wire_framing.specs.Framing.{Message}
 use Rattle.ee_wire_calls.specs.Calls.{decoded}
@@ -52,11 +53,19 @@ abbrev pub left_after : Content → Result Call WireFault → Answer → Content
 left_after c call (told.Unserved cause) = c
 left_after c call answer = after_call c call
 
--- a right answer, and the content after it. `Has` is the relation of contents that the keeper then has.
-abbrev pub Answers : Content → Result Call WireFault → Answer → (Content → Type 0) → Type 0
-Answers c call answer Has = IsRight c call answer × Has (left_after c call answer)
+-- the request in a call, which was served unless the answer is 503
+abbrev pub attempts_in : Result Call WireFault → Answer → List Attempt
+attempts_in (Ok (call.Request request)) (told.Unserved cause) = record { request = request; is_served = false } ∷ []
+attempts_in (Ok (call.Request request)) answer = record { request = request; is_served = true } ∷ []
+attempts_in (Ok (call.Query query)) answer = []
+attempts_in (Err fault) answer = []
+
+-- a right answer, and the content after it. `Has` is the relation of contents that the keeper then has, and of the attempts that
+-- led there.
+abbrev pub Answers : Content → Result Call WireFault → Answer → (Content → List Attempt → Type 0) → Type 0
+Answers c call answer Has = IsRight c call answer × Has (left_after c call answer) (attempts_in call answer)
 
 -- the answer; or none, and then nothing has changed
-abbrev pub AnswersUnless : Content → Result Call WireFault → Result Answer Unserved → (Content → Type 0) → Type 0
-AnswersUnless c call (Ok answer) Has = IsAnswer c call answer × Has (after_call c call)
-AnswersUnless c call (Err unserved) Has = Has c
+abbrev pub AnswersUnless : Content → Result Call WireFault → Result Answer Unserved → (Content → List Attempt → Type 0) → Type 0
+AnswersUnless c call (Ok answer) Has = IsAnswer c call answer × Has (after_call c call) (attempts_in call answer)
+AnswersUnless c call (Err unserved) Has = Has c (attempts_in call (told.Unserved unserved))

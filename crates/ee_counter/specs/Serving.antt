@@ -8,6 +8,7 @@ use Rattle.std.specs.Io.KnownBytes.{Appends, Consumes, IsAtEnd}
 use Rattle.ee_desk_model.specs.declared.acts.Request.{Request}
 use Rattle.ee_desk_model.specs.declared.refusals.Unserved.TheVariants.{StoreFailed}
 use Rattle.ee_desk_model.specs.Repeats.{Content}
+use Rattle.ee_desk_laws.specs.Attempts.{Attempt}
 use Rattle.ee_wire_framing.specs.declared.FramingFault.{FramingFault}
 use Rattle.ee_wire_framing.specs.Framing.{Message, BeginsMessage, BeginsMessages, EndsWith, end}
 use Rattle.ee_wire_framing.specs.Reading.{AreNeeded, NeedsMore, ShowsFault, most_read}
@@ -19,7 +20,7 @@ use Rattle.ee_io.specs.Written.{WritesFront}
 use Rattle.ee_wire.specs.Answers.{answer_text}
 use Rattle.ee_wire.specs.declared.answers.Answer.{Answer}
 use Rattle.ee_wire.specs.declared.answers.Answer.TheVariants as told
-use Rattle.ee_counter.specs.Answering.{call_of, IsAnswer, after_call, IsRight, left_after, Answers}
+use Rattle.ee_counter.specs.Answering.{call_of, IsAnswer, after_call, IsRight, left_after, attempts_in, Answers}
 use Rattle.ee_counter.specs.declared.connections.Ended.{Ended}
 use Rattle.ee_counter.specs.declared.connections.Why.{Why}
 use Rattle.ee_counter.specs.declared.connections.Why.TheVariants.{Closed, Asked, Limit, Fault, ReadFailed, WriteFailed, NoMemory}
@@ -77,6 +78,14 @@ abbrev pub requests_in : List Told → List Request
 requests_in [] = []
 requests_in (t ∷ ts) = request_in (call_of t.message) t.answer ++ requests_in ts
 
+-- the attempt of a message and its answer, if it asks for one
+abbrev pub attempts_by : Told → List Attempt
+attempts_by t = attempts_in (call_of t.message) t.answer
+
+abbrev pub attempts_by_all : List Told → List Attempt
+attempts_by_all [] = []
+attempts_by_all (t ∷ ts) = attempts_by t ++ attempts_by_all ts
+
 -- ---- a store that failed
 
 -- an answer says that the store failed
@@ -101,37 +110,38 @@ fault_text f = answer_text (told.Fault (Framing f)) true
 abbrev pub CutsShort : List ℕ → Option (List ℕ) → Option (List ℕ) → Type 0
 CutsShort text old new = WritesFront old new text false
 
--- the bytes begin with this next message, and this is its answer. `Has` is the relation of contents that the keeper then has.
-abbrev pub Tells : Told → List ℕ → Content → (Content → Type 0) → Type 0
+-- the bytes begin with this next message, and this is its answer. `Has` is the relation of contents that the keeper then has, and
+-- of the attempts that led there.
+abbrev pub Tells : Told → List ℕ → Content → (Content → List Attempt → Type 0) → Type 0
 Tells t bytes c Has =
-    ((after : List ℕ) × BeginsMessage bytes t.message after) × IsRight c (call_of t.message) t.answer × Has (left_by c t)
+    ((after : List ℕ) × BeginsMessage bytes t.message after) × IsRight c (call_of t.message) t.answer × Has (left_by c t) (attempts_by t)
 
 -- how the connection ends, by its cause: the message whose answer ended it, if one did; the bytes that were read and not
 -- answered; those that the reader has left; what was written before and after; the content and the number of answers before;
 -- and the number after
-abbrev pub EndsBy : Why → Option Told → List ℕ → Option (List ℕ) → Option (List ℕ) → Option (List ℕ) → Content → ℕ → ℕ → (Content → Type 0) → Type 0
+abbrev pub EndsBy : Why → Option Told → List ℕ → Option (List ℕ) → Option (List ℕ) → Option (List ℕ) → Content → ℕ → ℕ → (Content → List Attempt → Type 0) → Type 0
 -- every byte was answered, and none is left
-EndsBy Closed None bytes remaining old new c n count Has = EndsWith bytes end × IsAtEnd remaining × Appends old new [] × (count ≡ n) × Has c
+EndsBy Closed None bytes remaining old new c n count Has = EndsWith bytes end × IsAtEnd remaining × Appends old new [] × (count ≡ n) × Has c []
 EndsBy Asked (Some t) bytes remaining old new c n count Has =
     Tells t bytes c Has × (t.message.closes ≡ true) × Appends old new (text_of n t) × (count ≡ n + 1)
-EndsBy Limit None bytes remaining old new c n count Has = (n ≡ most_messages) × Appends old new [] × (count ≡ n) × Has c
+EndsBy Limit None bytes remaining old new c n count Has = (n ≡ most_messages) × Appends old new [] × (count ≡ n) × Has c []
 EndsBy (Fault f) None bytes remaining old new c n count Has =
-    ShowsFault bytes remaining f × Appends old new (fault_text f) × (count ≡ n + 1) × Has c
+    ShowsFault bytes remaining f × Appends old new (fault_text f) × (count ≡ n + 1) × Has c []
 -- the bytes that were read contain no whole message and no fault
-EndsBy ReadFailed None bytes remaining old new c n count Has = NeedsMore bytes × Appends old new [] × (count ≡ n) × Has c
+EndsBy ReadFailed None bytes remaining old new c n count Has = NeedsMore bytes × Appends old new [] × (count ≡ n) × Has c []
 -- memory was refused to the response to a message, which was decided: no byte of it was written
 EndsBy NoMemory (Some t) bytes remaining old new c n count Has = Appends old new [] × (count ≡ n) × Tells t bytes c Has
 -- memory was refused to more bytes, or to the response to a fault
 EndsBy NoMemory None bytes remaining old new c n count Has =
-    Appends old new [] × (count ≡ n) × (NeedsMore bytes ⊎ ((f : FramingFault) × ShowsFault bytes remaining f)) × Has c
+    Appends old new [] × (count ≡ n) × (NeedsMore bytes ⊎ ((f : FramingFault) × ShowsFault bytes remaining f)) × Has c []
 -- the message whose response was cut was decided
 EndsBy WriteFailed (Some t) bytes remaining old new c n count Has = (count ≡ n) × Tells t bytes c Has × CutsShort (text_of n t) old new
 EndsBy WriteFailed None bytes remaining old new c n count Has =
-    (count ≡ n) × ((f : FramingFault) × ShowsFault bytes remaining f × CutsShort (fault_text f) old new) × Has c
+    (count ≡ n) × ((f : FramingFault) × ShowsFault bytes remaining f × CutsShort (fault_text f) old new) × Has c []
 EndsBy _ _ bytes remaining old new c n count Has = ⊥
 
 -- how the connection ends; it says that the store failed if an answer before said so (`was`), or the last one does
-abbrev pub Ends : Ended → Bool → List ℕ → Option (List ℕ) → Option (List ℕ) → Option (List ℕ) → Content → ℕ → (Content → Type 0) → Type 0
+abbrev pub Ends : Ended → Bool → List ℕ → Option (List ℕ) → Option (List ℕ) → Option (List ℕ) → Content → ℕ → (Content → List Attempt → Type 0) → Type 0
 Ends e was bytes remaining old new c n Has =
     (last : Option Told) × (e.store_failed ≡ (option_map_or told_failure last false || was))
     × EndsBy e.why last bytes remaining old new c n e.messages Has
@@ -139,7 +149,7 @@ Ends e was bytes remaining old new c n Has =
 -- ---- one turn
 
 -- the message m is answered, and the connection goes on or ends; `was`: an answer before said that the store failed
-abbrev pub AnswersOne : Message → Option (List ℕ) → Option (List ℕ) → Content → ℕ → Bool → ControlFlow Ended Bool → (Content → Type 0) → Type 0
+abbrev pub AnswersOne : Message → Option (List ℕ) → Option (List ℕ) → Content → ℕ → Bool → ControlFlow Ended Bool → (Content → List Attempt → Type 0) → Type 0
 AnswersOne m old new c n was (Continue failed) Has =
     (answer : Answer) × Answers c (call_of m) answer Has × (m.closes ≡ false)
     × Appends old new (text_of n (record { message = m; answer = answer })) × (failed ≡ (tells_failure answer || was))
@@ -161,10 +171,10 @@ Refuses f old new n e = RefusesBy e.why f old new n e.messages
 
 -- after these bytes more may be read, as they are needed; then a message is answered, and other bytes are left, or the
 -- connection ends
-abbrev pub Turns : List ℕ → List ℕ → Option (List ℕ) → Option (List ℕ) → Option (List ℕ) → Option (List ℕ) → Content → ℕ → Bool → ControlFlow Ended Bool → (Content → Type 0) → Type 0
+abbrev pub Turns : List ℕ → List ℕ → Option (List ℕ) → Option (List ℕ) → Option (List ℕ) → Option (List ℕ) → Content → ℕ → Bool → ControlFlow Ended Bool → (Content → List Attempt → Type 0) → Type 0
 Turns bytes others before after old new c n was (Continue failed) Has =
     (got : List ℕ) × Consumes before after got × AreNeeded bytes got
-    × ((t : Told) × BeginsMessage (bytes ++ got) t.message others × IsRight c (call_of t.message) t.answer × Has (left_by c t)
+    × ((t : Told) × BeginsMessage (bytes ++ got) t.message others × IsRight c (call_of t.message) t.answer × Has (left_by c t) (attempts_by t)
     × (t.message.closes ≡ false) × Appends old new (text_of n t) × (failed ≡ (told_failure t || was)))
 Turns bytes others before after old new c n was (Break e) Has =
     (got : List ℕ) × Consumes before after got × AreNeeded bytes got × Ends e was (bytes ++ got) after old new c n Has
@@ -213,8 +223,8 @@ AreFew why n = (n < most_messages) ⊎ ((why ≡ Limit) × (n ≡ most_messages)
 
 -- the connection gave bytes that begin with these messages, which were answered, and then it ended: what the reader has
 -- left before and after, what was written before and after, the content before, how it ended, and the relation of contents
--- that the keeper then has
-pub record Serves (before : Option (List ℕ)) (remaining : Option (List ℕ)) (old : Option (List ℕ)) (new : Option (List ℕ)) (c : Content) (e : Ended) (Has : Content → Type 0) : Type 0 where
+-- that the keeper then has and of the attempts that led there
+pub record Serves (before : Option (List ℕ)) (remaining : Option (List ℕ)) (old : Option (List ℕ)) (new : Option (List ℕ)) (c : Content) (e : Ended) (Has : Content → List Attempt → Type 0) : Type 0 where
   pub bytes : List ℕ
   pub read : Consumes before remaining bytes
   pub told : List Told
@@ -224,4 +234,4 @@ pub record Serves (before : Option (List ℕ)) (remaining : Option (List ℕ)) (
   pub rest : List ℕ
   pub wrote : Option (List ℕ)
   pub so_far : SoFar bytes rest old wrote c told
-  pub ends : Ends e (any_told_failure told) rest remaining wrote new (left_by_all c told) (length told) Has
+  pub ends : Ends e (any_told_failure told) rest remaining wrote new (left_by_all c told) (length told) (λ left more. Has left (attempts_by_all told ++ more))

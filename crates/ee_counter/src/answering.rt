@@ -1,10 +1,11 @@
 //! The answer to a message.
 
-ghost use Rattle.std.specs.Prelude.{◌≡◌, true, false, Ok, IfOk};
+ghost use Rattle.std.specs.Prelude.{◌≡◌, true, false, [], Ok, IfOk};
 ghost use Rattle.ee_desk_model.specs.Repeats.{Content};
 ghost use Rattle.ee_wire_calls.specs.Calls.{decoded};
 ghost use Rattle.ee_wire_calls.specs.declared.calls.Call.TheVariants as call;
-ghost use Rattle.ee_keeper.specs.Keeping.{FailsOnlyIf, Shows};
+ghost use Rattle.ee_desk_laws.specs.Attempts.{LeadOn};
+ghost use Rattle.ee_keeper.specs.Keeping.{FailsOnlyIf, HasAfter, Shows};
 ghost use Rattle.ee_counter.specs.Answering.{ShowsQuery, Answers, AnswersUnless};
 ghost use Rattle.ee_counter.specs.Serving.{tells_failure};
 
@@ -18,6 +19,7 @@ fn answer_query<K: Keeper>(keeper: &mut K, query: Query) -> Result<Answer, Unser
     ensures clean { K.is_clean keeper.new → K.is_clean keeper.old }
     ensures shows { K.is_clean keeper.new → (c : Content) → K.has keeper.old c
         → Shows (ShowsQuery c.books query) result (K.has keeper.new c) }
+    ensures goes { K.is_clean keeper.new → LeadOn (K.went keeper.old) [] (K.went keeper.new) }
     ensures told { IfOk result (λ answer. tells_failure answer ≡ false) }
     ensures failed { FailsOnlyIf K.may_fail result }
 {
@@ -36,7 +38,7 @@ fn answer_query<K: Keeper>(keeper: &mut K, query: Query) -> Result<Answer, Unser
 fn answer_request<K: Keeper>(keeper: &mut K, request: &Request) -> Result<Answer, Unserved>
     ensures clean { K.is_clean keeper.new → K.is_clean keeper.old }
     ensures answers { K.is_clean keeper.new → (c : Content) → K.has keeper.old c
-        → AnswersUnless c (Ok (call.Request request.now)) result (K.has keeper.new) }
+        → AnswersUnless c (Ok (call.Request request.now)) result (HasAfter (K.has keeper.new) (K.went keeper.old) (K.went keeper.new)) }
     ensures told { IfOk result (λ answer. tells_failure answer ≡ false) }
     ensures failed { FailsOnlyIf K.may_fail result }
 {
@@ -46,7 +48,7 @@ fn answer_request<K: Keeper>(keeper: &mut K, request: &Request) -> Result<Answer
 fn answer_call<K: Keeper>(keeper: &mut K, call: &Call) -> Result<Answer, Unserved>
     ensures clean { K.is_clean keeper.new → K.is_clean keeper.old }
     ensures answers { K.is_clean keeper.new → (c : Content) → K.has keeper.old c
-        → AnswersUnless c (Ok call.now) result (K.has keeper.new) }
+        → AnswersUnless c (Ok call.now) result (HasAfter (K.has keeper.new) (K.went keeper.old) (K.went keeper.new)) }
     ensures told { IfOk result (λ answer. tells_failure answer ≡ false) }
     ensures failed { FailsOnlyIf K.may_fail result }
 {
@@ -66,7 +68,7 @@ pub fn answer_decoded<K: Keeper>(
 ) -> Answer
     ensures clean { K.is_clean keeper.new → K.is_clean keeper.old }
     ensures answers { K.is_clean keeper.new → (c : Content) → K.has keeper.old c
-        → Answers c (decoded target.now method.now body.now) result (K.has keeper.new) }
+        → Answers c (decoded target.now method.now body.now) result (HasAfter (K.has keeper.new) (K.went keeper.old) (K.went keeper.new)) }
     ensures failed { tells_failure result ≡ true → K.may_fail }
 {
     match decoder.decode(target, method, body) {
@@ -91,7 +93,7 @@ pub fn answer_message<K: Keeper>(
 ) -> Answer
     ensures clean { K.is_clean keeper.new → K.is_clean keeper.old }
     ensures answers { K.is_clean keeper.new → (c : Content) → K.has keeper.old c
-        → Answers c (decoded target.now method.now body.now) result (K.has keeper.new) }
+        → Answers c (decoded target.now method.now body.now) result (HasAfter (K.has keeper.new) (K.went keeper.old) (K.went keeper.new)) }
     ensures failed { tells_failure result ≡ true → K.may_fail }
 {
     answer_decoded(&Decoder::new(alloc), keeper, target, method, body)

@@ -3,6 +3,7 @@
 ghost use Rattle.std.specs.Prelude.{◌≡◌, ◌<◌, ◌≤◌, ◌+◌, ◌||◌, ◌==◌, true, None, ⊤};
 ghost use Rattle.std.specs.ControlFlow.{MatchControlFlow};
 ghost use Rattle.ee_desk_model.specs.Repeats.{Content};
+ghost use Rattle.ee_keeper.specs.Keeping.{HasAfter};
 ghost use Rattle.ee_wire_framing.specs.Reading.{message_in};
 ghost use Rattle.ee_counter.specs.Answering.{Answers, call_of};
 ghost use Rattle.ee_counter.specs.Serving.{Serves, Turns, AnswersOne, DeviceFailsOnlyIf, FlowDeviceFailsOnlyIf, FlowFailsOnlyIf, Refuses, tells_failure, most_messages};
@@ -79,7 +80,7 @@ fn answer_to<K: Keeper>(
 ) -> Answer
     ensures clean { K.is_clean keeper.new → K.is_clean keeper.old }
     ensures answers { K.is_clean keeper.new → (c : Content) → K.has keeper.old c
-        → Answers c (call_of (message_in buffer.now.shown message)) result (K.has keeper.new) }
+        → Answers c (call_of (message_in buffer.now.shown message)) result (HasAfter (K.has keeper.new) (K.went keeper.old) (K.went keeper.new)) }
     ensures failed { tells_failure result ≡ true → K.may_fail }
 {
     let target = buffer.part(message.target);
@@ -103,7 +104,7 @@ fn answer_one<K: Keeper, W: Sink>(
     requires failed { store_failed ≡ true → K.may_fail }
     ensures clean { K.is_clean keeper.new → K.is_clean keeper.old }
     ensures answers { K.is_clean keeper.new → (c : Content) → K.has keeper.old c
-        → AnswersOne (message_in buffer.now.shown message) (W.contents writer.old) (W.contents writer.new) c messages store_failed result (K.has keeper.new) }
+        → AnswersOne (message_in buffer.now.shown message) (W.contents writer.old) (W.contents writer.new) c messages store_failed result (HasAfter (K.has keeper.new) (K.went keeper.old) (K.went keeper.new)) }
     ensures few { MatchControlFlow result (λ failed. ⊤) (λ ended. ended.messages ≤ most_messages) }
     ensures device { FlowDeviceFailsOnlyIf ⊥ (W.may_have_failed writer.new) result }
     ensures failed { FlowFailsOnlyIf K.may_fail result }
@@ -182,7 +183,7 @@ fn turn<K: Keeper, R: Source, W: Sink>(
     ensures clean { K.is_clean keeper.new → K.is_clean keeper.old }
     ensures turns { K.is_clean keeper.new → (c : Content) → K.has keeper.old c
         → Turns buffer.old.held buffer.new.held (R.remaining reader.old) (R.remaining reader.new)
-        (W.contents writer.old) (W.contents writer.new) c messages store_failed result (K.has keeper.new) }
+        (W.contents writer.old) (W.contents writer.new) c messages store_failed result (HasAfter (K.has keeper.new) (K.went keeper.old) (K.went keeper.new)) }
     ensures open { MatchControlFlow result (λ failed. buffer.new.ended ≡ None) (λ ended. ⊤) }
     ensures few { MatchControlFlow result (λ failed. ⊤) (λ ended. ended.messages ≤ most_messages) }
     ensures device { FlowDeviceFailsOnlyIf (R.may_have_failed reader.new) (W.may_have_failed writer.new) result }
@@ -228,7 +229,8 @@ fn turn<K: Keeper, R: Source, W: Sink>(
 /// read that settled the end: before the last read, of at most 4,096 bytes, the next message wasn't whole. If
 /// the reader fails, the bytes that were read contain no further whole message. If an answer said that the
 /// store failed, the result says so, whatever ended the connection; a store that can't fail never does. The
-/// claims are about any content `c` that the keeper had, and hold if its store is clean at the end.
+/// claims are about any content `c` that the keeper had, and hold if its store is clean at the end. Each request is
+/// an event in the history of the store (`HasAfter`), whether its reply arrives or not.
 pub fn serve<K: Keeper, R: Source, W: Sink>(
     alloc: Global,
     keeper: &mut K,
@@ -237,7 +239,7 @@ pub fn serve<K: Keeper, R: Source, W: Sink>(
 ) -> Ended
     ensures clean { K.is_clean keeper.new → K.is_clean keeper.old }
     ensures serves { K.is_clean keeper.new → (c : Content) → K.has keeper.old c
-        → Serves (R.remaining reader.old) (R.remaining reader.new) (W.contents writer.old) (W.contents writer.new) c result (K.has keeper.new) }
+        → Serves (R.remaining reader.old) (R.remaining reader.new) (W.contents writer.old) (W.contents writer.new) c result (HasAfter (K.has keeper.new) (K.went keeper.old) (K.went keeper.new)) }
     ensures few { result.messages ≤ most_messages }
     ensures device { DeviceFailsOnlyIf (R.may_have_failed reader.new) (W.may_have_failed writer.new) result.why }
     ensures failed { result.store_failed ≡ true → K.may_fail }

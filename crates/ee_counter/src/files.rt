@@ -4,6 +4,7 @@ ghost use Rattle.std.specs.Prelude.{◌+◌, ◌≡◌, ℕ, List, Some, IfErr};
 ghost use Rattle.ee_desk_model.specs.declared.acts.Act.TheVariants as act;
 ghost use Rattle.ee_desk_model.specs.declared.refusals.Unserved.TheVariants.{StoreFailed};
 ghost use Rattle.ee_desk_model.specs.Repeats.{Content};
+ghost use Rattle.ee_keeper.specs.Keeping.{HasAfter};
 ghost use Rattle.ee_io.specs.ReadWhole.{TakesAtMost};
 ghost use Rattle.ee_files.specs.BondFile.{bonds_of_file};
 ghost use Rattle.ee_files.specs.RateFile.{rates_of_file};
@@ -52,7 +53,7 @@ pub fn import_rates<K: Keeper, R: Source>(
 ) -> Result<Reply, ImportFault>
     ensures clean { K.is_clean keeper.new → K.is_clean keeper.old }
     ensures imports { K.is_clean keeper.new → (c : Content) → K.has keeper.old c
-        → Imports rates_of_file act.AddRates (R.remaining reader.old) (desk, number) c result (K.has keeper.new) }
+        → Imports rates_of_file act.AddRates (R.remaining reader.old) (desk, number) c result (HasAfter (K.has keeper.new) (K.went keeper.old) (K.went keeper.new)) }
     ensures takes { (source : List ℕ) → R.remaining reader.old ≡ Some source → TakesAtMost (most_bytes + 1) source (R.remaining reader.new) }
     ensures device { IfErr result (λ fault. IsFailedRead fault → R.may_have_failed reader.new) }
     ensures failed { IfErr result (λ fault. fault ≡ ImportFault.Unserved StoreFailed → K.may_fail) }
@@ -84,7 +85,7 @@ pub fn import_inventory<K: Keeper, R: Source>(
 ) -> Result<Reply, ImportFault>
     ensures clean { K.is_clean keeper.new → K.is_clean keeper.old }
     ensures imports { K.is_clean keeper.new → (c : Content) → K.has keeper.old c
-        → Imports bonds_of_file act.AddBonds (R.remaining reader.old) (desk, number) c result (K.has keeper.new) }
+        → Imports bonds_of_file act.AddBonds (R.remaining reader.old) (desk, number) c result (HasAfter (K.has keeper.new) (K.went keeper.old) (K.went keeper.new)) }
     ensures takes { (source : List ℕ) → R.remaining reader.old ≡ Some source → TakesAtMost (most_bytes + 1) source (R.remaining reader.new) }
     ensures device { IfErr result (λ fault. IsFailedRead fault → R.may_have_failed reader.new) }
     ensures failed { IfErr result (λ fault. fault ≡ ImportFault.Unserved StoreFailed → K.may_fail) }
@@ -114,7 +115,7 @@ pub fn export_inventory<K: Keeper, W: Sink>(
 ) -> Result<u64, ExportFault>
     ensures clean { K.is_clean keeper.new → K.is_clean keeper.old }
     ensures exports { K.is_clean keeper.new → (c : Content) → K.has keeper.old c
-        → Exports (W.contents writer.old) (W.contents writer.new) customer c result (K.has keeper.new) }
+        → Exports (W.contents writer.old) (W.contents writer.new) customer c result (HasAfter (K.has keeper.new) (K.went keeper.old) (K.went keeper.new)) }
     ensures device { IfErr result (λ fault. fault ≡ ExportFault.WriteFailed → W.may_have_failed writer.new) }
     ensures failed { IfErr result (λ fault. fault ≡ ExportFault.Unserved StoreFailed → K.may_fail) }
 {

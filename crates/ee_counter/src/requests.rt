@@ -8,8 +8,9 @@ ghost use Rattle.ee_desk_model.specs.Sound.{IsSound};
 ghost use Rattle.ee_desk_model.specs.Conserved.{IsConserved};
 ghost use Rattle.ee_desk_model.specs.Contents.{content_after, books_after};
 ghost use Rattle.ee_desk_model.specs.Answers.{served, AreAnswers};
+ghost use Rattle.ee_desk_laws.specs.Attempts.{LeadOn};
 ghost use Rattle.ee_keeper.specs.Keeping.{FailsOnlyIf, HasCause, IsShutByCause};
-ghost use Rattle.ee_counter.specs.Served.{FitInTurn};
+ghost use Rattle.ee_counter.specs.Served.{FitInTurn, attempts_at};
 
 use crate::soundness::known;
 use ee_desk_model::{Reply, Request, Unserved};
@@ -57,6 +58,8 @@ pub fn run<K: Keeper>(
     // Each request leaves the keeper one less to take.
     ensures ready { K.is_clean keeper.new → (c : Content) → K.has keeper.old c
         → OnOk result ((n : ℕ) → K.takes (n + length requests.now) keeper.old → K.takes n keeper.new) }
+    // Each request is an event in the history of the store, whether its reply arrives or is lost, or it isn't served.
+    ensures goes { K.is_clean keeper.new → IfOk result (λ answers. LeadOn (K.went keeper.old) (attempts_at requests.now answers.items) (K.went keeper.new)) }
     ensures clean { K.is_clean keeper.new → K.is_clean keeper.old }
     ensures err { OnErr result (keeper.new ≡ keeper.old) }
 {

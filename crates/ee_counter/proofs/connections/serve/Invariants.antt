@@ -1,5 +1,6 @@
 use Rattle.std.proofs.Common.{◌≡◌, true, None}
 use Rattle.ee_desk_model.specs.Repeats.{Content}
+use Rattle.ee_keeper.specs.Keeping.{HasAfter}
 use Rattle.ee_counter.proofs.Turns.{HasTold}
 use Rattle.ee_counter.proofs.connections.serve.Given as goal
 
@@ -11,5 +12,5 @@ invariant-loop-messages g l =
       clean : g.K.Keeper.is_clean l.keeper → g.K.Keeper.is_clean l.fn.keeper;
       so_far : g.K.Keeper.is_clean l.keeper → (c : Content) → g.K.Keeper.has l.fn.keeper c
           → HasTold (g.R.Read.remaining l.fn.reader) (g.R.Read.remaining l.reader) l.buffer.held (g.W.Write.contents l.fn.writer) (g.W.Write.contents l.writer) c l.messages l.store_failed
-          (g.K.Keeper.has l.keeper);
+          (HasAfter (g.K.Keeper.has l.keeper) (g.K.Keeper.went l.fn.keeper) (g.K.Keeper.went l.keeper));
     }

@@ -2,6 +2,8 @@ use Rattle.std.proofs.Common.{◌≡◌, subst, Ok, Err}
 use Rattle.ee_wire_framing.specs.declared.buffer.Next.{Next}
 use Rattle.ee_wire_framing.specs.declared.buffer.WireEnd.{WireEnd}
 use Rattle.ee_wire_framing.specs.Reading.{Settles, stop_of}
+use Rattle.ee_desk_laws.proofs.Lemmas.{lead_nowhere}
+use Rattle.ee_keeper.specs.Keeping.{HasAfter}
 use Rattle.ee_counter.proofs.Turns.{goes_on, turn_closed, turn_failed, turn_refused, turn_starved, turn_told, writer_alone, writer_in_flow}
 use Rattle.ee_counter.proofs.connections.turn.Goals as goal
 
@@ -10,7 +12,7 @@ returns-in-Ok-Message-clause-turns g c = λ clean d has.
     let before = g.R.Read.remaining c.args.reader.now in
     let after = g.R.Read.remaining c.next_message.new.reader in
     turn_told c.args.buffer.now c.next_message.new.buffer before after (g.W.Write.contents c.args.writer.now) (g.W.Write.contents c.answer_one.new.writer)
-    c.in-Ok-Message.message d c.args.messages c.args.store_failed c.answer_one.result (g.K.Keeper.has c.answer_one.new.keeper) (c.next_message.ensures.takes c.requires.open)
+    c.in-Ok-Message.message d c.args.messages c.args.store_failed c.answer_one.result (HasAfter (g.K.Keeper.has c.answer_one.new.keeper) (g.K.Keeper.went c.args.keeper.now) (g.K.Keeper.went c.answer_one.new.keeper)) (c.next_message.ensures.takes c.requires.open)
     (subst (λ (x : Next). Settles (Ok x) c.next_message.new.buffer after) c.in-Ok-Message.field-0-is (c.in-Ok-Message.ensures.settles c.requires.open))
     (c.answer_one.ensures.answers clean d has)
 
@@ -18,34 +20,34 @@ pub returns-in-Ok-End-clause-turns : goal.returns-in-Ok-End-clause-turns
 returns-in-Ok-End-clause-turns g c = λ clean d has.
     let before = g.R.Read.remaining c.args.reader.now in
     let after = g.R.Read.remaining c.next_message.new.reader in
-    turn_closed c.args.buffer.now c.next_message.new.buffer before after (g.W.Write.contents c.args.writer.now) d c.args.messages c.args.store_failed (g.K.Keeper.has c.args.keeper.now)
+    turn_closed c.args.buffer.now c.next_message.new.buffer before after (g.W.Write.contents c.args.writer.now) d c.args.messages c.args.store_failed (HasAfter (g.K.Keeper.has c.args.keeper.now) (g.K.Keeper.went c.args.keeper.now) (g.K.Keeper.went c.args.keeper.now))
     (c.next_message.ensures.takes c.requires.open)
-    (subst (λ (x : Next). Settles (Ok x) c.next_message.new.buffer after) c.in-Ok-End.field-0-is (c.in-Ok-End.ensures.settles c.requires.open)) has
+    (subst (λ (x : Next). Settles (Ok x) c.next_message.new.buffer after) c.in-Ok-End.field-0-is (c.in-Ok-End.ensures.settles c.requires.open)) (has, lead_nowhere (g.K.Keeper.went c.args.keeper.now))
 
 pub returns-in-Err-Fault-clause-turns : goal.returns-in-Err-Fault-clause-turns
 returns-in-Err-Fault-clause-turns g c = λ clean d has.
     let before = g.R.Read.remaining c.args.reader.now in
     let after = g.R.Read.remaining c.next_message.new.reader in
     turn_refused c.args.buffer.now c.next_message.new.buffer before after (g.W.Write.contents c.args.writer.now) (g.W.Write.contents c.refuse.new.writer)
-    c.in-Err-Fault.fault d c.args.messages c.args.store_failed c.refuse.result (g.K.Keeper.has c.args.keeper.now) (c.next_message.ensures.takes c.requires.open)
+    c.in-Err-Fault.fault d c.args.messages c.args.store_failed c.refuse.result (HasAfter (g.K.Keeper.has c.args.keeper.now) (g.K.Keeper.went c.args.keeper.now) (g.K.Keeper.went c.args.keeper.now)) (c.next_message.ensures.takes c.requires.open)
     (subst (λ (x : WireEnd). Settles (Err x) c.next_message.new.buffer after) c.in-Err-Fault.field-0-is (c.in-Err-Fault.ensures.settles c.requires.open))
-    c.refuse.ensures.refuses c.refuse.ensures.failed has
+    c.refuse.ensures.refuses c.refuse.ensures.failed (has, lead_nowhere (g.K.Keeper.went c.args.keeper.now))
 
 pub returns-in-Err-ReadFailed-clause-turns : goal.returns-in-Err-ReadFailed-clause-turns
 returns-in-Err-ReadFailed-clause-turns g c = λ clean d has.
     let before = g.R.Read.remaining c.args.reader.now in
     let after = g.R.Read.remaining c.next_message.new.reader in
-    turn_failed c.args.buffer.now c.next_message.new.buffer before after (g.W.Write.contents c.args.writer.now) d c.args.messages c.args.store_failed (g.K.Keeper.has c.args.keeper.now)
+    turn_failed c.args.buffer.now c.next_message.new.buffer before after (g.W.Write.contents c.args.writer.now) d c.args.messages c.args.store_failed (HasAfter (g.K.Keeper.has c.args.keeper.now) (g.K.Keeper.went c.args.keeper.now) (g.K.Keeper.went c.args.keeper.now))
     (c.next_message.ensures.takes c.requires.open)
-    (subst (λ (x : WireEnd). Settles (Err x) c.next_message.new.buffer after) c.in-Err-ReadFailed.field-0-is (c.in-Err-ReadFailed.ensures.settles c.requires.open)) has
+    (subst (λ (x : WireEnd). Settles (Err x) c.next_message.new.buffer after) c.in-Err-ReadFailed.field-0-is (c.in-Err-ReadFailed.ensures.settles c.requires.open)) (has, lead_nowhere (g.K.Keeper.went c.args.keeper.now))
 
 pub returns-in-Err-NoMemory-clause-turns : goal.returns-in-Err-NoMemory-clause-turns
 returns-in-Err-NoMemory-clause-turns g c = λ clean d has.
     let before = g.R.Read.remaining c.args.reader.now in
     let after = g.R.Read.remaining c.next_message.new.reader in
-    turn_starved c.args.buffer.now c.next_message.new.buffer before after (g.W.Write.contents c.args.writer.now) d c.args.messages c.args.store_failed (g.K.Keeper.has c.args.keeper.now)
+    turn_starved c.args.buffer.now c.next_message.new.buffer before after (g.W.Write.contents c.args.writer.now) d c.args.messages c.args.store_failed (HasAfter (g.K.Keeper.has c.args.keeper.now) (g.K.Keeper.went c.args.keeper.now) (g.K.Keeper.went c.args.keeper.now))
     (c.next_message.ensures.takes c.requires.open)
-    (subst (λ (x : WireEnd). Settles (Err x) c.next_message.new.buffer after) c.in-Err-NoMemory.field-0-is (c.in-Err-NoMemory.ensures.settles c.requires.open)) has
+    (subst (λ (x : WireEnd). Settles (Err x) c.next_message.new.buffer after) c.in-Err-NoMemory.field-0-is (c.in-Err-NoMemory.ensures.settles c.requires.open)) (has, lead_nowhere (g.K.Keeper.went c.args.keeper.now))
 
 pub returns-in-Err-Fault-clause-open : goal.returns-in-Err-Fault-clause-open
 returns-in-Err-Fault-clause-open g c = tt

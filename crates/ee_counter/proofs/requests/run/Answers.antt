@@ -1,4 +1,4 @@
-use Rattle.std.proofs.Common.{◌≡◌, ℕ, ◌+◌, add-zero, arith, rules, subst, sym, List, [], Result, length, take}
+use Rattle.std.proofs.Common.{◌≡◌, ◌+◌, add-zero, arith, rules, subst, sym, List, [], Result, length, take}
 use Rattle.std.proofs.lemmas.Grind.{common_steps}
 use Rattle.std.proofs.lemmas.List.{take_all}
 use Rattle.std.specs.List.{AllByRecursion}
@@ -8,8 +8,10 @@ use Rattle.ee_desk_model.specs.declared.refusals.Unserved.{Unserved}
 use Rattle.ee_keeper.specs.Keeping.{FailsOnlyIf}
 use Rattle.ee_desk_model.specs.Contents.{content_after}
 use Rattle.ee_desk_model.specs.Answers.{served}
-use Rattle.ee_counter.specs.Served.{FitInTurn}
-use Rattle.ee_counter.proofs.Runs.{all_more, one_more}
+use Rattle.ee_desk_laws.specs.Attempts.{LeadOn}
+use Rattle.ee_desk_laws.proofs.Lemmas.{lead_nowhere}
+use Rattle.ee_counter.specs.Served.{FitInTurn, attempts_at}
+use Rattle.ee_counter.proofs.Runs.{all_more, one_more, lead_more}
 use Rattle.ee_counter.proofs.Causes.{shut_then, nothing_shut, all_caused, fit_turn}
 use Rattle.ee_counter.proofs.requests.run.Goals as goal
 
@@ -31,6 +33,10 @@ loop-request-preserved g c =
           shut_then (g.K.Keeper.faults c.args.keeper.now) (g.K.Keeper.faults c.loop-request.keeper) (g.K.Keeper.faults c.deliver-answer.new.self)
           (g.K.Keeper.is_open c.args.keeper.now) (g.K.Keeper.is_open c.loop-request.keeper) (g.K.Keeper.is_open c.deliver-answer.new.self)
           (i.shut (c.deliver-answer.ensures.clean clean)) (c.deliver-answer.ensures.shut clean);
+      goes = λ clean.
+          lead_more (g.K.Keeper.went c.args.keeper.now) (g.K.Keeper.went c.loop-request.keeper) (g.K.Keeper.went c.deliver-answer.new.self)
+          c.args.requests.now c.loop-request.request-index c.request-item.result c.loop-request.answers.items c.push_reserved.new.self.items c.deliver-answer.result
+          c.loop-request-test.true (omega (arith, i.count)) c.request-item.is c.push_reserved.ensures.items (i.goes (c.deliver-answer.ensures.clean clean)) (c.deliver-answer.ensures.goes clean);
       ready = λ clean S has n takes.
           let before = c.deliver-answer.ensures.clean clean in
           let one_less : n + (c.loop-request.request-index + 1) ≡ (n + 1) + c.loop-request.request-index = omega arith in
@@ -57,6 +63,7 @@ loop-request-init g c = record {
   clean = λ clean. clean;
   told = search rules;
   shut = λ clean. nothing_shut (g.K.Keeper.faults c.args.keeper.now) (g.K.Keeper.is_open c.args.keeper.now);
+  goes = λ clean. lead_nowhere (g.K.Keeper.went c.args.keeper.now);
   ready = λ clean S has n takes. subst (λ m. g.K.Keeper.takes m c.args.keeper.now) (add-zero n) takes;
   cause = λ clean S has n takes fit. search rules;
 }
@@ -76,6 +83,13 @@ pub returns-clause-ready : goal.returns-clause-ready
 returns-clause-ready g c clean S has n takes =
     let done : length c.args.requests.now ≡ c.loop-request.request-index = omega arith in
     c.loop-request.invariant.ready clean S has n (subst (λ m. g.K.Keeper.takes (n + m) c.args.keeper.now) done takes)
+
+pub returns-clause-goes : goal.returns-clause-goes
+returns-clause-goes g c clean =
+    let qs = c.args.requests.now in
+    let at = c.loop-request.request-index in
+    subst (λ (l : List Request). LeadOn (g.K.Keeper.went c.args.keeper.now) (attempts_at l c.loop-request.answers.items) (g.K.Keeper.went c.loop-request.keeper))
+    (take_all at qs (omega arith)) (c.loop-request.invariant.goes clean)
 
 pub returns-clause-shut : goal.returns-clause-shut
 returns-clause-shut g c clean = c.loop-request.invariant.shut clean
@@ -145,3 +159,6 @@ returns-in_err-answers-clause-ready g c = search rules
 
 pub returns-in_err-answers-clause-shut : goal.returns-in_err-answers-clause-shut
 returns-in_err-answers-clause-shut g c clean = nothing_shut (g.K.Keeper.faults c.args.keeper.now) (g.K.Keeper.is_open c.args.keeper.now)
+
+pub returns-in_err-answers-clause-goes : goal.returns-in_err-answers-clause-goes
+returns-in_err-answers-clause-goes g c = search rules

@@ -4,7 +4,8 @@ use Rattle.ee_desk_model.specs.Repeats.{Content}
 use Rattle.ee_desk_model.specs.Contents.{content_after}
 use Rattle.ee_desk_model.specs.Answers.{served, AreAnswers}
 use Rattle.ee_keeper.specs.Keeping.{FailsOnlyIf, HasCause, IsShutByCause}
-use Rattle.ee_counter.specs.Served.{FitInTurn}
+use Rattle.ee_desk_laws.specs.Attempts.{LeadOn}
+use Rattle.ee_counter.specs.Served.{FitInTurn, attempts_at}
 use Rattle.ee_counter.proofs.requests.run.Given as goal
 
 abbrev pub invariant-loop-request : goal.invariant-loop-request
@@ -18,6 +19,7 @@ invariant-loop-request g l = record {
       × g.K.Keeper.has l.keeper (content_after c (served (take l.request-index l.requests) l.answers.items));
   shut : g.K.Keeper.is_clean l.keeper
       → IsShutByCause (g.K.Keeper.faults l.fn.keeper) (g.K.Keeper.faults l.keeper) (g.K.Keeper.is_open l.fn.keeper) (g.K.Keeper.is_open l.keeper);
+  goes : g.K.Keeper.is_clean l.keeper → LeadOn (g.K.Keeper.went l.fn.keeper) (attempts_at (take l.request-index l.requests) l.answers.items) (g.K.Keeper.went l.keeper);
   ready : g.K.Keeper.is_clean l.keeper → (c : Content) → g.K.Keeper.has l.fn.keeper c → (n : ℕ) → g.K.Keeper.takes (n + l.request-index) l.fn.keeper → g.K.Keeper.takes n l.keeper;
   cause : g.K.Keeper.is_clean l.keeper → (c : Content) → g.K.Keeper.has l.fn.keeper c → (n : ℕ) → g.K.Keeper.takes (n + l.request-index) l.fn.keeper
       → FitInTurn g.K.Keeper.fits c [] (take l.request-index l.requests) l.answers.items
