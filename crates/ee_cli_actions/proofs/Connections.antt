@@ -5,10 +5,14 @@ use Rattle.std.proofs.KnownBytes.{Appends-nil, Appends-trans}
 use Rattle.ee_io.specs.Written.{WritesFront}
 use Rattle.std.proofs.Math.Bool.{or-false}
 use Rattle.ee_desk_model.specs.Repeats.{Content}
+use Rattle.ee_desk_laws.specs.Attempts.{Attempt, LeadOn}
+use Rattle.ee_desk_laws.specs.Events.{Event}
+use Rattle.ee_desk_laws.proofs.Lemmas.{lead_further}
+use Rattle.ee_keeper.specs.Keeping.{HasAfter}
 use Rattle.ee_counter.specs.declared.connections.Ended.{Ended}
 use Rattle.ee_counter.specs.declared.connections.Why.{Why}
 use Rattle.ee_counter.specs.declared.connections.Why.TheVariants.{Closed, Asked, Limit, Fault, ReadFailed, WriteFailed, NoMemory}
-use Rattle.ee_counter.specs.Serving.{EndsBy, Told, left_by, left_by_all}
+use Rattle.ee_counter.specs.Serving.{EndsBy, Told, left_by, left_by_all, attempts_by, attempts_by_all}
 use Rattle.ee_cli_actions.specs.Connections.{BreaksOff, EndsWithFailure, PrintsLine, PrintsLines, ServesEach, ServesSocket, WritesNotAll, WritesSome, any_failed}
 use Rattle.ee_cli_value.specs.declared.endings.Outcome.{Outcome}
 use Rattle.ee_cli_actions.specs.declared.faults.RunFault.{RunFault}
@@ -16,28 +20,35 @@ use Rattle.ee_cli_actions.specs.declared.faults.RunFault.TheVariants.{Device}
 use Rattle.ee_cli_actions.specs.declared.faults.RunFault.TheVariants as fault
 use Rattle.ee_cli_actions.specs.Printed.{connection_line, connection_lines}
 
--- a connection leaves one content
-ends_at : (why : Why) (last : Option Told) (bytes : List ℕ) (left old new : Option (List ℕ)) (c : Content) (n count : ℕ) (Has : Content → Type 0)
-    → EndsBy why last bytes left old new c n count Has → (d : Content) × EndsBy why last bytes left old new c n count (λ now. now ≡ d) × Has d
-ends_at Closed None bytes left old new c n count Has e = (c, (e.0, e.1, e.2, e.3, refl), e.4)
-ends_at Closed (Some t) bytes left old new c n count Has e = absurd e
-ends_at Asked None bytes left old new c n count Has e = absurd e
-ends_at Asked (Some t) bytes left old new c n count Has e = (left_by c t, ((e.0.0, e.0.1, refl), e.1, e.2, e.3), e.0.2)
-ends_at Limit None bytes left old new c n count Has e = (c, (e.0, e.1, e.2, refl), e.3)
-ends_at Limit (Some t) bytes left old new c n count Has e = absurd e
-ends_at (Fault f) None bytes left old new c n count Has e = (c, (e.0, e.1, e.2, refl), e.3)
-ends_at (Fault f) (Some t) bytes left old new c n count Has e = absurd e
-ends_at ReadFailed None bytes left old new c n count Has e = (c, (e.0, e.1, e.2, refl), e.3)
-ends_at ReadFailed (Some t) bytes left old new c n count Has e = absurd e
-ends_at NoMemory None bytes left old new c n count Has e = (c, (e.0, e.1, e.2, refl), e.3)
-ends_at NoMemory (Some t) bytes left old new c n count Has e = (left_by c t, (e.0, e.1, (e.2.0, e.2.1, refl)), e.2.2)
-ends_at WriteFailed None bytes left old new c n count Has e = (c, (e.0, e.1, refl), e.2)
-ends_at WriteFailed (Some t) bytes left old new c n count Has e = (left_by c t, (e.0, (e.1.0, e.1.1, refl), e.2), e.1.2)
+-- a connection leaves one content, by some attempts
+ends_at : (why : Why) (last : Option Told) (bytes : List ℕ) (left old new : Option (List ℕ)) (c : Content) (n count : ℕ) (before : List Attempt) (Has : Content → List Attempt → Type 0)
+    → EndsBy why last bytes left old new c n count Has
+    → (d : Content) × (these : List Attempt) × EndsBy why last bytes left old new c n count (λ now more. (now ≡ d) × (before ++ more ≡ before ++ these)) × Has d these
+ends_at Closed None bytes left old new c n count before Has e = (c, [], (e.0, e.1, e.2, e.3, (refl, refl)), e.4)
+ends_at Closed (Some t) bytes left old new c n count before Has e = absurd e
+ends_at Asked None bytes left old new c n count before Has e = absurd e
+ends_at Asked (Some t) bytes left old new c n count before Has e = (left_by c t, attempts_by t, ((e.0.0, e.0.1, (refl, refl)), e.1, e.2, e.3), e.0.2)
+ends_at Limit None bytes left old new c n count before Has e = (c, [], (e.0, e.1, e.2, (refl, refl)), e.3)
+ends_at Limit (Some t) bytes left old new c n count before Has e = absurd e
+ends_at (Fault f) None bytes left old new c n count before Has e = (c, [], (e.0, e.1, e.2, (refl, refl)), e.3)
+ends_at (Fault f) (Some t) bytes left old new c n count before Has e = absurd e
+ends_at ReadFailed None bytes left old new c n count before Has e = (c, [], (e.0, e.1, e.2, (refl, refl)), e.3)
+ends_at ReadFailed (Some t) bytes left old new c n count before Has e = absurd e
+ends_at NoMemory None bytes left old new c n count before Has e = (c, [], (e.0, e.1, e.2, (refl, refl)), e.3)
+ends_at NoMemory (Some t) bytes left old new c n count before Has e = (left_by c t, attempts_by t, (e.0, e.1, (e.2.0, e.2.1, (refl, refl))), e.2.2)
+ends_at WriteFailed None bytes left old new c n count before Has e = (c, [], (e.0, e.1, (refl, refl)), e.2)
+ends_at WriteFailed (Some t) bytes left old new c n count before Has e = (left_by c t, attempts_by t, (e.0, (e.1.0, e.1.1, (refl, refl)), e.2), e.1.2)
 
-serves_at : (c : Content) (e : Ended) (Has : Content → Type 0) → ServesSocket c e Has → (d : Content) × ServesSocket c e (λ left. left ≡ d) × Has d
+serves_at : (c : Content) (e : Ended) (Has : Content → List Attempt → Type 0) → ServesSocket c e Has
+    → (d : Content) × (these : List Attempt) × ServesSocket c e (λ left more. (left ≡ d) × (more ≡ these)) × Has d these
 serves_at c e Has s =
-    let x = ends_at e.why s.ends.0 s.rest None s.wrote None (left_by_all c s.told) (length s.told) e.messages Has s.ends.2 in
-    (x.0, record { bytes = s.bytes; read = s.read; told = s.told; needed = s.needed; few = s.few; rest = s.rest; wrote = s.wrote; so_far = s.so_far; ends = (s.ends.0, s.ends.1, x.1) }, x.2)
+    let before = attempts_by_all s.told in
+    let x = ends_at e.why s.ends.0 s.rest None s.wrote None (left_by_all c s.told) (length s.told) e.messages before (λ left more. Has left (before ++ more)) s.ends.2 in (
+      x.0,
+      before ++ x.1,
+      record { bytes = s.bytes; read = s.read; told = s.told; needed = s.needed; few = s.few; rest = s.rest; wrote = s.wrote; so_far = s.so_far; ends = (s.ends.0, s.ends.1, x.2) },
+      x.3,
+    )
 
 first_false : (a b : Bool) → (a || b) ≡ false → a ≡ false
 first_false true b none = none
@@ -47,16 +58,42 @@ second_false : (a b : Bool) → (a || b) ≡ false → b ≡ false
 second_false true b none = absurd (cc)
 second_false false b none = none
 
-pub each_more : (c : Content) (es : List Ended) (e : Ended) (Has After : Content → Type 0)
-    → ServesEach c es Has → ((d : Content) → Has d → ServesSocket d e After) → ServesEach c (es ++ e ∷ []) After
-each_more c [] e Has After has next = serves_at c e After (next c has)
-each_more c (x ∷ es) e Has After each next = (each.0, each.1, each_more each.0 es e Has After each.2 next)
+-- what is left may say more
+pub each_with : (c : Content) (es : List Ended) (Has After : Content → List Attempt → Type 0)
+    → ((d : Content) (attempts : List Attempt) → Has d attempts → After d attempts) → ServesEach c es Has → ServesEach c es After
+each_with c [] Has After more has = more c [] has
+each_with c (x ∷ es) Has After more (d, these, serves, rest) =
+    (d, these, serves, each_with d es (λ left l. Has left (these ++ l)) (λ left l. After left (these ++ l)) (λ left l. more left (these ++ l)) rest)
+
+each_more_from : (before : List Attempt) (c : Content) (es : List Ended) (e : Ended) (Has After : Content → Type 0) (Before Now Then : Content → List Event → Type 0)
+    → ServesEach c es (λ left l. HasAfter Has Before Now left (before ++ l)) → ((d : Content) → Has d → ServesSocket d e (HasAfter After Now Then))
+    → ServesEach c (es ++ e ∷ []) (λ left l. HasAfter After Before Then left (before ++ l))
+each_more_from before c [] e Has After Before Now Then has next =
+    let (d, these, serves, then) = serves_at c e (HasAfter After Now Then) (next c has.0) in
+    let same : (before ++ []) ++ these ≡ before ++ (these ++ []) = ap (λ l. l ++ these) (append-nil before) ∙ ap (λ l. before ++ l) (sym (append-nil these)) in
+    (d, these, serves, (then.0, subst (λ l. LeadOn Before l Then) same (lead_further Before Now Then (before ++ []) these has.1 then.1)))
+each_more_from before c (x ∷ es) e Has After Before Now Then (d, these, serves, rest) next =
+    let nested = each_with d es (λ left l. HasAfter Has Before Now left (before ++ (these ++ l))) (λ left l. HasAfter Has Before Now left ((before ++ these) ++ l))
+    (λ left l. subst (HasAfter Has Before Now left) (sym (append_assoc before these l))) rest in
+    let more = each_more_from (before ++ these) d es e Has After Before Now Then nested next in (
+      d,
+      these,
+      serves,
+      each_with d (es ++ e ∷ []) (λ left l. HasAfter After Before Then left ((before ++ these) ++ l)) (λ left l. HasAfter After Before Then left (before ++ (these ++ l)))
+          (λ left l. subst (HasAfter After Before Then left) (append_assoc before these l)) more,
+    )
+
+pub each_more : (c : Content) (es : List Ended) (e : Ended) (Has After : Content → Type 0) (Before Now Then : Content → List Event → Type 0)
+    → ServesEach c es (HasAfter Has Before Now) → ((d : Content) → Has d → ServesSocket d e (HasAfter After Now Then))
+    → ServesEach c (es ++ e ∷ []) (HasAfter After Before Then)
+each_more = each_more_from []
 
 -- no connection more
-pub each_yet : (c : Content) (es : List Ended) (Has After : Content → Type 0)
-    → ServesEach c es Has → ((d : Content) → Has d → After d) → ServesEach c es After
-each_yet c [] Has After has stays = stays c has
-each_yet c (x ∷ es) Has After each stays = (each.0, each.1, each_yet each.0 es Has After each.2 stays)
+pub each_yet : (c : Content) (es : List Ended) (Has After : Content → Type 0) (Before Now Then : Content → List Event → Type 0)
+    → ServesEach c es (HasAfter Has Before Now) → ((d : Content) → Has d → HasAfter After Now Then d []) → ServesEach c es (HasAfter After Before Then)
+each_yet c es Has After Before Now Then each stays =
+    each_with c es (HasAfter Has Before Now) (HasAfter After Before Then)
+    (λ d l has. let then = stays d has.0 in (then.0, subst (λ k. LeadOn Before k Then) (append-nil l) (lead_further Before Now Then l [] has.1 then.1))) each
 
 lines_after : (n : ℕ) (es : List Ended) (e : Ended) → connection_lines n (es ++ e ∷ []) ≡ connection_lines n es ++ connection_line (n + length es + 1) e
 lines_after n [] e = let same : n + 1 ≡ n + 0 + 1 = omega arith in append-nil (connection_line (n + 1) e) ∙ ap (λ k. connection_line k e) same

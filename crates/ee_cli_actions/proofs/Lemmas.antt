@@ -1,29 +1,93 @@
--- What is said of an import of known bytes is said of it too if they aren't known.
-use Rattle.std.proofs.Common.{ℕ, List, Option, Some, None, Result, Ok, Err}
+-- Lemmas that the proofs of crates above use: what is said of a command is said of it too if less is known of its file, or of the
+-- store that it leaves.
+use Rattle.std.proofs.Common.{ℕ, List, ◌++◌, Option, Some, None, Result, Ok, Err}
 use Rattle.std.proofs.lemmas.Option.{none-some}
 use Rattle.ee_desk_model.specs.Numbers.{RequestKey}
 use Rattle.ee_desk_model.specs.Repeats.{Content}
 use Rattle.ee_desk_model.specs.declared.acts.Act.{Act}
 use Rattle.ee_desk_model.specs.declared.acts.Act.TheVariants as act
 use Rattle.ee_desk_model.specs.declared.replies.Reply.{Reply}
+use Rattle.ee_desk_model.specs.declared.refusals.Unserved.{Unserved}
+use Rattle.ee_desk_laws.specs.Attempts.{Attempt}
 use Rattle.ee_files.specs.RateFile.{rates_of_file}
 use Rattle.ee_files.specs.BondFile.{bonds_of_file}
-use Rattle.ee_counter.specs.Filing.{Imports, Reading}
+use Rattle.ee_keeper.specs.Keeping.{Shows}
+use Rattle.ee_counter.specs.Filing.{Imports, Exports, Reading}
+use Rattle.ee_counter.specs.Serving.{Serves, attempts_by_all}
+use Rattle.ee_counter.proofs.Lemmas.{ends_with}
+use Rattle.ee_counter.specs.declared.connections.Ended.{Ended}
+use Rattle.ee_counter.specs.declared.files.ExportFault.{ExportFault}
+use Rattle.ee_counter.specs.declared.files.ExportFault.TheVariants as export
 use Rattle.ee_counter.specs.declared.files.ImportFault.{ImportFault}
 use Rattle.ee_counter.specs.declared.files.ImportFault.TheVariants as import
 use Rattle.ee_cli_commands.specs.declared.commands.FileKind.{FileKind}
 use Rattle.ee_cli_commands.specs.declared.commands.FileKind.TheVariants as kind
 use Rattle.ee_cli_value.specs.declared.endings.Outcome.{Outcome}
-use Rattle.ee_cli_actions.specs.Actions.{ImportsInto}
+use Rattle.ee_cli_actions.specs.Actions.{Applies, ImportsInto, ExportsFrom, ShowsSheet}
+use Rattle.ee_cli_actions.specs.Connections.{ServesAll}
+use Rattle.ee_cli_actions.proofs.Connections.{each_with}
 use Rattle.ee_cli_actions.specs.declared.faults.RunFault.{RunFault}
 
-rows_forgotten : {A : Type 0} (rows_of : Reading A) (act_of : List A → Act) (bytes : List ℕ) (number : RequestKey) (c : Content) (answer : Result Reply ImportFault) (Has : Content → Type 0)
+rows_forgotten : {A : Type 0} (rows_of : Reading A) (act_of : List A → Act) (bytes : List ℕ) (number : RequestKey) (c : Content) (answer : Result Reply ImportFault) (Has : Content → List Attempt → Type 0)
     → Imports rows_of act_of (Some bytes) number c answer Has → Imports rows_of act_of None number c answer Has
 rows_forgotten rows_of act_of bytes number c (Ok reply) Has (rows, reads, delivers) = (rows, λ source is. absurd (none-some source is), delivers)
 rows_forgotten rows_of act_of bytes number c (Err (import.File fault)) Has (reads, has) = (λ source is. absurd (none-some source is), has)
-rows_forgotten rows_of act_of bytes number c (Err (import.Unserved cause)) Has has = has
+rows_forgotten rows_of act_of bytes number c (Err (import.Unserved cause)) Has (rows, reads, has) = (rows, λ source is. absurd (none-some source is), has)
 
-pub bytes_forgotten : (kind : FileKind) (bytes : List ℕ) (old new : Option (List ℕ)) (number : RequestKey) (c : Content) (result : Result Outcome RunFault) (Has : Content → Type 0)
+pub bytes_forgotten : (kind : FileKind) (bytes : List ℕ) (old new : Option (List ℕ)) (number : RequestKey) (c : Content) (result : Result Outcome RunFault) (Has : Content → List Attempt → Type 0)
     → ImportsInto kind (Some bytes) old new number c result Has → ImportsInto kind None old new number c result Has
 bytes_forgotten kind.Rates bytes old new number c result Has (answer, imports, told) = (answer, rows_forgotten rates_of_file act.AddRates bytes number c answer Has imports, told)
 bytes_forgotten kind.Inventory bytes old new number c result Has (answer, imports, told) = (answer, rows_forgotten bonds_of_file act.AddBonds bytes number c answer Has imports, told)
+
+-- ---- what is left of a store
+
+pub shows_with : {A : Type 0} (IsShown : A → Type 0) (r : Result A Unserved) (Stays Now : Type 0) → (Stays → Now) → Shows IsShown r Stays → Shows IsShown r Now
+shows_with IsShown (Ok shown) Stays Now more (is, stays) = (is, more stays)
+shows_with IsShown (Err unserved) Stays Now more stays = more stays
+
+module _ (Has After : Content → List Attempt → Type 0) (more : (d : Content) (attempts : List Attempt) → Has d attempts → After d attempts) where
+  serves_with : (before remaining old new : Option (List ℕ)) (c : Content) (e : Ended) → Serves before remaining old new c e Has → Serves before remaining old new c e After
+  serves_with before remaining old new c e s = record {
+    bytes = s.bytes;
+    read = s.read;
+    told = s.told;
+    needed = s.needed;
+    few = s.few;
+    rest = s.rest;
+    wrote = s.wrote;
+    so_far = s.so_far;
+    ends = ends_with e _ s.rest remaining s.wrote new _ _ (λ left these. Has left (attempts_by_all s.told ++ these)) (λ left these. After left (attempts_by_all s.told ++ these))
+        (λ d these. more d (attempts_by_all s.told ++ these)) s.ends;
+  }
+
+  pub applies_with : (input left old new : Option (List ℕ)) (c : Content) (result : Result Outcome RunFault)
+      → Applies input left old new c result Has → Applies input left old new c result After
+  applies_with input left old new c result (ended, serves, is) = (ended, serves_with input left old new c ended serves, is)
+
+  rows_with : {A : Type 0} (rows_of : Reading A) (act_of : List A → Act) (known : Option (List ℕ)) (number : RequestKey) (c : Content) (answer : Result Reply ImportFault)
+      → Imports rows_of act_of known number c answer Has → Imports rows_of act_of known number c answer After
+  rows_with rows_of act_of known number c (Ok reply) (rows, reads, (is, has)) = (rows, reads, (is, more _ _ has))
+  rows_with rows_of act_of known number c (Err (import.File fault)) (reads, has) = (reads, more _ _ has)
+  rows_with rows_of act_of known number c (Err (import.Unserved cause)) (rows, reads, has) = (rows, reads, more _ _ has)
+
+  pub imports_with : (kind : FileKind) (file old new : Option (List ℕ)) (number : RequestKey) (c : Content) (result : Result Outcome RunFault)
+      → ImportsInto kind file old new number c result Has → ImportsInto kind file old new number c result After
+  imports_with kind.Rates file old new number c result (answer, imports, told) = (answer, rows_with rates_of_file act.AddRates file number c answer imports, told)
+  imports_with kind.Inventory file old new number c result (answer, imports, told) = (answer, rows_with bonds_of_file act.AddBonds file number c answer imports, told)
+
+  rows_out_with : (old new : Option (List ℕ)) (customer : ℕ) (c : Content) (answer : Result ℕ ExportFault) → Exports old new customer c answer Has → Exports old new customer c answer After
+  rows_out_with old new customer c (Ok count) (is, wrote, has) = (is, wrote, more _ _ has)
+  rows_out_with old new customer c (Err export.WriteFailed) (wrote, has) = (wrote, more _ _ has)
+  rows_out_with old new customer c (Err (export.Unserved cause)) (same, has) = (same, more _ _ has)
+
+  pub exports_with : (old new : Option (List ℕ)) (customer : ℕ) (c : Content) (result : Result Outcome RunFault)
+      → ExportsFrom old new customer c result Has → ExportsFrom old new customer c result After
+  exports_with old new customer c result (answer, exports, is) = (answer, rows_out_with old new customer c answer exports, is)
+
+  pub serves_all_with : (most : ℕ) (old new : Option (List ℕ)) (c : Content) (result : Result Outcome RunFault)
+      → ServesAll most old new c result Has → ServesAll most old new c result After
+  serves_all_with most old new c result s = record { ended = s.ended; each = each_with c s.ended Has After more s.each; until = s.until; printed = s.printed }
+
+pub sheets_with : (old new : Option (List ℕ)) (customer month : ℕ) (c : Content) (result : Result Outcome RunFault) (Stays Now : Type 0) → (Stays → Now)
+    → ShowsSheet old new customer month c result Stays → ShowsSheet old new customer month c result Now
+sheets_with old new customer month c result Stays Now more (shown, shows, told) = (shown, shows_with _ shown Stays Now more shows, told)

@@ -1,4 +1,5 @@
--- What the commands over a store do, given a content of the store. `Has` is the relation of contents that it then has.
+-- What the commands over a store do, given a content of the store. `Has` is the relation of contents that it then has, and of
+-- the attempts that led there.
 use Rattle.std.specs.Prelude.{◌≡◌, ℕ, List, Option, Result, Ok, Err, true, false}
 use Rattle.ee_io.specs.Written.{WritesFront}
 use Rattle.ee_calculator.specs.Sheets.{sheet_text}
@@ -8,6 +9,7 @@ use Rattle.ee_desk_model.specs.Repeats.{Content}
 use Rattle.ee_desk_model.specs.declared.acts.Act.TheVariants as act
 use Rattle.ee_desk_model.specs.declared.replies.Reply.{Reply}
 use Rattle.ee_desk_model.specs.declared.refusals.Unserved.{Unserved}
+use Rattle.ee_desk_laws.specs.Attempts.{Attempt}
 use Rattle.ee_files.specs.RateFile.{rates_of_file}
 use Rattle.ee_files.specs.BondFile.{bonds_of_file}
 use Rattle.ee_keeper.specs.Keeping.{IsInventory, Shows}
@@ -28,11 +30,11 @@ use Rattle.ee_cli_actions.specs.declared.faults.RunFault.TheVariants as fault
 
 -- the input is served as one connection, and this is left of it: the responses to its stream are written, and the command ends
 -- as the connection did
-abbrev pub Applies : Option (List ℕ) → Option (List ℕ) → Option (List ℕ) → Option (List ℕ) → Content → Result Outcome RunFault → (Content → Type 0) → Type 0
+abbrev pub Applies : Option (List ℕ) → Option (List ℕ) → Option (List ℕ) → Option (List ℕ) → Content → Result Outcome RunFault → (Content → List Attempt → Type 0) → Type 0
 Applies input left old new c result Has = (ended : Ended) × Serves input left old new c ended Has × (result ≡ ending_of ended)
 
 -- the rows of a file of this kind are one request under the number, or nothing is delivered
-abbrev pub ImportsFile : FileKind → Option (List ℕ) → RequestKey → Content → Result Reply ImportFault → (Content → Type 0) → Type 0
+abbrev pub ImportsFile : FileKind → Option (List ℕ) → RequestKey → Content → Result Reply ImportFault → (Content → List Attempt → Type 0) → Type 0
 ImportsFile kind.Rates file number c answer Has = Imports rates_of_file act.AddRates file number c answer Has
 ImportsFile kind.Inventory file number c answer Has = Imports bonds_of_file act.AddBonds file number c answer Has
 
@@ -46,7 +48,7 @@ TellsReply old new (Ok reply) (Err (fault.Store cause)) = ⊥
 TellsReply old new (Err cause) result = (result ≡ Err (fault_of_import cause)) × (new ≡ old)
 
 -- the file is imported, and its reply is printed
-abbrev pub ImportsInto : FileKind → Option (List ℕ) → Option (List ℕ) → Option (List ℕ) → RequestKey → Content → Result Outcome RunFault → (Content → Type 0) → Type 0
+abbrev pub ImportsInto : FileKind → Option (List ℕ) → Option (List ℕ) → Option (List ℕ) → RequestKey → Content → Result Outcome RunFault → (Content → List Attempt → Type 0) → Type 0
 ImportsInto kind file old new number c result Has =
     (answer : Result Reply ImportFault) × ImportsFile kind file number c answer Has × TellsReply old new answer result
 
@@ -57,7 +59,7 @@ ending_of_export (Err export.WriteFailed) = Err fault.Device
 ending_of_export (Err (export.Unserved cause)) = Err (fault_of_unserved cause)
 
 -- the customer's unpaid bonds are written as a file; only its front if the output failed; or nothing
-abbrev pub ExportsFrom : Option (List ℕ) → Option (List ℕ) → ℕ → Content → Result Outcome RunFault → (Content → Type 0) → Type 0
+abbrev pub ExportsFrom : Option (List ℕ) → Option (List ℕ) → ℕ → Content → Result Outcome RunFault → (Content → List Attempt → Type 0) → Type 0
 ExportsFrom old new customer c result Has =
     (answer : Result ℕ ExportFault) × Exports old new customer c answer Has × (result ≡ ending_of_export answer)
 

@@ -1,8 +1,10 @@
--- Connections that are served in order.
+-- Connections that are served in order. `Has` is the relation of contents that the store then has, and of the attempts that led
+-- there.
 use Rattle.std.specs.Prelude.{◌≡◌, ◌≢◌, ℕ, ◌≤◌, Bool, true, false, List, [], ◌∷◌, ◌++◌, length, Option, None, Result, Ok, Err, ⊤}
 use Rattle.std.specs.List.{list_any}
 use Rattle.std.specs.Io.KnownBytes.{Appends}
 use Rattle.ee_desk_model.specs.Repeats.{Content}
+use Rattle.ee_desk_laws.specs.Attempts.{Attempt}
 use Rattle.ee_counter.specs.Serving.{Serves}
 use Rattle.ee_counter.specs.declared.connections.Ended.{Ended}
 use Rattle.ee_cli_actions.specs.Printed.{connection_lines}
@@ -14,18 +16,20 @@ use Rattle.ee_cli_actions.specs.declared.faults.StoreFault.TheVariants.{StoreFai
 
 -- a connection is served over a socket, whose bytes aren't known: its messages are answered rightly, each at the content
 -- after those before it, and this is how it ends
-abbrev pub ServesSocket : Content → Ended → (Content → Type 0) → Type 0
+abbrev pub ServesSocket : Content → Ended → (Content → List Attempt → Type 0) → Type 0
 ServesSocket c e Has = Serves None None None None c e Has
 
 -- the next connection is served, or none came
-abbrev pub ServesNext : Content → Result Ended RunFault → (Content → Type 0) → Type 0
+abbrev pub ServesNext : Content → Result Ended RunFault → (Content → List Attempt → Type 0) → Type 0
 ServesNext c (Ok e) Has = ServesSocket c e Has
-ServesNext c (Err cause) Has = (cause ≡ Device) × Has c
+ServesNext c (Err cause) Has = (cause ≡ Device) × Has c []
 
 -- each connection is served at the content after those before it, and this is how it ends
-abbrev pub ServesEach : Content → List Ended → (Content → Type 0) → Type 0
-ServesEach c [] Has = Has c
-ServesEach c (e ∷ es) Has = (d : Content) × ServesSocket c e (λ left. left ≡ d) × ServesEach d es Has
+abbrev pub ServesEach : Content → List Ended → (Content → List Attempt → Type 0) → Type 0
+ServesEach c [] Has = Has c []
+ServesEach c (e ∷ es) Has =
+    (d : Content) × (attempts : List Attempt) × ServesSocket c e (λ left these. (left ≡ d) × (these ≡ attempts))
+    × ServesEach d es (λ left more. Has left (attempts ++ more))
 
 -- the front of the text was written
 pub record WritesSome (old new : Option (List ℕ)) (text : List ℕ) : Type 0 where
@@ -70,7 +74,7 @@ PrintsLines most old new ended (Err NoMemory) = (length ended ≤ most) × Break
 PrintsLines most old new ended (Err (File cause)) = ⊥
 
 -- connections were served in order, and a line was printed for each that says how it ended
-pub record ServesAll (most : ℕ) (old new : Option (List ℕ)) (c : Content) (result : Result Outcome RunFault) (Has : Content → Type 0) : Type 0 where
+pub record ServesAll (most : ℕ) (old new : Option (List ℕ)) (c : Content) (result : Result Outcome RunFault) (Has : Content → List Attempt → Type 0) : Type 0 where
   pub ended : List Ended
   pub each : ServesEach c ended Has
   pub until : EndsWithFailure ended

@@ -2,6 +2,7 @@
 
 ghost use Rattle.std.specs.Prelude.{◌≡◌, ◌⊎◌};
 ghost use Rattle.ee_desk_model.specs.Repeats.{Content};
+ghost use Rattle.ee_keeper.specs.Keeping.{HasAfter};
 ghost use Rattle.ee_cli_actions.specs.Actions.{Applies};
 ghost use Rattle.ee_cli_actions.specs.Endings.{TellsDeviceOnlyIf, TellsFailureOnlyIf, ending_of};
 
@@ -24,7 +25,7 @@ pub fn apply_to<K: Keeper, R: Source, W: Sink>(
 ) -> Result<Outcome, RunFault>
     ensures clean { K.is_clean keeper.new → K.is_clean keeper.old }
     ensures applies { K.is_clean keeper.new → (c : Content) → K.has keeper.old c
-        → Applies (R.remaining input.old) (R.remaining input.new) (W.contents output.old) (W.contents output.new) c result (K.has keeper.new) }
+        → Applies (R.remaining input.old) (R.remaining input.new) (W.contents output.old) (W.contents output.new) c result (HasAfter (K.has keeper.new) (K.went keeper.old) (K.went keeper.new)) }
     ensures device { TellsDeviceOnlyIf (R.may_have_failed input.new ⊎ W.may_have_failed output.new) result }
     ensures failed { TellsFailureOnlyIf K.may_fail result }
 {

@@ -4,6 +4,7 @@ ghost use Rattle.std.specs.Prelude.{◌≡◌, Ok, Err, IfOk, IfErr, string_byte
 ghost use Rattle.ee_desk_model.specs.Repeats.{Content};
 ghost use Rattle.ee_desk_model.specs.declared.refusals.Unserved.TheVariants.{StoreFailed};
 ghost use Rattle.ee_counter.specs.Filing.{IsFailedRead};
+ghost use Rattle.ee_keeper.specs.Keeping.{HasAfter};
 ghost use Rattle.ee_cli_actions.specs.Actions.{ExportsFrom, ImportsFile, ImportsInto, TellsReply};
 ghost use Rattle.ee_cli_actions.specs.Endings.{TellsDeviceOnlyIf, TellsFailureOnlyIf, TellsUnreadOnlyIf, outcome_of};
 ghost use Rattle.ee_cli_actions.specs.Printed.{reply_line};
@@ -36,7 +37,7 @@ pub fn import_into<K: Keeper, R: Source, W: Sink>(
 ) -> Result<Outcome, RunFault>
     ensures clean { K.is_clean keeper.new → K.is_clean keeper.old }
     ensures imports { K.is_clean keeper.new → (c : Content) → K.has keeper.old c
-        → ImportsInto kind (R.remaining file.old) (W.contents output.old) (W.contents output.new) (desk, number) c result (K.has keeper.new) }
+        → ImportsInto kind (R.remaining file.old) (W.contents output.old) (W.contents output.new) (desk, number) c result (HasAfter (K.has keeper.new) (K.went keeper.old) (K.went keeper.new)) }
     ensures device { TellsDeviceOnlyIf (W.may_have_failed output.new) result }
     ensures unread { TellsUnreadOnlyIf (R.may_have_failed file.new) result }
     ensures failed { TellsFailureOnlyIf K.may_fail result }
@@ -55,7 +56,7 @@ fn import_file<K: Keeper, R: Source>(
 ) -> Result<Reply, ImportFault>
     ensures clean { K.is_clean keeper.new → K.is_clean keeper.old }
     ensures imports { K.is_clean keeper.new → (c : Content) → K.has keeper.old c
-        → ImportsFile kind (R.remaining file.old) (desk, number) c result (K.has keeper.new) }
+        → ImportsFile kind (R.remaining file.old) (desk, number) c result (HasAfter (K.has keeper.new) (K.went keeper.old) (K.went keeper.new)) }
     ensures device { IfErr result (λ fault. IsFailedRead fault → R.may_have_failed file.new) }
     ensures failed { IfErr result (λ fault. fault ≡ ImportFault.Unserved StoreFailed → K.may_fail) }
 {
@@ -118,7 +119,7 @@ pub fn export_from<K: Keeper, W: Sink>(
 ) -> Result<Outcome, RunFault>
     ensures clean { K.is_clean keeper.new → K.is_clean keeper.old }
     ensures exports { K.is_clean keeper.new → (c : Content) → K.has keeper.old c
-        → ExportsFrom (W.contents output.old) (W.contents output.new) customer c result (K.has keeper.new) }
+        → ExportsFrom (W.contents output.old) (W.contents output.new) customer c result (HasAfter (K.has keeper.new) (K.went keeper.old) (K.went keeper.new)) }
     ensures device { TellsDeviceOnlyIf (W.may_have_failed output.new) result }
     ensures failed { TellsFailureOnlyIf K.may_fail result }
     ensures done { IfOk result (λ outcome. outcome ≡ Outcome.Done) }

@@ -2,6 +2,7 @@
 
 ghost use Rattle.std.specs.Prelude.{◌≡◌, ◌⊎◌, true, IfOk, IfErr, string_bytes};
 ghost use Rattle.ee_desk_model.specs.Repeats.{Content};
+ghost use Rattle.ee_keeper.specs.Keeping.{HasAfter};
 ghost use Rattle.ee_cli_actions.specs.Connections.{PrintsLine, ServesAll, ServesNext, ServesSocket};
 ghost use Rattle.ee_cli_actions.specs.Endings.{TellsFailureOnlyIf};
 ghost use Rattle.ee_cli_actions.specs.Printed.{connection_line};
@@ -36,7 +37,7 @@ pub fn serve_on<C: Clock, K: Keeper, W: Sink>(
 ) -> Result<Outcome, RunFault>
     ensures clean { K.is_clean keeper.new → K.is_clean keeper.old }
     ensures serves { K.is_clean keeper.new → (c : Content) → K.has keeper.old c
-        → ServesAll connections (W.contents output.old) (W.contents output.new) c result (K.has keeper.new) }
+        → ServesAll connections (W.contents output.old) (W.contents output.new) c result (HasAfter (K.has keeper.new) (K.went keeper.old) (K.went keeper.new)) }
     ensures done { IfOk result (λ outcome. outcome ≡ Outcome.Done) }
     ensures failed { TellsFailureOnlyIf K.may_fail result }
 {
@@ -59,7 +60,7 @@ fn serve_next<C: Clock, K: Keeper>(
     patience: Duration,
 ) -> Result<Ended, RunFault>
     ensures clean { K.is_clean keeper.new → K.is_clean keeper.old }
-    ensures serves { K.is_clean keeper.new → (c : Content) → K.has keeper.old c → ServesNext c result (K.has keeper.new) }
+    ensures serves { K.is_clean keeper.new → (c : Content) → K.has keeper.old c → ServesNext c result (HasAfter (K.has keeper.new) (K.went keeper.old) (K.went keeper.new)) }
     ensures failed { IfOk result (λ ended. ended.store_failed ≡ true → K.may_fail) }
     ensures device { IfErr result (λ fault. fault ≡ RunFault.Device) }
 {
@@ -77,7 +78,7 @@ fn serve_stream<C: Clock, K: Keeper>(
     patience: Duration,
 ) -> Ended
     ensures clean { K.is_clean keeper.new → K.is_clean keeper.old }
-    ensures serves { K.is_clean keeper.new → (c : Content) → K.has keeper.old c → ServesSocket c result (K.has keeper.new) }
+    ensures serves { K.is_clean keeper.new → (c : Content) → K.has keeper.old c → ServesSocket c result (HasAfter (K.has keeper.new) (K.went keeper.old) (K.went keeper.new)) }
     ensures failed { result.store_failed ≡ true → K.may_fail }
 {
     let patient = Patient::new(clock, stream, patience);
@@ -94,7 +95,7 @@ fn serve_patient<'c, 's, C: Clock, K: Keeper>(
     patient: &Patient<'c, 's, C>,
 ) -> Ended
     ensures clean { K.is_clean keeper.new → K.is_clean keeper.old }
-    ensures serves { K.is_clean keeper.new → (c : Content) → K.has keeper.old c → ServesSocket c result (K.has keeper.new) }
+    ensures serves { K.is_clean keeper.new → (c : Content) → K.has keeper.old c → ServesSocket c result (HasAfter (K.has keeper.new) (K.went keeper.old) (K.went keeper.new)) }
     ensures failed { result.store_failed ≡ true → K.may_fail }
 {
     let mut reader = patient;

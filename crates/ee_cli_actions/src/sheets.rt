@@ -1,8 +1,9 @@
 //! The command `sheet`.
 
-ghost use Rattle.std.specs.Prelude.{◌≡◌, Err, IfOk};
+ghost use Rattle.std.specs.Prelude.{◌≡◌, [], Err, IfOk};
 ghost use Rattle.ee_desk_model.specs.Repeats.{Content};
 ghost use Rattle.ee_desk_model.specs.declared.refusals.Unserved.TheVariants.{StoreFailed};
+ghost use Rattle.ee_keeper.specs.Keeping.{HasAfter};
 ghost use Rattle.ee_cli_actions.specs.Actions.{ShowsSheet, TellsSheet};
 ghost use Rattle.ee_cli_actions.specs.Endings.{TellsDeviceOnlyIf, TellsFailureOnlyIf};
 ghost use Rattle.ee_cli_actions.specs.declared.faults.StoreFault.TheVariants as store;
@@ -25,7 +26,7 @@ pub fn sheet_of<K: Keeper, W: Sink>(
 ) -> Result<Outcome, RunFault>
     ensures clean { K.is_clean keeper.new → K.is_clean keeper.old }
     ensures shows { K.is_clean keeper.new → (c : Content) → K.has keeper.old c
-        → ShowsSheet (W.contents output.old) (W.contents output.new) customer month c result (K.has keeper.new c) }
+        → ShowsSheet (W.contents output.old) (W.contents output.new) customer month c result (HasAfter (K.has keeper.new) (K.went keeper.old) (K.went keeper.new) c []) }
     ensures done { IfOk result (λ outcome. outcome ≡ Outcome.Done) }
     ensures device { TellsDeviceOnlyIf (W.may_have_failed output.new) result }
     ensures failed { TellsFailureOnlyIf K.may_fail result }
