@@ -1,8 +1,9 @@
 -- What commands do over the stores that their lines name.
-use Rattle.std.specs.Prelude.{◌≡◌, ◌⊎◌, ℕ, List, Option, None, Result, Err, OnOk, ⊤}
+use Rattle.std.specs.Prelude.{◌≡◌, ◌⊎◌, ℕ, List, [], Option, None, Result, Err, OnOk, ⊤}
 use Rattle.std.specs.Result.{IsOk, IsErr}
 use Rattle.clap.specs.Words.{Text}
 use Rattle.ee_desk_model.specs.Repeats.{Content}
+use Rattle.ee_desk_laws.specs.Attempts.{Attempt}
 use Rattle.ee_cli_actions.specs.Actions.{Applies, ExportsFrom, ImportsInto, ShowsSheet}
 use Rattle.ee_cli_actions.specs.Connections.{ServesAll}
 use Rattle.ee_cli_value.specs.declared.endings.Outcome.{Outcome}
@@ -10,10 +11,6 @@ use Rattle.ee_cli_actions.specs.declared.faults.RunFault.{RunFault}
 use Rattle.ee_cli_actions.specs.declared.faults.RunFault.TheVariants.{Store}
 use Rattle.ee_cli_actions.specs.declared.faults.StoreFault.TheVariants.{NotWrittenBack}
 use Rattle.ee_cli_commands.specs.CommandLine.{Asked, value, apply, imports, export, sheet, serve}
-
--- every store is memory, or returns what was written
-abbrev pub AreClean : {S : Type 0} → (S → Type 0) → Type 0
-AreClean {S} is_clean = (store : S) → is_clean store
 
 -- the command was carried out over the given store; or a file or a port was not opened, nothing was printed, and the store has
 -- what it had
@@ -45,19 +42,23 @@ IsUnopened {Q} refuses result = (fault : RunFault) × (result ≡ Err fault) × 
 abbrev pub Over : {S R L Q : Type 0} → (S → R → Type 0) → (S → L → Type 0) → (RunFault → Q → Type 0) → Option (List ℕ) → Option (List ℕ) → Result Outcome RunFault → (S → Result Outcome RunFault → Type 0) → Type 0
 Over rests keeps refuses old new result Carried = Works rests keeps result Carried ⊎ (IsUnopened refuses result × (new ≡ old))
 
--- a command over the store that its line names; `contents` says what each store holds. The arguments are the input before and
--- after, the output before and after, and how the command ended. The bytes of a file that is imported aren't known.
-abbrev pub CarriesOver : {S R L Q : Type 0} → (S → Content → Type 0) → (S → R → Type 0) → (S → L → Type 0) → (Text → RunFault → Q → Type 0) → (Text → Content) → Option (List ℕ) → Option (List ℕ) → Option (List ℕ) → Option (List ℕ) → Asked → Result Outcome RunFault → Type 0
-CarriesOver has rests keeps refuses contents input left old new (value denom issued month rate extension) result = ⊤
-CarriesOver has rests keeps refuses contents input left old new (apply db) result =
-    Over rests keeps (refuses db) old new result (λ store ended. Applies input left old new (contents db) ended (has store))
-CarriesOver has rests keeps refuses contents input left old new (imports kind file db desk number) result =
+-- A command over the store that its line names; `contents` says what each store holds. What it did is said if the store is clean as
+-- it is closed: `Has` then relates the path, the store, its content and the attempts that led there. The arguments are the input
+-- before and after, the output before and after, and how the command ended. The bytes of a file that is imported aren't known.
+abbrev pub CarriesOver : {S R L Q : Type 0} → (S → Type 0) → (Text → S → Content → List Attempt → Type 0) → (S → R → Type 0) → (S → L → Type 0) → (Text → RunFault → Q → Type 0) → (Text → Content) → Option (List ℕ) → Option (List ℕ) → Option (List ℕ) → Option (List ℕ) → Asked → Result Outcome RunFault → Type 0
+CarriesOver is_clean Has rests keeps refuses contents input left old new (value denom issued month rate extension) result = ⊤
+CarriesOver is_clean Has rests keeps refuses contents input left old new (apply db) result =
+    Over rests keeps (refuses db) old new result (λ store ended. is_clean store → Applies input left old new (contents db) ended (Has db store))
+CarriesOver is_clean Has rests keeps refuses contents input left old new (imports kind file db desk number) result =
     Over rests keeps (refuses db) old new result
-    (λ store ended. Tries old new ended (ImportsInto kind None old new (desk, number) (contents db) ended (has store)) (has store (contents db)))
-CarriesOver has rests keeps refuses contents input left old new (export customer db) result =
-    Over rests keeps (refuses db) old new result (λ store ended. ExportsFrom old new customer (contents db) ended (has store))
-CarriesOver has rests keeps refuses contents input left old new (sheet customer month db) result =
-    Over rests keeps (refuses db) old new result (λ store ended. ShowsSheet old new customer month (contents db) ended (has store (contents db)))
-CarriesOver has rests keeps refuses contents input left old new (serve db port connections) result =
+    (λ store ended. is_clean store
+    → Tries old new ended (ImportsInto kind None old new (desk, number) (contents db) ended (Has db store)) (Has db store (contents db) []))
+CarriesOver is_clean Has rests keeps refuses contents input left old new (export customer db) result =
+    Over rests keeps (refuses db) old new result (λ store ended. is_clean store → ExportsFrom old new customer (contents db) ended (Has db store))
+CarriesOver is_clean Has rests keeps refuses contents input left old new (sheet customer month db) result =
     Over rests keeps (refuses db) old new result
-    (λ store ended. Tries old new ended (ServesAll connections old new (contents db) ended (has store)) (has store (contents db)))
+    (λ store ended. is_clean store → ShowsSheet old new customer month (contents db) ended (Has db store (contents db) []))
+CarriesOver is_clean Has rests keeps refuses contents input left old new (serve db port connections) result =
+    Over rests keeps (refuses db) old new result
+    (λ store ended. is_clean store
+    → Tries old new ended (ServesAll connections old new (contents db) ended (Has db store)) (Has db store (contents db) []))

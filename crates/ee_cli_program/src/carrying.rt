@@ -1,13 +1,14 @@
 //! Carrying out a command.
 
-ghost use Rattle.std.specs.Prelude.{◌≡◌, Err, IfOk, IfSome, OnOk, None};
+ghost use Rattle.std.specs.Prelude.{◌≡◌, [], Err, IfOk, IfSome, OnOk, None};
 ghost use Rattle.clap.specs.Words.{Text};
 ghost use Rattle.ee_desk_model.specs.Repeats.{Content};
+ghost use Rattle.ee_keeper.specs.Keeping.{HasAfter};
 ghost use Rattle.ee_cli_actions.specs.Actions.{Applies, ExportsFrom, ImportsInto, ShowsSheet};
 ghost use Rattle.ee_cli_actions.specs.Connections.{ServesAll};
 ghost use Rattle.ee_cli_commands.specs.Answer.{view_of};
 ghost use Rattle.ee_cli_program.specs.Statuses.{Carries, ShowsValue};
-ghost use Rattle.ee_cli_program.specs.Stores.{AreClean, CarriesOver, EndsAs, IsClosed, Over, Tries};
+ghost use Rattle.ee_cli_program.specs.Stores.{CarriesOver, EndsAs, IsClosed, Over, Tries};
 ghost use Rattle.ee_cli_program.specs.Told.{TellsOnlyIf, fault_of_cause};
 
 use crate::explaining::Cause;
@@ -31,8 +32,8 @@ pub fn carry_out<O: Stores, R: Source, W: Sink>(
     output: &mut W,
 ) -> Carried
     ensures carries { Carries (W.contents output.old) (W.contents output.new) (view_of command.now) result.ended }
-    ensures over { AreClean O.Store.is_clean → (contents : Text → Content) → ((path : Text) → O.holds stores.now path (contents path))
-        → CarriesOver O.Store.has O.rests O.keeps (O.refuses stores.now) contents (R.remaining input.old) (R.remaining input.new) (W.contents output.old) (W.contents output.new)
+    ensures over { (contents : Text → Content) → ((path : Text) → O.holds stores.now path (contents path))
+        → CarriesOver O.Store.is_clean (λ path left. HasAfter (O.Store.has left) (O.opens stores.now path) (O.Store.went left)) O.rests O.keeps (O.refuses stores.now) contents (R.remaining input.old) (R.remaining input.new) (W.contents output.old) (W.contents output.new)
         (view_of command.now) result.ended }
     ensures told { TellsOnlyIf result.ended result.cause }
 {
@@ -76,9 +77,10 @@ fn apply<O: Stores, R: Source, W: Sink>(
     input: &mut R,
     output: &mut W,
 ) -> Carried
-    ensures over { AreClean O.Store.is_clean → (c : Content) → O.holds stores.now db.now c
+    ensures over { (c : Content) → O.holds stores.now db.now c
         → Over O.rests O.keeps (O.refuses stores.now db.now) (W.contents output.old) (W.contents output.new) result.ended
-        (λ left ended. Applies (R.remaining input.old) (R.remaining input.new) (W.contents output.old) (W.contents output.new) c ended (O.Store.has left)) }
+        (λ left ended. O.Store.is_clean left → Applies (R.remaining input.old) (R.remaining input.new) (W.contents output.old) (W.contents output.new) c ended
+        (HasAfter (O.Store.has left) (O.opens stores.now db.now) (O.Store.went left))) }
     ensures told { TellsOnlyIf result.ended result.cause }
 {
     match stores.open(db) {
@@ -100,10 +102,11 @@ fn import<O: Stores, W: Sink>(
     number: Number,
     output: &mut W,
 ) -> Carried
-    ensures over { AreClean O.Store.is_clean → (c : Content) → O.holds stores.now db.now c
+    ensures over { (c : Content) → O.holds stores.now db.now c
         → Over O.rests O.keeps (O.refuses stores.now db.now) (W.contents output.old) (W.contents output.new) result.ended
-        (λ left ended. Tries (W.contents output.old) (W.contents output.new) ended
-        (ImportsInto kind None (W.contents output.old) (W.contents output.new) (desk, number) c ended (O.Store.has left)) (O.Store.has left c)) }
+        (λ left ended. O.Store.is_clean left → Tries (W.contents output.old) (W.contents output.new) ended
+        (ImportsInto kind None (W.contents output.old) (W.contents output.new) (desk, number) c ended (HasAfter (O.Store.has left) (O.opens stores.now db.now) (O.Store.went left)))
+        (HasAfter (O.Store.has left) (O.opens stores.now db.now) (O.Store.went left) c [])) }
     ensures told { TellsOnlyIf result.ended result.cause }
 {
     match stores.open(db) {
@@ -127,9 +130,10 @@ fn export<O: Stores, W: Sink>(
     db: &str,
     output: &mut W,
 ) -> Carried
-    ensures over { AreClean O.Store.is_clean → (c : Content) → O.holds stores.now db.now c
+    ensures over { (c : Content) → O.holds stores.now db.now c
         → Over O.rests O.keeps (O.refuses stores.now db.now) (W.contents output.old) (W.contents output.new) result.ended
-        (λ left ended. ExportsFrom (W.contents output.old) (W.contents output.new) customer c ended (O.Store.has left)) }
+        (λ left ended. O.Store.is_clean left → ExportsFrom (W.contents output.old) (W.contents output.new) customer c ended
+        (HasAfter (O.Store.has left) (O.opens stores.now db.now) (O.Store.went left))) }
     ensures done { IfOk result.ended (λ outcome. outcome ≡ Outcome.Done) }
     ensures told { TellsOnlyIf result.ended result.cause }
 {
@@ -149,9 +153,10 @@ fn sheet<O: Stores, W: Sink>(
     db: &str,
     output: &mut W,
 ) -> Carried
-    ensures over { AreClean O.Store.is_clean → (c : Content) → O.holds stores.now db.now c
+    ensures over { (c : Content) → O.holds stores.now db.now c
         → Over O.rests O.keeps (O.refuses stores.now db.now) (W.contents output.old) (W.contents output.new) result.ended
-        (λ left ended. ShowsSheet (W.contents output.old) (W.contents output.new) customer month c ended (O.Store.has left c)) }
+        (λ left ended. O.Store.is_clean left → ShowsSheet (W.contents output.old) (W.contents output.new) customer month c ended
+        (HasAfter (O.Store.has left) (O.opens stores.now db.now) (O.Store.went left) c [])) }
     ensures done { IfOk result.ended (λ outcome. outcome ≡ Outcome.Done) }
     ensures told { TellsOnlyIf result.ended result.cause }
 {
@@ -172,10 +177,11 @@ fn serve<O: Stores, W: Sink>(
     connections: u64,
     output: &mut W,
 ) -> Carried
-    ensures over { AreClean O.Store.is_clean → (c : Content) → O.holds stores.now db.now c
+    ensures over { (c : Content) → O.holds stores.now db.now c
         → Over O.rests O.keeps (O.refuses stores.now db.now) (W.contents output.old) (W.contents output.new) result.ended
-        (λ left ended. Tries (W.contents output.old) (W.contents output.new) ended
-        (ServesAll connections (W.contents output.old) (W.contents output.new) c ended (O.Store.has left)) (O.Store.has left c)) }
+        (λ left ended. O.Store.is_clean left → Tries (W.contents output.old) (W.contents output.new) ended
+        (ServesAll connections (W.contents output.old) (W.contents output.new) c ended (HasAfter (O.Store.has left) (O.opens stores.now db.now) (O.Store.went left)))
+        (HasAfter (O.Store.has left) (O.opens stores.now db.now) (O.Store.went left) c [])) }
     ensures done { IfOk result.ended (λ outcome. outcome ≡ Outcome.Done) }
     ensures told { TellsOnlyIf result.ended result.cause }
 {

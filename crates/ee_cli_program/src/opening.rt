@@ -1,8 +1,9 @@
 //! Opening the file of an import, and the port of a server.
 
-ghost use Rattle.std.specs.Prelude.{◌≡◌, List, ℕ, Some, Err, IfOk, IfSome, None, string_bytes};
+ghost use Rattle.std.specs.Prelude.{◌≡◌, List, [], ℕ, Some, Err, IfOk, IfSome, None, string_bytes};
 ghost use Rattle.std.specs.Result.{IsErr};
 ghost use Rattle.ee_desk_model.specs.Repeats.{Content};
+ghost use Rattle.ee_keeper.specs.Keeping.{HasAfter};
 ghost use Rattle.ee_cli_actions.specs.Actions.{ImportsInto};
 ghost use Rattle.ee_cli_actions.specs.Connections.{ServesAll};
 ghost use Rattle.ee_cli_program.specs.Stores.{Tries};
@@ -42,9 +43,11 @@ pub fn import_path<K: Keeper, W: Sink>(
     number: Number,
     output: &mut W,
 ) -> Carried
+    ensures clean { K.is_clean keeper.new → K.is_clean keeper.old }
     ensures imports { K.is_clean keeper.new → (c : Content) → K.has keeper.old c
         → Tries (W.contents output.old) (W.contents output.new) result.ended
-        (ImportsInto kind None (W.contents output.old) (W.contents output.new) (desk, number) c result.ended (K.has keeper.new)) (K.has keeper.new c) }
+        (ImportsInto kind None (W.contents output.old) (W.contents output.new) (desk, number) c result.ended (HasAfter (K.has keeper.new) (K.went keeper.old) (K.went keeper.new)))
+        (HasAfter (K.has keeper.new) (K.went keeper.old) (K.went keeper.new) c []) }
     ensures told { TellsOnlyIf result.ended result.cause }
     ensures shown { IfSome result.field (λ shown. (bytes : List ℕ) × ShowsField bytes result.ended (string_bytes shown)) }
 {
@@ -74,8 +77,9 @@ fn import_bytes<K: Keeper, W: Sink>(
     bytes: &[u8],
     output: &mut W,
 ) -> Carried
+    ensures clean { K.is_clean keeper.new → K.is_clean keeper.old }
     ensures imports { K.is_clean keeper.new → (c : Content) → K.has keeper.old c
-        → ImportsInto kind (Some bytes.now) (W.contents output.old) (W.contents output.new) (desk, number) c result.ended (K.has keeper.new) }
+        → ImportsInto kind (Some bytes.now) (W.contents output.old) (W.contents output.new) (desk, number) c result.ended (HasAfter (K.has keeper.new) (K.went keeper.old) (K.went keeper.new)) }
     ensures told { result.cause ≡ None }
     ensures shown { IfSome result.field (λ shown. ShowsField bytes.now result.ended (string_bytes shown)) }
 {
@@ -140,9 +144,11 @@ pub fn serve_port<K: Keeper, W: Sink>(
     connections: u64,
     output: &mut W,
 ) -> Carried
+    ensures clean { K.is_clean keeper.new → K.is_clean keeper.old }
     ensures over { K.is_clean keeper.new → (c : Content) → K.has keeper.old c
         → Tries (W.contents output.old) (W.contents output.new) result.ended
-        (ServesAll connections (W.contents output.old) (W.contents output.new) c result.ended (K.has keeper.new)) (K.has keeper.new c) }
+        (ServesAll connections (W.contents output.old) (W.contents output.new) c result.ended (HasAfter (K.has keeper.new) (K.went keeper.old) (K.went keeper.new)))
+        (HasAfter (K.has keeper.new) (K.went keeper.old) (K.went keeper.new) c []) }
     ensures done { IfOk result.ended (λ outcome. outcome ≡ Outcome.Done) }
     ensures told { TellsOnlyIf result.ended result.cause }
 {

@@ -11,8 +11,9 @@ ghost use Rattle.ee_cli_commands.specs.Answer.{AsksForVersion, IsAsked};
 ghost use Rattle.ee_cli_commands.specs.CommandLine.{value};
 ghost use Rattle.ee_units.specs.declared.denoms.Denom.{Denom};
 ghost use Rattle.ee_value.specs.Chain.{rates_with};
+ghost use Rattle.ee_keeper.specs.Keeping.{HasAfter};
 ghost use Rattle.ee_cli_program.specs.Statuses.{Carries, IsRun, version_line};
-ghost use Rattle.ee_cli_program.specs.Stores.{AreClean, CarriesOver};
+ghost use Rattle.ee_cli_program.specs.Stores.{CarriesOver};
 
 use crate::carrying::carry_out;
 use crate::explaining::{Explanation, Known, explain, explain_argument};
@@ -36,7 +37,8 @@ use std::io::{self, ErrorKind, Write};
 ///   thing (`ee_cli_commands::one_meaning`).
 /// - `printed`: if they ask for a value and the status is 0, the output gained exactly that value's line.
 /// - `version`: if they ask for the version and the status is 0, it gained exactly the line of the versions.
-/// - `over`: what a command over a store did and printed, by what the store held (`contents`).
+/// - `over`: what a command over a store did and printed, by what the store held (`contents`), if the store is clean
+///   as it is closed; and the events that its requests are in the history of the store.
 pub fn run_words<O: Stores, R: Source + Stream, W: Sink + Stream, E: Write>(
     rt: &HostRuntime,
     stores: &O,
@@ -52,9 +54,10 @@ pub fn run_words<O: Stores, R: Source + Stream, W: Sink + Stream, E: Write>(
         → Appends (W.contents output.old) (W.contents output.new) (value_line denom issued month (rates_with rate extension)) }
     ensures version { AsksForVersion (map (λ w. string_bytes w) words.now) → result ≡ 0
         → Appends (W.contents output.old) (W.contents output.new) version_line }
-    ensures over { AreClean O.Store.is_clean → (contents : Text → Content) → ((path : Text) → O.holds stores.now path (contents path))
+    ensures over { (contents : Text → Content) → ((path : Text) → O.holds stores.now path (contents path))
         → IsRun (map (λ w. string_bytes w) words.now)
-        (CarriesOver O.Store.has O.rests O.keeps (O.refuses stores.now) contents (R.remaining input.old) (R.remaining input.new) (W.contents output.old) (W.contents output.new)) result }
+        (CarriesOver O.Store.is_clean (λ path left. HasAfter (O.Store.has left) (O.opens stores.now path) (O.Store.went left))
+        O.rests O.keeps (O.refuses stores.now) contents (R.remaining input.old) (R.remaining input.new) (W.contents output.old) (W.contents output.new)) result }
 {
     let explains = explains || asks_to_explain(words);
     match read_command(rt.alloc(), words) {

@@ -2,6 +2,7 @@
 
 ghost use Rattle.std.specs.Prelude.{◌≡◌, List, IfOk, IfErr, IfSome, ℕ};
 ghost use Rattle.ee_desk_model.specs.Repeats.{Content};
+ghost use Rattle.ee_desk_laws.specs.Events.{Event};
 ghost use Rattle.ee_cli_actions.specs.declared.faults.RunFault.{RunFault};
 ghost use Rattle.ee_cli_program.specs.Told.{fault_of_cause};
 
@@ -36,6 +37,9 @@ pub trait Stores {
     /// The contents that the store at a path may have.
     ghost holds: { Self → List ℕ → Content → Type 0 };
 
+    /// The store at a path had this content at first, and has gone through these events since.
+    ghost opens: { Self → List ℕ → Content → List Event → Type 0 };
+
     /// What is left of a store has everything that the store had, at rest.
     ghost rests: { Self.Store → Self.Rest → Type 0 };
 
@@ -48,6 +52,8 @@ pub trait Stores {
     /// Opens the store at a path; creates its tables if there are none. A cause that is told is one of the fault.
     fn open(&self, path: &str) -> Result<Self::Store, Unopened<Self::Refused>>
         ensures opened { IfOk result (λ store. Self.Store.is_clean store → (c : Content) → holds self.now path.now c → Self.Store.has store c) }
+        ensures gone { IfOk result (λ store. Self.Store.is_clean store → (start : Content) (events : List Event) → opens self.now path.now start events
+            → Self.Store.went store start events) }
         ensures told { IfErr result (λ not. IfSome not.cause (λ cause. not.fault ≡ fault_of_cause cause)) }
         ensures refused { IfErr result (λ not. refuses self.now path.now not.fault not.rest) };
 

@@ -16,8 +16,8 @@ returns-in-Ok-clause-printed g c =
     (settled _ (Carries old new) (view_of c.in-Ok.command) _ _ c.in-Ok.ensures c.carry_out-ended.ensures.carries c.settle.ensures)
 
 pub returns-in-Ok-clause-over : goal.returns-in-Ok-clause-over
-returns-in-Ok-clause-over g c = λ clean contents holds.
-    settled _ _ (view_of c.in-Ok.command) _ _ c.in-Ok.ensures (c.carry_out-ended.ensures.over clean contents holds) c.settle.ensures
+returns-in-Ok-clause-over g c = λ contents holds.
+    settled _ _ (view_of c.in-Ok.command) _ _ c.in-Ok.ensures (c.carry_out-ended.ensures.over contents holds) c.settle.ensures
 
 pub returns-in-Err-Help-clause-status : goal.returns-in-Err-Help-clause-status
 returns-in-Err-Help-clause-status g c = shown _ _ _ (inl (rw c.in-Err-Help.field-0-is at c.in-Err-Help.ensures)) c.show.ensures.status
@@ -26,20 +26,20 @@ pub returns-in-Err-Help-clause-printed : goal.returns-in-Err-Help-clause-printed
 returns-in-Err-Help-clause-printed g c = λ denom issued month rate extension is zero. absurd (asks_unrefused _ _ _ is (rw c.in-Err-Help.field-0-is at c.in-Err-Help.ensures))
 
 pub returns-in-Err-Help-clause-over : goal.returns-in-Err-Help-clause-over
-returns-in-Err-Help-clause-over g c = λ clean contents holds. shown _ _ _ (inl (rw c.in-Err-Help.field-0-is at c.in-Err-Help.ensures)) c.show.ensures.status
+returns-in-Err-Help-clause-over g c = λ contents holds. shown _ _ _ (inl (rw c.in-Err-Help.field-0-is at c.in-Err-Help.ensures)) c.show.ensures.status
 
 pub returns-in-Err-Line-clause-status : goal.returns-in-Err-Line-clause-status
 returns-in-Err-Line-clause-status g c = refused_line _ _ _ (inr (rw c.in-Err-Line.field-0-is at c.in-Err-Line.ensures)) c.refuse_line.ensures
 
 pub returns-in-Err-Line-clause-over : goal.returns-in-Err-Line-clause-over
-returns-in-Err-Line-clause-over g c = λ clean contents holds. refused_line _ _ _ (inr (rw c.in-Err-Line.field-0-is at c.in-Err-Line.ensures)) c.refuse_line.ensures
+returns-in-Err-Line-clause-over g c = λ contents holds. refused_line _ _ _ (inr (rw c.in-Err-Line.field-0-is at c.in-Err-Line.ensures)) c.refuse_line.ensures
 
 pub returns-in-Err-Argument-clause-status : goal.returns-in-Err-Argument-clause-status
 returns-in-Err-Argument-clause-status g c =
     refused_line _ _ _ (inl (c.in-Err-Argument.name.now, rw c.in-Err-Argument.field-0-is at c.in-Err-Argument.ensures)) c.refuse_argument.ensures
 
 pub returns-in-Err-Argument-clause-over : goal.returns-in-Err-Argument-clause-over
-returns-in-Err-Argument-clause-over g c = λ clean contents holds.
+returns-in-Err-Argument-clause-over g c = λ contents holds.
     refused_line _ _ _ (inl (c.in-Err-Argument.name.now, rw c.in-Err-Argument.field-0-is at c.in-Err-Argument.ensures)) c.refuse_argument.ensures
 
 pub returns-in-Ok-clause-version : goal.returns-in-Ok-clause-version
@@ -58,4 +58,4 @@ pub returns-in-Err-Version-clause-version : goal.returns-in-Err-Version-clause-v
 returns-in-Err-Version-clause-version g c = λ version zero. c.show_version.ensures.printed zero
 
 pub returns-in-Err-Version-clause-over : goal.returns-in-Err-Version-clause-over
-returns-in-Err-Version-clause-over g c = λ clean contents holds. shown _ _ _ (inr (rw c.in-Err-Version.field-0-is at c.in-Err-Version.ensures)) c.show_version.ensures.status
+returns-in-Err-Version-clause-over g c = λ contents holds. shown _ _ _ (inr (rw c.in-Err-Version.field-0-is at c.in-Err-Version.ensures)) c.show_version.ensures.status

@@ -1,0 +1,29 @@
+use Rattle.std.proofs.Common.{inl, [], None}
+use Rattle.ee_cli_actions.specs.Actions.{ImportsInto}
+use Rattle.ee_keeper.specs.Keeping.{HasAfter}
+use Rattle.ee_cli_actions.proofs.Lemmas.{imports_with}
+use Rattle.ee_cli_program.proofs.Opened.{since_opened, tries_with}
+use Rattle.ee_cli_program.proofs.carrying.import.Goals as goal
+
+pub returns-in-Ok-clause-over : goal.returns-in-Ok-clause-over
+returns-in-Ok-clause-over g c = λ content holds.
+    let left = c.import_path-tried.new.keeper in
+    let Has = g.O.Store.Keeper.has left in
+    let Opens = g.O.Stores.opens c.args.stores.now c.args.db.now in
+    let Went = g.O.Store.Keeper.went c.in-Ok.store in
+    let Left = g.O.Store.Keeper.went left in
+    let old = g.W.Write.contents c.args.output.now in
+    let new = g.W.Write.contents c.import_path-tried.new.output in
+    inl record {
+      left = left;
+      ended = c.import_path-tried.result.ended;
+      carried = λ clean.
+          let before = c.import_path-tried.ensures.clean clean in
+          let since = since_opened Has Opens Went Left (c.in-Ok.ensures.gone before) in
+          tries_with old new c.import_path-tried.result.ended (ImportsInto c.args.kind None old new (c.args.desk, c.args.number) content c.import_path-tried.result.ended (HasAfter Has Went Left)) (ImportsInto c.args.kind None old new (c.args.desk, c.args.number) content c.import_path-tried.result.ended (HasAfter Has Opens Left))
+          (HasAfter Has Went Left content []) (HasAfter Has Opens Left content []) (imports_with (HasAfter Has Went Left) (HasAfter Has Opens Left) since c.args.kind None old new (c.args.desk, c.args.number) content c.import_path-tried.result.ended) (since content [])
+          (c.import_path-tried.ensures.imports clean content (c.in-Ok.ensures.opened before content holds));
+      ends = c.end-ended.ensures.ends;
+      at_rest = c.end-ended.ensures.rests;
+      closed = c.end-ended.ensures.kept;
+    }
