@@ -4,9 +4,10 @@ ghost use Rattle.std.specs.Prelude.{◌≡◌, true, false};
 ghost use Rattle.sqlite_std_file.specs.File.{IsFresh};
 ghost use Rattle.sqlite.specs.WalFiles.{image_at};
 ghost use Rattle.ee_store.specs.Ended.{RestsIn, StandsAlone};
-ghost use Rattle.ee_store.specs.History.{RestsAfter};
+ghost use Rattle.ee_store.specs.History.{HasLeft, RestsAfter};
 ghost use Rattle.ee_cli_stores.specs.Faults.{fault_of_opening, IsRefused, Keeps};
 
+use crate::laws::lines_law;
 use ee_cli_actions::{RunFault, StoreFault};
 use ee_cli_program::{Stores, Unopened};
 use ee_store::{OpenFault, Rest, SqlKeeper, open_as};
@@ -63,6 +64,9 @@ impl<F: Start + Copy> Stores for StoreFiles<'_, F> {
     // Each file held a store at rest with that content.
     ghost holds = { λ _ _ content. StandsAlone (image_at F.Start) content };
 
+    // Each file held what these events led to from that content.
+    ghost opens = { λ _ _ start events. HasLeft start events (image_at F.Start) };
+
     // The files are at rest with what the store had, which is what its whole history led to.
     ghost rests = { λ store files. RestsIn store.conn files × RestsAfter store.conn files };
 
@@ -77,7 +81,11 @@ impl<F: Start + Copy> Stores for StoreFiles<'_, F> {
         path: &str,
     ) -> Result<SqlKeeper<FileStore<FileFrom<F>>>, Unopened<Refused<FileFrom<F>>>> {
         match open_as(self.rt, path, self.start) {
-            Ok(keeper) => Ok(keeper),
+            Ok(keeper) => {
+                // For the proof alone: a store that is opened has gone through what led to its files.
+                lines_law::<FileFrom<F>>();
+                Ok(keeper)
+            }
             Err(not) => Err(Unopened {
                 fault: fault_of(not.fault),
                 cause: not.cause,

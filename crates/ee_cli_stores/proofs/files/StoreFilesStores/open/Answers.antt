@@ -4,6 +4,10 @@ use Rattle.ee_cli_stores.proofs.files.StoreFilesStores.open.Goals as goal
 pub returns-in-Ok-clause-opened : goal.returns-in-Ok-clause-opened
 returns-in-Ok-clause-opened g c clean content alone = ((c.in-Ok.ensures.opened clean).alone content alone, c.in-Ok.ensures.informed)
 
+pub returns-in-Ok-clause-gone : goal.returns-in-Ok-clause-gone
+returns-in-Ok-clause-gone g c clean start events left =
+    (c.lines_law.ensures.opens start events _ c.in-Ok.keeper.conn left (c.in-Ok.ensures.opened clean), c.in-Ok.ensures.informed)
+
 pub returns-in-Err-clause-told : goal.returns-in-Err-clause-told
 returns-in-Err-clause-told g c = is_told c.in-Err.not.cause c.in-Err.not.fault c.fault_of.result c.fault_of.ensures c.in-Err.ensures.told
 

@@ -1,0 +1,14 @@
+use Rattle.ee_cli_stores.proofs.Lines.{closes_line, leads_in_a_row}
+use Rattle.ee_cli_stores.proofs.laws.lines_law.Goals as goal
+
+pub returns-clause-opens : goal.returns-clause-opens
+returns-clause-opens g c = c.whole_history_law.ensures.opens
+
+pub returns-clause-closes : goal.returns-clause-closes
+returns-clause-closes g c = closes_line g.D.Disk c.whole_history_law.ensures.rests
+
+pub returns-clause-leads : goal.returns-clause-leads
+returns-clause-leads g c = leads_in_a_row
+
+pub returns-clause-holds : goal.returns-clause-holds
+returns-clause-holds g c = c.whole_history_law.ensures.files
