@@ -1,10 +1,17 @@
 """The load: requests of some days at the counter, sent one after the other, and how much of the disk was recorded when each was sent and answered."""
 
-import ctypes, os, platform, re, signal, socket, struct, subprocess, threading, time
+from __future__ import annotations
 
-from counter_calls import free_port
-from hostile import judging, talk
+import ctypes, os, platform, signal, socket, struct, subprocess, threading, time
+from random import Random
+from typing import Callable
+
+from counter_calls import free_port, matched, piped
+from hostile import desk, judging, talk
 from hostile.judging import Wrong
+
+#: What a new process calls before it runs a program.
+Setup = Callable[[], None]
 
 SECONDS = 120
 BONDS = 200
@@ -17,22 +24,22 @@ ALLOW, ANSWER_ZERO = 0x7FFF0000, 0x00050000
 NO_NEW_PRIVILEGES, FILTER = 38, 22
 
 
-def serial(number):
+def serial(number: int) -> str:
     return f"A{number}EE"
 
 
-def bond(number, dice):
+def bond(number: int, dice: Random) -> str:
     return '{"serial":"%s","denom":%d,"issued":"%s","owner":%d}' % (serial(number), dice.choice(DENOMINATIONS), dice.choice(ISSUES), dice.choice(OWNERS))
 
 
-def redemption(number, day, dice):
+def redemption(number: int, day: str, dice: Random) -> str:
     """A redemption of one to three bonds. Some are refused, since a bond was paid already or has another owner."""
     serials = dice.sample(range(1, BONDS + 1), dice.choice((1, 1, 1, 2, 3)))
     listed = ",".join(f'"{serial(one)}"' for one in serials)
     return '/redeem {"desk":%d,"number":%d,"day":"%s","payee":%d,"serials":[%s]}' % (number % 3, number, day, dice.choice(OWNERS), listed)
 
 
-def requests(count, dice):
+def requests(count: int, dice: Random) -> list[bytes]:
     """`count` requests: rates, bonds, and days of redemptions. Some are sent twice."""
     bonds = ",".join(bond(number, dice) for number in range(1, BONDS + 1))
     found = ['/rates {"number":1,"rates":[{"from":"2010-05","rate":"2.00"},{"from":"2010-11","rate":"3.50"}]}', '/bonds {"number":2,"bonds":[%s]}' % bonds]
@@ -46,7 +53,7 @@ def requests(count, dice):
     return [talk.message("POST " + text) for text in found[:count]]
 
 
-def drop_syncs():
+def drop_syncs() -> None:
     """Let fsync and fdatasync of this process do nothing and return 0, by a filter of its system calls."""
     mark, *numbers = SYNCS[platform.machine()]
     words = [(LOAD, 0, 0, 4), (JUMP_IF, 0, 3, mark), (LOAD, 0, 0, 0), *((JUMP_IF, 3 - place, 0, number) for place, number in enumerate(numbers, 1))]
@@ -58,9 +65,10 @@ def drop_syncs():
         os._exit(98)
 
 
-def read_answer(receive):
+def read_answer(receive: Callable[[], bytes]) -> bytes:
     """Read one response by `receive`, which returns some more bytes of it."""
-    text, end = b"", None
+    text = b""
+    end: int | None = None
     while end is None or len(text) < end:
         more = receive()
         if not more:
@@ -68,23 +76,24 @@ def read_answer(receive):
         text += more
         if end is None and b"\r\n\r\n" in text:
             head = text.index(b"\r\n\r\n") + 4
-            end = head + int(re.search(rb"Content-Length: (\d+)", text[:head])[1])
+            end = head + int(matched(rb"Content-Length: (\d+)", text[:head])[1])
     return text
 
 
 class Applied:
     """`apply`. It ends with its input, and checkpoints the log."""
 
-    def __init__(self, path, store, setup):
+    def __init__(self, path: str, store: str, setup: Setup | None) -> None:
         self.process = subprocess.Popen([path, "apply", "--db", store], stdin=subprocess.PIPE, stdout=subprocess.PIPE, preexec_fn=setup)
 
-    def ask(self, message):
-        self.process.stdin.write(message)
-        self.process.stdin.flush()
-        return read_answer(lambda: os.read(self.process.stdout.fileno(), 65536))
+    def ask(self, message: bytes) -> bytes:
+        stdin, stdout = piped(self.process.stdin), piped(self.process.stdout)
+        stdin.write(message)
+        stdin.flush()
+        return read_answer(lambda: os.read(stdout.fileno(), 65536))
 
-    def end(self):
-        self.process.stdin.close()
+    def end(self) -> None:
+        piped(self.process.stdin).close()
         if self.process.wait(SECONDS) != 0:
             raise Wrong(f"`apply` ended with status {self.process.returncode}")
 
@@ -92,7 +101,7 @@ class Applied:
 class Served:
     """`serve`. It is killed, so that its last requests stand in the log alone."""
 
-    def __init__(self, path, store, setup):
+    def __init__(self, path: str, store: str, setup: Setup | None) -> None:
         port = free_port()
         self.process = subprocess.Popen([path, "serve", "--db", store, "--port", str(port)], stdout=subprocess.DEVNULL, preexec_fn=setup)
         until = time.time() + SECONDS
@@ -105,11 +114,11 @@ class Served:
                     raise Wrong("`serve` doesn't listen")
                 time.sleep(0.005)
 
-    def ask(self, message):
+    def ask(self, message: bytes) -> bytes:
         self.client.sendall(message)
         return read_answer(lambda: self.client.recv(65536))
 
-    def end(self):
+    def end(self) -> None:
         self.process.send_signal(signal.SIGKILL)
         self.process.wait(SECONDS)
         self.client.close()
@@ -118,12 +127,12 @@ class Served:
 class Neighbour:
     """Another program on the same file system, whose syncs come between those of the counter."""
 
-    def __init__(self, folder, dice):
+    def __init__(self, folder: str, dice: Random) -> None:
         self.folder, self.dice, self.is_over = folder, dice, threading.Event()
         self.thread = threading.Thread(target=self.run, daemon=True)
         self.thread.start()
 
-    def run(self):
+    def run(self) -> None:
         turn = 0
         while not self.is_over.wait(self.dice.uniform(0.001, 0.02)):
             turn += 1
@@ -135,7 +144,7 @@ class Neighbour:
             if self.dice.random() < 0.1:
                 os.replace(path, path + ".old")
 
-    def stop(self):
+    def stop(self) -> None:
         self.is_over.set()
         self.thread.join()
 
@@ -143,10 +152,10 @@ class Neighbour:
 class Played:
     """The requests and their responses, how much was recorded when each was sent and when its response had come, and the books after each by the rules."""
 
-    def __init__(self, messages, answers, sent, came):
+    def __init__(self, messages: list[bytes], answers: list[bytes], sent: list[int], came: list[int]) -> None:
         self.messages, self.answers, self.sent, self.came = messages, answers, sent, came
         asked = judging.messages_of(b"".join(messages))
-        self.chain, books = [judging.key_of(judging.desk.Books())], judging.desk.Books()
+        self.chain, books = [judging.key_of(desk.Books())], desk.Books()
         self.books = {self.chain[0]: books}
         for place, message in enumerate(asked):
             books, right = judging.delivered(books, message)
@@ -155,19 +164,22 @@ class Played:
             self.chain.append(judging.key_of(books))
             self.books[self.chain[-1]] = books
 
-    def acknowledged(self, cut):
+    def acknowledged(self, cut: int) -> int:
         """Counts the responses that had come before the step at a cut."""
         return sum(place <= cut for place in self.came)
 
-    def allowed(self, cut):
+    def allowed(self, cut: int) -> set[str]:
         """The books that may stand at a cut: all acknowledged requests are in them, and none that wasn't sent."""
         acknowledged, sent = self.acknowledged(cut), sum(place < cut for place in self.sent)
         return set(self.chain[acknowledged : max(acknowledged, sent) + 1])
 
 
-def play(path, store, messages, position, dice, setup=None):
+def play(path: str, store: str, messages: list[bytes], position: Callable[[], int], dice: Random, setup: Setup | None = None) -> Played:
     """Send the requests to `apply` and `serve` in turn. The first command meets no store."""
-    answers, sent, came, place, turn = [], [], [], 0, 0
+    answers: list[bytes] = []
+    sent: list[int] = []
+    came: list[int] = []
+    place, turn = 0, 0
     while place < len(messages):
         talked = (Applied, Served)[turn % 2](path, store, setup)
         try:

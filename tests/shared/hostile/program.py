@@ -137,7 +137,7 @@ def results(work: Callable[[T], R], tasks: Iterable[T], plant: str | None) -> It
                 return
 
 
-def planted(plant: str | None, wrongs: Collection[object]) -> int:
+def planted(plant: str | None, wrongs: Collection[object] | int) -> int:
     """The status of a run with a planted fault: 0 if it was found."""
     print(f"the planted fault {plant} was {'found' if wrongs else 'NOT found'}")
     return 0 if wrongs else 1
