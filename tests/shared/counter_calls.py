@@ -171,6 +171,14 @@ def ask(place: int | str, message: bytes, patience: float = 60) -> Answer | None
         return None
 
 
+def answered(place: int | str, message: bytes, patience: float = 60) -> Answer:
+    """The answer to one message, which has to come."""
+    answer = ask(place, message, patience)
+    if answer is None:
+        wrong("no answer came", message)
+    return answer
+
+
 def serve(program: str | Path, store: str | Path, port: int, before: Sequence[str] = ()) -> subprocess.Popen[str]:
     return subprocess.Popen([*before, program, "serve", "--db", store, "--port", str(port)], stdout=subprocess.DEVNULL, stderr=subprocess.PIPE, text=True)
 

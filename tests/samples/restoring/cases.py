@@ -1,4 +1,7 @@
 """Archives that were changed, logs with one bit turned, files beside logs of other moments, and restoring from logs alone."""
+from __future__ import annotations
+
+import functools
 import gzip
 import json
 import os
@@ -6,15 +9,16 @@ import shutil
 import subprocess
 import sys
 import time
+from typing import Iterable
 
-from bench import ARCHIVE, GUARD, Followed, copy_store, dumped, held, run
-from counter_calls import TOP, apply, ask, beginning, bond, day_text, free_port, make_version_one, post, right, rows, serve, served, wait_for, wrong
+from bench import ARCHIVE, GUARD, Followed, Place, Tables, copy_store, dumped, held, run
+from counter_calls import TOP, Answer, answered, apply, ask, beginning, bond, day_text, free_port, make_version_one, post, right, rows, serve, served, wait_for, wrong
 from nginx_sample import Nginx
 
 BONDS = 600
 
 
-def redemption(turn, number=None, headers=b""):
+def redemption(turn: int, number: int | None = None, headers: bytes = b"") -> bytes:
     return post("/redeem", {"desk": 1 + turn % 3, "number": number or turn + 1, "day": day_text(0), "payee": 7, "serials": [bond(turn)["serial"]]}, headers)
 
 
@@ -24,28 +28,28 @@ OPENING = post("/day/open", {"number": 1_000_000, "day": day_text(0)}, b"")
 class Archived:
     """A store with a day of payments, archived five times meanwhile, and a copy of it from before the day."""
 
-    def __init__(self, place, redemptions=300):
+    def __init__(self, place: Place, redemptions: int = 300) -> None:
         self.place, self.folder = place, place.new("archived")
         self.store, self.archive = os.path.join(self.folder, "day.db"), place.new("archive")
         place.archived(self.store_of(0), self.archive)
         self.before = copy_store(self.store, os.path.join(place.new("before"), "day.db"))
-        self.replies = []
+        self.replies: list[Answer] = []
         for first in range(0, redemptions, redemptions // 5):
             self.replies += self.pay(range(first, first + redemptions // 5))
             place.archived(self.store, self.archive)
 
-    def store_of(self, redemptions):
+    def store_of(self, redemptions: int) -> str:
         apply(self.place.program, self.store, [*beginning(BONDS), OPENING])
         return self.store
 
-    def pay(self, turns):
+    def pay(self, turns: Iterable[int]) -> list[Answer]:
         return apply(self.place.program, self.store, [redemption(turn) for turn in turns])
 
 
 # ---- the archive
 
 
-def from_nothing(place):
+def from_nothing(place: Place) -> None:
     """An archive that begins with an empty store holds all of it; one that begins later begins with a copy. Both ways of replaying give the same rows."""
     store, archive = os.path.join(place.new("day"), "day.db"), place.new("archive")
     subprocess.run([place.program, "apply", "--db", store], stdin=subprocess.DEVNULL, check=True)
@@ -66,7 +70,7 @@ def from_nothing(place):
     versions(place)
 
 
-def versions(place):
+def versions(place: Place) -> None:
     """A store of version 1 is archived only once it is migrated, and then with a copy."""
     store, archive = os.path.join(place.new("old"), "day.db"), place.new("archive")
     make_version_one(store, 500, 60)
@@ -81,7 +85,7 @@ def versions(place):
     right(dumped(place, target) == dumped(place, store), "migrated, its archive begins with a copy, and is restored")
 
 
-def changed_lines(place):
+def changed_lines(place: Place) -> None:
     """A line that was changed, cut, taken out, doubled or swapped is found, by the check, by the archiver, by a replay, and by the guard if it is near the end."""
     case = Archived(place)
     path = os.path.join(case.archive, "requests.jsonl")
@@ -123,7 +127,7 @@ def changed_lines(place):
     other_copies(place, case)
 
 
-def wait_until(path, text, seconds=60):
+def wait_until(path: str, text: str, seconds: int = 60) -> None:
     for _ in range(seconds * 10):
         with open(path) as file:
             if text in file.read():
@@ -132,7 +136,7 @@ def wait_until(path, text, seconds=60):
     wrong(f"the archiver doesn't say: {text}", open(path).read())
 
 
-def other_copies(place, case):
+def other_copies(place: Place, case: Archived) -> None:
     """Copies of an archive: a shorter one is a front, and one that parts from it is refused."""
     short = place.new("short")
     for name in os.listdir(case.archive):
@@ -158,13 +162,13 @@ def other_copies(place, case):
 # ---- the store
 
 
-def turned_bits(place):
+def turned_bits(place: Place) -> None:
     """One bit is turned in a killed server's log. The program refuses nearly each such log; a replay over the file without it has all of it. Of a store that it opens, the guard and a
     replay know what is gone."""
     case = Archived(place, 50)
     with served(place.program, case.store) as port:
         for turn in range(50, 250):
-            if ask(port, redemption(turn, headers=b"Connection: close\r\n"))[0] != 200:
+            if answered(port, redemption(turn, headers=b"Connection: close\r\n"))[0] != 200:
                 wrong("a redemption is refused")
     place.archived(case.store, case.archive)
     wanted, gone, refused = dumped(place, case.store), [], 0
@@ -193,7 +197,7 @@ def turned_bits(place):
     right(True, "the guard refused each that lacks some, and no whole one; each time the replay over that file, without a log that is refused, gave every row again")
 
 
-def other_moments(place):
+def other_moments(place: Place) -> None:
     """Files and logs of different moments beside each other."""
     case = Archived(place, 50)
     states = {}
@@ -211,7 +215,7 @@ def other_moments(place):
             beside(place, case, states, file, log, newest)
 
 
-def older_log(place):
+def older_log(place: Place) -> None:
     """The newest file, written back, beside the log of a moment before: the program opens it, and what came since is gone without a word."""
     gone = []
     for later in (1, 2, 4, 8):
@@ -240,7 +244,7 @@ def older_log(place):
     right(any(gone), f"control: beside the log of a moment before the program opened the newest file {len(gone)} times of 4, and {gone} replies were gone without a word; guard and replay refused it, and without that log the replay gives every row")
 
 
-def beside(place, case, states, file, log, newest):
+def beside(place: Place, case: Archived, states: dict[str, str], file: str, log: str, newest: Tables) -> None:
     mixed = copy_store(states[file], os.path.join(place.new("mixed"), "day.db"), log=states[log])
     served = copy_store(mixed, os.path.join(place.new("served"), "day.db"))
     ran = run(place.program, "export", "1", "--db", served)
@@ -257,7 +261,7 @@ def beside(place, case, states, file, log, newest):
     right(True, f"file {file}, log {log}: the program {f'opens it with {kept} replies' if kept is not None else 'refuses it'}; the guard {'lets it be served' if guarded.returncode == 0 else 'refuses it'}; the replay {'gives the newest store' if replayed.returncode == 0 else 'refuses it: ' + replayed.stderr.strip()[:90]}")
 
 
-def differing(place):
+def differing(place: Place) -> None:
     """A reply that differs ends the replay; a store that is no earlier state is refused before anything is sent."""
     case = Archived(place, 50)
     strange = copy_store(case.before, os.path.join(place.new("strange"), "day.db"))
@@ -274,7 +278,7 @@ def differing(place):
     right(ran.returncode == 1 and "desk 1, number 1" in ran.stderr and len(rows(target, "SELECT * FROM tickets")) == 1, "a reply that differs by one cent ends the replay, and nothing is sent after it", ran.stderr)
 
 
-def entry_of(message, reply, at, status="200", counter=None):
+def entry_of(message: bytes, reply: str | None, at: int, status: str = "200", counter: str | None = None) -> dict[str, str]:
     """What nginx writes of a message."""
     head, _, body = message.partition(b"\r\n\r\n")
     counter = status if counter is None else counter
@@ -285,7 +289,7 @@ def entry_of(message, reply, at, status="200", counter=None):
 # ---- logs
 
 
-def logs_alone(place):
+def logs_alone(place: Place) -> None:
     """An old copy, and the logs of a proxy or the archive of a client: no archive of the store."""
     folder = place.new("day")
     store, port, log = os.path.join(folder, "day.db"), free_port(), place.path("whole.log")
@@ -313,15 +317,15 @@ def logs_alone(place):
         right(dumped(place, target) == wanted, f"an old copy and {' and '.join(os.path.basename(one) for one in source)} give every table again{', without a reply to compare' if 'without a reply to compare' in report else ''}")
 
 
-def client_day(place, nginx):
+def client_day(place: Place, nginx: Nginx) -> str:
     """A day by the Python client, which keeps an archive of its own. Returns its path."""
     sys.path.insert(0, os.path.join(TOP, "clients", "python", "src"))
     import ee_counter_client as client
 
     path = place.path("desk5.archive")
-    words = {"desk": 5, "user": "anna", "password": "a password", "certificate": str(nginx.folder / "certificate.pem"), "archive": path}
-    address = f"https://127.0.0.1:{nginx.port}"
-    with client.Counter(place.path("desk5.journal"), address, **words) as desk:
+    address, certificate = f"https://127.0.0.1:{nginx.port}", str(nginx.folder / "certificate.pem")
+    counter = functools.partial(client.Counter, place.path("desk5.journal"), address, desk=5, user="anna", password="a password", certificate=certificate, archive=path)
+    with counter() as desk:
         desk.add_rates([{"from": "2011-05", "rate": "1.1", "extension": "4"}, {"from": "2012-05", "rate": "2", "extension": "2.00"}])
         desk.open_day("2012-02-06", even_so=True)
         for turn in range(40):
@@ -331,13 +335,13 @@ def client_day(place, nginx):
     with open(path, "wb") as file:
         file.write(whole.replace(b'"payee":7', b'"payee":8', 1))
     try:
-        client.Counter(place.path("desk5.journal"), address, **words)
+        counter()
         wrong("a changed archive is taken")
     except client.BadArchive as fault:
         right(True, f"a changed line ends it before anything is sent: {str(fault)[-60:]}")
     with open(path, "wb") as file:
         file.write(whole + whole[-300:-1])
-    with client.Counter(place.path("desk5.journal"), address, **words) as desk:
+    with counter() as desk:
         try:
             desk.redeem("2012-02-06", 7, [bond(3)["serial"]])
             wrong("a bond is paid twice")
@@ -349,7 +353,7 @@ def client_day(place, nginx):
     return path
 
 
-def missing_tickets(place):
+def missing_tickets(place: Place) -> None:
     """A redemption without a reply whose ticket is missing is done in its place; without one that could be it, the replay says which are missing, and sends nothing."""
     folder = place.new("day")
     store = os.path.join(folder, "day.db")

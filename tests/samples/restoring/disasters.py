@@ -1,12 +1,15 @@
 """Machines that were taken back, archives that were overwritten or lost, a witness that is away, and disks that are full or can't be written."""
+from __future__ import annotations
+
 import json
 import os
 import shutil
 import subprocess
 import sys
 import time
+from typing import Iterator
 
-from bench import ARCHIVE, GUARD, PULL, SAMPLE, Followed, copy_store, done, dumped, run
+from bench import ARCHIVE, GUARD, PULL, SAMPLE, Followed, Place, Tables, copy_store, done, dumped, run
 from cases import BONDS, OPENING, Archived, entry_of, redemption, wait_until
 from counter_calls import apply, beginning, bond, free_port, post, replaced, right, rows, serve, wait_for, wrong
 from nginx_sample import Nginx
@@ -17,29 +20,29 @@ import archives  # noqa: E402
 NOBODY = 65534
 
 
-def guarded(store, *folders, witness=None, away=None):
+def guarded(store: str, *folders: str, witness: str | None = None, away: str | None = None) -> subprocess.CompletedProcess[str]:
     """The guard with the settings of counter.service."""
     settings = {"WITNESS": witness, "WITNESS_AWAY": away}
     return run(GUARD, store, *folders, env={**os.environ, **{name: str(value) for name, value in settings.items() if value}})
 
 
-def contents(folder):
+def contents(folder: str) -> dict[str, bytes]:
     return {name: open(os.path.join(folder, name), "rb").read() for name in sorted(os.listdir(folder))}
 
 
-def copy_of(place, folder):
+def copy_of(place: Place, folder: str) -> str:
     target = place.new(os.path.basename(folder).rpartition("-")[0])
     shutil.copytree(folder, target, dirs_exist_ok=True)
     return target
 
 
-def pays_again(place, store, turn):
+def pays_again(place: Place, store: str, turn: int) -> bool:
     """Whether a store pays the bond of a turn under a new number. It is asked over a copy."""
     copy = copy_store(store, os.path.join(place.new("asked", in_memory=True), "day.db"))
     return apply(place.program, copy, [redemption(turn, 900_000)])[0][0] == 200
 
 
-def release(folder):
+def release(folder: str) -> None:
     """Lets the test remove files that are append-only."""
     run("chattr", "-R", "-a", folder)
 
@@ -47,7 +50,7 @@ def release(folder):
 class TwoMachines(Archived):
     """A day that is archived, brought to a second folder, and pulled by a second machine. Of half of it there is a copy of the machine: store and archive."""
 
-    def __init__(self, place):
+    def __init__(self, place: Place) -> None:
         super().__init__(place, 100)
         self.second, self.pulled = place.new("second"), place.new("pulled")
         place.at_end(lambda: release(self.pulled))
@@ -57,24 +60,24 @@ class TwoMachines(Archived):
         self.replies += self.pay(range(100, 200))
         self.bring()
 
-    def bring(self):
+    def bring(self) -> None:
         self.place.archived(self.store, self.archive, "--to", self.second)
         ran = self.pull()
         if ran.returncode != 0:
             wrong("the second machine doesn't pull", ran.stderr)
 
-    def pull(self, source=None, *more):
+    def pull(self, source: str | None = None, *more: str) -> subprocess.CompletedProcess[str]:
         return run(PULL, source or self.archive, self.pulled, *more)
 
     @property
-    def receipt(self):
+    def receipt(self) -> str:
         return os.path.join(self.pulled, archives.END)
 
 
 # ---- machines
 
 
-def taken_back(place):
+def taken_back(place: Place) -> None:
     """Store and archive are of an earlier moment, as after a snapshot of the whole machine: only what other machines have shows it."""
     case = TwoMachines(place)
     alone = guarded(case.old_store, case.old_archive)
@@ -99,7 +102,7 @@ def taken_back(place):
     right(dumped(place, target) == dumped(place, case.store), "from what the second machine has, the store is restored with every row")
 
 
-def goes_on(place, case):
+def goes_on(place: Place, case: TwoMachines) -> None:
     """The machine that was taken back goes on, until its archive is longer than the others."""
     store, archive = copy_store(case.old_store, os.path.join(place.new("on"), "day.db")), copy_of(place, case.old_archive)
     apply(place.program, store, [redemption(turn, 5000 + turn) for turn in range(300, 450)])
@@ -108,7 +111,7 @@ def goes_on(place, case):
     right([ran.returncode for ran in ends] == [1, 1, 1, 1], "and when it has gone on beyond them, guard, witness, archiver and pull refuse its other history", [ran.stderr for ran in ends])
 
 
-def overwritten(place):
+def overwritten(place: Place) -> None:
     """What the first machine has is changed, cut, or begun anew: the second machine keeps what it has."""
     case = TwoMachines(place)
     kept = contents(case.pulled)
@@ -141,9 +144,10 @@ def overwritten(place):
     cut_connections(place, case)
 
 
-def cut_connections(place, case):
+def cut_connections(place: Place, case: TwoMachines) -> None:
     """Each connection breaks after 9,000 bytes of lines: what came stays, and the next pull goes on from there."""
-    over, target, statuses = place.path("over"), place.new("cut"), []
+    over, target = place.path("over"), place.new("cut")
+    statuses: list[int] = []
     place.at_end(lambda: release(target))
     with open(over, "w") as file:
         file.write(f'case "$1" in *{archives.LINES}*) sh -c "$1" | head -c 9000; exit 255 ;; esac; exec sh -c "$1"\n')
@@ -153,30 +157,37 @@ def cut_connections(place, case):
     right(contents(target) == contents(case.archive), "byte for byte")
 
 
-def harms(lines):
+def request_of(line: bytes) -> archives.Request:
+    """The request in a line of an archive."""
+    _, request = archives.request_in(line)
+    assert request is not None
+    return request
+
+
+def harms(lines: list[bytes]) -> Iterator[tuple[str, list[bytes] | None]]:
     """Archives whose own chain is right, or that are cut: each is wrong for who has the one before."""
     middle = len(lines) // 2
     changed = lines[:middle]
     for line in lines[middle:]:
-        _, request = archives.request_in(line)
+        request = request_of(line)
         request = request._replace(act=request.act.replace('"payee":7', '"payee":8'), reply=request.reply.replace('"payee":7', '"payee":8'))
         changed.append(archives.line_of(archives.checksum(changed[-1]), request))
     yield "one act changed, and the chain made right behind it", changed
-    last = archives.request_in(lines[-1])[1]
+    last = request_of(lines[-1])
     more = [archives.line_of(archives.checksum(changed[-1]), last._replace(row=last.row + 1, number=last.number + 1))]
     yield "the same, with a line more", changed + more
     yield "cut in the middle", lines[:middle]
     yield "cut, with the end that it had", None
 
 
-def write_archive(folder, lines, good):
+def write_archive(folder: str, lines: list[bytes] | None, good: dict[str, bytes]) -> None:
     """Writes an archive with these lines, and the end.json that belongs to them; or one that is cut in the middle of a line."""
     text = b"\n".join(lines) + b"\n" if lines else good[archives.LINES][:-300]
     with open(os.path.join(folder, archives.LINES), "wb") as file:
         file.write(text)
     end = json.loads(good[archives.END])
     if lines:
-        row = archives.request_in(lines[-1])[1].row
+        row = request_of(lines[-1]).row
         end.update(row=row, checksum=archives.checksum(lines[-1]))
     elif end["row"]:
         end["row"] += 1
@@ -184,7 +195,7 @@ def write_archive(folder, lines, good):
         file.write(archives.compact(end) + "\n")
 
 
-def own_disk(place, case):
+def own_disk(place: Place, case: TwoMachines) -> None:
     """What the file system adds: no writing over, though by root."""
     path = os.path.join(case.pulled, archives.LINES)
     if "a" not in run("lsattr", path).stdout.split(" ")[0]:
@@ -199,7 +210,7 @@ def own_disk(place, case):
     right(ran.returncode != 0 and os.path.exists(path), "nor remove them", ran.stderr)
 
 
-def begun_anew(place):
+def begun_anew(place: Place) -> None:
     """The lines of an archive are lost, and what stands beside them is there: nothing is begun anew. What a stop leaves as an archive begins is no such thing."""
     case = Archived(place, 50)
     for first in (True, False):
@@ -220,7 +231,7 @@ def begun_anew(place):
     stopped_at_beginning(place, case)
 
 
-def stopped_at_beginning(place, case):
+def stopped_at_beginning(place: Place, case: Archived) -> None:
     """An archive begins, and is brought to a second folder, up to each of the moments at which a file takes its place."""
     script = f"""
 import os, sys
@@ -256,7 +267,7 @@ exec(compile(open({ARCHIVE!r}).read(), {ARCHIVE!r}, "exec"))
 # ---- the witness
 
 
-def witness(place):
+def witness(place: Place) -> None:
     """The guard with a witness that is away, behind, at the same row, ahead, or has another history."""
     case = TwoMachines(place)
     away = os.path.join(place.new("away"), archives.END)
@@ -297,7 +308,7 @@ def witness(place):
 # ---- disks
 
 
-def full_disk(place):
+def full_disk(place: Place) -> None:
     """The archive's disk fills up while requests come: the second folder goes on, and both are whole once there is room. The archiver names a missing folder once."""
     store, archive = os.path.join(place.new("day"), "day.db"), place.new("archive")
     second, third = place.new("second"), place.new("third")
@@ -336,7 +347,7 @@ def full_disk(place):
         right(dumped(place, target) == wanted, "the archive has all of it" if source is archive else "and so has another folder")
 
 
-def wait_for_row(folder, row, seconds=60):
+def wait_for_row(folder: str, row: int, seconds: int = 60) -> None:
     path = os.path.join(folder, archives.END)
     for _ in range(seconds * 10):
         if os.path.exists(path) and json.load(open(path))["row"] == row:
@@ -345,7 +356,7 @@ def wait_for_row(folder, row, seconds=60):
     wrong(f"{folder} doesn't reach row {row}", os.listdir(folder))
 
 
-def read_only(place):
+def read_only(place: Place) -> None:
     """A replay as another user than root, over an archive with a first copy that can't be written, and a store's folder of that user."""
     case = Archived(place, 50)
     with open(case.store + "-wal", "ab"):
@@ -371,14 +382,14 @@ def read_only(place):
 # ---- logs
 
 
-def write_log(place, name, *entries):
+def write_log(place: Place, name: str, *entries: str | dict[str, str]) -> str:
     path = place.path(name)
     with open(path, "w") as file:
         file.write("".join((entry if isinstance(entry, str) else json.dumps(entry)) + "\n" for entry in entries))
     return path
 
 
-def clock_back(place):
+def clock_back(place: Place) -> None:
     """The clock is set back between a registration and the redemption that needs it. The log's lines have the order."""
     case = Archived(place, 50)
     new = post("/bonds", {"desk": 4, "number": 1, "bonds": [{**bond(0), "serial": "Z1EE"}]}, b"")
@@ -400,7 +411,7 @@ def clock_back(place):
     right(ran.returncode == 0 and dumped(place, old) == wanted, "and so it is if the log was rotated meanwhile", ran.stdout + ran.stderr)
 
 
-def unread_lines(place):
+def unread_lines(place: Place) -> None:
     """Lines of a log that can't be read: an error where the counter answered, or may have."""
     case = Archived(place, 50)
     old = copy_store(case.store, os.path.join(place.new("old"), "day.db"))
@@ -432,7 +443,7 @@ def unread_lines(place):
 class Proxied:
     """A counter behind nginx with the log of requests, and a copy of its store from before the day."""
 
-    def __init__(self, place, name, log, user=None):
+    def __init__(self, place: Place, name: str, log: str, user: str | None = None) -> None:
         self.place, self.log, self.port = place, log, free_port()
         self.store = os.path.join(place.new("day"), "day.db")
         apply(place.program, self.store, beginning(BONDS))
@@ -443,24 +454,24 @@ class Proxied:
         place.at_end(self.server.kill)
         wait_for(self.port)
 
-    def pay(self, *messages):
+    def pay(self, *messages: bytes) -> None:
         for message in messages:
             head, _, body = message.partition(b"\r\n\r\n")
             method, path, _ = head.split(b"\r\n")[0].decode().split(" ")
             if self.nginx.ask(method, path, body, user="anna")[0] != 200:
-                wrong(f"{message} is refused")
+                wrong(f"{message!r} is refused")
 
-    def stop(self):
+    def stop(self) -> Tables:
         """Ends the counter. Returns its rows."""
         self.server.kill()
         self.server.wait()
         return dumped(self.place, self.store)
 
-    def target(self):
+    def target(self) -> str:
         return copy_store(self.old, os.path.join(self.place.new("again"), "day.db"))
 
 
-def full_log(place):
+def full_log(place: Place) -> None:
     """The disk of the log fills up: nginx acknowledges what the log lacks. A replay of the log says so, and the archive has all of it."""
     folder, archive = place.new("requests"), place.new("archive")
     run("mount", "-t", "tmpfs", "-o", "size=12k", "tmpfs", folder)
@@ -482,7 +493,7 @@ def full_log(place):
     right(dumped(place, target) == wanted, "the archive has all of them")
 
 
-def rotated(place):
+def rotated(place: Place) -> None:
     """The log of requests is rotated while requests come, by Debian's logrotate and the sample. Its folder is root's, and the log names customers."""
     folder = place.new("requests")
     log = os.path.join(folder, "requests.log")
@@ -516,7 +527,7 @@ def rotated(place):
     right(rotate(place, sample).returncode != 0, "control: without the file logrotate fails")
 
 
-def rotate(place, text):
+def rotate(place: Place, text: str) -> subprocess.CompletedProcess[str]:
     path = place.path("logrotate.conf")
     with open(path, "w") as file:
         file.write(text)

@@ -1,4 +1,6 @@
 """How long archiving holds a counter up, and what many requests take."""
+from __future__ import annotations
+
 import contextlib
 import datetime
 import hashlib
@@ -8,14 +10,15 @@ import subprocess
 import sys
 import threading
 import time
+from typing import Iterator
 
-from bench import ARCHIVE, GUARD, REPLAY, SAMPLE, done, run
-from counter_calls import TABLES, apply, ask, beginning, bond, day_text, free_port, milliseconds, post, right, serve, wait_for, wrong
+from bench import ARCHIVE, GUARD, REPLAY, SAMPLE, Place, done, run
+from counter_calls import TABLES, answered, apply, ask, beginning, bond, day_text, free_port, milliseconds, post, right, serve, wait_for, wrong
 
 DAY_TICKETS = 999
 
 
-def held_up(place):
+def held_up(place: Place) -> None:
     """Redemptions one after another, with and without an archiver, in turn, on a disk of btrfs."""
     disk = place.disk("books")
     snapshots, archive, folder = os.path.join(disk, "snapshots"), place.new("archive"), os.path.join(disk, "store")
@@ -26,7 +29,8 @@ def held_up(place):
     server = serve(place.program, store, port)
     place.at_end(server.kill)
     wait_for(port)
-    delays, turn = {False: [], True: []}, 0
+    delays: dict[bool, list[float]] = {False: [], True: []}
+    turn = 0
     for day in range(6):
         is_archived = day % 2 == 1
         words = [ARCHIVE, store, archive, "--snapshots", snapshots]
@@ -57,13 +61,14 @@ def held_up(place):
     place.archived(store, archive)
 
 
-def one_day(port, day, turn):
+def one_day(port: int, day: int, turn: int) -> list[float]:
     """Redemptions on a day of its own, for eight seconds or 900 of them: the delay of each."""
     ask(port, post("/day/open", {"number": 1000 + day, "day": day_text(800 * day)}))
-    delays, until = [], time.time() + 8
+    until = time.time() + 8
+    delays: list[float] = []
     while len(delays) < 900 and time.time() < until:
         begun = time.time()
-        status, reply = ask(port, post("/redeem", {"desk": 1, "number": turn + 1, "day": day_text(800 * day), "payee": 7, "serials": [bond(turn)["serial"]]}))
+        status, reply = answered(port, post("/redeem", {"desk": 1, "number": turn + 1, "day": day_text(800 * day), "payee": 7, "serials": [bond(turn)["serial"]]}))
         delays.append(time.time() - begun)
         turn += 1
         if status != 200:
@@ -72,7 +77,7 @@ def one_day(port, day, turn):
     return delays
 
 
-def messages(count):
+def messages(count: int) -> Iterator[bytes]:
     """So many requests: rates, bonds in imports of 500, and redemptions of one bond each, 999 on a day."""
     bonds = int((count - 2) / (1 + 1 / 500 + 2 / DAY_TICKETS))
     yield from beginning(bonds)
@@ -86,7 +91,7 @@ def messages(count):
         yield post("/redeem", {"desk": 1, "number": turn + 1, "day": str(day), "payee": 7, "serials": [f"A{turn + 1}EE"]}, b"")
 
 
-def fill(program, store, count):
+def fill(program: str, store: str, count: int) -> None:
     """In a process of its own, since it goes into another network."""
     sys.path.insert(0, SAMPLE)
     from carrying import carrier
@@ -96,7 +101,7 @@ def fill(program, store, count):
         for message in messages(count):
             status, reply = carrying.answer(message)
             if status != 200:
-                sys.exit(f"WRONG: {message} was answered {status} {reply}")
+                sys.exit(f"WRONG: {message!r} was answered {status} {reply}")
             done_now += 1
         carrying.rest()
     print(done_now)
@@ -105,8 +110,9 @@ def fill(program, store, count):
 class Measured:
     """A command, with its seconds, and the most memory that it and the programs under it had."""
 
-    def __init__(self, *words):
-        begun, self.most = time.time(), {}
+    def __init__(self, *words: str) -> None:
+        begun = time.time()
+        self.most: dict[str, int] = {}
         self.process = subprocess.Popen([str(word) for word in words], stdout=subprocess.PIPE, stderr=subprocess.PIPE, text=True)
         watch = threading.Thread(target=self.watch, daemon=True)
         watch.start()
@@ -115,7 +121,7 @@ class Measured:
         if self.process.returncode != 0:
             wrong(f"{' '.join(map(str, words))} ended with status {self.process.returncode}", self.said + faults)
 
-    def watch(self):
+    def watch(self) -> None:
         while self.process.poll() is None:
             try:
                 children = open(f"/proc/{self.process.pid}/task/{self.process.pid}/children").read().split()
@@ -127,7 +133,7 @@ class Measured:
                 pass
             time.sleep(0.2)
 
-    def __str__(self):
+    def __str__(self) -> str:
         return f"{self.seconds:.1f} seconds, " + ", ".join(f"{name} {most} MB at most" for name, most in sorted(self.most.items()))
 
 
@@ -135,7 +141,7 @@ class Measured:
 MOST_ON_DISK = 200_000
 
 
-def million(place):
+def million(place: Place) -> None:
     """Each step that a bank meets, with many requests: measured. The store is filled, and restored, in memory; up to 200,000 requests on the disk too."""
     memory = "/dev/shm/" + os.path.basename(place.folder)
     os.mkdir(memory)
@@ -164,7 +170,7 @@ def million(place):
         restored(place, os.path.join(place.new("again"), "day.db"), archive, count, digest_of(store), "on the disk")
 
 
-def digest_of(store):
+def digest_of(store: str) -> str:
     """The SHA-256 of every row of every table. The store is at rest."""
     digest = hashlib.sha256()
     with contextlib.closing(sqlite3.connect(f"file:{store}?mode=ro", uri=True)) as books:
@@ -174,7 +180,7 @@ def digest_of(store):
     return digest.hexdigest()
 
 
-def restored(place, target, archive, count, wanted, where):
+def restored(place: Place, target: str, archive: str, count: int, wanted: str, where: str) -> None:
     replayed = Measured(REPLAY, target, archive, "--program", place.program)
     right(f"done now, with the same reply:   {count}" in replayed.said, f"replayed from nothing, {where}: {replayed}", replayed.said)
     right(digest_of(target) == wanted, "every table is the same")

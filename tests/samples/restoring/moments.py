@@ -1,12 +1,17 @@
 """The counter's machine is lost at moments by chance, under load, and the store is restored on another folder."""
+from __future__ import annotations
+
 import datetime
 import json
 import os
 import shutil
 import time
 
-from bench import GUARD, Counter, copy_store, done, dumped, held, run, undisturbed
-from counter_calls import Load, day_text, fault_of_books, milliseconds, right, rows, wrong
+from bench import GUARD, Counter, Place, copy_store, done, dumped, held, run, undisturbed
+from counter_calls import Load, Name, day_text, fault_of_books, milliseconds, right, rows, wrong
+
+#: The desk and the number of a request.
+Key = tuple[int, int]
 
 BONDS, CLIENTS, EVERY = 19_000, 3, 1.0
 #: An archive lacks what came since its last turn began: one interval, and what a turn takes on a busy machine.
@@ -14,29 +19,33 @@ SLACK = 5.0
 WAYS = ("from the archive and the log", "from a nightly copy, the archive and the log", "with the log of another moment beside the file", "from the archive and what the second machine got of the log")
 
 
-def key_of(message):
+def key_of(message: bytes) -> Key:
     value = json.loads(message.split(b"\r\n\r\n", 1)[1])
     return value.get("desk", 0), value["number"]
 
 
-def kept_open(message):
+def kept_open(message: bytes) -> bytes:
     return message.replace(b"Connection: close\r\n", b"")
 
 
-def seconds_of(time_text):
+def seconds_of(time_text: str) -> float:
     return datetime.datetime.fromisoformat(time_text.replace("Z", "+00:00")).timestamp()
 
 
 class Moments:
-    def __init__(self, place):
+    def __init__(self, place: Place) -> None:
         self.place = place
         self.counter = Counter(place, BONDS, EVERY)
         self.load = Load(self.counter.ask, BONDS, CLIENTS)
         self.nightly = copy_store(self.counter.store, os.path.join(place.new("nightly"), "day.db"))
-        self.earlier_log, self.lacking, self.lags, self.seconds, self.taken_back = None, [], [], [], []
+        self.earlier_log: str | None = None
+        self.lacking: list[int] = []
+        self.lags: list[float] = []
+        self.seconds: list[float] = []
+        self.taken_back: list[int | None] = []
         self.begun_with = len(held(place, self.nightly))
 
-    def one(self, nth):
+    def one(self, nth: int) -> None:
         way = nth % len(WAYS)
         time.sleep(self.place.dice.uniform(0.3, 2.0))
         if nth % 4 == 2:
@@ -50,7 +59,7 @@ class Moments:
         self.check(acknowledged, way)
         self.counter.start()
 
-    def keep_earlier_log(self):
+    def keep_earlier_log(self) -> None:
         """A copy of the log as it is now. The file is checkpointed later, while the load goes on."""
         snapshot = os.path.join(self.counter.snapshots, f"earlier-{self.place.count}")
         self.place.count += 1
@@ -60,12 +69,12 @@ class Moments:
         done("btrfs", "-q", "subvolume", "delete", snapshot)
         time.sleep(self.place.dice.uniform(0.3, 1.0))
 
-    def counter_archive_is_lost(self):
+    def counter_archive_is_lost(self) -> None:
         """The machine's own archive is gone with it: what another machine has takes its place. The lost store stays for the cases of old logs alone."""
         shutil.rmtree(self.counter.archive)
         shutil.copytree(self.counter.second, self.counter.archive)
 
-    def with_archive_alone(self, acknowledged, came, lost_at):
+    def with_archive_alone(self, acknowledged: dict[Name, str], came: dict[Name, float], lost_at: float) -> None:
         """Without the log: what is missing came within the interval, and after the moment that the report tells."""
         store = os.path.join(self.place.new("alone", in_memory=True), "day.db")
         report = self.place.restored(store, self.counter.second)
@@ -82,7 +91,7 @@ class Moments:
         self.lags.append(lag)
         shutil.rmtree(os.path.dirname(store))
 
-    def restore(self, way):
+    def restore(self, way: int) -> None:
         lost, self.counter.store = self.counter.store, self.counter.new_subvolume()
         target, sources = self.counter.store, [self.counter.second, self.counter.log]
         if way == 1:
@@ -100,7 +109,7 @@ class Moments:
         if ran.returncode != 0:
             wrong("the guard lets no restored store be served", ran.stderr)
 
-    def older_log(self, lost):
+    def older_log(self, lost: str) -> int | None:
         """The newest file, written back, beside the log of an earlier moment: as the program reads it, and as the guard and the replay see it. Returns how many replies the program
         lost without a word."""
         whole = copy_store(lost, os.path.join(self.place.new("whole", in_memory=True), "day.db"))
@@ -120,7 +129,7 @@ class Moments:
             wrong("the replay takes a file beside an older log", replayed.stdout + replayed.stderr)
         return gone
 
-    def check(self, acknowledged, way):
+    def check(self, acknowledged: dict[Name, str], way: int) -> None:
         """Each reply that a client had stands in the restored store, and its tables are those of an undisturbed run of the same requests."""
         store, place = self.counter.store, self.place
         replies = held(place, store)
@@ -140,14 +149,14 @@ class Moments:
         shutil.rmtree(os.path.dirname(plain))
 
 
-def rows_in_order(place, store):
+def rows_in_order(place: Place, store: str) -> list[tuple[int, int, str]]:
     copy = copy_store(store, os.path.join(place.new("rows", in_memory=True), "day.db"))
-    found = rows(copy, "SELECT desk, number, reply FROM answers ORDER BY rowid")
+    found = [(desk, number, reply) for desk, number, reply in rows(copy, "SELECT desk, number, reply FROM answers ORDER BY rowid")]
     shutil.rmtree(os.path.dirname(copy))
     return found
 
 
-def order_of(name, reply):
+def order_of(name: Name, reply: str) -> tuple[str, int, int]:
     """Days in order; each is opened, its tickets follow by number, and it is closed before the next."""
     kind, turn = name
     if kind == "redeem":
@@ -155,7 +164,7 @@ def order_of(name, reply):
     return (day_text(turn), 0, 0) if kind == "open" else (day_text(turn - 1), 2, 0)
 
 
-def moments(place):
+def moments(place: Place) -> None:
     case = Moments(place)
     case.load.start()
     for nth in range(place.moments):
